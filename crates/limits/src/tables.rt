@@ -1,0 +1,37 @@
+ghost use Rattle.std.specs.Prelude.{◌≡◌, ◌<◌};
+ghost use Rattle.limits.specs.Tables.{table_a as minutes_a, table_b as minutes_b, row_of};
+
+/// The flight time that Table A gives, in minutes, by the minute of day of the report.
+pub fn table_a(start: u16) -> u32
+    ensures { result ≡ minutes_a start }
+{
+    match start {
+        300..=1_199 => 540,
+        _ => 480,
+    }
+}
+
+/// The row of Table B for that start.
+fn row(start: u16) -> [u32; 7]
+    ensures { result ≡ row_of start }
+{
+    match start {
+        0..=239 => [540, 540, 540, 540, 540, 540, 540],
+        240..=299 => [600, 600, 600, 600, 540, 540, 540],
+        300..=359 => [720, 720, 720, 720, 690, 660, 630],
+        360..=419 => [780, 780, 720, 720, 690, 660, 630],
+        420..=719 => [840, 840, 780, 780, 750, 720, 690],
+        720..=779 => [780, 780, 780, 780, 750, 720, 690],
+        780..=1_019 => [720, 720, 720, 720, 690, 660, 630],
+        1_020..=1_319 => [720, 720, 660, 660, 600, 540, 540],
+        1_320..=1_379 => [660, 660, 600, 600, 540, 540, 540],
+        _ => [600, 600, 600, 540, 540, 540, 540],
+    }
+}
+
+/// The length that Table B gives, in minutes, by the minute of day of the report and the number of segments.
+pub fn table_b(start: u16, segments: usize) -> u32
+    ensures { result ≡ minutes_b start segments }
+{
+    row(start)[segments.clamp(1, 7) - 1]
+}
