@@ -1,1 +1,2 @@
+pub mod SectionText
 pub mod Tables

@@ -1,7 +1,8 @@
 ghost use Rattle.std.specs.Prelude.{◌≡◌, ◌<◌};
 ghost use Rattle.limits.specs.Tables.{table_a as minutes_a, table_b as minutes_b, row_of};
 
-/// The flight time that Table A gives, in minutes, by the minute of day of the report.
+/// The flight time in minutes that Table A gives for a flight duty period (117.11(a)(1)), by the acclimated minute of
+/// the day of its report. A start of 1,440 or more reads the last row.
 pub fn table_a(start: u16) -> u32
     ensures { result ≡ minutes_a start }
 {
@@ -11,7 +12,16 @@ pub fn table_a(start: u16) -> u32
     }
 }
 
-/// The row of Table B for that start.
+/// The length in minutes that Table B gives for a flight duty period (117.13(a)), by the acclimated minute of the day
+/// of its report and its number of segments. A start of 1,440 or more reads the last row, and no segment the first
+/// column.
+pub fn table_b(start: u16, segments: usize) -> u32
+    ensures { result ≡ minutes_b start segments }
+{
+    row(start)[segments.clamp(1, 7) - 1]
+}
+
+/// The row of Table B for that start: the minutes for 1 to 7 segments.
 fn row(start: u16) -> [u32; 7]
     ensures { result ≡ row_of start }
 {
@@ -29,9 +39,40 @@ fn row(start: u16) -> [u32; 7]
     }
 }
 
-/// The length that Table B gives, in minutes, by the minute of day of the report and the number of segments.
-pub fn table_b(start: u16, segments: usize) -> u32
-    ensures { result ≡ minutes_b start segments }
-{
-    row(start)[segments.clamp(1, 7) - 1]
+#[cfg(test)]
+mod tests {
+    use super::*;
+
+    /// The rows of Table B as the regulation prints them: first and last minute of the day, and tenths of hours.
+    const TABLE_B: [(u16, u16, [u32; 7]); 10] = [
+        (0, 239, [90, 90, 90, 90, 90, 90, 90]),
+        (240, 299, [100, 100, 100, 100, 90, 90, 90]),
+        (300, 359, [120, 120, 120, 120, 115, 110, 105]),
+        (360, 419, [130, 130, 120, 120, 115, 110, 105]),
+        (420, 719, [140, 140, 130, 130, 125, 120, 115]),
+        (720, 779, [130, 130, 130, 130, 125, 120, 115]),
+        (780, 1_019, [120, 120, 120, 120, 115, 110, 105]),
+        (1_020, 1_319, [120, 120, 110, 110, 100, 90, 90]),
+        (1_320, 1_379, [110, 110, 100, 100, 90, 90, 90]),
+        (1_380, 1_439, [100, 100, 100, 90, 90, 90, 90]),
+    ];
+
+    #[test]
+    fn table_b_is_the_printed_one(rt: HostRuntime) {
+        for (first, last, tenths) in TABLE_B {
+            for (column, hours) in tenths.iter().enumerate() {
+                assert_eq!(rt; table_b(first, column + 1), hours * 6, "at {first}");
+                assert_eq!(rt; table_b(last, column + 1), hours * 6, "at {last}");
+            }
+            assert_eq!(rt; table_b(first, 12), tenths[6] * 6, "at {first}");
+        }
+    }
+
+    #[test]
+    fn table_a_is_the_printed_one(rt: HostRuntime) {
+        for (first, last, hours) in [(0, 299, 8), (300, 1_199, 9), (1_200, 1_439, 8)] {
+            assert_eq!(rt; table_a(first), hours * 60, "at {first}");
+            assert_eq!(rt; table_a(last), hours * 60, "at {last}");
+        }
+    }
 }

@@ -1,0 +1,14 @@
+-- The sections of 14 CFR Part 117 that limit a duty, as they are printed.
+use Rattle.std.specs.Prelude.{ℕ, List, codes}
+use Rattle.limits.specs.declared.section.Section.{Section}
+use Rattle.limits.specs.declared.section.Section.TheVariants.{FlightTime, FlightDutyPeriod, FlightTime672Hours, FlightTime365Days, FlightDutyPeriods168Hours, FlightDutyPeriods672Hours, ThirtyHourRest, TenHourRest}
+
+abbrev pub section_text : Section → List ℕ
+section_text FlightTime = codes "117.11(a)(1)"
+section_text FlightDutyPeriod = codes "117.13(a)"
+section_text FlightTime672Hours = codes "117.23(b)(1)"
+section_text FlightTime365Days = codes "117.23(b)(2)"
+section_text FlightDutyPeriods168Hours = codes "117.23(c)(1)"
+section_text FlightDutyPeriods672Hours = codes "117.23(c)(2)"
+section_text ThirtyHourRest = codes "117.25(b)"
+section_text TenHourRest = codes "117.25(e)"
