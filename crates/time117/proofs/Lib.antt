@@ -1,0 +1,5 @@
+pub mod FormLemmas
+pub mod DateFacts
+pub mod WrittenLemmas
+pub mod ReadLemmas
+pub mod ZoneLemmas
