@@ -1,0 +1,9 @@
+pub mod Arguments
+pub mod CommandLine
+pub mod FaultText
+pub mod FlightDuty
+pub mod Plain
+pub mod Program
+pub mod Refusal
+pub mod Texts
+pub mod Verdict

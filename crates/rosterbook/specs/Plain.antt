@@ -1,0 +1,19 @@
+-- The words of a plain line of `duty`.
+use Rattle.std.specs.Prelude.{◌≡◌, ◌==◌, Bool, true, not, List, [], ◌∷◌, map, codes, string_bytes}
+use Rattle.clap.specs.Walk.{Text}
+use Rattle.rosterbook.specs.declared.actions.Action.{Action}
+use Rattle.rosterbook.specs.declared.actions.Action.TheVariants.{Duty}
+
+-- a word that begins with no hyphen (45)
+abbrev pub is_plain : Text → Bool
+is_plain [] = true
+is_plain (x ∷ xs) = not (x == 45)
+
+-- `duty ZONE REPORT TIME..`, of one time or more
+abbrev pub duty_words : Text → Text → Text → List Text → List Text
+duty_words zone report time times = codes "duty" ∷ zone ∷ report ∷ time ∷ times
+
+-- the action is `duty` with exactly these arguments
+abbrev pub IsDuty : Text → Text → List Text → Action → Type 0
+IsDuty zone report times (Duty z r ts) =
+    (string_bytes z ≡ zone) × (string_bytes r ≡ report) × (map string_bytes ts.items ≡ times)

@@ -1,0 +1,51 @@
+-- What the program answers: its exit status, and what it writes to standard output and standard error.
+use Rattle.std.specs.Prelude.{◌≡◌, ℕ, Bool, true, false, List, [], ◌∷◌, ◌++◌, codes, map, string_bytes, Option, Result, Ok, Err}
+use Rattle.std.specs.Io.KnownBytes.{Appends}
+use Rattle.rosterbook.specs.FaultText.{fault_text}
+use Rattle.rosterbook.specs.Verdict.{Line, line_of}
+use Rattle.rosterbook.specs.declared.actions.Action.{Action}
+use Rattle.rosterbook.specs.declared.actions.Action.TheVariants.{Duty}
+use Rattle.rosterbook.specs.declared.fault.LineFault.{LineFault}
+use Rattle.rosterbook.specs.declared.status.Status.{Status}
+use Rattle.rosterbook.specs.declared.status.Status.TheVariants.{Done, Refused, Usage, Failed}
+
+abbrev pub exit_status : Status → ℕ
+exit_status Done = 0
+exit_status Refused = 1
+exit_status Usage = 2
+exit_status Failed = 3
+
+pub record Answer : Type 0 where
+  pub status : Status
+  pub out : List ℕ
+  pub err : List ℕ
+
+abbrev pub line_end : List ℕ
+line_end = 10 ∷ []
+
+-- a flight duty period that exceeds a table ends the program as a refusal does
+abbrev pub verdict_status : Bool → Status
+verdict_status true = Done
+verdict_status false = Refused
+
+abbrev pub refusal_line : LineFault → List ℕ
+refusal_line fault = codes "refused " ++ fault_text fault ++ line_end
+
+abbrev pub duty_answer : Result Line LineFault → Answer
+duty_answer (Ok line) = record { status = verdict_status line.1; out = line.0 ++ line_end; err = [] }
+duty_answer (Err fault) = record { status = Refused; out = []; err = refusal_line fault }
+
+abbrev pub answer_of : Action → Answer
+answer_of (Duty zone report times) =
+    duty_answer (line_of (string_bytes zone) (string_bytes report) (map string_bytes times.items))
+
+-- the answer was given whole: its status, and its bytes at the end of what the two writers held
+pub record Gives (answer : Answer) (status : Status) (out out' err err' : Option (List ℕ)) : Type 0 where
+  pub ends : status ≡ answer.status
+  pub prints : Appends out out' answer.out
+  pub complains : Appends err err' answer.err
+
+-- the action was answered whole, with this exit status
+abbrev pub IsAnswered : Action → ℕ → Option (List ℕ) → Option (List ℕ) → Option (List ℕ) → Option (List ℕ) → Type 0
+IsAnswered action code out out' err err' =
+    (status : Status) × (code ≡ exit_status status) × Gives (answer_of action) status out out' err err'

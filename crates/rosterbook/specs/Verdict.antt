@@ -1,0 +1,96 @@
+-- The line of `rosterbook duty`: one flight duty period against Tables A and B.
+use Rattle.std.specs.Prelude.{ℕ, Bool, true, false, List, [], ◌∷◌, ◌++◌, length, codes, nat_lt, not, ◌&&◌, if◌then◌else◌, Result, Ok, Err}
+use Rattle.std.specs.Fmt.{decimal}
+use Rattle.time117.specs.Instant.{read_instant}
+use Rattle.time117.specs.Local.{is_zone_text, local_minute}
+use Rattle.time117.specs.declared.minute.TimeFault.{TimeFault}
+use Rattle.limits.specs.Tables.{table_a, table_b}
+use Rattle.limits.specs.SectionText.{section_text}
+use Rattle.limits.specs.declared.section.Section.TheVariants.{FlightTime, FlightDutyPeriod}
+use Rattle.rosterbook.specs.FlightDuty.{is_segment_count, segments_of, is_in_order, flight_time, period_length}
+use Rattle.rosterbook.specs.Texts.{clock_text, hours_text}
+use Rattle.rosterbook.specs.declared.flight_duty.Segment.{Segment}
+use Rattle.rosterbook.specs.declared.verdict.Verdict.{Verdict}
+use Rattle.rosterbook.specs.declared.verdict.Against.{Against}
+use Rattle.rosterbook.specs.declared.verdict.Outcome.{Outcome}
+use Rattle.rosterbook.specs.declared.fault.LineFault.{LineFault}
+use Rattle.rosterbook.specs.declared.fault.LineFault.TheVariants.{Zone, Time, SegmentCount, BadTimes}
+
+-- a period that begins at this local minute of the day, with its segments, length and flight time
+abbrev pub verdict : ℕ → ℕ → ℕ → ℕ → Verdict
+verdict start segments length flight = record {
+  start = start;
+  segments = segments;
+  length = record { minutes = length; limit = table_b start segments };
+  flight = record { minutes = flight; limit = table_a start };
+}
+
+-- 117.11(a)(1): the flight time is above Table A. 117.13(a): the period is longer than Table B gives
+abbrev pub outcome : Verdict → Outcome
+outcome v = record {
+  is_over_flight_time = nat_lt v.flight.limit v.flight.minutes;
+  is_over_length = nat_lt v.length.limit v.length.minutes;
+}
+
+abbrev pub is_within : Outcome → Bool
+is_within o = not o.is_over_flight_time && not o.is_over_length
+
+abbrev pub sections_text : Bool → Bool → List ℕ
+sections_text false false = codes " within"
+sections_text true false = codes " exceeds " ++ section_text FlightTime
+sections_text false true = codes " exceeds " ++ section_text FlightDutyPeriod
+sections_text true true = codes " exceeds " ++ section_text FlightTime ++ codes " " ++ section_text FlightDutyPeriod
+
+unfoldable pub outcome_text : Outcome → List ℕ
+outcome_text o = sections_text o.is_over_flight_time o.is_over_length
+
+unfoldable pub against_text : Against → List ℕ
+against_text a = hours_text a.minutes ++ codes " of " ++ hours_text a.limit
+
+unfoldable pub verdict_text : Verdict → List ℕ
+verdict_text v =
+    codes "report " ++ clock_text v.start ++ codes " segments " ++ decimal v.segments
+    ++ codes " fdp " ++ against_text v.length ++ codes " flight " ++ against_text v.flight
+    ++ outcome_text (outcome v)
+
+-- the line, and whether it says `within`
+abbrev pub Line : Type 0
+Line = List ℕ × Bool
+
+abbrev pub line_of_verdict : Verdict → Line
+line_of_verdict v = (verdict_text v, is_within (outcome v))
+
+-- Faults are looked for in this order: the zone, the report, each time in turn, the number of times, their order.
+
+abbrev pub verdict_of : ℕ → ℕ → List Segment → Verdict
+verdict_of start report segments =
+    verdict start (length segments) (period_length report segments) (flight_time segments)
+
+abbrev pub line_of_times : List ℕ → ℕ → List ℕ → Result Line LineFault
+line_of_times zone report times =
+    if not (is_segment_count (length times)) then Err SegmentCount
+    else if not (is_in_order report (segments_of times)) then Err BadTimes
+    else Ok (line_of_verdict (verdict_of (local_minute zone report) report (segments_of times)))
+
+-- the instants that texts give in turn, up to the first that gives none
+abbrev pub then_instant : Result ℕ TimeFault → Result (List ℕ) TimeFault → Result (List ℕ) TimeFault
+then_instant (Err fault) rest = Err fault
+then_instant (Ok time) (Err fault) = Err fault
+then_instant (Ok time) (Ok times) = Ok (time ∷ times)
+
+abbrev pub read_instants : List (List ℕ) → Result (List ℕ) TimeFault
+read_instants [] = Ok []
+read_instants (text ∷ texts) = then_instant (read_instant text) (read_instants texts)
+
+abbrev pub as_line_fault : Result (List ℕ) TimeFault → Result (List ℕ) LineFault
+as_line_fault (Ok times) = Ok times
+as_line_fault (Err fault) = Err (Time fault)
+
+abbrev pub line_of_read : List ℕ → Result ℕ TimeFault → Result (List ℕ) TimeFault → Result Line LineFault
+line_of_read zone (Err fault) times = Err (Time fault)
+line_of_read zone (Ok report) (Err fault) = Err (Time fault)
+line_of_read zone (Ok report) (Ok times) = line_of_times zone report times
+
+abbrev pub line_of : List ℕ → List ℕ → List (List ℕ) → Result Line LineFault
+line_of zone report times =
+    if is_zone_text zone then line_of_read zone (read_instant report) (read_instants times) else Err Zone

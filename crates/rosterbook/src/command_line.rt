@@ -1,0 +1,161 @@
+//! The words after the program's name, read by `clap`.
+ghost use Rattle.std.specs.Prelude.{◌≡◌, ◌∷◌, IfOk, IsSomeAnd, List, MatchResult, Some, codes};
+ghost use Rattle.std.specs.Prelude.{false, is_some, map, string_bytes, true};
+ghost use Rattle.std.specs.List.{list_all};
+ghost use Rattle.clap.specs.Walk.{Text, texts};
+ghost use Rattle.clap.specs.Words.{FailsBy, all_of, fault_of, first_of, found_of, kind_of, rows_of};
+ghost use Rattle.clap.specs.Words.{rule_of, subcommand_of, subcommand_rows_of};
+ghost use Rattle.clap.specs.declared.error.kind.ErrorKind.TheVariants.{OutOfMemory};
+ghost use Rattle.rosterbook.specs.Arguments.{HasArguments, HasDuty};
+ghost use Rattle.rosterbook.specs.CommandLine.{IsCommand, States, bare, command_line, duty, wanted};
+ghost use Rattle.rosterbook.specs.Plain.{IsDuty, duty_words, is_plain};
+
+use crate::actions::Action;
+use clap::{Arg, ArgAction, ArgMatches, Command, Error};
+use std::alloc::{AllocError, Global};
+
+const ARGUMENTS: &str = "\
+Arguments:
+  ZONE    time zone of the crew, a POSIX rule such as EST5EDT,M3.2.0,M11.1.0
+  REPORT  report, a UTC instant such as 2025-06-10T15:59Z
+  TIME    block-out and block-in in turn, UTC instants such as 2025-06-10T16:30Z
+
+'rosterbook COMMAND --help' says more of a command.";
+
+const DUTY_EXAMPLE: &str = "\
+Example:
+  rosterbook duty EST5EDT,M3.2.0,M11.1.0 2025-06-10T15:59Z \\
+    2025-06-10T16:30Z 2025-06-10T20:30Z";
+
+const ZONE_HELP: &str = "\
+Time zone of the acclimated crew, a POSIX rule
+such as EST5EDT,M3.2.0,M11.1.0";
+
+const REPORT_HELP: &str = "\
+Report, a UTC instant YYYY-MM-DDThh:mmZ,
+such as 2025-06-10T15:59Z";
+
+const TIME_HELP: &str = "\
+Block-out and block-in in turn, one pair a segment, UTC instants
+YYYY-MM-DDThh:mmZ such as 2025-06-10T16:30Z 2025-06-10T20:30Z";
+
+/// Reads `words`, the command line after the program's name. An error is `clap`'s own for these
+/// words: a mistake, a call for help or the version, or want of memory.
+pub fn action(alloc: Global, words: &[&str]) -> Result<Action, Error>
+    ensures ok { IfOk result (λ a. IsSomeAnd (subcommand_of command_line (texts words.now)) (States a)) }
+    ensures refused { FailsBy (fault_of command_line (texts words.now)) result }
+    ensures duty { (zone report time : Text) (times : List Text)
+        → texts words.now ≡ duty_words zone report time times
+        → list_all is_plain (zone ∷ report ∷ time ∷ times) ≡ true
+        → MatchResult result (IsDuty zone report (time ∷ times))
+        (λ e. kind_of e ≡ OutOfMemory) }
+{
+    read(alloc, words)
+}
+
+// The same, as `clap` states it alone.
+fn read(alloc: Global, words: &[&str]) -> Result<Action, Error>
+    ensures ok { IfOk result (λ a. IsSomeAnd (subcommand_of command_line (texts words.now)) (States a)) }
+    ensures refused { FailsBy (fault_of command_line (texts words.now)) result }
+{
+    let matches = command(alloc)?.try_get_matches_from(words)?;
+    Ok(action_of(alloc, &matches)?)
+}
+
+// The whole command line.
+fn command<'a>(alloc: Global) -> Result<Command<'a>, AllocError>
+    ensures { IfOk result (IsCommand command_line) }
+{
+    bare_command(alloc)?.subcommand(duty_command(alloc)?)
+}
+
+// The program without its subcommands.
+fn bare_command<'a>(alloc: Global) -> Result<Command<'a>, AllocError>
+    ensures { IfOk result (IsCommand bare) }
+{
+    Command::new(alloc, "rosterbook")
+        .version("0.1.0")
+        .about("The roster book of a crew office under 14 CFR Part 117")
+        .after_help(ARGUMENTS)
+        .no_binary_name(true)
+        .subcommand_required(true)
+        .arg_required_else_help(true)
+        .disable_help_subcommand(true)
+        .bin_name("rosterbook")
+}
+
+// The subcommand `duty`.
+fn duty_command<'a>(alloc: Global) -> Result<Command<'a>, AllocError>
+    ensures { IfOk result (IsCommand duty) }
+{
+    let zone = positional(alloc, "zone", "ZONE").help(ZONE_HELP);
+    let report = positional(alloc, "report", "REPORT").help(REPORT_HELP);
+    let times = positional(alloc, "time", "TIME")
+        .action(ArgAction::Append)
+        .help(TIME_HELP);
+    Command::new(alloc, "duty")
+        .about("Judge one flight duty period by Tables A and B of 14 CFR Part 117")
+        .after_help(DUTY_EXAMPLE)
+        .arg(zone)?
+        .arg(report)?
+        .arg(times)
+}
+
+// An argument by its place that must be there.
+fn positional<'a>(alloc: Global, id: &'a str, value_name: &'a str) -> Arg<'a>
+    ensures rule { rule_of result ≡ wanted id.entry.now }
+    ensures local { result.global ≡ false }
+{
+    Arg::new(alloc, id).value_name(value_name).required(true)
+}
+
+// The action that the subcommand of the matches asks for.
+fn action_of(alloc: Global, matches: &ArgMatches<'_>) -> Result<Action, AllocError>
+    requires { HasArguments (subcommand_rows_of matches.now) }
+    ensures { IfOk result (λ a. IsSomeAnd (subcommand_rows_of matches.now) (States a)) }
+{
+    let (name, arguments) = matches.subcommand().unwrap();
+    match name {
+        "duty" => duty_of(alloc, arguments),
+        _ => unreachable!(),
+    }
+}
+
+// The arguments of `duty`.
+fn duty_of(alloc: Global, matches: &ArgMatches<'_>) -> Result<Action, AllocError>
+    requires { HasDuty (rows_of (found_of matches.now)) }
+    ensures { IfOk result (λ a. States a (codes "duty", rows_of (found_of matches.now))) }
+{
+    Ok(Action::Duty {
+        zone: text_of(alloc, matches, "zone")?,
+        report: text_of(alloc, matches, "report")?,
+        times: texts_of(alloc, matches, "time")?,
+    })
+}
+
+// The first value of an argument that has one.
+fn text_of(alloc: Global, matches: &ArgMatches<'_>, id: &str) -> Result<String, AllocError>
+    requires { is_some (first_of id.now (rows_of (found_of matches.now))) ≡ true }
+    ensures { IfOk result (λ s. first_of id.now (rows_of (found_of matches.now)) ≡ Some (string_bytes s)) }
+{
+    String::from_str(alloc, matches.get_str(id).unwrap())
+}
+
+// The values of an argument that was used.
+fn texts_of(alloc: Global, matches: &ArgMatches<'_>, id: &str) -> Result<Vec<String>, AllocError>
+    requires { is_some (all_of id.now (rows_of (found_of matches.now))) ≡ true }
+    ensures { IfOk result (λ v. all_of id.now (rows_of (found_of matches.now)) ≡ Some (map string_bytes v.items)) }
+{
+    owned(alloc, matches.get_strs(id).unwrap())
+}
+
+// A copy of each text.
+fn owned(alloc: Global, words: &[&str]) -> Result<Vec<String>, AllocError>
+    ensures { IfOk result (λ v. map string_bytes v.items ≡ texts words.now) }
+{
+    let mut copies = Vec::new(alloc);
+    for word in words {
+        copies.push(String::from_str(alloc, word)?)?;
+    }
+    Ok(copies)
+}

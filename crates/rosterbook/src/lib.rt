@@ -1,0 +1,22 @@
+//! The program of the roster book: what a command line asks for, and how it is answered.
+#![tactic(auto)]
+
+mod actions;
+mod command_line;
+mod fault;
+mod flight_duty;
+mod program;
+mod refusal;
+mod status;
+#[cfg(test)]
+mod tests;
+mod texts;
+mod verdict;
+
+pub use actions::Action;
+pub use command_line::action;
+pub use fault::LineFault;
+pub use program::perform;
+pub use refusal::tell_refusal;
+pub use status::Status;
+pub use verdict::duty_line;

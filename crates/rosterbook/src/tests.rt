@@ -1,0 +1,103 @@
+//! What no clause says: that a line is read at all, and the texts.
+use crate::{Action, action, tell_refusal};
+use clap::Error;
+use clap::error::ErrorKind;
+use std::alloc::AllocError;
+use std::io;
+
+const ZONE: &str = "EST5EDT,M3.2.0,M11.1.0";
+
+const REPORT: &str = "2025-06-10T15:59Z";
+
+#[test]
+fn reads_duty(rt: HostRuntime) {
+    let out = "2025-06-10T16:30Z";
+    let back = "2025-06-10T20:30Z";
+    let words = ["duty", ZONE, REPORT, out, back];
+    let read = action(rt.alloc(), words.as_slice()).expect(&rt, "an action");
+    let Action::Duty {
+        zone,
+        report,
+        times,
+    } = read;
+    assert!(rt; zone.as_str() == ZONE && report.as_str() == REPORT);
+    assert!(rt; times.len() == 2 && times[0].as_str() == out && times[1].as_str() == back);
+}
+
+#[test]
+fn refuses_as_clap_does(rt: HostRuntime) {
+    let lines = [
+        (
+            [].as_slice(),
+            ErrorKind::DisplayHelpOnMissingArgumentOrSubcommand,
+        ),
+        (["duty"].as_slice(), ErrorKind::MissingRequiredArgument),
+        (
+            ["duty", ZONE, REPORT].as_slice(),
+            ErrorKind::MissingRequiredArgument,
+        ),
+        (
+            ["duty", ZONE, REPORT, "--late"].as_slice(),
+            ErrorKind::UnknownArgument,
+        ),
+        (["rest"].as_slice(), ErrorKind::InvalidSubcommand),
+        (["--version"].as_slice(), ErrorKind::DisplayVersion),
+    ];
+    for (words, kind) in lines {
+        let error = action(rt.alloc(), words).expect_err(&rt, "a refusal");
+        assert_eq!(rt; error.kind(), kind);
+    }
+}
+
+#[test]
+fn help_names_each_argument_in_80_columns(rt: HostRuntime) {
+    for words in [["--help"].as_slice(), ["duty", "--help"].as_slice()] {
+        let error = action(rt.alloc(), words).expect_err(&rt, "help");
+        assert_eq!(rt; error.kind(), ErrorKind::DisplayHelp);
+        let text = error.to_string(rt.alloc()).expect(&rt, "memory");
+        for name in ["duty", "ZONE", "REPORT", "TIME", ZONE, REPORT, "UTC"] {
+            assert!(rt; text.contains(name), "{name}");
+        }
+        for line in text.lines() {
+            assert!(rt; line.len() <= 80, "{line}");
+        }
+    }
+}
+
+// A pipe that nobody reads.
+#[derive(Drop)]
+struct Shut;
+
+impl io::Write for Shut {
+    fn write(&mut self, _buf: &[u8]) -> io::Result<usize> {
+        Err(io::Error::from(io::ErrorKind::BrokenPipe))
+    }
+
+    fn flush(&mut self) -> io::Result<()> {
+        Ok(())
+    }
+}
+
+#[test]
+fn tells_why_a_line_is_refused(rt: HostRuntime) {
+    let help = action(rt.alloc(), ["--help"].as_slice()).expect_err(&rt, "help");
+    let mistake = action(rt.alloc(), ["rest"].as_slice()).expect_err(&rt, "a mistake");
+    let memory = Error::from(AllocError);
+    let cases = [
+        (&help, 0, "The roster book", ""),
+        (&mistake, 2, "", "error: unrecognized subcommand 'rest'"),
+        (&memory, 3, "", "refused 91 Memory\n"),
+    ];
+    for (error, status, on_out, on_err) in cases {
+        let mut out = Vec::new(rt.alloc());
+        let mut err = Vec::new(rt.alloc());
+        assert_eq!(rt; tell_refusal(error, &mut out, &mut err), status);
+        assert!(rt; out.starts_with(on_out.as_bytes()) && out.is_empty() == on_out.is_empty());
+        assert!(rt; err.starts_with(on_err.as_bytes()) && err.is_empty() == on_err.is_empty());
+    }
+    let mut err = Vec::new(rt.alloc());
+    assert_eq!(rt; tell_refusal(&help, &mut Shut, &mut err), 3);
+    assert!(rt; err.as_slice() == b"refused 92 Channel\n".as_slice());
+    let mut out = Vec::new(rt.alloc());
+    assert_eq!(rt; tell_refusal(&mistake, &mut out, &mut Shut), 3);
+}
