@@ -1,0 +1,47 @@
+#!/usr/bin/env bash
+# Runs the program as a user does, and compares its exit status, standard output and standard error. Says on standard
+# error what differs; the last line of standard output is the number of cases that passed, and of those that failed.
+set -u
+cd "$(dirname "$(readlink -f "${BASH_SOURCE[0]}")")/.." || exit 2
+
+passed=0
+failed=0
+zone=EST5EDT,M3.2.0,M11.1.0
+duty="duty $zone 2025-06-10T15:59Z 2025-06-10T16:30Z 2025-06-10T20:30Z 2025-06-11T01:29Z"
+
+# case NAME STATUS OUT ERR WORDS..: OUT and ERR are patterns of the whole text.
+case_of() {
+    local name=$1 status=$2 out=$3 err=$4 got_out got_err got
+    shift 4
+    got_err=$(mktemp) || exit 2
+    got_out=$(./rosterbook "$@" 2>"$got_err" </dev/null)
+    got=$?
+    # shellcheck disable=SC2053
+    if [ "$got" -eq "$status" ] && [[ $got_out == $out ]] && [[ $(cat "$got_err") == $err ]]; then
+        passed=$((passed + 1))
+    else
+        failed=$((failed + 1))
+        printf 'tests/program.sh: %s: status %s\n%s\n%s\n' "$name" "$got" "$got_out" "$(cat "$got_err")" >&2
+    fi
+    rm -f "$got_err"
+}
+
+./rosterbook --version >/dev/null || failed=$((failed + 1))
+# shellcheck disable=SC2086
+{
+    case_of within 0 '*flight 8:30 of 9:00 within' '' $duty 2025-06-11T05:59Z
+    case_of exceeds 1 '*flight 8:31 of 9:00 exceeds 117.13(a)' '' $duty 2025-06-11T06:00Z
+    case_of odd_times 1 '' 'refused 19 SegmentCount 1' $duty
+    case_of no_zone 1 '' 'refused T4 ZoneText' duty America/New_York x y
+    case_of no_times 2 '' 'error:*<TIME>...*' duty $zone 2025-06-10T15:59Z
+    case_of no_words 2 '' '*Usage: rosterbook <COMMAND>*'
+    case_of help 0 '*REPORT*UTC instant*Example:*' '' duty --help
+    case_of not_utf_8 2 '' 'error: an argument is not UTF-8' duty $'\xff'
+}
+if ./rosterbook $duty 2025-06-11T05:59Z 2>/dev/null >/dev/full; [ $? -eq 3 ]; then
+    passed=$((passed + 1))
+else
+    failed=$((failed + 1))
+    echo "tests/program.sh: full_disk: status is not 3" >&2
+fi
+echo "$passed $failed"
