@@ -1,5 +1,6 @@
 //! `rosterbook duty`: one flight duty period against Tables A and B.
 
+use crate::shut::Shut;
 use rosterbook::{Action, LineFault, duty_line, perform};
 use std::alloc::{AllocError, Global};
 use std::io;
@@ -206,5 +207,34 @@ fn faults_come_in_their_order(rt: HostRuntime) -> Result<(), Fail> {
         assert!(rt; out.is_empty(), "{line}");
         assert_eq!(rt; err.as_slice(), line.as_bytes());
     }
+    Ok(())
+}
+
+#[test]
+fn a_writer_that_fails_is_a_refusal(rt: HostRuntime) -> Result<(), Fail> {
+    let alloc = rt.alloc();
+    let (report, times, _line) = BOTH_SIDES_OF_NOON[0];
+    let action = Action::Duty {
+        zone: String::from_str(alloc, EASTERN)?,
+        report: String::from_str(alloc, report)?,
+        times: words(alloc, times)?,
+    };
+    let mut err = Vec::new(alloc);
+    assert_eq!(rt;
+        perform(alloc, &action, &mut io::empty(), &mut Shut, &mut err),
+        3
+    );
+    assert_eq!(rt; err.as_slice(), b"refused 92 Channel\n".as_slice());
+    let refused = Action::Duty {
+        zone: String::new(alloc),
+        report: String::new(alloc),
+        times: Vec::new(alloc),
+    };
+    let mut out = Vec::new(alloc);
+    assert_eq!(rt;
+        perform(alloc, &refused, &mut io::empty(), &mut out, &mut Shut),
+        3
+    );
+    assert!(rt; out.is_empty());
     Ok(())
 }

@@ -8,8 +8,6 @@ mod flight_duty;
 mod program;
 mod refusal;
 mod status;
-#[cfg(test)]
-mod tests;
 mod texts;
 mod verdict;
 

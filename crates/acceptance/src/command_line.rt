@@ -1,9 +1,10 @@
-//! What no clause says: that a line is read at all, and the texts.
-use crate::{Action, action, tell_refusal};
+//! The command line: that a line is read at all, and the texts of help and mistakes.
+
+use crate::shut::Shut;
 use clap::Error;
 use clap::error::ErrorKind;
+use rosterbook::{Action, action, tell_refusal};
 use std::alloc::AllocError;
-use std::io;
 
 const ZONE: &str = "EST5EDT,M3.2.0,M11.1.0";
 
@@ -61,20 +62,6 @@ fn help_names_each_argument_in_80_columns(rt: HostRuntime) {
         for line in text.lines() {
             assert!(rt; line.len() <= 80, "{line}");
         }
-    }
-}
-
-// A pipe that nobody reads.
-#[derive(Drop)]
-struct Shut;
-
-impl io::Write for Shut {
-    fn write(&mut self, _buf: &[u8]) -> io::Result<usize> {
-        Err(io::Error::from(io::ErrorKind::BrokenPipe))
-    }
-
-    fn flush(&mut self) -> io::Result<()> {
-        Ok(())
     }
 }
 
