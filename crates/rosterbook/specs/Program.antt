@@ -39,13 +39,17 @@ abbrev pub answer_of : Action → Answer
 answer_of (Duty zone report times) =
     duty_answer (line_of (string_bytes zone) (string_bytes report) (map string_bytes times.items))
 
+-- the bytes that a writer holds, where they are known
+abbrev pub Held : Type 0
+Held = Option (List ℕ)
+
 -- the answer was given whole: its status, and its bytes at the end of what the two writers held
-pub record Gives (answer : Answer) (status : Status) (out out' err err' : Option (List ℕ)) : Type 0 where
+pub record Gives (answer : Answer) (status : Status) (out out' err err' : Held) : Type 0 where
   pub ends : status ≡ answer.status
   pub prints : Appends out out' answer.out
   pub complains : Appends err err' answer.err
 
 -- the action was answered whole, with this exit status
-abbrev pub IsAnswered : Action → ℕ → Option (List ℕ) → Option (List ℕ) → Option (List ℕ) → Option (List ℕ) → Type 0
+abbrev pub IsAnswered : Action → ℕ → Held → Held → Held → Held → Type 0
 IsAnswered action code out out' err err' =
     (status : Status) × (code ≡ exit_status status) × Gives (answer_of action) status out out' err err'
