@@ -4,10 +4,10 @@ ghost use Rattle.std.specs.Char.{IsAsciiDigit};
 ghost use Rattle.jiff.specs.Words.{IsBetween, IsYmd};
 ghost use Rattle.time117.specs.Instant as spec;
 
-use crate::fault::MemoryFault;
 use jiff::ToSpan;
 use jiff::civil::{Date, date};
 use std::marker::Model;
+use values::{Exact, MemoryFault};
 
 /// Why a text is no instant of this crate.
 #[derive(Clone, Copy, Debug, PartialEq, Eq)]
@@ -37,6 +37,12 @@ impl Model for Minute {
     ghost invariant = { λ m. m.number < 52_596_000 };
 
     ghost inverse = { λ n. record { number = n } };
+}
+
+impl Exact for Minute {
+    ghost use Rattle.std.proofs.lemmas.Bool.Decides.{Decides-eqb};
+
+    ghost exact = { Decides-eqb };
 }
 
 impl Minute {
