@@ -46,6 +46,9 @@ impl Exact for Minute {
 }
 
 impl Minute {
+    /// 2000-01-01T00:00Z.
+    pub const FIRST: Minute = Minute { number: 0 };
+
     /// Reads `YYYY-MM-DDThh:mmZ` or `YYYY-MM-DDThh:mm:00Z`. Faults are looked for in the order of
     /// [`TimeFault`].
     #[tactic(auto, unfolding(crate::specs::Instant::read_instant))]
