@@ -4,7 +4,8 @@ use crate::status::Status;
 use std::alloc::{AllocError, AllocFailed};
 use std::error::Error;
 use std::fmt;
-use time117::{MemoryFault, TimeFault, ZoneFault};
+use time117::{TimeFault, ZoneFault};
+use values::MemoryFault;
 
 /// Why `duty_line` gives no line. It is printed as the program prints a refusal: its number, its name, and the flight
 /// duty period where there is one.

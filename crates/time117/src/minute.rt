@@ -4,10 +4,10 @@ ghost use Rattle.std.specs.Char.{IsAsciiDigit};
 ghost use Rattle.jiff.specs.Words.{IsBetween, IsYmd};
 ghost use Rattle.time117.specs.Instant as spec;
 
-use crate::fault::MemoryFault;
 use jiff::ToSpan;
 use jiff::civil::{Date, date};
 use std::marker::Model;
+use values::{Exact, MemoryFault};
 
 /// Why a text is no instant of this crate.
 #[derive(Clone, Copy, Debug, PartialEq, Eq)]
@@ -39,7 +39,16 @@ impl Model for Minute {
     ghost inverse = { λ n. record { number = n } };
 }
 
+impl Exact for Minute {
+    ghost use Rattle.std.proofs.lemmas.Bool.Decides.{Decides-eqb};
+
+    ghost exact = { Decides-eqb };
+}
+
 impl Minute {
+    /// 2000-01-01T00:00Z.
+    pub const FIRST: Minute = Minute { number: 0 };
+
     /// Reads `YYYY-MM-DDThh:mmZ` or `YYYY-MM-DDThh:mm:00Z`. Faults are looked for in the order of
     /// [`TimeFault`].
     #[tactic(auto, unfolding(crate::specs::Instant::read_instant))]

@@ -1,4 +1,5 @@
 use super::{Minute, TimeFault, Zone, ZoneFault};
+use values::Copied;
 
 fn number_of(text: &[u8]) -> Result<u32, TimeFault> {
     Ok(Minute::read(text)?.number())

@@ -20,7 +20,7 @@ impl Error for MemoryFault {}
 
 impl From<AllocError> for MemoryFault {
     ghost use Rattle.std.specs.Prelude.{◌≡◌};
-    ghost use Rattle.time117.specs.Fault.{memory_fault};
+    ghost use Rattle.values.specs.Fault.{memory_fault};
 
     ghost from_gives = { λ _ fault. fault ≡ memory_fault };
 
@@ -31,7 +31,7 @@ impl From<AllocError> for MemoryFault {
 
 impl<T: Drop> From<AllocFailed<T>> for MemoryFault {
     ghost use Rattle.std.specs.Prelude.{◌≡◌};
-    ghost use Rattle.time117.specs.Fault.{memory_fault};
+    ghost use Rattle.values.specs.Fault.{memory_fault};
 
     ghost from_gives = { λ _ fault. fault ≡ memory_fault };
 

@@ -1,5 +1,5 @@
 -- The one fault of want of memory.
-use Rattle.time117.specs.declared.fault.MemoryFault.{MemoryFault}
+use Rattle.values.specs.declared.memory_fault.MemoryFault.{MemoryFault}
 
 -- its one value
 abbrev pub memory_fault : MemoryFault

@@ -1,0 +1,25 @@
+-- Refusals of duties as they are printed: number, name, and the period or field where there is one.
+use Rattle.std.specs.Prelude.{ℕ, List, ◌++◌, codes}
+use Rattle.std.specs.Fmt.{decimal}
+use Rattle.duty.specs.declared.fault.DutyFault.{DutyFault}
+use Rattle.duty.specs.declared.fault.DutyFault.TheVariants.{BadTimes, BadChain, BadField, SegmentCount, Memory}
+use Rattle.duty.specs.declared.fault.Field.{Field}
+use Rattle.duty.specs.declared.fault.Field.TheVariants.{Crew, Name, Pairing, Periods, OtherPairing, OtherCrew, Ground, Task}
+
+-- a field as the commands name it
+abbrev pub field_text : Field → List ℕ
+field_text Crew = codes "crew"
+field_text Name = codes "name"
+field_text Pairing = codes "pairing"
+field_text Periods = codes "periods"
+field_text OtherPairing = codes "other_pairing"
+field_text OtherCrew = codes "other_crew"
+field_text Ground = codes "ground"
+field_text Task = codes "task"
+
+abbrev pub fault_text : DutyFault → List ℕ
+fault_text (BadTimes period) = codes "16 BadTimes " ++ decimal period
+fault_text (BadChain period) = codes "17 BadChain " ++ decimal period
+fault_text (BadField field) = codes "18 BadField " ++ field_text field
+fault_text (SegmentCount period) = codes "19 SegmentCount " ++ decimal period
+fault_text Memory = codes "91 Memory"

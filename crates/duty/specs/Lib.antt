@@ -1,0 +1,4 @@
+pub mod FaultText
+pub mod Pairings
+pub mod Plans
+pub mod Shape

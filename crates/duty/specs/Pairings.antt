@@ -1,0 +1,139 @@
+-- Which pairings, ground duties and actual times are refused, and with which fault.
+use Rattle.std.specs.Prelude.{ℕ, ◌-◌, ◌==◌, Bool, not, ◌&&◌, nat_le, nat_lt, List, [], ◌∷◌, ◌++◌, map, length, drop, Option, Some, None, Result, Ok, Err, if◌then◌else◌}
+use Rattle.std.specs.List.{list_all, zip, position_from}
+use Rattle.std.specs.Option.{option_map}
+use Rattle.std.specs.Str.{bytes_eq}
+use Rattle.duty.specs.Plans.{Plan, GroundPlan, ActualTimes, in_force}
+use Rattle.duty.specs.Shape.{is_within, is_id, is_flight, is_airport, is_plain_text}
+use Rattle.duty.specs.declared.fault.DutyFault.{DutyFault}
+use Rattle.duty.specs.declared.fault.DutyFault.TheVariants.{BadTimes, BadChain, BadField, SegmentCount}
+use Rattle.duty.specs.declared.fault.Field.{Field}
+use Rattle.duty.specs.declared.fault.Field.TheVariants as field
+use Rattle.duty.specs.declared.fdp.Fdp.{Fdp}
+use Rattle.duty.specs.declared.segment.Segment.{Segment}
+use Rattle.duty.specs.declared.segment.BlockTimes.{BlockTimes}
+
+-- ---- Words
+
+-- each element beside what the one before it gives, and the first beside `first`
+abbrev pub beside : {A B : Type 0} → B → (A → B) → List A → List (B × A)
+beside first gives xs = zip (first ∷ map gives xs) xs
+
+-- each element and the next one pass the test
+abbrev pub each_next : {A : Type 0} → (A → A → Bool) → List A → Bool
+each_next test xs = list_all (λ p. test p.0 p.1) (zip xs (drop 1 xs))
+
+-- the last element, if there is one
+abbrev pub last_of : {A : Type 0} → List A → List A
+last_of xs = drop (length xs - 1) xs
+
+-- the number of the first element that fails the test, counted from 1
+abbrev pub first_failing : {A : Type 0} → (A → Bool) → List A → Option ℕ
+first_failing test xs = position_from (λ x. not (test x)) 1 xs
+
+-- the first of some faults
+abbrev pub first_fault : List (Option DutyFault) → Option DutyFault
+first_fault [] = None
+first_fault (Some fault ∷ rest) = Some fault
+first_fault (None ∷ rest) = first_fault rest
+
+-- a fault, where the test failed
+abbrev pub unless : Bool → DutyFault → Option DutyFault
+unless passed fault = if passed then None else Some fault
+
+-- x, if there is no fault
+abbrev pub checked : {A : Type 0} → Option DutyFault → A → Result A DutyFault
+checked None x = Ok x
+checked (Some fault) x = Err fault
+
+-- ---- Shapes (18)
+
+-- a flight and two airports
+abbrev pub has_shapes : Segment → Bool
+has_shapes s = is_flight s.flight && is_airport s.from && is_airport s.to
+
+abbrev pub are_shaped : Fdp → Bool
+are_shaped f = list_all has_shapes f.segments
+
+-- ---- Counts (19)
+
+abbrev pub is_segment_count : ℕ → Bool
+is_segment_count = is_within 1 12
+
+-- 1 to 10 periods, each of 1 to 12 segments
+unfoldable pub count_fault : List Fdp → Option DutyFault
+count_fault periods =
+    first_fault (unless (is_within 1 10 (length periods)) (SegmentCount 0)
+    ∷ option_map SegmentCount (first_failing (λ f. is_segment_count (length f.segments)) periods)
+    ∷ [])
+
+-- ---- Orders of times (16)
+
+-- the times of a segment
+abbrev pub block_times : Segment → BlockTimes
+block_times s = record { block_out = s.block_out; block_in = s.block_in }
+
+-- a block-out at or after the report and before its block-in, which is at or before the release
+abbrev pub is_within_duty : ℕ → ℕ → BlockTimes → Bool
+is_within_duty report release s =
+    nat_le report s.block_out && nat_lt s.block_out s.block_in && nat_le s.block_in release
+
+-- a block-in at or before the next block-out
+abbrev pub is_before : BlockTimes → BlockTimes → Bool
+is_before s t = nat_le s.block_in t.block_out
+
+-- a period in order, from its report to its release
+abbrev pub is_in_order : ℕ → ℕ → List BlockTimes → Bool
+is_in_order report release segments =
+    list_all (is_within_duty report release) segments && each_next is_before segments
+
+-- a period in order, whose report is not before the release of the period before it
+abbrev pub is_timely : ℕ × Fdp → Bool
+is_timely (released, f) = nat_le released f.report && is_in_order f.report f.release (map block_times f.segments)
+
+-- each period beside the release of the one before it; nothing is before minute 0
+unfoldable pub times_fault : List Fdp → Option DutyFault
+times_fault periods = option_map BadTimes (first_failing is_timely (beside 0 (λ f. f.release) periods))
+
+-- ---- Chains of airports (17)
+
+-- the second departs from where the first arrived
+abbrev pub connects : Segment → Segment → Bool
+connects s t = bytes_eq s.to t.from
+
+-- the segments of a period connect, also the first of them with the last of the period before it
+abbrev pub is_chained : List Segment × Fdp → Bool
+is_chained (before, f) = each_next connects (last_of before ++ f.segments)
+
+-- each period beside the segments of the one before it
+unfoldable pub chain_fault : List Fdp → Option DutyFault
+chain_fault periods = option_map BadChain (first_failing is_chained (beside [] (λ f. f.segments) periods))
+
+-- ---- The first fault
+
+unfoldable pub pairing_fault : Plan → Option DutyFault
+pairing_fault p =
+    first_fault (unless (is_id p.id) (BadField field.Pairing)
+    ∷ unless (list_all are_shaped p.periods) (BadField field.Periods)
+    ∷ count_fault p.periods
+    ∷ times_fault p.periods
+    ∷ chain_fault p.periods
+    ∷ [])
+
+unfoldable pub ground_fault : GroundPlan → Option DutyFault
+ground_fault g =
+    first_fault (unless (is_id g.id) (BadField field.Ground)
+    ∷ unless (is_id g.crew) (BadField field.Crew)
+    ∷ unless (is_plain_text g.task) (BadField field.Task)
+    ∷ unless (nat_lt g.begin g.end) (BadTimes 0)
+    ∷ [])
+
+unfoldable pub actual_fault : ActualTimes → Option DutyFault
+actual_fault a =
+    first_fault (unless (is_segment_count (length a.segments)) (SegmentCount a.period)
+    ∷ unless (is_in_order a.report a.release a.segments) (BadTimes a.period)
+    ∷ [])
+
+-- a period with the times when it was flown; refused where the numbers of segments differ
+abbrev pub with_actual : Fdp → ActualTimes → Result Fdp DutyFault
+with_actual f a = checked (unless (length f.segments == length a.segments) (SegmentCount a.period)) (in_force f a)

@@ -1,0 +1,36 @@
+-- The shapes of texts, by their bytes.
+use Rattle.std.specs.Prelude.{ℕ, Bool, not, ◌&&◌, ◌||◌, ◌==◌, nat_le, List, length}
+use Rattle.std.specs.Char.{is_ascii_uppercase, is_ascii_digit}
+use Rattle.std.specs.List.{list_all}
+
+-- a number from low to high
+abbrev pub is_within : ℕ → ℕ → ℕ → Bool
+is_within low high n = nat_le low n && nat_le n high
+
+-- a byte of A-Z and 0-9
+abbrev pub is_code_byte : ℕ → Bool
+is_code_byte byte = is_ascii_uppercase byte || is_ascii_digit byte
+
+-- a byte of A-Z, 0-9 and the hyphen (45)
+abbrev pub is_id_byte : ℕ → Bool
+is_id_byte byte = is_code_byte byte || byte == 45
+
+-- a byte that is no control character
+abbrev pub is_plain_byte : ℕ → Bool
+is_plain_byte byte = nat_le 32 byte && not (byte == 127)
+
+-- the id of a crew member, a pairing or a ground duty
+abbrev pub is_id : List ℕ → Bool
+is_id text = is_within 1 12 (length text) && list_all is_id_byte text
+
+-- a flight
+abbrev pub is_flight : List ℕ → Bool
+is_flight text = is_within 1 8 (length text) && list_all is_code_byte text
+
+-- an airport, by its code of three or four
+abbrev pub is_airport : List ℕ → Bool
+is_airport text = is_within 3 4 (length text) && list_all is_code_byte text
+
+-- the name of a member, or the task of a ground duty
+abbrev pub is_plain_text : List ℕ → Bool
+is_plain_text text = is_within 1 60 (length text) && list_all is_plain_byte text

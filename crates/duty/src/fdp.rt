@@ -1,0 +1,110 @@
+ghost use Rattle.std.specs.Prelude.{◌≡◌, ◌≤◌, ◌⊎◌, length, map, Ok, Err, IfOk, IfErr};
+ghost use Rattle.std.specs.List.{zip};
+ghost use Rattle.duty.specs.Pairings.{is_in_order, block_times, with_actual};
+ghost use Rattle.duty.specs.Plans.{retimed};
+ghost use Rattle.duty.specs.declared.fault.DutyFault.TheVariants.{Memory};
+
+use crate::actual::Actual;
+use crate::checks::are_in_order;
+use crate::fault::DutyFault;
+use crate::segment::{BlockTimes, Segment};
+use std::alloc::Global;
+use time117::Minute;
+use values::{Copied, Exact, Items, MemoryFault};
+
+/// A flight duty period (117.3), which runs from its report to the last block-in; duty goes on to
+/// its release. It may hold any times, in any order, and any number of segments.
+#[derive(PartialEq, Eq, Drop)]
+pub struct Fdp {
+    /// The report that Tables A and B are entered with, also where the period was flown at other
+    /// times.
+    pub planned_report: Minute,
+    pub report: Minute,
+    pub release: Minute,
+    pub segments: Items<Segment>,
+}
+
+impl Fdp {
+    /// A period as it is planned.
+    pub fn new(report: Minute, release: Minute, segments: Items<Segment>) -> Fdp
+        ensures { result ≡ record { planned_report = report; report = report; release = release; segments = segments } }
+    {
+        Fdp {
+            planned_report: report,
+            report,
+            release,
+            segments,
+        }
+    }
+
+    /// Whether the report is at or before the first block-out, each block-out before its block-in,
+    /// each block-in at or before the next block-out, and the last block-in at or before the
+    /// release.
+    pub fn is_in_order(&self) -> bool
+        ensures { result ≡ is_in_order self.now.report self.now.release (map block_times self.now.segments) }
+    {
+        are_in_order(self.report, self.release, self.segments.as_slice())
+    }
+
+    /// This period with the times when it was flown; the planned report stays. Where the numbers of
+    /// segments differ it is refused, with the actual's period.
+    pub fn with_actual(&self, alloc: Global, actual: &Actual) -> Result<Fdp, DutyFault>
+        ensures value { IfOk result (λ f. with_actual self.now actual.now ≡ Ok f) }
+        ensures refused { IfErr result (λ fault. (fault ≡ Memory) ⊎ (with_actual self.now actual.now ≡ Err fault)) }
+    {
+        let segments = self.segments.as_slice();
+        if segments.len() != actual.segments().len() {
+            return Err(DutyFault::SegmentCount(actual.period()));
+        }
+        let flown = retimed(alloc, segments, actual.segments())?;
+        Ok(Fdp {
+            planned_report: self.planned_report,
+            report: actual.report(),
+            release: actual.release(),
+            segments: Items::new(flown),
+        })
+    }
+}
+
+/// Each segment with the times when it was flown.
+fn retimed(
+    alloc: Global,
+    segments: &[Segment],
+    times: &[BlockTimes],
+) -> Result<Vec<Segment>, MemoryFault>
+    ensures { IfOk result (λ flown. flown.items ≡ map retimed (zip segments.now times.now)) }
+{
+    let mut flown = Vec::new(alloc);
+    for (segment, times) in segments.iter().zip(times) {
+        flown.push(segment.retimed(alloc, *times)?)?;
+    }
+    Ok(flown)
+}
+
+impl Copied for Fdp {
+    fn copy(&self, alloc: Global) -> Result<Fdp, MemoryFault> {
+        Ok(Fdp {
+            planned_report: self.planned_report,
+            report: self.report,
+            release: self.release,
+            segments: self.segments.copy(alloc)?,
+        })
+    }
+}
+
+impl Exact for Fdp {
+    ghost use Rattle.std.specs.Prelude.{refl};
+    ghost use Rattle.std.proofs.lemmas.Bool.Decides.{Decides-eqb};
+    ghost use Rattle.std.proofs.lemmas.Slice.Eq.{slice_eq-Decides};
+    ghost use Rattle.values.specs.Same.{both_same, parts_same};
+    ghost use Rattle.duty.specs.contracts.segment.SegmentExact.TheImpl.Laws.{exact-law};
+
+    ghost exact = { λ a b. parts_same
+        (λ f. (f.planned_report, (f.report, (f.release, f.segments))))
+        (λ p. record { planned_report = p.0; report = p.1.0; release = p.1.1.0; segments = p.1.1.1 })
+        (λ _. refl) a b _
+        (both_same _ _ (Decides-eqb a.planned_report b.planned_report)
+        (both_same _ _ (Decides-eqb a.report b.report)
+        (both_same _ _ (Decides-eqb a.release b.release)
+        (slice_eq-Decides exact-law a.segments b.segments _ refl)))) };
+}

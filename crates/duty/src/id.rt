@@ -1,0 +1,123 @@
+ghost use Rattle.std.specs.Prelude.{◌≡◌};
+ghost use Rattle.std.specs.Ordering.{nat_cmp, as_partial_cmp};
+ghost use Rattle.std.specs.Cmp.{partial_order_from_own_ties};
+ghost use Rattle.std.specs.Cmp.Lexicographic.{slice_cmp};
+ghost use Rattle.std.specs.Cmp.Rules.{comparing};
+ghost use Rattle.std.specs.Str.{bytes_eq};
+ghost use Rattle.std.proofs.Common.{rules};
+
+use crate::thing;
+use crate::thing::Shaped;
+use std::alloc::Global;
+use std::cmp::Ordering;
+use std::marker::{Model, PhantomData};
+use values::{Copied, Exact, MemoryFault, Text};
+
+/// The id of a crew member.
+pub type CrewId = Id<thing::Crew>;
+
+/// The id of a pairing.
+pub type PairingId = Id<thing::Pairing>;
+
+/// The id of a ground duty.
+pub type GroundId = Id<thing::Ground>;
+
+/// A flight, by its number with the airline's letters.
+pub type Flight = Id<thing::Flight>;
+
+/// An airport, by its code.
+pub type Airport = Id<thing::Airport>;
+
+/// The id of a thing, of the type `T`, seen by contracts as its bytes. It may be any text: what
+/// takes one tests its shape. Ids are ordered by their bytes.
+#[derive(Drop)]
+pub struct Id<T> {
+    text: Text,
+    of: PhantomData<T>,
+}
+
+impl<T> Model for Id<T> {
+    ghost use Rattle.std.specs.Prelude.{List, ℕ};
+
+    ghost Value = { List ℕ };
+
+    ghost view = { λ id. id.text };
+}
+
+impl<T> Id<T> {
+    /// The id of this text, in the same memory.
+    pub fn new(text: Text) -> Id<T>
+        ensures { result ≡ text }
+    {
+        Id {
+            text,
+            of: PhantomData,
+        }
+    }
+
+    /// The text itself.
+    pub fn as_str(&self) -> &str
+        ensures { result.now ≡ self.now }
+    {
+        self.text.as_str()
+    }
+}
+
+impl<T: Shaped> Id<T> {
+    /// Whether the text has the shape of such an id.
+    pub fn has_shape(&self) -> bool
+        ensures { result ≡ T.has_shape self.now }
+    {
+        T::has_shape(self.as_str())
+    }
+}
+
+impl<T: Drop> Copied for Id<T> {
+    fn copy(&self, alloc: Global) -> Result<Id<T>, MemoryFault> {
+        Ok(Id::new(self.text.copy(alloc)?))
+    }
+}
+
+impl<T> PartialEq for Id<T> {
+    ghost eq = { bytes_eq };
+
+    ghost laws = { Prim.search (comparing, rules) };
+
+    fn eq(&self, other: &Id<T>) -> bool {
+        self.text == other.text
+    }
+}
+
+impl<T> Eq for Id<T> {
+    ghost laws = { Prim.search (comparing, rules) };
+}
+
+impl<T> PartialOrd for Id<T> {
+    ghost partial_cmp = { as_partial_cmp (slice_cmp nat_cmp) };
+
+    ghost laws = { partial_order_from_own_ties (Prim.search (comparing, rules)) (Prim.search (comparing, rules)) };
+
+    fn partial_cmp(&self, other: &Id<T>) -> Option<Ordering> {
+        Some(self.cmp(other))
+    }
+}
+
+impl<T> Ord for Id<T> {
+    ghost cmp = { slice_cmp nat_cmp };
+
+    ghost total = { Prim.search (comparing, rules) };
+
+    ghost matches_partial_cmp = { Prim.search (comparing, rules) };
+
+    ghost matches_eq = { Prim.search (comparing, rules) };
+
+    fn cmp(&self, other: &Id<T>) -> Ordering {
+        self.text.cmp(&other.text)
+    }
+}
+
+impl<T> Exact for Id<T> {
+    ghost use Rattle.std.proofs.lemmas.Slice.Eq.{bytes_eq-Decides};
+
+    ghost exact = { bytes_eq-Decides };
+}

@@ -1,0 +1,126 @@
+ghost use Rattle.std.specs.Prelude.{◌≡◌, IfOk};
+ghost use Rattle.duty.specs.Pairings.{has_shapes};
+ghost use Rattle.duty.specs.Plans.{retimed};
+
+use crate::id::{Airport, Flight};
+use std::alloc::Global;
+use time117::Minute;
+use values::{Copied, Exact, MemoryFault};
+
+/// One flight of a flight duty period, from block-out to block-in.
+#[derive(PartialEq, Eq, Drop)]
+pub struct Segment {
+    pub flight: Flight,
+    pub from: Airport,
+    pub block_out: Minute,
+    pub to: Airport,
+    pub block_in: Minute,
+}
+
+impl Segment {
+    /// Whether the flight and both airports have their shapes.
+    pub fn has_shapes(&self) -> bool
+        ensures { result ≡ has_shapes self.now }
+    {
+        self.flight.has_shape() && self.from.has_shape() && self.to.has_shape()
+    }
+
+    /// A copy with other times.
+    pub fn retimed(&self, alloc: Global, times: BlockTimes) -> Result<Segment, MemoryFault>
+        ensures { IfOk result (λ s. s ≡ retimed (self.now, times)) }
+    {
+        Ok(Segment {
+            flight: self.flight.copy(alloc)?,
+            from: self.from.copy(alloc)?,
+            block_out: times.block_out,
+            to: self.to.copy(alloc)?,
+            block_in: times.block_in,
+        })
+    }
+}
+
+impl Copied for Segment {
+    fn copy(&self, alloc: Global) -> Result<Segment, MemoryFault> {
+        Ok(Segment {
+            flight: self.flight.copy(alloc)?,
+            from: self.from.copy(alloc)?,
+            block_out: self.block_out,
+            to: self.to.copy(alloc)?,
+            block_in: self.block_in,
+        })
+    }
+}
+
+impl Exact for Segment {
+    ghost use Rattle.std.specs.Prelude.{refl};
+    ghost use Rattle.std.proofs.lemmas.Bool.Decides.{Decides-eqb};
+    ghost use Rattle.std.proofs.lemmas.Slice.Eq.{bytes_eq-Decides};
+    ghost use Rattle.values.specs.Same.{both_same, parts_same};
+
+    ghost exact = { λ a b. parts_same
+        (λ s. (s.flight, (s.from, (s.block_out, (s.to, s.block_in)))))
+        (λ p. record { flight = p.0; from = p.1.0; block_out = p.1.1.0; to = p.1.1.1.0; block_in = p.1.1.1.1 })
+        (λ _. refl) a b _
+        (both_same _ _ (bytes_eq-Decides a.flight b.flight)
+        (both_same _ _ (bytes_eq-Decides a.from b.from)
+        (both_same _ _ (Decides-eqb a.block_out b.block_out)
+        (both_same _ _ (bytes_eq-Decides a.to b.to) (Decides-eqb a.block_in b.block_in))))) };
+}
+
+/// What has the times of a segment.
+pub trait Timed: Drop {
+    ghost use Rattle.std.specs.Prelude.{◌≡◌};
+    ghost use Rattle.duty.specs.declared.segment.BlockTimes.{BlockTimes};
+
+    ghost times: { Self → BlockTimes };
+
+    /// The times.
+    fn times(&self) -> BlockTimes
+        ensures { result ≡ times self.now };
+}
+
+impl Timed for Segment {
+    ghost use Rattle.duty.specs.Pairings.{block_times};
+
+    ghost times = { block_times };
+
+    fn times(&self) -> BlockTimes {
+        BlockTimes {
+            block_out: self.block_out,
+            block_in: self.block_in,
+        }
+    }
+}
+
+impl Timed for BlockTimes {
+    ghost times = { λ times. times };
+
+    fn times(&self) -> BlockTimes {
+        *self
+    }
+}
+
+/// When a segment was really flown.
+#[derive(Clone, Copy, Debug, PartialEq, Eq)]
+pub struct BlockTimes {
+    pub block_out: Minute,
+    pub block_in: Minute,
+}
+
+impl Copied for BlockTimes {
+    fn copy(&self, _alloc: Global) -> Result<BlockTimes, MemoryFault> {
+        Ok(*self)
+    }
+}
+
+impl Exact for BlockTimes {
+    ghost use Rattle.std.specs.Prelude.{refl};
+    ghost use Rattle.std.proofs.lemmas.Bool.Decides.{Decides-eqb};
+    ghost use Rattle.values.specs.Same.{both_same, parts_same};
+
+    ghost exact = { λ a b. parts_same
+        (λ t. (t.block_out, t.block_in))
+        (λ p. record { block_out = p.0; block_in = p.1 })
+        (λ _. refl) a b _
+        (both_same _ _ (Decides-eqb a.block_out b.block_out) (Decides-eqb a.block_in b.block_in)) };
+}

@@ -1,0 +1,12 @@
+/// A value of which `==` tells whether two are the same value to contracts.
+pub trait Exact: PartialEq {
+    ghost use Rattle.std.specs.Prelude.{◌≡◌, ◌↔◌, IsTrue};
+
+    ghost exact: { (a b : Self) → IsTrue (Self.eq a b) ↔ (a ≡ b) };
+}
+
+impl<T: Exact> Exact for Option<T> {
+    ghost use Rattle.values.specs.Same.{option_same};
+
+    ghost exact = { option_same T.eq T.exact };
+}
