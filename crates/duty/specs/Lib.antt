@@ -1,0 +1,4 @@
+pub mod FdpTimes
+pub mod Minutes
+pub mod Overlaps
+pub mod Sweeps
