@@ -4,7 +4,7 @@ use Rattle.std.specs.List.{Contains, filter}
 use Rattle.duty.specs.declared.duty_in_force.DutyInForce.{DutyInForce}
 use Rattle.limits.specs.declared.section.Section.{Section}
 use Rattle.limits.specs.declared.section.Section.TheVariants.{FlightTime, FlightDutyPeriod, FlightTime672Hours, FlightTime365Days, FlightDutyPeriods168Hours, FlightDutyPeriods672Hours, ThirtyHourRest, TenHourRest}
-use Rattle.limits.specs.laws.Decisions.{breaks}
+use Rattle.limits.specs.Laws.Decisions.{breaks}
 
 -- the sections in the order in which they are listed
 abbrev pub all_sections : List Section

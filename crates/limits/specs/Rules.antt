@@ -33,11 +33,15 @@ pub record IsOver (width most : ℕ) (all new : ℤ → Bool) : Type 0 where
 abbrev pub FlightTime672Hours : List DutyInForce → List DutyInForce → Type 0
 FlightTime672Hours history new = IsOver 40_320 6_000 (minutes_in Flight history) (minutes_in Flight new)
 
--- 117.23(b)(2): more than 1,000 hours of flight time in 365 days in a row, a day being one of UTC (117.3)
-pub record FlightTime365Days (history new : List DutyInForce) : Type 0 where
+-- some 365 days of UTC (117.3) in a row meet a minute of `new` and hold more than `most` minutes of `all`
+pub record IsYearOver (most : ℕ) (all new : ℤ → Bool) : Type 0 where
   pub day : ℤ
-  pub meets : Meets (minutes_in Flight new) (day *ℤ pos 1_440) 525_600
-  pub more : 60_000 < count (minutes_in Flight history) (day *ℤ pos 1_440) 525_600
+  pub meets : Meets new (day *ℤ pos 1_440) 525_600
+  pub more : most < count all (day *ℤ pos 1_440) 525_600
+
+-- 117.23(b)(2): more than 1,000 hours of flight time in 365 days
+abbrev pub FlightTime365Days : List DutyInForce → List DutyInForce → Type 0
+FlightTime365Days history new = IsYearOver 60_000 (minutes_in Flight history) (minutes_in Flight new)
 
 -- 117.23(c)(1): more than 60 hours of flight duty periods in 168 hours
 abbrev pub FlightDutyPeriods168Hours : List DutyInForce → List DutyInForce → Type 0

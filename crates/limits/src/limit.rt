@@ -1,6 +1,7 @@
 ghost use Rattle.std.specs.Prelude.{◌↔◌, ◌⊎◌, IsTrue, List};
 ghost use Rattle.duty.specs.declared.duty_in_force.DutyInForce.{DutyInForce as InForce};
-ghost use Rattle.limits.specs.Rules.{Rule, IsWithin, IsJoined};
+ghost use Rattle.limits.specs.Rules.{Rule};
+ghost use Rattle.limits.specs.Judgement.{IsWithin, IsJoined};
 ghost use Rattle.limits.specs.declared.section.Section.{Section};
 
 use super::section::Section;
