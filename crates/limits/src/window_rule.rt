@@ -48,7 +48,7 @@ impl SpanTest for AtEnd<'_> {
 
     ghost passes = { λ test span. let rule = test.rule.now in
         end_is_over (flat_map (spans_of rule.kind) rule.all.now)
-            (flat_map (spans_of rule.kind) rule.new.now) rule.width rule.most span };
+        (flat_map (spans_of rule.kind) rule.new.now) rule.width rule.most span };
 
     fn passes(&self, span: Span) -> bool {
         let rule = self.rule;

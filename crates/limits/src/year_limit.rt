@@ -69,8 +69,14 @@ impl SpanTest for AtEdge<'_> {
         let first = span.from.number() as u64 / DAY;
         let last = (span.to.number() as u64).saturating_sub(1) / DAY;
         span.from < span.to
-            && (MOST < self.all.minutes_before(Kind::Flight, (first + 1) * DAY, YEAR as u64)
-                || MOST < self.all.minutes_before(Kind::Flight, (last + 365) * DAY, YEAR as u64))
+            && (MOST
+                < self
+                    .all
+                    .minutes_before(Kind::Flight, (first + 1) * DAY, YEAR as u64)
+                || MOST
+                    < self
+                        .all
+                        .minutes_before(Kind::Flight, (last + 365) * DAY, YEAR as u64))
     }
 }
 
