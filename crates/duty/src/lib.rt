@@ -1,24 +1,36 @@
-//! Duties of crew members: flight duty periods and their segments, pairings, ground duties, and
-//! actual times.
+//! The duties of crew members: flight duty periods and their segments, pairings, ground duties and actual times; and a
+//! member's duties in force with the minutes that they hold (14 CFR 117.3 and 1.1).
 #![tactic(auto)]
 
 mod actual;
 mod checks;
+mod duty_in_force;
 mod fault;
 mod fdp;
+mod fdp_in_force;
 mod ground_duty;
+mod history;
 mod id;
-pub mod thing;
+mod kind;
 mod pairing;
+mod scan;
 mod segment;
 mod shape;
+mod span;
+pub mod thing;
 
 pub use actual::Actual;
+pub use duty_in_force::DutyInForce;
 pub use fault::{DutyFault, Field};
 pub use fdp::Fdp;
+pub use fdp_in_force::FdpInForce;
 pub use ground_duty::Ground;
+pub use history::History;
 pub use id::{Airport, CrewId, Flight, GroundId, Id, PairingId};
-pub use thing::Shaped;
+pub use kind::Kind;
 pub use pairing::Pairing;
+pub use scan::{DutyTest, SpanTest, any_duty, any_span};
 pub use segment::{BlockTimes, Segment};
 pub use shape::is_plain_text;
+pub use span::Span;
+pub use thing::Shaped;

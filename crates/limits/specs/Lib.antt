@@ -1,2 +1,5 @@
+pub mod Judgement
+pub mod Laws
+pub mod Rules
 pub mod SectionText
 pub mod Tables

@@ -1,0 +1,5 @@
+use Rattle.duty.proofs.OverlapFacts.{overlaps_is}
+use Rattle.duty.proofs.history.History.overlaps.Goals as goal
+
+pub returns-clause-minute : goal.returns-clause-minute
+returns-clause-minute c = rw (c.any_span.ensures, c.duties.ensures) (overlaps_is c.args.self.now c.args.other.now)

@@ -1,0 +1,86 @@
+ghost use Rattle.std.specs.Prelude.{◌≡◌};
+ghost use Rattle.duty.specs.Minutes.{last_in};
+
+use super::span::Span;
+use std::marker::Model;
+use time117::Minute;
+
+/// A flight duty period (14 CFR 117.3) with its times in force: the actual ones where there are any, else the planned
+/// ones. It keeps the acclimated minute of the day of the planned report, by which Tables A and B are entered in
+/// either case. Any times in any order are possible, and any number of segments.
+#[derive(Drop)]
+pub struct FdpInForce {
+    start: u16,
+    report: Minute,
+    release: Minute,
+    segments: Vec<Span>,
+}
+
+impl Model for FdpInForce {
+    ghost use Rattle.duty.specs.FdpTimes.{FdpTimes};
+
+    ghost Value = { FdpTimes };
+
+    ghost view = { λ f. record {
+      start = f.start;
+      report = f.report;
+      release = f.release;
+      segments = f.segments.items;
+    } };
+}
+
+impl FdpInForce {
+    /// The period of these times: the segments from block-out to block-in, and as `start` the acclimated minute of the
+    /// day of the planned report.
+    pub fn new(start: u16, report: Minute, release: Minute, segments: Vec<Span>) -> Self
+        ensures start { result.start ≡ start }
+        ensures report { result.report ≡ report }
+        ensures release { result.release ≡ release }
+        ensures segments { result.segments ≡ segments.items }
+    {
+        FdpInForce {
+            start,
+            report,
+            release,
+            segments,
+        }
+    }
+
+    /// The acclimated minute of the day of the planned report.
+    pub fn start(&self) -> u16
+        ensures { result ≡ self.now.start }
+    {
+        self.start
+    }
+
+    /// The report in force.
+    pub fn report(&self) -> Minute
+        ensures { result ≡ self.now.report }
+    {
+        self.report
+    }
+
+    /// The release in force.
+    pub fn release(&self) -> Minute
+        ensures { result ≡ self.now.release }
+    {
+        self.release
+    }
+
+    /// The segments from block-out to block-in.
+    pub fn segments(&self) -> &[Span]
+        ensures { result.now ≡ self.now.segments }
+    {
+        self.segments.as_slice()
+    }
+
+    /// The end of the period: the last block-in, or the report where there is no segment.
+    pub fn last_in(&self) -> Minute
+        ensures { result ≡ last_in self.now.report self.now.segments }
+    {
+        match self.segments.last() {
+            Some(segment) => segment.to,
+            None => self.report,
+        }
+    }
+}

@@ -1,0 +1,28 @@
+ghost use Rattle.std.specs.Prelude.{◌≡◌, ◌<◌, ◌≤◌, ◌⊎◌};
+
+use time117::Minute;
+
+/// The minutes from `from` up to, and without, `to`. It holds none where it does not begin before it ends.
+#[derive(Clone, Copy, Debug, PartialEq, Eq)]
+pub struct Span {
+    pub from: Minute,
+    pub to: Minute,
+}
+
+impl Span {
+    /// Where the span begins, if it holds a minute and begins after `minute` and before `limit`; else `limit`.
+    pub(crate) fn begin_within(self, minute: u64, limit: u64) -> u64
+        requires { minute < limit }
+        ensures after { minute < result }
+        ensures within { result ≤ limit }
+        ensures first { minute < self.from → self.from < self.to → result ≤ self.from }
+        ensures stops { (result ≡ limit) ⊎ ((result ≡ self.from) × (self.from < self.to)) }
+    {
+        let begin = self.from.number() as u64;
+        if minute < begin && begin < limit && self.from < self.to {
+            begin
+        } else {
+            limit
+        }
+    }
+}

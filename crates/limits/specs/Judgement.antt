@@ -1,0 +1,23 @@
+-- The judgement: which limits of 14 CFR Part 117 the new duties break, and the words of two laws of every limit.
+use Rattle.std.specs.Prelude.{List, [], ◌∷◌, ◌⊎◌}
+use Rattle.std.specs.List.{Contains, filter}
+use Rattle.duty.specs.declared.duty_in_force.DutyInForce.{DutyInForce}
+use Rattle.limits.specs.declared.section.Section.{Section}
+use Rattle.limits.specs.declared.section.Section.TheVariants.{FlightTime, FlightDutyPeriod, FlightTime672Hours, FlightTime365Days, FlightDutyPeriods168Hours, FlightDutyPeriods672Hours, ThirtyHourRest, TenHourRest}
+use Rattle.limits.specs.Laws.Decisions.{breaks}
+
+-- the sections in the order in which they are listed
+abbrev pub all_sections : List Section
+all_sections = FlightTime ∷ FlightDutyPeriod ∷ FlightTime672Hours ∷ FlightTime365Days ∷ FlightDutyPeriods168Hours ∷ FlightDutyPeriods672Hours ∷ ThirtyHourRest ∷ TenHourRest ∷ []
+
+-- those that the new duties break; `breaks` is true exactly where the section's `Rule` holds (`breaks_is` beside it)
+abbrev pub Broken : List DutyInForce → List DutyInForce → List Section
+Broken history new = filter (λ section. breaks section history new) all_sections
+
+-- each duty of the first list is one of the second
+abbrev pub IsWithin : List DutyInForce → List DutyInForce → Type 0
+IsWithin fewer duties = (duty : DutyInForce) → Contains fewer duty → Contains duties duty
+
+-- the duties of the first list are those of the other two
+abbrev pub IsJoined : List DutyInForce → List DutyInForce → List DutyInForce → Type 0
+IsJoined all others added = ((duty : DutyInForce) → Contains all duty → Contains others duty ⊎ Contains added duty) × IsWithin others all × IsWithin added all

@@ -1,0 +1,90 @@
+ghost use Rattle.std.specs.Prelude.{◌≡◌, ◌↔◌, [], IsTrue, Contains};
+ghost use Rattle.limits.specs.Judgement.{Broken};
+ghost use Rattle.limits.specs.Rules.{Rule};
+ghost use Rattle.limits.specs.Laws.Decisions.{breaks};
+ghost use Rattle.limits.specs.declared.section.Section.{Section as Sectioned};
+
+use super::limit::Limit;
+use super::rest_limits::{TenHourRest, ThirtyHourRest};
+use super::section::Section;
+use super::table_limits::{FlightDutyPeriod, FlightTime};
+use super::window_limits::{
+    FlightDutyPeriods168Hours, FlightDutyPeriods672Hours, FlightTime672Hours,
+};
+use super::year_limit::FlightTime365Days;
+use duty::History;
+use std::marker::Model;
+
+/// The sections whose limits new duties break. Contracts see their list, in the order of [`Section`].
+#[derive(Drop)]
+pub struct Sections {
+    flight_time: bool,
+    flight_duty_period: bool,
+    flight_time_672_hours: bool,
+    flight_time_365_days: bool,
+    flight_duty_periods_168_hours: bool,
+    flight_duty_periods_672_hours: bool,
+    thirty_hour_rest: bool,
+    ten_hour_rest: bool,
+}
+
+impl Model for Sections {
+    ghost use Rattle.std.specs.Prelude.{List};
+    ghost use Rattle.limits.specs.declared.section.Section.{Section};
+
+    ghost Value = { List Section };
+
+    ghost use Rattle.limits.specs.Laws.Truths.{listed};
+
+    ghost view = { listed };
+}
+
+impl Sections {
+    /// Whether the section is one of them.
+    pub fn has(&self, section: Section) -> bool
+        ensures { IsTrue result ↔ Contains self.now section }
+    {
+        match section {
+            Section::FlightTime => self.flight_time,
+            Section::FlightDutyPeriod => self.flight_duty_period,
+            Section::FlightTime672Hours => self.flight_time_672_hours,
+            Section::FlightTime365Days => self.flight_time_365_days,
+            Section::FlightDutyPeriods168Hours => self.flight_duty_periods_168_hours,
+            Section::FlightDutyPeriods672Hours => self.flight_duty_periods_672_hours,
+            Section::ThirtyHourRest => self.thirty_hour_rest,
+            Section::TenHourRest => self.ten_hour_rest,
+        }
+    }
+}
+
+/// Whether the limit is broken.
+fn is_broken<L: Limit>(limit: &L, history: &History, new: &History) -> bool
+    ensures { result ≡ breaks L.SECTION history.now new.now }
+{
+    limit.broken(history, new)
+}
+
+/// Judges new duties by the eight limits. `history` has the member's duties in force with the new ones in it; a window
+/// or a rest that the new duties don't touch is not judged.
+pub fn judge(history: &History, new: &History) -> Sections
+    ensures list { result ≡ Broken history.now new.now }
+    ensures each { (s : Sectioned) → (Contains result s ↔ Rule s history.now new.now) }
+{
+    judged(history, new)
+}
+
+/// The same, by the list alone.
+fn judged(history: &History, new: &History) -> Sections
+    ensures { result ≡ Broken history.now new.now }
+{
+    Sections {
+        flight_time: is_broken(&FlightTime, history, new),
+        flight_duty_period: is_broken(&FlightDutyPeriod, history, new),
+        flight_time_672_hours: is_broken(&FlightTime672Hours, history, new),
+        flight_time_365_days: is_broken(&FlightTime365Days, history, new),
+        flight_duty_periods_168_hours: is_broken(&FlightDutyPeriods168Hours, history, new),
+        flight_duty_periods_672_hours: is_broken(&FlightDutyPeriods672Hours, history, new),
+        thirty_hour_rest: is_broken(&ThirtyHourRest, history, new),
+        ten_hour_rest: is_broken(&TenHourRest, history, new),
+    }
+}
