@@ -1,3 +1,4 @@
+pub mod DutiesInForce
 pub mod FaultText
 pub mod FdpTimes
 pub mod Minutes

@@ -9,7 +9,7 @@ use super::scan::{SpanTest, any_span};
 use super::span::Span;
 use std::alloc::Global;
 use std::marker::Model;
-use time117::MemoryFault;
+use values::MemoryFault;
 
 /// The duties of a crew member in force, in the order in which they were added. They may overlap.
 #[derive(Drop)]
