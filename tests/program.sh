@@ -38,10 +38,11 @@ case_of() {
     case_of help 0 '*REPORT*UTC instant*Example:*' '' duty --help
     case_of not_utf_8 2 '' 'error: an argument is not UTF-8' duty $'\xff'
 }
-if ./rosterbook $duty 2025-06-11T05:59Z 2>/dev/null >/dev/full; [ $? -eq 3 ]; then
+# shellcheck disable=SC2086
+if full=$(./rosterbook $duty 2025-06-11T05:59Z 2>&1 >/dev/full); [ "$? $full" = "3 refused 92 Channel" ]; then
     passed=$((passed + 1))
 else
     failed=$((failed + 1))
-    echo "tests/program.sh: full_disk: status is not 3" >&2
+    echo "tests/program.sh: full_disk: $full" >&2
 fi
 echo "$passed $failed"

@@ -1,6 +1,6 @@
 //! `rosterbook duty`: one flight duty period against Tables A and B.
 
-use crate::shut::Shut;
+use crate::shut::{Full, Shut};
 use rosterbook::{Action, LineFault, duty_line, perform};
 use std::alloc::{AllocError, Global};
 use std::io;
@@ -63,7 +63,7 @@ const SEVEN_AND_MORE_SEGMENTS: [Row; 3] = [
     ),
 ];
 
-const EARLY_REPORT: [Row; 2] = [
+const EARLY_REPORT: [Row; 3] = [
     (
         "2025-06-10T08:59Z",
         "2025-06-10T09:30Z 2025-06-10T17:30Z",
@@ -73,6 +73,11 @@ const EARLY_REPORT: [Row; 2] = [
         "2025-06-10T08:59Z",
         "2025-06-10T09:30Z 2025-06-10T17:31Z",
         "report 04:59 segments 1 fdp 8:32 of 10:00 flight 8:01 of 8:00 exceeds 117.11(a)(1)",
+    ),
+    (
+        "2025-06-10T08:59Z",
+        "2025-06-10T09:30Z 2025-06-10T19:00Z",
+        "report 04:59 segments 1 fdp 10:01 of 10:00 flight 9:30 of 8:00 exceeds 117.11(a)(1) 117.13(a)",
     ),
 ];
 
@@ -222,6 +227,12 @@ fn a_writer_that_fails_is_a_refusal(rt: HostRuntime) -> Result<(), Fail> {
     let mut err = Vec::new(alloc);
     assert_eq!(rt;
         perform(alloc, &action, &mut io::empty(), &mut Shut, &mut err),
+        3
+    );
+    assert_eq!(rt; err.as_slice(), b"refused 92 Channel\n".as_slice());
+    let mut err = Vec::new(alloc);
+    assert_eq!(rt;
+        perform(alloc, &action, &mut io::empty(), &mut Full, &mut err),
         3
     );
     assert_eq!(rt; err.as_slice(), b"refused 92 Channel\n".as_slice());

@@ -1,4 +1,4 @@
-//! A writer that takes nothing.
+//! Writers that fail.
 
 use std::io;
 
@@ -13,5 +13,19 @@ impl io::Write for Shut {
 
     fn flush(&mut self) -> io::Result<()> {
         Ok(())
+    }
+}
+
+/// A disk that is found full when what was taken is to be kept.
+#[derive(Drop)]
+pub struct Full;
+
+impl io::Write for Full {
+    fn write(&mut self, buf: &[u8]) -> io::Result<usize> {
+        Ok(buf.len())
+    }
+
+    fn flush(&mut self) -> io::Result<()> {
+        Err(io::Error::from(io::ErrorKind::StorageFull))
     }
 }

@@ -4,5 +4,6 @@ pub mod Entered
 pub mod Filled
 pub mod Getters
 pub mod ReadLemmas
+pub mod RefusalLemmas
 pub mod SegmentLemmas
 pub mod WalkKeeps

@@ -6,6 +6,7 @@ use Rattle.rosterbook.specs.Verdict.{Line, line_of}
 use Rattle.rosterbook.specs.declared.actions.Action.{Action}
 use Rattle.rosterbook.specs.declared.actions.Action.TheVariants.{Duty}
 use Rattle.rosterbook.specs.declared.fault.LineFault.{LineFault}
+use Rattle.rosterbook.specs.declared.fault.LineFault.TheVariants.{Memory}
 use Rattle.rosterbook.specs.declared.status.Status.{Status}
 use Rattle.rosterbook.specs.declared.status.Status.TheVariants.{Done, Refused, Usage, Failed}
 
@@ -34,6 +35,10 @@ refusal_line fault = codes "refused " ++ fault_text fault ++ line_end
 abbrev pub duty_answer : Result Line LineFault → Answer
 duty_answer (Ok line) = record { status = verdict_status line.1; out = line.0 ++ line_end; err = [] }
 duty_answer (Err fault) = record { status = Refused; out = []; err = refusal_line fault }
+
+-- want of memory, before anything was written
+abbrev pub memory_answer : Answer
+memory_answer = record { status = Failed; out = []; err = refusal_line Memory }
 
 abbrev pub answer_of : Action → Answer
 answer_of (Duty zone report times) =

@@ -15,7 +15,7 @@ use clap::{Arg, ArgAction, ArgMatches, Command, Error};
 use std::alloc::{AllocError, Global};
 
 const ARGUMENTS: &str = "\
-Arguments:
+Arguments of the commands:
   ZONE    time zone of the crew, a POSIX rule such as EST5EDT,M3.2.0,M11.1.0
   REPORT  report, a UTC instant such as 2025-06-10T15:59Z
   TIME    block-out and block-in in turn, UTC instants such as 2025-06-10T16:30Z
@@ -25,18 +25,21 @@ Arguments:
 const DUTY_EXAMPLE: &str = "\
 Example:
   rosterbook duty EST5EDT,M3.2.0,M11.1.0 2025-06-10T15:59Z \\
-    2025-06-10T16:30Z 2025-06-10T20:30Z";
+    2025-06-10T16:30Z 2025-06-10T20:30Z
+
+Exit status: 0 within the limits, 1 exceeds one or refused, 2 a mistake in
+the command line, 3 no memory or a failed output";
 
 const ZONE_HELP: &str = "\
-Time zone of the acclimated crew, a POSIX rule
-such as EST5EDT,M3.2.0,M11.1.0";
+Time zone of the acclimated crew, a POSIX rule, which gives the
+hours WEST of UTC: EST5EDT,M3.2.0,M11.1.0 or UTC0 or '<+0530>-5:30'";
 
 const REPORT_HELP: &str = "\
 Report, a UTC instant YYYY-MM-DDThh:mmZ,
 such as 2025-06-10T15:59Z";
 
 const TIME_HELP: &str = "\
-Block-out and block-in in turn, one pair a segment, UTC instants
+Block-out and block-in of 1 to 12 segments in turn, UTC instants
 YYYY-MM-DDThh:mmZ such as 2025-06-10T16:30Z 2025-06-10T20:30Z";
 
 /// Reads `words`, the command line after the program's name. An error is `clap`'s own for these
@@ -53,7 +56,7 @@ pub fn action(alloc: Global, words: &[&str]) -> Result<Action, Error>
     read(alloc, words)
 }
 
-// The same, as `clap` states it alone.
+/// The same, as `clap` states it alone.
 fn read(alloc: Global, words: &[&str]) -> Result<Action, Error>
     ensures ok { IfOk result (λ a. IsSomeAnd (subcommand_of command_line (texts words.now)) (States a)) }
     ensures refused { FailsBy (fault_of command_line (texts words.now)) result }
@@ -62,14 +65,14 @@ fn read(alloc: Global, words: &[&str]) -> Result<Action, Error>
     Ok(action_of(alloc, &matches)?)
 }
 
-// The whole command line.
+/// The whole command line.
 fn command<'a>(alloc: Global) -> Result<Command<'a>, AllocError>
     ensures { IfOk result (IsCommand command_line) }
 {
     bare_command(alloc)?.subcommand(duty_command(alloc)?)
 }
 
-// The program without its subcommands.
+/// The program without its subcommands.
 fn bare_command<'a>(alloc: Global) -> Result<Command<'a>, AllocError>
     ensures { IfOk result (IsCommand bare) }
 {
@@ -84,7 +87,7 @@ fn bare_command<'a>(alloc: Global) -> Result<Command<'a>, AllocError>
         .bin_name("rosterbook")
 }
 
-// The subcommand `duty`.
+/// The subcommand `duty`.
 fn duty_command<'a>(alloc: Global) -> Result<Command<'a>, AllocError>
     ensures { IfOk result (IsCommand duty) }
 {
@@ -101,7 +104,7 @@ fn duty_command<'a>(alloc: Global) -> Result<Command<'a>, AllocError>
         .arg(times)
 }
 
-// An argument by its place that must be there.
+/// An argument by its place that must be there.
 fn positional<'a>(alloc: Global, id: &'a str, value_name: &'a str) -> Arg<'a>
     ensures rule { rule_of result ≡ wanted id.entry.now }
     ensures local { result.global ≡ false }
@@ -109,7 +112,7 @@ fn positional<'a>(alloc: Global, id: &'a str, value_name: &'a str) -> Arg<'a>
     Arg::new(alloc, id).value_name(value_name).required(true)
 }
 
-// The action that the subcommand of the matches asks for.
+/// The action that the subcommand of the matches asks for.
 fn action_of(alloc: Global, matches: &ArgMatches<'_>) -> Result<Action, AllocError>
     requires { HasArguments (subcommand_rows_of matches.now) }
     ensures { IfOk result (λ a. IsSomeAnd (subcommand_rows_of matches.now) (States a)) }
@@ -121,7 +124,7 @@ fn action_of(alloc: Global, matches: &ArgMatches<'_>) -> Result<Action, AllocErr
     }
 }
 
-// The arguments of `duty`.
+/// The arguments of `duty`.
 fn duty_of(alloc: Global, matches: &ArgMatches<'_>) -> Result<Action, AllocError>
     requires { HasDuty (rows_of (found_of matches.now)) }
     ensures { IfOk result (λ a. States a (codes "duty", rows_of (found_of matches.now))) }
@@ -133,7 +136,7 @@ fn duty_of(alloc: Global, matches: &ArgMatches<'_>) -> Result<Action, AllocError
     })
 }
 
-// The first value of an argument that has one.
+/// The first value of an argument that has one.
 fn text_of(alloc: Global, matches: &ArgMatches<'_>, id: &str) -> Result<String, AllocError>
     requires { is_some (first_of id.now (rows_of (found_of matches.now))) ≡ true }
     ensures { IfOk result (λ s. first_of id.now (rows_of (found_of matches.now)) ≡ Some (string_bytes s)) }
@@ -141,7 +144,7 @@ fn text_of(alloc: Global, matches: &ArgMatches<'_>, id: &str) -> Result<String, 
     String::from_str(alloc, matches.get_str(id).unwrap())
 }
 
-// The values of an argument that was used.
+/// The values of an argument that was used.
 fn texts_of(alloc: Global, matches: &ArgMatches<'_>, id: &str) -> Result<Vec<String>, AllocError>
     requires { is_some (all_of id.now (rows_of (found_of matches.now))) ≡ true }
     ensures { IfOk result (λ v. all_of id.now (rows_of (found_of matches.now)) ≡ Some (map string_bytes v.items)) }
@@ -149,7 +152,7 @@ fn texts_of(alloc: Global, matches: &ArgMatches<'_>, id: &str) -> Result<Vec<Str
     owned(alloc, matches.get_strs(id).unwrap())
 }
 
-// A copy of each text.
+/// A copy of each text.
 fn owned(alloc: Global, words: &[&str]) -> Result<Vec<String>, AllocError>
     ensures { IfOk result (λ v. map string_bytes v.items ≡ texts words.now) }
 {

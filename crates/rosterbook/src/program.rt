@@ -1,4 +1,4 @@
-ghost use Rattle.std.specs.Prelude.{◌≡◌, ◌≢◌, ◌++◌, map, string_bytes, IfOk, OnOk, IsErr};
+ghost use Rattle.std.specs.Prelude.{◌≡◌, ◌≢◌, ◌⊎◌, ◌++◌, map, string_bytes, IfOk, OnOk, IsErr};
 ghost use Rattle.std.specs.Io.KnownBytes.{Appends};
 ghost use Rattle.rosterbook.specs.Program as spec;
 ghost use Rattle.rosterbook.specs.Program.{exit_status};
@@ -58,7 +58,8 @@ fn answer_duty<O: Write, E: Write>(
     out: &mut O,
     err: &mut E,
 ) -> io::Result<Status>
-    ensures { IfOk result (λ status. status ≢ Status.Failed → spec.Gives (spec.duty_answer (line_of zone.now report.now (map string_bytes times.now))) status (O.contents out.old) (O.contents out.new) (E.contents err.old) (E.contents err.new)) }
+    ensures { IfOk result (λ status. spec.Gives (spec.duty_answer (line_of zone.now report.now (map string_bytes times.now))) status (O.contents out.old) (O.contents out.new) (E.contents err.old) (E.contents err.new)
+        ⊎ spec.Gives spec.memory_answer status (O.contents out.old) (O.contents out.new) (E.contents err.old) (E.contents err.new)) }
 {
     match duty_line(alloc, zone, report, times) {
         Ok((line, is_within)) => {

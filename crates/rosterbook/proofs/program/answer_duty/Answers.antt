@@ -1,0 +1,7 @@
+use Rattle.rosterbook.proofs.RefusalLemmas.{gives-refusal}
+use Rattle.rosterbook.proofs.program.answer_duty.Goals as goal
+
+pub returns-in_ok-refuse-in-Err : goal.returns-in_ok-refuse-in-Err
+returns-in_ok-refuse-in-Err g c =
+    gives-refusal c.in-Err.fault _ c.status.result _ _ _ c.status.ensures.failed c.status.ensures.refused
+    c.in-Err.ensures.refused c.in_ok-refuse-in-Err.ensures
