@@ -1,7 +1,8 @@
 -- The minutes that duties hold, as sets. A minute is a whole number: 2000-01-01T00:00Z is 0, and what was before it is
 -- negative. A set of minutes is a test, so a minute counts once however many duties hold it.
-use Rattle.std.specs.Prelude.{◌≡◌, ℕ, zero, suc, ◌+◌, Bool, ◌&&◌, List, [], ◌∷◌, if◌then◌else◌, ℤ, pos, ◌+ℤ◌, ◌≤ℤ◌, ◌<ℤ◌, int_lt, int_le, IsTrue}
-use Rattle.std.specs.List.{list_any, flat_map}
+use Rattle.std.specs.Prelude.{◌≡◌, ℕ, zero, suc, ◌+◌, ◌-◌, Bool, ◌&&◌, List, [], ◌∷◌, if◌then◌else◌, ℤ, pos, ◌+ℤ◌, ◌≤ℤ◌, ◌<ℤ◌, int_lt, int_le, IsTrue}
+use Rattle.std.specs.List.{list_any, flat_map, sum_by}
+use Rattle.duty.specs.FdpTimes.{FdpTimes}
 use Rattle.duty.specs.declared.span.Span.{Span}
 use Rattle.duty.specs.declared.duty_in_force.DutyInForce.{DutyInForce}
 use Rattle.duty.specs.declared.duty_in_force.DutyInForce.TheVariants.{Fdp, Ground}
@@ -20,6 +21,14 @@ minutes_of spans minute = list_any (covers minute) spans
 abbrev pub last_in : ℕ → List Span → ℕ
 last_in report [] = report
 last_in report (segment ∷ rest) = last_in segment.to rest
+
+-- the length of a flight duty period, from report to the last block-in
+abbrev pub fdp_length : FdpTimes → ℕ
+fdp_length fdp = last_in fdp.report fdp.segments - fdp.report
+
+-- the flight time in it, from block-out to block-in of each segment
+abbrev pub flight_time : FdpTimes → ℕ
+flight_time fdp = sum_by (λ segment. segment.to - segment.from) fdp.segments
 
 -- flight time (14 CFR 1.1) is from block-out to block-in of each segment, a flight duty period (117.3) from report to
 -- the last block-in, and duty (117.3) from report to release; a duty on the ground is all duty

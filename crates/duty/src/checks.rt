@@ -23,19 +23,15 @@ fn are_within<S: Timed>(report: Minute, release: Minute, segments: &[S]) -> bool
 {
     segments.iter().all(|segment| {
         let times = segment.times();
-        report <= times.block_out
-            && times.block_out < times.block_in
-            && times.block_in <= release
+        report <= times.block_out && times.block_out < times.block_in && times.block_in <= release
     })
 }
 
 fn are_in_turn<S: Timed>(segments: &[S]) -> bool
     ensures { result ≡ spec.each_next spec.is_before (map S.times segments.now) }
 {
-    segments
-        .iter()
-        .zip(segments.iter().skip(1))
-        .all(|(segment, next)| segment.times().block_in <= next.times().block_out)
+    segments.iter().zip(segments.iter().skip(1)).all(|(segment, next)| segment.times().block_in
+        <= next.times().block_out)
 }
 
 /// The first fault of a pairing: shapes, then counts, then orders of times, then the chain of

@@ -1,5 +1,5 @@
 ghost use Rattle.std.specs.Prelude.{◌≡◌};
-ghost use Rattle.duty.specs.Minutes.{last_in};
+ghost use Rattle.duty.specs.Minutes.{last_in, fdp_length};
 
 use super::span::Span;
 use std::marker::Model;
@@ -82,5 +82,12 @@ impl FdpInForce {
             Some(segment) => segment.to,
             None => self.report,
         }
+    }
+
+    /// The length of the period in minutes, from report to the last block-in, or 0 where that is before the report.
+    pub fn length(&self) -> u32
+        ensures { result ≡ fdp_length self.now }
+    {
+        self.last_in().number().saturating_sub(self.report.number())
     }
 }

@@ -1,12 +1,12 @@
 -- The limits of 14 CFR Part 117 as facts about a crew member's duties in force: `history` is all of them, the new ones
 -- too, and `new` is the new ones. Each fact says that the new duties break the limit.
-use Rattle.std.specs.Prelude.{ℕ, ◌-◌, ◌<◌, Bool, List, length, ℤ, pos, ◌+ℤ◌, ◌-ℤ◌, ◌*ℤ◌, ◌≤ℤ◌, ◌⊎◌}
-use Rattle.std.specs.List.{Contains, sum_by}
+use Rattle.std.specs.Prelude.{ℕ, ◌<◌, Bool, List, length, ℤ, pos, ◌+ℤ◌, ◌-ℤ◌, ◌*ℤ◌, ◌≤ℤ◌, ◌⊎◌}
+use Rattle.std.specs.List.{Contains}
 use Rattle.duty.specs.declared.duty_in_force.DutyInForce.{DutyInForce}
 use Rattle.duty.specs.declared.duty_in_force.DutyInForce.TheVariants.{Fdp}
 use Rattle.duty.specs.declared.kind.Kind.TheVariants.{Flight, FlightDuty, Duty}
 use Rattle.duty.specs.FdpTimes.{FdpTimes}
-use Rattle.duty.specs.Minutes.{Meets, count, minutes_in, last_in}
+use Rattle.duty.specs.Minutes.{Meets, count, minutes_in, fdp_length, flight_time}
 use Rattle.limits.specs.Tables.{table_a, table_b}
 use Rattle.limits.specs.declared.section.Section.{Section}
 use Rattle.limits.specs.declared.section.Section.TheVariants as section
@@ -15,13 +15,13 @@ use Rattle.limits.specs.declared.section.Section.TheVariants as section
 pub record FlightTime (history new : List DutyInForce) : Type 0 where
   pub fdp : FdpTimes
   pub is_new : Contains new (Fdp fdp)
-  pub over : table_a fdp.start < sum_by (λ segment. segment.to - segment.from) fdp.segments
+  pub over : table_a fdp.start < flight_time fdp
 
 -- 117.13(a): a new flight duty period is longer than Table B gives
 pub record FlightDutyPeriod (history new : List DutyInForce) : Type 0 where
   pub fdp : FdpTimes
   pub is_new : Contains new (Fdp fdp)
-  pub over : table_b fdp.start (length fdp.segments) < last_in fdp.report fdp.segments - fdp.report
+  pub over : table_b fdp.start (length fdp.segments) < fdp_length fdp
 
 -- some `width` minutes in a row meet a minute of `new` and hold more than `most` minutes of `all`
 pub record IsOver (width most : ℕ) (all new : ℤ → Bool) : Type 0 where

@@ -56,10 +56,7 @@ impl DutyTest for IsOverTableB {
 
     fn passes(&self, duty: &DutyInForce) -> bool {
         match duty {
-            DutyInForce::Fdp(fdp) => {
-                let length = fdp.last_in().number().saturating_sub(fdp.report().number());
-                table_b(fdp.start(), fdp.segments().len()) < length
-            }
+            DutyInForce::Fdp(fdp) => { table_b(fdp.start(), fdp.segments().len()) < fdp.length() }
             DutyInForce::Ground(_) => false,
         }
     }

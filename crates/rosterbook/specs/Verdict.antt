@@ -1,28 +1,32 @@
 -- The line of `rosterbook duty`: one flight duty period against Tables A and B.
-use Rattle.std.specs.Prelude.{ℕ, Bool, true, false, List, [], ◌∷◌, ◌++◌, length, codes, nat_lt, not, ◌&&◌, if◌then◌else◌, Result, Ok, Err}
+use Rattle.std.specs.Prelude.{ℕ, Bool, true, false, List, [], ◌∷◌, ◌++◌, length, map, codes, nat_lt, not, ◌&&◌, if◌then◌else◌, Result, Ok, Err}
 use Rattle.std.specs.Fmt.{decimal}
 use Rattle.time117.specs.Instant.{read_instant}
 use Rattle.time117.specs.Local.{is_zone_text, local_minute}
 use Rattle.time117.specs.declared.minute.TimeFault.{TimeFault}
+use Rattle.duty.specs.DutiesInForce.{fdp_times}
+use Rattle.duty.specs.FdpTimes.{FdpTimes}
+use Rattle.duty.specs.Minutes.{fdp_length, flight_time}
+use Rattle.duty.specs.Pairings.{is_in_order, block_times}
+use Rattle.duty.specs.declared.fdp.Fdp.{Fdp}
 use Rattle.limits.specs.Tables.{table_a, table_b}
 use Rattle.limits.specs.SectionText.{section_text}
 use Rattle.limits.specs.declared.section.Section.TheVariants.{FlightTime, FlightDutyPeriod}
-use Rattle.rosterbook.specs.FlightDuty.{is_segment_count, segments_of, is_in_order, flight_time, period_length}
+use Rattle.rosterbook.specs.FlightDuty.{is_segment_count, fdp_of}
 use Rattle.rosterbook.specs.Texts.{clock_text, hours_text}
-use Rattle.rosterbook.specs.declared.flight_duty.Segment.{Segment}
 use Rattle.rosterbook.specs.declared.verdict.Verdict.{Verdict}
 use Rattle.rosterbook.specs.declared.verdict.Against.{Against}
 use Rattle.rosterbook.specs.declared.verdict.Outcome.{Outcome}
 use Rattle.rosterbook.specs.declared.fault.LineFault.{LineFault}
 use Rattle.rosterbook.specs.declared.fault.LineFault.TheVariants.{Zone, Time, SegmentCount, BadTimes}
 
--- a period that begins at this local minute of the day, with its segments, length and flight time
-abbrev pub verdict : ℕ → ℕ → ℕ → ℕ → Verdict
-verdict start segments length flight = record {
-  start = start;
-  segments = segments;
-  length = record { minutes = length; limit = table_b start segments };
-  flight = record { minutes = flight; limit = table_a start };
+-- a flight duty period beside what the tables give
+abbrev pub verdict : FdpTimes → Verdict
+verdict fdp = record {
+  start = fdp.start;
+  segments = length fdp.segments;
+  length = record { minutes = fdp_length fdp; limit = table_b fdp.start (length fdp.segments) };
+  flight = record { minutes = flight_time fdp; limit = table_a fdp.start };
 }
 
 -- 117.11(a)(1): the flight time is above Table A. 117.13(a): the period is longer than Table B gives
@@ -62,15 +66,14 @@ line_of_verdict v = (verdict_text v, is_within (outcome v))
 
 -- Faults are looked for in this order: the zone, the report, each time in turn, the number of times, their order.
 
-abbrev pub verdict_of : ℕ → ℕ → List Segment → Verdict
-verdict_of start report segments =
-    verdict start (length segments) (period_length report segments) (flight_time segments)
+abbrev pub line_of_fdp : List ℕ → Fdp → Result Line LineFault
+line_of_fdp zone fdp =
+    if not (is_in_order fdp.report fdp.release (map block_times fdp.segments)) then Err BadTimes
+    else Ok (line_of_verdict (verdict (fdp_times zone fdp)))
 
 abbrev pub line_of_times : List ℕ → ℕ → List ℕ → Result Line LineFault
 line_of_times zone report times =
-    if not (is_segment_count (length times)) then Err SegmentCount
-    else if not (is_in_order report (segments_of times)) then Err BadTimes
-    else Ok (line_of_verdict (verdict_of (local_minute zone report) report (segments_of times)))
+    if not (is_segment_count (length times)) then Err SegmentCount else line_of_fdp zone (fdp_of report times)
 
 -- the instants that texts give in turn, up to the first that gives none
 abbrev pub then_instant : Result ℕ TimeFault → Result (List ℕ) TimeFault → Result (List ℕ) TimeFault

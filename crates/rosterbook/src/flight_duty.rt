@@ -1,67 +1,67 @@
-ghost use Rattle.std.specs.Prelude.{◌≡◌, ◌≤◌, ◌<◌, true, false, length, vec_len, IsErrAnd, IfOk, IfErr, nat_le, ◌⊎◌};
-ghost use Rattle.rosterbook.specs.FlightDuty.{is_segment_count, segments_of, is_in_order, flight_time, last_in, period_length};
+ghost use Rattle.std.specs.Prelude.{◌≡◌, ◌≤◌, length, map, IfOk};
+ghost use Rattle.std.specs.List.{sum_by};
+ghost use Rattle.std.specs.Prelude.{◌-◌};
+ghost use Rattle.duty.specs.DutiesInForce.{span_of};
+ghost use Rattle.duty.specs.Minutes.{last_in};
+ghost use Rattle.rosterbook.specs.FlightDuty as spec;
 
-use crate::fault::LineFault;
+use duty::{Airport, Fdp, Flight, Segment, Span};
 use std::alloc::{AllocError, Global};
 use time117::Minute;
+use values::{Items, Text};
 
-/// One segment: a flight from block-out to block-in.
-#[derive(Clone, Copy)]
-pub struct Segment {
-    pub block_out: Minute,
-    pub block_in: Minute,
+/// The flight duty period of a report and of times that are block-out and block-in of each segment in turn. It is
+/// released at its last block-in, and its segments have no flight and no airports.
+pub fn read_fdp(alloc: Global, report: Minute, times: &[Minute]) -> Result<Fdp, AllocError>
+    ensures { IfOk result (λ fdp. fdp ≡ spec.fdp_of report times.now) }
+{
+    let segments = read_segments(alloc, times)?;
+    let release = last_block_in(report, &segments);
+    Ok(Fdp::new(report, release, Items::new(segments)))
 }
 
 /// The segments that times give, block-out and block-in in turn.
-pub fn read_segments(alloc: Global, times: &[Minute]) -> Result<Vec<Segment>, AllocError>
-    ensures { IfOk result (λ segments. segments.items ≡ segments_of times.now) }
+fn read_segments(alloc: Global, times: &[Minute]) -> Result<Vec<Segment>, AllocError>
+    ensures { IfOk result (λ segments. segments.items ≡ spec.segments_of times.now) }
 {
     let mut segments = Vec::new(alloc);
     for i in 0..times.len() / 2 {
-        segments.push(Segment {
-            block_out: times[2 * i],
-            block_in: times[2 * i + 1],
-        })?;
+        segments.push(timed(alloc, times[2 * i], times[2 * i + 1]))?;
     }
     Ok(segments)
 }
 
-/// Whether the report is at or before the first block-out, each block-in after its block-out, and each further
-/// block-out at or after the block-in before it.
-pub fn are_in_order(report: Minute, segments: &[Segment]) -> bool
-    ensures { result ≡ is_in_order report segments.now }
+/// A segment of which only the times are told.
+fn timed(alloc: Global, block_out: Minute, block_in: Minute) -> Segment
+    ensures { result ≡ spec.timed block_out block_in }
 {
-    let mut earliest = report;
-    for segment in segments {
-        if segment.block_out < earliest || segment.block_in <= segment.block_out {
-            return false;
-        }
-        earliest = segment.block_in;
+    Segment {
+        flight: Flight::new(Text::new(String::new(alloc))),
+        from: Airport::new(Text::new(String::new(alloc))),
+        block_out,
+        to: Airport::new(Text::new(String::new(alloc))),
+        block_in,
     }
-    true
 }
 
-/// The flight time of the segments, in minutes (14 CFR 1.1).
-pub fn flight_minutes(segments: &[Segment]) -> u32
+/// The last block-in, or the report where there is no segment.
+fn last_block_in(report: Minute, segments: &[Segment]) -> Minute
+    ensures { result ≡ last_in report (map span_of segments.now) }
+{
+    match segments.last() {
+        Some(segment) => segment.block_in,
+        None => report,
+    }
+}
+
+/// The flight time of the segments in minutes, from block-out to block-in of each (14 CFR 1.1).
+pub fn flight_minutes(segments: &[Span]) -> u32
     requires { length segments.now ≤ 12 }
-    ensures { result ≡ flight_time segments.now }
+    ensures { result ≡ sum_by (λ segment. segment.to - segment.from) segments.now }
 {
     let mut minutes = 0;
     for segment in segments {
-        minutes += segment
-            .block_in
-            .number()
-            .saturating_sub(segment.block_out.number());
+        minutes += segment.to.number().saturating_sub(segment.from.number());
     }
     minutes
-}
-
-/// The length of the flight duty period in minutes, from report to the last block-in (117.3).
-pub fn period_minutes(report: Minute, segments: &[Segment]) -> u32
-    ensures { result ≡ period_length report segments.now }
-{
-    match segments.last() {
-        Some(segment) => segment.block_in.number().saturating_sub(report.number()),
-        None => 0,
-    }
 }

@@ -4,8 +4,9 @@ ghost use Rattle.rosterbook.specs.Verdict as spec;
 ghost use Rattle.rosterbook.specs.declared.fault.LineFault.TheVariants.{Memory, Time};
 
 use crate::fault::LineFault;
-use crate::flight_duty::{are_in_order, flight_minutes, period_minutes, read_segments};
+use crate::flight_duty::{flight_minutes, read_fdp};
 use crate::texts::{Clock, Hours};
+use duty::FdpInForce;
 use limits::{Section, table_a, table_b};
 use std::alloc::Global;
 use std::fmt;
@@ -57,16 +58,11 @@ fn line_of_times(
     if !is_segment_count(times.len()) {
         return Err(LineFault::SegmentCount);
     }
-    let segments = read_segments(alloc, times)?;
-    if !are_in_order(report, &segments) {
+    let fdp = read_fdp(alloc, report, times)?;
+    if !fdp.is_in_order() {
         return Err(LineFault::BadTimes);
     }
-    let verdict = Verdict::new(
-        zone.minute_of_day(report)?,
-        segments.len(),
-        period_minutes(report, &segments),
-        flight_minutes(&segments),
-    );
+    let verdict = Verdict::of(&fdp.in_force(alloc, zone)?);
     Ok((
         format!(in alloc; "{verdict}")?,
         verdict.outcome().is_within(),
@@ -105,19 +101,22 @@ struct Outcome {
 }
 
 impl Verdict {
-    fn new(start: u16, segments: usize, length: u32, flight: u32) -> Verdict
-        ensures { result ≡ spec.verdict start segments length flight }
+    /// The verdict on a period of 1 to 12 segments.
+    fn of(fdp: &FdpInForce) -> Verdict
+        requires { length fdp.now.segments ≤ 12 }
+        ensures { result ≡ spec.verdict fdp.now }
     {
+        let segments = fdp.segments();
         Verdict {
-            start,
-            segments,
+            start: fdp.start(),
+            segments: segments.len(),
             length: Against {
-                minutes: length,
-                limit: table_b(start, segments),
+                minutes: fdp.length(),
+                limit: table_b(fdp.start(), segments.len()),
             },
             flight: Against {
-                minutes: flight,
-                limit: table_a(start),
+                minutes: flight_minutes(segments),
+                limit: table_a(fdp.start()),
             },
         }
     }
