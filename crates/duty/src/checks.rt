@@ -7,7 +7,7 @@ ghost use Rattle.duty.specs.Plans.{Plan};
 use crate::fault::{DutyFault, Field};
 use crate::fdp::Fdp;
 use crate::id::PairingId;
-use crate::segment::{Segment, Timed};
+use crate::segment::{BlockTimes, Segment, Timed};
 use time117::Minute;
 
 /// Whether the report is at or before the first block-out, each block-out before its block-in, each
@@ -21,12 +21,15 @@ pub fn are_in_order<S: Timed>(report: Minute, release: Minute, segments: &[S]) -
 fn are_within<S: Timed>(report: Minute, release: Minute, segments: &[S]) -> bool
     ensures { result ≡ list_all (spec.is_within_duty report release) (map S.times segments.now) }
 {
-    segments.iter().all(|segment| {
-        let times = segment.times();
-        report <= times.block_out
-            && times.block_out < times.block_in
-            && times.block_in <= release
-    })
+    segments
+        .iter()
+        .all(|segment| is_within_duty(report, release, segment.times()))
+}
+
+fn is_within_duty(report: Minute, release: Minute, times: BlockTimes) -> bool
+    ensures { result ≡ spec.is_within_duty report release times }
+{
+    report <= times.block_out && times.block_out < times.block_in && times.block_in <= release
 }
 
 fn are_in_turn<S: Timed>(segments: &[S]) -> bool
@@ -35,7 +38,13 @@ fn are_in_turn<S: Timed>(segments: &[S]) -> bool
     segments
         .iter()
         .zip(segments.iter().skip(1))
-        .all(|(segment, next)| segment.times().block_in <= next.times().block_out)
+        .all(|(segment, next)| is_before(segment.times(), next.times()))
+}
+
+fn is_before(times: BlockTimes, next: BlockTimes) -> bool
+    ensures { result ≡ spec.is_before times next }
+{
+    times.block_in <= next.block_out
 }
 
 /// The first fault of a pairing: shapes, then counts, then orders of times, then the chain of

@@ -44,7 +44,9 @@ fn are_plain(bytes: &[u8]) -> bool
 fn are_of_ids(bytes: &[u8]) -> bool
     ensures { result ≡ list_all spec.is_id_byte bytes.now }
 {
-    bytes.iter().all(|byte| is_code_byte(*byte) || *byte == b'-')
+    bytes
+        .iter()
+        .all(|byte| is_code_byte(*byte) || *byte == b'-')
 }
 
 fn are_of_codes(bytes: &[u8]) -> bool

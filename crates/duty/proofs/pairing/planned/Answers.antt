@@ -11,7 +11,7 @@ loop-period-preserved c =
     let i = c.loop-period.period-index in
     let within : i < length planned = omega arith in
     let P : Fdp → Type 0 = λ period.
-      set c.loop-period.period-items i (as_planned period) ≡ map as_planned (take (i + 1) planned) ++ drop (i + 1) planned in
+    set c.loop-period.period-items i (as_planned period) ≡ map as_planned (take (i + 1) planned) ++ drop (i + 1) planned in
     subst P c.period-item.is
     (map_over_more as_planned planned c.loop-period.period-items i c.period-item.result within c.loop-period.invariant
     c.period-item.is)
