@@ -2,3 +2,4 @@ pub mod FaultText
 pub mod Pairings
 pub mod Plans
 pub mod Shape
+pub mod Words

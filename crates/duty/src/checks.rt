@@ -3,6 +3,7 @@ ghost use Rattle.std.specs.Prelude.{◌≡◌, ◌≤◌, ◌++◌, length, map,
 ghost use Rattle.std.specs.List.{list_all};
 ghost use Rattle.duty.specs.Pairings as spec;
 ghost use Rattle.duty.specs.Plans.{Plan};
+ghost use Rattle.duty.specs.Words.{each_next, last_of, checked};
 
 use crate::fault::{DutyFault, Field};
 use crate::fdp::Fdp;
@@ -33,7 +34,7 @@ fn is_within_duty(report: Minute, release: Minute, times: BlockTimes) -> bool
 }
 
 fn are_in_turn<S: Timed>(segments: &[S]) -> bool
-    ensures { result ≡ spec.each_next spec.is_before (map S.times segments.now) }
+    ensures { result ≡ each_next spec.is_before (map S.times segments.now) }
 {
     segments
         .iter()
@@ -52,7 +53,7 @@ fn is_before(times: BlockTimes, next: BlockTimes) -> bool
 #[tactic(auto, unfolding(crate::specs::Pairings::pairing_fault))]
 pub fn check_pairing(id: &PairingId, periods: &[Fdp]) -> Result<(), DutyFault>
     ensures { let plan : Plan = record { id = id.now; periods = periods.now } in
-        result ≡ spec.checked (spec.pairing_fault plan) tt }
+        result ≡ checked (spec.pairing_fault plan) tt }
 {
     if !id.has_shape() {
         return Err(DutyFault::BadField(Field::Pairing));
@@ -89,7 +90,7 @@ fn are_shaped(segments: &[Segment]) -> bool
 /// 1 to 10 periods, each of 1 to 12 segments.
 #[tactic(auto, unfolding(crate::specs::Pairings::count_fault))]
 fn check_counts(periods: &[Fdp]) -> Result<(), DutyFault>
-    ensures fault { result ≡ spec.checked (spec.count_fault periods.now) tt }
+    ensures fault { result ≡ checked (spec.count_fault periods.now) tt }
     ensures few { IfOk result (λ _. length periods.now ≤ 10) }
 {
     if !(1..=10).contains(&periods.len()) {
@@ -107,7 +108,7 @@ fn check_counts(periods: &[Fdp]) -> Result<(), DutyFault>
 #[tactic(auto, unfolding(crate::specs::Pairings::times_fault))]
 fn check_times(periods: &[Fdp]) -> Result<(), DutyFault>
     requires { length periods.now ≤ 10 }
-    ensures { result ≡ spec.checked (spec.times_fault periods.now) tt }
+    ensures { result ≡ checked (spec.times_fault periods.now) tt }
 {
     let mut released = Minute::FIRST;
     for (index, period) in periods.iter().enumerate() {
@@ -123,7 +124,7 @@ fn check_times(periods: &[Fdp]) -> Result<(), DutyFault>
 #[tactic(auto, unfolding(crate::specs::Pairings::chain_fault))]
 fn check_chain(periods: &[Fdp]) -> Result<(), DutyFault>
     requires { length periods.now ≤ 10 }
-    ensures { result ≡ spec.checked (spec.chain_fault periods.now) tt }
+    ensures { result ≡ checked (spec.chain_fault periods.now) tt }
 {
     let mut before: &[Segment] = &[];
     for (index, period) in periods.iter().enumerate() {
@@ -139,14 +140,14 @@ fn check_chain(periods: &[Fdp]) -> Result<(), DutyFault>
 /// Whether each segment departs from where the one before it arrived, the first of them from where
 /// the last of `before` did.
 fn is_chained(before: &[Segment], segments: &[Segment]) -> bool
-    ensures { result ≡ spec.each_next spec.connects (spec.last_of before.now ++ segments.now) }
+    ensures { result ≡ each_next spec.connects (last_of before.now ++ segments.now) }
 {
     is_joined(before, segments) && are_joined(segments)
 }
 
 /// Whether the first of the segments departs from where the last of those before them arrived.
 fn is_joined(before: &[Segment], segments: &[Segment]) -> bool
-    ensures { result ≡ spec.each_next spec.connects (spec.last_of before.now ++ take 1 segments.now) }
+    ensures { result ≡ each_next spec.connects (last_of before.now ++ take 1 segments.now) }
 {
     match (before.last(), segments.first()) {
         (Some(last), Some(first)) => last.to == first.from,
@@ -156,7 +157,7 @@ fn is_joined(before: &[Segment], segments: &[Segment]) -> bool
 
 /// Whether each segment but the first departs from where the one before it arrived.
 fn are_joined(segments: &[Segment]) -> bool
-    ensures { result ≡ spec.each_next spec.connects segments.now }
+    ensures { result ≡ each_next spec.connects segments.now }
 {
     segments
         .iter()
