@@ -2,7 +2,7 @@
 use Rattle.std.proofs.Common.{◌≡◌, ◌≤◌, ◌-◌, ◌∙◌, refl, ap, arith, Bool, true, false, List, [], ◌∷◌, ◌++◌, map, take, drop, length, length-drop, ◌&&◌}
 use Rattle.std.specs.List.{list_all, zip}
 use Rattle.std.proofs.lemmas.List.Folds.{list_all-map}
-use Rattle.duty.specs.Pairings.{each_next, last_of}
+use Rattle.duty.specs.Words.{each_next, last_of}
 
 -- a zip of two maps
 pub zip-map : {A B C D : Type 0} (f : A → C) (h : B → D) (xs : List A) (ys : List B)

@@ -1,7 +1,7 @@
 -- Plans, and results that are checked.
 use Rattle.std.proofs.Common.{◌≡◌, refl, List, map, Option, Some, None, Ok}
 use Rattle.std.proofs.lemmas.Simd.{map-map}
-use Rattle.duty.specs.Pairings.{checked}
+use Rattle.duty.specs.Words.{checked}
 use Rattle.duty.specs.Plans.{as_planned}
 use Rattle.duty.specs.declared.fault.DutyFault.{DutyFault}
 use Rattle.duty.specs.declared.fdp.Fdp.{Fdp}

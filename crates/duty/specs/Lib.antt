@@ -7,3 +7,4 @@ pub mod Pairings
 pub mod Plans
 pub mod Shape
 pub mod Sweeps
+pub mod Words

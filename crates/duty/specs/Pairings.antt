@@ -1,50 +1,17 @@
 -- Which pairings, ground duties and actual times are refused, and with which fault.
-use Rattle.std.specs.Prelude.{ℕ, ◌-◌, ◌==◌, Bool, not, ◌&&◌, nat_le, nat_lt, List, [], ◌∷◌, ◌++◌, map, length, drop, Option, Some, None, Result, Ok, Err, if◌then◌else◌}
-use Rattle.std.specs.List.{list_all, zip, position_from}
+use Rattle.std.specs.Prelude.{ℕ, ◌==◌, Bool, ◌&&◌, nat_le, nat_lt, List, [], ◌∷◌, ◌++◌, map, length, Option, Result}
+use Rattle.std.specs.List.{list_all}
 use Rattle.std.specs.Option.{option_map}
 use Rattle.std.specs.Str.{bytes_eq}
 use Rattle.duty.specs.Plans.{Plan, GroundPlan, ActualTimes, in_force}
 use Rattle.duty.specs.Shape.{is_within, is_id, is_flight, is_airport, is_plain_text}
+use Rattle.duty.specs.Words.{beside, each_next, last_of, first_failing, first_fault, unless, checked}
 use Rattle.duty.specs.declared.fault.DutyFault.{DutyFault}
 use Rattle.duty.specs.declared.fault.DutyFault.TheVariants.{BadTimes, BadChain, BadField, SegmentCount}
-use Rattle.duty.specs.declared.fault.Field.{Field}
 use Rattle.duty.specs.declared.fault.Field.TheVariants as field
 use Rattle.duty.specs.declared.fdp.Fdp.{Fdp}
 use Rattle.duty.specs.declared.segment.Segment.{Segment}
 use Rattle.duty.specs.declared.segment.BlockTimes.{BlockTimes}
-
--- ---- Words
-
--- each element beside what the one before it gives, and the first beside `first`
-abbrev pub beside : {A B : Type 0} → B → (A → B) → List A → List (B × A)
-beside first gives xs = zip (first ∷ map gives xs) xs
-
--- each element and the next one pass the test
-abbrev pub each_next : {A : Type 0} → (A → A → Bool) → List A → Bool
-each_next test xs = list_all (λ p. test p.0 p.1) (zip xs (drop 1 xs))
-
--- the last element, if there is one
-abbrev pub last_of : {A : Type 0} → List A → List A
-last_of xs = drop (length xs - 1) xs
-
--- the number of the first element that fails the test, counted from 1
-abbrev pub first_failing : {A : Type 0} → (A → Bool) → List A → Option ℕ
-first_failing test xs = position_from (λ x. not (test x)) 1 xs
-
--- the first of some faults
-abbrev pub first_fault : List (Option DutyFault) → Option DutyFault
-first_fault [] = None
-first_fault (Some fault ∷ rest) = Some fault
-first_fault (None ∷ rest) = first_fault rest
-
--- a fault, where the test failed
-abbrev pub unless : Bool → DutyFault → Option DutyFault
-unless passed fault = if passed then None else Some fault
-
--- x, if there is no fault
-abbrev pub checked : {A : Type 0} → Option DutyFault → A → Result A DutyFault
-checked None x = Ok x
-checked (Some fault) x = Err fault
 
 -- ---- Shapes (18)
 
@@ -91,7 +58,7 @@ is_in_order report release segments =
 abbrev pub is_timely : ℕ × Fdp → Bool
 is_timely (released, f) = nat_le released f.report && is_in_order f.report f.release (map block_times f.segments)
 
--- each period beside the release of the one before it; nothing is before minute 0
+-- the lowest period that is not; each stands beside the release of the one before it, and nothing is before minute 0
 unfoldable pub times_fault : List Fdp → Option DutyFault
 times_fault periods = option_map BadTimes (first_failing is_timely (beside 0 (λ f. f.release) periods))
 
@@ -105,7 +72,7 @@ connects s t = bytes_eq s.to t.from
 abbrev pub is_chained : List Segment × Fdp → Bool
 is_chained (before, f) = each_next connects (last_of before ++ f.segments)
 
--- each period beside the segments of the one before it
+-- the lowest period that is not; each stands beside the segments of the one before it
 unfoldable pub chain_fault : List Fdp → Option DutyFault
 chain_fault periods = option_map BadChain (first_failing is_chained (beside [] (λ f. f.segments) periods))
 

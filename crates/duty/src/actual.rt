@@ -1,6 +1,7 @@
 ghost use Rattle.std.specs.Prelude.{◌≡◌, ◌≤◌};
-ghost use Rattle.duty.specs.Pairings.{actual_fault, checked};
+ghost use Rattle.duty.specs.Pairings.{actual_fault};
 ghost use Rattle.duty.specs.Plans.{ActualTimes};
+ghost use Rattle.duty.specs.Words.{checked};
 
 use crate::checks::{are_in_order, is_segment_count};
 use crate::fault::DutyFault;

@@ -3,11 +3,12 @@ ghost use Rattle.std.specs.Prelude.{◌≡◌, ◌≤◌, ◌++◌, length, map,
 ghost use Rattle.std.specs.List.{list_all};
 ghost use Rattle.duty.specs.Pairings as spec;
 ghost use Rattle.duty.specs.Plans.{Plan};
+ghost use Rattle.duty.specs.Words.{each_next, last_of, checked};
 
 use crate::fault::{DutyFault, Field};
 use crate::fdp::Fdp;
 use crate::id::PairingId;
-use crate::segment::{Segment, Timed};
+use crate::segment::{BlockTimes, Segment, Timed};
 use time117::Minute;
 
 /// Whether the report is at or before the first block-out, each block-out before its block-in, each
@@ -21,17 +22,30 @@ pub fn are_in_order<S: Timed>(report: Minute, release: Minute, segments: &[S]) -
 fn are_within<S: Timed>(report: Minute, release: Minute, segments: &[S]) -> bool
     ensures { result ≡ list_all (spec.is_within_duty report release) (map S.times segments.now) }
 {
-    segments.iter().all(|segment| {
-        let times = segment.times();
-        report <= times.block_out && times.block_out < times.block_in && times.block_in <= release
-    })
+    segments
+        .iter()
+        .all(|segment| is_within_duty(report, release, segment.times()))
+}
+
+fn is_within_duty(report: Minute, release: Minute, times: BlockTimes) -> bool
+    ensures { result ≡ spec.is_within_duty report release times }
+{
+    report <= times.block_out && times.block_out < times.block_in && times.block_in <= release
 }
 
 fn are_in_turn<S: Timed>(segments: &[S]) -> bool
-    ensures { result ≡ spec.each_next spec.is_before (map S.times segments.now) }
+    ensures { result ≡ each_next spec.is_before (map S.times segments.now) }
 {
-    segments.iter().zip(segments.iter().skip(1)).all(|(segment, next)| segment.times().block_in
-        <= next.times().block_out)
+    segments
+        .iter()
+        .zip(segments.iter().skip(1))
+        .all(|(segment, next)| is_before(segment.times(), next.times()))
+}
+
+fn is_before(times: BlockTimes, next: BlockTimes) -> bool
+    ensures { result ≡ spec.is_before times next }
+{
+    times.block_in <= next.block_out
 }
 
 /// The first fault of a pairing: shapes, then counts, then orders of times, then the chain of
@@ -39,7 +53,7 @@ fn are_in_turn<S: Timed>(segments: &[S]) -> bool
 #[tactic(auto, unfolding(crate::specs::Pairings::pairing_fault))]
 pub fn check_pairing(id: &PairingId, periods: &[Fdp]) -> Result<(), DutyFault>
     ensures { let plan : Plan = record { id = id.now; periods = periods.now } in
-        result ≡ spec.checked (spec.pairing_fault plan) tt }
+        result ≡ checked (spec.pairing_fault plan) tt }
 {
     if !id.has_shape() {
         return Err(DutyFault::BadField(Field::Pairing));
@@ -76,7 +90,7 @@ fn are_shaped(segments: &[Segment]) -> bool
 /// 1 to 10 periods, each of 1 to 12 segments.
 #[tactic(auto, unfolding(crate::specs::Pairings::count_fault))]
 fn check_counts(periods: &[Fdp]) -> Result<(), DutyFault>
-    ensures fault { result ≡ spec.checked (spec.count_fault periods.now) tt }
+    ensures fault { result ≡ checked (spec.count_fault periods.now) tt }
     ensures few { IfOk result (λ _. length periods.now ≤ 10) }
 {
     if !(1..=10).contains(&periods.len()) {
@@ -94,7 +108,7 @@ fn check_counts(periods: &[Fdp]) -> Result<(), DutyFault>
 #[tactic(auto, unfolding(crate::specs::Pairings::times_fault))]
 fn check_times(periods: &[Fdp]) -> Result<(), DutyFault>
     requires { length periods.now ≤ 10 }
-    ensures { result ≡ spec.checked (spec.times_fault periods.now) tt }
+    ensures { result ≡ checked (spec.times_fault periods.now) tt }
 {
     let mut released = Minute::FIRST;
     for (index, period) in periods.iter().enumerate() {
@@ -110,7 +124,7 @@ fn check_times(periods: &[Fdp]) -> Result<(), DutyFault>
 #[tactic(auto, unfolding(crate::specs::Pairings::chain_fault))]
 fn check_chain(periods: &[Fdp]) -> Result<(), DutyFault>
     requires { length periods.now ≤ 10 }
-    ensures { result ≡ spec.checked (spec.chain_fault periods.now) tt }
+    ensures { result ≡ checked (spec.chain_fault periods.now) tt }
 {
     let mut before: &[Segment] = &[];
     for (index, period) in periods.iter().enumerate() {
@@ -126,14 +140,14 @@ fn check_chain(periods: &[Fdp]) -> Result<(), DutyFault>
 /// Whether each segment departs from where the one before it arrived, the first of them from where
 /// the last of `before` did.
 fn is_chained(before: &[Segment], segments: &[Segment]) -> bool
-    ensures { result ≡ spec.each_next spec.connects (spec.last_of before.now ++ segments.now) }
+    ensures { result ≡ each_next spec.connects (last_of before.now ++ segments.now) }
 {
     is_joined(before, segments) && are_joined(segments)
 }
 
 /// Whether the first of the segments departs from where the last of those before them arrived.
 fn is_joined(before: &[Segment], segments: &[Segment]) -> bool
-    ensures { result ≡ spec.each_next spec.connects (spec.last_of before.now ++ take 1 segments.now) }
+    ensures { result ≡ each_next spec.connects (last_of before.now ++ take 1 segments.now) }
 {
     match (before.last(), segments.first()) {
         (Some(last), Some(first)) => last.to == first.from,
@@ -143,7 +157,7 @@ fn is_joined(before: &[Segment], segments: &[Segment]) -> bool
 
 /// Whether each segment but the first departs from where the one before it arrived.
 fn are_joined(segments: &[Segment]) -> bool
-    ensures { result ≡ spec.each_next spec.connects segments.now }
+    ensures { result ≡ each_next spec.connects segments.now }
 {
     segments
         .iter()

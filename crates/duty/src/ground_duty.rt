@@ -1,6 +1,7 @@
 ghost use Rattle.std.specs.Prelude.{◌≡◌, ◌<◌};
-ghost use Rattle.duty.specs.Pairings.{ground_fault, checked};
+ghost use Rattle.duty.specs.Pairings.{ground_fault};
 ghost use Rattle.duty.specs.Plans.{GroundPlan};
+ghost use Rattle.duty.specs.Words.{checked};
 
 use crate::fault::{DutyFault, Field};
 use crate::id::{CrewId, GroundId};

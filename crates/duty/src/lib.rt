@@ -18,6 +18,8 @@ mod scan;
 mod segment;
 mod shape;
 mod span;
+#[cfg(test)]
+mod tests;
 pub mod thing;
 
 pub use actual::Actual;

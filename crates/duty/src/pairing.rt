@@ -1,6 +1,7 @@
 ghost use Rattle.std.specs.Prelude.{◌≡◌, map};
-ghost use Rattle.duty.specs.Pairings.{pairing_fault, checked};
+ghost use Rattle.duty.specs.Pairings.{pairing_fault};
 ghost use Rattle.duty.specs.Plans.{plan, as_planned};
+ghost use Rattle.duty.specs.Words.{checked};
 
 use crate::checks::check_pairing;
 use crate::fault::DutyFault;

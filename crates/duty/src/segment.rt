@@ -41,13 +41,7 @@ impl Segment {
 
 impl Copied for Segment {
     fn copy(&self, alloc: Global) -> Result<Segment, MemoryFault> {
-        Ok(Segment {
-            flight: self.flight.copy(alloc)?,
-            from: self.from.copy(alloc)?,
-            block_out: self.block_out,
-            to: self.to.copy(alloc)?,
-            block_in: self.block_in,
-        })
+        self.retimed(alloc, self.times())
     }
 }
 

@@ -1,6 +1,7 @@
 use Rattle.std.proofs.Common.{◌≡◌, not, ◌+◌, drop}
 use Rattle.std.specs.List.{position_from}
-use Rattle.duty.specs.Pairings.{beside, is_timely}
+use Rattle.duty.specs.Pairings.{is_timely}
+use Rattle.duty.specs.Words.{beside}
 use Rattle.duty.proofs.checks.check_times.Given as goal
 
 abbrev pub invariant-loop-index : goal.invariant-loop-index

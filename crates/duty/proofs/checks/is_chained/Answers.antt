@@ -1,5 +1,6 @@
 use Rattle.std.proofs.Common.{◌∙◌, sym, ap, ◌&&◌}
-use Rattle.duty.specs.Pairings.{each_next, connects}
+use Rattle.duty.specs.Pairings.{connects}
+use Rattle.duty.specs.Words.{each_next}
 use Rattle.duty.proofs.ListLemmas.{each_next-last_of}
 use Rattle.duty.proofs.checks.is_chained.Goals as goal
 
