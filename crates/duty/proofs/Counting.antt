@@ -36,7 +36,8 @@ unfolding below
 below-other set n is = rw is (omega arith)
 
 -- one more minute adds one at most
-pub below-suc_range : (set : ℕ → Bool) (n : ℕ) → (below set n ≤ below set (suc n)) × (below set (suc n) ≤ below set n + 1)
+pub below-suc_range : (set : ℕ → Bool) (n : ℕ) → (below set n ≤ below set (suc n)) ×
+    (below set (suc n) ≤ below set n + 1)
 below-suc_range set n =
     elim (cases_Bool (set n)) [
       | inl is ↦ (let one = below-member set n is in (omega arith, omega arith))
@@ -51,7 +52,8 @@ below-range set n (suc k) =
     let rest = below-range set n k in
     rw e (omega arith, omega arith)
 
-pub below-all : (set : ℕ → Bool) (n k : ℕ) → ((i : ℕ) → n ≤ i → i < n + k → set i ≡ true) → below set (n + k) ≡ below set n + k
+pub below-all : (set : ℕ → Bool) (n k : ℕ) → ((i : ℕ) → n ≤ i → i < n + k → set i ≡ true) →
+    below set (n + k) ≡ below set n + k
 below-all set n zero all = let e : n + 0 ≡ n = omega arith in rw e (omega arith)
 below-all set n (suc k) all =
     let e : n + suc k ≡ suc (n + k) = omega arith in
@@ -59,7 +61,8 @@ below-all set n (suc k) all =
     let rest = below-all set n k (λ i l h. all i l (omega arith)) in
     rw e (omega arith)
 
-pub below-none : (set : ℕ → Bool) (n k : ℕ) → ((i : ℕ) → n ≤ i → i < n + k → set i ≡ false) → below set (n + k) ≡ below set n
+pub below-none : (set : ℕ → Bool) (n k : ℕ) → ((i : ℕ) → n ≤ i → i < n + k → set i ≡ false) →
+    below set (n + k) ≡ below set n
 below-none set n zero none = let e : n + 0 ≡ n = omega arith in rw e refl
 below-none set n (suc k) none =
     let e : n + suc k ≡ suc (n + k) = omega arith in
@@ -71,7 +74,8 @@ pub count-none : (set : ℤ → Bool) (start : ℤ) → count set start 0 ≡ 0
 unfolding count
 count-none set start = refl
 
-pub count-more : (set : ℤ → Bool) (start : ℤ) (width : ℕ) → count set start (suc width) ≡ one_if (set start) + count set (start +ℤ pos 1) width
+pub count-more : (set : ℤ → Bool) (start : ℤ) (width : ℕ) →
+    count set start (suc width) ≡ one_if (set start) + count set (start +ℤ pos 1) width
 unfolding count
 count-more set start width = refl
 
@@ -87,7 +91,8 @@ natural-negsuc n width =
 abbrev pub low : (ℤ → Bool) → ℤ → ℕ
 low set z = below (λ n. set (pos n)) (natural z)
 
-low-next : (set : ℤ → Bool) (none : (n : ℕ) → set (negsuc n) ≡ false) (z : ℤ) → one_if (set z) + low set z ≡ low set (z +ℤ pos 1)
+low-next : (set : ℤ → Bool) (none : (n : ℕ) → set (negsuc n) ≡ false) (z : ℤ) →
+    one_if (set z) + low set z ≡ low set (z +ℤ pos 1)
 low-next set none (pos n) =
     let e : n + 1 ≡ suc n = omega arith in
     rw (e, below-suc) (omega arith)
@@ -130,7 +135,8 @@ count-before set none end width =
     let all = count-below set none (pos end -ℤ pos width) width in
     let e : pos end -ℤ pos width +ℤ pos width ≡ pos end = omega (arith, ints) in
     let at_end : low set (pos end -ℤ pos width +ℤ pos width) ≡ below (λ n. set (pos n)) end = ap (low set) e in
-    let at_start : low set (pos end -ℤ pos width) ≡ below (λ n. set (pos n)) (end - width) = ap (below (λ n. set (pos n))) (natural-back end width) in
+    let at_start : low set (pos end -ℤ pos width) ≡ below (λ n. set (pos n)) (end - width) =
+        ap (below (λ n. set (pos n))) (natural-back end width) in
     omega arith
 
 -- a window that reaches a natural minute ends at a natural one
@@ -138,7 +144,8 @@ pub window_end :
     (start : ℤ) (width minute : ℕ) → start ≤ℤ pos minute → pos minute <ℤ (start +ℤ pos width) →
     (end : ℕ) × (start ≡ pos end -ℤ pos width) × (minute < end) × (end ≤ minute + width)
 window_end (pos n) width minute from to = (n + width, omega (arith, ints), omega (arith, ints), omega (arith, ints))
-window_end (negsuc n) width minute from to = (width - suc n, omega (arith, ints), omega (arith, ints), omega (arith, ints))
+window_end (negsuc n) width minute from to = (width - suc n, omega (arith, ints), omega (arith, ints),
+    omega (arith, ints))
 
 -- the count over a window between two natural minutes
 pub count-between :
@@ -149,12 +156,14 @@ count-between set none from to l =
     rw e at (count-below set none (pos from) (to - from))
 
 -- between two minutes all, or no, minutes are members
-pub below-full : (set : ℕ → Bool) (from to : ℕ) → from ≤ to → ((i : ℕ) → from ≤ i → i < to → set i ≡ true) → below set to ≡ below set from + (to - from)
+pub below-full : (set : ℕ → Bool) (from to : ℕ) → from ≤ to → ((i : ℕ) → from ≤ i → i < to → set i ≡ true) →
+    below set to ≡ below set from + (to - from)
 below-full set from to l all =
     let e : from + (to - from) ≡ to = omega arith in
     rw e at (below-all set from (to - from) (λ i a b. all i a (omega arith)))
 
-pub below-empty : (set : ℕ → Bool) (from to : ℕ) → from ≤ to → ((i : ℕ) → from ≤ i → i < to → set i ≡ false) → below set to ≡ below set from
+pub below-empty : (set : ℕ → Bool) (from to : ℕ) → from ≤ to → ((i : ℕ) → from ≤ i → i < to → set i ≡ false) →
+    below set to ≡ below set from
 below-empty set from to l none =
     let e : from + (to - from) ≡ to = omega arith in
     rw e at (below-none set from (to - from) (λ i a b. none i a (omega arith)))
@@ -177,16 +186,19 @@ pub meets_or_free : (set : ℤ → Bool) (start : ℤ) (width : ℕ) → Meets s
 meets_or_free set start zero = inr (count-none set start)
 meets_or_free set start (suc width) =
     elim (cases_Bool (set start)) [
-      | inl is ↦ inl (record { minute = start; from_start = omega (arith, ints); before_end = omega (arith, ints); member = is })
+      | inl is ↦ inl (record { minute = start; from_start = omega (arith, ints); before_end = omega (arith, ints);
+          member = is })
       | inr is ↦ elim (meets_or_free set (start +ℤ pos 1) width) [
         | inl m ↦ (let from = m.from_start in let to = m.before_end in
-            inl (record { minute = m.minute; from_start = omega (arith, ints); before_end = omega (arith, ints); member = m.member }))
+            inl (record { minute = m.minute; from_start = omega (arith, ints); before_end = omega (arith, ints);
+                member = m.member }))
         | inr free ↦ (let more = count-more set start width in inr (rw (more, is, free) refl))
       ]
     ]
 
 -- a window with a member holds some of the set
-counted : (set : ℤ → Bool) (start : ℤ) (width : ℕ) (minute : ℤ) → start ≤ℤ minute → minute <ℤ (start +ℤ pos width) → set minute ≡ true → 0 < count set start width
+counted : (set : ℤ → Bool) (start : ℤ) (width : ℕ) (minute : ℤ) → start ≤ℤ minute → minute <ℤ (start +ℤ pos width) →
+    set minute ≡ true → 0 < count set start width
 counted set start zero minute from to member = absurd (omega (arith, ints))
 counted set start (suc width) minute from to member =
     let more = count-more set start width in

@@ -11,7 +11,8 @@ use Rattle.duty.specs.Overlaps.{meets_span, meets_duty, overlaps}
 use Rattle.duty.proofs.SpanFacts.{covers-true, covers-from, no_negative}
 
 -- some span of the list passes, with the tests that it passes
-pub some_span : (P : Span → Bool) (spans : List Span) → list_any P spans ≡ true → (s : Span) × (P s ≡ true) × ((Q : Span → Bool) → Q s ≡ true → list_any Q spans ≡ true)
+pub some_span : (P : Span → Bool) (spans : List Span) → list_any P spans ≡ true → (s : Span) × (P s ≡ true) ×
+    ((Q : Span → Bool) → Q s ≡ true → list_any Q spans ≡ true)
 some_span P [] is = absurd (false≢true is)
 some_span P (s ∷ spans) is =
     elim (or_cases _ _ is) [
@@ -25,10 +26,12 @@ shared a b n in_a in_b =
     let q = covers-true n b in_b in
     lt-ltb _ _ (omega arith)
 
-at_first : (a b : Span) → meets_span a b ≡ true → (covers (pos (max a.from b.from)) a ≡ true) × (covers (pos (max a.from b.from)) b ≡ true)
+at_first : (a b : Span) → meets_span a b ≡ true → (covers (pos (max a.from b.from)) a ≡ true) ×
+    (covers (pos (max a.from b.from)) b ≡ true)
 at_first a b meets =
     let l : max a.from b.from < min a.to b.to = ltb-true _ _ meets in
-    (covers-from (max a.from b.from) a (omega arith) (omega arith), covers-from (max a.from b.from) b (omega arith) (omega arith))
+    (covers-from (max a.from b.from) a (omega arith) (omega arith),
+        covers-from (max a.from b.from) b (omega arith) (omega arith))
 
 found : (history other : List DutyInForce) → overlaps history other ≡ true → Overlap history other
 found history other is =
@@ -38,8 +41,10 @@ found history other is =
     let c = at_first a.0 b.0 b.1 in
     record { minute = pos n; in_history = a.2 (covers (pos n)) c.0; in_other = b.2 (covers (pos n)) c.1 }
 
-tested : (history other : List DutyInForce) (minute : ℤ) → minutes_in Duty history minute ≡ true → minutes_in Duty other minute ≡ true → overlaps history other ≡ true
-tested history other (negsuc n) in_history in_other = absurd (false≢true (sym (no_negative (flat_map (spans_of Duty) history) n) ∙ in_history))
+tested : (history other : List DutyInForce) (minute : ℤ) → minutes_in Duty history minute ≡ true →
+    minutes_in Duty other minute ≡ true → overlaps history other ≡ true
+tested history other (negsuc n) in_history in_other =
+    absurd (false≢true (sym (no_negative (flat_map (spans_of Duty) history) n) ∙ in_history))
 tested history other (pos n) in_history in_other =
     let a = some_span (covers (pos n)) (flat_map (spans_of Duty) history) in_history in
     let b = some_span (covers (pos n)) (flat_map (spans_of Duty) other) in_other in

@@ -16,7 +16,8 @@ use Rattle.limits.specs.Laws.Truths.{truth_of, listed}
 contains_later : {X : Type 0} (y : X) (ys : List X) (x : X) → Contains ys x → Contains (y ∷ ys) x
 contains_later y ys x c = let h = c.1 in (suc c.0, omega arith, c.2)
 
-contains_filter : {X : Type 0} (p : X → Bool) (xs : List X) (x : X) (k : ℕ) → k < length xs → get_or xs k x ≡ x → p x ≡ true → Contains (filter p xs) x
+contains_filter : {X : Type 0} (p : X → Bool) (xs : List X) (x : X) (k : ℕ) → k < length xs → get_or xs k x ≡ x →
+    p x ≡ true → Contains (filter p xs) x
 contains_filter p [] x k l is pass = absurd (omega arith)
 contains_filter p (y ∷ ys) x zero l is pass =
     let e : p y ≡ true = ap p is ∙ pass in
@@ -49,5 +50,6 @@ broken_each history new s =
 pub listed_each : (a : Inside) (s : Section) → IsTrue (truth_of a s) ↔ Contains (listed a) s
 listed_each a s = (
   λ is. let c = in_all s in contains_filter (truth_of a) all_sections s c.0 c.1 c.2 is,
-  λ c. All-contains (λ t. truth_of a t ≡ true) (filter (truth_of a) all_sections) s (filter_passes (truth_of a) all_sections) c,
+  λ c. All-contains (λ t. truth_of a t ≡ true) (filter (truth_of a) all_sections) s
+      (filter_passes (truth_of a) all_sections) c,
 )

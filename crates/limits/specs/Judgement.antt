@@ -8,7 +8,8 @@ use Rattle.limits.specs.Laws.Decisions.{breaks}
 
 -- the sections in the order in which they are listed
 abbrev pub all_sections : List Section
-all_sections = FlightTime ∷ FlightDutyPeriod ∷ FlightTime672Hours ∷ FlightTime365Days ∷ FlightDutyPeriods168Hours ∷ FlightDutyPeriods672Hours ∷ ThirtyHourRest ∷ TenHourRest ∷ []
+all_sections = FlightTime ∷ FlightDutyPeriod ∷ FlightTime672Hours ∷ FlightTime365Days ∷ FlightDutyPeriods168Hours ∷
+    FlightDutyPeriods672Hours ∷ ThirtyHourRest ∷ TenHourRest ∷ []
 
 -- those that the new duties break; `breaks` is true exactly where the section's `Rule` holds (`breaks_is` beside it)
 abbrev pub Broken : List DutyInForce → List DutyInForce → List Section
@@ -20,4 +21,5 @@ IsWithin fewer duties = (duty : DutyInForce) → Contains fewer duty → Contain
 
 -- the duties of the first list are those of the other two
 abbrev pub IsJoined : List DutyInForce → List DutyInForce → List DutyInForce → Type 0
-IsJoined all others added = ((duty : DutyInForce) → Contains all duty → Contains others duty ⊎ Contains added duty) × IsWithin others all × IsWithin added all
+IsJoined all others added = ((duty : DutyInForce) → Contains all duty → Contains others duty ⊎ Contains added duty) ×
+    IsWithin others all × IsWithin added all

@@ -54,13 +54,15 @@ FlightDutyPeriods672Hours history new = IsOver 40_320 11_400 (minutes_in FlightD
 -- a flight duty period is new, or the `width` minutes before the report of an old one meet a new duty minute
 abbrev pub IsTouched : List DutyInForce → List DutyInForce → FdpTimes → ℕ → Type 0
 IsTouched history new fdp width =
-    Contains new (Fdp fdp) ⊎ (Contains history (Fdp fdp) × Meets (minutes_in Duty new) (pos fdp.report -ℤ pos width) width)
+    Contains new (Fdp fdp) ⊎ (Contains history (Fdp fdp) ×
+    Meets (minutes_in Duty new) (pos fdp.report -ℤ pos width) width)
 
 -- 117.25(b): in the 168 hours before a report no 30 hours in a row are free from all duty
 pub record ThirtyHourRest (history new : List DutyInForce) : Type 0 where
   pub fdp : FdpTimes
   pub touched : IsTouched history new fdp 10_080
-  pub worked : (start : ℤ) → (pos fdp.report -ℤ pos 10_080) ≤ℤ start → (start +ℤ pos 1_800) ≤ℤ pos fdp.report → Meets (minutes_in Duty history) start 1_800
+  pub worked : (start : ℤ) → (pos fdp.report -ℤ pos 10_080) ≤ℤ start → (start +ℤ pos 1_800) ≤ℤ pos fdp.report →
+      Meets (minutes_in Duty history) start 1_800
 
 -- 117.25(e): the 10 hours before a report are not free from all duty
 pub record TenHourRest (history new : List DutyInForce) : Type 0 where

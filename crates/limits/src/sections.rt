@@ -1,4 +1,5 @@
-ghost use Rattle.std.specs.Prelude.{◌≡◌, ◌↔◌, [], IsTrue, Contains};
+ghost use Rattle.std.specs.Prelude.{◌≡◌, ◌↔◌, ◌++◌, ◌∷◌, [], IsTrue, IfOk, OnOk, Contains};
+ghost use Rattle.std.specs.List.{filter};
 ghost use Rattle.limits.specs.Judgement.{Broken};
 ghost use Rattle.limits.specs.Rules.{Rule};
 ghost use Rattle.limits.specs.Laws.Decisions.{breaks};
@@ -13,7 +14,9 @@ use super::window_limits::{
 };
 use super::year_limit::FlightTime365Days;
 use duty::History;
+use std::alloc::Global;
 use std::marker::Model;
+use time117::MemoryFault;
 
 /// The sections whose limits new duties break. Contracts see their list, in the order of [`Section`].
 #[derive(Drop)]
@@ -55,6 +58,66 @@ impl Sections {
             Section::TenHourRest => self.ten_hour_rest,
         }
     }
+
+    /// Whether there is none.
+    pub fn is_empty(&self) -> bool
+        ensures { IsTrue result ↔ (self.now ≡ []) }
+    {
+        !(self.flight_time
+            || self.flight_duty_period
+            || self.flight_time_672_hours
+            || self.flight_time_365_days
+            || self.flight_duty_periods_168_hours
+            || self.flight_duty_periods_672_hours
+            || self.thirty_hour_rest
+            || self.ten_hour_rest)
+    }
+
+    /// The sections, in the order of [`Section`].
+    pub fn list(&self, alloc: Global) -> Result<Vec<Section>, MemoryFault>
+        ensures { IfOk result (λ list. list.items ≡ self.now) }
+    {
+        let mut list = Vec::new(alloc);
+        push_if(&mut list, self.flight_time, Section::FlightTime)?;
+        push_if(
+            &mut list,
+            self.flight_duty_period,
+            Section::FlightDutyPeriod,
+        )?;
+        push_if(
+            &mut list,
+            self.flight_time_672_hours,
+            Section::FlightTime672Hours,
+        )?;
+        push_if(
+            &mut list,
+            self.flight_time_365_days,
+            Section::FlightTime365Days,
+        )?;
+        push_if(
+            &mut list,
+            self.flight_duty_periods_168_hours,
+            Section::FlightDutyPeriods168Hours,
+        )?;
+        push_if(
+            &mut list,
+            self.flight_duty_periods_672_hours,
+            Section::FlightDutyPeriods672Hours,
+        )?;
+        push_if(&mut list, self.thirty_hour_rest, Section::ThirtyHourRest)?;
+        push_if(&mut list, self.ten_hour_rest, Section::TenHourRest)?;
+        Ok(list)
+    }
+}
+
+/// Appends the section if it is found broken.
+fn push_if(list: &mut Vec<Section>, is_broken: bool, section: Section) -> Result<(), MemoryFault>
+    ensures { OnOk result (list.new.items ≡ list.old.items ++ filter (λ _. is_broken) (section ∷ [])) }
+{
+    if is_broken {
+        list.push(section)?;
+    }
+    Ok(())
 }
 
 /// Whether the limit is broken.

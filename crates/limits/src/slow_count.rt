@@ -4,11 +4,22 @@
 use super::section::Section;
 use super::sections::judge;
 use super::tables::{table_a, table_b};
-use super::tests::SECTIONS;
 use duty::{DutyInForce, FdpInForce, History, Kind, Span};
 use std::alloc::Global;
 use std::test::Fail;
 use time117::{Minute, TimeFault};
+
+/// The sections in their order.
+const SECTIONS: [Section; 8] = [
+    Section::FlightTime,
+    Section::FlightDutyPeriod,
+    Section::FlightTime672Hours,
+    Section::FlightTime365Days,
+    Section::FlightDutyPeriods168Hours,
+    Section::FlightDutyPeriods672Hours,
+    Section::ThirtyHourRest,
+    Section::TenHourRest,
+];
 
 /// How large the histories are: `grid` minutes are a unit, duties begin in the first `horizon` units, and nothing in
 /// them lasts `longest` units.

@@ -1,21 +1,8 @@
-use super::section::Section;
 use super::sections::{Sections, judge};
 use duty::{DutyInForce, FdpInForce, History, Span};
 use std::alloc::Global;
 use std::test::Fail;
 use time117::{Minute, TimeFault, Zone};
-
-/// The sections in their order.
-pub(crate) const SECTIONS: [Section; 8] = [
-    Section::FlightTime,
-    Section::FlightDutyPeriod,
-    Section::FlightTime672Hours,
-    Section::FlightTime365Days,
-    Section::FlightDutyPeriods168Hours,
-    Section::FlightDutyPeriods672Hours,
-    Section::ThirtyHourRest,
-    Section::TenHourRest,
-];
 
 /// 31 May 2025, by its day since 2000-01-01: 9 June is `MAY_31 + 9`.
 const MAY_31: u16 = 9_282;
@@ -70,16 +57,12 @@ fn duty_of(alloc: Global, plan: Plan) -> Result<DutyInForce, Fail> {
 
 /// `within`, or `exceeds` and each section that was found broken, in order.
 fn verdict(alloc: Global, found: &Sections) -> Result<String, Fail> {
-    let mut text = String::from_str(alloc, "exceeds")?;
-    let mut is_within = true;
-    for section in SECTIONS {
-        if found.has(section) {
-            text = format!(in alloc; "{text} {section}")?;
-            is_within = false;
-        }
+    if found.is_empty() {
+        return Ok(String::from_str(alloc, "within")?);
     }
-    if is_within {
-        text = String::from_str(alloc, "within")?;
+    let mut text = String::from_str(alloc, "exceeds")?;
+    for section in &found.list(alloc)? {
+        text = format!(in alloc; "{text} {section}")?;
     }
     Ok(text)
 }

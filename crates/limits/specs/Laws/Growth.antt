@@ -29,37 +29,59 @@ year-part most some all some_new all_new part part_new over = record {
   more = (let grown = count-part some all part (over.day *ℤ pos 1_440) 525_600 in let more = over.more in omega arith);
 }
 
-touched-part : (fewer history some new : List DutyInForce) (fdp : FdpTimes) (width : ℕ) → IsWithin fewer history → IsWithin some new → IsTouched fewer some fdp width → IsTouched history new fdp width
+touched-part : (fewer history some new : List DutyInForce) (fdp : FdpTimes) (width : ℕ) → IsWithin fewer history →
+    IsWithin some new → IsTouched fewer some fdp width → IsTouched history new fdp width
 touched-part fewer history some new fdp width within within_new touched =
     elim touched [
       | inl is_new ↦ inl (within_new _ is_new)
-      | inr old ↦ inr (within _ old.0, meets-part (minutes_in Duty some) (minutes_in Duty new) (pos fdp.report -ℤ pos width) width (part-minutes Duty some new within_new) old.1)
+      | inr old ↦ inr (
+        within _ old.0,
+        meets-part (minutes_in Duty some) (minutes_in Duty new)
+            (pos fdp.report -ℤ pos width) width (part-minutes Duty some new within_new) old.1,
+      )
     ]
 
-ten_hours-part : (fewer history some new : List DutyInForce) → IsWithin fewer history → IsWithin some new → TenHourRest fewer some → TenHourRest history new
+ten_hours-part : (fewer history some new : List DutyInForce) → IsWithin fewer history → IsWithin some new →
+    TenHourRest fewer some → TenHourRest history new
 ten_hours-part fewer history some new within within_new rule = record {
   fdp = rule.fdp;
   touched = touched-part fewer history some new rule.fdp 600 within within_new rule.touched;
-  worked = meets-part (minutes_in Duty fewer) (minutes_in Duty history) (pos rule.fdp.report -ℤ pos 600) 600 (part-minutes Duty fewer history within) rule.worked;
+  worked = meets-part (minutes_in Duty fewer) (minutes_in Duty history) (pos rule.fdp.report -ℤ pos 600) 600
+      (part-minutes Duty fewer history within) rule.worked;
 }
 
-thirty_hours-part : (fewer history some new : List DutyInForce) → IsWithin fewer history → IsWithin some new → ThirtyHourRest fewer some → ThirtyHourRest history new
+thirty_hours-part : (fewer history some new : List DutyInForce) → IsWithin fewer history → IsWithin some new →
+    ThirtyHourRest fewer some → ThirtyHourRest history new
 thirty_hours-part fewer history some new within within_new rule = record {
   fdp = rule.fdp;
   touched = touched-part fewer history some new rule.fdp 10_080 within within_new rule.touched;
-  worked = λ start from to. meets-part (minutes_in Duty fewer) (minutes_in Duty history) start 1_800 (part-minutes Duty fewer history within) (rule.worked start from to);
+  worked = λ start from to. meets-part (minutes_in Duty fewer) (minutes_in Duty history) start 1_800
+      (part-minutes Duty fewer history within) (rule.worked start from to);
 }
 
-pub rule_grows : (s : Section) (fewer history some new : List DutyInForce) → IsWithin fewer history → IsWithin some new → Rule s fewer some → Rule s history new
-rule_grows section.FlightTime fewer history some new within within_new rule = record { fdp = rule.fdp; is_new = within_new _ rule.is_new; over = rule.over }
-rule_grows section.FlightDutyPeriod fewer history some new within within_new rule = record { fdp = rule.fdp; is_new = within_new _ rule.is_new; over = rule.over }
+pub rule_grows : (s : Section) (fewer history some new : List DutyInForce) → IsWithin fewer history →
+    IsWithin some new → Rule s fewer some → Rule s history new
+rule_grows section.FlightTime fewer history some new within within_new rule =
+    record { fdp = rule.fdp; is_new = within_new _ rule.is_new; over = rule.over }
+rule_grows section.FlightDutyPeriod fewer history some new within within_new rule =
+    record { fdp = rule.fdp; is_new = within_new _ rule.is_new; over = rule.over }
 rule_grows section.FlightTime672Hours fewer history some new within within_new rule =
-    over-part 40_320 6_000 (minutes_in Flight fewer) (minutes_in Flight history) (minutes_in Flight some) (minutes_in Flight new) (part-minutes Flight fewer history within) (part-minutes Flight some new within_new) rule
+    over-part 40_320 6_000 (minutes_in Flight fewer) (minutes_in Flight history) (minutes_in Flight some)
+    (minutes_in Flight new) (part-minutes Flight fewer history within)
+    (part-minutes Flight some new within_new) rule
 rule_grows section.FlightTime365Days fewer history some new within within_new rule =
-    year-part 60_000 (minutes_in Flight fewer) (minutes_in Flight history) (minutes_in Flight some) (minutes_in Flight new) (part-minutes Flight fewer history within) (part-minutes Flight some new within_new) rule
+    year-part 60_000 (minutes_in Flight fewer) (minutes_in Flight history) (minutes_in Flight some)
+    (minutes_in Flight new) (part-minutes Flight fewer history within)
+    (part-minutes Flight some new within_new) rule
 rule_grows section.FlightDutyPeriods168Hours fewer history some new within within_new rule =
-    over-part 10_080 3_600 (minutes_in FlightDuty fewer) (minutes_in FlightDuty history) (minutes_in FlightDuty some) (minutes_in FlightDuty new) (part-minutes FlightDuty fewer history within) (part-minutes FlightDuty some new within_new) rule
+    over-part 10_080 3_600 (minutes_in FlightDuty fewer) (minutes_in FlightDuty history) (minutes_in FlightDuty some)
+    (minutes_in FlightDuty new) (part-minutes FlightDuty fewer history within)
+    (part-minutes FlightDuty some new within_new) rule
 rule_grows section.FlightDutyPeriods672Hours fewer history some new within within_new rule =
-    over-part 40_320 11_400 (minutes_in FlightDuty fewer) (minutes_in FlightDuty history) (minutes_in FlightDuty some) (minutes_in FlightDuty new) (part-minutes FlightDuty fewer history within) (part-minutes FlightDuty some new within_new) rule
-rule_grows section.ThirtyHourRest fewer history some new within within_new rule = thirty_hours-part fewer history some new within within_new rule
-rule_grows section.TenHourRest fewer history some new within within_new rule = ten_hours-part fewer history some new within within_new rule
+    over-part 40_320 11_400 (minutes_in FlightDuty fewer) (minutes_in FlightDuty history) (minutes_in FlightDuty some)
+    (minutes_in FlightDuty new) (part-minutes FlightDuty fewer history within)
+    (part-minutes FlightDuty some new within_new) rule
+rule_grows section.ThirtyHourRest fewer history some new within within_new rule =
+    thirty_hours-part fewer history some new within within_new rule
+rule_grows section.TenHourRest fewer history some new within within_new rule =
+    ten_hours-part fewer history some new within within_new rule

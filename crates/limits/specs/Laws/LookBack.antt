@@ -24,28 +24,41 @@ pub record Lacks (r : Rest) (history new : List DutyInForce) : Type 0 where
   pub touched : IsTouched history new fdp (look_width r)
   pub lacks : lacks_rest r history fdp.report ≡ true
 
-on_duty_decides : (history : List DutyInForce) (end width : ℕ) → 0 < width → (is_on_duty_before history end width ≡ true) ↔ Meets (minutes_in Duty history) (pos end -ℤ pos width) width
+on_duty_decides : (history : List DutyInForce) (end width : ℕ) → 0 < width →
+    (is_on_duty_before history end width ≡ true) ↔ Meets (minutes_in Duty history) (pos end -ℤ pos width) width
 on_duty_decides history end width some = reach_decides (flat_map (spans_of Duty) history) end width some
 
 look_width-some : (r : Rest) → 0 < look_width r
 look_width-some rest.TenHours = omega arith
 look_width-some rest.ThirtyHours = omega arith
 
-lacks_new : (r : Rest) (history new : List DutyInForce) (duty : DutyInForce) → Contains new duty → by_report (lacks_rest r history) duty ≡ true → Lacks r history new
+lacks_new : (r : Rest) (history new : List DutyInForce) (duty : DutyInForce) → Contains new duty →
+    by_report (lacks_rest r history) duty ≡ true → Lacks r history new
 lacks_new r history new (Fdp fdp) in' is = record { fdp = fdp; touched = inl in'; lacks = is }
 lacks_new r history new (Ground span) in' is = absurd (false≢true is)
 
-lacks_old : (r : Rest) (history new : List DutyInForce) (duty : DutyInForce) → Contains history duty → by_report (is_spoilt r history new) duty ≡ true → Lacks r history new
+lacks_old : (r : Rest) (history new : List DutyInForce) (duty : DutyInForce) → Contains history duty →
+    by_report (is_spoilt r history new) duty ≡ true → Lacks r history new
 lacks_old r history new (Fdp fdp) in' is =
     let a = and_parts _ _ is in
-    record { fdp = fdp; touched = inr (in', (on_duty_decides new fdp.report (look_width r) (look_width-some r)).0 a.0); lacks = a.1 }
+    record {
+      fdp = fdp;
+      touched = inr (
+        in',
+        (on_duty_decides new fdp.report (look_width r) (look_width-some r)).0
+            a.0,
+      );
+      lacks = a.1;
+    }
 lacks_old r history new (Ground span) in' is = absurd (false≢true is)
 
 lacks_found : (r : Rest) (history new : List DutyInForce) → some_lacks_rest r history new ≡ true → Lacks r history new
 lacks_found r history new is =
-    elim (or_cases (list_any (by_report (lacks_rest r history)) new) (list_any (by_report (is_spoilt r history new)) history) is) [
+    elim (or_cases (list_any (by_report (lacks_rest r history)) new)
+    (list_any (by_report (is_spoilt r history new)) history) is) [
       | inl a ↦ (let c = contained (by_report (lacks_rest r history)) new a in lacks_new r history new c.0 c.1 c.2)
-      | inr b ↦ (let c = contained (by_report (is_spoilt r history new)) history b in lacks_old r history new c.0 c.1 c.2)
+      | inr b ↦ (let c = contained (by_report (is_spoilt r history new)) history b in
+          lacks_old r history new c.0 c.1 c.2)
     ]
 
 lacks_tested : (r : Rest) (history new : List DutyInForce) → Lacks r history new → some_lacks_rest r history new ≡ true
@@ -56,22 +69,41 @@ lacks_tested r history new l =
           (and_from _ _ ((on_duty_decides new l.fdp.report (look_width r) (look_width-some r)).1 old.1) l.lacks))
     ]
 
-pub ten_hours_decides : (history new : List DutyInForce) → (some_lacks_rest rest.TenHours history new ≡ true) ↔ TenHourRest history new
+pub ten_hours_decides : (history new : List DutyInForce) → (some_lacks_rest rest.TenHours history new ≡ true) ↔
+    TenHourRest history new
 ten_hours_decides history new = (
   λ is. let l = lacks_found rest.TenHours history new is in
-      record { fdp = l.fdp; touched = l.touched; worked = (on_duty_decides history l.fdp.report 600 (omega arith)).0 l.lacks },
-  λ t. lacks_tested rest.TenHours history new (record { fdp = t.fdp; touched = t.touched; lacks = (on_duty_decides history t.fdp.report 600 (omega arith)).1 t.worked }),
+      record {
+        fdp = l.fdp;
+        touched = l.touched;
+        worked =
+            (on_duty_decides history l.fdp.report 600 (omega arith)).0 l.lacks;
+      },
+  λ t. lacks_tested rest.TenHours history new (record {
+    fdp = t.fdp;
+    touched = t.touched;
+    lacks = (on_duty_decides history t.fdp.report 600 (omega arith)).1 t.worked;
+  }),
 )
 
 -- each run meets the set, or some run is free
-worked_from : (set : ℤ → Bool) (end : ℤ) (width length : ℕ) → (HasFreeRun set (end -ℤ pos width) width length → ⊥) → (start : ℤ) → (end -ℤ pos width) ≤ℤ start → (start +ℤ pos length) ≤ℤ end → Meets set start length
+worked_from : (set : ℤ → Bool) (end : ℤ) (width length : ℕ) → (HasFreeRun set (end -ℤ pos width) width length → ⊥) →
+    (start : ℤ) → (end -ℤ pos width) ≤ℤ start → (start +ℤ pos length) ≤ℤ end → Meets set start length
 worked_from set end width length none start from to =
     elim (meets_or_free set start length) [
       | inl m ↦ m
-      | inr free ↦ absurd (none (record { start = start; from_start = from; to_end = omega (arith, ints); free = free }))
+      | inr free ↦ absurd (none (record {
+        start = start;
+        from_start = from;
+        to_end = omega (arith, ints);
+        free =
+            free;
+      }))
     ]
 
-no_free_run : (set : ℤ → Bool) (end : ℤ) (width length : ℕ) → ((start : ℤ) → (end -ℤ pos width) ≤ℤ start → (start +ℤ pos length) ≤ℤ end → Meets set start length) → HasFreeRun set (end -ℤ pos width) width length → ⊥
+no_free_run : (set : ℤ → Bool) (end : ℤ) (width length : ℕ) →
+    ((start : ℤ) → (end -ℤ pos width) ≤ℤ start → (start +ℤ pos length) ≤ℤ end → Meets set start length) →
+    HasFreeRun set (end -ℤ pos width) width length → ⊥
 no_free_run set end width length worked has =
     let from = has.from_start in
     let to = has.to_end in
@@ -79,18 +111,26 @@ no_free_run set end width length worked has =
     let free = has.free in
     omega arith
 
-pub thirty_hours_decides : (history new : List DutyInForce) → (some_lacks_rest rest.ThirtyHours history new ≡ true) ↔ ThirtyHourRest history new
+pub thirty_hours_decides : (history new : List DutyInForce) → (some_lacks_rest rest.ThirtyHours history new ≡ true) ↔
+    ThirtyHourRest history new
 thirty_hours_decides history new = (thirty_found history new, thirty_tested history new)
   where
-    thirty_found : (history new : List DutyInForce) → some_lacks_rest rest.ThirtyHours history new ≡ true → ThirtyHourRest history new
+    thirty_found : (history new : List DutyInForce) → some_lacks_rest rest.ThirtyHours history new ≡ true →
+        ThirtyHourRest history new
     thirty_found history new is =
         let l = lacks_found rest.ThirtyHours history new is in
         let report = l.fdp.report in
         let d = free_run_decides (minutes_in Duty history) (pos report -ℤ pos 10_080) 10_080 1_800 in
         let no = not-true (free_run_test (minutes_in Duty history) (pos report -ℤ pos 10_080) 10_080 1_800) l.lacks in
-        record { fdp = l.fdp; touched = l.touched; worked = worked_from (minutes_in Duty history) (pos report) 10_080 1_800 (λ has. false≢true (sym no ∙ d.1 has)) }
+        record {
+          fdp = l.fdp;
+          touched = l.touched;
+          worked =
+              worked_from (minutes_in Duty history) (pos report) 10_080 1_800 (λ has. false≢true (sym no ∙ d.1 has));
+        }
 
-    thirty_tested : (history new : List DutyInForce) → ThirtyHourRest history new → some_lacks_rest rest.ThirtyHours history new ≡ true
+    thirty_tested : (history new : List DutyInForce) → ThirtyHourRest history new →
+        some_lacks_rest rest.ThirtyHours history new ≡ true
     thirty_tested history new t =
         let report = t.fdp.report in
         let d = free_run_decides (minutes_in Duty history) (pos report -ℤ pos 10_080) 10_080 1_800 in

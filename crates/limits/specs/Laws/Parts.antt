@@ -28,17 +28,21 @@ holder kind history i is =
     (a.1, (a.0, a.2, a.3), a.4)
 
 -- what a duty of the history holds is a minute of the history
-held : (kind : Kind) (history : List DutyInForce) (i : ℤ) (duty : DutyInForce) → Contains history duty → list_any (covers i) (spans_of kind duty) ≡ true → minutes_in kind history i ≡ true
+held : (kind : Kind) (history : List DutyInForce) (i : ℤ) (duty : DutyInForce) → Contains history duty →
+    list_any (covers i) (spans_of kind duty) ≡ true → minutes_in kind history i ≡ true
 held kind history i duty in' is =
     let test : DutyInForce → Bool = λ d. list_any (covers i) (spans_of kind d) in
-    list_any-flat_map (covers i) (spans_of kind) history ∙ list_any_at test history in'.0 duty in'.1 (ap test in'.2 ∙ is)
+    list_any-flat_map (covers i) (spans_of kind) history ∙
+    list_any_at test history in'.0 duty in'.1 (ap test in'.2 ∙ is)
 
-pub part-minutes : (kind : Kind) (fewer duties : List DutyInForce) → IsWithin fewer duties → IsPart (minutes_in kind fewer) (minutes_in kind duties)
+pub part-minutes : (kind : Kind) (fewer duties : List DutyInForce) → IsWithin fewer duties →
+    IsPart (minutes_in kind fewer) (minutes_in kind duties)
 part-minutes kind fewer duties within i is =
     let h = holder kind fewer i is in
     held kind duties i h.0 (within h.0 h.1) h.2
 
-pub union-minutes : (kind : Kind) (all others added : List DutyInForce) → IsJoined all others added → IsUnion (minutes_in kind all) (minutes_in kind others) (minutes_in kind added)
+pub union-minutes : (kind : Kind) (all others added : List DutyInForce) → IsJoined all others added →
+    IsUnion (minutes_in kind all) (minutes_in kind others) (minutes_in kind added)
 union-minutes kind all others added joined i is =
     let h = holder kind all i is in
     elim (joined.0 h.0 h.1) [
@@ -50,7 +54,8 @@ one_if-part : (a b : Bool) → (a ≡ true → b ≡ true) → one_if a ≤ one_
 one_if-part false b h = omega arith
 one_if-part true b h = rw (h refl) (omega arith)
 
-pub count-part : (some all : ℤ → Bool) → IsPart some all → (start : ℤ) (width : ℕ) → count some start width ≤ count all start width
+pub count-part : (some all : ℤ → Bool) → IsPart some all → (start : ℤ) (width : ℕ) →
+    count some start width ≤ count all start width
 count-part some all part start zero = let a = count-none some start in omega arith
 count-part some all part start (suc width) =
     let rest = count-part some all part (start +ℤ pos 1) width in
@@ -63,7 +68,8 @@ one_if-union : (a b c : Bool) → (a ≡ true → (b ≡ true) ⊎ (c ≡ true))
 one_if-union false b c h = omega arith
 one_if-union true b c h = elim (h refl) [ inl is ↦ rw is (omega arith) | inr is ↦ rw is (omega arith) ]
 
-pub count-union : (all others added : ℤ → Bool) → IsUnion all others added → (start : ℤ) (width : ℕ) → count all start width ≤ count others start width + count added start width
+pub count-union : (all others added : ℤ → Bool) → IsUnion all others added → (start : ℤ) (width : ℕ) →
+    count all start width ≤ count others start width + count added start width
 count-union all others added union start zero = let a = count-none all start in omega arith
 count-union all others added union start (suc width) =
     let rest = count-union all others added union (start +ℤ pos 1) width in
@@ -73,14 +79,23 @@ count-union all others added union start (suc width) =
     let c = count-more added start width in
     omega arith
 
-pub meets-part : (some all : ℤ → Bool) (start : ℤ) (width : ℕ) → IsPart some all → Meets some start width → Meets all start width
-meets-part some all start width part m = record { minute = m.minute; from_start = m.from_start; before_end = m.before_end; member = part m.minute m.member }
+pub meets-part : (some all : ℤ → Bool) (start : ℤ) (width : ℕ) → IsPart some all → Meets some start width →
+    Meets all start width
+meets-part some all start width part m = record {
+  minute = m.minute;
+  from_start = m.from_start;
+  before_end =
+      m.before_end;
+  member = part m.minute m.member;
+}
 
 -- where a window holds none of the second of two sets, what it meets is of the first
-pub meets-other : (all others added : ℤ → Bool) (start : ℤ) (width : ℕ) → IsUnion all others added → count added start width ≡ 0 → Meets all start width → Meets others start width
+pub meets-other : (all others added : ℤ → Bool) (start : ℤ) (width : ℕ) → IsUnion all others added →
+    count added start width ≡ 0 → Meets all start width → Meets others start width
 meets-other all others added start width union none m =
     elim (union m.minute m.member) [
       | inl other ↦ record { minute = m.minute; from_start = m.from_start; before_end = m.before_end; member = other }
-      | inr new ↦ (let some = meets-count added start width (record { minute = m.minute; from_start = m.from_start; before_end = m.before_end; member = new }) in
+      | inr new ↦ (let some = meets-count added start width
+          (record { minute = m.minute; from_start = m.from_start; before_end = m.before_end; member = new }) in
           absurd (omega arith))
     ]

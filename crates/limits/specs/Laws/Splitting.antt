@@ -43,14 +43,16 @@ year-split most all others added union over =
       })
     ]
 
-flight_time-split : (all others added : List DutyInForce) → IsJoined all others added → FlightTime all all → FlightTime others others ⊎ FlightTime all added
+flight_time-split : (all others added : List DutyInForce) → IsJoined all others added → FlightTime all all →
+    FlightTime others others ⊎ FlightTime all added
 flight_time-split all others added joined rule =
     elim (joined.0 (Fdp rule.fdp) rule.is_new) [
       | inl other ↦ inl (record { fdp = rule.fdp; is_new = other; over = rule.over })
       | inr new ↦ inr (record { fdp = rule.fdp; is_new = new; over = rule.over })
     ]
 
-flight_duty_period-split : (all others added : List DutyInForce) → IsJoined all others added → FlightDutyPeriod all all → FlightDutyPeriod others others ⊎ FlightDutyPeriod all added
+flight_duty_period-split : (all others added : List DutyInForce) → IsJoined all others added →
+    FlightDutyPeriod all all → FlightDutyPeriod others others ⊎ FlightDutyPeriod all added
 flight_duty_period-split all others added joined rule =
     elim (joined.0 (Fdp rule.fdp) rule.is_new) [
       | inl other ↦ inl (record { fdp = rule.fdp; is_new = other; over = rule.over })
@@ -58,13 +60,16 @@ flight_duty_period-split all others added joined rule =
     ]
 
 -- a touched period is one of all
-touched-in : (all : List DutyInForce) (fdp : FdpTimes) (width : ℕ) → IsTouched all all fdp width → Contains all (Fdp fdp)
+touched-in : (all : List DutyInForce) (fdp : FdpTimes) (width : ℕ) → IsTouched all all fdp width →
+    Contains all (Fdp fdp)
 touched-in all fdp width touched = elim touched [ inl is_new ↦ is_new | inr old ↦ old.0 ]
 
 -- the added duties touch the period, or it is one of the others and its look-back holds none of them
 touched-split :
-    (all others added : List DutyInForce) (fdp : FdpTimes) (width : ℕ) → IsJoined all others added → IsTouched all all fdp width →
-    IsTouched all added fdp width ⊎ (IsTouched others others fdp width × (count (minutes_in Duty added) (pos fdp.report -ℤ pos width) width ≡ 0))
+    (all others added : List DutyInForce) (fdp : FdpTimes) (width : ℕ) → IsJoined all others added →
+    IsTouched all all fdp width →
+    IsTouched all added fdp width ⊎ (IsTouched others others fdp width ×
+    (count (minutes_in Duty added) (pos fdp.report -ℤ pos width) width ≡ 0))
 touched-split all others added fdp width joined touched =
     let is_in = touched-in all fdp width touched in
     elim (joined.0 (Fdp fdp) is_in) [
@@ -75,51 +80,69 @@ touched-split all others added fdp width joined touched =
       ]
     ]
 
-ten_hours-split : (all others added : List DutyInForce) → IsJoined all others added → TenHourRest all all → TenHourRest others others ⊎ TenHourRest all added
+ten_hours-split : (all others added : List DutyInForce) → IsJoined all others added → TenHourRest all all →
+    TenHourRest others others ⊎ TenHourRest all added
 ten_hours-split all others added joined rule =
     elim (touched-split all others added rule.fdp 600 joined rule.touched) [
       | inl touched ↦ inr (record { fdp = rule.fdp; touched = touched; worked = rule.worked })
       | inr old ↦ inl (record {
         fdp = rule.fdp;
         touched = old.0;
-        worked = meets-other (minutes_in Duty all) (minutes_in Duty others) (minutes_in Duty added) (pos rule.fdp.report -ℤ pos 600) 600 (union-minutes Duty all others added joined) old.1 rule.worked;
+        worked = meets-other (minutes_in Duty all) (minutes_in Duty others) (minutes_in Duty added)
+            (pos rule.fdp.report -ℤ pos 600) 600 (union-minutes Duty all others added joined) old.1 rule.worked;
       })
     ]
 
 -- where the whole look-back holds none of the second of two sets, what a run inside it meets is of the first
 run-other :
-    (all others added : ℤ → Bool) (end start : ℤ) (width length : ℕ) → IsUnion all others added → count added (end -ℤ pos width) width ≡ 0 →
+    (all others added : ℤ → Bool) (end start : ℤ) (width length : ℕ) → IsUnion all others added →
+    count added (end -ℤ pos width) width ≡ 0 →
     (end -ℤ pos width) ≤ℤ start → (start +ℤ pos length) ≤ℤ end → Meets all start length → Meets others start length
 run-other all others added end start width length union none from to m =
     let later = m.from_start in
     let sooner = m.before_end in
     elim (union m.minute m.member) [
       | inl other ↦ record { minute = m.minute; from_start = m.from_start; before_end = m.before_end; member = other }
-      | inr new ↦ (let some = meets-count added (end -ℤ pos width) width (record { minute = m.minute; from_start = omega (arith, ints); before_end = omega (arith, ints); member = new }) in
+      | inr new ↦ (let some = meets-count added (end -ℤ pos width) width
+          (record {
+            minute = m.minute;
+            from_start = omega (arith, ints);
+            before_end = omega (arith, ints);
+            member =
+                new;
+          }) in
           absurd (omega arith))
     ]
 
-thirty_hours-split : (all others added : List DutyInForce) → IsJoined all others added → ThirtyHourRest all all → ThirtyHourRest others others ⊎ ThirtyHourRest all added
+thirty_hours-split : (all others added : List DutyInForce) → IsJoined all others added → ThirtyHourRest all all →
+    ThirtyHourRest others others ⊎ ThirtyHourRest all added
 thirty_hours-split all others added joined rule =
     elim (touched-split all others added rule.fdp 10_080 joined rule.touched) [
       | inl touched ↦ inr (record { fdp = rule.fdp; touched = touched; worked = rule.worked })
       | inr old ↦ inl (record {
         fdp = rule.fdp;
         touched = old.0;
-        worked = λ start from to. run-other (minutes_in Duty all) (minutes_in Duty others) (minutes_in Duty added) (pos rule.fdp.report) start 10_080 1_800 (union-minutes Duty all others added joined) old.1 from to (rule.worked start from to);
+        worked = λ start from to. run-other (minutes_in Duty all) (minutes_in Duty others) (minutes_in Duty added)
+            (pos rule.fdp.report) start 10_080 1_800 (union-minutes Duty all others added joined) old.1 from to
+            (rule.worked start from to);
       })
     ]
 
-pub rule_splits : (s : Section) (all others added : List DutyInForce) → IsJoined all others added → Rule s all all → Rule s others others ⊎ Rule s all added
+pub rule_splits : (s : Section) (all others added : List DutyInForce) → IsJoined all others added → Rule s all all →
+    Rule s others others ⊎ Rule s all added
 rule_splits section.FlightTime all others added joined = flight_time-split all others added joined
 rule_splits section.FlightDutyPeriod all others added joined = flight_duty_period-split all others added joined
 rule_splits section.FlightTime672Hours all others added joined =
-    over-split 40_320 6_000 (minutes_in Flight all) (minutes_in Flight others) (minutes_in Flight added) (union-minutes Flight all others added joined)
+    over-split 40_320 6_000 (minutes_in Flight all) (minutes_in Flight others) (minutes_in Flight added)
+    (union-minutes Flight all others added joined)
 rule_splits section.FlightTime365Days all others added joined =
-    year-split 60_000 (minutes_in Flight all) (minutes_in Flight others) (minutes_in Flight added) (union-minutes Flight all others added joined)
+    year-split 60_000 (minutes_in Flight all) (minutes_in Flight others) (minutes_in Flight added)
+    (union-minutes Flight all others added joined)
 rule_splits section.FlightDutyPeriods168Hours all others added joined =
-    over-split 10_080 3_600 (minutes_in FlightDuty all) (minutes_in FlightDuty others) (minutes_in FlightDuty added) (union-minutes FlightDuty all others added joined)
+    over-split 10_080 3_600 (minutes_in FlightDuty all) (minutes_in FlightDuty others) (minutes_in FlightDuty added)
+    (union-minutes FlightDuty all others added joined)
 rule_splits section.FlightDutyPeriods672Hours all others added joined =
-    over-split 40_320 11_400 (minutes_in FlightDuty all) (minutes_in FlightDuty others) (minutes_in FlightDuty added) (union-minutes FlightDuty all others added joined)
+    over-split 40_320 11_400 (minutes_in FlightDuty all) (minutes_in FlightDuty others) (minutes_in FlightDuty added)
+    (union-minutes FlightDuty all others added joined)
 rule_splits section.ThirtyHourRest all others added joined = thirty_hours-split all others added joined
 rule_splits section.TenHourRest all others added joined = ten_hours-split all others added joined

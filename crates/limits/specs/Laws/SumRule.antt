@@ -15,11 +15,14 @@ use Rattle.limits.specs.Laws.Windows.{held, reaches, end_is_over, edge_is_over, 
 -- a window may be cut back to one that ends just past a member, but not to less than `least`
 pub trimmed :
     (set : ℕ → Bool) (least k : ℕ) →
-    (end : ℕ) × (least ≤ end) × (end ≤ least + k) × (below set end ≡ below set (least + k)) × ((end ≡ least) ⊎ (set (end - 1) ≡ true))
-trimmed set least zero = let e : least + 0 ≡ least = omega arith in (least, omega arith, omega arith, ap (below set) (sym e), inl refl)
+    (end : ℕ) × (least ≤ end) × (end ≤ least + k) × (below set end ≡ below set (least + k)) ×
+    ((end ≡ least) ⊎ (set (end - 1) ≡ true))
+trimmed set least zero = let e : least + 0 ≡ least = omega arith in
+    (least, omega arith, omega arith, ap (below set) (sym e), inl refl)
 trimmed set least (suc k) =
     elim (cases_Bool (set (least + k))) [
-      | inl is ↦ (let e : suc (least + k) - 1 ≡ least + k = omega arith in let f : least + suc k ≡ suc (least + k) = omega arith in (suc (least + k), omega arith, omega arith, ap (below set) (sym f), inr (rw e is)))
+      | inl is ↦ (let e : suc (least + k) - 1 ≡ least + k = omega arith in let f : least + suc k ≡ suc (least + k) =
+          omega arith in (suc (least + k), omega arith, omega arith, ap (below set) (sym f), inr (rw e is)))
       | inr is ↦ (let r = trimmed set least k in
           let f : least + suc k ≡ suc (least + k) = omega arith in
           let same : below set (suc (least + k)) ≡ below set (least + k) = rw (below-suc, is) (omega arith) in
@@ -29,16 +32,19 @@ trimmed set least (suc k) =
 -- from a member on, a window may slide on to where the members end, or for k minutes
 slid :
     (set : ℕ → Bool) (at k : ℕ) → set (at - 1) ≡ true →
-    (n : ℕ) × (n ≤ k) × ((i : ℕ) → at ≤ i → i < at + n → set i ≡ true) × ((n ≡ k) ⊎ ((set (at + n) ≡ false) × (set (at + n - 1) ≡ true)))
+    (n : ℕ) × (n ≤ k) × ((i : ℕ) → at ≤ i → i < at + n → set i ≡ true) ×
+    ((n ≡ k) ⊎ ((set (at + n) ≡ false) × (set (at + n - 1) ≡ true)))
 slid set at zero last = (0, omega arith, λ i l h. absurd (omega arith), inl refl)
 slid set at (suc k) last =
     elim (cases_Bool (set at)) [
       | inl is ↦ (let one : (at + 1) - 1 ≡ at = omega arith in
           let r = slid set (at + 1) k (rw one is) in
           let e : at + (r.0 + 1) ≡ at + 1 + r.0 = omega arith in
-          let all : (i : ℕ) → at ≤ i → i < at + (r.0 + 1) → set i ≡ true = λ i l h. elim (cases_eq i at) [ inl same ↦ rw same is | inr other ↦ r.2 i (omega arith) (omega arith) ] in
+          let all : (i : ℕ) → at ≤ i → i < at + (r.0 + 1) → set i ≡ true =
+          λ i l h. elim (cases_eq i at) [ inl same ↦ rw same is | inr other ↦ r.2 i (omega arith) (omega arith) ] in
           (r.0 + 1, omega arith, all, elim r.3 [ inl done ↦ inl (omega arith) | inr done ↦ inr (rw e done) ]))
-      | inr is ↦ (let e : at + 0 ≡ at = omega arith in (0, omega arith, λ i l h. absurd (omega arith), inr (rw e (is, last))))
+      | inr is ↦ (let e : at + 0 ≡ at = omega arith in
+          (0, omega arith, λ i l h. absurd (omega arith), inr (rw e (is, last))))
     ]
 
 -- the set of naturals of some spans
@@ -49,23 +55,28 @@ members spans n = minutes_of spans (pos n)
 pub held-before : (spans : List Span) (end width : ℕ) → held spans end width ≡ before (members spans) end width
 held-before spans end width = count-before (minutes_of spans) (no_negative spans) end width
 
-pub over-test : (spans : List Span) (most end width : ℕ) → most < before (members spans) end width → nat_lt most (held spans end width) ≡ true
+pub over-test : (spans : List Span) (most end width : ℕ) → most < before (members spans) end width →
+    nat_lt most (held spans end width) ≡ true
 over-test spans most end width more = rw held-before (lt-ltb _ _ more)
 
-pub test-over : (spans : List Span) (most end width : ℕ) → nat_lt most (held spans end width) ≡ true → most < before (members spans) end width
+pub test-over : (spans : List Span) (most end width : ℕ) → nat_lt most (held spans end width) ≡ true →
+    most < before (members spans) end width
 test-over spans most end width is = let e = held-before spans end width in let l = ltb-true _ _ is in omega arith
 
-pub reaches-true : (end width : ℕ) (new : Span) → reaches end width new ≡ true → (new.from < new.to) × (new.from < end) × (end < new.to + width)
+pub reaches-true : (end width : ℕ) (new : Span) → reaches end width new ≡ true → (new.from < new.to) ×
+    (new.from < end) × (end < new.to + width)
 reaches-true end width new is =
     let a = and_parts _ _ is in
     let b = and_parts _ _ a.1 in
     (ltb-true _ _ a.0, ltb-true _ _ b.0, ltb-true _ _ b.1)
 
-pub reaches-from : (end width : ℕ) (new : Span) → new.from < new.to → new.from < end → end < new.to + width → reaches end width new ≡ true
+pub reaches-from : (end width : ℕ) (new : Span) → new.from < new.to → new.from < end → end < new.to + width →
+    reaches end width new ≡ true
 reaches-from end width new a b c = and_from _ _ (lt-ltb _ _ a) (and_from _ _ (lt-ltb _ _ b) (lt-ltb _ _ c))
 
 -- where members end, a span ends
-span_end : (spans : List Span) (n : ℕ) → members spans n ≡ true → members spans (n + 1) ≡ false → (P : Span → Bool) → ((s : Span) → s.to ≡ n + 1 → P s ≡ true) → list_any P spans ≡ true
+span_end : (spans : List Span) (n : ℕ) → members spans n ≡ true → members spans (n + 1) ≡ false → (P : Span → Bool) →
+    ((s : Span) → s.to ≡ n + 1 → P s ≡ true) → list_any P spans ≡ true
 span_end [] n is ends P h = absurd (false≢true is)
 span_end (s ∷ spans) n is ends P h =
     elim (or_cases _ _ is) [
@@ -99,12 +110,15 @@ found_at all new width most at span some among after within last more =
       | inl edge ↦ (let e : end ≡ limit = omega arith in
           let P : ℕ → Type 0 = λ n. most < before set n width in
           let more_edge : most < before set limit width = subst P e more_end in
-          or_right _ _ (among (edge_is_over all width most) (and_from _ _ (lt-ltb _ _ some) (or_right _ _ (over-test all most limit width more_edge)))))
+          or_right _ _ (among (edge_is_over all width most)
+          (and_from _ _ (lt-ltb _ _ some) (or_right _ _ (over-test all most limit width more_edge)))))
       | inr ends ↦ (let e : end - 1 + 1 ≡ end = omega arith in
           let ended : members all (end - 1 + 1) ≡ false = rw e ends.0 in
           or_left _ _ (span_end all (end - 1) ends.1 ended (end_is_over all new width most) (λ s to.
           (let t : s.to ≡ end = to ∙ e in
-          rw t (and_from _ _ (among (reaches end width) (reaches-from end width span some (omega arith) (omega arith))) (over-test all most end width more_end))))))
+          rw t (and_from _ _ (among (reaches end width)
+          (reaches-from end width span some (omega arith) (omega arith)))
+          (over-test all most end width more_end))))))
     ]
 
 -- the tests find a window that holds too much and reaches a new span
@@ -126,12 +140,15 @@ found all new width most end minute span covered among from to more =
     let more_at : most < before set at width = omega arith in
     elim r.4 [
       | inl least ↦ (let P : ℕ → Type 0 = λ n. most < before set n width in
-          or_right _ _ (among (edge_is_over all width most) (and_from _ _ (lt-ltb _ _ (omega arith)) (or_left _ _ (over-test all most (span.from + 1) width (subst P least more_at))))))
+          or_right _ _ (among (edge_is_over all width most)
+          (and_from _ _ (lt-ltb _ _ (omega arith))
+          (or_left _ _ (over-test all most (span.from + 1) width (subst P least more_at))))))
       | inr last ↦ found_at all new width most at span (omega arith) among (omega arith) (omega arith) last more_at
     ]
 
 -- some span of the list passes, with the tests that it passes
-pub some_span : (P : Span → Bool) (spans : List Span) → list_any P spans ≡ true → (s : Span) × (P s ≡ true) × ((Q : Span → Bool) → Q s ≡ true → list_any Q spans ≡ true)
+pub some_span : (P : Span → Bool) (spans : List Span) → list_any P spans ≡ true → (s : Span) × (P s ≡ true) ×
+    ((Q : Span → Bool) → Q s ≡ true → list_any Q spans ≡ true)
 some_span P [] is = absurd (false≢true is)
 some_span P (s ∷ spans) is =
     elim (or_cases _ _ is) [
@@ -141,45 +158,69 @@ some_span P (s ∷ spans) is =
 
 -- a window that the tests find breaks the rule
 broken_at :
-    (all new : List Span) (width most end minute : ℕ) → members new minute ≡ true → minute < end → end ≤ minute + width →
+    (all new : List Span) (width most end minute : ℕ) → members new minute ≡ true → minute < end →
+    end ≤ minute + width →
     most < before (members all) end width → IsOver width most (minutes_of all) (minutes_of new)
 broken_at all new width most end minute member from to more = record {
   start = pos end -ℤ pos width;
-  meets = record { minute = pos minute; from_start = omega (arith, ints); before_end = omega (arith, ints); member = member };
+  meets = record {
+    minute = pos minute;
+    from_start = omega (arith, ints);
+    before_end = omega (arith, ints);
+    member =
+        member;
+  };
   more = rw (count-before (minutes_of all) (no_negative all) end width) more;
 }
 
-sound_end : (all new : List Span) (width most end : ℕ) → 0 < width → list_any (reaches end width) new ≡ true → most < before (members all) end width → IsOver width most (minutes_of all) (minutes_of new)
+sound_end : (all new : List Span) (width most end : ℕ) → 0 < width → list_any (reaches end width) new ≡ true →
+    most < before (members all) end width → IsOver width most (minutes_of all) (minutes_of new)
 sound_end all new width most end some reached more =
     let r = some_span (reaches end width) new reached in
     let s = r.0 in
     let t = reaches-true end width s r.1 in
     elim (cases_lt (s.from + width) end) [
       | inl short ↦ (let m : ℕ = end - width in
-          broken_at all new width most end m (r.2 (covers (pos m)) (covers-from m s (omega arith) (omega arith))) (omega arith) (omega arith) more)
-      | inr long ↦ broken_at all new width most end s.from (r.2 (covers (pos s.from)) (covers-from s.from s (omega arith) (omega arith))) (omega arith) (omega arith) more
+          broken_at all new width most end m (r.2 (covers (pos m)) (covers-from m s (omega arith) (omega arith)))
+          (omega arith) (omega arith) more)
+      | inr long ↦ broken_at all new width most end s.from
+          (r.2 (covers (pos s.from)) (covers-from s.from s (omega arith) (omega arith))) (omega arith)
+          (omega arith) more
     ]
 
 edge-parts :
     (all : List Span) (width most : ℕ) (s : Span) → edge_is_over all width most s ≡ true →
-    (s.from < s.to) × ((most < before (members all) (s.from + 1) width) ⊎ (most < before (members all) (s.to - 1 + width) width))
+    (s.from < s.to) × ((most < before (members all) (s.from + 1) width) ⊎
+    (most < before (members all) (s.to - 1 + width) width))
 edge-parts all width most s is =
-    let t = and_parts _ _ is in
-    (ltb-true _ _ t.0, elim (or_cases _ _ t.1) [ inl first ↦ inl (test-over all most (s.from + 1) width first) | inr last ↦ inr (test-over all most (s.to - 1 + width) width last) ])
+    let t = and_parts _ _ is in (
+      ltb-true _ _ t.0,
+      elim (or_cases _ _ t.1) [
+        | inl first ↦
+            inl (test-over all most (s.from + 1) width first)
+        | inr last ↦
+            inr (test-over all most (s.to - 1 + width) width last)
+      ],
+    )
 
-sound_edge : (all new : List Span) (width most : ℕ) → 0 < width → list_any (edge_is_over all width most) new ≡ true → IsOver width most (minutes_of all) (minutes_of new)
+sound_edge : (all new : List Span) (width most : ℕ) → 0 < width → list_any (edge_is_over all width most) new ≡ true →
+    IsOver width most (minutes_of all) (minutes_of new)
 sound_edge all new width most some is =
     let r = some_span (edge_is_over all width most) new is in
     let s = r.0 in
     let t = edge-parts all width most s r.1 in
     let lt : s.from < s.to = t.0 in
     elim t.1 [
-      | inl first ↦ broken_at all new width most (s.from + 1) s.from (r.2 (covers (pos s.from)) (covers-from s.from s (omega arith) (omega arith))) (omega arith) (omega arith) first
+      | inl first ↦ broken_at all new width most (s.from + 1) s.from
+          (r.2 (covers (pos s.from)) (covers-from s.from s (omega arith) (omega arith))) (omega arith)
+          (omega arith) first
       | inr last ↦ (let m : ℕ = s.to - 1 in
-          broken_at all new width most (s.to - 1 + width) m (r.2 (covers (pos m)) (covers-from m s (omega arith) (omega arith))) (omega arith) (omega arith) last)
+          broken_at all new width most (s.to - 1 + width) m
+          (r.2 (covers (pos m)) (covers-from m s (omega arith) (omega arith))) (omega arith) (omega arith) last)
     ]
 
-sound : (all new : List Span) (width most : ℕ) → 0 < width → some_is_over all new width most ≡ true → IsOver width most (minutes_of all) (minutes_of new)
+sound : (all new : List Span) (width most : ℕ) → 0 < width → some_is_over all new width most ≡ true →
+    IsOver width most (minutes_of all) (minutes_of new)
 sound all new width most some is =
     elim (or_cases _ _ is) [
       | inl at_end ↦ (let r = some_span (end_is_over all new width most) all at_end in
@@ -191,7 +232,8 @@ sound all new width most some is =
 complete_at :
     (all new : List Span) (width most : ℕ) (start minute : ℤ) → start ≤ℤ minute → minute <ℤ (start +ℤ pos width) →
     minutes_of new minute ≡ true → most < count (minutes_of all) start width → some_is_over all new width most ≡ true
-complete_at all new width most start (negsuc n) from to member more = absurd (false≢true (sym (no_negative new n) ∙ member))
+complete_at all new width most start (negsuc n) from to member more =
+    absurd (false≢true (sym (no_negative new n) ∙ member))
 complete_at all new width most start (pos n) from to member more =
     let r = some_span (covers (pos n)) new member in
     let w = window_end start width n from to in
@@ -200,26 +242,50 @@ complete_at all new width most start (pos n) from to member more =
     found all new width most w.0 n r.0 r.1 r.2 w.2 w.3 (omega arith)
 
 -- a sum rule is broken where the tests find a window
-pub sum_rule : (all new : List Span) (width most : ℕ) → 0 < width → IsTrue (some_is_over all new width most) ↔ IsOver width most (minutes_of all) (minutes_of new)
-sum_rule all new width most some =
-    (sound all new width most some, λ over. complete_at all new width most over.start over.meets.minute over.meets.from_start over.meets.before_end over.meets.member over.more)
+pub sum_rule : (all new : List Span) (width most : ℕ) → 0 < width → IsTrue (some_is_over all new width most) ↔
+    IsOver width most (minutes_of all) (minutes_of new)
+sum_rule all new width most some = (
+  sound all new width most some,
+  λ over. complete_at all new width most over.start over.meets.minute
+      over.meets.from_start over.meets.before_end over.meets.member over.more,
+)
 
 -- a span that reaches a window is one that the window meets
-pub reach_decides : (spans : List Span) (end width : ℕ) → 0 < width → (list_any (reaches end width) spans ≡ true) ↔ Meets (minutes_of spans) (pos end -ℤ pos width) width
-reach_decides spans end width some = (reach_meets spans end width some, λ m. meets_reach spans end width m.minute m.from_start m.before_end m.member)
+pub reach_decides : (spans : List Span) (end width : ℕ) → 0 < width → (list_any (reaches end width) spans ≡ true) ↔
+    Meets (minutes_of spans) (pos end -ℤ pos width) width
+reach_decides spans end width some = (
+  reach_meets spans end width some,
+  λ m. meets_reach spans end width m.minute m.from_start m.before_end m.member,
+)
   where
-    reach_meets : (spans : List Span) (end width : ℕ) → 0 < width → list_any (reaches end width) spans ≡ true → Meets (minutes_of spans) (pos end -ℤ pos width) width
+    reach_meets : (spans : List Span) (end width : ℕ) → 0 < width → list_any (reaches end width) spans ≡ true →
+        Meets (minutes_of spans) (pos end -ℤ pos width) width
     reach_meets spans end width some reached =
         let r = some_span (reaches end width) spans reached in
         let s = r.0 in
         let t = reaches-true end width s r.1 in
         elim (cases_lt (s.from + width) end) [
           | inl short ↦ (let m : ℕ = end - width in
-              record { minute = pos m; from_start = omega (arith, ints); before_end = omega (arith, ints); member = r.2 (covers (pos m)) (covers-from m s (omega arith) (omega arith)) })
-          | inr long ↦ record { minute = pos s.from; from_start = omega (arith, ints); before_end = omega (arith, ints); member = r.2 (covers (pos s.from)) (covers-from s.from s (omega arith) (omega arith)) }
+              record {
+                minute = pos m;
+                from_start = omega (arith, ints);
+                before_end = omega (arith, ints);
+                member =
+                    r.2 (covers (pos m)) (covers-from m s (omega arith) (omega arith));
+              })
+          | inr long ↦ record {
+            minute = pos s.from;
+            from_start = omega (arith, ints);
+            before_end =
+                omega (arith, ints);
+            member = r.2 (covers (pos s.from))
+                (covers-from s.from s (omega arith) (omega arith));
+          }
         ]
 
-    meets_reach : (spans : List Span) (end width : ℕ) (minute : ℤ) → (pos end -ℤ pos width) ≤ℤ minute → minute <ℤ (pos end -ℤ pos width +ℤ pos width) → minutes_of spans minute ≡ true → list_any (reaches end width) spans ≡ true
+    meets_reach : (spans : List Span) (end width : ℕ) (minute : ℤ) → (pos end -ℤ pos width) ≤ℤ minute →
+        minute <ℤ (pos end -ℤ pos width +ℤ pos width) → minutes_of spans minute ≡ true →
+        list_any (reaches end width) spans ≡ true
     meets_reach spans end width (negsuc n) from to member = absurd (false≢true (sym (no_negative spans n) ∙ member))
     meets_reach spans end width (pos n) from to member =
         let r = some_span (covers (pos n)) spans member in

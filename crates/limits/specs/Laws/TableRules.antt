@@ -10,13 +10,16 @@ use Rattle.limits.specs.Rules.{FlightTime, FlightDutyPeriod}
 use Rattle.limits.specs.Laws.Tests.{is_over_table_a, is_over_table_b}
 
 -- a duty of the list that passes
-pub contained : {X : Type 0} (test : X → Bool) (xs : List X) → list_any test xs ≡ true → (x : X) × Contains xs x × (test x ≡ true)
+pub contained : {X : Type 0} (test : X → Bool) (xs : List X) → list_any test xs ≡ true → (x : X) × Contains xs x ×
+    (test x ≡ true)
 contained test xs is = let a = Any-from_list_any test xs is in (a.1, (a.0, a.2, a.3), a.4)
 
-pub from_contained : {X : Type 0} (test : X → Bool) (xs : List X) (x : X) → Contains xs x → test x ≡ true → list_any test xs ≡ true
+pub from_contained : {X : Type 0} (test : X → Bool) (xs : List X) (x : X) → Contains xs x → test x ≡ true →
+    list_any test xs ≡ true
 from_contained test xs x in' is = list_any_at test xs in'.0 x in'.1 (ap test in'.2 ∙ is)
 
-table_a_at : (history new : List DutyInForce) (duty : DutyInForce) → Contains new duty → is_over_table_a duty ≡ true → FlightTime history new
+table_a_at : (history new : List DutyInForce) (duty : DutyInForce) → Contains new duty → is_over_table_a duty ≡ true →
+    FlightTime history new
 table_a_at history new (Fdp fdp) in' is = record { fdp = fdp; is_new = in'; over = ltb-true _ _ is }
 table_a_at history new (Ground span) in' is = absurd (false≢true is)
 
@@ -26,11 +29,13 @@ table_a_decides history new = (
   λ rule. from_contained is_over_table_a new (Fdp rule.fdp) rule.is_new (lt-ltb _ _ rule.over),
 )
 
-table_b_at : (history new : List DutyInForce) (duty : DutyInForce) → Contains new duty → is_over_table_b duty ≡ true → FlightDutyPeriod history new
+table_b_at : (history new : List DutyInForce) (duty : DutyInForce) → Contains new duty → is_over_table_b duty ≡ true →
+    FlightDutyPeriod history new
 table_b_at history new (Fdp fdp) in' is = record { fdp = fdp; is_new = in'; over = ltb-true _ _ is }
 table_b_at history new (Ground span) in' is = absurd (false≢true is)
 
-pub table_b_decides : (history new : List DutyInForce) → IsTrue (list_any is_over_table_b new) ↔ FlightDutyPeriod history new
+pub table_b_decides : (history new : List DutyInForce) → IsTrue (list_any is_over_table_b new) ↔
+    FlightDutyPeriod history new
 table_b_decides history new = (
   λ is. let c = contained is_over_table_b new is in table_b_at history new c.0 c.1 c.2,
   λ rule. from_contained is_over_table_b new (Fdp rule.fdp) rule.is_new (lt-ltb _ _ rule.over),

@@ -18,7 +18,8 @@ is_over_table_a (Ground _) = false
 
 -- a flight duty period is longer than Table B gives
 abbrev pub is_over_table_b : DutyInForce → Bool
-is_over_table_b (Fdp fdp) = nat_lt (table_b fdp.start (length fdp.segments)) (last_in fdp.report fdp.segments - fdp.report)
+is_over_table_b (Fdp fdp) = nat_lt (table_b fdp.start (length fdp.segments))
+    (last_in fdp.report fdp.segments - fdp.report)
 is_over_table_b (Ground _) = false
 
 -- the `width` minutes before `end` meet a duty minute
@@ -33,7 +34,8 @@ look_width ThirtyHours = 10_080
 -- the minutes before the report do not have the rest
 abbrev pub lacks_rest : Rest → List DutyInForce → ℕ → Bool
 lacks_rest TenHours history report = is_on_duty_before history report 600
-lacks_rest ThirtyHours history report = not (free_run_test (minutes_in Duty history) (pos report -ℤ pos 10_080) 10_080 1_800)
+lacks_rest ThirtyHours history report = not (free_run_test (minutes_in Duty history)
+    (pos report -ℤ pos 10_080) 10_080 1_800)
 
 -- a test of the report of a flight duty period
 abbrev pub by_report : (ℕ → Bool) → DutyInForce → Bool
@@ -46,4 +48,5 @@ is_spoilt rest history new report = is_on_duty_before new report (look_width res
 
 -- a new report lacks the rest, or one that the new duties touch
 abbrev pub some_lacks_rest : Rest → List DutyInForce → List DutyInForce → Bool
-some_lacks_rest rest history new = list_any (by_report (lacks_rest rest history)) new || list_any (by_report (is_spoilt rest history new)) history
+some_lacks_rest rest history new = list_any (by_report (lacks_rest rest history)) new ||
+    list_any (by_report (is_spoilt rest history new)) history

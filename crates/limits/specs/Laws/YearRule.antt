@@ -17,7 +17,8 @@ below-le : (set : ℕ → Bool) (m n : ℕ) → m ≤ n → (below set m ≤ bel
 below-le set m n l = let e : m + (n - m) ≡ n = omega arith in rw e at (below-range set m (n - m))
 
 -- a window that slides on over members holds no less
-grown : (set : ℕ → Bool) (from to width : ℕ) → from ≤ to → ((i : ℕ) → from ≤ i → i < to → set i ≡ true) → before set from width ≤ before set to width
+grown : (set : ℕ → Bool) (from to width : ℕ) → from ≤ to → ((i : ℕ) → from ≤ i → i < to → set i ≡ true) →
+    before set from width ≤ before set to width
 grown set from to width l full =
     let a = below-full set from to l full in
     let b = below-le set (from - width) (to - width) (omega arith) in
@@ -26,8 +27,10 @@ grown set from to width l full =
 -- from a day that ends in a span the days may slide on to the last that the span fills
 year_at :
     (all new : List Span) (most day : ℕ) (span s : Span) → span.from < span.to →
-    ((P : Span → Bool) → P span ≡ true → list_any P new ≡ true) → ((P : Span → Bool) → P s ≡ true → list_any P all ≡ true) →
-    span.from < (day + 1) * 1_440 → (day + 1) * 1_440 ≤ span.to - 1 + 525_600 → s.from < (day + 1) * 1_440 → day ≤ (s.to - 1) / 1_440 → 0 < s.to →
+    ((P : Span → Bool) → P span ≡ true → list_any P new ≡ true) →
+    ((P : Span → Bool) → P s ≡ true → list_any P all ≡ true) →
+    span.from < (day + 1) * 1_440 → (day + 1) * 1_440 ≤ span.to - 1 + 525_600 → s.from < (day + 1) * 1_440 →
+    day ≤ (s.to - 1) / 1_440 → 0 < s.to →
     most < before (members all) ((day + 1) * 1_440) 525_600 → some_year_is_over all new most ≡ true
 year_at all new most day span s some among among_all after within starts lasts full more =
     let q : ℕ = (s.to - 1) / 1_440 in
@@ -35,7 +38,10 @@ year_at all new most day span s some among among_all after within starts lasts f
       | inl same ↦ (let P : ℕ → Type 0 = λ d. most < before (members all) ((d + 1) * 1_440) 525_600 in
           let R : ℕ → Type 0 = λ d. (span.from < (d + 1) * 1_440) × ((d + 1) * 1_440 < span.to + 525_600) in
           let r : R q = subst R same (after, omega arith) in
-          or_left _ _ (among_all (year_end_is_over all new most) (or_left _ _ (and_from _ _ (among (reaches ((q + 1) * 1_440) 525_600) (reaches-from ((q + 1) * 1_440) 525_600 span some r.0 r.1)) (over-test all most ((q + 1) * 1_440) 525_600 (subst P same more))))))
+          or_left _ _ (among_all (year_end_is_over all new most)
+          (or_left _ _ (and_from _ _ (among (reaches ((q + 1) * 1_440) 525_600)
+          (reaches-from ((q + 1) * 1_440) 525_600 span some r.0 r.1))
+          (over-test all most ((q + 1) * 1_440) 525_600 (subst P same more))))))
       | inr other ↦ (let set = members all in
           let last : ℕ = (span.to - 1) / 1_440 + 365 in
           let from : ℕ = (day + 1) * 1_440 in
@@ -44,10 +50,14 @@ year_at all new most day span s some among among_all after within starts lasts f
           elim (cases_lt last q) [
             | inl cut ↦ (let to : ℕ = last * 1_440 in
                 let more_to = grown set from to 525_600 (omega arith) (full_to to (omega arith)) in
-                or_right _ _ (among (year_edge_is_over all most) (and_from _ _ (lt-ltb _ _ some) (or_right _ _ (over-test all most to 525_600 (omega arith))))))
+                or_right _ _ (among (year_edge_is_over all most)
+                (and_from _ _ (lt-ltb _ _ some) (or_right _ _ (over-test all most to 525_600 (omega arith))))))
             | inr whole ↦ (let to : ℕ = q * 1_440 in
                 let more_to = grown set from to 525_600 (omega arith) (full_to to (omega arith)) in
-                or_left _ _ (among_all (year_end_is_over all new most) (or_right _ _ (and_from _ _ (among (reaches to 525_600) (reaches-from to 525_600 span some (omega arith) (omega arith))) (over-test all most to 525_600 (omega arith))))))
+                or_left _ _ (among_all (year_end_is_over all new most)
+                (or_right _ _ (and_from _ _ (among (reaches to 525_600)
+                (reaches-from to 525_600 span some (omega arith) (omega arith)))
+                (over-test all most to 525_600 (omega arith))))))
           ])
     ]
 
@@ -78,32 +88,44 @@ found_year all new most days minute span covered among from to more =
           let e : span.from + 1 - 1 ≡ span.from = omega arith in
           let Q : ℕ → Type 0 = λ n. most < before set ((n / 1_440 + 1) * 1_440) 525_600 in
           let more_first : Q span.from = subst Q e (subst P least more_up) in
-          or_right _ _ (among (year_edge_is_over all most) (and_from _ _ (lt-ltb _ _ (omega arith)) (or_left _ _ (over-test all most ((span.from / 1_440 + 1) * 1_440) 525_600 more_first)))))
+          or_right _ _ (among (year_edge_is_over all most)
+          (and_from _ _ (lt-ltb _ _ (omega arith))
+          (or_left _ _ (over-test all most ((span.from / 1_440 + 1) * 1_440) 525_600 more_first)))))
       | inr last ↦ (let s = some_span (covers (pos (at - 1))) all last in
           let d = covers-true (at - 1) s.0 s.1 in
-          year_at all new most day span s.0 (omega arith) among s.2 (omega arith) (omega arith) (omega arith) (omega arith) (omega arith) more_up)
+          year_at all new most day span s.0 (omega arith) among s.2 (omega arith) (omega arith) (omega arith)
+          (omega arith) (omega arith) more_up)
     ]
 
 -- a year that reaches a natural minute ends with a natural number of days
 year_end : (day : ℤ) (minute : ℕ) → (day *ℤ pos 1_440) ≤ℤ pos minute → pos minute <ℤ (day *ℤ pos 1_440 +ℤ pos 525_600) →
-    (days : ℕ) × (day *ℤ pos 1_440 ≡ pos (days * 1_440) -ℤ pos 525_600) × (minute < days * 1_440) × (days * 1_440 ≤ minute + 525_600)
+    (days : ℕ) × (day *ℤ pos 1_440 ≡ pos (days * 1_440) -ℤ pos 525_600) × (minute < days * 1_440) ×
+    (days * 1_440 ≤ minute + 525_600)
 year_end (pos n) minute from to = (n + 365, omega (arith, ints), omega (arith, ints), omega (arith, ints))
 year_end (negsuc n) minute from to = (365 - suc n, omega (arith, ints), omega (arith, ints), omega (arith, ints))
 
 year_back : (days : ℕ) → (pos days -ℤ pos 365) *ℤ pos 1_440 ≡ pos (days * 1_440) -ℤ pos 525_600
 year_back days = omega (arith, ints)
 
-year_broken : (all new : List Span) (most days minute : ℕ) → members new minute ≡ true → minute < days * 1_440 → days * 1_440 ≤ minute + 525_600 →
+year_broken : (all new : List Span) (most days minute : ℕ) → members new minute ≡ true → minute < days * 1_440 →
+    days * 1_440 ≤ minute + 525_600 →
     most < before (members all) (days * 1_440) 525_600 → IsYearOver most (minutes_of all) (minutes_of new)
 year_broken all new most days minute member from to more =
     let e = year_back days in
     record {
       day = pos days -ℤ pos 365;
-      meets = record { minute = pos minute; from_start = rw e (omega (arith, ints)); before_end = rw e (omega (arith, ints)); member = member };
+      meets = record {
+        minute = pos minute;
+        from_start = rw e (omega (arith, ints));
+        before_end =
+            rw e (omega (arith, ints));
+        member = member;
+      };
       more = rw (e, count-before (minutes_of all) (no_negative all) (days * 1_440) 525_600) more;
     }
 
-year_sound_end : (all new : List Span) (most days : ℕ) → year_is_over all new most (days * 1_440) ≡ true → IsYearOver most (minutes_of all) (minutes_of new)
+year_sound_end : (all new : List Span) (most days : ℕ) → year_is_over all new most (days * 1_440) ≡ true →
+    IsYearOver most (minutes_of all) (minutes_of new)
 year_sound_end all new most days is =
     let end : ℕ = days * 1_440 in
     let a = and_parts (list_any (reaches end 525_600) new) (ltb most (held all end 525_600)) is in
@@ -113,55 +135,81 @@ year_sound_end all new most days is =
     let more = test-over all most end 525_600 a.1 in
     elim (cases_lt (s.from + 525_600) end) [
       | inl short ↦ (let m : ℕ = end - 525_600 in
-          year_broken all new most days m (r.2 (covers (pos m)) (covers-from m s (omega arith) (omega arith))) (omega arith) (omega arith) more)
-      | inr long ↦ year_broken all new most days s.from (r.2 (covers (pos s.from)) (covers-from s.from s (omega arith) (omega arith))) (omega arith) (omega arith) more
+          year_broken all new most days m (r.2 (covers (pos m)) (covers-from m s (omega arith) (omega arith)))
+          (omega arith) (omega arith) more)
+      | inr long ↦ year_broken all new most days s.from
+          (r.2 (covers (pos s.from)) (covers-from s.from s (omega arith) (omega arith))) (omega arith)
+          (omega arith) more
     ]
 
 year_edge-parts :
     (all : List Span) (most : ℕ) (s : Span) → year_edge_is_over all most s ≡ true →
-    (s.from < s.to) × ((most < before (members all) ((s.from / 1_440 + 1) * 1_440) 525_600) ⊎ (most < before (members all) (((s.to - 1) / 1_440 + 365) * 1_440) 525_600))
+    (s.from < s.to) × ((most < before (members all) ((s.from / 1_440 + 1) * 1_440) 525_600) ⊎
+    (most < before (members all) (((s.to - 1) / 1_440 + 365) * 1_440) 525_600))
 year_edge-parts all most s is =
-    let t = and_parts _ _ is in
-    (ltb-true _ _ t.0, elim (or_cases _ _ t.1) [ inl first ↦ inl (test-over all most ((s.from / 1_440 + 1) * 1_440) 525_600 first) | inr last ↦ inr (test-over all most (((s.to - 1) / 1_440 + 365) * 1_440) 525_600 last) ])
+    let t = and_parts _ _ is in (
+      ltb-true _ _ t.0,
+      elim (or_cases _ _ t.1) [
+        | inl first ↦
+            inl (test-over all most ((s.from / 1_440 + 1) * 1_440) 525_600 first)
+        | inr last ↦
+            inr (test-over all most (((s.to - 1) / 1_440 + 365) * 1_440) 525_600 last)
+      ],
+    )
 
-year_sound_edge : (all new : List Span) (most : ℕ) → list_any (year_edge_is_over all most) new ≡ true → IsYearOver most (minutes_of all) (minutes_of new)
+year_sound_edge : (all new : List Span) (most : ℕ) → list_any (year_edge_is_over all most) new ≡ true →
+    IsYearOver most (minutes_of all) (minutes_of new)
 year_sound_edge all new most is =
     let r = some_span (year_edge_is_over all most) new is in
     let s = r.0 in
     let t = year_edge-parts all most s r.1 in
     let lt : s.from < s.to = t.0 in
     elim t.1 [
-      | inl first ↦ year_broken all new most (s.from / 1_440 + 1) s.from (r.2 (covers (pos s.from)) (covers-from s.from s (omega arith) (omega arith))) (omega arith) (omega arith) first
+      | inl first ↦ year_broken all new most (s.from / 1_440 + 1) s.from
+          (r.2 (covers (pos s.from)) (covers-from s.from s (omega arith) (omega arith))) (omega arith)
+          (omega arith) first
       | inr last ↦ (let m : ℕ = s.to - 1 in
-          year_broken all new most ((s.to - 1) / 1_440 + 365) m (r.2 (covers (pos m)) (covers-from m s (omega arith) (omega arith))) (omega arith) (omega arith) last)
+          year_broken all new most ((s.to - 1) / 1_440 + 365) m
+          (r.2 (covers (pos m)) (covers-from m s (omega arith) (omega arith))) (omega arith) (omega arith) last)
     ]
 
-year_sound_span : (all new : List Span) (most : ℕ) (s : Span) → year_end_is_over all new most s ≡ true → IsYearOver most (minutes_of all) (minutes_of new)
+year_sound_span : (all new : List Span) (most : ℕ) (s : Span) → year_end_is_over all new most s ≡ true →
+    IsYearOver most (minutes_of all) (minutes_of new)
 year_sound_span all new most s is =
-    elim (or_cases (year_is_over all new most (((s.to - 1) / 1_440 + 1) * 1_440)) (year_is_over all new most ((s.to - 1) / 1_440 * 1_440)) is) [
+    elim (or_cases (year_is_over all new most (((s.to - 1) / 1_440 + 1) * 1_440))
+    (year_is_over all new most ((s.to - 1) / 1_440 * 1_440)) is) [
       | inl a ↦ year_sound_end all new most ((s.to - 1) / 1_440 + 1) a
       | inr b ↦ year_sound_end all new most ((s.to - 1) / 1_440) b
     ]
 
-year_sound : (all new : List Span) (most : ℕ) → some_year_is_over all new most ≡ true → IsYearOver most (minutes_of all) (minutes_of new)
+year_sound : (all new : List Span) (most : ℕ) → some_year_is_over all new most ≡ true →
+    IsYearOver most (minutes_of all) (minutes_of new)
 year_sound all new most is =
     elim (or_cases (list_any (year_end_is_over all new most) all) (list_any (year_edge_is_over all most) new) is) [
-      | inl at_end ↦ (let r = some_span (year_end_is_over all new most) all at_end in year_sound_span all new most r.0 r.1)
+      | inl at_end ↦ (let r = some_span (year_end_is_over all new most) all at_end in
+          year_sound_span all new most r.0 r.1)
       | inr at_edge ↦ year_sound_edge all new most at_edge
     ]
 
 year_complete :
-    (all new : List Span) (most : ℕ) (day minute : ℤ) → (day *ℤ pos 1_440) ≤ℤ minute → minute <ℤ (day *ℤ pos 1_440 +ℤ pos 525_600) →
-    minutes_of new minute ≡ true → most < count (minutes_of all) (day *ℤ pos 1_440) 525_600 → some_year_is_over all new most ≡ true
+    (all new : List Span) (most : ℕ) (day minute : ℤ) → (day *ℤ pos 1_440) ≤ℤ minute →
+    minute <ℤ (day *ℤ pos 1_440 +ℤ pos 525_600) →
+    minutes_of new minute ≡ true → most < count (minutes_of all) (day *ℤ pos 1_440) 525_600 →
+    some_year_is_over all new most ≡ true
 year_complete all new most day (negsuc n) from to member more = absurd (false≢true (sym (no_negative new n) ∙ member))
 year_complete all new most day (pos n) from to member more =
     let r = some_span (covers (pos n)) new member in
     let w = year_end day n from to in
     let e : count (minutes_of all) (day *ℤ pos 1_440) 525_600 ≡ before (members all) (w.0 * 1_440) 525_600 =
-    ap (λ t. count (minutes_of all) t 525_600) w.1 ∙ count-before (minutes_of all) (no_negative all) (w.0 * 1_440) 525_600 in
+    ap (λ t. count (minutes_of all) t 525_600) w.1 ∙
+    count-before (minutes_of all) (no_negative all) (w.0 * 1_440) 525_600 in
     found_year all new most w.0 n r.0 r.1 r.2 w.2 w.3 (omega arith)
 
 -- the rule of 365 days is broken where the tests find a year
-pub year_rule : (all new : List Span) (most : ℕ) → IsTrue (some_year_is_over all new most) ↔ IsYearOver most (minutes_of all) (minutes_of new)
-year_rule all new most =
-    (year_sound all new most, λ over. year_complete all new most over.day over.meets.minute over.meets.from_start over.meets.before_end over.meets.member over.more)
+pub year_rule : (all new : List Span) (most : ℕ) → IsTrue (some_year_is_over all new most) ↔
+    IsYearOver most (minutes_of all) (minutes_of new)
+year_rule all new most = (
+  year_sound all new most,
+  λ over. year_complete all new most over.day over.meets.minute over.meets.from_start
+      over.meets.before_end over.meets.member over.more,
+)

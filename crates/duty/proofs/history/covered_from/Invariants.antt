@@ -5,4 +5,5 @@ use Rattle.duty.specs.Sweeps.{at}
 use Rattle.duty.proofs.history.covered_from.Given as goal
 
 abbrev pub invariant-loop-duty : goal.invariant-loop-duty
-invariant-loop-duty l = list_any (λ d. at (minutes_of (spans_of l.kind d)) l.minute) (take l.duty-index l.duties) ≡ false
+invariant-loop-duty l = list_any (λ d. at (minutes_of (spans_of l.kind d)) l.minute)
+    (take l.duty-index l.duties) ≡ false

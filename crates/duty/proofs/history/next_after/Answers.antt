@@ -12,14 +12,18 @@ loop-duty-preserved c =
     let all = c.args.duties.now in
     let e = c.next_after-next.ensures in
     let next = c.next_after-next.result in
-    let here = slice_get_read all (length all) c.loop-duty.duty-index c.duty-item.result refl (omega arith) c.duty-item.is in
+    let here = slice_get_read all (length all) c.loop-duty.duty-index c.duty-item.result refl
+        (omega arith) c.duty-item.is in
     record {
       after = e.after;
       within = omega arith;
-      clear = clear_more (λ i d. at (minutes_of (spans_of kind d)) i) all c.loop-duty.duty-index c.duty-item.result c.args.minute c.loop-duty.next next here c.loop-duty.invariant.clear e.within e.clear;
+      clear = clear_more (λ i d. at (minutes_of (spans_of kind d)) i) all c.loop-duty.duty-index c.duty-item.result
+          c.args.minute c.loop-duty.next next here c.loop-duty.invariant.clear e.within e.clear;
       stops = elim e.stops [
-        | inl same ↦ elim c.loop-duty.invariant.stops [ inl done ↦ inl (same ∙ done) | inr old ↦ inr (ap (at (minutes_in kind all)) same ∙ old) ]
-        | inr new ↦ inr (by-duty kind all next ∙ some_at (λ d. at (minutes_of (spans_of kind d)) next) all c.loop-duty.duty-index c.duty-item.result here new)
+        | inl same ↦ elim c.loop-duty.invariant.stops
+            [ inl done ↦ inl (same ∙ done) | inr old ↦ inr (ap (at (minutes_in kind all)) same ∙ old) ]
+        | inr new ↦ inr (by-duty kind all next ∙ some_at
+            (λ d. at (minutes_of (spans_of kind d)) next) all c.loop-duty.duty-index c.duty-item.result here new)
       ];
     }
 
@@ -28,5 +32,7 @@ returns-clause-clear c first i l h =
     let kind = c.args.kind in
     let all = c.args.duties.now in
     let whole = some_all (λ d. at (minutes_of (spans_of kind d)) i) all c.loop-duty.duty-index (omega arith) in
-    let whole_first = some_all (λ d. at (minutes_of (spans_of kind d)) c.args.minute) all c.loop-duty.duty-index (omega arith) in
-    by-duty kind all i ∙ sym whole ∙ c.loop-duty.invariant.clear (whole_first ∙ sym (by-duty kind all c.args.minute) ∙ first) i l h
+    let whole_first = some_all (λ d. at (minutes_of (spans_of kind d)) c.args.minute) all c.loop-duty.duty-index
+        (omega arith) in
+    by-duty kind all i ∙ sym whole ∙ c.loop-duty.invariant.clear
+        (whole_first ∙ sym (by-duty kind all c.args.minute) ∙ first) i l h

@@ -9,6 +9,7 @@ abbrev pub invariant-loop-duty : goal.invariant-loop-duty
 invariant-loop-duty l = record {
   after : l.minute < l.next;
   within : l.next ≤ l.limit;
-  clear : Clear (λ i. list_any (λ d. at (minutes_of (spans_of l.kind d)) i) (take l.duty-index l.duties)) l.minute l.next;
+  clear : Clear (λ i. list_any (λ d. at (minutes_of (spans_of l.kind d)) i) (take l.duty-index l.duties)) l.minute
+      l.next;
   stops : (l.next ≡ l.limit) ⊎ (at (minutes_in l.kind l.duties) l.next ≡ true);
 }

@@ -11,5 +11,6 @@ returns-in-ThirtyHours c =
     let set = minutes_in Duty c.args.history.now in
     let from = pos c.args.report -ℤ pos 10_080 in
     let same : c.has_free_run.result ≡ free_run_test set from 10_080 1_800 =
-    same_from_decides c.has_free_run.result (free_run_test set from 10_080 1_800) (rw c.number.ensures.value at c.has_free_run.ensures) (free_run_decides set from 10_080 1_800) in
+    same_from_decides c.has_free_run.result (free_run_test set from 10_080 1_800)
+    (rw c.number.ensures.value at c.has_free_run.ensures) (free_run_decides set from 10_080 1_800) in
     rw c.in-ThirtyHours.is (ap not same)

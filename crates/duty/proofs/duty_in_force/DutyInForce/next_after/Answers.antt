@@ -16,9 +16,13 @@ loop-index-preserved c =
       end = c.loop-index.invariant.end;
       after = e.after;
       within = omega arith;
-      clear = clear_more (λ i. covers (pos i)) spans c.loop-index.index span c.args.minute c.loop-index.next next c.span_at.ensures c.loop-index.invariant.clear e.within (span-clear span c.args.minute next e.first);
+      clear = clear_more (λ i. covers (pos i)) spans c.loop-index.index span c.args.minute c.loop-index.next next
+          c.span_at.ensures c.loop-index.invariant.clear e.within (span-clear span c.args.minute next e.first);
       stops = elim e.stops [
-        | inl same ↦ elim c.loop-index.invariant.stops [ inl done ↦ inl (same ∙ done) | inr here ↦ inr (ap (at (minutes_of spans)) same ∙ here) ]
-        | inr begins ↦ inr (ap (at (minutes_of spans)) begins.0 ∙ some_at (covers (pos span.from)) spans c.loop-index.index span c.span_at.ensures (covers-from span.from span (omega arith) begins.1))
+        | inl same ↦ elim c.loop-index.invariant.stops
+            [ inl done ↦ inl (same ∙ done) | inr here ↦ inr (ap (at (minutes_of spans)) same ∙ here) ]
+        | inr begins ↦ inr (ap (at (minutes_of spans)) begins.0 ∙
+            some_at (covers (pos span.from)) spans c.loop-index.index span c.span_at.ensures
+            (covers-from span.from span (omega arith) begins.1))
       ];
     }
