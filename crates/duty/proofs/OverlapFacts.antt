@@ -29,9 +29,10 @@ shared a b n in_a in_b =
 at_first : (a b : Span) → meets_span a b ≡ true → (covers (pos (max a.from b.from)) a ≡ true) ×
     (covers (pos (max a.from b.from)) b ≡ true)
 at_first a b meets =
-    let l : max a.from b.from < min a.to b.to = ltb-true _ _ meets in
-    (covers-from (max a.from b.from) a (omega arith) (omega arith),
-        covers-from (max a.from b.from) b (omega arith) (omega arith))
+    let l : max a.from b.from < min a.to b.to = ltb-true _ _ meets in (
+      covers-from (max a.from b.from) a (omega arith) (omega arith),
+      covers-from (max a.from b.from) b (omega arith) (omega arith),
+    )
 
 found : (history other : List DutyInForce) → overlaps history other ≡ true → Overlap history other
 found history other is =

@@ -16,7 +16,7 @@ use super::year_limit::FlightTime365Days;
 use duty::History;
 use std::alloc::Global;
 use std::marker::Model;
-use time117::MemoryFault;
+use values::MemoryFault;
 
 /// The sections whose limits new duties break. Contracts see their list, in the order of [`Section`].
 #[derive(Drop)]

@@ -56,7 +56,7 @@ impl DutyTest for IsOverTableB {
 
     fn passes(&self, duty: &DutyInForce) -> bool {
         match duty {
-            DutyInForce::Fdp(fdp) => { table_b(fdp.start(), fdp.segments().len()) < fdp.length() }
+            DutyInForce::Fdp(fdp) => table_b(fdp.start(), fdp.segments().len()) < fdp.length(),
             DutyInForce::Ground(_) => false,
         }
     }
