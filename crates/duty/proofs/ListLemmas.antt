@@ -1,5 +1,5 @@
 -- Lists, beside the library's lemmas.
-use Rattle.std.proofs.Common.{◌≡◌, ◌≤◌, ◌-◌, ◌∙◌, refl, ap, arith, Bool, true, false, List, [], ◌∷◌, ◌++◌, map, take, drop, length, length-drop, ◌&&◌}
+use Rattle.std.proofs.Common.{◌≡◌, ◌≤◌, ◌-◌, ◌∙◌, refl, ap, arith, Bool, true, false, List, [], ◌∷◌, ◌++◌, map, take, length, length-drop, ◌&&◌}
 use Rattle.std.specs.List.{list_all, zip}
 use Rattle.std.proofs.lemmas.List.Folds.{list_all-map}
 use Rattle.duty.specs.Words.{each_next, last_of}

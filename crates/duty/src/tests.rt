@@ -1,4 +1,6 @@
 //! What no clause says: that the constructors succeed, each fault in its place, and the texts.
+ghost use Rattle.std.specs.Prelude.{◌≤◌};
+
 use super::{
     Actual, Airport, BlockTimes, CrewId, DutyFault, Fdp, Field, Flight, Ground, GroundId, Pairing,
     PairingId, Segment, is_plain_text,
@@ -24,18 +26,29 @@ fn segment(
     to: &str,
     block_in: u32,
 ) -> Result<Segment, MemoryFault> {
+    named_segment(alloc, "RB1", (from, block_out), (to, block_in))
+}
+
+fn named_segment(
+    alloc: Global,
+    flight: &str,
+    out: (&str, u32),
+    back: (&str, u32),
+) -> Result<Segment, MemoryFault> {
     Ok(Segment {
-        flight: Flight::new(text(alloc, "RB1")?),
-        from: Airport::new(text(alloc, from)?),
-        block_out: at(block_out),
-        to: Airport::new(text(alloc, to)?),
-        block_in: at(block_in),
+        flight: Flight::new(text(alloc, flight)?),
+        from: Airport::new(text(alloc, out.0)?),
+        block_out: at(out.1),
+        to: Airport::new(text(alloc, back.0)?),
+        block_in: at(back.1),
     })
 }
 
-/// BOS to IAD and back, from `report` on: 60 to 150 and 200 to 290 minutes after the report, which
-/// is 300 minutes before the release.
-fn round_trip(alloc: Global, report: u32) -> Result<Fdp, MemoryFault> {
+/// BOS to IAD and back: 60 to 150 and 200 to 290 minutes after the report, which is 300 minutes
+/// before the release.
+fn round_trip(alloc: Global, report: u32) -> Result<Fdp, MemoryFault>
+    requires { report ≤ 10_000 }
+{
     let mut segments = Vec::new(alloc);
     segments.push(segment(alloc, "BOS", report + 60, "IAD", report + 150)?)?;
     segments.push(segment(alloc, "IAD", report + 200, "BOS", report + 290)?)?;
@@ -43,16 +56,19 @@ fn round_trip(alloc: Global, report: u32) -> Result<Fdp, MemoryFault> {
 }
 
 /// Periods of so many segments of ten minutes each, from BOS to BOS, a day apart.
-fn periods_of(alloc: Global, counts: &[u32]) -> Result<Vec<Fdp>, MemoryFault> {
+fn periods_of(alloc: Global, counts: &[u8]) -> Result<Vec<Fdp>, MemoryFault> {
     let mut periods = Vec::new(alloc);
-    for (day, count) in counts.iter().enumerate() {
-        let report = DAY * day as u32;
+    let mut report: u32 = 0;
+    for count in counts {
         let mut segments = Vec::new(alloc);
-        for place in 0..*count {
-            let block_out = report + 10 * place;
-            segments.push(segment(alloc, "BOS", block_out, "BOS", block_out + 10)?)?;
+        let mut block_out = report;
+        for _ in 0..*count {
+            let block_in = block_out.saturating_add(10);
+            segments.push(segment(alloc, "BOS", block_out, "BOS", block_in)?)?;
+            block_out = block_in;
         }
-        periods.push(Fdp::new(at(report), at(report + 10 * count), Items::new(segments)))?;
+        periods.push(Fdp::new(at(report), at(block_out), Items::new(segments)))?;
+        report = report.saturating_add(DAY);
     }
     Ok(periods)
 }
@@ -61,7 +77,7 @@ fn pairing(alloc: Global, id: &str, periods: Vec<Fdp>) -> Result<Pairing, DutyFa
     Pairing::new(PairingId::new(text(alloc, id)?), periods)
 }
 
-fn pairing_of(alloc: Global, counts: &[u32]) -> Result<Pairing, DutyFault> {
+fn pairing_of(alloc: Global, counts: &[u8]) -> Result<Pairing, DutyFault> {
     pairing(alloc, "P1", periods_of(alloc, counts)?)
 }
 
@@ -76,14 +92,14 @@ fn ground(
     alloc: Global,
     id: &str,
     crew: &str,
-    hours: (u32, u32),
+    minutes: (u32, u32),
     task: &str,
 ) -> Result<Ground, DutyFault> {
     Ground::new(
         GroundId::new(text(alloc, id)?),
         CrewId::new(text(alloc, crew)?),
-        at(60 * hours.0),
-        at(60 * hours.1),
+        at(minutes.0),
+        at(minutes.1),
         text(alloc, task)?,
     )
 }
@@ -121,12 +137,13 @@ fn a_pairing_plans_each_period_at_its_report(rt: HostRuntime) {
     late.planned_report = at(7);
     let first = round_trip(rt.alloc(), 0).expect(&rt, "memory");
     let made = pairing_of_two(rt.alloc(), first, late).expect(&rt, "a pairing");
-    assert_eq!(rt; made.periods()[1].planned_report, at(300));
+    let second = made.periods().last().expect(&rt, "a period");
+    assert_eq!(rt; second.planned_report, at(300));
 }
 
 #[test]
 fn counts_are_from_1_to_10_periods_of_1_to_12_segments(rt: HostRuntime) {
-    let refused: [(&[u32], u8); 6] = [
+    let refused: [(&[u8], u8); 6] = [
         (&[], 0),
         (&[1; 11], 0),
         (&[0], 1),
@@ -210,13 +227,10 @@ fn each_segment_departs_from_where_the_one_before_arrived(rt: HostRuntime) {
 /// One period that is wrong in each way from the given one on: 0 a flight outside its shape, 1 no
 /// segments, 2 times out of order, 3 airports that don't chain.
 fn wrong_from(alloc: Global, first: u32) -> Result<Fdp, MemoryFault> {
+    let flight = if first == 0 { "rb1" } else { "RB1" };
     let mut segments = Vec::new(alloc);
-    let mut wrong = segment(alloc, "BOS", 10, "IAD", 20)?;
-    if first == 0 {
-        wrong.flight = Flight::new(text(alloc, "rb1")?);
-    }
     if first != 1 {
-        segments.push(wrong)?;
+        segments.push(named_segment(alloc, flight, ("BOS", 10), ("IAD", 20))?)?;
         segments.push(segment(alloc, "JFK", 30, "BOS", 40)?)?;
     }
     let release = if first <= 2 { 39 } else { 40 };
@@ -254,7 +268,7 @@ fn shapes_come_before_counts_before_times_before_chains(rt: HostRuntime) {
 
 #[test]
 fn a_ground_duty_has_its_shapes_and_begins_before_it_ends(rt: HostRuntime) {
-    let made = ground(rt.alloc(), "G1", "C1", (12, 20), "Recurrent training");
+    let made = ground(rt.alloc(), "G1", "C1", (720, 1_200), "Recurrent training");
     let made = made.expect(&rt, "a ground duty");
     assert!(rt; made.id().as_str() == "G1" && made.crew().as_str() == "C1");
     assert_eq!(rt; (made.begin(), made.end()), (at(720), at(1_200)));
@@ -315,7 +329,7 @@ fn an_actual_replaces_the_times_and_not_the_planned_report(rt: HostRuntime) {
         (flown.planned_report, flown.report, flown.release),
         (at(0), at(30), at(345))
     );
-    let back = &flown.segments.as_slice()[1];
+    let back = flown.segments.as_slice().last().expect(&rt, "a segment");
     assert!(rt; flown.segments.as_slice().len() == 2);
     assert_eq!(rt; (back.block_out, back.block_in), (at(240), at(330)));
     assert!(rt; back.from.as_str() == "IAD" && back.to.as_str() == "BOS");
