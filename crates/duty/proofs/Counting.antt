@@ -136,7 +136,7 @@ count-before set none end width =
     let e : pos end -ℤ pos width +ℤ pos width ≡ pos end = omega (arith, ints) in
     let at_end : low set (pos end -ℤ pos width +ℤ pos width) ≡ below (λ n. set (pos n)) end = ap (low set) e in
     let at_start : low set (pos end -ℤ pos width) ≡ below (λ n. set (pos n)) (end - width) =
-        ap (below (λ n. set (pos n))) (natural-back end width) in
+    ap (below (λ n. set (pos n))) (natural-back end width) in
     omega arith
 
 -- a window that reaches a natural minute ends at a natural one
@@ -144,8 +144,12 @@ pub window_end :
     (start : ℤ) (width minute : ℕ) → start ≤ℤ pos minute → pos minute <ℤ (start +ℤ pos width) →
     (end : ℕ) × (start ≡ pos end -ℤ pos width) × (minute < end) × (end ≤ minute + width)
 window_end (pos n) width minute from to = (n + width, omega (arith, ints), omega (arith, ints), omega (arith, ints))
-window_end (negsuc n) width minute from to = (width - suc n, omega (arith, ints), omega (arith, ints),
-    omega (arith, ints))
+window_end (negsuc n) width minute from to = (
+  width - suc n,
+  omega (arith, ints),
+  omega (arith, ints),
+  omega (arith, ints),
+)
 
 -- the count over a window between two natural minutes
 pub count-between :
@@ -186,12 +190,20 @@ pub meets_or_free : (set : ℤ → Bool) (start : ℤ) (width : ℕ) → Meets s
 meets_or_free set start zero = inr (count-none set start)
 meets_or_free set start (suc width) =
     elim (cases_Bool (set start)) [
-      | inl is ↦ inl (record { minute = start; from_start = omega (arith, ints); before_end = omega (arith, ints);
-          member = is })
+      | inl is ↦ inl (record {
+        minute = start;
+        from_start = omega (arith, ints);
+        before_end = omega (arith, ints);
+        member = is;
+      })
       | inr is ↦ elim (meets_or_free set (start +ℤ pos 1) width) [
         | inl m ↦ (let from = m.from_start in let to = m.before_end in
-            inl (record { minute = m.minute; from_start = omega (arith, ints); before_end = omega (arith, ints);
-                member = m.member }))
+            inl (record {
+              minute = m.minute;
+              from_start = omega (arith, ints);
+              before_end = omega (arith, ints);
+              member = m.member;
+            }))
         | inr free ↦ (let more = count-more set start width in inr (rw (more, is, free) refl))
       ]
     ]

@@ -27,7 +27,7 @@ found_at :
 found_at set none end width length last within from free =
     let first : ℕ = last - length in
     let same : below (at set) last ≡ below (at set) first =
-        below-empty (at set) first last (omega arith) (λ i l h. free i h (omega arith)) in
+    below-empty (at set) first last (omega arith) (λ i l h. free i h (omega arith)) in
     let held = count-before set none last length in
     record {
       start = pos last -ℤ pos length;
@@ -56,7 +56,7 @@ begun set end width length some short = record {
 
 pub over_duty :
     (set : ℕ → Bool) (end width length minute run next : ℕ) → IsSwept set end width length minute run → 0 < length →
-        minute < next → next ≤ end →
+    minute < next → next ≤ end →
     ((i : ℕ) → minute ≤ i → i < next → set i ≡ true) → IsSwept set end width length next 0
 over_duty set end width length minute run next swept some later within full = record {
   within = within;
@@ -72,16 +72,19 @@ over_duty set end width length minute run next swept some later within full = re
 
 pub over_free :
     (set : ℕ → Bool) (end width length minute run next : ℕ) → IsSwept set end width length minute run →
-        minute < next → next ≤ end →
+    minute < next → next ≤ end →
     ((i : ℕ) → minute ≤ i → i < next → set i ≡ false) → run + (next - minute) < length →
-        IsSwept set end width length next (run + (next - minute))
+    IsSwept set end width length next (run + (next - minute))
 over_free set end width length minute run next swept later within clear short = record {
   within = within;
   from_start = (let f = swept.from_start in omega arith);
   short = short;
   free = λ i h l. elim (cases_lt i minute) [ inl old ↦ swept.free i old (omega arith) | inr new ↦ clear i new h ];
-  longest = elim swept.longest [ inl whole ↦ inl (omega arith) | inr hit ↦
-      inr (hit.0, (let e = hit.1 in omega arith), hit.2) ];
+  longest = elim swept.longest [
+    | inl whole ↦ inl (omega arith)
+    | inr hit ↦
+        inr (hit.0, (let e = hit.1 in omega arith), hit.2)
+  ];
   none = λ last l h. elim (cases_lt minute last) [
     | inl new ↦ elim swept.longest [
       | inl whole ↦ absurd (omega arith)
@@ -93,15 +96,18 @@ over_free set end width length minute run next swept later within clear short = 
 
 pub free_found :
     (set : ℤ → Bool) (none : (n : ℕ) → set (negsuc n) ≡ false) (end width length minute run next : ℕ) →
-        IsSwept (at set) end width length minute run →
+    IsSwept (at set) end width length minute run →
     minute < next → next ≤ end → ((i : ℕ) → minute ≤ i → i < next → at set i ≡ false) → length ≤ run + (next - minute) →
     HasFreeRun set (pos end -ℤ pos width) width length
 free_found set none end width length minute run next swept later within clear long =
     let short = swept.short in
     let from = swept.from_start in
     found_at set none end width length (minute + (length - run)) (omega arith) (omega arith)
-    (λ i h l. elim (cases_lt i minute) [ inl old ↦ swept.free i old (omega arith) | inr new ↦
-        clear i new (omega arith) ])
+    (λ i h l. elim (cases_lt i minute) [
+      | inl old ↦ swept.free i old (omega arith)
+      | inr new ↦
+          clear i new (omega arith)
+    ])
 
 -- where a run that ends at `last` would be free, no member hits it
 no_hit : (set : ℕ → Bool) (first last length : ℕ) → below set first ≡ below set last → last ≤ first + length →
@@ -111,15 +117,15 @@ no_hit set first last length same l hit inside =
 
 none_from :
     (set : ℤ → Bool) (none : (n : ℕ) → set (negsuc n) ≡ false) (end width length run : ℕ) (start : ℤ) →
-        IsSwept (at set) end width length end run →
+    IsSwept (at set) end width length end run →
     (pos end -ℤ pos width) ≤ℤ start → (start +ℤ pos length) ≤ℤ (pos end -ℤ pos width +ℤ pos width) →
-        count set start length ≡ 0 → ⊥
+    count set start length ≡ 0 → ⊥
 none_from set none end width length run (pos n) swept from to free =
     let all = count-below set none (pos n) length in
     let within : n + length ≤ end = omega (arith, ints) in
     let inside : end + length ≤ n + length + width = omega (arith, ints) in
     no_hit (at set) n (n + length) length (omega arith) (omega arith) (swept.none (n + length) within inside)
-        (λ i h l. omega arith)
+    (λ i h l. omega arith)
 none_from set none end width length run (negsuc n) swept from to free =
     let all = count-below set none (negsuc n) length in
     let last : ℕ = length - suc n in
@@ -132,7 +138,7 @@ none_from set none end width length run (negsuc n) swept from to free =
 -- at the end of the sweep there is no such run
 pub swept_none :
     (set : ℤ → Bool) (none : (n : ℕ) → set (negsuc n) ≡ false) (end width length run : ℕ) →
-        IsSwept (at set) end width length end run →
+    IsSwept (at set) end width length end run →
     HasFreeRun set (pos end -ℤ pos width) width length → ⊥
 swept_none set none end width length run swept has =
     none_from set none end width length run has.start swept has.from_start has.to_end has.free
@@ -182,8 +188,13 @@ run_found set from width length is =
     let r = upto_some test (width - length) a.1 in
     let k : ℕ = r.0 in
     let within : k ≤ width - length = r.1 in
-    record { start = from +ℤ pos k; from_start = omega (arith, ints); to_end = omega (arith, ints); free =
-        eqb-true _ _ r.2 }
+    record {
+      start = from +ℤ pos k;
+      from_start = omega (arith, ints);
+      to_end = omega (arith, ints);
+      free =
+          eqb-true _ _ r.2;
+    }
 
 run_tested : (set : ℤ → Bool) (from : ℤ) (width length : ℕ) → HasFreeRun set from width length →
     free_run_test set from width length ≡ true
@@ -193,7 +204,7 @@ run_tested set from width length has =
     let free : count set (from +ℤ pos p.0) length ≡ 0 = ap (λ s. count set s length) (sym p.1) ∙ has.free in
     let fits : p.0 + length ≤ width = p.2 in
     and_from _ _ (le-leb _ _ (omega arith)) (upto_from (λ k. eqb (count set (from +ℤ pos k) length) 0)
-        (width - length) p.0 (omega arith) (eq-eqb _ _ free))
+    (width - length) p.0 (omega arith) (eq-eqb _ _ free))
 
 pub free_run_decides : (set : ℤ → Bool) (from : ℤ) (width length : ℕ) → (free_run_test set from width length ≡ true) ↔
     HasFreeRun set from width length

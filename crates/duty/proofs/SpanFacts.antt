@@ -48,8 +48,11 @@ span-clear s from next begins first i l h =
     elim (cases_lt from s.from) [
       | inl later ↦ elim (cases_lt s.from s.to) [
         | inl some ↦ (let b = begins later some in covers-before i s (omega arith))
-        | inr none ↦ elim (cases_lt i s.from) [ inl low ↦ covers-before i s low | inr high ↦
-            covers-past i s (omega arith) ]
+        | inr none ↦ elim (cases_lt i s.from) [
+          | inl low ↦ covers-before i s low
+          | inr high ↦
+              covers-past i s (omega arith)
+        ]
       ]
       | inr sooner ↦ elim (cases_lt from s.to) [
         | inl inside ↦ absurd (false≢true (sym first ∙ covers-from from s sooner inside))

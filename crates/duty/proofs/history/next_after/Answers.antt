@@ -13,7 +13,7 @@ loop-duty-preserved c =
     let e = c.next_after-next.ensures in
     let next = c.next_after-next.result in
     let here = slice_get_read all (length all) c.loop-duty.duty-index c.duty-item.result refl
-        (omega arith) c.duty-item.is in
+    (omega arith) c.duty-item.is in
     record {
       after = e.after;
       within = omega arith;
@@ -33,6 +33,6 @@ returns-clause-clear c first i l h =
     let all = c.args.duties.now in
     let whole = some_all (λ d. at (minutes_of (spans_of kind d)) i) all c.loop-duty.duty-index (omega arith) in
     let whole_first = some_all (λ d. at (minutes_of (spans_of kind d)) c.args.minute) all c.loop-duty.duty-index
-        (omega arith) in
+    (omega arith) in
     by-duty kind all i ∙ sym whole ∙ c.loop-duty.invariant.clear
-        (whole_first ∙ sym (by-duty kind all c.args.minute) ∙ first) i l h
+    (whole_first ∙ sym (by-duty kind all c.args.minute) ∙ first) i l h

@@ -11,10 +11,10 @@ returns-then-any_span_of g c =
     let spans = spans_of c.args.kind in
     let all = c.args.duties.now in
     let here = slice_get_read all (length all) c.loop-duty.duty-index c.duty-item.result refl
-        (omega arith) c.duty-item.is in
+    (omega arith) c.duty-item.is in
     sym (list_any-flat_map test spans all ∙ some_at
-        (λ d. list_any test (spans d)) all c.loop-duty.duty-index c.duty-item.result here
-        (sym c.any_span_of.ensures ∙ c.if-any_span_of.true))
+    (λ d. list_any test (spans d)) all c.loop-duty.duty-index c.duty-item.result here
+    (sym c.any_span_of.ensures ∙ c.if-any_span_of.true))
 
 pub returns : goal.returns
 returns g c =
@@ -22,4 +22,4 @@ returns g c =
     let spans = spans_of c.args.kind in
     let all = c.args.duties.now in
     sym (list_any-flat_map test spans all ∙ none_all (λ d. list_any test (spans d)) all c.loop-duty.duty-index
-        (omega arith) c.loop-duty.invariant)
+    (omega arith) c.loop-duty.invariant)

@@ -6,8 +6,8 @@ use Rattle.duty.proofs.scan.any_span_of.Goals as goal
 pub returns-then-passes : goal.returns-then-passes
 returns-then-passes g c =
     sym (some_at (g.T.SpanTest.passes c.args.test.now)
-        (spans_of c.args.kind c.args.duty.now) c.loop-index.index c.span_at.result c.span_at.ensures
-        (sym c.passes.ensures ∙ c.if-passes.true))
+    (spans_of c.args.kind c.args.duty.now) c.loop-index.index c.span_at.result c.span_at.ensures
+    (sym c.passes.ensures ∙ c.if-passes.true))
 
 pub loop-index-preserved : goal.loop-index-preserved
 loop-index-preserved g c = record {

@@ -9,7 +9,7 @@ use Rattle.duty.proofs.duty_in_force.DutyInForce.covered_from.Goals.{else-number
 pub returns-then-minute-end-clause-covered : goal.returns-then-minute-end-clause-covered
 returns-then-minute-end-clause-covered c i l h =
     covered_at (spans_of c.args.kind c.args.self.now) c.loop-index.index c.span_at-span.result c.args.minute
-        c.span_at-span.ensures (omega arith) i l (omega arith)
+    c.span_at-span.ensures (omega arith) i l (omega arith)
 
 pub loop-index-preserved : goal.loop-index-preserved
 loop-index-preserved c =

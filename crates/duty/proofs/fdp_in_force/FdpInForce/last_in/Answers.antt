@@ -6,4 +6,4 @@ pub returns-in-Some : goal.returns-in-Some
 returns-in-Some c =
     let is = rw c.deref.ensures.value at c.in-Some.ensures.value in
     rw (← c.self.view_is) (sym (last_in-last c.self.inside.report c.self.inside.segments.items c.in-Some.segment.now
-        (sym is)))
+    (sym is)))
