@@ -1,12 +1,12 @@
 -- Two histories overlap exactly where two of their spans share a minute.
-use Rattle.std.proofs.Common.{◌≡◌, ℕ, ◌<◌, ◌≤◌, Bool, true, List, [], ◌∷◌, ◌↔◌, sym, ap, ◌∙◌, arith, inl, inr}
+use Rattle.std.proofs.Common.{◌≡◌, ℕ, ◌<◌, Bool, true, List, [], ◌∷◌, ◌↔◌, sym, ◌∙◌, arith, inl, inr}
 use Rattle.std.specs.Prelude.{max, min, pos, negsuc, ℤ}
 use Rattle.std.specs.List.{list_any, flat_map}
-use Rattle.std.proofs.lemmas.Bool.{false≢true, cases_lt, or_left, or_right, or_cases, ltb-true, lt-ltb}
+use Rattle.std.proofs.lemmas.Bool.{false≢true, or_left, or_right, or_cases, ltb-true, lt-ltb}
 use Rattle.duty.specs.declared.span.Span.{Span}
 use Rattle.duty.specs.declared.duty_in_force.DutyInForce.{DutyInForce}
 use Rattle.duty.specs.declared.kind.Kind.TheVariants.{Duty}
-use Rattle.duty.specs.Minutes.{covers, minutes_of, minutes_in, spans_of, Overlap}
+use Rattle.duty.specs.Minutes.{covers, minutes_in, spans_of, Overlap}
 use Rattle.duty.specs.Overlaps.{meets_span, meets_duty, overlaps}
 use Rattle.duty.proofs.SpanFacts.{covers-true, covers-from, no_negative}
 

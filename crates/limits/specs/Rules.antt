@@ -33,7 +33,7 @@ pub record IsOver (width most : ℕ) (all new : ℤ → Bool) : Type 0 where
 abbrev pub FlightTime672Hours : List DutyInForce → List DutyInForce → Type 0
 FlightTime672Hours history new = IsOver 40_320 6_000 (minutes_in Flight history) (minutes_in Flight new)
 
--- some 365 days of UTC (117.3) in a row meet a minute of `new` and hold more than `most` minutes of `all`
+-- some 365 days of UTC (117.3) in a row, from the first minute of one, meet a minute of `new` and hold more than `most` minutes of `all`
 pub record IsYearOver (most : ℕ) (all new : ℤ → Bool) : Type 0 where
   pub day : ℤ
   pub meets : Meets new (day *ℤ pos 1_440) 525_600
@@ -51,11 +51,12 @@ FlightDutyPeriods168Hours history new = IsOver 10_080 3_600 (minutes_in FlightDu
 abbrev pub FlightDutyPeriods672Hours : List DutyInForce → List DutyInForce → Type 0
 FlightDutyPeriods672Hours history new = IsOver 40_320 11_400 (minutes_in FlightDuty history) (minutes_in FlightDuty new)
 
--- a flight duty period is new, or the `width` minutes before the report of an old one meet a new duty minute
+-- a flight duty period is new, or it is one of the history and the `width` minutes before its report meet a new duty
+-- minute
 abbrev pub IsTouched : List DutyInForce → List DutyInForce → FdpTimes → ℕ → Type 0
 IsTouched history new fdp width =
-    Contains new (Fdp fdp) ⊎ (Contains history (Fdp fdp) ×
-    Meets (minutes_in Duty new) (pos fdp.report -ℤ pos width) width)
+    Contains new (Fdp fdp) ⊎
+    (Contains history (Fdp fdp) × Meets (minutes_in Duty new) (pos fdp.report -ℤ pos width) width)
 
 -- 117.25(b): in the 168 hours before a report no 30 hours in a row are free from all duty
 pub record ThirtyHourRest (history new : List DutyInForce) : Type 0 where

@@ -79,7 +79,8 @@ struct IsSpoilt<'a> {
 impl DutyTest for IsSpoilt<'_> {
     ghost use Rattle.limits.specs.Laws.Tests.{by_report, is_spoilt};
 
-    ghost passes = { λ test duty. by_report (is_spoilt test.rest test.history.now test.new.now) duty };
+    ghost passes = { λ test duty.
+        by_report (is_spoilt test.rest test.history.now test.new.now) duty };
 
     fn passes(&self, duty: &DutyInForce) -> bool {
         match duty {

@@ -1,8 +1,7 @@
 -- Sets of minutes of which one is part of another, or two together are a third.
 use Rattle.std.proofs.Common.{◌≡◌, ℕ, zero, suc, ◌+◌, ◌≤◌, Bool, true, false, List, refl, sym, ap, ◌∙◌, arith, inl, inr, ◌⊎◌}
 use Rattle.std.specs.Prelude.{ℤ, pos, ◌+ℤ◌}
-use Rattle.std.specs.List.{list_any, flat_map, Contains}
-use Rattle.std.proofs.lemmas.Bool.{cases_Bool}
+use Rattle.std.specs.List.{list_any, Contains}
 use Rattle.std.proofs.lemmas.List.Folds.{Any-from_list_any, list_any_at}
 use Rattle.duty.specs.declared.duty_in_force.DutyInForce.{DutyInForce}
 use Rattle.duty.specs.declared.kind.Kind.{Kind}
