@@ -4,6 +4,6 @@
 #[cfg(test)]
 mod command_line;
 #[cfg(test)]
-mod duty;
-#[cfg(test)]
 mod shut;
+#[cfg(test)]
+mod verdicts;
