@@ -3,15 +3,21 @@
 #![tactic(auto)]
 
 mod copied;
+mod edit;
 mod exact;
 mod items;
 mod memory_fault;
+mod named;
+mod table;
 #[cfg(test)]
 mod tests;
 mod text;
 
 pub use copied::Copied;
+pub use edit::Edit;
 pub use exact::Exact;
 pub use items::Items;
 pub use memory_fault::MemoryFault;
+pub use named::Named;
+pub use table::Table;
 pub use text::Text;

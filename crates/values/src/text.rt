@@ -9,6 +9,7 @@ ghost use Rattle.std.proofs.Common.{rules};
 use crate::copied::Copied;
 use crate::exact::Exact;
 use crate::memory_fault::MemoryFault;
+use crate::named::Named;
 use std::alloc::Global;
 use std::cmp::Ordering;
 use std::marker::Model;
@@ -92,4 +93,12 @@ impl Exact for Text {
     ghost use Rattle.std.proofs.lemmas.Slice.Eq.{bytes_eq-Decides};
 
     ghost exact = { bytes_eq-Decides };
+}
+
+impl Named for Text {
+    ghost use Rattle.std.specs.Prelude.{refl};
+
+    ghost name = { λ text. text };
+
+    ghost same_order = { λ _ _. refl };
 }

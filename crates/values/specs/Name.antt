@@ -1,0 +1,19 @@
+-- Maps under names: a name is a list of numbers, as the bytes of a text.
+use Rattle.std.specs.Prelude.{ℕ, List, map}
+use Rattle.std.specs.declared.cmp.Ordering.{Ordering}
+use Rattle.std.specs.Ordering.{nat_cmp}
+use Rattle.std.specs.Cmp.Lexicographic.{slice_cmp}
+use Rattle.std.specs.FinMap.{FinMap, get, insert}
+use Rattle.std.specs.Option.{option_map, unwrap_or}
+
+-- names in order: by their first numbers that differ, and a name before those that it begins
+abbrev pub name_cmp : List ℕ → List ℕ → Ordering
+name_cmp = slice_cmp nat_cmp
+
+-- rows of keys and values, each under the name of its key
+abbrev pub rows_of : {K V : Type 0} → (K → List ℕ) → List (K × V) → List (List ℕ × V)
+rows_of name rows = map (λ row. (name row.0, row.1)) rows
+
+-- a map with the value under a name changed, if it has one there
+abbrev pub changed_at : {V : Type 0} → FinMap name_cmp V → List ℕ → (V → V) → FinMap name_cmp V
+changed_at m name change = unwrap_or (option_map (λ value. insert m name (change value)) (get m name)) m

@@ -1,0 +1,114 @@
+ghost use Rattle.std.specs.Prelude.{◌≡◌, OnOk, OnErr};
+ghost use Rattle.std.specs.Option.{option_copied};
+ghost use Rattle.std.specs.FinMap as map;
+ghost use Rattle.std.specs.Coded.{coded_list, coded_ℕ};
+ghost use Rattle.values.specs.Name.{name_cmp, rows_of, changed_at};
+
+use crate::copied::Copied;
+use crate::edit::Edit;
+use crate::memory_fault::MemoryFault;
+use crate::named::Named;
+use std::alloc::Global;
+use std::collections::BTreeMap;
+use std::collections::btree_map::Iter;
+use std::marker::Model;
+
+/// Values under keys, in the keys' order, seen by contracts as the map of the values under the
+/// keys' names.
+#[derive(Drop)]
+pub struct Table<K: Named, V> {
+    rows: BTreeMap<K, V>,
+}
+
+impl<K: Named, V> Model for Table<K, V> {
+    ghost Value = { map.FinMap name_cmp V };
+
+    ghost coded = { map.code (coded_list coded_ℕ) V.code };
+
+    ghost view = { λ table. map.from_entries (rows_of K.name table.rows.entries) };
+}
+
+impl<K: Named, V> Table<K, V> {
+    /// A table of nothing.
+    pub fn new(alloc: Global) -> Table<K, V>
+        ensures { result ≡ map.empty }
+    {
+        Table {
+            rows: BTreeMap::new(alloc),
+        }
+    }
+
+    /// How many keys there are.
+    pub fn len(&self) -> usize
+        ensures { result ≡ map.len self.now }
+    {
+        self.rows.len()
+    }
+
+    /// The value of a key.
+    pub fn get(&self, key: &K) -> Option<&V>
+        ensures { option_copied result ≡ map.get self.now (K.name key.now) }
+    {
+        self.rows.get(key)
+    }
+
+    /// Whether a key is there.
+    pub fn contains(&self, key: &K) -> bool
+        ensures { result ≡ map.contains_key self.now (K.name key.now) }
+    {
+        self.rows.contains_key(key)
+    }
+
+    /// The keys with their values, in the keys' order.
+    pub fn iter(&self) -> Iter<'_, K, V>
+        ensures { rows_of K.name result ≡ map.entries self.now }
+    {
+        self.rows.iter()
+    }
+
+    /// Changes the value of a key in its place, if the key is there.
+    pub fn edit<E: Edit<V>>(&mut self, key: &K, edit: E)
+        ensures { self.new ≡ changed_at self.old (K.name key.now) (E.edited edit) }
+    {
+        if let Some(value) = self.rows.get_mut(key) {
+            edit.edit(value);
+        }
+    }
+}
+
+impl<K: Named + Drop, V: Drop> Table<K, V> {
+    /// Gives a key this value, whether the key is there or new.
+    pub fn insert(&mut self, key: K, value: V) -> Result<(), MemoryFault>
+        ensures ok { OnOk result (self.new ≡ map.insert self.old (K.name key) value) }
+        ensures err { OnErr result (self.new ≡ self.old) }
+    {
+        let _before = self.rows.insert(key, value)?;
+        Ok(())
+    }
+
+    /// Gives a key this value, if the key is there; it takes no memory.
+    pub fn replace(&mut self, key: &K, value: V)
+        ensures { self.new ≡ changed_at self.old (K.name key.now) (λ _. value) }
+    {
+        if let Some(before) = self.rows.get_mut(key) {
+            *before = value;
+        }
+    }
+
+    /// Takes a key out, with its value.
+    pub fn remove(&mut self, key: &K)
+        ensures { self.new ≡ map.remove self.old (K.name key.now) }
+    {
+        let _before = self.rows.remove(key);
+    }
+}
+
+impl<K: Named + Copied, V: Copied> Copied for Table<K, V> {
+    fn copy(&self, alloc: Global) -> Result<Table<K, V>, MemoryFault> {
+        let mut copy = Table::new(alloc);
+        for (key, value) in self.iter() {
+            copy.insert(key.copy(alloc)?, value.copy(alloc)?)?;
+        }
+        Ok(copy)
+    }
+}
