@@ -1,7 +1,7 @@
 ghost use Rattle.std.specs.Prelude.{◌≡◌, ◌≤◌, ◌⊎◌, length, map, Ok, Err, IfOk, IfErr};
 ghost use Rattle.std.specs.List.{zip};
 ghost use Rattle.duty.specs.Pairings.{is_in_order, block_times, with_actual};
-ghost use Rattle.duty.specs.Plans.{retimed};
+ghost use Rattle.duty.specs.Plans.{in_force, retimed};
 ghost use Rattle.duty.specs.declared.fault.DutyFault.TheVariants.{Memory};
 
 use crate::actual::Actual;
@@ -52,11 +52,18 @@ impl Fdp {
         ensures value { IfOk result (λ f. with_actual self.now actual.now ≡ Ok f) }
         ensures refused { IfErr result (λ fault. (fault ≡ Memory) ⊎ (with_actual self.now actual.now ≡ Err fault)) }
     {
-        let segments = self.segments.as_slice();
-        if segments.len() != actual.segments().len() {
+        if self.segments.as_slice().len() != actual.segments().len() {
             return Err(DutyFault::SegmentCount(actual.period()));
         }
-        let flown = retimed(alloc, segments, actual.segments())?;
+        Ok(self.flown(alloc, actual)?)
+    }
+
+    /// This period with the times when it was flown, segment by segment as far as both have segments; the planned report
+    /// stays.
+    pub fn flown(&self, alloc: Global, actual: &Actual) -> Result<Fdp, MemoryFault>
+        ensures { IfOk result (λ f. f ≡ in_force self.now actual.now) }
+    {
+        let flown = retimed(alloc, self.segments.as_slice(), actual.segments())?;
         Ok(Fdp {
             planned_report: self.planned_report,
             report: actual.report(),

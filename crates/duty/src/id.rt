@@ -11,7 +11,7 @@ use crate::thing::Shaped;
 use std::alloc::Global;
 use std::cmp::Ordering;
 use std::marker::{Model, PhantomData};
-use values::{Copied, Exact, MemoryFault, Text};
+use values::{Copied, Exact, MemoryFault, Named, Text};
 
 /// The id of a crew member.
 pub type CrewId = Id<thing::Crew>;
@@ -120,4 +120,12 @@ impl<T> Exact for Id<T> {
     ghost use Rattle.std.proofs.lemmas.Slice.Eq.{bytes_eq-Decides};
 
     ghost exact = { bytes_eq-Decides };
+}
+
+impl<T> Named for Id<T> {
+    ghost use Rattle.std.specs.Prelude.{refl};
+
+    ghost name = { λ id. id };
+
+    ghost same_order = { λ a b. refl };
 }

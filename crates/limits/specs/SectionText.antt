@@ -12,3 +12,14 @@ section_text FlightDutyPeriods168Hours = codes "117.23(c)(1)"
 section_text FlightDutyPeriods672Hours = codes "117.23(c)(2)"
 section_text ThirtyHourRest = codes "117.25(b)"
 section_text TenHourRest = codes "117.25(e)"
+
+-- their numbers, in the order in which they are listed
+abbrev pub section_number : Section → ℕ
+section_number FlightTime = 1
+section_number FlightDutyPeriod = 2
+section_number FlightTime672Hours = 3
+section_number FlightTime365Days = 4
+section_number FlightDutyPeriods168Hours = 5
+section_number FlightDutyPeriods672Hours = 6
+section_number ThirtyHourRest = 7
+section_number TenHourRest = 8

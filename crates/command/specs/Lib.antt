@@ -1,0 +1,5 @@
+pub mod Keys
+pub mod OrderSame
+pub mod Orders
+pub mod SeatSame
+pub mod Texts

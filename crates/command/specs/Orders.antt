@@ -1,0 +1,39 @@
+-- Which orders are refused before the book looks at them, and with which fault. Shapes of texts come first, in the order
+-- of the fields.
+use Rattle.std.specs.Prelude.{not, List, [], ◌∷◌, Option}
+use Rattle.std.specs.Str.{bytes_eq}
+use Rattle.duty.specs.Pairings.{pairing_fault, ground_fault, actual_fault}
+use Rattle.duty.specs.Shape.{is_id, is_plain_text}
+use Rattle.duty.specs.Words.{first_fault, unless}
+use Rattle.duty.specs.declared.fault.DutyFault.{DutyFault}
+use Rattle.duty.specs.declared.fault.DutyFault.TheVariants.{BadField}
+use Rattle.duty.specs.declared.fault.Field.TheVariants as field
+use Rattle.command.specs.declared.order.Order.{Order}
+use Rattle.command.specs.declared.order.Order.TheVariants.{AddCrew, AddPairing, CancelPairing, Assign, Release, Swap, AddGround, CancelGround, Actual}
+use Rattle.command.specs.declared.order.Swap as swap
+
+-- shapes of the four ids, then a pairing or a member swapped with itself
+unfoldable pub swap_fault : swap.Swap → Option DutyFault
+swap_fault w =
+    first_fault (unless (is_id w.pairing) (BadField field.Pairing)
+    ∷ unless (is_id w.crew) (BadField field.Crew)
+    ∷ unless (is_id w.other_pairing) (BadField field.OtherPairing)
+    ∷ unless (is_id w.other_crew) (BadField field.OtherCrew)
+    ∷ unless (not (bytes_eq w.pairing w.other_pairing)) (BadField field.OtherPairing)
+    ∷ unless (not (bytes_eq w.crew w.other_crew)) (BadField field.OtherCrew)
+    ∷ [])
+
+unfoldable pub order_fault : Order → Option DutyFault
+order_fault (AddCrew id member) =
+    first_fault (unless (is_id id) (BadField field.Crew) ∷ unless (is_plain_text member.name) (BadField field.Name) ∷ [])
+order_fault (AddPairing pairing) = pairing_fault pairing
+order_fault (CancelPairing pairing) = unless (is_id pairing) (BadField field.Pairing)
+order_fault (Assign pairing crew) =
+    first_fault (unless (is_id pairing) (BadField field.Pairing) ∷ unless (is_id crew) (BadField field.Crew) ∷ [])
+order_fault (Release pairing crew) =
+    first_fault (unless (is_id pairing) (BadField field.Pairing) ∷ unless (is_id crew) (BadField field.Crew) ∷ [])
+order_fault (Swap w) = swap_fault w
+order_fault (AddGround g) = ground_fault g
+order_fault (CancelGround id) = unless (is_id id) (BadField field.Ground)
+order_fault (Actual pairing actual) =
+    first_fault (unless (is_id pairing) (BadField field.Pairing) ∷ actual_fault actual ∷ [])

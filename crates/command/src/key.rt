@@ -1,0 +1,63 @@
+ghost use Rattle.std.specs.Prelude.{◌≡◌, ◌≤◌};
+ghost use Rattle.command.specs.Keys.{KeyParts};
+
+use std::marker::Model;
+use values::Named;
+
+/// What a command comes under: the number of its request, from 1 to 9,223,372,036,854,775,807, and its part. A single
+/// command has part 0; part i of an import is its i-th pairing, of at most 10,000. Keys are ordered by number, then part.
+#[derive(Clone, Copy, Debug, PartialEq, Eq, PartialOrd, Ord)]
+pub struct Key {
+    number: u64,
+    part: u16,
+}
+
+impl Model for Key {
+    ghost use Rattle.std.specs.Prelude.{◌≤◌};
+    ghost use Rattle.command.specs.Keys.{KeyParts};
+
+    ghost Value = { KeyParts };
+
+    ghost view = { λ k. record { number = k.number; part = k.part } };
+
+    ghost invariant = { λ k. (1 ≤ k.number) × (k.number ≤ 9_223_372_036_854_775_807) × (k.part ≤ 10_000) };
+
+    ghost inverse = { λ k. record { number = k.number; part = k.part } };
+}
+
+impl Key {
+    /// The key of a request's part.
+    pub fn new(number: u64, part: u16) -> Key
+        requires low { 1 ≤ number }
+        requires high { number ≤ 9_223_372_036_854_775_807 }
+        requires part { part ≤ 10_000 }
+        ensures { let key : KeyParts = record { number = number; part = part } in result ≡ key }
+    {
+        Key { number, part }
+    }
+
+    /// The number of the request.
+    pub fn number(self) -> u64
+        ensures number { result ≡ self.number }
+        ensures low { 1 ≤ result }
+        ensures high { result ≤ 9_223_372_036_854_775_807 }
+    {
+        self.number
+    }
+
+    /// The part of an import, from 1, or 0 of a single command.
+    pub fn part(self) -> u16
+        ensures part { result ≡ self.part }
+        ensures high { result ≤ 10_000 }
+    {
+        self.part
+    }
+}
+
+impl Named for Key {
+    ghost use Rattle.command.specs.Keys.{key_name, keys_order};
+
+    ghost name = { key_name };
+
+    ghost same_order = { keys_order };
+}
