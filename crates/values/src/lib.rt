@@ -12,6 +12,6 @@ mod text;
 
 pub use copied::Copied;
 pub use exact::Exact;
-pub use items::Items;
+pub use items::{Items, copies_of};
 pub use memory_fault::MemoryFault;
 pub use text::Text;
