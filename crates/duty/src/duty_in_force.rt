@@ -5,6 +5,8 @@ ghost use Rattle.duty.specs.Sweeps.{at, IsFull, IsClear};
 use super::fdp_in_force::FdpInForce;
 use super::kind::Kind;
 use super::span::Span;
+use std::alloc::Global;
+use values::{Copied, MemoryFault};
 
 /// A duty of a crew member with its times in force.
 #[derive(Drop)]
@@ -77,5 +79,14 @@ impl DutyInForce {
             next = self.span_at(kind, index).begin_within(minute, next);
         }
         next
+    }
+}
+
+impl Copied for DutyInForce {
+    fn copy(&self, alloc: Global) -> Result<DutyInForce, MemoryFault> {
+        match self {
+            DutyInForce::Fdp(fdp) => Ok(DutyInForce::Fdp(fdp.copy(alloc)?)),
+            DutyInForce::Ground(span) => Ok(DutyInForce::Ground(*span)),
+        }
     }
 }

@@ -2,8 +2,10 @@ ghost use Rattle.std.specs.Prelude.{◌≡◌};
 ghost use Rattle.duty.specs.Minutes.{last_in, fdp_length};
 
 use super::span::Span;
+use std::alloc::Global;
 use std::marker::Model;
 use time117::Minute;
+use values::{Copied, MemoryFault};
 
 /// A flight duty period (14 CFR 117.3) with its times in force: the actual ones where there are any, else the planned
 /// ones. It keeps the acclimated minute of the day of the planned report, by which Tables A and B are entered in
@@ -89,5 +91,16 @@ impl FdpInForce {
         ensures { result ≡ fdp_length self.now }
     {
         self.last_in().number().saturating_sub(self.report.number())
+    }
+}
+
+impl Copied for FdpInForce {
+    fn copy(&self, alloc: Global) -> Result<FdpInForce, MemoryFault> {
+        Ok(FdpInForce {
+            start: self.start,
+            report: self.report,
+            release: self.release,
+            segments: self.segments.as_slice().to_vec(alloc)?,
+        })
     }
 }

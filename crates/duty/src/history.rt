@@ -9,7 +9,7 @@ use super::scan::{SpanTest, any_span};
 use super::span::Span;
 use std::alloc::Global;
 use std::marker::Model;
-use values::MemoryFault;
+use values::{Copied, MemoryFault, copies_of};
 
 /// The duties of a crew member in force, in the order in which they were added. They may overlap.
 #[derive(Drop)]
@@ -118,6 +118,13 @@ impl History {
         ensures minute { IsTrue result ↔ Overlap self.now other.now }
     {
         any_span(self.duties(), Kind::Duty, &MeetsDuty { other })
+    }
+}
+
+impl Copied for History {
+    fn copy(&self, alloc: Global) -> Result<History, MemoryFault> {
+        let duties = copies_of(alloc, self.duties())?;
+        Ok(History { duties })
     }
 }
 

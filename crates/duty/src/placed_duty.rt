@@ -10,7 +10,7 @@ use crate::segment::Segment;
 use crate::span::Span;
 use std::alloc::{AllocError, Global};
 use time117::Zone;
-use values::MemoryFault;
+use values::{Copied, MemoryFault};
 
 /// A duty of a crew member, which a history takes.
 #[derive(Drop)]
@@ -68,4 +68,13 @@ fn spans_of(alloc: Global, segments: &[Segment]) -> Result<Vec<Span>, AllocError
             to: segment.block_in,
         })
         .collect(alloc)
+}
+
+impl Copied for Duty {
+    fn copy(&self, alloc: Global) -> Result<Duty, MemoryFault> {
+        match self {
+            Duty::Fdp(fdp) => Ok(Duty::Fdp(fdp.copy(alloc)?)),
+            Duty::Ground(ground) => Ok(Duty::Ground(ground.copy(alloc)?)),
+        }
+    }
 }

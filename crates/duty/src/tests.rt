@@ -2,11 +2,11 @@
 ghost use Rattle.std.specs.Prelude.{◌≤◌};
 
 use super::{
-    Actual, Airport, BlockTimes, CrewId, DutyFault, Fdp, Field, Flight, Ground, GroundId, Pairing,
-    PairingId, Segment, is_plain_text,
+    Actual, Airport, BlockTimes, CrewId, Duty, DutyFault, DutyInForce, Fdp, FdpInForce, Field,
+    Flight, Ground, GroundId, History, Pairing, PairingId, Segment, Span, is_plain_text,
 };
 use std::alloc::Global;
-use time117::Minute;
+use time117::{Minute, Zone};
 use values::{Copied, Items, MemoryFault, Text};
 
 const DAY: u32 = 1_440;
@@ -337,6 +337,74 @@ fn an_actual_replaces_the_times_and_not_the_planned_report(rt: HostRuntime) {
     let fewer = actual(rt.alloc(), 30, [(90, 180)].as_slice(), 345).expect(&rt, "an actual");
     let fault = plan.with_actual(rt.alloc(), &fewer).err();
     assert_eq!(rt; fault, Some(DutyFault::SegmentCount(2)));
+}
+
+fn is_same_duty(duty: &Duty, other: &Duty) -> bool {
+    match (duty, other) {
+        (Duty::Fdp(fdp), Duty::Fdp(other)) => fdp == other,
+        (Duty::Ground(ground), Duty::Ground(other)) => ground == other,
+        _ => false,
+    }
+}
+
+fn is_same_fdp(fdp: &FdpInForce, other: &FdpInForce) -> bool {
+    fdp.start() == other.start()
+        && fdp.report() == other.report()
+        && fdp.release() == other.release()
+        && fdp.segments() == other.segments()
+}
+
+fn is_same_in_force(duty: &DutyInForce, other: &DutyInForce) -> bool {
+    match (duty, other) {
+        (DutyInForce::Fdp(fdp), DutyInForce::Fdp(other)) => is_same_fdp(fdp, other),
+        (DutyInForce::Ground(span), DutyInForce::Ground(other)) => span == other,
+        _ => false,
+    }
+}
+
+#[test]
+fn a_copy_of_a_duty_is_equal(rt: HostRuntime) {
+    let flying = Duty::Fdp(round_trip(rt.alloc(), 300).expect(&rt, "memory"));
+    let training = ground(rt.alloc(), "G1", "C1", (720, 1_200), "Recurrent training");
+    let training = Duty::Ground(training.expect(&rt, "a ground duty"));
+    for duty in [flying, training] {
+        let copy = duty.copy(rt.alloc()).expect(&rt, "memory");
+        assert!(rt; is_same_duty(&copy, &duty));
+    }
+}
+
+#[test]
+fn a_copy_of_a_duty_in_force_is_equal(rt: HostRuntime) {
+    let utc = Zone::read(rt.alloc(), "UTC0").expect(&rt, "a zone");
+    let plan = round_trip(rt.alloc(), 300).expect(&rt, "memory");
+    let times = plan.in_force(rt.alloc(), &utc).expect(&rt, "memory");
+    let copy = times.copy(rt.alloc()).expect(&rt, "memory");
+    assert!(rt; is_same_fdp(&copy, &times));
+    assert!(rt; copy.start() == 300 && copy.segments().len() == 2);
+    let training = DutyInForce::Ground(Span {
+        from: at(720),
+        to: at(1_200),
+    });
+    for duty in [DutyInForce::Fdp(times), training] {
+        let copy = duty.copy(rt.alloc()).expect(&rt, "memory");
+        assert!(rt; is_same_in_force(&copy, &duty));
+    }
+}
+
+#[test]
+fn a_copy_of_a_history_has_its_duties(rt: HostRuntime) {
+    let utc = Zone::read(rt.alloc(), "UTC0").expect(&rt, "a zone");
+    let flying = Duty::Fdp(round_trip(rt.alloc(), 300).expect(&rt, "memory"));
+    let training = ground(rt.alloc(), "G1", "C1", (720, 1_200), "Recurrent training");
+    let training = Duty::Ground(training.expect(&rt, "a ground duty"));
+    let mut history = History::empty(rt.alloc());
+    for duty in [flying, training] {
+        history.insert(rt.alloc(), duty, &utc).expect(&rt, "memory");
+    }
+    let copy = history.copy(rt.alloc()).expect(&rt, "memory");
+    assert!(rt; copy.duties().len() == 2);
+    let mut pairs = copy.duties().iter().zip(history.duties());
+    assert!(rt; pairs.all(|(duty, other)| is_same_in_force(duty, other)));
 }
 
 #[test]

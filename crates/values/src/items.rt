@@ -45,7 +45,7 @@ impl<T: Copied> Copied for Items<T> {
 }
 
 /// A copy of each value, in turn.
-fn copies_of<T: Copied>(alloc: Global, values: &[T]) -> Result<Vec<T>, MemoryFault>
+pub fn copies_of<T: Copied>(alloc: Global, values: &[T]) -> Result<Vec<T>, MemoryFault>
     ensures { IfOk result (λ copies. copies.items ≡ values.now) }
 {
     let mut copies = Vec::new(alloc);

@@ -16,7 +16,7 @@ mod text;
 pub use copied::Copied;
 pub use edit::Edit;
 pub use exact::Exact;
-pub use items::Items;
+pub use items::{Items, copies_of};
 pub use memory_fault::MemoryFault;
 pub use named::Named;
 pub use table::Table;
