@@ -161,7 +161,7 @@ fn some_year_is_over(all: &History, new: &History) -> bool
 }
 
 /// 117.23(b)(2): at most 1,000 hours of flight time in 365 days of UTC in a row.
-#[derive(Drop)]
+#[derive(Clone, Copy)]
 pub struct FlightTime365Days;
 
 impl Limit for FlightTime365Days {
