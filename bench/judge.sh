@@ -3,7 +3,7 @@
 set -eu
 cd "$(dirname "$(readlink -f "${BASH_SOURCE[0]}")")/../crates/judge_bench"
 rt run >/dev/null 2>&1
-for words in "1 1" "2 1" "2 10" "12 1" "12 10"; do
+for words in "1 1" "2 1" "2 10" "12 1" "12 10" "12 120"; do
     begin=$(date +%s%N)
     # shellcheck disable=SC2086
     said=$(out/judge_bench $words)

@@ -11,8 +11,9 @@ abbrev pub all_sections : List Section
 all_sections = FlightTime ∷ FlightDutyPeriod ∷ FlightTime672Hours ∷ FlightTime365Days ∷ FlightDutyPeriods168Hours ∷
     FlightDutyPeriods672Hours ∷ ThirtyHourRest ∷ TenHourRest ∷ []
 
--- those that the new duties break; `breaks` is true exactly where the section's `Rule` holds (`breaks_is` beside it)
-abbrev pub Broken : List DutyInForce → List DutyInForce → List Section
+-- those that the new duties break; `breaks` is true exactly where the section's `Rule` holds (`breaks_is` beside it), and
+-- a section is in the list exactly there (`broken_is` of Laws/Broken.antt)
+unfoldable pub Broken : List DutyInForce → List DutyInForce → List Section
 Broken history new = filter (λ section. breaks section history new) all_sections
 
 -- each duty of the first list is one of the second

@@ -103,7 +103,7 @@ fn some_lacks_rest(rest: Rest, history: &History, new: &History) -> bool
 
 /// 117.25(b): thirty hours in a row free from all duty in the 168 hours before a report. Besides the new flight duty
 /// periods it looks at each whose 168 hours meet a new duty.
-#[derive(Drop)]
+#[derive(Clone, Copy)]
 pub struct ThirtyHourRest;
 
 impl Limit for ThirtyHourRest {
@@ -126,7 +126,7 @@ impl Limit for ThirtyHourRest {
 
 /// 117.25(e): ten hours free from all duty before a report. Besides the new flight duty periods it looks at each whose
 /// ten hours meet a new duty.
-#[derive(Drop)]
+#[derive(Clone, Copy)]
 pub struct TenHourRest;
 
 impl Limit for TenHourRest {

@@ -19,7 +19,7 @@ use std::marker::Model;
 use values::MemoryFault;
 
 /// The sections whose limits new duties break. Contracts see their list, in the order of [`Section`].
-#[derive(Drop)]
+#[derive(Clone, Copy)]
 pub struct Sections {
     flight_time: bool,
     flight_duty_period: bool,
@@ -37,9 +37,13 @@ impl Model for Sections {
 
     ghost Value = { List Section };
 
-    ghost use Rattle.limits.specs.Laws.Truths.{listed};
+    ghost use Rattle.limits.specs.Laws.Truths.{listed, unlisted, listed_back};
 
     ghost view = { listed };
+
+    ghost inverse = { unlisted };
+
+    ghost inverse_ok = { λ a _. listed_back a };
 }
 
 impl Sections {
@@ -137,6 +141,7 @@ pub fn judge(history: &History, new: &History) -> Sections
 }
 
 /// The same, by the list alone.
+#[tactic(auto, unfolding(crate::specs::Judgement::Broken))]
 fn judged(history: &History, new: &History) -> Sections
     ensures { result ≡ Broken history.now new.now }
 {

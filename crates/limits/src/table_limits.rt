@@ -63,7 +63,7 @@ impl DutyTest for IsOverTableB {
 }
 
 /// 117.11(a)(1): the flight time in a flight duty period, by Table A. It looks at the new duties alone.
-#[derive(Drop)]
+#[derive(Clone, Copy)]
 pub struct FlightTime;
 
 impl Limit for FlightTime {
@@ -85,7 +85,7 @@ impl Limit for FlightTime {
 }
 
 /// 117.13(a): the length of a flight duty period, by Table B. It looks at the new duties alone.
-#[derive(Drop)]
+#[derive(Clone, Copy)]
 pub struct FlightDutyPeriod;
 
 impl Limit for FlightDutyPeriod {

@@ -108,6 +108,19 @@ fn a_new_period_is_held_to_both_tables(rt: HostRuntime) -> Result<(), Fail> {
 }
 
 #[test]
+fn a_copy_of_the_broken_sections_is_equal(rt: HostRuntime) -> Result<(), Fail> {
+    let late = Plan::Fdp(MAY_31 + 10, 1600, &[(1630, 2030), (2500, 2901)], 2901);
+    let mut history = History::empty(rt.alloc());
+    history.add(duty_of(rt.alloc(), late)?)?;
+    let found = judge(&history, &history);
+    let copy = found;
+    for sections in [copy, found] {
+        assert_eq!(rt; verdict(rt.alloc(), &sections)?.as_str(), "exceeds 117.13(a)");
+    }
+    Ok(())
+}
+
+#[test]
 fn ten_hours_of_rest_stand_before_a_report(rt: HostRuntime) -> Result<(), Fail> {
     let before = [Plan::Fdp(MAY_31 + 10, 1100, &[(1200, 1930)], 2000)];
     let rested = Plan::Fdp(MAY_31 + 11, 600, &[(700, 900)], 930);

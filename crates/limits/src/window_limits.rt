@@ -4,7 +4,7 @@ use super::window_rule::is_over;
 use duty::{History, Kind};
 
 /// 117.23(b)(1): at most 100 hours of flight time in 672 hours in a row.
-#[derive(Drop)]
+#[derive(Clone, Copy)]
 pub struct FlightTime672Hours;
 
 impl Limit for FlightTime672Hours {
@@ -26,7 +26,7 @@ impl Limit for FlightTime672Hours {
 }
 
 /// 117.23(c)(1): at most 60 hours of flight duty periods in 168 hours in a row.
-#[derive(Drop)]
+#[derive(Clone, Copy)]
 pub struct FlightDutyPeriods168Hours;
 
 impl Limit for FlightDutyPeriods168Hours {
@@ -48,7 +48,7 @@ impl Limit for FlightDutyPeriods168Hours {
 }
 
 /// 117.23(c)(2): at most 190 hours of flight duty periods in 672 hours in a row.
-#[derive(Drop)]
+#[derive(Clone, Copy)]
 pub struct FlightDutyPeriods672Hours;
 
 impl Limit for FlightDutyPeriods672Hours {
