@@ -92,8 +92,8 @@ module _ {K V : Type 0} (cmp : K → K → Ordering) (name : K → List ℕ) (sa
   set_is k v q [] some = cc
   set_is k v q (e ∷ es) some =
       elim (is_at (cmp k) e.0) as (λ t. is_at (cmp k) e.0 ≡ t → is_some (cond t (Some e.1) (lookup (is_at (cmp k)) es)) ≡ true →
-          find name_cmp q (rows_of name (cond t ((e.0, v) ∷ es) (e ∷ set_value (is_at (cmp k)) es v)))
-          ≡ cond (eq_by_cmp name_cmp q (name k)) (Some v) (find name_cmp q (rows_of name (e ∷ es)))) [
+      find name_cmp q (rows_of name (cond t ((e.0, v) ∷ es) (e ∷ set_value (is_at (cmp k)) es v)))
+      ≡ cond (eq_by_cmp name_cmp q (name k)) (Some v) (find name_cmp q (rows_of name (e ∷ es)))) [
         | true ↦ λ is _. again (eq_by_cmp name_cmp q (name e.0)) (Some v) (Some e.1) _
             ∙ ap (λ n. cond (eq_by_cmp name_cmp q n) (Some v) (find name_cmp q (rows_of name (e ∷ es)))) (sym (same_name cmp name same k e.0 is))
         | false ↦ λ is some. ap (cond (eq_by_cmp name_cmp q (name e.0)) (Some e.1)) (set_is k v q es some)
@@ -123,7 +123,7 @@ module _ {K V : Type 0} (cmp : K → K → Ordering) (name : K → List ℕ) (sa
   removed_other k q [] other = refl
   removed_other k q (e ∷ es) other =
       elim (is_at (cmp k) e.0) as (λ t. is_at (cmp k) e.0 ≡ t →
-          find name_cmp q (rows_of name (cond t es (e ∷ remove_entry (is_at (cmp k)) es))) ≡ find name_cmp q (rows_of name (e ∷ es))) [
+      find name_cmp q (rows_of name (cond t es (e ∷ remove_entry (is_at (cmp k)) es))) ≡ find name_cmp q (rows_of name (e ∷ es))) [
         | true ↦ λ is. ap (λ b. cond b (Some e.1) (find name_cmp q (rows_of name es))) (sym other ∙ ap (eq_by_cmp name_cmp q) (same_name cmp name same k e.0 is))
         | false ↦ λ is. ap (cond (eq_by_cmp name_cmp q (name e.0)) (Some e.1)) (removed_other k q es other)
       ] refl
@@ -133,7 +133,7 @@ module _ {K V : Type 0} (cmp : K → K → Ordering) (name : K → List ℕ) (sa
   drop_row k es none = same_map nat_list_cmp_total exact_names _ _ (λ q.
       get-from_entries nat_list_cmp_total _ q
       ∙ elim (eq_by_cmp name_cmp q (name k)) as (λ t. eq_by_cmp name_cmp q (name k) ≡ t →
-          find name_cmp q (rows_of name (remove_entry (is_at (cmp k)) es)) ≡ cond t None (find name_cmp q (rows_of name es))) [
+      find name_cmp q (rows_of name (remove_entry (is_at (cmp k)) es)) ≡ cond t None (find name_cmp q (rows_of name es))) [
         | true ↦ λ is. ap (λ n. find name_cmp n (rows_of name (remove_entry (is_at (cmp k)) es))) (alike q (name k) is) ∙ sym (find_row k _) ∙ none
         | false ↦ λ is. removed_other k q es is
       ] refl
@@ -183,7 +183,7 @@ get_all (e ∷ es) m q h =
     get_all es (insert m e.0 e.1) q (second_true _ _ h)
     ∙ ap (or_some (find name_cmp q es)) (get-insert nat_list_cmp_total m e.0 e.1 q)
     ∙ elim (eq_by_cmp name_cmp q e.0) as (λ t. eq_by_cmp name_cmp q e.0 ≡ t →
-        or_some (find name_cmp q es) (cond t (Some e.1) (get m q)) ≡ or_some (cond t (Some e.1) (find name_cmp q es)) (get m q)) [
+    or_some (find name_cmp q es) (cond t (Some e.1) (get m q)) ≡ or_some (cond t (Some e.1) (find name_cmp q es)) (get m q)) [
       | true ↦ λ t. ap (λ o. or_some o (Some e.1)) (ap (λ n. find name_cmp n es) (alike q e.0 t) ∙ none_below e.0 es (first_true _ _ h))
       | false ↦ λ _. refl
     ] refl

@@ -1,5 +1,5 @@
 -- Maps under names: a name is a list of numbers, as the bytes of a text.
-use Rattle.std.specs.Prelude.{ℕ, List, map}
+use Rattle.std.specs.Prelude.{ℕ, ◌+◌, List, ◌∷◌, ◌++◌, map}
 use Rattle.std.specs.declared.cmp.Ordering.{Ordering}
 use Rattle.std.specs.Ordering.{nat_cmp}
 use Rattle.std.specs.Cmp.Lexicographic.{slice_cmp}
@@ -9,6 +9,10 @@ use Rattle.std.specs.Option.{option_map, unwrap_or}
 -- names in order: by their first numbers that differ, and a name before those that it begins
 abbrev pub name_cmp : List ℕ → List ℕ → Ordering
 name_cmp = slice_cmp nat_cmp
+
+-- a name that goes on after a text: the end of the text is 0, below each byte, and a byte is one more
+abbrev pub text_then : List ℕ → List ℕ → List ℕ
+text_then text rest = map (λ byte. byte + 1) text ++ 0 ∷ rest
 
 -- rows of keys and values, each under the name of its key
 abbrev pub rows_of : {K V : Type 0} → (K → List ℕ) → List (K × V) → List (List ℕ × V)

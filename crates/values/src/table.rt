@@ -39,6 +39,7 @@ impl<K: Named, V> Table<K, V> {
     }
 
     /// How many keys there are.
+    #[tactic(auto, using(crate::proofs::Rows::len_row))]
     pub fn len(&self) -> usize
         ensures { result ≡ map.len self.now }
     {
@@ -46,6 +47,7 @@ impl<K: Named, V> Table<K, V> {
     }
 
     /// The value of a key.
+    #[tactic(auto, using(crate::proofs::Rows::get_row))]
     pub fn get(&self, key: &K) -> Option<&V>
         ensures { option_copied result ≡ map.get self.now (K.name key.now) }
     {
@@ -53,6 +55,7 @@ impl<K: Named, V> Table<K, V> {
     }
 
     /// Whether a key is there.
+    #[tactic(auto, using(crate::proofs::Rows::get_row))]
     pub fn contains(&self, key: &K) -> bool
         ensures { result ≡ map.contains_key self.now (K.name key.now) }
     {
@@ -60,6 +63,7 @@ impl<K: Named, V> Table<K, V> {
     }
 
     /// The keys with their values, in the keys' order.
+    #[tactic(auto, using(crate::proofs::Rows::entries_row))]
     pub fn iter(&self) -> Iter<'_, K, V>
         ensures { rows_of K.name result ≡ map.entries self.now }
     {
@@ -67,6 +71,7 @@ impl<K: Named, V> Table<K, V> {
     }
 
     /// Changes the value of a key in its place, if the key is there.
+    #[tactic(auto, using(crate::proofs::Rows::changed_row, crate::proofs::Rows::unchanged_row))]
     pub fn edit<E: Edit<V>>(&mut self, key: &K, edit: E)
         ensures { self.new ≡ changed_at self.old (K.name key.now) (E.edited edit) }
     {
@@ -78,6 +83,7 @@ impl<K: Named, V> Table<K, V> {
 
 impl<K: Named + Drop, V: Drop> Table<K, V> {
     /// Gives a key this value, whether the key is there or new.
+    #[tactic(auto, using(crate::proofs::Rows::put_row))]
     pub fn insert(&mut self, key: K, value: V) -> Result<(), MemoryFault>
         ensures ok { OnOk result (self.new ≡ map.insert self.old (K.name key) value) }
         ensures err { OnErr result (self.new ≡ self.old) }
@@ -87,6 +93,7 @@ impl<K: Named + Drop, V: Drop> Table<K, V> {
     }
 
     /// Gives a key this value, if the key is there; it takes no memory.
+    #[tactic(auto, using(crate::proofs::Rows::changed_row, crate::proofs::Rows::unchanged_row))]
     pub fn replace(&mut self, key: &K, value: V)
         ensures { self.new ≡ changed_at self.old (K.name key.now) (λ _. value) }
     {
@@ -96,6 +103,7 @@ impl<K: Named + Drop, V: Drop> Table<K, V> {
     }
 
     /// Takes a key out, with its value.
+    #[tactic(auto, using(crate::proofs::Rows::drop_row))]
     pub fn remove(&mut self, key: &K)
         ensures { self.new ≡ map.remove self.old (K.name key.now) }
     {
@@ -104,6 +112,7 @@ impl<K: Named + Drop, V: Drop> Table<K, V> {
 }
 
 impl<K: Named + Copied, V: Copied> Copied for Table<K, V> {
+    #[tactic(auto, using(crate::proofs::Rows::all_entries))]
     fn copy(&self, alloc: Global) -> Result<Table<K, V>, MemoryFault> {
         let mut copy = Table::new(alloc);
         for (key, value) in self.iter() {

@@ -124,8 +124,8 @@ fn a_table_is_read_in_the_order_of_its_keys(rt: HostRuntime) {
 
 #[test]
 fn only_a_value_that_is_there_is_changed(rt: HostRuntime) {
-    let mut seats = seats(rt.alloc(), [("P1 CAP", "C1"), ("P1 FO", "C2")].as_slice())
-        .expect(&rt, "memory");
+    let rows = [("P1 CAP", "C1"), ("P1 FO", "C2")];
+    let mut seats = seats(rt.alloc(), rows.as_slice()).expect(&rt, "memory");
     let captain = text(rt.alloc(), "P1 CAP").expect(&rt, "memory");
     let officer = text(rt.alloc(), "P1 FO").expect(&rt, "memory");
     let absent = text(rt.alloc(), "P2 CAP").expect(&rt, "memory");
