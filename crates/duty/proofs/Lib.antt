@@ -1,7 +1,6 @@
 pub mod Counting
 pub mod FreeRuns
 pub mod ListLemmas
-pub mod OverlapFacts
 pub mod PlanLemmas
 pub mod Scans
 pub mod SpanFacts

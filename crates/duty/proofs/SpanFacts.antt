@@ -1,8 +1,9 @@
 -- Which minutes a span covers.
-use Rattle.std.proofs.Common.{◌≡◌, ℕ, suc, ◌-◌, ◌<◌, ◌≤◌, true, false, List, [], ◌∷◌, Some, length, refl, sym, ap, ◌∙◌, arith, inl, inr}
-use Rattle.std.specs.Prelude.{pos, negsuc, slice_get}
+pub use Rattle.duty.specs.Covers.{covers-true, covers-from, no_negative}
+use Rattle.std.proofs.Common.{◌≡◌, ℕ, suc, ◌-◌, ◌<◌, ◌≤◌, true, false, List, [], ◌∷◌, Some, length, sym, ap, ◌∙◌, arith, inl, inr}
+use Rattle.std.specs.Prelude.{pos, slice_get}
 use Rattle.std.specs.List.{list_any}
-use Rattle.std.proofs.lemmas.Bool.{cases_lt, and_parts, and_from, and_left, and_right, leb-true, ltb-true, le-leb, lt-ltb, lt-leb, le-ltb, false≢true}
+use Rattle.std.proofs.lemmas.Bool.{cases_lt, and_left, and_right, lt-leb, le-ltb, false≢true}
 use Rattle.duty.specs.declared.span.Span.{Span}
 use Rattle.duty.specs.Minutes.{covers, minutes_of, last_in, spans_of, minutes_in}
 use Rattle.duty.specs.declared.duty_in_force.DutyInForce.{DutyInForce}
@@ -10,22 +11,11 @@ use Rattle.duty.specs.declared.kind.Kind.{Kind}
 use Rattle.duty.specs.Sweeps.{at}
 use Rattle.duty.proofs.Scans.{some_at, Clear, list_any-flat_map}
 
-pub covers-true : (n : ℕ) (s : Span) → covers (pos n) s ≡ true → (s.from ≤ n) × (n < s.to)
-covers-true n s is = let a = and_parts _ _ is in (leb-true _ _ a.0, ltb-true _ _ a.1)
-
-pub covers-from : (n : ℕ) (s : Span) → s.from ≤ n → n < s.to → covers (pos n) s ≡ true
-covers-from n s l h = and_from _ _ (le-leb _ _ l) (lt-ltb _ _ h)
-
 pub covers-before : (n : ℕ) (s : Span) → n < s.from → covers (pos n) s ≡ false
 covers-before n s h = and_left _ _ (lt-leb _ _ h)
 
 pub covers-past : (n : ℕ) (s : Span) → s.to ≤ n → covers (pos n) s ≡ false
 covers-past n s h = and_right _ _ (le-ltb _ _ h)
-
--- no negative minute is covered
-pub no_negative : (spans : List Span) (n : ℕ) → minutes_of spans (negsuc n) ≡ false
-no_negative [] n = refl
-no_negative (s ∷ spans) n = no_negative spans n
 
 -- the minutes of one span of the list
 pub covered_at : (spans : List Span) (k : ℕ) (s : Span) (minute : ℕ) → slice_get spans k ≡ Some s → s.from ≤ minute →

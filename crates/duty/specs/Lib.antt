@@ -1,3 +1,4 @@
+pub mod Covers
 pub mod DutiesInForce
 pub mod FaultText
 pub mod FdpTimes

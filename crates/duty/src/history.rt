@@ -113,6 +113,7 @@ impl History {
     }
 
     /// Whether some minute is a duty minute of both. A duty that holds no minute overlaps nothing.
+    #[tactic(auto, unfolding(crate::specs::Overlaps::overlaps))]
     pub fn overlaps(&self, other: &History) -> bool
         ensures test { result ≡ do_overlap self.now other.now }
         ensures minute { IsTrue result ↔ Overlap self.now other.now }

@@ -6,30 +6,30 @@ ghost use Rattle.std.specs.Cmp.Rules.{comparing};
 ghost use Rattle.std.specs.Str.{bytes_eq};
 ghost use Rattle.std.proofs.Common.{rules};
 
-use crate::thing;
-use crate::thing::Shaped;
+use crate::tag;
+use crate::tag::Shaped;
 use std::alloc::Global;
 use std::cmp::Ordering;
 use std::marker::{Model, PhantomData};
 use values::{Copied, Exact, MemoryFault, Named, Text};
 
 /// The id of a crew member.
-pub type CrewId = Id<thing::Crew>;
+pub type CrewId = Id<tag::Crew>;
 
 /// The id of a pairing.
-pub type PairingId = Id<thing::Pairing>;
+pub type PairingId = Id<tag::Pairing>;
 
 /// The id of a ground duty.
-pub type GroundId = Id<thing::Ground>;
+pub type GroundId = Id<tag::Ground>;
 
 /// A flight, by its number with the airline's letters.
-pub type Flight = Id<thing::Flight>;
+pub type Flight = Id<tag::Flight>;
 
 /// An airport, by its code.
-pub type Airport = Id<thing::Airport>;
+pub type Airport = Id<tag::Airport>;
 
-/// The id of a thing, of the type `T`, seen by contracts as its bytes. It may be any text: what
-/// takes one tests its shape. Ids are ordered by their bytes.
+/// The id of what the tag `T` names, seen by contracts as its bytes. It may be any text: what takes
+/// one tests its shape. Ids are ordered by their bytes.
 #[derive(Drop)]
 pub struct Id<T> {
     text: Text,

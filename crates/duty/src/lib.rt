@@ -18,9 +18,9 @@ mod scan;
 mod segment;
 mod shape;
 mod span;
+pub mod tag;
 #[cfg(test)]
 mod tests;
-pub mod thing;
 
 pub use actual::Actual;
 pub use duty_in_force::DutyInForce;
@@ -37,4 +37,4 @@ pub use scan::{DutyTest, SpanTest, any_duty, any_span};
 pub use segment::{BlockTimes, Segment};
 pub use shape::is_plain_text;
 pub use span::Span;
-pub use thing::Shaped;
+pub use tag::Shaped;

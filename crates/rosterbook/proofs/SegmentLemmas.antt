@@ -8,7 +8,7 @@ use Rattle.std.proofs.Common.{length-drop}
 use Rattle.duty.specs.DutiesInForce.{span_of, fdp_times}
 use Rattle.duty.specs.Minutes.{last_in}
 use Rattle.duty.specs.declared.segment.Segment.{Segment}
-use Rattle.rosterbook.specs.FlightDuty.{segments_of, timed, fdp_of, is_segment_count}
+use Rattle.rosterbook.specs.FlightDuty.{segments_of, timed, fdp_of, is_block_time_count}
 
 -- a time that is left over makes no segment
 segments_of-short : (times : List ℕ) → length times ≤ 1 → segments_of times ≡ []
@@ -51,7 +51,7 @@ length-segments_of (a ∷ b ∷ rest) =
     let less : 2 * length (segments_of rest) ≤ length rest = length-segments_of rest in omega arith
 
 -- a period of so many times has at most 12 segments
-pub length-fdp_of : (zone : List ℕ) (report : ℕ) (times : List ℕ) → is_segment_count (length times) ≡ true → length (fdp_times zone (fdp_of report times)).segments ≤ 12
+pub length-fdp_of : (zone : List ℕ) (report : ℕ) (times : List ℕ) → is_block_time_count (length times) ≡ true → length (fdp_times zone (fdp_of report times)).segments ≤ 12
 length-fdp_of zone report times h =
     let most : length times ≤ 24 = grind (arith, nat_tests) in
     let half : 2 * length (segments_of times) ≤ length times = length-segments_of times in

@@ -5,9 +5,9 @@ use Rattle.duty.specs.Minutes.{last_in}
 use Rattle.duty.specs.declared.fdp.Fdp.{Fdp}
 use Rattle.duty.specs.declared.segment.Segment.{Segment}
 
--- block-out and block-in of 1 to 12 segments
-abbrev pub is_segment_count : ℕ → Bool
-is_segment_count times = times % 2 == 0 && nat_lt 0 times && nat_le times 24
+-- so many times are block-out and block-in of 1 to 12 segments
+abbrev pub is_block_time_count : ℕ → Bool
+is_block_time_count times = times % 2 == 0 && nat_lt 0 times && nat_le times 24
 
 -- a segment of which only the times are told
 abbrev pub timed : ℕ → ℕ → Segment

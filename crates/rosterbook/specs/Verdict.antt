@@ -12,7 +12,7 @@ use Rattle.duty.specs.declared.fdp.Fdp.{Fdp}
 use Rattle.limits.specs.Tables.{table_a, table_b}
 use Rattle.limits.specs.SectionText.{section_text}
 use Rattle.limits.specs.declared.section.Section.TheVariants.{FlightTime, FlightDutyPeriod}
-use Rattle.rosterbook.specs.FlightDuty.{is_segment_count, fdp_of}
+use Rattle.rosterbook.specs.FlightDuty.{is_block_time_count, fdp_of}
 use Rattle.rosterbook.specs.Texts.{clock_text, hours_text}
 use Rattle.rosterbook.specs.declared.verdict.Verdict.{Verdict}
 use Rattle.rosterbook.specs.declared.verdict.Against.{Against}
@@ -73,7 +73,7 @@ line_of_fdp zone fdp =
 
 abbrev pub line_of_times : List ℕ → ℕ → List ℕ → Result Line LineFault
 line_of_times zone report times =
-    if not (is_segment_count (length times)) then Err SegmentCount else line_of_fdp zone (fdp_of report times)
+    if not (is_block_time_count (length times)) then Err SegmentCount else line_of_fdp zone (fdp_of report times)
 
 -- the instants that texts give in turn, up to the first that gives none
 abbrev pub then_instant : Result ℕ TimeFault → Result (List ℕ) TimeFault → Result (List ℕ) TimeFault

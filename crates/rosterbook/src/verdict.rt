@@ -1,5 +1,5 @@
 ghost use Rattle.std.specs.Prelude.{◌≡◌, ◌≤◌, ◌⊎◌, nat_lt, length, map, string_bytes, Ok, Err, IfOk, IfErr};
-ghost use Rattle.rosterbook.specs.FlightDuty.{is_segment_count as has_segments};
+ghost use Rattle.rosterbook.specs.FlightDuty.{is_block_time_count as is_count};
 ghost use Rattle.rosterbook.specs.Verdict as spec;
 ghost use Rattle.rosterbook.specs.declared.fault.LineFault.TheVariants.{Memory, Time};
 
@@ -55,7 +55,7 @@ fn line_of_times(
     ensures line { IfOk result (λ line. spec.line_of_times zone.now report times.now ≡ Ok (string_bytes line.0, line.1)) }
     ensures refused { IfErr result (λ fault. (fault ≡ Memory) ⊎ (spec.line_of_times zone.now report times.now ≡ Err fault)) }
 {
-    if !is_segment_count(times.len()) {
+    if !is_block_time_count(times.len()) {
         return Err(LineFault::SegmentCount);
     }
     let fdp = read_fdp(alloc, report, times)?;
@@ -70,8 +70,8 @@ fn line_of_times(
 }
 
 /// Whether so many times are block-out and block-in of 1 to 12 segments.
-fn is_segment_count(times: usize) -> bool
-    ensures { result ≡ has_segments times }
+fn is_block_time_count(times: usize) -> bool
+    ensures { result ≡ is_count times }
 {
     times % 2 == 0 && (1..=24).contains(&times)
 }

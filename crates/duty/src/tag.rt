@@ -1,9 +1,9 @@
-//! What an id names. The types of this module only tell ids apart: no value is made of them.
+//! Tags of what an id names. They only tell ids apart: no value is made of them.
 ghost use Rattle.std.specs.Prelude.{◌≡◌};
 
 use crate::shape::{is_airport, is_flight, is_id};
 
-/// Things whose ids have a shape.
+/// A tag of ids that have a shape.
 pub trait Shaped: Drop {
     ghost use Rattle.std.specs.Prelude.{◌≡◌, ℕ, Bool, List};
 
