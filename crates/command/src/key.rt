@@ -1,8 +1,9 @@
 ghost use Rattle.std.specs.Prelude.{◌≡◌, ◌≤◌};
 ghost use Rattle.command.specs.Keys.{KeyParts};
 
+use std::alloc::Global;
 use std::marker::Model;
-use values::Named;
+use values::{Copied, MemoryFault, Named};
 
 /// What a command comes under: the number of its request, from 1 to 9,223,372,036,854,775,807, and its part. A single
 /// command has part 0; part i of an import is its i-th pairing, of at most 10,000. Keys are ordered by number, then part.
@@ -60,4 +61,10 @@ impl Named for Key {
     ghost name = { key_name };
 
     ghost same_order = { keys_order };
+}
+
+impl Copied for Key {
+    fn copy(&self, _alloc: Global) -> Result<Key, MemoryFault> {
+        Ok(*self)
+    }
 }

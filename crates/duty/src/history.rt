@@ -45,6 +45,16 @@ impl History {
         Ok(())
     }
 
+    /// Adds the duties of another history after these.
+    pub fn append(&mut self, alloc: Global, other: &History) -> Result<(), MemoryFault>
+        ensures ok { OnOk result (self.new ≡ self.old ++ other.now) }
+        ensures err { OnErr result (self.new ≡ self.old) }
+    {
+        let mut copies = copies_of(alloc, other.duties())?;
+        self.duties.append(&mut copies)?;
+        Ok(())
+    }
+
     /// The duties in their order.
     pub fn duties(&self) -> &[DutyInForce]
         ensures { result.now ≡ self.now }

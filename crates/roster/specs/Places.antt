@@ -1,0 +1,68 @@
+-- The duties of a member in force. A duty is known by its place, and not by its times.
+use Rattle.std.specs.Prelude.{ℕ, ◌==◌, Bool, false, not, ◌&&◌, List, [], ◌∷◌, ◌++◌, map, if◌then◌else◌}
+use Rattle.std.specs.FinMap as fin
+use Rattle.std.specs.List.{filter, flat_map, enumerate_from}
+use Rattle.std.specs.Str.{bytes_eq}
+use Rattle.duty.specs.DutiesInForce.{in_force}
+use Rattle.duty.specs.Plans.{GroundPlan}
+use Rattle.duty.specs.declared.duty_in_force.DutyInForce.{DutyInForce}
+use Rattle.duty.specs.declared.placed_duty.Duty.TheVariants as duty
+use Rattle.roster.specs.Pairings.{holds, periods_in_force}
+use Rattle.roster.specs.State.{State}
+use Rattle.roster.specs.declared.state.Rostered.{Rostered}
+
+-- a period of a pairing, counted from 1, or a ground duty
+pub data Place : Type 0 where
+  period : List ℕ → ℕ → Place
+  on_ground : List ℕ → Place
+
+-- a duty in force at its place
+abbrev pub Placed : Type 0
+Placed = Place × DutyInForce
+
+-- the periods of a pairing
+abbrev pub periods_at : List ℕ → List ℕ × Rostered → List Placed
+periods_at zone (id, r) =
+    map (λ p. (period id p.0, in_force zone (duty.Fdp p.1))) (enumerate_from 1 (periods_in_force r))
+
+-- a ground duty
+abbrev pub ground_at : List ℕ → List ℕ × GroundPlan → Placed
+ground_at zone (id, g) = (on_ground id, in_force zone (duty.Ground g))
+
+-- a member's history: the periods of the pairings that the member holds, and the member's ground duties
+abbrev pub periods_of : State → List ℕ → List Placed
+periods_of s who = flat_map (periods_at s.zone) (filter (λ row. holds who row.1) (fin.entries s.pairings))
+
+abbrev pub grounds_of : State → List ℕ → List Placed
+grounds_of s who = map (ground_at s.zone) (filter (λ row. bytes_eq row.1.crew who) (fin.entries s.grounds))
+
+abbrev pub history_of : State → List ℕ → List Placed
+history_of s who = periods_of s who ++ grounds_of s who
+
+-- the duties at the places
+abbrev pub duties : List Placed → List DutyInForce
+duties placed = map (λ p. p.1) placed
+
+-- ---- Which of them are left out where new duties are judged beside a member's others
+
+-- none
+abbrev pub none : Place → Bool
+none place = false
+
+-- the periods of a pairing
+abbrev pub the_pairing : List ℕ → Place → Bool
+the_pairing id (period pairing number) = bytes_eq id pairing
+the_pairing id (on_ground _) = false
+
+-- one period
+abbrev pub the_period : List ℕ → ℕ → Place → Bool
+the_period id number (period pairing n) = bytes_eq id pairing && number == n
+the_period id number (on_ground _) = false
+
+-- the duties at the places that are not left out
+abbrev pub left : (Place → Bool) → List Placed → List DutyInForce
+left out placed = duties (filter (λ p. not (out p.0)) placed)
+
+-- a member's other duties
+abbrev pub others : State → List ℕ → (Place → Bool) → List DutyInForce
+others s who out = left out (history_of s who)

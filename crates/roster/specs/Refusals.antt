@@ -1,0 +1,136 @@
+-- When the book refuses an order. For each order its refusals are listed in the order of their numbers, each beside the
+-- fact that makes it apply; the first that applies is the answer. Each fact makes sense in any state: a pairing that
+-- isn't there has no seat that is held and no periods, and a member who isn't there holds nothing.
+use Rattle.std.specs.Prelude.{ℕ, ◌-◌, ◌==◌, Bool, false, not, ◌&&◌, ◌||◌, nat_lt, List, [], ◌∷◌, ◌++◌, map, length, Option, is_some, is_none, slice_get}
+use Rattle.std.specs.FinMap as fin
+use Rattle.std.specs.List.{find}
+use Rattle.std.specs.Option.{option_map, option_and_then, option_map_or}
+use Rattle.duty.specs.Plans.{ActualTimes}
+use Rattle.duty.specs.Overlaps.{overlaps}
+use Rattle.duty.specs.declared.duty_in_force.DutyInForce.{DutyInForce}
+use Rattle.duty.specs.declared.fdp.Fdp.{Fdp}
+use Rattle.limits.specs.Judgement.{Broken}
+use Rattle.command.specs.contracts.member.SeatPartialEq.TheImpl.{ghosts as seats}
+use Rattle.command.specs.declared.exceedance.Exceedance.{Exceedance}
+use Rattle.command.specs.declared.order.Order.{Order}
+use Rattle.command.specs.declared.order.Order.TheVariants.{AddCrew, AddPairing, CancelPairing, Assign, Release, Swap, AddGround, CancelGround, Actual}
+use Rattle.command.specs.declared.refusal.Refusal.{Refusal}
+use Rattle.command.specs.declared.refusal.Refusal.TheVariants.{NoSuchCrew, CrewExists, NoSuchPairing, PairingExists, SeatTaken, WrongSeat, NotAssigned, PairingCrewed, Flown, Overlap, Limits, NoSuchDuty, GroundExists, NoSuchGround, SegmentCount}
+use Rattle.roster.specs.Pairings.{holder, is_held_by, is_flown, is_crewed, is_fully_crewed}
+use Rattle.roster.specs.Places.{Place, duties, none, the_pairing, others, periods_at, ground_at}
+use Rattle.roster.specs.State.{State}
+
+-- ---- Facts
+
+abbrev pub is_member : State → List ℕ → Bool
+is_member s who = fin.contains_key s.crew who
+
+abbrev pub is_pairing : State → List ℕ → Bool
+is_pairing s id = fin.contains_key s.pairings id
+
+abbrev pub is_ground : State → List ℕ → Bool
+is_ground s id = fin.contains_key s.grounds id
+
+-- the members are there, and of different kinds
+abbrev pub are_of_two_kinds : State → List ℕ → List ℕ → Bool
+are_of_two_kinds s who other =
+    option_map_or (λ m. option_map_or (λ n. not (seats.eq m.seat n.seat)) (fin.get s.crew other) false) (fin.get s.crew who) false
+
+-- who holds the seat of the member's kind in the pairing
+abbrev pub holder_beside : State → List ℕ → List ℕ → Option (List ℕ)
+holder_beside s id who = option_and_then (λ r. option_and_then (λ m. holder m.seat r) (fin.get s.crew who)) (fin.get s.pairings id)
+
+-- the member holds the seat of the own kind
+abbrev pub is_assigned : State → List ℕ → List ℕ → Bool
+is_assigned s id who = is_held_by who (holder_beside s id who)
+
+-- a seat of the pairing is held; one is free; a period of it is flown
+abbrev pub is_held : State → List ℕ → Bool
+is_held s id = option_map_or is_crewed (fin.get s.pairings id) false
+
+abbrev pub has_free_seat : State → List ℕ → Bool
+has_free_seat s id = option_map_or (λ r. not (is_fully_crewed r)) (fin.get s.pairings id) false
+
+abbrev pub has_flown : State → List ℕ → Bool
+has_flown s id = option_map_or is_flown (fin.get s.pairings id) false
+
+-- a period as it is planned, by its number from 1
+abbrev pub planned : State → List ℕ → ℕ → Option Fdp
+planned s id number = option_and_then (λ r. slice_get r.plan.periods (number - 1)) (fin.get s.pairings id)
+
+-- the actual has another number of segments than its period
+abbrev pub is_miscounted : State → List ℕ → ActualTimes → Bool
+is_miscounted s id a = option_map_or (λ fdp. not (length fdp.segments == length a.segments)) (planned s id a.period) false
+
+-- the duties of a pairing in force
+abbrev pub duties_of : State → List ℕ → List DutyInForce
+duties_of s id = option_map_or (λ r. duties (periods_at s.zone (id, r))) (fin.get s.pairings id) []
+
+-- the limits that a member's new duties break, after the member's others
+unfoldable pub broken_by : List ℕ → List DutyInForce → List DutyInForce → List Exceedance
+broken_by who others new = map (λ section. record { crew = who; section = section }) (Broken (others ++ new) new)
+
+-- ---- The refusals of each order
+
+-- a refusal, and whether it applies
+abbrev pub Row : Type 0
+Row = Refusal × Bool
+
+-- the list of limits, where it isn't empty
+abbrev pub over_limits : List Exceedance → Row
+over_limits broken = (Limits broken, nat_lt 0 (length broken))
+
+unfoldable pub refusals : State → Order → List Row
+refusals s (AddCrew who member) = (CrewExists, is_member s who) ∷ []
+refusals s (AddPairing plan) = (PairingExists, is_pairing s plan.id) ∷ []
+refusals s (CancelPairing id) =
+    (NoSuchPairing, not (is_pairing s id))
+    ∷ (PairingCrewed, is_held s id)
+    ∷ []
+refusals s (Assign id who) =
+    (NoSuchCrew, not (is_member s who))
+    ∷ (NoSuchPairing, not (is_pairing s id))
+    ∷ (SeatTaken, is_some (holder_beside s id who))
+    ∷ (Overlap, overlaps (duties_of s id) (others s who none))
+    ∷ over_limits (broken_by who (others s who none) (duties_of s id))
+    ∷ []
+refusals s (Release id who) =
+    (NoSuchCrew, not (is_member s who))
+    ∷ (NoSuchPairing, not (is_pairing s id))
+    ∷ (NotAssigned, not (is_assigned s id who))
+    ∷ (Flown, has_flown s id)
+    ∷ []
+-- each member loses the own pairing, and the other's is new
+refusals s (Swap w) =
+    let rest = others s w.crew (the_pairing w.pairing) in
+    let other_rest = others s w.other_crew (the_pairing w.other_pairing) in
+    (NoSuchCrew, not (is_member s w.crew && is_member s w.other_crew))
+    ∷ (NoSuchPairing, not (is_pairing s w.pairing && is_pairing s w.other_pairing))
+    ∷ (WrongSeat, are_of_two_kinds s w.crew w.other_crew)
+    ∷ (NotAssigned, not (is_assigned s w.pairing w.crew && is_assigned s w.other_pairing w.other_crew))
+    ∷ (Flown, has_flown s w.pairing || has_flown s w.other_pairing)
+    ∷ (Overlap, overlaps (duties_of s w.other_pairing) rest || overlaps (duties_of s w.pairing) other_rest)
+    ∷ over_limits (broken_by w.crew rest (duties_of s w.other_pairing)
+        ++ broken_by w.other_crew other_rest (duties_of s w.pairing))
+    ∷ []
+refusals s (AddGround g) =
+    let new = (ground_at s.zone (g.id, g)).1 ∷ [] in
+    (NoSuchCrew, not (is_member s g.crew))
+    ∷ (Overlap, overlaps new (others s g.crew none))
+    ∷ over_limits (broken_by g.crew (others s g.crew none) new)
+    ∷ (GroundExists, is_ground s g.id)
+    ∷ []
+refusals s (CancelGround id) = (NoSuchGround, not (is_ground s id)) ∷ []
+refusals s (Actual id a) =
+    (NoSuchPairing, not (is_pairing s id))
+    ∷ (NotAssigned, has_free_seat s id)
+    ∷ (NoSuchDuty, is_none (planned s id a.period))
+    ∷ (SegmentCount a.period, is_miscounted s id a)
+    ∷ []
+
+-- the first that applies
+abbrev pub first_of : List Row → Option Refusal
+first_of rows = option_map (λ row. row.0) (find (λ row. row.1) rows)
+
+abbrev pub refusal_of : State → Order → Option Refusal
+refusal_of s order = first_of (refusals s order)

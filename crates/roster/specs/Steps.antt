@@ -1,0 +1,117 @@
+-- One step: what a command is answered in a state, and the state that it leaves.
+use Rattle.std.specs.Prelude.{ℕ, ◌-◌, Bool, List, [], ◌∷◌, ◌++◌, Option, Some, None, if◌then◌else◌, slice_set}
+use Rattle.std.specs.FinMap as fin
+use Rattle.std.specs.List.{fold}
+use Rattle.std.specs.Option.{option_map_or}
+use Rattle.values.specs.Name.{name_cmp, changed_at}
+use Rattle.duty.specs.DutiesInForce.{in_force}
+use Rattle.duty.specs.Plans.{ActualTimes, in_force as flown_at}
+use Rattle.duty.specs.declared.duty_in_force.DutyInForce.{DutyInForce}
+use Rattle.duty.specs.declared.placed_duty.Duty.TheVariants as duty
+use Rattle.command.specs.Keys.{KeyParts, key_name}
+use Rattle.command.specs.contracts.order.CommandPartialEq.TheImpl.{ghosts as commands}
+use Rattle.command.specs.declared.exceedance.Exceedance.{Exceedance}
+use Rattle.command.specs.declared.exceedance.Reply.{Reply}
+use Rattle.command.specs.declared.order.Order.{Order}
+use Rattle.command.specs.declared.order.Order.TheVariants.{AddCrew, AddPairing, CancelPairing, Assign, Release, Swap, AddGround, CancelGround, Actual}
+use Rattle.command.specs.declared.refusal.Refusal.{Refusal}
+use Rattle.command.specs.declared.refusal.Refusal.TheVariants.{NumberUsed}
+use Rattle.roster.specs.Pairings.{unheld, with_holder}
+use Rattle.roster.specs.Places.{others, the_period}
+use Rattle.roster.specs.Refusals.{planned, broken_by, refusal_of}
+use Rattle.roster.specs.State.{State, exceedance_name}
+use Rattle.roster.specs.declared.change.Change.{Change}
+use Rattle.roster.specs.declared.change.SeatChange.{SeatChange}
+use Rattle.roster.specs.declared.change.Verdict.{Verdict}
+use Rattle.roster.specs.declared.change.Verdict.TheVariants.{Repeat, Accept, Refuse}
+use Rattle.roster.specs.declared.state.PeriodId.{PeriodId}
+use Rattle.roster.specs.declared.state.Request.{Request}
+use Rattle.roster.specs.declared.state.Rostered.{Rostered}
+
+-- ---- Seats
+
+-- the seat of the member's kind in the pairing gets this holder, or none
+abbrev pub seat_change : State → List ℕ → List ℕ → Option (List ℕ) → List SeatChange
+seat_change s id who new =
+    option_map_or (λ m. record { pairing = id; seat = m.seat; holder = new } ∷ []) (fin.get s.crew who) []
+
+-- the seats that get or lose a holder
+abbrev pub seats_of : State → Order → List SeatChange
+seats_of s (Assign id who) = seat_change s id who (Some who)
+seats_of s (Release id who) = seat_change s id who None
+seats_of s (Swap w) =
+    seat_change s w.pairing w.crew (Some w.other_crew) ++ seat_change s w.other_pairing w.other_crew (Some w.crew)
+seats_of s order = []
+
+-- ---- Exceedances
+
+-- the period with its new times, as the new duty
+abbrev pub flown_duty : State → List ℕ → ActualTimes → List DutyInForce
+flown_duty s id a = option_map_or (λ fdp. in_force s.zone (duty.Fdp (flown_at fdp a)) ∷ []) (planned s id a.period) []
+
+-- what a holder breaks by the new times
+abbrev pub broken_by_holder : State → List ℕ → ActualTimes → Option (List ℕ) → List Exceedance
+broken_by_holder s id a holder =
+    option_map_or (λ who. broken_by who (others s who (the_period id a.period)) (flown_duty s id a)) holder []
+
+-- the exceedances that an order records: an actual's, the captain's first
+unfoldable pub recorded_by : State → Order → List Exceedance
+recorded_by s (Actual id a) = option_map_or
+    (λ r. broken_by_holder s id a r.captain ++ broken_by_holder s id a r.first_officer) (fin.get s.pairings id) []
+recorded_by s order = []
+
+-- ---- The answer
+
+abbrev pub change_of : State → KeyParts → Order → Change
+change_of s key order = record {
+  key = key;
+  command = order;
+  reply = record { exceedances = recorded_by s order };
+  seats = seats_of s order;
+}
+
+-- under a free key: refused, or accepted
+abbrev pub judged : State → KeyParts → Order → Option Refusal → Verdict
+judged s key order (Some refusal) = Refuse refusal
+judged s key order None = Accept (change_of s key order) (record { exceedances = recorded_by s order })
+
+-- a kept command is repeated, and no other takes its key
+abbrev pub answered : State → KeyParts → Order → Option Request → Verdict
+answered s key order (Some kept) = if commands.eq kept.command order then Repeat kept.reply else Refuse NumberUsed
+answered s key order None = judged s key order (refusal_of s order)
+
+unfoldable pub step_of : State → KeyParts → Order → Verdict
+step_of s key order = answered s key order (fin.get s.requests (key_name key))
+
+-- ---- The next state
+
+-- the seats get their holders
+abbrev pub reseated : fin.FinMap name_cmp Rostered → SeatChange → fin.FinMap name_cmp Rostered
+reseated pairings seat = changed_at pairings seat.pairing (with_holder seat.seat seat.holder)
+
+-- the times of a period replace the plan's or an earlier actual's
+abbrev pub with_actual : ActualTimes → Rostered → Rostered
+with_actual a r = record r { actuals = slice_set r.actuals (a.period - 1) (Some a) }
+
+abbrev pub recorded : KeyParts → PeriodId → fin.FinMap name_cmp PeriodId → Exceedance → fin.FinMap name_cmp PeriodId
+recorded key period records e = fin.insert records (exceedance_name key e.crew e.section) period
+
+-- what an accepted order leaves
+abbrev pub effect : State → Change → Order → State
+effect s change (AddCrew who member) = record s { crew = fin.insert s.crew who member }
+effect s change (AddPairing plan) = record s { pairings = fin.insert s.pairings plan.id (unheld plan) }
+effect s change (CancelPairing id) = record s { pairings = fin.remove s.pairings id }
+effect s change (Assign id who) = record s { pairings = fold reseated s.pairings change.seats }
+effect s change (Release id who) = record s { pairings = fold reseated s.pairings change.seats }
+effect s change (Swap w) = record s { pairings = fold reseated s.pairings change.seats }
+effect s change (AddGround g) = record s { grounds = fin.insert s.grounds g.id g }
+effect s change (CancelGround id) = record s { grounds = fin.remove s.grounds id }
+effect s change (Actual id a) = record s {
+  pairings = changed_at s.pairings id (with_actual a);
+  exceedances = fold (recorded change.key (record { pairing = id; number = a.period })) s.exceedances change.reply.exceedances;
+}
+
+-- and its key holds it with its reply
+unfoldable pub after : State → Change → State
+after s change = let t = effect s change change.command in
+    record t { requests = fin.insert t.requests (key_name change.key) (record { command = change.command; reply = change.reply }) }

@@ -1,0 +1,189 @@
+//! A member's duties in force, and what new duties do beside them.
+ghost use Rattle.std.specs.Prelude.{◌≡◌, ◌++◌, IfOk, OnOk, map};
+ghost use Rattle.duty.specs.Overlaps.{overlaps as do_overlap};
+ghost use Rattle.roster.specs.LeftOut.{leaves_out};
+ghost use Rattle.roster.specs.Pairings.{holds, is_held_by, flown};
+ghost use Rattle.roster.specs.Places.{period, duties, left, others, periods_at, periods_of, grounds_of};
+ghost use Rattle.roster.specs.Refusals.{broken_by};
+
+use crate::state::{Roster, Rostered};
+use command::Exceedance;
+use duty::{Actual, CrewId, Duty, Fdp, History, PairingId};
+use limits::{Section, judge};
+use std::alloc::Global;
+use time117::Zone;
+use values::{Copied, MemoryFault};
+
+/// Which of a member's duties are left out.
+#[derive(Clone, Copy)]
+pub(crate) enum LeftOut<'a> {
+    Nothing,
+    /// The periods of a pairing.
+    Pairing(&'a PairingId),
+    /// One period of a pairing, by its number.
+    Period(&'a PairingId, u8),
+}
+
+impl LeftOut<'_> {
+    /// Whether a period is left out.
+    fn leaves_out(self, pairing: &PairingId, number: usize) -> bool
+        ensures { result ≡ leaves_out self.entry (period pairing.now number) }
+    {
+        match self {
+            LeftOut::Nothing => false,
+            LeftOut::Pairing(id) => id == pairing,
+            LeftOut::Period(id, period) => id == pairing && usize::from(period) == number,
+        }
+    }
+}
+
+/// What new duties do beside a member's others.
+#[derive(Drop)]
+pub(crate) struct Fit {
+    pub overlaps: bool,
+    pub broken: Vec<Exceedance>,
+}
+
+/// Whether the holder is this member.
+pub(crate) fn is_held_by(who: &CrewId, holder: &Option<CrewId>) -> bool
+    ensures { result ≡ is_held_by who.now holder.now }
+{
+    match holder {
+        Some(other) => other == who,
+        None => false,
+    }
+}
+
+/// A period with its actual times, if it has them, else as it is planned.
+fn in_force(alloc: Global, period: &Fdp, actual: &Option<Actual>) -> Result<Fdp, MemoryFault>
+    ensures { IfOk result (λ fdp. fdp ≡ flown (period.now, actual.now)) }
+{
+    match actual {
+        Some(actual) => period.flown(alloc, actual),
+        None => period.copy(alloc),
+    }
+}
+
+impl Rostered {
+    /// Whether the member holds a seat.
+    pub(crate) fn holds(&self, who: &CrewId) -> bool
+        ensures { result ≡ holds who.now self.now }
+    {
+        is_held_by(who, &self.captain) || is_held_by(who, &self.first_officer)
+    }
+
+    /// Adds the periods in force, under this id, but for those left out.
+    fn add_periods(
+        &self,
+        alloc: Global,
+        zone: &Zone,
+        id: &PairingId,
+        out: LeftOut,
+        history: &mut History,
+    ) -> Result<(), MemoryFault>
+        ensures { OnOk result (history.new ≡ history.old ++ left (leaves_out out.entry) (periods_at zone.now (id.now, self.now))) }
+    {
+        let periods = self.plan.periods().iter().zip(self.actuals.as_slice());
+        for (index, (period, actual)) in periods.enumerate() {
+            if !out.leaves_out(id, index + 1) {
+                let fdp = in_force(alloc, period, actual)?;
+                history.insert(alloc, Duty::Fdp(fdp), zone)?;
+            }
+        }
+        Ok(())
+    }
+
+    /// The duties of the pairing in force.
+    pub(crate) fn duties(&self, alloc: Global, zone: &Zone, id: &PairingId) -> Result<History, MemoryFault>
+        ensures { IfOk result (λ history. history ≡ duties (periods_at zone.now (id.now, self.now))) }
+    {
+        let mut history = History::empty(alloc);
+        self.add_periods(alloc, zone, id, LeftOut::Nothing, &mut history)?;
+        Ok(history)
+    }
+}
+
+impl Roster {
+    /// Adds the periods of the pairings that the member holds, but for those left out.
+    fn add_periods_of(
+        &self,
+        alloc: Global,
+        who: &CrewId,
+        out: LeftOut,
+        history: &mut History,
+    ) -> Result<(), MemoryFault>
+        ensures { OnOk result (history.new ≡ history.old ++ left (leaves_out out.entry) (periods_of self.now who.now)) }
+    {
+        for (id, rostered) in self.pairings.iter() {
+            if rostered.holds(who) {
+                rostered.add_periods(alloc, &self.zone, id, out, history)?;
+            }
+        }
+        Ok(())
+    }
+
+    /// Adds the member's ground duties.
+    fn add_grounds_of(
+        &self,
+        alloc: Global,
+        who: &CrewId,
+        history: &mut History,
+    ) -> Result<(), MemoryFault>
+        ensures { OnOk result (history.new ≡ history.old ++ duties (grounds_of self.now who.now)) }
+    {
+        for (_, ground) in self.grounds.iter() {
+            if ground.crew() == who {
+                history.insert(alloc, Duty::Ground(ground.copy(alloc)?), &self.zone)?;
+            }
+        }
+        Ok(())
+    }
+
+    /// The member's other duties.
+    fn others(&self, alloc: Global, who: &CrewId, out: LeftOut) -> Result<History, MemoryFault>
+        ensures { IfOk result (λ history. history ≡ others self.now who.now (leaves_out out.entry)) }
+    {
+        let mut history = History::empty(alloc);
+        self.add_periods_of(alloc, who, out, &mut history)?;
+        self.add_grounds_of(alloc, who, &mut history)?;
+        Ok(history)
+    }
+
+    /// What new duties do beside the member's others.
+    #[tactic(auto, unfolding(crate::specs::Refusals::broken_by))]
+    pub(crate) fn fit(
+        &self,
+        alloc: Global,
+        who: &CrewId,
+        out: LeftOut,
+        new: &History,
+    ) -> Result<Fit, MemoryFault>
+        ensures overlaps { IfOk result (λ fit. fit.overlaps ≡ do_overlap new.now (others self.now who.now (leaves_out out.entry))) }
+        ensures broken { IfOk result (λ fit. fit.broken.items ≡ broken_by who.now (others self.now who.now (leaves_out out.entry)) new.now) }
+    {
+        let mut history = self.others(alloc, who, out)?;
+        let overlaps = new.overlaps(&history);
+        history.append(alloc, new)?;
+        let sections = judge(&history, new).list(alloc)?;
+        let broken = exceedances(alloc, who, &sections)?;
+        Ok(Fit { overlaps, broken })
+    }
+}
+
+/// The sections as exceedances of the member.
+fn exceedances(
+    alloc: Global,
+    who: &CrewId,
+    sections: &[Section],
+) -> Result<Vec<Exceedance>, MemoryFault>
+    ensures { IfOk result (λ list. list.items ≡ map (λ section. record { crew = who.now; section = section }) sections.now) }
+{
+    let mut list = Vec::new(alloc);
+    for section in sections {
+        list.push(Exceedance {
+            crew: who.copy(alloc)?,
+            section: *section,
+        })?;
+    }
+    Ok(list)
+}
