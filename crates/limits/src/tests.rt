@@ -115,7 +115,10 @@ fn a_copy_of_the_broken_sections_is_equal(rt: HostRuntime) -> Result<(), Fail> {
     let found = judge(&history, &history);
     let copy = found;
     for sections in [copy, found] {
-        assert_eq!(rt; verdict(rt.alloc(), &sections)?.as_str(), "exceeds 117.13(a)");
+        assert_eq!(rt;
+            verdict(rt.alloc(), &sections)?.as_str(),
+            "exceeds 117.13(a)"
+        );
     }
     Ok(())
 }
