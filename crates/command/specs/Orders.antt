@@ -1,8 +1,9 @@
 -- Which orders are refused before the book looks at them, and with which fault. Shapes of texts come first, in the order
 -- of the fields.
-use Rattle.std.specs.Prelude.{not, List, [], ◌∷◌, Option}
+use Rattle.std.specs.Prelude.{◌≡◌, ◌≤◌, not, List, [], ◌∷◌, map, Option, None}
 use Rattle.std.specs.Str.{bytes_eq}
 use Rattle.duty.specs.Pairings.{pairing_fault, ground_fault, actual_fault}
+use Rattle.duty.specs.Plans.{as_planned}
 use Rattle.duty.specs.Shape.{is_id, is_plain_text}
 use Rattle.duty.specs.Words.{first_fault, unless}
 use Rattle.duty.specs.declared.fault.DutyFault.{DutyFault}
@@ -37,3 +38,13 @@ order_fault (AddGround g) = ground_fault g
 order_fault (CancelGround id) = unless (is_id id) (BadField field.Ground)
 order_fault (Actual pairing actual) =
     first_fault (unless (is_id pairing) (BadField field.Pairing) ∷ actual_fault actual ∷ [])
+
+-- what the types of its parts see to: a pairing is a plan, and a period has a number from 1 to 10
+abbrev pub IsTyped : Order → Type 0
+IsTyped (AddPairing plan) = map as_planned plan.periods ≡ plan.periods
+IsTyped (Actual id a) = (1 ≤ a.period) × (a.period ≤ 10)
+IsTyped order = Unit {0}
+
+-- an order that is a command
+abbrev pub IsMade : Order → Type 0
+IsMade order = (order_fault order ≡ None) × IsTyped order

@@ -1,10 +1,10 @@
-ghost use Rattle.std.specs.Prelude.{◌≡◌, None};
+ghost use Rattle.std.specs.Prelude.{◌≡◌};
 ghost use Rattle.duty.specs.Words.{checked};
 ghost use Rattle.duty.specs.Shape.{is_id, is_plain_text};
 ghost use Rattle.duty.specs.Words.{unless};
 ghost use Rattle.duty.specs.declared.fault.DutyFault.TheVariants.{BadField};
 ghost use Rattle.duty.specs.declared.fault.Field.TheVariants as field;
-ghost use Rattle.command.specs.Orders.{order_fault, swap_fault};
+ghost use Rattle.command.specs.Orders.{order_fault, swap_fault, IsMade, IsTyped};
 
 use crate::member::Member;
 use duty::{Actual, CrewId, DutyFault, Field, Ground, GroundId, Pairing, PairingId, is_plain_text};
@@ -51,15 +51,14 @@ pub struct Command {
 }
 
 impl Model for Command {
-    ghost use Rattle.std.specs.Prelude.{◌≡◌, None};
     ghost use Rattle.command.specs.declared.order.Order.{Order};
-    ghost use Rattle.command.specs.Orders.{order_fault};
+    ghost use Rattle.command.specs.Orders.{IsMade};
 
     ghost Value = { Order };
 
     ghost view = { λ c. c.order };
 
-    ghost invariant = { λ c. order_fault c.order ≡ None };
+    ghost invariant = { λ c. IsMade c.order };
 
     ghost inverse = { λ order. record { order = order } };
 }
@@ -78,7 +77,7 @@ impl Command {
     /// What it asks.
     pub fn order(&self) -> &Order
         ensures order { result.now ≡ self.now }
-        ensures sound { order_fault self.now ≡ None }
+        ensures made { IsMade self.now }
     {
         &self.order
     }
@@ -87,7 +86,8 @@ impl Command {
 /// The first fault of an order.
 #[tactic(auto, unfolding(crate::specs::Orders::order_fault))]
 fn check(order: &Order) -> Result<(), DutyFault>
-    ensures { result ≡ checked (order_fault order.now) tt }
+    ensures fault { result ≡ checked (order_fault order.now) tt }
+    ensures typed { IsTyped order.now }
 {
     match order {
         Order::AddCrew(crew, member) => {

@@ -1,7 +1,11 @@
 pub mod ExceedanceOrder
+pub mod Folds
+pub mod Honest
+pub mod Laws
 pub mod LeftOut
 pub mod Pairings
 pub mod Places
 pub mod Refusals
+pub mod Sound
 pub mod State
 pub mod Steps

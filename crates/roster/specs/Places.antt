@@ -6,6 +6,7 @@ use Rattle.std.specs.Str.{bytes_eq}
 use Rattle.duty.specs.DutiesInForce.{in_force}
 use Rattle.duty.specs.Plans.{GroundPlan}
 use Rattle.duty.specs.declared.duty_in_force.DutyInForce.{DutyInForce}
+use Rattle.duty.specs.declared.fdp.Fdp.{Fdp}
 use Rattle.duty.specs.declared.placed_duty.Duty.TheVariants as duty
 use Rattle.roster.specs.Pairings.{holds, periods_in_force}
 use Rattle.roster.specs.State.{State}
@@ -20,10 +21,12 @@ pub data Place : Type 0 where
 abbrev pub Placed : Type 0
 Placed = Place × DutyInForce
 
--- the periods of a pairing
+-- the periods of a pairing, the first of them number n
+abbrev pub numbered : List ℕ → List ℕ → ℕ → List Fdp → List Placed
+numbered zone id n fdps = map (λ p. (period id p.0, in_force zone (duty.Fdp p.1))) (enumerate_from n fdps)
+
 abbrev pub periods_at : List ℕ → List ℕ × Rostered → List Placed
-periods_at zone (id, r) =
-    map (λ p. (period id p.0, in_force zone (duty.Fdp p.1))) (enumerate_from 1 (periods_in_force r))
+periods_at zone (id, r) = numbered zone id 1 (periods_in_force r)
 
 -- a ground duty
 abbrev pub ground_at : List ℕ → List ℕ × GroundPlan → Placed

@@ -2,7 +2,7 @@
 ghost use Rattle.std.specs.Prelude.{◌≡◌, ◌++◌, IfOk, OnOk, map};
 ghost use Rattle.duty.specs.Overlaps.{overlaps as do_overlap};
 ghost use Rattle.roster.specs.LeftOut.{leaves_out};
-ghost use Rattle.roster.specs.Pairings.{holds, is_held_by, flown};
+ghost use Rattle.roster.specs.Pairings.{holds, is_held_by, flown, periods_in_force};
 ghost use Rattle.roster.specs.Places.{period, duties, left, others, periods_at, periods_of, grounds_of};
 ghost use Rattle.roster.specs.Refusals.{broken_by};
 
@@ -72,6 +72,17 @@ impl Rostered {
         is_held_by(who, &self.captain) || is_held_by(who, &self.first_officer)
     }
 
+    /// The periods in turn, with their times in force.
+    fn periods_in_force(&self, alloc: Global) -> Result<Vec<Fdp>, MemoryFault>
+        ensures { IfOk result (λ fdps. fdps.items ≡ periods_in_force self.now) }
+    {
+        let mut fdps = Vec::new(alloc);
+        for (period, actual) in self.plan.periods().iter().zip(self.actuals.as_slice()) {
+            fdps.push(in_force(alloc, period, actual)?)?;
+        }
+        Ok(fdps)
+    }
+
     /// Adds the periods in force, under this id, but for those left out.
     fn add_periods(
         &self,
@@ -83,11 +94,10 @@ impl Rostered {
     ) -> Result<(), MemoryFault>
         ensures { OnOk result (history.new ≡ history.old ++ left (leaves_out out.entry) (periods_at zone.now (id.now, self.now))) }
     {
-        let periods = self.plan.periods().iter().zip(self.actuals.as_slice());
-        for (index, (period, actual)) in periods.enumerate() {
+        let fdps = self.periods_in_force(alloc)?;
+        for (index, fdp) in fdps.iter().enumerate() {
             if !out.leaves_out(id, index + 1) {
-                let fdp = in_force(alloc, period, actual)?;
-                history.insert(alloc, Duty::Fdp(fdp), zone)?;
+                history.insert(alloc, Duty::Fdp(fdp.copy(alloc)?), zone)?;
             }
         }
         Ok(())

@@ -3,6 +3,7 @@
 
 mod change;
 mod duties;
+pub mod laws;
 mod refuse;
 mod state;
 #[cfg(test)]

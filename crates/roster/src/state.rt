@@ -73,10 +73,13 @@ impl Rostered {
     pub fn unheld(alloc: Global, plan: Pairing) -> Result<Rostered, MemoryFault>
         ensures { IfOk result (λ rostered. rostered ≡ unheld plan) }
     {
-        let unflown = plan.periods().iter().map(|_period| None).collect(alloc)?;
+        let mut actuals = Vec::new(alloc);
+        for _period in plan.periods() {
+            actuals.push(None)?;
+        }
         Ok(Rostered {
             plan,
-            actuals: Items::new(unflown),
+            actuals: Items::new(actuals),
             captain: None,
             first_officer: None,
         })

@@ -1,0 +1,12 @@
+use Rattle.std.proofs.Common.{◌≡◌, ◌+◌, ◌++◌, drop, map}
+use Rattle.std.specs.List.{enumerate_from}
+use Rattle.duty.specs.DutiesInForce.{in_force}
+use Rattle.duty.specs.declared.placed_duty.Duty.TheVariants as duty
+use Rattle.roster.specs.LeftOut.{leaves_out}
+use Rattle.roster.specs.Places.{left, numbered, periods_at}
+use Rattle.roster.proofs.state.Rostered.add_periods.Given as goal
+
+abbrev pub invariant-loop-index : goal.invariant-loop-index
+invariant-loop-index l =
+    l.history ++ left (leaves_out l.out) (numbered l.zone l.id (l.index + 1) (drop l.index l.fdp-items))
+    ≡ l.initial.history ++ left (leaves_out l.out) (numbered l.zone l.id 1 l.fdp-items)

@@ -1,0 +1,56 @@
+-- Lists of commands: what they leave and what they are answered; imports; and books that are stopped and opened again.
+use Rattle.std.specs.Prelude.{◌≡◌, ℕ, ◌+◌, List, [], ◌∷◌, map, length, take, Result, Ok, Err, ◌⊎◌}
+use Rattle.std.specs.List.{fold, enumerate_from}
+use Rattle.duty.specs.Plans.{Plan}
+use Rattle.command.specs.Keys.{KeyParts}
+use Rattle.command.specs.declared.exceedance.Reply.{Reply}
+use Rattle.command.specs.declared.order.Order.{Order}
+use Rattle.command.specs.declared.order.Order.TheVariants.{AddPairing}
+use Rattle.command.specs.declared.refusal.Refusal.{Refusal}
+use Rattle.roster.specs.State.{State}
+use Rattle.roster.specs.Steps.{step_of, after}
+use Rattle.roster.specs.declared.change.Verdict.{Verdict}
+use Rattle.roster.specs.declared.change.Verdict.TheVariants.{Repeat, Accept, Refuse}
+
+-- a command under its key
+abbrev pub Asked : Type 0
+Asked = KeyParts × Order
+
+-- what a verdict answers: a repeat is answered with the kept reply
+abbrev pub answer_of : Verdict → Result Reply Refusal
+answer_of (Repeat reply) = Ok reply
+answer_of (Accept change reply) = Ok reply
+answer_of (Refuse refusal) = Err refusal
+
+-- the state that a verdict leaves: only what is accepted changes it
+abbrev pub left_by : State → Verdict → State
+left_by s (Repeat reply) = s
+left_by s (Accept change reply) = after s change
+left_by s (Refuse refusal) = s
+
+-- the state after one command, and after each of a list in turn
+abbrev pub next : State → Asked → State
+next s (key, order) = left_by s (step_of s key order)
+
+abbrev pub Fold : State → List Asked → State
+Fold s asked = fold next s asked
+
+-- their answers in turn
+abbrev pub Replies : State → List Asked → List (Result Reply Refusal)
+Replies s [] = []
+Replies s ((key, order) ∷ asked) = answer_of (step_of s key order) ∷ Replies (next s (key, order)) asked
+
+-- an import as its commands: pairing i is added under part i
+abbrev pub import : ℕ → List Plan → List Asked
+import number plans = map (λ p. (record { number = number; part = p.0 }, AddPairing p.1)) (enumerate_from 1 plans)
+
+-- a session of a book: the commands that were asked, and how many of them it left done. All were answered and are done,
+-- save perhaps the last
+pub record Session : Type 0 where
+  pub asked : List Asked
+  pub done : ℕ
+  pub in_doubt : (done ≡ length asked) ⊎ (done + 1 ≡ length asked)
+
+-- what is left of a state after sessions that were stopped, each opened on what the one before it left
+abbrev pub Stopped : State → List Session → State
+Stopped s sessions = fold (λ s session. Fold s (take session.done session.asked)) s sessions

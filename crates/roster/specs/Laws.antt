@@ -1,0 +1,111 @@
+-- What holds of every book, in the words of its readers.
+use Rattle.std.specs.Prelude.{◌≡◌, ℕ, Bool, true, false, nat_lt, List, [], ◌∷◌, ◌++◌, map, take, Some, None, ◌↔◌}
+use Rattle.std.specs.FinMap as fin
+use Rattle.std.specs.List.{Contains, fold}
+use Rattle.duty.specs.Plans.{Plan}
+use Rattle.duty.specs.Words.{each_next}
+use Rattle.duty.specs.declared.duty_in_force.DutyInForce.{DutyInForce}
+use Rattle.limits.specs.Rules.{Rule}
+use Rattle.limits.specs.declared.section.Section.{Section}
+use Rattle.command.specs.Keys.{KeyParts, key_name}
+use Rattle.command.specs.Orders.{IsMade}
+use Rattle.command.specs.Texts.{refusal_number}
+use Rattle.command.specs.declared.exceedance.Reply.{Reply}
+use Rattle.command.specs.declared.order.Order.{Order}
+use Rattle.command.specs.declared.order.Order.TheVariants.{Assign, Swap, AddGround}
+use Rattle.roster.specs.Folds.{Asked, Fold, Replies, import}
+use Rattle.roster.specs.Honest.{Honest}
+use Rattle.roster.specs.Places.{none, the_pairing, others, ground_at}
+use Rattle.roster.specs.Refusals.{Row, refusals, duties_of}
+use Rattle.roster.specs.Sound.{Sound}
+use Rattle.roster.specs.State.{State, empty}
+use Rattle.roster.specs.Steps.{step_of, after}
+use Rattle.roster.specs.declared.change.Change.{Change}
+use Rattle.roster.specs.declared.change.Verdict.TheVariants.{Repeat, Accept}
+use Rattle.roster.specs.declared.state.Request.{Request}
+
+-- ---- The order of refusals
+
+abbrev pub number_of : Row → ℕ
+number_of row = refusal_number row.0
+
+-- the refusals of an order stand in the order of their numbers: the first that applies is the lowest-numbered
+abbrev pub IsAscending : Type 0
+IsAscending = (s : State) (order : Order) → each_next nat_lt (map number_of (refusals s order)) ≡ true
+
+-- ---- Assignments and limits
+
+-- what a member who gains duties has then: the others, and the new ones
+pub record Gain : Type 0 where
+  pub others : List DutyInForce
+  pub new : List DutyInForce
+
+-- of each member who gains duties by an assignment
+abbrev pub gains : State → Order → List Gain
+gains s (Assign id who) = record { others = others s who none; new = duties_of s id } ∷ []
+gains s (Swap w) = record { others = others s w.crew (the_pairing w.pairing); new = duties_of s w.other_pairing }
+    ∷ record { others = others s w.other_crew (the_pairing w.other_pairing); new = duties_of s w.pairing }
+    ∷ []
+gains s (AddGround g) = record { others = others s g.crew none; new = (ground_at s.zone (g.id, g)).1 ∷ [] } ∷ []
+gains s order = []
+
+-- a section's rule is broken by the new duties, in some window of minutes
+abbrev pub IsBroken : Gain → Section → Type 0
+IsBroken gain section = Rule section (gain.others ++ gain.new) gain.new
+
+-- the key is free, and no refusal of the order but that for limits (12) applies
+pub record PassesChecks (s : State) (key : KeyParts) (order : Order) : Type 0 where
+  pub free : fin.get s.requests (key_name key) ≡ None
+  pub passes : (row : Row) → Contains (refusals s order) row → (number_of row ≡ 12 → ⊥) → row.1 ≡ false
+
+abbrev pub is_assignment : Order → Bool
+is_assignment (Assign _ _) = true
+is_assignment (Swap _) = true
+is_assignment (AddGround _) = true
+is_assignment order = false
+
+abbrev pub IsAccepted : State → KeyParts → Order → Type 0
+IsAccepted s key order = (change : Change) × (reply : Reply) × (step_of s key order ≡ Accept change reply)
+
+-- an assignment that passes the book's own checks is accepted exactly where it breaks no limit in any window of minutes
+abbrev pub AcceptedWithinLimits : Type 0
+AcceptedWithinLimits = (s : State) (key : KeyParts) (order : Order) → is_assignment order ≡ true → PassesChecks s key order →
+    IsAccepted s key order ↔ ((gain : Gain) → Contains (gains s order) gain → (section : Section) → IsBroken gain section → ⊥)
+
+-- ---- Sound and honest books
+
+abbrev pub KeepsSound : Type 0
+KeepsSound = (s : State) (key : KeyParts) (order : Order) (change : Change) (reply : Reply) → IsMade order → Sound s →
+    step_of s key order ≡ Accept change reply → Sound (after s change)
+
+abbrev pub KeepsHonest : Type 0
+KeepsHonest = (s : State) (key : KeyParts) (order : Order) (change : Change) (reply : Reply) → IsMade order → Sound s →
+    Honest s → step_of s key order ≡ Accept change reply → Honest (after s change)
+
+abbrev pub AreMade : List Asked → Type 0
+AreMade asked = (a : Asked) → Contains asked a → IsMade a.1
+
+-- every book that commands made of an empty one is sound and honest
+abbrev pub MadeByCommands : Type 0
+MadeByCommands = (zone : List ℕ) (asked : List Asked) → AreMade asked →
+    Sound (Fold (empty zone) asked) × Honest (Fold (empty zone) asked)
+
+-- ---- Requests act once
+
+-- a key that is held stays held, with its command and reply, whatever is asked
+abbrev pub KeepsRequests : Type 0
+KeepsRequests = (s : State) (key : KeyParts) (request : Request) (asked : List Asked) →
+    fin.get s.requests (key_name key) ≡ Some request → fin.get (Fold s asked).requests (key_name key) ≡ Some request
+
+-- and its command, asked again, is answered with that reply and changes nothing
+abbrev pub Repeats : Type 0
+Repeats = (s : State) (key : KeyParts) (request : Request) → fin.get s.requests (key_name key) ≡ Some request →
+    step_of s key request.command ≡ Repeat request.reply
+
+-- an import that was stopped after some of its commands, and begun again, any number of times, ends when it is handed in
+-- once more as if it had never been stopped
+abbrev pub Resumes : Type 0
+Resumes = (s : State) (number : ℕ) (plans : List Plan) (stops : List ℕ) →
+    let commands = import number plans in
+    let stopped = fold (λ t stop. Fold t (take stop commands)) s stops in
+    (Fold stopped commands ≡ Fold s commands) × (Replies stopped commands ≡ Replies s commands)

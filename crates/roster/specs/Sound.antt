@@ -1,0 +1,72 @@
+-- A sound state: every name in it, save inside kept commands and replies, names something, and what it holds could have
+-- been made by commands.
+use Rattle.std.specs.Prelude.{◌≡◌, ℕ, ◌+◌, ◌<◌, true, List, map, length, Option, Some, None, slice_get}
+use Rattle.std.specs.FinMap as fin
+use Rattle.values.specs.Name.{name_cmp}
+use Rattle.duty.specs.Pairings.{pairing_fault, actual_fault}
+use Rattle.duty.specs.Plans.{Plan, GroundPlan, ActualTimes, as_planned}
+use Rattle.duty.specs.declared.fdp.Fdp.{Fdp}
+use Rattle.limits.specs.declared.section.Section.{Section}
+use Rattle.command.specs.Keys.{KeyParts, key_name}
+use Rattle.command.specs.declared.member.Member.{Member}
+use Rattle.command.specs.declared.member.Seat.{Seat}
+use Rattle.command.specs.declared.member.Seat.TheVariants.{Captain, FirstOfficer}
+use Rattle.roster.specs.Pairings.{is_flown, is_fully_crewed}
+use Rattle.roster.specs.State.{State, exceedance_name}
+use Rattle.roster.specs.declared.state.PeriodId.{PeriodId}
+use Rattle.roster.specs.declared.state.Request.{Request}
+use Rattle.roster.specs.declared.state.Rostered.{Rostered}
+
+abbrev pub Crew : Type 0
+Crew = fin.FinMap name_cmp Member
+
+-- a holder is a member of the seat's kind
+abbrev pub IsHolder : Crew → Seat → Option (List ℕ) → Type 0
+IsHolder crew seat holder = (who : List ℕ) → holder ≡ Some who → (m : Member) × (fin.get crew who ≡ Some m) × (m.seat ≡ seat)
+
+-- an actual at place i, counted from 0, is of that period of the plan, with as many segments, in order
+pub record IsActual (plan : Plan) (i : ℕ) (a : ActualTimes) : Type 0 where
+  pub fdp : Fdp
+  pub planned : slice_get plan.periods i ≡ Some fdp
+  pub number : a.period ≡ i + 1
+  pub count : length fdp.segments ≡ length a.segments
+  pub order : actual_fault a ≡ None
+
+pub record SoundPairing (crew : Crew) (id : List ℕ) (r : Rostered) : Type 0 where
+  pub named : r.plan.id ≡ id
+  -- a plan that `Pairing::new` makes
+  pub plan : pairing_fault r.plan ≡ None
+  pub planned : map as_planned r.plan.periods ≡ r.plan.periods
+  pub captain : IsHolder crew Captain r.captain
+  pub first_officer : IsHolder crew FirstOfficer r.first_officer
+  -- a place for the actual of each period
+  pub places : length r.actuals ≡ length r.plan.periods
+  pub actuals : (i : ℕ) (a : ActualTimes) → slice_get r.actuals i ≡ Some (Some a) → IsActual r.plan i a
+  -- both seats of a flown pairing are held
+  pub crewed : is_flown r ≡ true → is_fully_crewed r ≡ true
+
+-- a ground duty is of a member, and begins before it ends
+pub record SoundGround (crew : Crew) (id : List ℕ) (g : GroundPlan) : Type 0 where
+  pub named : g.id ≡ id
+  pub member : Member
+  pub of_member : fin.get crew g.crew ≡ Some member
+  pub begins : g.begin < g.end
+
+-- an exceedance is of a key that is held, a member, and a period with an actual
+pub record SoundExceedance (s : State) (key : KeyParts) (crew : List ℕ) (p : PeriodId) : Type 0 where
+  pub request : Request
+  pub held : fin.get s.requests (key_name key) ≡ Some request
+  pub member : Member
+  pub of_member : fin.get s.crew crew ≡ Some member
+  pub rostered : Rostered
+  pub of_pairing : fin.get s.pairings p.pairing ≡ Some rostered
+  pub place : ℕ
+  pub number : p.number ≡ place + 1
+  pub actual : ActualTimes
+  pub flown : slice_get rostered.actuals place ≡ Some (Some actual)
+
+pub record Sound (s : State) : Type 0 where
+  pub pairings : (id : List ℕ) (r : Rostered) → fin.get s.pairings id ≡ Some r → SoundPairing s.crew id r
+  pub grounds : (id : List ℕ) (g : GroundPlan) → fin.get s.grounds id ≡ Some g → SoundGround s.crew id g
+  pub exceedances : (key : KeyParts) (crew : List ℕ) (section : Section) (p : PeriodId) →
+      fin.get s.exceedances (exceedance_name key crew section) ≡ Some p → SoundExceedance s key crew p
