@@ -14,6 +14,7 @@ use Rattle.command.specs.contracts.member.SeatPartialEq.TheImpl.{ghosts as seats
 use Rattle.command.specs.declared.exceedance.Exceedance.{Exceedance}
 use Rattle.command.specs.declared.order.Order.{Order}
 use Rattle.command.specs.declared.order.Order.TheVariants.{AddCrew, AddPairing, CancelPairing, Assign, Release, Swap, AddGround, CancelGround, Actual}
+use Rattle.command.specs.declared.order.Swap as swap
 use Rattle.command.specs.declared.refusal.Refusal.{Refusal}
 use Rattle.command.specs.declared.refusal.Refusal.TheVariants.{NoSuchCrew, CrewExists, NoSuchPairing, PairingExists, SeatTaken, WrongSeat, NotAssigned, PairingCrewed, Flown, Overlap, Limits, NoSuchDuty, GroundExists, NoSuchGround, SegmentCount}
 use Rattle.roster.specs.Pairings.{holder, is_held_by, is_flown, is_crewed, is_fully_crewed}
@@ -80,6 +81,15 @@ Row = Refusal × Bool
 abbrev pub over_limits : List Exceedance → Row
 over_limits broken = (Limits broken, nat_lt 0 (length broken))
 
+-- of a swap, by the duties of both pairings: each member loses the own pairing, and the other's duties are new
+abbrev pub trade_rows : State → swap.Swap → List DutyInForce → List DutyInForce → List Row
+trade_rows s w given taken =
+    let rest = others s w.crew (the_pairing w.pairing) in
+    let other_rest = others s w.other_crew (the_pairing w.other_pairing) in
+    (Overlap, overlaps taken rest || overlaps given other_rest)
+    ∷ over_limits (broken_by w.crew rest taken ++ broken_by w.other_crew other_rest given)
+    ∷ []
+
 unfoldable pub refusals : State → Order → List Row
 refusals s (AddCrew who member) = (CrewExists, is_member s who) ∷ []
 refusals s (AddPairing plan) = (PairingExists, is_pairing s plan.id) ∷ []
@@ -100,19 +110,13 @@ refusals s (Release id who) =
     ∷ (NotAssigned, not (is_assigned s id who))
     ∷ (Flown, has_flown s id)
     ∷ []
--- each member loses the own pairing, and the other's is new
 refusals s (Swap w) =
-    let rest = others s w.crew (the_pairing w.pairing) in
-    let other_rest = others s w.other_crew (the_pairing w.other_pairing) in
     (NoSuchCrew, not (is_member s w.crew && is_member s w.other_crew))
     ∷ (NoSuchPairing, not (is_pairing s w.pairing && is_pairing s w.other_pairing))
     ∷ (WrongSeat, are_of_two_kinds s w.crew w.other_crew)
     ∷ (NotAssigned, not (is_assigned s w.pairing w.crew && is_assigned s w.other_pairing w.other_crew))
     ∷ (Flown, has_flown s w.pairing || has_flown s w.other_pairing)
-    ∷ (Overlap, overlaps (duties_of s w.other_pairing) rest || overlaps (duties_of s w.pairing) other_rest)
-    ∷ over_limits (broken_by w.crew rest (duties_of s w.other_pairing)
-        ++ broken_by w.other_crew other_rest (duties_of s w.pairing))
-    ∷ []
+    ∷ trade_rows s w (duties_of s w.pairing) (duties_of s w.other_pairing)
 refusals s (AddGround g) =
     let new = (ground_at s.zone (g.id, g)).1 ∷ [] in
     (NoSuchCrew, not (is_member s g.crew))

@@ -1,11 +1,14 @@
-//! The refusals of each order.
-ghost use Rattle.std.specs.Prelude.{◌≡◌, ◌∷◌, [], IfOk};
-ghost use Rattle.command.specs.declared.order.Order.TheVariants.{Assign, Release};
-ghost use Rattle.roster.specs.Refusals.{refusal_of, first_of, over_limits};
+//! Which refusal an order gets, if any.
+ghost use Rattle.std.specs.Prelude.{◌≡◌, ◌∷◌, [], ◌++◌, IfOk};
+ghost use Rattle.command.specs.declared.order.Order.TheVariants.{AddCrew, AddPairing, CancelPairing, Assign, Release, Swap as Swaps, AddGround, CancelGround, Actual as Flies};
+ghost use Rattle.command.specs.declared.member.Member.{Member};
+ghost use Rattle.duty.specs.Plans.{Plan};
+ghost use Rattle.roster.specs.Places.{duties, periods_at};
+ghost use Rattle.roster.specs.Refusals.{refusal_of, first_of, over_limits, trade_rows};
 
-use crate::duties::{Fit, LeftOut, is_held_by};
+use crate::duties::{LeftOut, is_held_by};
 use crate::state::{Roster, Rostered};
-use command::{Exceedance, Order, Refusal, Seat, Swap};
+use command::{Exceedance, Order, Refusal, Swap};
 use duty::{Actual, CrewId, Duty, Ground, GroundId, History, PairingId};
 use std::alloc::Global;
 use values::{Copied, Items, MemoryFault};
@@ -22,6 +25,60 @@ fn over_limits(broken: Vec<Exceedance>) -> Option<Refusal>
 }
 
 impl Roster {
+    /// The first refusal that applies to the order: the lowest-numbered.
+    pub(crate) fn refusal(
+        &self,
+        alloc: Global,
+        order: &Order,
+    ) -> Result<Option<Refusal>, MemoryFault>
+        ensures { IfOk result (λ refusal. refusal ≡ refusal_of self.now order.now) }
+    {
+        match order {
+            Order::AddCrew(who, _) => Ok(self.refuse_add_crew(who)),
+            Order::AddPairing(pairing) => Ok(self.refuse_add_pairing(pairing.id())),
+            Order::CancelPairing(id) => Ok(self.refuse_cancel_pairing(id)),
+            Order::Assign(id, who) => self.refuse_assign(alloc, id, who),
+            Order::Release(id, who) => Ok(self.refuse_release(id, who)),
+            Order::Swap(swap) => self.refuse_swap(alloc, swap),
+            Order::AddGround(ground) => self.refuse_add_ground(alloc, ground),
+            Order::CancelGround(id) => Ok(self.refuse_cancel_ground(id)),
+            Order::Actual(id, actual) => Ok(self.refuse_actual(id, actual)),
+        }
+    }
+
+    #[tactic(auto, unfolding(crate::specs::Refusals::refusals))]
+    fn refuse_add_crew(&self, who: &CrewId) -> Option<Refusal>
+        ensures { (member : Member) → result ≡ refusal_of self.now (AddCrew who.now member) }
+    {
+        if self.crew.contains(who) {
+            return Some(Refusal::CrewExists);
+        }
+        None
+    }
+
+    #[tactic(auto, unfolding(crate::specs::Refusals::refusals))]
+    fn refuse_add_pairing(&self, id: &PairingId) -> Option<Refusal>
+        ensures { (plan : Plan) → id.now ≡ plan.id → result ≡ refusal_of self.now (AddPairing plan) }
+    {
+        if self.pairings.contains(id) {
+            return Some(Refusal::PairingExists);
+        }
+        None
+    }
+
+    #[tactic(auto, unfolding(crate::specs::Refusals::refusals))]
+    fn refuse_cancel_pairing(&self, id: &PairingId) -> Option<Refusal>
+        ensures { result ≡ refusal_of self.now (CancelPairing id.now) }
+    {
+        let Some(rostered) = self.pairings.get(id) else {
+            return Some(Refusal::NoSuchPairing);
+        };
+        if rostered.captain.is_some() || rostered.first_officer.is_some() {
+            return Some(Refusal::PairingCrewed);
+        }
+        None
+    }
+
     #[tactic(auto, unfolding(crate::specs::Refusals::refusals))]
     fn refuse_assign(
         &self,
@@ -66,4 +123,122 @@ impl Roster {
         }
         None
     }
+
+    #[tactic(auto, unfolding(crate::specs::Refusals::refusals))]
+    fn refuse_swap(&self, alloc: Global, swap: &Swap) -> Result<Option<Refusal>, MemoryFault>
+        ensures { IfOk result (λ refusal. refusal ≡ refusal_of self.now (Swaps swap.now)) }
+    {
+        let (Some(member), Some(other)) =
+            (self.crew.get(&swap.crew), self.crew.get(&swap.other_crew))
+        else {
+            return Ok(Some(Refusal::NoSuchCrew));
+        };
+        let (Some(given), Some(taken)) = (
+            self.pairings.get(&swap.pairing),
+            self.pairings.get(&swap.other_pairing),
+        ) else {
+            return Ok(Some(Refusal::NoSuchPairing));
+        };
+        if member.seat != other.seat {
+            return Ok(Some(Refusal::WrongSeat));
+        }
+        if !is_held_by(&swap.crew, given.holder(member.seat))
+            || !is_held_by(&swap.other_crew, taken.holder(other.seat))
+        {
+            return Ok(Some(Refusal::NotAssigned));
+        }
+        if given.is_flown() || taken.is_flown() {
+            return Ok(Some(Refusal::Flown));
+        }
+        self.refuse_trade(alloc, swap, given, taken)
+    }
+
+    /// Whether a member may not take what the other gives.
+    fn refuse_trade(
+        &self,
+        alloc: Global,
+        swap: &Swap,
+        given: &Rostered,
+        taken: &Rostered,
+    ) -> Result<Option<Refusal>, MemoryFault>
+        ensures { IfOk result (λ refusal. refusal ≡ first_of (trade_rows self.now swap.now
+            (duties (periods_at self.now.zone (swap.now.pairing, given.now)))
+            (duties (periods_at self.now.zone (swap.now.other_pairing, taken.now))))) }
+    {
+        let new = taken.duties(alloc, &self.zone, &swap.other_pairing)?;
+        let fit = self.fit(alloc, &swap.crew, LeftOut::Pairing(&swap.pairing), &new)?;
+        let other_new = given.duties(alloc, &self.zone, &swap.pairing)?;
+        let other_out = LeftOut::Pairing(&swap.other_pairing);
+        let other_fit = self.fit(alloc, &swap.other_crew, other_out, &other_new)?;
+        if fit.overlaps || other_fit.overlaps {
+            return Ok(Some(Refusal::Overlap));
+        }
+        Ok(over_limits(joined(fit.broken, other_fit.broken)?))
+    }
+
+    #[tactic(auto, unfolding(crate::specs::Refusals::refusals))]
+    fn refuse_add_ground(
+        &self,
+        alloc: Global,
+        ground: &Ground,
+    ) -> Result<Option<Refusal>, MemoryFault>
+        ensures { IfOk result (λ refusal. refusal ≡ refusal_of self.now (AddGround ground.now)) }
+    {
+        if !self.crew.contains(ground.crew()) {
+            return Ok(Some(Refusal::NoSuchCrew));
+        }
+        let mut new = History::empty(alloc);
+        new.insert(alloc, Duty::Ground(ground.copy(alloc)?), &self.zone)?;
+        let fit = self.fit(alloc, ground.crew(), LeftOut::Nothing, &new)?;
+        if fit.overlaps {
+            return Ok(Some(Refusal::Overlap));
+        }
+        if let Some(refusal) = over_limits(fit.broken) {
+            return Ok(Some(refusal));
+        }
+        if self.grounds.contains(ground.id()) {
+            return Ok(Some(Refusal::GroundExists));
+        }
+        Ok(None)
+    }
+
+    #[tactic(auto, unfolding(crate::specs::Refusals::refusals))]
+    fn refuse_cancel_ground(&self, id: &GroundId) -> Option<Refusal>
+        ensures { result ≡ refusal_of self.now (CancelGround id.now) }
+    {
+        if self.grounds.contains(id) {
+            return None;
+        }
+        Some(Refusal::NoSuchGround)
+    }
+
+    #[tactic(auto, unfolding(crate::specs::Refusals::refusals))]
+    fn refuse_actual(&self, id: &PairingId, actual: &Actual) -> Option<Refusal>
+        ensures { result ≡ refusal_of self.now (Flies id.now actual.now) }
+    {
+        let Some(rostered) = self.pairings.get(id) else {
+            return Some(Refusal::NoSuchPairing);
+        };
+        if rostered.captain.is_none() || rostered.first_officer.is_none() {
+            return Some(Refusal::NotAssigned);
+        }
+        let Some(period) = rostered.planned(actual.period()) else {
+            return Some(Refusal::NoSuchDuty);
+        };
+        if period.segments.as_slice().len() != actual.segments().len() {
+            return Some(Refusal::SegmentCount(actual.period()));
+        }
+        None
+    }
+}
+
+/// The one list, and the other after it.
+pub(crate) fn joined(
+    mut list: Vec<Exceedance>,
+    mut other: Vec<Exceedance>,
+) -> Result<Vec<Exceedance>, MemoryFault>
+    ensures { IfOk result (λ joined. joined.items ≡ list.items ++ other.items) }
+{
+    list.append(&mut other)?;
+    Ok(list)
 }

@@ -1,9 +1,10 @@
-ghost use Rattle.std.specs.Prelude.{◌≡◌, Ok, IfOk};
+ghost use Rattle.std.specs.Prelude.{◌≡◌, ◌-◌, Ok, IfOk, slice_get};
+ghost use Rattle.std.specs.Option.{option_copied};
 ghost use Rattle.roster.specs.State.{empty};
 ghost use Rattle.roster.specs.Pairings.{holder, is_flown, unheld};
 
 use command::{Command, Key, Member, Reply, Seat};
-use duty::{Actual, CrewId, Ground, GroundId, Pairing, PairingId};
+use duty::{Actual, CrewId, Fdp, Ground, GroundId, Pairing, PairingId};
 use limits::Section;
 use std::alloc::Global;
 use time117::Zone;
@@ -93,6 +94,13 @@ impl Rostered {
             Seat::Captain => &self.captain,
             Seat::FirstOfficer => &self.first_officer,
         }
+    }
+
+    /// A period as it is planned, by its number from 1.
+    pub fn planned(&self, number: u8) -> Option<&Fdp>
+        ensures { option_copied result ≡ slice_get self.now.plan.periods (number - 1) }
+    {
+        self.plan.periods().get(usize::from(number).saturating_sub(1))
     }
 
     /// Whether a period has an actual.
