@@ -1,6 +1,6 @@
 -- Which orders are refused before the book looks at them, and with which fault. Shapes of texts come first, in the order
 -- of the fields; an actual's count and times come after the shape of its pairing's id.
-use Rattle.std.specs.Prelude.{not, List, [], ◌∷◌, Option}
+use Rattle.std.specs.Prelude.{not, [], ◌∷◌, Option}
 use Rattle.std.specs.Str.{bytes_eq}
 use Rattle.duty.specs.Pairings.{pairing_fault, ground_fault, actual_fault}
 use Rattle.duty.specs.Shape.{is_id, is_plain_text}

@@ -1,7 +1,6 @@
 ghost use Rattle.std.specs.Prelude.{◌≡◌, None};
-ghost use Rattle.duty.specs.Words.{checked};
 ghost use Rattle.duty.specs.Shape.{is_id, is_plain_text};
-ghost use Rattle.duty.specs.Words.{unless};
+ghost use Rattle.duty.specs.Words.{checked, unless};
 ghost use Rattle.duty.specs.declared.fault.DutyFault.TheVariants.{BadField};
 ghost use Rattle.duty.specs.declared.fault.Field.TheVariants as field;
 ghost use Rattle.command.specs.Orders.{order_fault, swap_fault};
