@@ -1,6 +1,6 @@
 -- Which orders are refused before the book looks at them, and with which fault. Shapes of texts come first, in the order
--- of the fields.
-use Rattle.std.specs.Prelude.{◌≡◌, ◌≤◌, not, List, [], ◌∷◌, map, Option, None}
+-- of the fields; an actual's count and times come after the shape of its pairing's id.
+use Rattle.std.specs.Prelude.{◌≡◌, ◌≤◌, not, [], ◌∷◌, map, Option, None}
 use Rattle.std.specs.Str.{bytes_eq}
 use Rattle.duty.specs.Pairings.{pairing_fault, ground_fault, actual_fault}
 use Rattle.duty.specs.Plans.{as_planned}
@@ -24,6 +24,7 @@ swap_fault w =
     ∷ unless (not (bytes_eq w.crew w.other_crew)) (BadField field.OtherCrew)
     ∷ [])
 
+-- the fields of each order in turn; a pairing, a ground duty and an actual are refused as where they are made
 unfoldable pub order_fault : Order → Option DutyFault
 order_fault (AddCrew id member) =
     first_fault (unless (is_id id) (BadField field.Crew) ∷ unless (is_plain_text member.name) (BadField field.Name) ∷ [])

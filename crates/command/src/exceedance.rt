@@ -1,5 +1,5 @@
-use limits::Section;
 use duty::CrewId;
+use limits::Section;
 use std::alloc::Global;
 use values::{Copied, Items, MemoryFault};
 

@@ -2,7 +2,7 @@ use std::alloc::Global;
 use std::fmt;
 use values::{Copied, Exact, MemoryFault, Text};
 
-/// A seat of a pairing, and so the kind of a member, who takes the seat of the own kind.
+/// A seat of a pairing, and the kind of a member, who takes the seat of that kind.
 #[derive(Clone, Copy, Debug, PartialEq, Eq, PartialOrd, Ord)]
 pub enum Seat {
     Captain,
@@ -30,7 +30,7 @@ impl Exact for Seat {
     ghost exact = { seat_same };
 }
 
-/// A member of the crew: the seat of the own kind, and a name.
+/// A member of the crew: the seat that the member takes, and a name.
 #[derive(PartialEq, Eq, Drop)]
 pub struct Member {
     pub seat: Seat,

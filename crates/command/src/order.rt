@@ -1,7 +1,6 @@
 ghost use Rattle.std.specs.Prelude.{◌≡◌};
-ghost use Rattle.duty.specs.Words.{checked};
 ghost use Rattle.duty.specs.Shape.{is_id, is_plain_text};
-ghost use Rattle.duty.specs.Words.{unless};
+ghost use Rattle.duty.specs.Words.{checked, unless};
 ghost use Rattle.duty.specs.declared.fault.DutyFault.TheVariants.{BadField};
 ghost use Rattle.duty.specs.declared.fault.Field.TheVariants as field;
 ghost use Rattle.command.specs.Orders.{order_fault, swap_fault, IsMade, IsTyped};
@@ -21,7 +20,7 @@ pub enum Order {
     AddPairing(Pairing),
     /// The pairing goes; its id may be used again.
     CancelPairing(PairingId),
-    /// The member takes the seat of the own kind.
+    /// The member takes the seat of the member's own kind.
     Assign(PairingId, CrewId),
     /// The member's seat is free again.
     Release(PairingId, CrewId),
@@ -83,7 +82,7 @@ impl Command {
     }
 }
 
-/// The first fault of an order.
+/// The first fault of an order. A pairing, a ground duty and an actual have none, as the clauses of the calls on them say.
 #[tactic(auto, unfolding(crate::specs::Orders::order_fault))]
 fn check(order: &Order) -> Result<(), DutyFault>
     ensures fault { result ≡ checked (order_fault order.now) tt }
@@ -194,7 +193,10 @@ impl Copied for Order {
             Order::AddPairing(pairing) => Order::AddPairing(pairing.copy(alloc)?),
             Order::CancelPairing(pairing) => Order::CancelPairing(pairing.copy(alloc)?),
             Order::Assign(pairing, crew) => Order::Assign(pairing.copy(alloc)?, crew.copy(alloc)?),
-            Order::Release(pairing, crew) => Order::Release(pairing.copy(alloc)?, crew.copy(alloc)?),
+            Order::Release(pairing, crew) => Order::Release(
+                pairing.copy(alloc)?,
+                crew.copy(alloc)?,
+            ),
             Order::Swap(swap) => Order::Swap(swap.copy(alloc)?),
             Order::AddGround(ground) => Order::AddGround(ground.copy(alloc)?),
             Order::CancelGround(ground) => Order::CancelGround(ground.copy(alloc)?),
@@ -224,7 +226,7 @@ impl Exact for Swap {
         (both_same _ _ (bytes_eq-Decides a.pairing b.pairing)
         (both_same _ _ (bytes_eq-Decides a.crew b.crew)
         (both_same _ _ (bytes_eq-Decides a.other_pairing b.other_pairing)
-            (bytes_eq-Decides a.other_crew b.other_crew)))) };
+        (bytes_eq-Decides a.other_crew b.other_crew)))) };
 }
 
 impl Exact for Order {

@@ -104,6 +104,7 @@ impl Rostered {
     }
 
     /// The duties of the pairing in force.
+    #[tactic(auto, using(crate::proofs::LeftLemmas::left_none))]
     pub(crate) fn duties(&self, alloc: Global, zone: &Zone, id: &PairingId) -> Result<History, MemoryFault>
         ensures { IfOk result (λ history. history ≡ duties (periods_at zone.now (id.now, self.now))) }
     {
@@ -150,6 +151,7 @@ impl Roster {
     }
 
     /// The member's other duties.
+    #[tactic(auto, using(crate::proofs::LeftLemmas::left_append, crate::proofs::LeftLemmas::left_grounds))]
     fn others(&self, alloc: Global, who: &CrewId, out: LeftOut) -> Result<History, MemoryFault>
         ensures { IfOk result (λ history. history ≡ others self.now who.now (leaves_out out.entry)) }
     {
