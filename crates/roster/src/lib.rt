@@ -6,6 +6,7 @@ mod duties;
 pub mod laws;
 mod refuse;
 mod state;
+mod step;
 #[cfg(test)]
 mod tests;
 

@@ -1,0 +1,161 @@
+//! One step: what a command is answered.
+ghost use Rattle.std.specs.Prelude.{◌≡◌, IfOk, None};
+ghost use Rattle.roster.specs.Steps.{step_of, judged, seat_change, seats_of, flown_duty, broken_by_holder, recorded_by};
+
+use crate::change::{Change, SeatChange, Verdict};
+use crate::duties::LeftOut;
+use crate::refuse::joined;
+use crate::state::Roster;
+use command::{Command, Exceedance, Key, Order, Refusal, Reply};
+use duty::{Actual, CrewId, Duty, History, PairingId};
+use std::alloc::Global;
+use values::{Copied, Items, MemoryFault};
+
+impl Roster {
+    /// What a command is answered under a key. A key that holds the command repeats its reply, and holds no other command;
+    /// under a free key the first refusal that applies is the answer, in the order of their numbers. The roster stays as
+    /// it is: what is accepted is made by [`Roster::apply`].
+    #[tactic(auto, unfolding(crate::specs::Steps::step_of))]
+    pub fn step(
+        &self,
+        alloc: Global,
+        key: Key,
+        command: &Command,
+    ) -> Result<Verdict, MemoryFault>
+        ensures { IfOk result (λ verdict. verdict ≡ step_of self.now key command.now) }
+    {
+        if let Some(kept) = self.requests.get(&key) {
+            if kept.command == *command {
+                return Ok(Verdict::Repeat(kept.reply.copy(alloc)?));
+            }
+            return Ok(Verdict::Refuse(Refusal::NumberUsed));
+        }
+        match self.refusal(alloc, command.order())? {
+            Some(refusal) => Ok(Verdict::Refuse(refusal)),
+            None => self.accept(alloc, key, command),
+        }
+    }
+
+    /// What an accepted command changes, and its reply.
+    fn accept(&self, alloc: Global, key: Key, command: &Command) -> Result<Verdict, MemoryFault>
+        ensures { IfOk result (λ verdict. verdict ≡ judged self.now key command.now None) }
+    {
+        let reply = Reply {
+            exceedances: Items::new(self.recorded(alloc, command.order())?),
+        };
+        let change = Change {
+            key,
+            command: command.copy(alloc)?,
+            reply: reply.copy(alloc)?,
+            seats: Items::new(self.seats(alloc, command.order())?),
+        };
+        Ok(Verdict::Accept(change, reply))
+    }
+
+    /// The seat of the member's kind in the pairing, with this holder.
+    fn seat_change(
+        &self,
+        alloc: Global,
+        id: &PairingId,
+        who: &CrewId,
+        holder: Option<CrewId>,
+    ) -> Result<Vec<SeatChange>, MemoryFault>
+        ensures { IfOk result (λ seats. seats.items ≡ seat_change self.now id.now who.now holder) }
+    {
+        let mut seats = Vec::new(alloc);
+        if let Some(member) = self.crew.get(who) {
+            seats.push(SeatChange {
+                pairing: id.copy(alloc)?,
+                seat: member.seat,
+                holder,
+            })?;
+        }
+        Ok(seats)
+    }
+
+    /// The seats that get or lose a holder.
+    fn seats(&self, alloc: Global, order: &Order) -> Result<Vec<SeatChange>, MemoryFault>
+        ensures { IfOk result (λ seats. seats.items ≡ seats_of self.now order.now) }
+    {
+        match order {
+            Order::Assign(id, who) => self.seat_change(alloc, id, who, Some(who.copy(alloc)?)),
+            Order::Release(id, who) => self.seat_change(alloc, id, who, None),
+            Order::Swap(swap) => {
+                let holder = Some(swap.other_crew.copy(alloc)?);
+                let mut seats = self.seat_change(alloc, &swap.pairing, &swap.crew, holder)?;
+                let holder = Some(swap.crew.copy(alloc)?);
+                let mut others =
+                    self.seat_change(alloc, &swap.other_pairing, &swap.other_crew, holder)?;
+                seats.append(&mut others)?;
+                Ok(seats)
+            }
+            Order::AddCrew(..)
+            | Order::AddPairing(_)
+            | Order::CancelPairing(_)
+            | Order::AddGround(_)
+            | Order::CancelGround(_)
+            | Order::Actual(..) => Ok(Vec::new(alloc)),
+        }
+    }
+
+    /// The period with its new times.
+    fn flown_duty(
+        &self,
+        alloc: Global,
+        id: &PairingId,
+        actual: &Actual,
+    ) -> Result<History, MemoryFault>
+        ensures { IfOk result (λ new. new ≡ flown_duty self.now id.now actual.now) }
+    {
+        let mut new = History::empty(alloc);
+        if let Some(rostered) = self.pairings.get(id) {
+            if let Some(period) = rostered.planned(actual.period()) {
+                new.insert(alloc, Duty::Fdp(period.flown(alloc, actual)?), &self.zone)?;
+            }
+        }
+        Ok(new)
+    }
+
+    /// What a holder breaks by the new times.
+    fn broken_by_holder(
+        &self,
+        alloc: Global,
+        id: &PairingId,
+        actual: &Actual,
+        holder: &Option<CrewId>,
+    ) -> Result<Vec<Exceedance>, MemoryFault>
+        ensures { IfOk result (λ broken. broken.items ≡ broken_by_holder self.now id.now actual.now holder.now) }
+    {
+        let Some(who) = holder else {
+            return Ok(Vec::new(alloc));
+        };
+        let new = self.flown_duty(alloc, id, actual)?;
+        let fit = self.fit(alloc, who, LeftOut::Period(id, actual.period()), &new)?;
+        Ok(fit.broken)
+    }
+
+    /// The exceedances that an order records, the captain's first.
+    #[tactic(auto, unfolding(crate::specs::Steps::recorded_by))]
+    fn recorded(&self, alloc: Global, order: &Order) -> Result<Vec<Exceedance>, MemoryFault>
+        ensures { IfOk result (λ broken. broken.items ≡ recorded_by self.now order.now) }
+    {
+        match order {
+            Order::Actual(id, actual) => {
+                let Some(rostered) = self.pairings.get(id) else {
+                    return Ok(Vec::new(alloc));
+                };
+                let captains = self.broken_by_holder(alloc, id, actual, &rostered.captain)?;
+                let others = self.broken_by_holder(alloc, id, actual, &rostered.first_officer)?;
+                joined(captains, others)
+            }
+            Order::AddCrew(..)
+            | Order::AddPairing(_)
+            | Order::CancelPairing(_)
+            | Order::Assign(..)
+            | Order::Release(..)
+            | Order::Swap(_)
+            | Order::AddGround(_)
+            | Order::CancelGround(_) => Ok(Vec::new(alloc)),
+        }
+    }
+}
