@@ -1,3 +1,4 @@
+pub mod Entries
 pub mod ExceedanceOrder
 pub mod Folds
 pub mod Honest

@@ -112,6 +112,10 @@ effect s change (Actual id a) = record s {
 }
 
 -- and its key holds it with its reply
+abbrev pub kept : State → Change → State
+kept s change = record s {
+  requests = fin.insert s.requests (key_name change.key) (record { command = change.command; reply = change.reply });
+}
+
 unfoldable pub after : State → Change → State
-after s change = let t = effect s change change.command in
-    record t { requests = fin.insert t.requests (key_name change.key) (record { command = change.command; reply = change.reply }) }
+after s change = kept (effect s change change.command) change

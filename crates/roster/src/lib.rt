@@ -1,14 +1,15 @@
 //! The roster as a state machine: what a command is answered in a state, and the state that it leaves.
 #![tactic(auto)]
 
+mod apply;
 mod change;
 mod duties;
 pub mod laws;
+mod put;
 mod refuse;
 mod state;
 mod step;
-#[cfg(test)]
-mod tests;
 
 pub use change::{Change, SeatChange, Verdict};
+pub use put::Entry;
 pub use state::{ExceedanceId, PeriodId, Request, Roster, Rostered};

@@ -1,4 +1,4 @@
-ghost use Rattle.std.specs.Prelude.{◌≡◌, IfOk};
+ghost use Rattle.std.specs.Prelude.{◌≡◌, IfOk, slice_set};
 ghost use Rattle.std.specs.Cmp.Lexicographic.{pointwise, lists_per, lists_equiv};
 
 use crate::copied::Copied;
@@ -34,6 +34,17 @@ impl<T> Items<T> {
         ensures { result.now ≡ self.now }
     {
         self.items.as_slice()
+    }
+}
+
+impl<T: Drop> Items<T> {
+    /// Puts a value in the place of the one at `at`, counted from 0, if there is one.
+    pub fn set(&mut self, at: usize, value: T)
+        ensures { self.new ≡ slice_set self.old at value }
+    {
+        if at < self.items.len() {
+            self.items[at] = value;
+        }
     }
 }
 

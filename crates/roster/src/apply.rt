@@ -1,0 +1,174 @@
+//! What an accepted command leaves.
+ghost use Rattle.std.specs.Prelude.{◌≡◌, IfOk, OnOk, OnErr, None};
+ghost use Rattle.std.specs.FinMap as fin;
+ghost use Rattle.std.specs.List.{fold};
+ghost use Rattle.command.specs.Keys.{key_name};
+ghost use Rattle.roster.specs.Steps.{effect, after, reseated, recorded, with_actual};
+ghost use Rattle.roster.specs.declared.state.PeriodId.{PeriodId as PeriodOf};
+ghost use Rattle.values.specs.Name.{changed_at};
+
+use crate::change::{Change, SeatChange};
+use crate::state::{ExceedanceId, PeriodId, Request, Roster, Rostered};
+use command::{Exceedance, Key, Order, Seat};
+use duty::{Actual, CrewId, PairingId};
+use std::alloc::Global;
+use values::{Copied, Edit, MemoryFault, Table, copies_of};
+
+/// Puts a holder, or none, into a seat.
+#[derive(Drop)]
+struct Seated {
+    seat: Seat,
+    holder: Option<CrewId>,
+}
+
+impl Edit<Rostered> for Seated {
+    ghost use Rattle.roster.specs.Pairings.{with_holder};
+
+    ghost edited = { λ seated rostered. with_holder seated.seat seated.holder rostered };
+
+    fn edit(self, rostered: &mut Rostered) {
+        match self.seat {
+            Seat::Captain => rostered.captain = self.holder,
+            Seat::FirstOfficer => rostered.first_officer = self.holder,
+        }
+    }
+}
+
+/// Puts an actual in the place of its period's plan or earlier actual.
+#[derive(Drop)]
+struct Flown {
+    actual: Actual,
+}
+
+impl Edit<Rostered> for Flown {
+    ghost use Rattle.roster.specs.Steps.{with_actual};
+
+    ghost edited = { λ flown rostered. with_actual flown.actual rostered };
+
+    fn edit(self, rostered: &mut Rostered) {
+        let place = usize::from(self.actual.period()).saturating_sub(1);
+        rostered.actuals.set(place, Some(self.actual));
+    }
+}
+
+/// Puts the holders into their seats.
+fn reseat(pairings: &mut Table<PairingId, Rostered>, seats: Vec<SeatChange>)
+    ensures { pairings.new ≡ fold reseated pairings.old seats.items }
+{
+    for change in seats {
+        let SeatChange {
+            pairing,
+            seat,
+            holder,
+        } = change;
+        pairings.edit(&pairing, Seated { seat, holder });
+    }
+}
+
+/// Adds the exceedances that a command records of a period.
+fn record_all(
+    alloc: Global,
+    key: Key,
+    pairing: &PairingId,
+    number: u8,
+    exceedances: &[Exceedance],
+    records: &mut Table<ExceedanceId, PeriodId>,
+) -> Result<(), MemoryFault>
+    ensures { let period : PeriodOf = record { pairing = pairing.now; number = number } in
+        OnOk result (records.new ≡ fold (recorded key period) records.old exceedances.now) }
+{
+    for exceedance in exceedances {
+        let id = ExceedanceId {
+            key,
+            crew: exceedance.crew.copy(alloc)?,
+            section: exceedance.section,
+        };
+        let period = PeriodId {
+            pairing: pairing.copy(alloc)?,
+            number,
+        };
+        records.insert(id, period)?;
+    }
+    Ok(())
+}
+
+impl Roster {
+    /// Makes the change, or leaves the roster as it is where there is no memory. The change is one that [`Roster::step`]
+    /// gave of this roster, or at least its key is free.
+    #[tactic(auto, unfolding(crate::specs::Steps::after), using(crate::proofs::After::after_effect, crate::proofs::After::remove_inserted))]
+    pub fn apply(&mut self, alloc: Global, change: &Change) -> Result<(), MemoryFault>
+        requires { fin.get self.old.requests (key_name change.now.key) ≡ None }
+        ensures ok { OnOk result (self.new ≡ after self.old change.now) }
+        ensures err { OnErr result (self.new ≡ self.old) }
+    {
+        let request = Request {
+            command: change.command.copy(alloc)?,
+            reply: change.reply.copy(alloc)?,
+        };
+        self.requests.insert(change.key, request)?;
+        if let Err(fault) = self.effect(alloc, change, change.command.order()) {
+            self.requests.remove(&change.key);
+            return Err(fault);
+        }
+        Ok(())
+    }
+
+    /// What the change does, but for its request.
+    fn effect(
+        &mut self,
+        alloc: Global,
+        change: &Change,
+        order: &Order,
+    ) -> Result<(), MemoryFault>
+        ensures ok { OnOk result (self.new ≡ effect self.old change.now order.now) }
+        ensures err { OnErr result (self.new ≡ self.old) }
+    {
+        match order {
+            Order::AddCrew(who, member) => self.crew.insert(who.copy(alloc)?, member.copy(alloc)?),
+            Order::AddPairing(plan) => {
+                let rostered = Rostered::unheld(alloc, plan.copy(alloc)?)?;
+                self.pairings.insert(plan.id().copy(alloc)?, rostered)
+            }
+            Order::CancelPairing(id) => {
+                self.pairings.remove(id);
+                Ok(())
+            }
+            Order::Assign(..) | Order::Release(..) | Order::Swap(_) => {
+                let seats = copies_of(alloc, change.seats.as_slice())?;
+                reseat(&mut self.pairings, seats);
+                Ok(())
+            }
+            Order::AddGround(ground) => {
+                self.grounds.insert(ground.id().copy(alloc)?, ground.copy(alloc)?)
+            }
+            Order::CancelGround(id) => {
+                self.grounds.remove(id);
+                Ok(())
+            }
+            Order::Actual(id, actual) => self.fly(alloc, change, id, actual),
+        }
+    }
+
+    /// Puts an actual in its place, and records its exceedances.
+    fn fly(
+        &mut self,
+        alloc: Global,
+        change: &Change,
+        id: &PairingId,
+        actual: &Actual,
+    ) -> Result<(), MemoryFault>
+        ensures ok { let period : PeriodOf = record { pairing = id.now; number = actual.now.period } in
+            OnOk result (self.new ≡ record self.old {
+                pairings = changed_at self.old.pairings id.now (with_actual actual.now);
+                exceedances = fold (recorded change.now.key period) self.old.exceedances change.now.reply.exceedances }) }
+        ensures err { OnErr result (self.new ≡ self.old) }
+    {
+        let mut records = self.exceedances.copy(alloc)?;
+        let recorded = change.reply.exceedances.as_slice();
+        record_all(alloc, change.key, id, actual.period(), recorded, &mut records)?;
+        let actual = actual.copy(alloc)?;
+        self.exceedances = records;
+        self.pairings.edit(id, Flown { actual });
+        Ok(())
+    }
+}
