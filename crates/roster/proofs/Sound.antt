@@ -1,0 +1,4 @@
+-- Accepted orders keep a state sound.
+pub mod Added
+pub mod Kept
+pub mod Seats
