@@ -29,7 +29,12 @@ use Rattle.roster.specs.declared.state.Rostered.{Rostered}
 
 -- ---- Faults
 
-pub last_passed : (front : List (Option DutyFault)) (passed : Bool) (fault : DutyFault) →
+pub no_first : (fault : Option DutyFault) (rest : List (Option DutyFault)) → first_fault (fault ∷ rest) ≡ None →
+    (fault ≡ None) × (first_fault rest ≡ None)
+no_first None rest e = (refl, e)
+no_first (Some fault) rest e = cc
+
+last_passed : (front : List (Option DutyFault)) (passed : Bool) (fault : DutyFault) →
     first_fault (front ++ unless passed fault ∷ []) ≡ None → passed ≡ true
 last_passed [] true fault e = refl
 last_passed [] false fault e = cc
