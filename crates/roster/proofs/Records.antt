@@ -57,22 +57,22 @@ names_same a b x y r t e =
 
 -- ---- Where a record comes from
 
-pub record IsRecorded (P : Exceedance → Type 0) (key : KeyParts) (now : PeriodId) (name : List ℕ) (p : PeriodId) : Type 0 where
+-- an exceedance of which P holds was recorded under this name
+pub record IsRecorded (P : Exceedance → Type 0) (key : KeyParts) (name : List ℕ) : Type 0 where
   pub exceedance : Exceedance
   pub holds : P exceedance
   pub named : name ≡ exceedance_name key exceedance.crew exceedance.section
-  pub of_period : now ≡ p
 
-pub recorded_from : (P : Exceedance → Type 0) (key : KeyParts) (period : PeriodId) (list : List Exceedance) → All P list →
-    (m : fin.FinMap name_cmp PeriodId) (name : List ℕ) (p : PeriodId) →
+pub recorded_from : (P : Exceedance → Type 0) (key : KeyParts) (period : PeriodId) (list : List Exceedance) →
+    All P list → (m : fin.FinMap name_cmp PeriodId) (name : List ℕ) (p : PeriodId) →
     fin.get (fold (recorded key period) m list) name ≡ Some p →
-    IsRecorded P key period name p ⊎ (fin.get m name ≡ Some p)
+    (IsRecorded P key name × (period ≡ p)) ⊎ (fin.get m name ≡ Some p)
 recorded_from P key period [] all m name p e = inr e
 recorded_from P key period (x ∷ list) all m name p e =
     elim (recorded_from P key period list (All-tail P x list all) (recorded key period m x) name p e) [
       | inl now ↦ inl now
       | inr before ↦ elim (inserted m (exceedance_name key x.crew x.section) period name p before) [
-        | inl new ↦ inl (record { exceedance = x; holds = All-head P x list all; named = new.0; of_period = new.1 })
+        | inl new ↦ inl (record { exceedance = x; holds = All-head P x list all; named = new.0 }, new.1)
         | inr old ↦ inr old.1
       ]
     ]

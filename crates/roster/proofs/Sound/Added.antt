@@ -1,12 +1,11 @@
 -- What an order adds or takes away keeps a state sound.
-use Rattle.std.proofs.Common.{◌≡◌, inl, inr, refl, sym, ap, subst, ◌∙◌, ℕ, zero, suc, ◌<◌, Bool, true, false, not, ltb}
-use Rattle.std.proofs.Common.{List, [], ◌∷◌, ◌++◌, map, length, Option, Some, None, is_some, slice_get}
+use Rattle.std.proofs.Common.{◌≡◌, inl, inr, refl, sym, ap, subst, ◌∙◌, ℕ, zero, suc, ◌<◌, Bool, true, false, ltb}
+use Rattle.std.proofs.Common.{List, [], ◌∷◌, ◌++◌, map, Option, Some, None, is_some, slice_get}
 use Rattle.std.specs.FinMap as fin
 use Rattle.std.specs.List.{list_any}
 use Rattle.std.specs.Option.{option_map_or}
-use Rattle.std.proofs.lemmas.Bool.{true≢false, false≢true, or_left, or_right, or_parts, and_left, not-false, ltb-true}
+use Rattle.std.proofs.lemmas.Bool.{true≢false, or_left, or_right, or_parts, and_left, not-false, ltb-true}
 use Rattle.std.proofs.lemmas.List.{length-map}
-use Rattle.values.specs.Name.{name_cmp}
 use Rattle.duty.specs.Pairings.{pairing_fault, ground_fault}
 use Rattle.duty.specs.Plans.{Plan, GroundPlan, ActualTimes, as_planned}
 use Rattle.duty.specs.Words.{first_fault, unless}
@@ -20,7 +19,7 @@ use Rattle.command.specs.declared.order.Order.TheVariants.{AddCrew, AddPairing, 
 use Rattle.roster.proofs.Accepted.{Passed, inserted, removed, insert_keeps, remove_elsewhere}
 use Rattle.roster.proofs.Sound.Kept as kept
 use Rattle.roster.proofs.Sound.Kept.{is_absent, is_there, one_value, IsFlownAt, StaysFlown}
-use Rattle.roster.specs.Pairings.{unheld, is_flown, is_crewed, is_fully_crewed}
+use Rattle.roster.specs.Pairings.{unheld, is_crewed}
 use Rattle.roster.specs.Refusals.{refusals}
 use Rattle.roster.specs.Sound.{SoundPairing, SoundGround, Sound}
 use Rattle.roster.specs.State.{State}
@@ -56,7 +55,8 @@ nothing_flown : {A : Type 0} (X : Type 0) (xs : List A) → list_any is_some (ma
 nothing_flown X [] = refl
 nothing_flown X (x ∷ xs) = nothing_flown X xs
 
-no_actual : {A X : Type 0} (xs : List A) (i : ℕ) (x : X) → slice_get (map {B = Option X} (λ _. None) xs) i ≡ Some (Some x) → ⊥
+no_actual : {A X : Type 0} (xs : List A) (i : ℕ) (x : X) →
+    slice_get (map {B = Option X} (λ _. None) xs) i ≡ Some (Some x) → ⊥
 no_actual [] i x e = cc
 no_actual (y ∷ xs) zero x e = cc
 no_actual (y ∷ xs) (suc i) x e = no_actual xs i x e
@@ -78,8 +78,7 @@ module _ (s : State) (key : KeyParts) (free : fin.get s.requests (key_name key) 
       let crew = fin.insert s.crew who member in record {
         pairings = λ id r e. kept.pairing s.crew crew grows id r (h.pairings id r e);
         grounds = λ id g e. kept.ground s.crew crew grows id g (h.grounds id g e);
-        exceedances = λ k x section p e. kept.exceedance s _ (insert_keeps s.requests (key_name key) _ free) grows
-            (λ _ _ f. f) k x p (h.exceedances k x section p e);
+        exceedances = kept.exceedances s _ refl (insert_keeps s.requests (key_name key) _ free) grows (λ _ _ f. f) h;
       }
 
   pub add_pairing : (plan : Plan) → pairing_fault plan ≡ None → map as_planned plan.periods ≡ plan.periods →
@@ -98,8 +97,8 @@ module _ (s : State) (key : KeyParts) (free : fin.get s.requests (key_name key) 
           | inr old ↦ h.pairings id r old.1
         ];
         grounds = h.grounds;
-        exceedances = λ k x section p e. kept.exceedance s _ (insert_keeps s.requests (key_name key) _ free) (λ _ _ m. m)
-            (kept.stays_flown s.pairings _ grows) k x p (h.exceedances k x section p e);
+        exceedances = kept.exceedances s _ refl (insert_keeps s.requests (key_name key) _ free) (λ _ _ m. m)
+            (kept.stays_flown s.pairings _ grows) h;
       }
 
   pub add_ground : (g : GroundPlan) → ground_fault g ≡ None → Passed (refusals s (AddGround g)) →
@@ -114,8 +113,8 @@ module _ (s : State) (key : KeyParts) (free : fin.get s.requests (key_name key) 
             })
           | inr old ↦ h.grounds id d old.1
         ];
-        exceedances = λ k x section p e. kept.exceedance s _ (insert_keeps s.requests (key_name key) _ free) (λ _ _ m. m)
-            (λ _ _ f. f) k x p (h.exceedances k x section p e);
+        exceedances = kept.exceedances s _ refl (insert_keeps s.requests (key_name key) _ free) (λ _ _ m. m)
+            (λ _ _ f. f) h;
       }
 
   pub cancel_ground : (id : List ℕ) → Sound (after s (change_of s key (CancelGround id)))
@@ -123,8 +122,8 @@ module _ (s : State) (key : KeyParts) (free : fin.get s.requests (key_name key) 
   cancel_ground id = record {
       pairings = h.pairings;
       grounds = λ k g e. let old = removed s.grounds id k g e in h.grounds k g old.1;
-      exceedances = λ k x section p e. kept.exceedance s _ (insert_keeps s.requests (key_name key) _ free) (λ _ _ m. m)
-          (λ _ _ f. f) k x p (h.exceedances k x section p e);
+      exceedances = kept.exceedances s _ refl (insert_keeps s.requests (key_name key) _ free) (λ _ _ m. m)
+          (λ _ _ f. f) h;
     }
 
   -- a flown pairing has both seats held, so it isn't one that is cancelled
@@ -147,7 +146,6 @@ module _ (s : State) (key : KeyParts) (free : fin.get s.requests (key_name key) 
   cancel_pairing id passed = record {
       pairings = λ k r e. let old = removed s.pairings id k r e in h.pairings k r old.1;
       grounds = h.grounds;
-      exceedances = λ k x section p e. kept.exceedance s _ (insert_keeps s.requests (key_name key) _ free) (λ _ _ m. m)
-          (other_flown id (λ r is. sym (ap (λ o. option_map_or is_crewed o false) is) ∙ passed.1.0)) k x p
-          (h.exceedances k x section p e);
+      exceedances = kept.exceedances s _ refl (insert_keeps s.requests (key_name key) _ free) (λ _ _ m. m)
+          (other_flown id (λ r is. sym (ap (λ o. option_map_or is_crewed o false) is) ∙ passed.1.0)) h;
     }

@@ -1,6 +1,6 @@
 -- An actual keeps a state sound.
 use Rattle.std.proofs.Common.{◌≡◌, ◌⊎◌, inl, inr, refl, sym, ap, subst, ◌∙◌, arith, ℕ, zero, suc, ◌+◌, ◌-◌, ◌<◌, ◌≤◌}
-use Rattle.std.proofs.Common.{Bool, true, false, not, eqb, List, [], ◌∷◌, ◌++◌, length, All, Option, Some, None, is_some}
+use Rattle.std.proofs.Common.{true, false, not, eqb, List, [], ◌∷◌, ◌++◌, length, All, Option, Some, None}
 use Rattle.std.specs.Prelude.{slice_get, slice_set}
 use Rattle.std.specs.FinMap as fin
 use Rattle.std.specs.Option.{option_map, option_map_or, option_and_then}
@@ -160,14 +160,16 @@ of_members s id a r is h = subst
 -- ---- The order
 
 module _ (s : State) (key : KeyParts) (free : fin.get s.requests (key_name key) ≡ None) (h : Sound s) where
-  pub actual : (id : List ℕ) (a : ActualTimes) → 1 ≤ a.period → actual_fault a ≡ None → Passed (refusals s (Actual id a)) →
-      Sound (after s (change_of s key (Actual id a)))
+  pub actual : (id : List ℕ) (a : ActualTimes) → 1 ≤ a.period → actual_fault a ≡ None →
+      Passed (refusals s (Actual id a)) → Sound (after s (change_of s key (Actual id a)))
   unfolding after
   actual id a positive faultless passed =
       let f = found s id a passed in
       let r = h.pairings id f.rostered f.there in
       let within : a.period - 1 < length f.rostered.actuals =
-          let e = r.places in let l = get_within f.rostered.plan.periods (a.period - 1) f.fdp f.planned in omega (arith, e, l) in
+          let places = r.places in
+          let planned = get_within f.rostered.plan.periods (a.period - 1) f.fdp f.planned in
+          omega (arith, places, planned) in
       let period : PeriodId = record { pairing = id; number = a.period } in
       let request : Request = record { command = Actual id a; reply = (change_of s key (Actual id a)).reply } in
       record {
@@ -180,15 +182,17 @@ module _ (s : State) (key : KeyParts) (free : fin.get s.requests (key_name key) 
           | inr old ↦ h.pairings k x old.1
         ];
         grounds = h.grounds;
-        exceedances = λ k who section p e. elim (recorded_from (IsOfMember s.crew) key period (recorded_by s (Actual id a))
-            (of_members s id a f.rostered f.there r) s.exceedances (exceedance_name k who section) p e) [
+        exceedances = λ k who section p e. elim (recorded_from (IsOfMember s.crew) key period
+            (recorded_by s (Actual id a)) (of_members s id a f.rostered f.there r)
+            s.exceedances (exceedance_name k who section) p e) [
           | inl now ↦
-              let parts = names_same k key who now.exceedance.crew section now.exceedance.section now.named in
-              subst (SoundExceedance (after s (change_of s key (Actual id a))) k who) now.of_period (record {
+              let x = now.0 in
+              let parts = names_same k key who x.exceedance.crew section x.exceedance.section x.named in
+              subst (SoundExceedance (after s (change_of s key (Actual id a))) k who) now.1 (record {
                 request = request;
                 held = ap (λ k. fin.get (fin.insert s.requests (key_name key) request) (key_name k)) parts.0
                   ∙ insert_here s.requests (key_name key) request;
-                member = now.holds.0; of_member = ap (fin.get s.crew) parts.1 ∙ now.holds.1;
+                member = x.holds.0; of_member = ap (fin.get s.crew) parts.1 ∙ x.holds.1;
                 rostered = with_actual a f.rostered;
                 of_pairing = change_here s.pairings id (with_actual a) ∙ ap (option_map (with_actual a)) f.there;
                 place = a.period - 1; number = omega (arith, positive);

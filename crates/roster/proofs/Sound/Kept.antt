@@ -1,14 +1,14 @@
 -- What keeps exceedances and holders: members, requests and flown periods that stay.
-use Rattle.std.proofs.Common.{◌≡◌, refl, sym, ap, ◌∙◌, ℕ, Bool, true, false, List, Option, Some, None, is_some, slice_get}
+use Rattle.std.proofs.Common.{◌≡◌, refl, sym, ap, ◌∙◌, ℕ, true, false, List, Option, Some, None, is_some, slice_get}
 use Rattle.std.specs.FinMap as fin
 use Rattle.values.specs.Name.{name_cmp}
-use Rattle.duty.specs.Plans.{ActualTimes}
+use Rattle.duty.specs.Plans.{GroundPlan, ActualTimes}
+use Rattle.limits.specs.declared.section.Section.{Section}
 use Rattle.command.specs.Keys.{KeyParts, key_name}
-use Rattle.roster.specs.Sound.{Crew, IsHolder, SoundPairing, SoundGround, SoundExceedance}
-use Rattle.roster.specs.State.{State}
+use Rattle.roster.specs.Sound.{Crew, SoundPairing, SoundGround, SoundExceedance, Sound}
+use Rattle.roster.specs.State.{State, exceedance_name}
 use Rattle.roster.specs.declared.state.PeriodId.{PeriodId}
 use Rattle.roster.specs.declared.state.Rostered.{Rostered}
-use Rattle.duty.specs.Plans.{GroundPlan}
 
 abbrev pub Pairings : Type 0
 Pairings = fin.FinMap name_cmp Rostered
@@ -54,8 +54,15 @@ exceedance s t requests crew flown key who p h =
     record {
       request = h.request; held = requests (key_name key) h.request h.held;
       member = h.member; of_member = crew who h.member h.of_member;
-      rostered = f.rostered; of_pairing = f.there; place = h.place; number = h.number; actual = f.actual; flown = f.flown;
+      rostered = f.rostered; of_pairing = f.there;
+      place = h.place; number = h.number; actual = f.actual; flown = f.flown;
     }
+
+pub exceedances : (s t : State) → t.exceedances ≡ s.exceedances → Grows s.requests t.requests → Grows s.crew t.crew →
+    StaysFlown s.pairings t.pairings → Sound s → (key : KeyParts) (who : List ℕ) (section : Section) (p : PeriodId) →
+    fin.get t.exceedances (exceedance_name key who section) ≡ Some p → SoundExceedance t key who p
+exceedances s t same requests crew flown h key who section p e = exceedance s t requests crew flown key who p
+    (h.exceedances key who section p (ap (λ m. fin.get m (exceedance_name key who section)) (sym same) ∙ e))
 
 -- ---- More members
 

@@ -1,11 +1,10 @@
 -- Seats that get or lose a holder keep a state sound.
-use Rattle.std.proofs.Common.{◌≡◌, ◌⊎◌, inl, inr, refl, sym, ap, subst, ◌∙◌, ℕ, Bool, true, false, not, ◌&&◌}
+use Rattle.std.proofs.Common.{◌≡◌, ◌⊎◌, inl, inr, refl, sym, ap, subst, ◌∙◌, ℕ, true, false, not}
 use Rattle.std.proofs.Common.{List, [], ◌∷◌, ◌++◌, Option, Some, None, is_some, slice_get}
 use Rattle.std.specs.FinMap as fin
 use Rattle.std.specs.List.{fold}
 use Rattle.std.specs.Option.{option_map, option_map_or}
-use Rattle.std.proofs.lemmas.Bool.{true≢false, and_parts, and_from, or_parts, not-false}
-use Rattle.values.specs.Name.{name_cmp}
+use Rattle.std.proofs.lemmas.Bool.{true≢false, and_parts, and_from, not-false}
 use Rattle.command.specs.Keys.{KeyParts, key_name}
 use Rattle.command.specs.SeatSame.{seat_same}
 use Rattle.command.specs.contracts.member.SeatPartialEq.TheImpl.{ghosts as seats}
@@ -114,27 +113,28 @@ held : (crew : Crew) (seat : Seat) (who : List ℕ) (m : Member) → fin.get cre
     IsHolder crew seat (Some who)
 held crew seat who m is kind x e = let same : who ≡ x = cc in (m, ap (fin.get crew) (sym same) ∙ is, kind)
 
-same_kind : (s : State) (who other : List ℕ) (m n : Member) → fin.get s.crew who ≡ Some m → fin.get s.crew other ≡ Some n →
-    are_of_two_kinds s who other ≡ false → m.seat ≡ n.seat
+same_kind : (s : State) (who other : List ℕ) (m n : Member) → fin.get s.crew who ≡ Some m →
+    fin.get s.crew other ≡ Some n → are_of_two_kinds s who other ≡ false → m.seat ≡ n.seat
 same_kind s who other m n m_is n_is alike =
-    let differ : not (seats.eq m.seat n.seat) ≡ false =
-        subst (λ o. option_map_or (λ n. not (seats.eq m.seat n.seat)) o false ≡ false) n_is
-          (subst (λ o. option_map_or (λ m. option_map_or (λ n. not (seats.eq m.seat n.seat)) (fin.get s.crew other) false)
-              o false ≡ false) m_is alike) in
-    (seat_same m.seat n.seat).0 (not-false _ differ)
+    let differ = λ (m n : Member). not (seats.eq m.seat n.seat) in
+    let of_m = subst (λ o. option_map_or (λ m. option_map_or (differ m) (fin.get s.crew other) false) o false ≡ false)
+        m_is alike in
+    let of_both : differ m n ≡ false = subst (λ o. option_map_or (differ m) o false ≡ false) n_is of_m in
+    (seat_same m.seat n.seat).0 (not-false _ of_both)
 
 module _ (s : State) (key : KeyParts) (free : fin.get s.requests (key_name key) ≡ None) (h : Sound s) where
   -- the orders that change seats alone
   seated : (order : Order) (t : State) →
       t ≡ record s {
         pairings = fold reseated s.pairings (seats_of s order);
-        requests = fin.insert s.requests (key_name key) (record { command = order; reply = (change_of s key order).reply });
+        requests = fin.insert s.requests (key_name key)
+          (record { command = order; reply = (change_of s key order).reply });
       } → AllFit s.crew s.pairings (seats_of s order) → Sound t
   seated order t is fit = subst Sound (sym is) (record {
       pairings = reseat_all s.crew s.pairings (seats_of s order) fit h.pairings;
       grounds = h.grounds;
-      exceedances = λ k x section p e. kept.exceedance s _ (insert_keeps s.requests (key_name key) _ free) (λ _ _ m. m)
-          (all_stay s.pairings (seats_of s order)) k x p (h.exceedances k x section p e);
+      exceedances = kept.exceedances s _ refl (insert_keeps s.requests (key_name key) _ free) (λ _ _ m. m)
+          (all_stay s.pairings (seats_of s order)) h;
     })
 
   pub assign : (id who : List ℕ) → Passed (refusals s (Assign id who)) →
