@@ -1,2 +1,5 @@
+pub mod Accepted
 pub mod After
 pub mod LeftLemmas
+pub mod Records
+pub mod Sound
