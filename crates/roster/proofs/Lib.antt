@@ -1,2 +1,3 @@
 pub mod Ascending
 pub mod Requests
+pub mod WithinLimits

@@ -108,7 +108,8 @@ kept_next : (s : State) (a : Asked) (name : List ℕ) (request : Request) → fi
 kept_next s (key, order) name request held =
     elim (fin.get s.requests (key_name key)) as (λ o. fin.get s.requests (key_name key) ≡ o →
         fin.get (left_by s (step_of s key order)).requests name ≡ Some request) [
-      | None ↦ λ free. subst (λ v. fin.get (left_by s v).requests name ≡ Some request) (sym (under_free s key order free))
+      | None ↦ λ free.
+          subst (λ v. fin.get (left_by s v).requests name ≡ Some request) (sym (under_free s key order free))
           (kept_judged s key order (refusal_of s order) name request free held)
       | Some kept ↦ λ there.
           ap (λ v. fin.get (left_by s v).requests name) (under_held s key order kept there)
