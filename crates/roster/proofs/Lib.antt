@@ -1,3 +1,5 @@
 pub mod Ascending
+pub mod Importing
 pub mod Requests
+pub mod Resuming
 pub mod WithinLimits
