@@ -1,5 +1,5 @@
 -- An assignment that passes the book's own checks is accepted exactly where it breaks no limit.
-use Rattle.std.proofs.Common.{◌≡◌, ℕ, zero, suc, Bool, true, false, cond, List, [], ◌∷◌, ◌++◌, map, Option, Some, None, ◌↔◌, ◌⊎◌, inl, inr, refl, sym, ap, subst, ◌∙◌, arith, eqb, length, lt-ltb}
+use Rattle.std.proofs.Common.{◌≡◌, ℕ, Bool, true, false, cond, List, [], ◌∷◌, ◌++◌, map, Option, Some, None, ◌↔◌, inl, inr, refl, sym, ap, subst, ◌∙◌, arith, eqb, length, lt-ltb}
 use Rattle.std.specs.FinMap as fin
 use Rattle.std.specs.List.{Contains, filter, find}
 use Rattle.std.specs.Option.{option_map}
@@ -20,6 +20,7 @@ use Rattle.roster.specs.State.{State}
 use Rattle.roster.specs.Steps.{judged, change_of, recorded_by}
 use Rattle.roster.specs.declared.change.Change.{Change}
 use Rattle.roster.specs.declared.change.Verdict.TheVariants.{Accept}
+use Rattle.roster.proofs.Members.{first_of_all, later, first_or_later, no_member, has_none}
 use Rattle.roster.proofs.Requests.{under_free}
 
 through : {A B C : Type 0} → (A ↔ B) → (B ↔ C) → A ↔ C
@@ -28,24 +29,6 @@ through p q = (λ a. q.0 (p.0 a), λ c. p.1 (q.1 c))
 -- ---- Lists
 
 module _ {X : Type 0} where
-  first_of_all : (x : X) (xs : List X) → Contains (x ∷ xs) x
-  first_of_all x xs = (0, omega arith, refl)
-
-  later : (x : X) (xs : List X) (y : X) → Contains xs y → Contains (x ∷ xs) y
-  later x xs y c = let l = c.1 in (suc c.0, omega arith, c.2)
-
-  first_or_later : (x : X) (xs : List X) (y : X) → Contains (x ∷ xs) y → (x ≡ y) ⊎ Contains xs y
-  first_or_later x xs y (zero, l, e) = inl e
-  first_or_later x xs y (suc k, l, e) = inr (k, omega arith, e)
-
-  no_member : (xs : List X) (x : X) → xs ≡ [] → Contains xs x → ⊥
-  no_member [] x e c = let l = c.1 in omega arith
-  no_member (y ∷ ys) x e c = cc
-
-  has_none : (xs : List X) → ((x : X) → Contains xs x → ⊥) → xs ≡ []
-  has_none [] e = refl
-  has_none (x ∷ xs) e = absurd (e x (first_of_all x xs))
-
   both_empty : (xs ys : List X) → (xs ++ ys ≡ []) ↔ ((xs ≡ []) × (ys ≡ []))
   both_empty [] ys = (λ e. (refl, e), λ e. e.1)
   both_empty (x ∷ xs) ys = (λ e. absurd (cc), λ e. absurd (let f = e.0 in cc))
