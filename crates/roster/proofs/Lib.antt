@@ -1,5 +1,12 @@
 pub mod Accepted
 pub mod After
+pub mod Ascending
+pub mod Importing
 pub mod LeftLemmas
+pub mod Lists
+pub mod MadeByCommands
 pub mod Records
+pub mod Requests
+pub mod Resuming
 pub mod Sound
+pub mod WithinLimits
