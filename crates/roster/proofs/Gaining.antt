@@ -114,14 +114,26 @@ loses s t who stay fewer honest some are section broken =
     stays s t who section some some stay (λ p c. c)
     (honest some (λ p c. standing_in s who p.0 p.1 (fewer p.0 p.1 (standing t who p (are p c)))) section broken)
 
+-- a duty at an old place was the member's before, and is one of the rest; one at a new place is one of the new ones
+abbrev pub IsOld : State → State → List ℕ → (Place → Bool) → List DutyInForce → Place → DutyInForce → Type 0
+IsOld s t who is_new rest place d =
+    Stands t who place d → is_new place ≡ false → Stands s who place d × Contains rest d
+
+abbrev pub IsFresh : State → List ℕ → (Place → Bool) → List DutyInForce → Place → DutyInForce → Type 0
+IsFresh t who is_new new place d = Stands t who place d → is_new place ≡ true → Contains new d
+
+-- what the new ones break stands in an exceedance that names any of them
+abbrev pub AreRecorded : State → List ℕ → (Place → Bool) → List DutyInForce → List DutyInForce → Type 0
+AreRecorded t who is_new rest new = (section : Section) → Contains (Broken (rest ++ new) new) section →
+    (some : List Placed) (p : Placed) → Contains some p → Stands t who p.0 p.1 → is_new p.0 ≡ true →
+    IsRecorded t who section some
+
 -- what is known of a member who has `new` duties at new places beside `rest`
 pub record Gains (s t : State) (who : List ℕ) (is_new : Place → Bool) (rest new : List DutyInForce) : Type 0 where
   pub stay : Stay s t
-  pub old : (place : Place) (d : DutyInForce) → Stands t who place d → is_new place ≡ false →
-      Stands s who place d × Contains rest d
-  pub fresh : (place : Place) (d : DutyInForce) → Stands t who place d → is_new place ≡ true → Contains new d
-  pub recorded : (section : Section) → Contains (Broken (rest ++ new) new) section → (some : List Placed) (p : Placed) →
-      Contains some p → Stands t who p.0 p.1 → is_new p.0 ≡ true → IsRecorded t who section some
+  pub old : (place : Place) (d : DutyInForce) → IsOld s t who is_new rest place d
+  pub fresh : (place : Place) (d : DutyInForce) → IsFresh t who is_new new place d
+  pub recorded : AreRecorded t who is_new rest new
 
 module _ (s t : State) (who : List ℕ) (is_new : Place → Bool) (rest new : List DutyInForce)
     (h : Gains s t who is_new rest new) where

@@ -1,3 +1,7 @@
-pub mod Members
-pub mod Standing
+pub mod Accepted
+pub mod Assigned
 pub mod Gaining
+pub mod Losing
+pub mod Members
+pub mod Reseating
+pub mod Standing
