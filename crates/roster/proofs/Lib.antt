@@ -1,7 +1,12 @@
 pub mod Accepted
 pub mod Assigned
+pub mod Flown
 pub mod Gaining
+pub mod KeepsHonest
 pub mod Losing
 pub mod Members
+pub mod Records
 pub mod Reseating
+pub mod Sound
 pub mod Standing
+pub mod Swapped

@@ -23,10 +23,8 @@ use Rattle.roster.specs.declared.state.Rostered.{Rostered}
 use Rattle.roster.proofs.Accepted.{changed}
 use Rattle.roster.proofs.Gaining.{Loses, AreRecorded}
 use Rattle.roster.proofs.Members.{in_map}
+use Rattle.roster.proofs.Sound.Kept.{Pairings}
 use Rattle.roster.proofs.Standing.{IsPeriod, Stands, period_of}
-
-abbrev pub Pairings : Type 0
-Pairings = fin.FinMap name_cmp Rostered
 
 -- ---- One seat
 
