@@ -71,15 +71,15 @@ accepted s key order change reply e =
 
 pub decide : (q k : List ℕ) → (q ≡ k) ⊎ (q ≡ k → ⊥)
 decide q k = elim (eq_by_cmp name_cmp q k) as (λ t. eq_by_cmp name_cmp q k ≡ t → (q ≡ k) ⊎ (q ≡ k → ⊥)) [
-    | true ↦ λ tied. inl (alike q k tied)
-    | false ↦ λ apart. inr (λ same. true≢false (sym (itself q k same) ∙ apart))
-  ] refl
+  | true ↦ λ tied. inl (alike q k tied)
+  | false ↦ λ apart. inr (λ same. true≢false (sym (itself q k same) ∙ apart))
+] refl
 
 untied : (q k : List ℕ) → (q ≡ k → ⊥) → eq_by_cmp name_cmp q k ≡ false
 untied q k other = elim (eq_by_cmp name_cmp q k) as (λ t. eq_by_cmp name_cmp q k ≡ t → t ≡ false) [
-    | true ↦ λ tied. absurd (other (alike q k tied))
-    | false ↦ λ _. refl
-  ] refl
+  | true ↦ λ tied. absurd (other (alike q k tied))
+  | false ↦ λ _. refl
+] refl
 
 module _ {X : Type 0} (m : fin.FinMap name_cmp X) (k : List ℕ) where
   -- at the name, and elsewhere
@@ -109,15 +109,15 @@ module _ {X : Type 0} (m : fin.FinMap name_cmp X) (k : List ℕ) where
   pub inserted : (v : X) (q : List ℕ) (r : X) → fin.get (fin.insert m k v) q ≡ Some r →
       ((q ≡ k) × (v ≡ r)) ⊎ ((q ≡ k → ⊥) × (fin.get m q ≡ Some r))
   inserted v q r e = elim (decide q k) [
-      | inl same ↦ inl (same, (let x = sym (insert_here v) ∙ ap (fin.get (fin.insert m k v)) (sym same) ∙ e in cc))
-      | inr other ↦ inr (other, sym (insert_elsewhere v q other) ∙ e)
-    ]
+    | inl same ↦ inl (same, (let x = sym (insert_here v) ∙ ap (fin.get (fin.insert m k v)) (sym same) ∙ e in cc))
+    | inr other ↦ inr (other, sym (insert_elsewhere v q other) ∙ e)
+  ]
 
   pub removed : (q : List ℕ) (r : X) → fin.get (fin.remove m k) q ≡ Some r → (q ≡ k → ⊥) × (fin.get m q ≡ Some r)
   removed q r e = elim (decide q k) [
-      | inl same ↦ absurd (let x : None ≡ Some r = sym remove_here ∙ ap (fin.get (fin.remove m k)) (sym same) ∙ e in cc)
-      | inr other ↦ (other, sym (remove_elsewhere q other) ∙ e)
-    ]
+    | inl same ↦ absurd (let x : None ≡ Some r = sym remove_here ∙ ap (fin.get (fin.remove m k)) (sym same) ∙ e in cc)
+    | inr other ↦ (other, sym (remove_elsewhere q other) ∙ e)
+  ]
 
   mapped : (f : X → X) (o : Option X) (r : X) → option_map f o ≡ Some r → (old : X) × (o ≡ Some old) × (f old ≡ r)
   mapped f None r e = cc
@@ -126,16 +126,16 @@ module _ {X : Type 0} (m : fin.FinMap name_cmp X) (k : List ℕ) where
   pub changed : (f : X → X) (q : List ℕ) (r : X) → fin.get (changed_at m k f) q ≡ Some r →
       ((q ≡ k) × (old : X) × (fin.get m k ≡ Some old) × (f old ≡ r)) ⊎ ((q ≡ k → ⊥) × (fin.get m q ≡ Some r))
   changed f q r e = elim (decide q k) [
-      | inl same ↦
-          let old = mapped f (fin.get m k) r (sym (change_here f) ∙ ap (fin.get (changed_at m k f)) (sym same) ∙ e) in
-          inl (same, old.0, old.1, old.2)
-      | inr other ↦ inr (other, sym (change_elsewhere f q other) ∙ e)
-    ]
+    | inl same ↦
+        let old = mapped f (fin.get m k) r (sym (change_here f) ∙ ap (fin.get (changed_at m k f)) (sym same) ∙ e) in
+        inl (same, old.0, old.1, old.2)
+    | inr other ↦ inr (other, sym (change_elsewhere f q other) ∙ e)
+  ]
 
   -- a value that isn't at a new name stays
   pub insert_keeps : (v : X) → fin.get m k ≡ None → (q : List ℕ) (r : X) → fin.get m q ≡ Some r →
       fin.get (fin.insert m k v) q ≡ Some r
   insert_keeps v new q r e = elim (decide q k) [
-      | inl same ↦ absurd (let x : None ≡ Some r = sym new ∙ ap (fin.get m) (sym same) ∙ e in cc)
-      | inr other ↦ insert_elsewhere v q other ∙ e
-    ]
+    | inl same ↦ absurd (let x : None ≡ Some r = sym new ∙ ap (fin.get m) (sym same) ∙ e in cc)
+    | inr other ↦ insert_elsewhere v q other ∙ e
+  ]
