@@ -1,5 +1,5 @@
 -- Members who gain duties by an assignment or a ground duty, within limits.
-use Rattle.std.proofs.Common.{◌≡◌, ℕ, Bool, true, false, List, [], ◌∷◌, Contains, Some, inl, inr, refl, sym, ap, subst, ◌∙◌}
+use Rattle.std.proofs.Common.{◌≡◌, ℕ, Bool, true, false, List, [], ◌∷◌, Some, inl, inr, refl, sym, ap, subst, ◌∙◌}
 use Rattle.std.specs.FinMap as fin
 use Rattle.std.specs.Str.{bytes_eq}
 use Rattle.std.proofs.lemmas.Bool.{true≢false, false≢true}
@@ -57,7 +57,7 @@ module _ (s : State) (key : KeyParts) (honest : Honest s) where
       ]
       | on_ground g ↦ λ h at. absurd (false≢true at)
     ];
-    recorded = none_broken s (assigned id crew) crew (the_pairing id) (others s crew none) (duties_of s id) within;
+    recorded = none_broken (assigned id crew) crew (the_pairing id) (others s crew none) (duties_of s id) within;
   }
 
   pub assign : (id crew : List ℕ) → BreaksNone crew (others s crew none) (duties_of s id) → Honest (assigned id crew)
@@ -115,7 +115,7 @@ module _ (s : State) (key : KeyParts) (honest : Honest s) where
         | inr old ↦ absurd (old.0 (sym ((bytes_eq-Decides g.id q).0 at)))
       ]
     ];
-    recorded = none_broken s (grounded g) g.crew (the_ground g.id) (others s g.crew none) (added g) within;
+    recorded = none_broken (grounded g) g.crew (the_ground g.id) (others s g.crew none) (added g) within;
   }
 
   pub add_ground : (g : GroundPlan) → BreaksNone g.crew (others s g.crew none) (added g) → Honest (grounded g)

@@ -45,12 +45,11 @@ module _ (new : Place → Bool) (some : List Placed) where
       let k = from_olds r.0 r.1 in
       (r.0, k.0, k.1, r.2)
 
+  -- each is new or not
   abbrev IsOldOrNew : DutyInForce → Type 0
   IsOldOrNew d = Contains (duties (olds new some)) d ⊎ Contains (duties (news new some)) d
 
-  -- each is new or not
-  parted : (d : DutyInForce) → Contains (duties some) d →
-      Contains (duties (olds new some)) d ⊎ Contains (duties (news new some)) d
+  parted : (d : DutyInForce) → Contains (duties some) d → IsOldOrNew d
   parted d c =
       let r = from_map (λ (p : Placed). p.1) some d c in
       elim (new r.0.0) as (λ b. new r.0.0 ≡ b → IsOldOrNew d) [
@@ -94,6 +93,7 @@ abbrev pub Stay : State → State → Type 0
 Stay s t = (name : List ℕ) (period : PeriodId) → fin.get s.exceedances name ≡ Some period →
     fin.get t.exceedances name ≡ Some period
 
+-- an exceedance that named one of some duties names one of more
 stays : (s t : State) (who : List ℕ) (section : Section) (some more : List Placed) → Stay s t →
     ((p : Placed) → Contains some p → Contains more p) → IsRecorded s who section some → IsRecorded t who section more
 stays s t who section some more stay within r = record {

@@ -1,12 +1,10 @@
--- What a pairing keeps when one of its seats changes, and what an order that is listed as breaking nothing breaks.
+-- What stands where a seat of a pairing changes, and members who break no limit.
 use Rattle.std.proofs.Common.{◌≡◌, ℕ, Bool, true, false, ◌||◌, nat_lt, List, [], ◌∷◌, ◌++◌, length, Contains, Option, Some, None, slice_get, ◌⊎◌, inl, inr, refl, sym, ap, subst, ◌∙◌, arith}
 use Rattle.std.specs.FinMap as fin
 use Rattle.std.specs.List.{fold}
 use Rattle.std.specs.Option.{option_map_or}
-use Rattle.std.specs.Str.{bytes_eq}
 use Rattle.std.proofs.lemmas.Bool.{true≢false, or_left, or_right, ltb-false}
 use Rattle.std.proofs.lemmas.Slice.Eq.{bytes_eq-Decides}
-use Rattle.values.specs.Name.{name_cmp}
 use Rattle.duty.specs.declared.duty_in_force.DutyInForce.{DutyInForce}
 use Rattle.limits.specs.Judgement.{Broken}
 use Rattle.limits.specs.declared.section.Section.{Section}
@@ -53,7 +51,7 @@ before_last true b f e = refl
 before_last false b f e = absurd (true≢false (sym e ∙ f))
 
 -- one who isn't put into the seat held the pairing before
-pub held_before : (seat : Seat) (who : List ℕ) (new : Option (List ℕ)) (old r : Rostered) →
+held_before : (seat : Seat) (who : List ℕ) (new : Option (List ℕ)) (old r : Rostered) →
     with_holder seat new old ≡ r → is_held_by who new ≡ false → holds who r ≡ true → holds who old ≡ true
 held_before Captain who new old r is other e =
     or_right (is_held_by who old.captain) (is_held_by who old.first_officer)
@@ -103,6 +101,7 @@ not_gained s who new id q r number d other h held at = (
   moved s.zone h.1 new h.2 r h.4 number d at,
 )
 
+-- each period and each ground duty was the member's before
 pub lost : (s t : State) (who : List ℕ) →
     ((id : List ℕ) (n : ℕ) (d : DutyInForce) → Stands t who (period id n) d → Stands s who (period id n) d) →
     ((id : List ℕ) (d : DutyInForce) → Stands t who (on_ground id) d → Stands s who (on_ground id) d) → Loses s t who
@@ -136,7 +135,7 @@ abbrev pub BreaksNone : List ℕ → List DutyInForce → List DutyInForce → T
 BreaksNone who others new = (e : Exceedance) → Contains (broken_by who others new) e → ⊥
 
 -- so nothing new is broken
-pub none_broken : (s t : State) (who : List ℕ) (is_new : Place → Bool) (others new : List DutyInForce) →
+pub none_broken : (t : State) (who : List ℕ) (is_new : Place → Bool) (others new : List DutyInForce) →
     BreaksNone who others new → AreRecorded t who is_new others new
-none_broken s t who is_new others new within section c some p in_some stands at =
+none_broken t who is_new others new within section c some p in_some stands at =
     absurd (within (record { crew = who; section = section }) (in_broken who others new section c))

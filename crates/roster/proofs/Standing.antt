@@ -36,7 +36,7 @@ abbrev placed : List ℕ → List ℕ → ℕ × Fdp → Placed
 placed zone id p = (period id p.0, in_force zone (duty.Fdp p.1))
 
 -- the periods of a pairing are at its places
-pub period_at : (zone id : List ℕ) (r : Rostered) (number : ℕ) (d : DutyInForce) → IsPeriod zone r number d →
+period_at : (zone id : List ℕ) (r : Rostered) (number : ℕ) (d : DutyInForce) → IsPeriod zone r number d →
     Contains (periods_at zone (id, r)) (period id number, d)
 period_at zone id r number d h =
     subst (λ (p : Placed). Contains (periods_at zone (id, r)) p) (λ i. (period id (h.counted i), h.is i))

@@ -1,5 +1,5 @@
 -- A swap keeps a state honest.
-use Rattle.std.proofs.Common.{◌≡◌, ℕ, Bool, true, false, not, ◌||◌, List, [], ◌∷◌, ◌++◌, Option, Some, None, inl, inr, refl, sym, ap, subst, ◌∙◌}
+use Rattle.std.proofs.Common.{◌≡◌, ℕ, true, false, not, List, [], ◌∷◌, ◌++◌, Option, Some, None, inl, inr, refl, sym, ap, subst, ◌∙◌}
 use Rattle.std.specs.FinMap as fin
 use Rattle.std.specs.List.{fold}
 use Rattle.std.specs.Option.{option_map, option_map_or}
@@ -10,10 +10,12 @@ use Rattle.std.proofs.lemmas.Slice.Eq.{bytes_eq-Decides}
 use Rattle.values.specs.Name.{name_cmp}
 use Rattle.duty.specs.Shape.{is_id}
 use Rattle.duty.specs.Words.{first_fault, unless}
+use Rattle.duty.specs.declared.duty_in_force.DutyInForce.{DutyInForce}
 use Rattle.duty.specs.declared.fault.DutyFault.{DutyFault}
 use Rattle.duty.specs.declared.fault.DutyFault.TheVariants.{BadField}
+use Rattle.duty.specs.declared.fault.Field.{Field}
 use Rattle.duty.specs.declared.fault.Field.TheVariants as field
-use Rattle.command.specs.Keys.{KeyParts, key_name}
+use Rattle.command.specs.Keys.{KeyParts}
 use Rattle.command.specs.Orders.{swap_fault}
 use Rattle.command.specs.declared.member.Member.{Member}
 use Rattle.command.specs.declared.member.Seat.{Seat}
@@ -22,17 +24,16 @@ use Rattle.command.specs.declared.order.Order.TheVariants.{Swap}
 use Rattle.command.specs.declared.order.Swap as swap
 use Rattle.roster.specs.Honest.{IsHonestOf, Honest}
 use Rattle.roster.specs.Pairings.{with_holder, is_held_by, holds}
-use Rattle.roster.specs.Places.{period, on_ground, the_pairing, others}
+use Rattle.roster.specs.Places.{Place, period, on_ground, the_pairing, others}
 use Rattle.roster.specs.Refusals.{is_member, is_pairing, broken_by, duties_of, refusals}
 use Rattle.roster.specs.Sound.{Crew, SoundPairing, Sound}
 use Rattle.roster.specs.State.{State}
 use Rattle.roster.specs.Steps.{after, change_of, seat_change, seats_of, reseated}
-use Rattle.roster.specs.declared.change.SeatChange.{SeatChange}
 use Rattle.roster.specs.declared.state.Request.{Request}
 use Rattle.roster.specs.declared.state.Rostered.{Rostered}
 use Rattle.roster.proofs.Accepted.{Passed, decide, change_here, change_elsewhere}
-use Rattle.roster.proofs.Gaining.{loses, IsOld, IsFresh, Gains, gains}
-use Rattle.roster.proofs.Reseating.{moved, held_before, held_is, seat_for, lost, of_pairing, none_listed, BreaksNone, none_broken}
+use Rattle.roster.proofs.Gaining.{loses, IsOld, IsFresh, gains}
+use Rattle.roster.proofs.Reseating.{moved, held_is, not_gained, seat_for, lost, of_pairing, none_listed, BreaksNone, none_broken}
 use Rattle.roster.proofs.Sound.Added.{no_first}
 use Rattle.roster.proofs.Sound.Kept.{Pairings, is_there, one_value}
 use Rattle.roster.proofs.Standing.{Stands, among_others}
@@ -46,86 +47,104 @@ differ a b apart = false_from_ne_true (bytes_eq a b) (λ e. apart ((bytes_eq-Dec
 -- ---- The pairings after a swap
 
 -- one pairing is given and another is gained
-record Traded (old new : Pairings) (given gained : List ℕ) (p q : Rostered) (seat other_seat : Seat) (me them : List ℕ) : Type 0 where
+record Traded (old new : Pairings) (given gained : List ℕ) (p q : Rostered) (seat other_seat : Seat)
+    (me them : List ℕ) : Type 0 where
   lost : fin.get new given ≡ Some (with_holder seat (Some them) p)
   got : fin.get new gained ≡ Some (with_holder other_seat (Some me) q)
   rest : (id : List ℕ) → AreTwo id given → AreTwo id gained → fin.get new id ≡ fin.get old id
 
 -- a member holds no seat but that of the own kind
-only_seat : (crew : Crew) (id : List ℕ) (r : Rostered) (who : List ℕ) (m : Member) (seat : Seat) (new : Option (List ℕ)) →
-    SoundPairing crew id r → fin.get crew who ≡ Some m → m.seat ≡ seat → is_held_by who new ≡ false →
-    holds who (with_holder seat new r) ≡ true → ⊥
+only_seat : (crew : Crew) (id : List ℕ) (r : Rostered) (who : List ℕ) (m : Member) (seat : Seat)
+    (new : Option (List ℕ)) → SoundPairing crew id r → fin.get crew who ≡ Some m → m.seat ≡ seat →
+    is_held_by who new ≡ false → holds who (with_holder seat new r) ≡ true → ⊥
 only_seat crew id r who m Captain new h is kind other e = elim (or_cases (is_held_by who new) _ e) [
-    | inl x ↦ true≢false (sym x ∙ other)
-    | inr x ↦
-        let y = h.first_officer who (held_is who r.first_officer x) in
-        let same = one_value (fin.get crew who) y.0 m y.1 is in
-        let no : FirstOfficer ≡ Captain = sym y.2 ∙ ap (λ (a : Member). a.seat) same ∙ kind in
-        cc
-  ]
+  | inl x ↦ true≢false (sym x ∙ other)
+  | inr x ↦
+      let y = h.first_officer who (held_is who r.first_officer x) in
+      let same = one_value (fin.get crew who) y.0 m y.1 is in
+      let no : FirstOfficer ≡ Captain = sym y.2 ∙ ap (λ (a : Member). a.seat) same ∙ kind in
+      cc
+]
 only_seat crew id r who m FirstOfficer new h is kind other e = elim (or_cases (is_held_by who r.captain) _ e) [
-    | inl x ↦
-        let y = h.captain who (held_is who r.captain x) in
-        let same = one_value (fin.get crew who) y.0 m y.1 is in
-        let no : Captain ≡ FirstOfficer = sym y.2 ∙ ap (λ (a : Member). a.seat) same ∙ kind in
-        cc
-    | inr x ↦ true≢false (sym x ∙ other)
-  ]
+  | inl x ↦
+      let y = h.captain who (held_is who r.captain x) in
+      let same = one_value (fin.get crew who) y.0 m y.1 is in
+      let no : Captain ≡ FirstOfficer = sym y.2 ∙ ap (λ (a : Member). a.seat) same ∙ kind in
+      cc
+  | inr x ↦ true≢false (sym x ∙ other)
+]
 
 module _ (s : State) (new : Pairings) (requests : fin.FinMap name_cmp Request) where
   abbrev swapped : State
   swapped = record s { pairings = new; requests = requests }
 
-  module _ (given gained : List ℕ) (p q : Rostered) (p_is : fin.get s.pairings given ≡ Some p) (q_is : fin.get s.pairings gained ≡ Some q) where
-    -- who gives one and gains the other
-    trader : (m : Member) (other_seat : Seat) (me them : List ℕ) → Traded s.pairings new given gained p q m.seat other_seat me them →
-        Sound s → fin.get s.crew me ≡ Some m → AreTwo them me →
-        BreaksNone me (others s me (the_pairing given)) (duties_of s gained) → IsHonestOf s me → IsHonestOf swapped me
-    trader m other_seat me them traded sound m_is apart within honest =
-        gains s swapped me (the_pairing gained) (others s me (the_pairing given)) (duties_of s gained) (record {
-          stay = λ _ _ e. e;
-          old = λ place d. elim place as (λ x. IsOld s swapped me (the_pairing gained) (others s me (the_pairing given)) x d) [
-            | period id number ↦ λ h away. elim (decide id given) [
-              | inl is ↦
-                  let r_is = one_value (fin.get new given) _ h.0 traded.lost (ap (fin.get new) (sym is) ∙ h.1) in
-                  absurd (only_seat s.crew given p me m m.seat (Some them) (sound.pairings given p p_is) m_is refl
-                    (differ them me apart) (ap (holds me) r_is ∙ h.2))
-              | inr not_given ↦
-                  let not_gained : AreTwo id gained = λ is. true≢false (sym ((bytes_eq-Decides gained id).1 (sym is)) ∙ away) in
-                  let stands : Stands s me (period id number) d = (h.0, sym (traded.rest id not_given not_gained) ∙ h.1, h.2, h.3) in
-                  (stands, among_others s me (the_pairing given) (period id number) d stands (differ given id (λ e. not_given (sym e))))
-            ]
-            | on_ground g ↦ λ h _. (h, among_others s me (the_pairing given) (on_ground g) d h refl)
-          ];
-          fresh = λ place d. elim place as (λ x. IsFresh swapped me (the_pairing gained) (duties_of s gained) x d) [
-            | period id number ↦ λ h at.
-                let is = (bytes_eq-Decides gained id).0 at in
-                let r_is = one_value (fin.get new gained) _ h.0 traded.got (ap (fin.get new) is ∙ h.1) in
-                of_pairing s gained q number d q_is (moved s.zone other_seat (Some me) q h.0 r_is number d h.3)
-            | on_ground g ↦ λ h at. absurd (false≢true at)
-          ];
-          recorded = none_broken s swapped me (the_pairing gained) (others s me (the_pairing given)) (duties_of s gained) within;
-        }) honest
+  module _ (given gained : List ℕ) (p q : Rostered) (p_is : fin.get s.pairings given ≡ Some p)
+      (q_is : fin.get s.pairings gained ≡ Some q) where
+    module _ (m : Member) (other_seat : Seat) (me them : List ℕ)
+        (traded : Traded s.pairings new given gained p q m.seat other_seat me them) where
+      abbrev rest_of : List DutyInForce
+      rest_of = others s me (the_pairing given)
+
+      -- the pairing that is given isn't held any more
+      trader_old : Sound s → fin.get s.crew me ≡ Some m → AreTwo them me → (place : Place) (d : DutyInForce) →
+          IsOld s swapped me (the_pairing gained) rest_of place d
+      trader_old sound m_is apart (period id number) d h away = elim (decide id given) [
+        | inl is ↦
+            let r_is = one_value (fin.get new given) _ h.0 traded.lost (ap (fin.get new) (sym is) ∙ h.1) in
+            absurd (only_seat s.crew given p me m m.seat (Some them) (sound.pairings given p p_is) m_is refl
+            (differ them me apart) (ap (holds me) r_is ∙ h.2))
+        | inr kept ↦
+            let other : AreTwo id gained = λ is. true≢false (sym ((bytes_eq-Decides gained id).1 (sym is)) ∙ away) in
+            let stands : Stands s me (period id number) d =
+            (h.0, sym (traded.rest id kept other) ∙ h.1, h.2, h.3) in (
+              stands,
+              among_others s me (the_pairing given) (period id number) d stands
+                  (differ given id (λ e. kept (sym e))),
+            )
+      ]
+      trader_old sound m_is apart (on_ground g) d h away =
+          (h, among_others s me (the_pairing given) (on_ground g) d h refl)
+
+      -- the periods of the other are new
+      trader_fresh : (place : Place) (d : DutyInForce) →
+          IsFresh swapped me (the_pairing gained) (duties_of s gained) place d
+      trader_fresh (period id number) d h at =
+          let is = (bytes_eq-Decides gained id).0 at in
+          let r_is = one_value (fin.get new gained) _ h.0 traded.got (ap (fin.get new) is ∙ h.1) in
+          of_pairing s gained q number d q_is (moved s.zone other_seat (Some me) q h.0 r_is number d h.3)
+      trader_fresh (on_ground g) d h at = absurd (false≢true at)
+
+      -- who gives one and gains the other
+      trader : Sound s → fin.get s.crew me ≡ Some m → AreTwo them me → BreaksNone me rest_of (duties_of s gained) →
+          IsHonestOf s me → IsHonestOf swapped me
+      trader sound m_is apart within honest =
+          gains s swapped me (the_pairing gained) rest_of (duties_of s gained) (record {
+            stay = λ _ _ e. e;
+            old = trader_old sound m_is apart;
+            fresh = trader_fresh;
+            recorded = none_broken swapped me (the_pairing gained) rest_of (duties_of s gained) within;
+          }) honest
 
     -- one who is neither
-    bystander : (seat other_seat : Seat) (me them who : List ℕ) → Traded s.pairings new given gained p q seat other_seat me them →
-        AreTwo me who → AreTwo them who → IsHonestOf s who → IsHonestOf swapped who
+    bystander : (seat other_seat : Seat) (me them who : List ℕ) →
+        Traded s.pairings new given gained p q seat other_seat me them → AreTwo me who → AreTwo them who →
+        IsHonestOf s who → IsHonestOf swapped who
     bystander seat other_seat me them who traded not_me not_them honest =
         loses s swapped who (λ _ _ e. e) (lost s swapped who
-          (λ id number d h. elim (decide id given) [
+        (λ id number d h. elim (decide id given) [
+          | inl is ↦
+              let r_is = one_value (fin.get new given) _ h.0 traded.lost (ap (fin.get new) (sym is) ∙ h.1) in
+              not_gained s who (Some them) given id h.0 number d (differ them who not_them)
+              (is, seat, p, p_is, r_is) h.2 h.3
+          | inr kept ↦ elim (decide id gained) [
             | inl is ↦
-                let r_is = one_value (fin.get new given) _ h.0 traded.lost (ap (fin.get new) (sym is) ∙ h.1) in
-                (p, ap (fin.get s.pairings) is ∙ p_is, held_before seat who (Some them) p h.0 r_is (differ them who not_them) h.2,
-                  moved s.zone seat (Some them) p h.0 r_is number d h.3)
-            | inr not_given ↦ elim (decide id gained) [
-              | inl is ↦
-                  let r_is = one_value (fin.get new gained) _ h.0 traded.got (ap (fin.get new) (sym is) ∙ h.1) in
-                  (q, ap (fin.get s.pairings) is ∙ q_is, held_before other_seat who (Some me) q h.0 r_is (differ me who not_me) h.2,
-                    moved s.zone other_seat (Some me) q h.0 r_is number d h.3)
-              | inr not_gained ↦ (h.0, sym (traded.rest id not_given not_gained) ∙ h.1, h.2, h.3)
-            ]
-          ])
-          (λ _ _ h. h)) honest
+                let r_is = one_value (fin.get new gained) _ h.0 traded.got (ap (fin.get new) (sym is) ∙ h.1) in
+                not_gained s who (Some me) gained id h.0 number d (differ me who not_me)
+                (is, other_seat, q, q_is, r_is) h.2 h.3
+            | inr other ↦ (h.0, sym (traded.rest id kept other) ∙ h.1, h.2, h.3)
+          ]
+        ])
+        (λ _ _ h. h)) honest
 
 -- ---- What an accepted swap found
 
@@ -154,7 +173,14 @@ found s w passed =
     let theirs = broken_by w.other_crew (others s w.other_crew (the_pairing w.other_pairing)) (duties_of s w.pairing) in
     let none = passed.1.1.1.1.1.1.0 in
     record {
-      m = m.0; n = n.0; p = p.0; q = q.0; m_is = m.1; n_is = n.1; p_is = p.1; q_is = q.1;
+      m = m.0;
+      n = n.0;
+      p = p.0;
+      q = q.0;
+      m_is = m.1;
+      n_is = n.1;
+      p_is = p.1;
+      q_is = q.1;
       within = λ e c. none_listed (mine ++ theirs) e none (Contains-append_left mine theirs e c);
       other_within = λ e c. none_listed (mine ++ theirs) e none (Contains-append_right mine theirs e c);
     }
@@ -178,12 +204,14 @@ last_two a b c d e f none =
 two_of_each : (w : swap.Swap) → swap_fault w ≡ None → AreTwo w.pairing w.other_pairing × AreTwo w.crew w.other_crew
 unfolding swap_fault
 two_of_each w made =
-    let last = last_two (unless (is_id w.pairing) (BadField field.Pairing)) (unless (is_id w.crew) (BadField field.Crew))
-        (unless (is_id w.other_pairing) (BadField field.OtherPairing)) (unless (is_id w.other_crew) (BadField field.OtherCrew))
-        (unless (not (bytes_eq w.pairing w.other_pairing)) (BadField field.OtherPairing))
-        (unless (not (bytes_eq w.crew w.other_crew)) (BadField field.OtherCrew)) made in
-    (other_than w.pairing w.other_pairing (BadField field.OtherPairing) last.0,
-      other_than w.crew w.other_crew (BadField field.OtherCrew) last.1)
+    let shape = λ (id : List ℕ) (at : Field). unless (is_id id) (BadField at) in
+    let other = λ (a b : List ℕ) (at : Field). unless (not (bytes_eq a b)) (BadField at) in
+    let last = last_two (shape w.pairing field.Pairing) (shape w.crew field.Crew)
+    (shape w.other_pairing field.OtherPairing) (shape w.other_crew field.OtherCrew)
+    (other w.pairing w.other_pairing field.OtherPairing) (other w.crew w.other_crew field.OtherCrew) made in (
+      other_than w.pairing w.other_pairing (BadField field.OtherPairing) last.0,
+      other_than w.crew w.other_crew (BadField field.OtherCrew) last.1,
+    )
 
 -- ---- The order
 
@@ -193,9 +221,9 @@ two_seats : (s : State) (w : swap.Swap) (m n : Member) → fin.get s.crew w.crew
     seat_for w.pairing m.seat (Some w.other_crew) ∷ seat_for w.other_pairing n.seat (Some w.crew) ∷ []
 two_seats s w m n m_is n_is =
     ap (λ o. option_map_or (λ (x : Member). seat_for w.pairing x.seat (Some w.other_crew) ∷ []) o []
-        ++ seat_change s w.other_pairing w.other_crew (Some w.crew)) m_is
+    ++ seat_change s w.other_pairing w.other_crew (Some w.crew)) m_is
     ∙ ap (λ o. seat_for w.pairing m.seat (Some w.other_crew)
-        ∷ option_map_or (λ (x : Member). seat_for w.other_pairing x.seat (Some w.crew) ∷ []) o []) n_is
+    ∷ option_map_or (λ (x : Member). seat_for w.other_pairing x.seat (Some w.crew) ∷ []) o []) n_is
 
 module _ (s : State) (w : swap.Swap) (f : Found s w) (apart : AreTwo w.pairing w.other_pairing) where
   abbrev first : Rostered → Rostered
@@ -231,17 +259,17 @@ module _ (s : State) (w : swap.Swap) (f : Found s w) (apart : AreTwo w.pairing w
   each_honest : (requests : fin.FinMap name_cmp Request) → Sound s → Honest s → AreTwo w.crew w.other_crew →
       Honest (swapped s whole requests)
   each_honest requests sound honest crews who = elim (decide w.crew who) [
+    | inl is ↦ subst (IsHonestOf (swapped s whole requests)) is
+        (trader s whole requests w.pairing w.other_pairing f.p f.q f.p_is f.q_is f.m f.n.seat w.crew w.other_crew
+        traded sound f.m_is (λ e. crews (sym e)) f.within (honest w.crew))
+    | inr not_crew ↦ elim (decide w.other_crew who) [
       | inl is ↦ subst (IsHonestOf (swapped s whole requests)) is
-          (trader s whole requests w.pairing w.other_pairing f.p f.q f.p_is f.q_is f.m f.n.seat w.crew w.other_crew traded
-            sound f.m_is (λ e. crews (sym e)) f.within (honest w.crew))
-      | inr not_crew ↦ elim (decide w.other_crew who) [
-        | inl is ↦ subst (IsHonestOf (swapped s whole requests)) is
-            (trader s whole requests w.other_pairing w.pairing f.q f.p f.q_is f.p_is f.n f.m.seat w.other_crew w.crew
-              traded_back sound f.n_is crews f.other_within (honest w.other_crew))
-        | inr not_other ↦ bystander s whole requests w.pairing w.other_pairing f.p f.q f.p_is f.q_is f.m.seat f.n.seat
-            w.crew w.other_crew who traded not_crew not_other (honest who)
-      ]
+          (trader s whole requests w.other_pairing w.pairing f.q f.p f.q_is f.p_is f.n f.m.seat w.other_crew w.crew
+          traded_back sound f.n_is crews f.other_within (honest w.other_crew))
+      | inr not_other ↦ bystander s whole requests w.pairing w.other_pairing f.p f.q f.p_is f.q_is f.m.seat f.n.seat
+          w.crew w.other_crew who traded not_crew not_other (honest who)
     ]
+  ]
 
 pub swap_honest : (s : State) (key : KeyParts) (w : swap.Swap) → swap_fault w ≡ None → Passed (refusals s (Swap w)) →
     Sound s → Honest s → Honest (after s (change_of s key (Swap w)))
@@ -251,5 +279,5 @@ swap_honest s key w made passed sound honest =
     let two = two_of_each w made in
     let t = after s (change_of s key (Swap w)) in
     subst (λ pairings. Honest (swapped s pairings t.requests))
-      (sym (ap (fold reseated s.pairings) (two_seats s w f.m f.n f.m_is f.n_is)))
-      (each_honest s w f two.0 t.requests sound honest two.1)
+    (sym (ap (fold reseated s.pairings) (two_seats s w f.m f.n f.m_is f.n_is)))
+    (each_honest s w f two.0 t.requests sound honest two.1)
