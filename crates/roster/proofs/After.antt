@@ -5,7 +5,6 @@ use Rattle.std.specs.Ordering.{eq_by_cmp}
 use Rattle.std.specs.Cmp.Lexicographic.{nat_list_cmp_total}
 use Rattle.values.specs.Name.{name_cmp}
 use Rattle.values.proofs.Names.{exact_names, alike}
-use Rattle.command.specs.Keys.{key_name}
 use Rattle.command.specs.declared.order.Order.{Order}
 use Rattle.command.specs.declared.order.Order.TheVariants.{AddCrew, AddPairing, CancelPairing, Assign, Release, Swap, AddGround, CancelGround, Actual}
 use Rattle.roster.specs.State.{State}
@@ -32,7 +31,7 @@ remove_inserted m k v free = fin.same_map nat_list_cmp_total exact_names _ _ (λ
     fin.get-remove nat_list_cmp_total (fin.insert m k v) k q
     ∙ ap (cond (eq_by_cmp name_cmp q k) None) (fin.get-insert nat_list_cmp_total m k v q)
     ∙ elim (eq_by_cmp name_cmp q k) as (λ b. eq_by_cmp name_cmp q k ≡ b →
-        cond b None (cond b (Some v) (fin.get m q)) ≡ fin.get m q) [
+    cond b None (cond b (Some v) (fin.get m q)) ≡ fin.get m q) [
       | true ↦ λ e. sym free ∙ ap (fin.get m) (sym (alike q k e))
       | false ↦ λ _. refl
     ] refl)

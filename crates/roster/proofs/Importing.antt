@@ -46,8 +46,8 @@ unfolding refusals
 of_new s key plan free =
     under_free s key (AddPairing plan) free
     ∙ elim (is_pairing s plan.id) as (λ b. judged s key (AddPairing plan)
-            (option_map (λ (row : Refusal × Bool). row.0) (cond b (Some (PairingExists, b)) None)) ≡
-        cond b (Refuse PairingExists) (accepted s key plan)) [
+    (option_map (λ (row : Refusal × Bool). row.0) (cond b (Some (PairingExists, b)) None)) ≡
+    cond b (Refuse PairingExists) (accepted s key plan)) [
       | true ↦ refl
       | false ↦ refl
     ]
@@ -74,7 +74,7 @@ still_there s key plan id there =
     ap (λ (m : fin.FinMap name_cmp Rostered). is_some (fin.get m id)) (added_pairings s key plan)
     ∙ ap is_some (fin.get-insert nat_list_cmp_total s.pairings plan.id (unheld plan) id)
     ∙ elim (eq_by_cmp name_cmp id plan.id) as
-        (λ b. is_some (cond b (Some (unheld plan)) (fin.get s.pairings id)) ≡ true) [
+    (λ b. is_some (cond b (Some (unheld plan)) (fin.get s.pairings id)) ≡ true) [
       | true ↦ refl
       | false ↦ there
     ]
@@ -86,7 +86,7 @@ still_free s key plan name other free =
     let change = change_of s key (AddPairing plan) in
     get-after s change name
     ∙ elim (eq_by_cmp name_cmp name (key_name key)) as (λ b. eq_by_cmp name_cmp name (key_name key) ≡ b →
-        cond b (Some (record { command = change.command; reply = change.reply })) (fin.get s.requests name) ≡ None) [
+    cond b (Some (record { command = change.command; reply = change.reply })) (fin.get s.requests name) ≡ None) [
       | true ↦ λ tied. absurd (other (alike _ _ tied))
       | false ↦ λ _. free
     ] refl
@@ -96,7 +96,7 @@ of_next : (P : State → Type 0) (s : State) (key : KeyParts) (plan : Plan) → 
     P (next s (key, AddPairing plan))
 of_next P s key plan before then =
     elim (fin.get s.requests (key_name key)) as (λ o. fin.get s.requests (key_name key) ≡ o →
-        P (left_by s (step_of s key (AddPairing plan)))) [
+    P (left_by s (step_of s key (AddPairing plan)))) [
       | Some kept ↦ λ held. subst (λ v. P (left_by s v)) (sym (under_held s key (AddPairing plan) kept held))
           (subst P (sym (held_leaves s (commands.eq kept.command (AddPairing plan)) kept)) before)
       | None ↦ λ free. subst (λ v. P (left_by s v)) (sym (of_new s key plan free))
@@ -114,8 +114,8 @@ pub keep_pairing : (number n : ℕ) (plans : List Plan) (s : State) (id : List �
 keep_pairing number n [] s id there = there
 keep_pairing number n (plan ∷ plans) s id there =
     keep_pairing number (n + 1) plans (next s (key_of number n, AddPairing plan)) id
-      (of_next (λ t. is_pairing t id ≡ true) s (key_of number n) plan there
-        (still_there s (key_of number n) plan id there))
+    (of_next (λ t. is_pairing t id ≡ true) s (key_of number n) plan there
+    (still_there s (key_of number n) plan id there))
 
 -- and the keys of earlier parts free
 pub keep_free : (number part n : ℕ) → part < n → (plans : List Plan) (s : State) →
@@ -126,5 +126,5 @@ keep_free number part n below (plan ∷ plans) s free =
     let name = key_name (key_of number part) in
     let other : name ≡ key_name (key_of number n) → ⊥ = λ e. let same : part ≡ n = cc in omega arith in
     keep_free number part (n + 1) (omega arith) plans (next s (key_of number n, AddPairing plan))
-      (of_next (λ t. fin.get t.requests name ≡ None) s (key_of number n) plan free
-        (still_free s (key_of number n) plan name other free))
+    (of_next (λ t. fin.get t.requests name ≡ None) s (key_of number n) plan free
+    (still_free s (key_of number n) plan name other free))

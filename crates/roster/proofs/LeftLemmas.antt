@@ -1,8 +1,7 @@
 -- What is left of a member's duties.
-use Rattle.std.proofs.Common.{◌≡◌, ℕ, Bool, true, false, not, List, [], ◌∷◌, ◌++◌, map, cond, refl, ap, ◌∙◌, sym}
+use Rattle.std.proofs.Common.{◌≡◌, ℕ, Bool, true, false, not, List, [], ◌∷◌, ◌++◌, map, cond, refl, ap}
 use Rattle.std.specs.List.{filter}
 use Rattle.duty.specs.Plans.{GroundPlan}
-use Rattle.duty.specs.declared.duty_in_force.DutyInForce.{DutyInForce}
 use Rattle.roster.specs.LeftOut.{leaves_out}
 use Rattle.roster.specs.Places.{Place, Placed, duties, ground_at, none, left}
 use Rattle.roster.specs.declared.duties.LeftOut.{LeftOut}
@@ -16,7 +15,7 @@ pub left_append : (out : Place → Bool) (xs ys : List Placed) → left out (xs 
 left_append out [] ys = refl
 left_append out (x ∷ xs) ys =
     elim (out x.0) as (λ b. duties (cond (not b) (x ∷ filter (λ p. not (out p.0)) (xs ++ ys)) (filter (λ p. not (out p.0)) (xs ++ ys)))
-        ≡ duties (cond (not b) (x ∷ filter (λ p. not (out p.0)) xs) (filter (λ p. not (out p.0)) xs)) ++ left out ys) [
+    ≡ duties (cond (not b) (x ∷ filter (λ p. not (out p.0)) xs) (filter (λ p. not (out p.0)) xs)) ++ left out ys) [
       | true ↦ left_append out xs ys
       | false ↦ ap (λ ds. x.1 ∷ ds) (left_append out xs ys)
     ]

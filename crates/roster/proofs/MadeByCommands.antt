@@ -51,7 +51,7 @@ no_entries X = of_no_length _ (sym (fin.len-entries (fin.empty {X = X} {R = name
 no_history : (zone who : List ℕ) → history_of (empty zone) who ≡ []
 no_history zone who =
     ap (λ rows. flat_map (periods_at zone) (filter (λ row. holds who row.1) rows) ++ grounds_of (empty zone) who)
-      (no_entries _)
+    (no_entries _)
     ∙ ap (λ rows. map (ground_at zone) (filter (λ row. bytes_eq row.1.crew who) rows)) (no_entries _)
 
 -- no duties break no rule

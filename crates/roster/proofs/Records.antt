@@ -51,9 +51,11 @@ names_same a b x y r t e =
     let number : a.number ≡ b.number = cc in
     let part : a.part ≡ b.part = cc in
     let texts = texts_same x y (section_number r ∷ []) (section_number t ∷ []) cc in
-    let section : section_number r ≡ section_number t = let l = texts.1 in cc in
-    ((let key : a ≡ b = ap₂ (λ n p. record { number = n; part = p }) number part in key),
-      texts.0, sym (at_number r) ∙ ap section_at section ∙ at_number t)
+    let section : section_number r ≡ section_number t = let l = texts.1 in cc in (
+      (let key : a ≡ b = ap₂ (λ n p. record { number = n; part = p }) number part in key),
+      texts.0,
+      sym (at_number r) ∙ ap section_at section ∙ at_number t,
+    )
 
 -- ---- Where a record comes from
 

@@ -81,7 +81,7 @@ pub now_held : (s : State) (change : Change) →
 now_held s change =
     get-after s change (key_name change.key)
     ∙ ap (λ b. cond b (Some (request_of change)) (fin.get s.requests (key_name change.key)))
-      (itself (key_name change.key) (key_name change.key) refl)
+    (itself (key_name change.key) (key_name change.key) refl)
 
 -- a name that is held stays held where a free key is taken
 kept_after : (s : State) (change : Change) (name : List ℕ) (request : Request) →
@@ -90,7 +90,7 @@ kept_after : (s : State) (change : Change) (name : List ℕ) (request : Request)
 kept_after s change name request free held =
     get-after s change name
     ∙ elim (eq_by_cmp name_cmp name (key_name change.key)) as (λ b. eq_by_cmp name_cmp name (key_name change.key) ≡ b →
-        cond b (Some (request_of change)) (fin.get s.requests name) ≡ Some request) [
+    cond b (Some (request_of change)) (fin.get s.requests name) ≡ Some request) [
       | true ↦ λ tied. absurd (let same : name ≡ key_name change.key = alike _ _ tied in
           let both : None ≡ Some request = sym free ∙ ap (fin.get s.requests) (sym same) ∙ held in cc)
       | false ↦ λ _. held
@@ -107,7 +107,7 @@ kept_next : (s : State) (a : Asked) (name : List ℕ) (request : Request) → fi
     fin.get (next s a).requests name ≡ Some request
 kept_next s (key, order) name request held =
     elim (fin.get s.requests (key_name key)) as (λ o. fin.get s.requests (key_name key) ≡ o →
-        fin.get (left_by s (step_of s key order)).requests name ≡ Some request) [
+    fin.get (left_by s (step_of s key order)).requests name ≡ Some request) [
       | None ↦ λ free.
           subst (λ v. fin.get (left_by s v).requests name ≡ Some request) (sym (under_free s key order free))
           (kept_judged s key order (refusal_of s order) name request free held)

@@ -51,24 +51,24 @@ again number n plan plans s =
     let first : Asked = (key, AddPairing plan) in
     let later = parts_from number (n + 1) plans in
     elim (fin.get s.requests (key_name key)) as (λ o. fin.get s.requests (key_name key) ≡ o →
-        Again s (Fold (next s first) later) key (AddPairing plan)) [
+    Again s (Fold (next s first) later) key (AddPairing plan)) [
       | Some kept ↦ λ held.
           again_held s (Fold (next s first) later) key (AddPairing plan) kept held
-            (keeps_requests s key kept (first ∷ later) held)
+          (keeps_requests s key kept (first ∷ later) held)
       | None ↦ λ free. elim (is_pairing s plan.id) as (λ b. is_pairing s plan.id ≡ b →
           Again s (Fold (next s first) later) key (AddPairing plan)) [
-        | true ↦ λ there.
-            let refused = refused_new s key plan free there in
-            subst (λ v. Again s (Fold (left_by s v) later) key (AddPairing plan)) (sym refused)
-              (again_refused s (Fold s later) key plan free (keep_free number n (n + 1) (omega arith) plans s free)
+            | true ↦ λ there.
+                let refused = refused_new s key plan free there in
+                subst (λ v. Again s (Fold (left_by s v) later) key (AddPairing plan)) (sym refused)
+                (again_refused s (Fold s later) key plan free (keep_free number n (n + 1) (omega arith) plans s free)
                 there (keep_pairing number (n + 1) plans s plan.id there))
-        | false ↦ λ absent.
-            let change = change_of s key (AddPairing plan) in
-            let new = accepted_new s key plan free absent in
-            subst (λ v. Again s (Fold (left_by s v) later) key (AddPairing plan)) (sym new)
-              (again_accepted s (Fold (after s change) later) key plan new
+            | false ↦ λ absent.
+                let change = change_of s key (AddPairing plan) in
+                let new = accepted_new s key plan free absent in
+                subst (λ v. Again s (Fold (left_by s v) later) key (AddPairing plan)) (sym new)
+                (again_accepted s (Fold (after s change) later) key plan new
                 (keeps_requests (after s change) key (request_of change) later (now_held s change)))
-      ] refl
+          ] refl
     ] refl
 
 -- ---- An import asked again
@@ -92,7 +92,7 @@ repeated number n (plan ∷ plans) s =
       state = ap (λ u. Fold u later) it.state ∙ rest.state;
       replies = ap (λ a. a ∷ Replies (next t first) later) it.answer
           ∙ ap (λ replies. answer_of (step_of s key (AddPairing plan)) ∷ replies)
-            (ap (λ u. Replies u later) it.state ∙ rest.replies);
+          (ap (λ u. Replies u later) it.state ∙ rest.replies);
     }
 
 -- its first commands are an import too
@@ -129,9 +129,9 @@ stopped_once : (s : State) (number k : ℕ) (plans : List Plan) →
 stopped_once s number k plans =
     let asked = import number plans in
     let front : Repeated s (Fold s (take k asked)) (take k asked) =
-        subst (λ xs. Repeated s (Fold s xs) xs) (first_parts number 1 k plans) (repeated number 1 (take k plans) s) in
+    subst (λ xs. Repeated s (Fold s xs) xs) (first_parts number 1 k plans) (repeated number 1 (take k plans) s) in
     subst (λ xs. Repeated s (Fold s (take k asked)) xs) (take-append-drop k asked)
-      (and_then s (Fold s (take k asked)) (take k asked) (drop k asked) front)
+    (and_then s (Fold s (take k asked)) (take k asked) (drop k asked) front)
 
 pub resumes : Resumes
 resumes s number plans [] = (refl, refl)

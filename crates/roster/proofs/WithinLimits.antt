@@ -69,7 +69,7 @@ passed_over row rows off =
 beside : (row : Row) (xs ys : List Row) → first_of xs ≡ first_of ys → first_of (row ∷ xs) ≡ first_of (row ∷ ys)
 beside row xs ys same =
     elim row.1 as (λ b. option_map (λ (r : Row). r.0) (cond b (Some row) (find (λ (r : Row). r.1) xs)) ≡
-        option_map (λ (r : Row). r.0) (cond b (Some row) (find (λ (r : Row). r.1) ys))) [
+    option_map (λ (r : Row). r.0) (cond b (Some row) (find (λ (r : Row). r.1) ys))) [
       | true ↦ refl
       | false ↦ same
     ]
@@ -82,7 +82,7 @@ limits_decide [] pass = refl
 limits_decide (row ∷ rows) pass =
     let rest = limits_decide rows (λ r c. pass r (later row rows r c)) in
     elim (is_limit row) as (λ b. is_limit row ≡ b →
-        first_of (row ∷ rows) ≡ first_of (cond b (row ∷ filter is_limit rows) (filter is_limit rows))) [
+    first_of (row ∷ rows) ≡ first_of (cond b (row ∷ filter is_limit rows) (filter is_limit rows))) [
       | true ↦ λ _. beside row rows (filter is_limit rows) rest
       | false ↦ λ other. passed_over row rows (pass row (first_of_all row rows)
           (λ e. let f : true ≡ false = subst (λ n. eqb n 12 ≡ false) e other in cc)) ∙ rest
@@ -94,8 +94,8 @@ applies : (broken : List Exceedance) (rest : List Row) → first_of rest ≡ Non
 applies [] rest clear = (λ _. refl, λ _. clear)
 applies (e ∷ es) rest clear =
     let on : first_of (over_limits (e ∷ es) ∷ rest) ≡ Some (Limits (e ∷ es)) =
-        ap (λ b. option_map (λ (r : Row). r.0) (cond b (Some (Limits (e ∷ es), b)) (find (λ (r : Row). r.1) rest)))
-          (lt-ltb 0 (length (e ∷ es)) (omega arith)) in
+    ap (λ b. option_map (λ (r : Row). r.0) (cond b (Some (Limits (e ∷ es), b)) (find (λ (r : Row). r.1) rest)))
+    (lt-ltb 0 (length (e ∷ es)) (omega arith)) in
     (λ is. absurd (let f : None ≡ Some (Limits (e ∷ es)) = sym is ∙ on in cc), λ is. absurd (cc))
 
 -- ---- What is broken
@@ -124,8 +124,11 @@ accepted_is : (s : State) (key : KeyParts) (order : Order) → fin.get s.request
     IsAccepted s key order ↔ (refusal_of s order ≡ None)
 accepted_is s key order free = (
   λ a. not_refused s key order (refusal_of s order) a.0 a.1 (sym (under_free s key order free) ∙ a.2),
-  λ clear. (change_of s key order, record { exceedances = recorded_by s order },
-      under_free s key order free ∙ ap (judged s key order) clear),
+  λ clear. (
+    change_of s key order,
+    record { exceedances = recorded_by s order },
+    under_free s key order free ∙ ap (judged s key order) clear,
+  ),
 )
 
 -- under a free key, the rows of limits alone decide

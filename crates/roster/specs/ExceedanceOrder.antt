@@ -43,8 +43,8 @@ in_order : (a b c d : ℕ) (x y : List ℕ) (r s : Section) →
 in_order a b c d x y r s =
     then_assoc (nat_cmp a c) (nat_cmp b d) _
     ∙ ap (λ o. ordering_then (nat_cmp a c) (ordering_then (nat_cmp b d) o))
-        (ap (ordering_then (name_cmp x y)) (sections_order r s ∙ number_order (section_number r) (section_number s))
-        ∙ text_order x y _ _)
+    (ap (ordering_then (name_cmp x y)) (sections_order r s ∙ number_order (section_number r) (section_number s))
+    ∙ text_order x y _ _)
 
 pub exceedances_order : (a b : ExceedanceId) →
     ghosts.cmp a b ≡ name_cmp (exceedance_name a.key a.crew a.section) (exceedance_name b.key b.crew b.section)

@@ -7,7 +7,7 @@ use Rattle.duty.specs.declared.duty_in_force.DutyInForce.{DutyInForce}
 use Rattle.limits.specs.Judgement.{Broken}
 use Rattle.limits.specs.declared.section.Section.{Section}
 use Rattle.command.specs.Keys.{KeyParts}
-use Rattle.roster.specs.Places.{Place, period, Placed, duties, history_of}
+use Rattle.roster.specs.Places.{period, Placed, duties, history_of}
 use Rattle.roster.specs.State.{State, exceedance_name}
 use Rattle.roster.specs.declared.state.PeriodId.{PeriodId}
 

@@ -18,7 +18,7 @@ use Rattle.command.specs.declared.order.Swap as swap
 use Rattle.command.specs.declared.refusal.Refusal.{Refusal}
 use Rattle.command.specs.declared.refusal.Refusal.TheVariants.{NoSuchCrew, CrewExists, NoSuchPairing, PairingExists, SeatTaken, WrongSeat, NotAssigned, PairingCrewed, Flown, Overlap, Limits, NoSuchDuty, GroundExists, NoSuchGround, SegmentCount}
 use Rattle.roster.specs.Pairings.{holder, is_held_by, is_flown, is_crewed, is_fully_crewed}
-use Rattle.roster.specs.Places.{Place, duties, none, the_pairing, others, periods_at, ground_at}
+use Rattle.roster.specs.Places.{duties, none, the_pairing, others, periods_at, ground_at}
 use Rattle.roster.specs.State.{State}
 
 -- ---- Facts

@@ -114,12 +114,7 @@ impl Roster {
     }
 
     /// What the change does, but for its request.
-    fn effect(
-        &mut self,
-        alloc: Global,
-        change: &Change,
-        order: &Order,
-    ) -> Result<(), MemoryFault>
+    fn effect(&mut self, alloc: Global, change: &Change, order: &Order) -> Result<(), MemoryFault>
         ensures ok { OnOk result (self.new ≡ effect self.old change.now order.now) }
         ensures err { OnErr result (self.new ≡ self.old) }
     {
@@ -139,7 +134,8 @@ impl Roster {
                 Ok(())
             }
             Order::AddGround(ground) => {
-                self.grounds.insert(ground.id().copy(alloc)?, ground.copy(alloc)?)
+                self.grounds
+                    .insert(ground.id().copy(alloc)?, ground.copy(alloc)?)
             }
             Order::CancelGround(id) => {
                 self.grounds.remove(id);
@@ -159,13 +155,21 @@ impl Roster {
     ) -> Result<(), MemoryFault>
         ensures ok { let period : PeriodOf = record { pairing = id.now; number = actual.now.period } in
             OnOk result (self.new ≡ record self.old {
-                pairings = changed_at self.old.pairings id.now (with_actual actual.now);
-                exceedances = fold (recorded change.now.key period) self.old.exceedances change.now.reply.exceedances }) }
+              pairings = changed_at self.old.pairings id.now (with_actual actual.now);
+              exceedances = fold (recorded change.now.key period) self.old.exceedances change.now.reply.exceedances;
+            }) }
         ensures err { OnErr result (self.new ≡ self.old) }
     {
         let mut records = self.exceedances.copy(alloc)?;
         let recorded = change.reply.exceedances.as_slice();
-        record_all(alloc, change.key, id, actual.period(), recorded, &mut records)?;
+        record_all(
+            alloc,
+            change.key,
+            id,
+            actual.period(),
+            recorded,
+            &mut records,
+        )?;
         let actual = actual.copy(alloc)?;
         self.exceedances = records;
         self.pairings.edit(id, Flown { actual });

@@ -105,7 +105,12 @@ impl Rostered {
 
     /// The duties of the pairing in force.
     #[tactic(auto, using(crate::proofs::LeftLemmas::left_none))]
-    pub(crate) fn duties(&self, alloc: Global, zone: &Zone, id: &PairingId) -> Result<History, MemoryFault>
+    pub(crate) fn duties(
+        &self,
+        alloc: Global,
+        zone: &Zone,
+        id: &PairingId,
+    ) -> Result<History, MemoryFault>
         ensures { IfOk result (λ history. history ≡ duties (periods_at zone.now (id.now, self.now))) }
     {
         let mut history = History::empty(alloc);

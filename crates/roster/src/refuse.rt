@@ -128,9 +128,10 @@ impl Roster {
     fn refuse_swap(&self, alloc: Global, swap: &Swap) -> Result<Option<Refusal>, MemoryFault>
         ensures { IfOk result (λ refusal. refusal ≡ refusal_of self.now (Swaps swap.now)) }
     {
-        let (Some(member), Some(other)) =
-            (self.crew.get(&swap.crew), self.crew.get(&swap.other_crew))
-        else {
+        let (Some(member), Some(other)) = (
+            self.crew.get(&swap.crew),
+            self.crew.get(&swap.other_crew),
+        ) else {
             return Ok(Some(Refusal::NoSuchCrew));
         };
         let (Some(given), Some(taken)) = (

@@ -100,14 +100,19 @@ impl Rostered {
     pub fn planned(&self, number: u8) -> Option<&Fdp>
         ensures { option_copied result ≡ slice_get self.now.plan.periods (number - 1) }
     {
-        self.plan.periods().get(usize::from(number).saturating_sub(1))
+        self.plan
+            .periods()
+            .get(usize::from(number).saturating_sub(1))
     }
 
     /// Whether a period has an actual.
     pub fn is_flown(&self) -> bool
         ensures { result ≡ is_flown self.now }
     {
-        self.actuals.as_slice().iter().any(|actual| actual.is_some())
+        self.actuals
+            .as_slice()
+            .iter()
+            .any(|actual| actual.is_some())
     }
 }
 

@@ -16,12 +16,7 @@ impl Roster {
     /// under a free key the first refusal that applies is the answer, in the order of their numbers. The roster stays as
     /// it is: what is accepted is made by [`Roster::apply`].
     #[tactic(auto, unfolding(crate::specs::Steps::step_of))]
-    pub fn step(
-        &self,
-        alloc: Global,
-        key: Key,
-        command: &Command,
-    ) -> Result<Verdict, MemoryFault>
+    pub fn step(&self, alloc: Global, key: Key, command: &Command) -> Result<Verdict, MemoryFault>
         ensures { IfOk result (λ verdict. verdict ≡ step_of self.now key command.now) }
     {
         if let Some(kept) = self.requests.get(&key) {
@@ -84,8 +79,12 @@ impl Roster {
                 let holder = Some(swap.other_crew.copy(alloc)?);
                 let mut seats = self.seat_change(alloc, &swap.pairing, &swap.crew, holder)?;
                 let holder = Some(swap.crew.copy(alloc)?);
-                let mut others =
-                    self.seat_change(alloc, &swap.other_pairing, &swap.other_crew, holder)?;
+                let mut others = self.seat_change(
+                    alloc,
+                    &swap.other_pairing,
+                    &swap.other_crew,
+                    holder,
+                )?;
                 seats.append(&mut others)?;
                 Ok(seats)
             }

@@ -59,7 +59,9 @@ fn pairing(alloc: Global, number: u32, day: u32) -> Result<Pairing> {
 
 /// A roster of so many pairings, each third day of the year one that the member holds.
 fn roster(alloc: Global, pairings: u32, held: u32) -> Result<Roster> {
-    let zone = Zone::read(alloc, "EST5EDT,M3.2.0,M11.1.0").ok().context("a zone")?;
+    let zone = Zone::read(alloc, "EST5EDT,M3.2.0,M11.1.0")
+        .ok()
+        .context("a zone")?;
     let mut roster = Roster::empty(alloc, zone)?;
     let captain = Member {
         seat: Seat::Captain,
@@ -94,9 +96,7 @@ fn main(rt: HostRuntime) -> Result<()> {
             accepted = accepted.saturating_add(1);
         }
     }
-    println!(rt;
-        "{pairings} pairings, {held} of them held: accepted {accepted} times of {times}"
-    )?;
+    println!(rt; "{pairings} pairings, {held} of them held: accepted {accepted} times of {times}")?;
     Ok(())
 }
 

@@ -44,9 +44,9 @@ begins_first : (g : GroundPlan) → ground_fault g ≡ None → g.begin < g.end
 unfolding ground_fault
 begins_first g e =
     let texts = unless (is_id g.id) (BadField field.Ground)
-        ∷ unless (is_id g.crew) (BadField field.Crew)
-        ∷ unless (is_plain_text g.task) (BadField field.Task)
-        ∷ [] in
+    ∷ unless (is_id g.crew) (BadField field.Crew)
+    ∷ unless (is_plain_text g.task) (BadField field.Task)
+    ∷ [] in
     ltb-true g.begin g.end (last_passed texts (ltb g.begin g.end) (BadTimes 0) e)
 
 -- ---- A plan of which no period is flown
@@ -88,12 +88,15 @@ module _ (s : State) (key : KeyParts) (free : fin.get s.requests (key_name key) 
       let grows = insert_keeps s.pairings plan.id (unheld plan) (is_absent _ passed.0) in record {
         pairings = λ id r e. elim (inserted s.pairings plan.id (unheld plan) id r e) [
           | inl new ↦ subst (λ x. SoundPairing s.crew id x) new.1 (record {
-              named = sym new.0; plan = faultless; planned = planned; places = length-map plan.periods _;
-              captain = λ who no. let x : None ≡ Some who = no in cc;
-              first_officer = λ who no. let x : None ≡ Some who = no in cc;
-              actuals = λ i a no. absurd (no_actual plan.periods i a no);
-              crewed = λ flown. absurd (true≢false (sym flown ∙ nothing_flown ActualTimes plan.periods));
-            })
+            named = sym new.0;
+            plan = faultless;
+            planned = planned;
+            places = length-map plan.periods _;
+            captain = λ who no. let x : None ≡ Some who = no in cc;
+            first_officer = λ who no. let x : None ≡ Some who = no in cc;
+            actuals = λ i a no. absurd (no_actual plan.periods i a no);
+            crewed = λ flown. absurd (true≢false (sym flown ∙ nothing_flown ActualTimes plan.periods));
+          })
           | inr old ↦ h.pairings id r old.1
         ];
         grounds = h.grounds;
@@ -109,8 +112,11 @@ module _ (s : State) (key : KeyParts) (free : fin.get s.requests (key_name key) 
         pairings = h.pairings;
         grounds = λ id d e. elim (inserted s.grounds g.id g id d e) [
           | inl new ↦ subst (λ x. SoundGround s.crew id x) new.1 (record {
-              named = sym new.0; member = member.0; of_member = member.1; begins = begins_first g faultless;
-            })
+            named = sym new.0;
+            member = member.0;
+            of_member = member.1;
+            begins = begins_first g faultless;
+          })
           | inr old ↦ h.grounds id d old.1
         ];
         exceedances = kept.exceedances s _ refl (insert_keeps s.requests (key_name key) _ free) (λ _ _ m. m)
@@ -120,32 +126,34 @@ module _ (s : State) (key : KeyParts) (free : fin.get s.requests (key_name key) 
   pub cancel_ground : (id : List ℕ) → Sound (after s (change_of s key (CancelGround id)))
   unfolding after
   cancel_ground id = record {
-      pairings = h.pairings;
-      grounds = λ k g e. let old = removed s.grounds id k g e in h.grounds k g old.1;
-      exceedances = kept.exceedances s _ refl (insert_keeps s.requests (key_name key) _ free) (λ _ _ m. m)
-          (λ _ _ f. f) h;
-    }
+    pairings = h.pairings;
+    grounds = λ k g e. let old = removed s.grounds id k g e in h.grounds k g old.1;
+    exceedances = kept.exceedances s _ refl (insert_keeps s.requests (key_name key) _ free) (λ _ _ m. m)
+        (λ _ _ f. f) h;
+  }
 
   -- a flown pairing has both seats held, so it isn't one that is cancelled
   other_flown : (id : List ℕ) → ((r : Rostered) → fin.get s.pairings id ≡ Some r → is_crewed r ≡ false) →
       StaysFlown s.pairings (fin.remove s.pairings id)
   other_flown id unheld k place f = record {
-      rostered = f.rostered; actual = f.actual; flown = f.flown;
-      there = remove_elsewhere s.pairings id k (λ same.
+    rostered = f.rostered;
+    actual = f.actual;
+    flown = f.flown;
+    there = remove_elsewhere s.pairings id k (λ same.
         let r = ap (fin.get s.pairings) (sym same) ∙ f.there in
         let both = (h.pairings id f.rostered r).crewed (some_flown f.rostered.actuals place f.actual f.flown) in
         let captain = is_some f.rostered.captain in
         let first_officer = is_some f.rostered.first_officer in
         let none = or_parts captain first_officer (unheld f.rostered r) in
         true≢false (sym both ∙ and_left captain first_officer none.0)) ∙ f.there;
-    }
+  }
 
   pub cancel_pairing : (id : List ℕ) → Passed (refusals s (CancelPairing id)) →
       Sound (after s (change_of s key (CancelPairing id)))
   unfolding after refusals
   cancel_pairing id passed = record {
-      pairings = λ k r e. let old = removed s.pairings id k r e in h.pairings k r old.1;
-      grounds = h.grounds;
-      exceedances = kept.exceedances s _ refl (insert_keeps s.requests (key_name key) _ free) (λ _ _ m. m)
-          (other_flown id (λ r is. sym (ap (λ o. option_map_or is_crewed o false) is) ∙ passed.1.0)) h;
-    }
+    pairings = λ k r e. let old = removed s.pairings id k r e in h.pairings k r old.1;
+    grounds = h.grounds;
+    exceedances = kept.exceedances s _ refl (insert_keeps s.requests (key_name key) _ free) (λ _ _ m. m)
+        (other_flown id (λ r is. sym (ap (λ o. option_map_or is_crewed o false) is) ∙ passed.1.0)) h;
+  }

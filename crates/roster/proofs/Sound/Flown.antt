@@ -78,10 +78,12 @@ found s id a passed =
     let fdp = is_there (planned s id a.period) (not-false _ passed.1.1.0) in
     let at_r = ap (option_and_then (λ (r : Rostered). slice_get r.plan.periods (a.period - 1))) r.1 in
     let counted : not (eqb (length fdp.0.segments) (length a.segments)) ≡ false =
-        subst (λ o. option_map_or (λ (f : Fdp). not (eqb (length f.segments) (length a.segments))) o false ≡ false)
-          fdp.1 passed.1.1.1.0 in
+    subst (λ o. option_map_or (λ (f : Fdp). not (eqb (length f.segments) (length a.segments))) o false ≡ false)
+    fdp.1 passed.1.1.1.0 in
     record {
-      rostered = r.0; there = r.1; fdp = fdp.0;
+      rostered = r.0;
+      there = r.1;
+      fdp = fdp.0;
       crewed = not-false _ (subst (λ o. option_map_or (λ r. not (is_fully_crewed r)) o false ≡ false) r.1 passed.1.0);
       planned = sym at_r ∙ fdp.1;
       count = eqb-true _ _ (not-false _ counted);
@@ -93,44 +95,57 @@ flown_sound : (crew : Crew) (id : List ℕ) (a : ActualTimes) (r : Rostered) (fd
     actual_fault a ≡ None → is_fully_crewed r ≡ true → slice_get r.plan.periods (a.period - 1) ≡ Some fdp →
     length fdp.segments ≡ length a.segments → SoundPairing crew id r → SoundPairing crew id (with_actual a r)
 flown_sound crew id a r fdp positive faultless crewed planned count h = record {
-    named = h.named; plan = h.plan; planned = h.planned; captain = h.captain; first_officer = h.first_officer;
-    places = length-set r.actuals (a.period - 1) (Some a) ∙ h.places;
-    crewed = λ _. crewed;
-    actuals = λ i b got. elim (set_cases r.actuals (a.period - 1) (Some a) i (Some b) got) [
-      | inl new ↦
-          let same : a ≡ b = let e = new.1 in cc in
-          let number : a.period ≡ i + 1 = let e = new.0 in omega (arith, e) in
-          subst (IsActual r.plan i) same (record {
-            fdp = fdp; planned = ap (slice_get r.plan.periods) new.0 ∙ planned;
-            number = number; count = count; order = faultless;
-          })
-      | inr old ↦ h.actuals i b old
-    ];
-  }
+  named = h.named;
+  plan = h.plan;
+  planned = h.planned;
+  captain = h.captain;
+  first_officer = h.first_officer;
+  places = length-set r.actuals (a.period - 1) (Some a) ∙ h.places;
+  crewed = λ _. crewed;
+  actuals = λ i b got. elim (set_cases r.actuals (a.period - 1) (Some a) i (Some b) got) [
+    | inl new ↦
+        let same : a ≡ b = let e = new.1 in cc in
+        let number : a.period ≡ i + 1 = let e = new.0 in omega (arith, e) in
+        subst (IsActual r.plan i) same (record {
+          fdp = fdp;
+          planned = ap (slice_get r.plan.periods) new.0 ∙ planned;
+          number = number;
+          count = count;
+          order = faultless;
+        })
+    | inr old ↦ h.actuals i b old
+  ];
+}
 
 still_flown : (a : ActualTimes) (m : Pairings) (id : List ℕ) → StaysFlown m (changed_at m id (with_actual a))
 still_flown a m id k place f = elim (decide k id) [
-    | inl same ↦
-        let r = f.rostered in
-        let there = ap (fin.get (changed_at m id (with_actual a))) same ∙ change_here m id (with_actual a)
-            ∙ ap (option_map (with_actual a)) (ap (fin.get m) (sym same) ∙ f.there) in
-        elim (cases_eq place (a.period - 1)) [
-          | inl this ↦ record {
-              rostered = with_actual a r; there = there; actual = a;
-              flown = ap (slice_get (slice_set r.actuals (a.period - 1) (Some a))) this
-                ∙ set_here r.actuals (a.period - 1) (Some a)
-                  (subst (λ n. n < length r.actuals) this (get_within r.actuals place (Some f.actual) f.flown));
-            }
-          | inr apart ↦ record {
-              rostered = with_actual a r; there = there; actual = f.actual;
-              flown = set_other r.actuals (a.period - 1) (Some a) place apart ∙ f.flown;
-            }
-        ]
-    | inr other ↦ record {
-        rostered = f.rostered; actual = f.actual; flown = f.flown;
-        there = change_elsewhere m id (with_actual a) k other ∙ f.there;
-      }
-  ]
+  | inl same ↦
+      let r = f.rostered in
+      let there = ap (fin.get (changed_at m id (with_actual a))) same ∙ change_here m id (with_actual a)
+      ∙ ap (option_map (with_actual a)) (ap (fin.get m) (sym same) ∙ f.there) in
+      elim (cases_eq place (a.period - 1)) [
+        | inl this ↦ record {
+          rostered = with_actual a r;
+          there = there;
+          actual = a;
+          flown = ap (slice_get (slice_set r.actuals (a.period - 1) (Some a))) this
+              ∙ set_here r.actuals (a.period - 1) (Some a)
+              (subst (λ n. n < length r.actuals) this (get_within r.actuals place (Some f.actual) f.flown));
+        }
+        | inr apart ↦ record {
+          rostered = with_actual a r;
+          there = there;
+          actual = f.actual;
+          flown = set_other r.actuals (a.period - 1) (Some a) place apart ∙ f.flown;
+        }
+      ]
+  | inr other ↦ record {
+    rostered = f.rostered;
+    actual = f.actual;
+    flown = f.flown;
+    there = change_elsewhere m id (with_actual a) k other ∙ f.there;
+  }
+]
 
 -- ---- The exceedances
 
@@ -145,17 +160,17 @@ of_holder s id a seat (Some who) h =
     let m = h who refl in
     let rest = others s who (the_period id a.period) in
     All-map (IsOfMember s.crew) (λ section. record { crew = who; section = section })
-      (Broken (rest ++ flown_duty s id a) (flown_duty s id a)) (λ _ _ _. (m.0, m.1))
+    (Broken (rest ++ flown_duty s id a) (flown_duty s id a)) (λ _ _ _. (m.0, m.1))
 
 of_members : (s : State) (id : List ℕ) (a : ActualTimes) (r : Rostered) → fin.get s.pairings id ≡ Some r →
     SoundPairing s.crew id r → All (IsOfMember s.crew) (recorded_by s (Actual id a))
 unfolding recorded_by
 of_members s id a r is h = subst
     (λ o. All (IsOfMember s.crew) (option_map_or
-        (λ (r : Rostered). broken_by_holder s id a r.captain ++ broken_by_holder s id a r.first_officer) o []))
+    (λ (r : Rostered). broken_by_holder s id a r.captain ++ broken_by_holder s id a r.first_officer) o []))
     (sym is)
     (All-append (IsOfMember s.crew) _ _ (of_holder s id a Captain r.captain h.captain)
-        (of_holder s id a FirstOfficer r.first_officer h.first_officer))
+    (of_holder s id a FirstOfficer r.first_officer h.first_officer))
 
 -- ---- The order
 
@@ -167,9 +182,9 @@ module _ (s : State) (key : KeyParts) (free : fin.get s.requests (key_name key) 
       let f = found s id a passed in
       let r = h.pairings id f.rostered f.there in
       let within : a.period - 1 < length f.rostered.actuals =
-          let places = r.places in
-          let planned = get_within f.rostered.plan.periods (a.period - 1) f.fdp f.planned in
-          omega (arith, places, planned) in
+      let places = r.places in
+      let planned = get_within f.rostered.plan.periods (a.period - 1) f.fdp f.planned in
+      omega (arith, places, planned) in
       let period : PeriodId = record { pairing = id; number = a.period } in
       let request : Request = record { command = Actual id a; reply = (change_of s key (Actual id a)).reply } in
       record {
@@ -177,28 +192,31 @@ module _ (s : State) (key : KeyParts) (free : fin.get s.requests (key_name key) 
           | inl new ↦
               let same = one_value (fin.get s.pairings id) f.rostered new.1 f.there new.2 in
               subst (λ k. SoundPairing s.crew k x) (sym new.0) (subst (SoundPairing s.crew id)
-                (ap (with_actual a) same ∙ new.3)
-                (flown_sound s.crew id a f.rostered f.fdp positive faultless f.crewed f.planned f.count r))
+              (ap (with_actual a) same ∙ new.3)
+              (flown_sound s.crew id a f.rostered f.fdp positive faultless f.crewed f.planned f.count r))
           | inr old ↦ h.pairings k x old.1
         ];
         grounds = h.grounds;
         exceedances = λ k who section p e. elim (recorded_from (IsOfMember s.crew) key period
             (recorded_by s (Actual id a)) (of_members s id a f.rostered f.there r)
             s.exceedances (exceedance_name k who section) p e) [
-          | inl now ↦
-              let x = now.0 in
-              let parts = names_same k key who x.exceedance.crew section x.exceedance.section x.named in
-              subst (SoundExceedance (after s (change_of s key (Actual id a))) k who) now.1 (record {
-                request = request;
-                held = ap (λ k. fin.get (fin.insert s.requests (key_name key) request) (key_name k)) parts.0
-                  ∙ insert_here s.requests (key_name key) request;
-                member = x.holds.0; of_member = ap (fin.get s.crew) parts.1 ∙ x.holds.1;
-                rostered = with_actual a f.rostered;
-                of_pairing = change_here s.pairings id (with_actual a) ∙ ap (option_map (with_actual a)) f.there;
-                place = a.period - 1; number = omega (arith, positive);
-                actual = a; flown = set_here f.rostered.actuals (a.period - 1) (Some a) within;
-              })
-          | inr old ↦ kept.exceedance s _ (insert_keeps s.requests (key_name key) _ free) (λ _ _ m. m)
-              (still_flown a s.pairings id) k who p (h.exceedances k who section p old)
-        ];
+              | inl now ↦
+                  let x = now.0 in
+                  let parts = names_same k key who x.exceedance.crew section x.exceedance.section x.named in
+                  subst (SoundExceedance (after s (change_of s key (Actual id a))) k who) now.1 (record {
+                    request = request;
+                    held = ap (λ k. fin.get (fin.insert s.requests (key_name key) request) (key_name k)) parts.0
+                        ∙ insert_here s.requests (key_name key) request;
+                    member = x.holds.0;
+                    of_member = ap (fin.get s.crew) parts.1 ∙ x.holds.1;
+                    rostered = with_actual a f.rostered;
+                    of_pairing = change_here s.pairings id (with_actual a) ∙ ap (option_map (with_actual a)) f.there;
+                    place = a.period - 1;
+                    number = omega (arith, positive);
+                    actual = a;
+                    flown = set_here f.rostered.actuals (a.period - 1) (Some a) within;
+                  })
+              | inr old ↦ kept.exceedance s _ (insert_keeps s.requests (key_name key) _ free) (λ _ _ m. m)
+                  (still_flown a s.pairings id) k who p (h.exceedances k who section p old)
+            ];
       }

@@ -50,12 +50,18 @@ pub exceedance : (s t : State) → Grows s.requests t.requests → Grows s.crew 
     (key : KeyParts) (who : List ℕ) (p : PeriodId) → SoundExceedance s key who p → SoundExceedance t key who p
 exceedance s t requests crew flown key who p h =
     let f = flown p.pairing h.place
-        (record { rostered = h.rostered; there = h.of_pairing; actual = h.actual; flown = h.flown }) in
+    (record { rostered = h.rostered; there = h.of_pairing; actual = h.actual; flown = h.flown }) in
     record {
-      request = h.request; held = requests (key_name key) h.request h.held;
-      member = h.member; of_member = crew who h.member h.of_member;
-      rostered = f.rostered; of_pairing = f.there;
-      place = h.place; number = h.number; actual = f.actual; flown = f.flown;
+      request = h.request;
+      held = requests (key_name key) h.request h.held;
+      member = h.member;
+      of_member = crew who h.member h.of_member;
+      rostered = f.rostered;
+      of_pairing = f.there;
+      place = h.place;
+      number = h.number;
+      actual = f.actual;
+      flown = f.flown;
     }
 
 pub exceedances : (s t : State) → t.exceedances ≡ s.exceedances → Grows s.requests t.requests → Grows s.crew t.crew →
@@ -69,12 +75,20 @@ exceedances s t same requests crew flown h key who section p e = exceedance s t 
 module _ (crew more : Crew) (grows : Grows crew more) where
   pub pairing : (id : List ℕ) (r : Rostered) → SoundPairing crew id r → SoundPairing more id r
   pairing id r h = record {
-      named = h.named; plan = h.plan; planned = h.planned; places = h.places; actuals = h.actuals; crewed = h.crewed;
-      captain = λ who e. let m = h.captain who e in (m.0, grows who m.0 m.1, m.2);
-      first_officer = λ who e. let m = h.first_officer who e in (m.0, grows who m.0 m.1, m.2);
-    }
+    named = h.named;
+    plan = h.plan;
+    planned = h.planned;
+    places = h.places;
+    actuals = h.actuals;
+    crewed = h.crewed;
+    captain = λ who e. let m = h.captain who e in (m.0, grows who m.0 m.1, m.2);
+    first_officer = λ who e. let m = h.first_officer who e in (m.0, grows who m.0 m.1, m.2);
+  }
 
   pub ground : (id : List ℕ) (g : GroundPlan) → SoundGround crew id g → SoundGround more id g
   ground id g h = record {
-      named = h.named; member = h.member; of_member = grows g.crew h.member h.of_member; begins = h.begins;
-    }
+    named = h.named;
+    member = h.member;
+    of_member = grows g.crew h.member h.of_member;
+    begins = h.begins;
+  }

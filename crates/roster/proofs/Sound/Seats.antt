@@ -34,21 +34,31 @@ IsFree new r = (is_some new ≡ true) ⊎ (is_flown r ≡ false)
 reseat : (crew : Crew) (id : List ℕ) (r : Rostered) (seat : Seat) (new : Option (List ℕ)) → SoundPairing crew id r →
     IsHolder crew seat new → IsFree new r → SoundPairing crew id (with_holder seat new r)
 reseat crew id r Captain new h is free = record {
-    named = h.named; plan = h.plan; planned = h.planned; places = h.places; actuals = h.actuals;
-    captain = is; first_officer = h.first_officer;
-    crewed = λ flown. elim free [
-      | inl given ↦ and_from _ _ given (and_parts (is_some r.captain) (is_some r.first_officer) (h.crewed flown)).1
-      | inr none ↦ absurd (true≢false (sym flown ∙ none))
-    ];
-  }
+  named = h.named;
+  plan = h.plan;
+  planned = h.planned;
+  places = h.places;
+  actuals = h.actuals;
+  captain = is;
+  first_officer = h.first_officer;
+  crewed = λ flown. elim free [
+    | inl given ↦ and_from _ _ given (and_parts (is_some r.captain) (is_some r.first_officer) (h.crewed flown)).1
+    | inr none ↦ absurd (true≢false (sym flown ∙ none))
+  ];
+}
 reseat crew id r FirstOfficer new h is free = record {
-    named = h.named; plan = h.plan; planned = h.planned; places = h.places; actuals = h.actuals;
-    captain = h.captain; first_officer = is;
-    crewed = λ flown. elim free [
-      | inl given ↦ and_from _ _ (and_parts (is_some r.captain) (is_some r.first_officer) (h.crewed flown)).0 given
-      | inr none ↦ absurd (true≢false (sym flown ∙ none))
-    ];
-  }
+  named = h.named;
+  plan = h.plan;
+  planned = h.planned;
+  places = h.places;
+  actuals = h.actuals;
+  captain = h.captain;
+  first_officer = is;
+  crewed = λ flown. elim free [
+    | inl given ↦ and_from _ _ (and_parts (is_some r.captain) (is_some r.first_officer) (h.crewed flown)).0 given
+    | inr none ↦ absurd (true≢false (sym flown ∙ none))
+  ];
+}
 
 same_actuals : (seat : Seat) (new : Option (List ℕ)) (r : Rostered) → (with_holder seat new r).actuals ≡ r.actuals
 same_actuals Captain new r = refl
@@ -56,18 +66,20 @@ same_actuals FirstOfficer new r = refl
 
 flown_stays : (m : Pairings) (it : SeatChange) → StaysFlown m (reseated m it)
 flown_stays m it id place f = elim (decide id it.pairing) [
-    | inl same ↦ record {
-        rostered = with_holder it.seat it.holder f.rostered;
-        there = ap (fin.get (reseated m it)) same ∙ change_here m it.pairing (with_holder it.seat it.holder)
-            ∙ ap (option_map (with_holder it.seat it.holder)) (ap (fin.get m) (sym same) ∙ f.there);
-        actual = f.actual;
-        flown = ap (λ actuals. slice_get actuals place) (same_actuals it.seat it.holder f.rostered) ∙ f.flown;
-      }
-    | inr other ↦ record {
-        rostered = f.rostered; actual = f.actual; flown = f.flown;
-        there = change_elsewhere m it.pairing (with_holder it.seat it.holder) id other ∙ f.there;
-      }
-  ]
+  | inl same ↦ record {
+    rostered = with_holder it.seat it.holder f.rostered;
+    there = ap (fin.get (reseated m it)) same ∙ change_here m it.pairing (with_holder it.seat it.holder)
+        ∙ ap (option_map (with_holder it.seat it.holder)) (ap (fin.get m) (sym same) ∙ f.there);
+    actual = f.actual;
+    flown = ap (λ actuals. slice_get actuals place) (same_actuals it.seat it.holder f.rostered) ∙ f.flown;
+  }
+  | inr other ↦ record {
+    rostered = f.rostered;
+    actual = f.actual;
+    flown = f.flown;
+    there = change_elsewhere m it.pairing (with_holder it.seat it.holder) id other ∙ f.there;
+  }
+]
 
 -- ---- One seat after another
 
@@ -85,10 +97,10 @@ AllFit crew m (it ∷ rest) = Fits crew m it × AllFit crew (reseated m it) rest
 reseat_one : (crew : Crew) (m : Pairings) (it : SeatChange) → Fits crew m it → AreSound crew m →
     AreSound crew (reseated m it)
 reseat_one crew m it fits sound id r e = elim (changed m it.pairing (with_holder it.seat it.holder) id r e) [
-    | inl x ↦ subst (λ y. SoundPairing crew id y) x.3
-        (reseat crew id x.1 it.seat it.holder (sound id x.1 (ap (fin.get m) x.0 ∙ x.2)) fits.holder (fits.free x.1 x.2))
-    | inr old ↦ sound id r old.1
-  ]
+  | inl x ↦ subst (λ y. SoundPairing crew id y) x.3
+      (reseat crew id x.1 it.seat it.holder (sound id x.1 (ap (fin.get m) x.0 ∙ x.2)) fits.holder (fits.free x.1 x.2))
+  | inr old ↦ sound id r old.1
+]
 
 reseat_all : (crew : Crew) (m : Pairings) (list : List SeatChange) → AllFit crew m list → AreSound crew m →
     AreSound crew (fold reseated m list)
@@ -118,7 +130,7 @@ same_kind : (s : State) (who other : List ℕ) (m n : Member) → fin.get s.crew
 same_kind s who other m n m_is n_is alike =
     let differ = λ (m n : Member). not (seats.eq m.seat n.seat) in
     let of_m = subst (λ o. option_map_or (λ m. option_map_or (differ m) (fin.get s.crew other) false) o false ≡ false)
-        m_is alike in
+    m_is alike in
     let of_both : differ m n ≡ false = subst (λ o. option_map_or (differ m) o false ≡ false) n_is of_m in
     (seat_same m.seat n.seat).0 (not-false _ of_both)
 
@@ -128,14 +140,14 @@ module _ (s : State) (key : KeyParts) (free : fin.get s.requests (key_name key) 
       t ≡ record s {
         pairings = fold reseated s.pairings (seats_of s order);
         requests = fin.insert s.requests (key_name key)
-          (record { command = order; reply = (change_of s key order).reply });
+            (record { command = order; reply = (change_of s key order).reply });
       } → AllFit s.crew s.pairings (seats_of s order) → Sound t
   seated order t is fit = subst Sound (sym is) (record {
-      pairings = reseat_all s.crew s.pairings (seats_of s order) fit h.pairings;
-      grounds = h.grounds;
-      exceedances = kept.exceedances s _ refl (insert_keeps s.requests (key_name key) _ free) (λ _ _ m. m)
-          (all_stay s.pairings (seats_of s order)) h;
-    })
+    pairings = reseat_all s.crew s.pairings (seats_of s order) fit h.pairings;
+    grounds = h.grounds;
+    exceedances = kept.exceedances s _ refl (insert_keeps s.requests (key_name key) _ free) (λ _ _ m. m)
+        (all_stay s.pairings (seats_of s order)) h;
+  })
 
   pub assign : (id who : List ℕ) → Passed (refusals s (Assign id who)) →
       Sound (after s (change_of s key (Assign id who)))
@@ -143,18 +155,20 @@ module _ (s : State) (key : KeyParts) (free : fin.get s.requests (key_name key) 
   assign id who passed =
       let m = is_there _ (not-false _ passed.0) in
       seated (Assign id who) _ refl (subst (AllFit s.crew s.pairings) (sym (one_seat s id who (Some who) m.0 m.1))
-        (record { holder = held s.crew m.0.seat who m.0 m.1 refl; free = λ r _. inl refl }, tt))
+      (record { holder = held s.crew m.0.seat who m.0 m.1 refl; free = λ r _. inl refl }, tt))
 
   pub release : (id who : List ℕ) → Passed (refusals s (Release id who)) →
       Sound (after s (change_of s key (Release id who)))
   unfolding after refusals
   release id who passed =
       let m = is_there _ (not-false _ passed.0) in
-      seated (Release id who) _ refl (subst (AllFit s.crew s.pairings) (sym (one_seat s id who None m.0 m.1))
-        (record {
+      seated (Release id who) _ refl (subst (AllFit s.crew s.pairings) (sym (one_seat s id who None m.0 m.1)) (
+        record {
           holder = λ x e. let no : None ≡ Some x = e in cc;
           free = λ r is. inr (sym (ap (λ o. option_map_or is_flown o false) is) ∙ passed.1.1.1.0);
-        }, tt))
+        },
+        tt,
+      ))
 
   pub swapped : (w : swap.Swap) → Passed (refusals s (Swap w)) → Sound (after s (change_of s key (Swap w)))
   unfolding after refusals
@@ -166,8 +180,9 @@ module _ (s : State) (key : KeyParts) (free : fin.get s.requests (key_name key) 
       let first = seat_for w.pairing m.0.seat (Some w.other_crew) in
       let second = seat_for w.other_pairing n.0.seat (Some w.crew) in
       seated (Swap w) _ refl (subst (AllFit s.crew s.pairings)
-        (sym (ap (λ x. x ++ seat_change s w.other_pairing w.other_crew (Some w.crew))
-            (one_seat s w.pairing w.crew (Some w.other_crew) m.0 m.1)
-          ∙ ap (λ x. first ∷ x) (one_seat s w.other_pairing w.other_crew (Some w.crew) n.0 n.1)))
-        (record { holder = held s.crew m.0.seat w.other_crew n.0 n.1 (sym kind); free = λ r _. inl refl },
-          (record { holder = held s.crew n.0.seat w.crew m.0 m.1 kind; free = λ r _. inl refl }, tt)))
+      (sym (ap (λ x. x ++ seat_change s w.other_pairing w.other_crew (Some w.crew))
+      (one_seat s w.pairing w.crew (Some w.other_crew) m.0 m.1)
+      ∙ ap (λ x. first ∷ x) (one_seat s w.other_pairing w.other_crew (Some w.crew) n.0 n.1))) (
+        record { holder = held s.crew m.0.seat w.other_crew n.0 n.1 (sym kind); free = λ r _. inl refl },
+        (record { holder = held s.crew n.0.seat w.crew m.0 m.1 kind; free = λ r _. inl refl }, tt),
+      ))

@@ -1,9 +1,6 @@
-use Rattle.std.proofs.Common.{◌≡◌, ◌+◌, ◌++◌, drop, map}
-use Rattle.std.specs.List.{enumerate_from}
-use Rattle.duty.specs.DutiesInForce.{in_force}
-use Rattle.duty.specs.declared.placed_duty.Duty.TheVariants as duty
+use Rattle.std.proofs.Common.{◌≡◌, ◌+◌, ◌++◌, drop}
 use Rattle.roster.specs.LeftOut.{leaves_out}
-use Rattle.roster.specs.Places.{left, numbered, periods_at}
+use Rattle.roster.specs.Places.{left, numbered}
 use Rattle.roster.proofs.state.Rostered.add_periods.Given as goal
 
 abbrev pub invariant-loop-index : goal.invariant-loop-index
