@@ -79,24 +79,36 @@ fn roster(alloc: Global, pairings: u32, held: u32) -> Result<Roster> {
     Ok(roster)
 }
 
+/// How many of so many times the assignment of a pairing of its own is accepted.
+fn accepted(alloc: Global, mut roster: Roster, times: u32) -> Result<u32> {
+    let new = pairing(alloc, 10_001, NEW_YEAR + 1)?;
+    roster.put(alloc, Entry::Pairing(Rostered::unheld(alloc, new)?))?;
+    let order = Order::Assign(pairing_id(alloc, 10_001)?, member(alloc)?);
+    let command = Command::new(order).ok().context("a command")?;
+    ask(alloc, &roster, &command, times)
+}
+
+/// How many of so many times the command is accepted.
+fn ask(alloc: Global, roster: &Roster, command: &Command, times: u32) -> Result<u32> {
+    let mut accepted = 0u32;
+    for _time in 0..times {
+        if let Verdict::Accept(..) = roster.step(alloc, Key::new(1, 0), command)? {
+            accepted = accepted.saturating_add(1);
+        }
+    }
+    Ok(accepted)
+}
+
 fn main(rt: HostRuntime) -> Result<()> {
     let alloc = rt.alloc();
     let words: Vec<String> = env::args(&rt)?.skip(1).collect(alloc)?;
     let pairings = number(&words, 0, 1_000)?.min(10_000);
     let held = number(&words, 1, 120)?.min(120);
     let times = number(&words, 2, 1)?;
-    let mut roster = roster(alloc, pairings, held)?;
-    let new = pairing(alloc, 10_001, NEW_YEAR + 1)?;
-    roster.put(alloc, Entry::Pairing(Rostered::unheld(alloc, new)?))?;
-    let order = Order::Assign(pairing_id(alloc, 10_001)?, member(alloc)?);
-    let command = Command::new(order).ok().context("a command")?;
-    let mut accepted = 0u32;
-    for _time in 0..times {
-        if let Verdict::Accept(..) = roster.step(alloc, Key::new(1, 0), &command)? {
-            accepted = accepted.saturating_add(1);
-        }
-    }
-    println!(rt; "{pairings} pairings, {held} of them held: accepted {accepted} times of {times}")?;
+    let accepted = accepted(alloc, roster(alloc, pairings, held)?, times)?;
+    println!(rt;
+        "{pairings} pairings, {held} of them held: accepted {accepted} times of {times}"
+    )?;
     Ok(())
 }
 
