@@ -1,5 +1,5 @@
 -- One step: what a command is answered in a state, and the state that it leaves.
-use Rattle.std.specs.Prelude.{ℕ, ◌-◌, List, [], ◌∷◌, ◌++◌, Option, Some, None, if◌then◌else◌, slice_set}
+use Rattle.std.specs.Prelude.{◌≡◌, ℕ, ◌-◌, List, [], ◌∷◌, ◌++◌, Option, Some, None, if◌then◌else◌, slice_set}
 use Rattle.std.specs.FinMap as fin
 use Rattle.std.specs.List.{fold}
 use Rattle.std.specs.Option.{option_map_or}
@@ -81,6 +81,11 @@ answered s key order None = judged s key order (refusal_of s order)
 
 unfoldable pub step_of : State → KeyParts → Order → Verdict
 step_of s key order = answered s key order (fin.get s.requests (key_name key))
+
+-- a command is accepted only under a free key
+abbrev pub IsUnderFreeKey : State → Verdict → Type 0
+IsUnderFreeKey s (Accept change reply) = fin.get s.requests (key_name change.key) ≡ None
+IsUnderFreeKey s verdict = Unit {0}
 
 -- ---- The next state
 

@@ -1,6 +1,6 @@
 //! One step: what a command is answered.
 ghost use Rattle.std.specs.Prelude.{◌≡◌, IfOk, None};
-ghost use Rattle.roster.specs.Steps.{step_of, judged, seat_change, seats_of, flown_duty, broken_by_holder, recorded_by};
+ghost use Rattle.roster.specs.Steps.{IsUnderFreeKey, step_of, judged, seat_change, seats_of, flown_duty, broken_by_holder, recorded_by};
 
 use crate::change::{Change, SeatChange, Verdict};
 use crate::duties::LeftOut;
@@ -17,7 +17,8 @@ impl Roster {
     /// it is: what is accepted is made by [`Roster::apply`].
     #[tactic(auto, unfolding(crate::specs::Steps::step_of))]
     pub fn step(&self, alloc: Global, key: Key, command: &Command) -> Result<Verdict, MemoryFault>
-        ensures { IfOk result (λ verdict. verdict ≡ step_of self.now key command.now) }
+        ensures verdict { IfOk result (λ verdict. verdict ≡ step_of self.now key command.now) }
+        ensures free { IfOk result (λ verdict. IsUnderFreeKey self.now verdict) }
     {
         if let Some(kept) = self.requests.get(&key) {
             if kept.command == *command {
