@@ -1,0 +1,17 @@
+//! Worked rows of the roster, as a crew desk asks for them.
+#![tactic(auto)]
+
+#[cfg(test)]
+mod assignments;
+#[cfg(test)]
+mod builders;
+#[cfg(test)]
+mod copies;
+#[cfg(test)]
+mod desk;
+#[cfg(test)]
+mod flown_periods;
+#[cfg(test)]
+mod judgement;
+#[cfg(test)]
+mod requests;
