@@ -106,9 +106,7 @@ fn main(rt: HostRuntime) -> Result<()> {
     let held = number(&words, 1, 120)?.min(120);
     let times = number(&words, 2, 1)?;
     let accepted = accepted(alloc, roster(alloc, pairings, held)?, times)?;
-    println!(rt;
-        "{pairings} pairings, {held} of them held: accepted {accepted} times of {times}"
-    )?;
+    println!(rt; "{pairings} pairings, {held} of them held: accepted {accepted} times of {times}")?;
     Ok(())
 }
 
