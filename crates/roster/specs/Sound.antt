@@ -1,5 +1,5 @@
--- A sound state: every name in it, save inside kept commands and replies, names something, and what it holds could have
--- been made by commands.
+-- A sound state: every name in it, save inside kept commands and replies, names something, and its pairings, actuals and
+-- ground duties keep their orders. It says nothing of the shapes of members' ids and names.
 use Rattle.std.specs.Prelude.{◌≡◌, ℕ, ◌+◌, ◌<◌, true, List, map, length, Option, Some, None, slice_get}
 use Rattle.std.specs.FinMap as fin
 use Rattle.values.specs.Name.{name_cmp}
