@@ -9,7 +9,7 @@ use Rattle.duty.specs.declared.duty_in_force.DutyInForce.{DutyInForce}
 use Rattle.command.specs.Keys.{KeyParts}
 use Rattle.command.specs.declared.order.Order.TheVariants.{Assign, AddGround}
 use Rattle.roster.specs.Honest.{IsHonestOf, Honest}
-use Rattle.roster.specs.Places.{Place, period, on_ground, none, the_pairing, others, ground_at}
+use Rattle.roster.specs.Places.{Place, period, on_ground, no_place, the_pairing, others, ground_at}
 use Rattle.roster.specs.Refusals.{duties_of}
 use Rattle.roster.specs.State.{State}
 use Rattle.roster.specs.Steps.{after, change_of}
@@ -36,19 +36,19 @@ module _ (s : State) (key : KeyParts) (honest : Honest s) where
       ])
       (λ _ _ h. h)) (honest who)
 
-  assign_gains : (id crew : List ℕ) → BreaksNone crew (others s crew none) (duties_of s id) →
-      Gains s (assigned id crew) crew (the_pairing id) (others s crew none) (duties_of s id)
+  assign_gains : (id crew : List ℕ) → BreaksNone crew (others s crew no_place) (duties_of s id) →
+      Gains s (assigned id crew) crew (the_pairing id) (others s crew no_place) (duties_of s id)
   unfolding after
   assign_gains id crew within = record {
     stay = λ _ _ e. e;
-    old = λ place d. elim place as (λ x. IsOld s (assigned id crew) crew (the_pairing id) (others s crew none) x d) [
+    old = λ place d. elim place as (λ x. IsOld s (assigned id crew) crew (the_pairing id) (others s crew no_place) x d) [
       | period q number ↦ λ h apart. elim (seated s s.pairings id crew (Some crew) q h.0 h.1) [
         | inl new ↦ absurd (true≢false (sym ((bytes_eq-Decides id q).1 (sym new.0)) ∙ apart))
         | inr old ↦
             let stands : Stands s crew (period q number) d = (h.0, old, h.2, h.3) in
-            (stands, among_others s crew none (period q number) d stands refl)
+            (stands, among_others s crew no_place (period q number) d stands refl)
       ]
-      | on_ground g ↦ λ h _. (h, among_others s crew none (on_ground g) d h refl)
+      | on_ground g ↦ λ h _. (h, among_others s crew no_place (on_ground g) d h refl)
     ];
     fresh = λ place d. elim place as (λ x. IsFresh (assigned id crew) crew (the_pairing id) (duties_of s id) x d) [
       | period q number ↦ λ h at. elim (seated s s.pairings id crew (Some crew) q h.0 h.1) [
@@ -57,15 +57,15 @@ module _ (s : State) (key : KeyParts) (honest : Honest s) where
       ]
       | on_ground g ↦ λ h at. absurd (false≢true at)
     ];
-    recorded = none_broken (assigned id crew) crew (the_pairing id) (others s crew none) (duties_of s id) within;
+    recorded = none_broken (assigned id crew) crew (the_pairing id) (others s crew no_place) (duties_of s id) within;
   }
 
-  pub assign : (id crew : List ℕ) → BreaksNone crew (others s crew none) (duties_of s id) → Honest (assigned id crew)
+  pub assign : (id crew : List ℕ) → BreaksNone crew (others s crew no_place) (duties_of s id) → Honest (assigned id crew)
   assign id crew within who =
       elim (bytes_eq crew who) as (λ b. bytes_eq crew who ≡ b → IsHonestOf (assigned id crew) who) [
         | false ↦ λ other. assign_other id crew who other
         | true ↦ λ same. subst (IsHonestOf (assigned id crew)) ((bytes_eq-Decides crew who).0 same)
-            (gains s (assigned id crew) crew (the_pairing id) (others s crew none) (duties_of s id)
+            (gains s (assigned id crew) crew (the_pairing id) (others s crew no_place) (duties_of s id)
             (assign_gains id crew within) (honest crew))
       ] refl
 
@@ -94,18 +94,18 @@ module _ (s : State) (key : KeyParts) (honest : Honest s) where
         | inr old ↦ (h.0, old.1, h.2, h.3)
       ])) (honest who)
 
-  ground_gains : (g : GroundPlan) → BreaksNone g.crew (others s g.crew none) (added g) →
-      Gains s (grounded g) g.crew (the_ground g.id) (others s g.crew none) (added g)
+  ground_gains : (g : GroundPlan) → BreaksNone g.crew (others s g.crew no_place) (added g) →
+      Gains s (grounded g) g.crew (the_ground g.id) (others s g.crew no_place) (added g)
   unfolding after
   ground_gains g within = record {
     stay = λ _ _ e. e;
-    old = λ place d. elim place as (λ x. IsOld s (grounded g) g.crew (the_ground g.id) (others s g.crew none) x d) [
-      | period q number ↦ λ h _. (h, among_others s g.crew none (period q number) d h refl)
+    old = λ place d. elim place as (λ x. IsOld s (grounded g) g.crew (the_ground g.id) (others s g.crew no_place) x d) [
+      | period q number ↦ λ h _. (h, among_others s g.crew no_place (period q number) d h refl)
       | on_ground q ↦ λ h apart. elim (inserted s.grounds g.id g q h.0 h.1) [
         | inl new ↦ absurd (true≢false (sym ((bytes_eq-Decides g.id q).1 (sym new.0)) ∙ apart))
         | inr old ↦
             let stands : Stands s g.crew (on_ground q) d = (h.0, old.1, h.2, h.3) in
-            (stands, among_others s g.crew none (on_ground q) d stands refl)
+            (stands, among_others s g.crew no_place (on_ground q) d stands refl)
       ]
     ];
     fresh = λ place d. elim place as (λ x. IsFresh (grounded g) g.crew (the_ground g.id) (added g) x d) [
@@ -115,14 +115,14 @@ module _ (s : State) (key : KeyParts) (honest : Honest s) where
         | inr old ↦ absurd (old.0 (sym ((bytes_eq-Decides g.id q).0 at)))
       ]
     ];
-    recorded = none_broken (grounded g) g.crew (the_ground g.id) (others s g.crew none) (added g) within;
+    recorded = none_broken (grounded g) g.crew (the_ground g.id) (others s g.crew no_place) (added g) within;
   }
 
-  pub add_ground : (g : GroundPlan) → BreaksNone g.crew (others s g.crew none) (added g) → Honest (grounded g)
+  pub add_ground : (g : GroundPlan) → BreaksNone g.crew (others s g.crew no_place) (added g) → Honest (grounded g)
   add_ground g within who =
       elim (bytes_eq g.crew who) as (λ b. bytes_eq g.crew who ≡ b → IsHonestOf (grounded g) who) [
         | false ↦ λ other. ground_other g who other
         | true ↦ λ same. subst (IsHonestOf (grounded g)) ((bytes_eq-Decides g.crew who).0 same)
-            (gains s (grounded g) g.crew (the_ground g.id) (others s g.crew none) (added g)
+            (gains s (grounded g) g.crew (the_ground g.id) (others s g.crew no_place) (added g)
             (ground_gains g within) (honest g.crew))
       ] refl

@@ -29,6 +29,7 @@ use Rattle.roster.specs.declared.state.PeriodId.{PeriodId}
 use Rattle.roster.specs.declared.state.Rostered.{Rostered}
 use Rattle.roster.proofs.Accepted.{Passed, decide, changed, change_here, insert_here, insert_elsewhere}
 use Rattle.roster.proofs.Gaining.{Stay, loses, IsOld, IsFresh, AreRecorded, gains}
+use Rattle.roster.proofs.Records.{names_same}
 use Rattle.roster.proofs.Members.{is_first, none_in, first_or_later}
 use Rattle.roster.proofs.Reseating.{held_is, lost, in_broken}
 use Rattle.roster.proofs.Sound.Flown.{Found, found}
@@ -169,12 +170,14 @@ module _ (s : State) (key : KeyParts) (free : fin.get s.requests (key_name key) 
   rest_of who = others s who this
 
   -- an old exceedance has a key that was held
-  all_stay : Stay s reflown
+  pub all_stay : Stay s reflown
   unfolding after
   all_stay name p e =
+      let old = sound.exceedances name p e in
       let other : (x : Exceedance) → name ≡ exceedance_name key x.crew x.section → ⊥ = λ x named.
-      let old = sound.exceedances key x.crew x.section p (ap (fin.get s.exceedances) (sym named) ∙ e) in
-      let no : None ≡ Some old.request = sym free ∙ old.held in
+      let same = names_same old.key key old.crew x.crew old.section x.section (sym old.known_by ∙ named) in
+      let no : None ≡ Some old.request =
+      sym free ∙ ap (λ k. fin.get s.requests (key_name k)) (sym same.0) ∙ old.held in
       cc in
       stays_other key named_now (recorded_by s (Actual id a)) s.exceedances name p other e
 

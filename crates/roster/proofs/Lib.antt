@@ -6,6 +6,7 @@ pub mod Flown
 pub mod Gaining
 pub mod Importing
 pub mod KeepsHonest
+pub mod KeepsRecords
 pub mod LeftLemmas
 pub mod Lists
 pub mod Losing

@@ -19,7 +19,7 @@ use Rattle.command.specs.Orders.{IsMade}
 use Rattle.command.specs.declared.order.Order.{Order}
 use Rattle.roster.specs.Folds.{Asked, left_by, next, Fold}
 use Rattle.roster.specs.Honest.{Honest}
-use Rattle.roster.specs.Laws.{AreMade, KeepsHonest, KeepsSound, MadeByCommands}
+use Rattle.roster.specs.Laws.{AreMade, KeepsHonest, KeepsSound, MadeByCommands, StartsSound, StaysHonest, StaysSound}
 use Rattle.roster.specs.Pairings.{holds}
 use Rattle.roster.specs.Places.{duties, grounds_of, ground_at, history_of, periods_at}
 use Rattle.roster.specs.Sound.{Sound}
@@ -38,7 +38,8 @@ empty_sound : (zone : List ℕ) → Sound (empty zone)
 empty_sound zone = record {
   pairings = λ id r there. absurd (not_there id r there);
   grounds = λ id g there. absurd (not_there id g there);
-  exceedances = λ key crew s p there. absurd (not_there _ p there);
+  exceedances = λ name p there. absurd (not_there name p there);
+  requests = λ name r there. absurd (not_there name r there);
 }
 
 of_no_length : {X : Type 0} (xs : List X) → length xs ≡ 0 → xs ≡ []
@@ -76,23 +77,46 @@ empty_honest zone who some within s broken =
     let of_none = subst (λ placed. Contains (Broken (duties placed) (duties placed)) s) no_duties broken in
     absurd (none_break_none s ((broken_is [] [] s).0 of_none))
 
+pub starts_sound : StartsSound
+starts_sound zone = (empty_sound zone, empty_honest zone)
+
 -- ---- After each command
 
-module _ (keeps_sound : KeepsSound) (keeps_honest : KeepsHonest) where
-  kept_by : (s : State) (key : KeyParts) (order : Order) (v : Verdict) → step_of s key order ≡ v → IsMade order →
-      Sound s → Honest s → Sound (left_by s v) × Honest (left_by s v)
-  kept_by s key order (Repeat reply) is made sound honest = (sound, honest)
-  kept_by s key order (Accept change reply) is made sound honest =
-      (keeps_sound s key order change reply made sound is, keeps_honest s key order change reply made sound honest is)
-  kept_by s key order (Refuse refusal) is made sound honest = (sound, honest)
+module _ (keeps_sound : KeepsSound) where
+  sound_after : (s : State) (key : KeyParts) (order : Order) (v : Verdict) → step_of s key order ≡ v → IsMade order →
+      Sound s → Sound (left_by s v)
+  sound_after s key order (Repeat reply) is made sound = sound
+  sound_after s key order (Accept change reply) is made sound = keeps_sound s key order change reply made sound is
+  sound_after s key order (Refuse refusal) is made sound = sound
 
-  kept_by_all : (s : State) (asked : List Asked) → AreMade asked → Sound s → Honest s →
-      Sound (Fold s asked) × Honest (Fold s asked)
-  kept_by_all s [] made sound honest = (sound, honest)
-  kept_by_all s ((key, order) ∷ asked) made sound honest =
+  pub sound_next : (s : State) (a : Asked) → IsMade a.1 → Sound s → Sound (next s a)
+  sound_next s (key, order) made sound = sound_after s key order (step_of s key order) refl made sound
+
+  pub stays_sound : StaysSound
+  stays_sound s [] made sound = sound
+  stays_sound s (a ∷ asked) made sound =
+      stays_sound (next s a) asked (λ b c. made b (later a asked b c))
+      (sound_next s a (made a (first_of_all a asked)) sound)
+
+module _ (keeps_sound : KeepsSound) (keeps_honest : KeepsHonest) where
+  honest_after : (s : State) (key : KeyParts) (order : Order) (v : Verdict) → step_of s key order ≡ v → IsMade order →
+      Sound s → Honest s → Honest (left_by s v)
+  honest_after s key order (Repeat reply) is made sound honest = honest
+  honest_after s key order (Accept change reply) is made sound honest =
+      keeps_honest s key order change reply made sound honest is
+  honest_after s key order (Refuse refusal) is made sound honest = honest
+
+  pub stays_honest : StaysHonest
+  stays_honest s [] made sound honest = honest
+  stays_honest s ((key, order) ∷ asked) made sound honest =
       let first : Asked = (key, order) in
-      let then = kept_by s key order (step_of s key order) refl (made first (first_of_all first asked)) sound honest in
-      kept_by_all (next s first) asked (λ a c. made a (later first asked a c)) then.0 then.1
+      let is_made = made first (first_of_all first asked) in
+      stays_honest (next s first) asked (λ b c. made b (later first asked b c))
+      (sound_next keeps_sound s first is_made sound)
+      (honest_after s key order (step_of s key order) refl is_made sound honest)
 
   pub made_by_commands : MadeByCommands
-  made_by_commands zone asked made = kept_by_all (empty zone) asked made (empty_sound zone) (empty_honest zone)
+  made_by_commands zone asked made = (
+    stays_sound keeps_sound (empty zone) asked made (empty_sound zone),
+    stays_honest (empty zone) asked made (empty_sound zone) (empty_honest zone),
+  )

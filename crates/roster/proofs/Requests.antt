@@ -1,5 +1,5 @@
 -- What becomes of the keys that a state holds.
-use Rattle.std.proofs.Common.{◌≡◌, ℕ, Bool, true, false, cond, List, [], ◌∷◌, Option, Some, None, refl, sym, ap, subst, ◌∙◌}
+use Rattle.std.proofs.Common.{◌≡◌, ℕ, Bool, true, false, cond, List, [], ◌∷◌, Option, Some, None, refl, sym, ap, ap₂, subst, ◌∙◌}
 use Rattle.std.specs.FinMap as fin
 use Rattle.std.specs.Ordering.{eq_by_cmp}
 use Rattle.std.specs.Cmp.Lexicographic.{nat_list_cmp_total}
@@ -8,6 +8,7 @@ use Rattle.values.proofs.Names.{alike, itself}
 use Rattle.command.specs.Keys.{KeyParts, key_name}
 use Rattle.command.specs.contracts.order.CommandPartialEq.TheImpl.{ghosts as commands}
 use Rattle.command.specs.contracts.order.CommandExact.TheImpl.Laws.{exact-law}
+use Rattle.command.specs.declared.exceedance.Reply.{Reply}
 use Rattle.command.specs.declared.order.Order.{Order}
 use Rattle.command.specs.declared.order.Order.TheVariants.{AddCrew, AddPairing, CancelPairing, Assign, Release, Swap, AddGround, CancelGround, Actual}
 use Rattle.command.specs.declared.refusal.Refusal.{Refusal}
@@ -34,10 +35,41 @@ pub under_free : (s : State) (key : KeyParts) (order : Order) → fin.get s.requ
 unfolding step_of
 under_free s key order free = ap (answered s key order) free
 
-pub repeats : Repeats
+pub repeats : (s : State) (key : KeyParts) (request : Request) → fin.get s.requests (key_name key) ≡ Some request →
+    step_of s key request.command ≡ Repeat request.reply
 repeats s key request held =
     under_held s key request.command request held
     ∙ ap (λ b. cond b (Repeat request.reply) (Refuse NumberUsed)) ((exact-law request.command request.command).1 refl)
+
+-- a repeat comes from a key that holds the command
+judged_not : (s : State) (key : KeyParts) (order : Order) (o : Option Refusal) (reply : Reply) →
+    judged s key order o ≡ Repeat reply → ⊥
+judged_not s key order None reply e = cc
+judged_not s key order (Some refusal) reply e = cc
+
+same_kept : (kept : Request) (order : Order) (reply : Reply) (b : Bool) → commands.eq kept.command order ≡ b →
+    cond b (Repeat kept.reply) (Refuse NumberUsed) ≡ Repeat reply →
+    Some kept ≡ Some (record { command = order; reply = reply })
+same_kept kept order reply true is e =
+    let command : kept.command ≡ order = (exact-law kept.command order).0 is in
+    let same : kept.reply ≡ reply = cc in
+    ap₂ (λ c r. let request : Request = record { command = c; reply = r } in Some request) command same
+same_kept kept order reply false is e = cc
+
+repeated : (s : State) (key : KeyParts) (order : Order) (reply : Reply) → step_of s key order ≡ Repeat reply →
+    fin.get s.requests (key_name key) ≡ Some (record { command = order; reply = reply })
+repeated s key order reply e =
+    elim (fin.get s.requests (key_name key)) as (λ o. fin.get s.requests (key_name key) ≡ o →
+    o ≡ Some (record { command = order; reply = reply })) [
+      | None ↦ λ free.
+          absurd (judged_not s key order (refusal_of s order) reply (sym (under_free s key order free) ∙ e))
+      | Some kept ↦ λ held.
+          same_kept kept order reply (commands.eq kept.command order) refl (sym (under_held s key order kept held) ∙ e)
+    ] refl
+
+pub repeats_both : Repeats
+repeats_both s key order reply =
+    (repeated s key order reply, repeats s key (record { command = order; reply = reply }))
 
 -- ---- The next state
 

@@ -14,7 +14,7 @@ use Rattle.command.specs.declared.order.Order.TheVariants.{AddCrew, AddPairing, 
 use Rattle.command.specs.declared.refusal.Refusal.{Refusal}
 use Rattle.command.specs.declared.refusal.Refusal.TheVariants.{Limits}
 use Rattle.roster.specs.Laws.{AcceptedWithinLimits, Gain, IsAccepted, IsBroken, PassesChecks, gains, is_assignment, number_of}
-use Rattle.roster.specs.Places.{none, the_pairing, others, ground_at}
+use Rattle.roster.specs.Places.{no_place, the_pairing, others, ground_at}
 use Rattle.roster.specs.Refusals.{Row, broken_by, duties_of, first_of, over_limits, refusal_of, refusals}
 use Rattle.roster.specs.State.{State}
 use Rattle.roster.specs.Steps.{judged, change_of, recorded_by}
@@ -144,7 +144,7 @@ breaks_none : (s : State) (order : Order) → is_assignment order ≡ true →
     ↔ ((gain : Gain) → Contains (gains s order) gain → BreaksNone gain)
 unfolding refusals
 breaks_none s (Assign id who) is =
-    let gain : Gain = record { others = others s who none; new = duties_of s id } in
+    let gain : Gain = record { others = others s who no_place; new = duties_of s id } in
     through (applies (broken_by who gain.others gain.new) [] refl)
     (through (nothing_broken who gain) (one_is BreaksNone gain))
 breaks_none s (Swap w) is =
@@ -162,7 +162,7 @@ breaks_none s (Swap w) is =
     (through (λ e. (one.0 e.0, two.0 e.1), λ e. (one.1 e.0, two.1 e.1))
     (two_are BreaksNone gain other)))
 breaks_none s (AddGround g) is =
-    let gain : Gain = record { others = others s g.crew none; new = (ground_at s.zone (g.id, g)).1 ∷ [] } in
+    let gain : Gain = record { others = others s g.crew no_place; new = (ground_at s.zone (g.id, g)).1 ∷ [] } in
     through (applies (broken_by g.crew gain.others gain.new) [] refl)
     (through (nothing_broken g.crew gain) (one_is BreaksNone gain))
 breaks_none s (AddCrew who member) is = absurd (cc)

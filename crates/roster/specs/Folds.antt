@@ -1,5 +1,5 @@
 -- Lists of commands: what they leave and what they are answered; imports; and books that are stopped and opened again.
-use Rattle.std.specs.Prelude.{◌≡◌, ℕ, ◌+◌, List, [], ◌∷◌, map, length, take, Result, Ok, Err, ◌⊎◌}
+use Rattle.std.specs.Prelude.{◌≡◌, ℕ, ◌+◌, ◌≤◌, List, [], ◌∷◌, map, length, take, Result, Ok, Err, ◌⊎◌}
 use Rattle.std.specs.List.{fold, enumerate_from}
 use Rattle.duty.specs.Plans.{Plan}
 use Rattle.command.specs.Keys.{KeyParts}
@@ -44,12 +44,15 @@ Replies s ((key, order) ∷ asked) = answer_of (step_of s key order) ∷ Replies
 abbrev pub import : ℕ → List Plan → List Asked
 import number plans = map (λ p. (record { number = number; part = p.0 }, AddPairing p.1)) (enumerate_from 1 plans)
 
--- a session of a book: the commands that were asked, and how many of them it left done. All were answered and are done,
--- save perhaps the last
+-- a session of a book: the commands that were asked, how many of them were answered, and how many it left done. All were
+-- answered, save perhaps the last, and all that were answered are done: the last alone, unanswered, may be done or not
 pub record Session : Type 0 where
   pub asked : List Asked
+  pub answered : ℕ
   pub done : ℕ
-  pub in_doubt : (done ≡ length asked) ⊎ (done + 1 ≡ length asked)
+  pub last_in_doubt : (answered ≡ length asked) ⊎ (answered + 1 ≡ length asked)
+  pub answered_done : answered ≤ done
+  pub asked_first : done ≤ length asked
 
 -- what is left of a state after sessions that were stopped, each opened on what the one before it left
 abbrev pub Stopped : State → List Session → State

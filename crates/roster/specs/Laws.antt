@@ -15,13 +15,14 @@ use Rattle.command.specs.declared.order.Order.{Order}
 use Rattle.command.specs.declared.order.Order.TheVariants.{Assign, Swap, AddGround}
 use Rattle.roster.specs.Folds.{Asked, Fold, Replies, import}
 use Rattle.roster.specs.Honest.{Honest}
-use Rattle.roster.specs.Places.{none, the_pairing, others, ground_at}
+use Rattle.roster.specs.Places.{no_place, the_pairing, others, ground_at}
 use Rattle.roster.specs.Refusals.{Row, refusals, duties_of}
 use Rattle.roster.specs.Sound.{Sound}
 use Rattle.roster.specs.State.{State, empty}
 use Rattle.roster.specs.Steps.{step_of, after}
 use Rattle.roster.specs.declared.change.Change.{Change}
 use Rattle.roster.specs.declared.change.Verdict.TheVariants.{Repeat, Accept}
+use Rattle.roster.specs.declared.state.PeriodId.{PeriodId}
 use Rattle.roster.specs.declared.state.Request.{Request}
 
 -- ---- The order of refusals
@@ -42,11 +43,11 @@ pub record Gain : Type 0 where
 
 -- of each member who gains duties by an assignment
 abbrev pub gains : State → Order → List Gain
-gains s (Assign id who) = record { others = others s who none; new = duties_of s id } ∷ []
+gains s (Assign id who) = record { others = others s who no_place; new = duties_of s id } ∷ []
 gains s (Swap w) = record { others = others s w.crew (the_pairing w.pairing); new = duties_of s w.other_pairing }
     ∷ record { others = others s w.other_crew (the_pairing w.other_pairing); new = duties_of s w.pairing }
     ∷ []
-gains s (AddGround g) = record { others = others s g.crew none; new = (ground_at s.zone (g.id, g)).1 ∷ [] } ∷ []
+gains s (AddGround g) = record { others = others s g.crew no_place; new = (ground_at s.zone (g.id, g)).1 ∷ [] } ∷ []
 gains s order = []
 
 -- a section's rule is broken by the new duties, in some window of minutes
@@ -85,10 +86,26 @@ KeepsHonest = (s : State) (key : KeyParts) (order : Order) (change : Change) (re
 abbrev pub AreMade : List Asked → Type 0
 AreMade asked = (a : Asked) → Contains asked a → IsMade a.1
 
--- every book that commands made of an empty one is sound and honest
+-- so does every list of commands
+abbrev pub StaysSound : Type 0
+StaysSound = (s : State) (asked : List Asked) → AreMade asked → Sound s → Sound (Fold s asked)
+
+abbrev pub StaysHonest : Type 0
+StaysHonest = (s : State) (asked : List Asked) → AreMade asked → Sound s → Honest s → Honest (Fold s asked)
+
+-- a book without anything is sound and honest
+abbrev pub StartsSound : Type 0
+StartsSound = (zone : List ℕ) → Sound (empty zone) × Honest (empty zone)
+
+-- and so is every book that commands made of one
 abbrev pub MadeByCommands : Type 0
 MadeByCommands = (zone : List ℕ) (asked : List Asked) → AreMade asked →
     Sound (Fold (empty zone) asked) × Honest (Fold (empty zone) asked)
+
+-- an exceedance that was recorded stays for good
+abbrev pub KeepsRecords : Type 0
+KeepsRecords = (s : State) (asked : List Asked) → AreMade asked → Sound s → (name : List ℕ) (period : PeriodId) →
+    fin.get s.exceedances name ≡ Some period → fin.get (Fold s asked).exceedances name ≡ Some period
 
 -- ---- Requests act once
 
@@ -97,10 +114,11 @@ abbrev pub KeepsRequests : Type 0
 KeepsRequests = (s : State) (key : KeyParts) (request : Request) (asked : List Asked) →
     fin.get s.requests (key_name key) ≡ Some request → fin.get (Fold s asked).requests (key_name key) ≡ Some request
 
--- and its command, asked again, is answered with that reply and changes nothing
+-- a command is answered with a kept reply, and changes nothing, exactly where its key holds it with that reply
 abbrev pub Repeats : Type 0
-Repeats = (s : State) (key : KeyParts) (request : Request) → fin.get s.requests (key_name key) ≡ Some request →
-    step_of s key request.command ≡ Repeat request.reply
+Repeats = (s : State) (key : KeyParts) (order : Order) (reply : Reply) →
+    (step_of s key order ≡ Repeat reply)
+    ↔ (fin.get s.requests (key_name key) ≡ Some (record { command = order; reply = reply }))
 
 -- an import that was stopped after some of its commands, and begun again, any number of times, ends when it is handed in
 -- once more as if it had never been stopped

@@ -48,9 +48,9 @@ duties placed = map (λ p. p.1) placed
 
 -- ---- Which of them are left out where new duties are judged beside a member's others
 
--- none
-abbrev pub none : Place → Bool
-none place = false
+-- none of them
+abbrev pub no_place : Place → Bool
+no_place place = false
 
 -- the periods of a pairing
 abbrev pub the_pairing : List ℕ → Place → Bool
@@ -63,9 +63,9 @@ the_period id number (period pairing n) = bytes_eq id pairing && number == n
 the_period id number (on_ground _) = false
 
 -- the duties at the places that are not left out
-abbrev pub left : (Place → Bool) → List Placed → List DutyInForce
-left out placed = duties (filter (λ p. not (out p.0)) placed)
+abbrev pub all_but : (Place → Bool) → List Placed → List DutyInForce
+all_but out placed = duties (filter (λ p. not (out p.0)) placed)
 
 -- a member's other duties
 abbrev pub others : State → List ℕ → (Place → Bool) → List DutyInForce
-others s who out = left out (history_of s who)
+others s who out = all_but out (history_of s who)

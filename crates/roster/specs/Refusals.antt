@@ -18,7 +18,7 @@ use Rattle.command.specs.declared.order.Swap as swap
 use Rattle.command.specs.declared.refusal.Refusal.{Refusal}
 use Rattle.command.specs.declared.refusal.Refusal.TheVariants.{NoSuchCrew, CrewExists, NoSuchPairing, PairingExists, SeatTaken, WrongSeat, NotAssigned, PairingCrewed, Flown, Overlap, Limits, NoSuchDuty, GroundExists, NoSuchGround, SegmentCount}
 use Rattle.roster.specs.Pairings.{holder, is_held_by, is_flown, is_crewed, is_fully_crewed}
-use Rattle.roster.specs.Places.{duties, none, the_pairing, others, periods_at, ground_at}
+use Rattle.roster.specs.Places.{duties, no_place, the_pairing, others, periods_at, ground_at}
 use Rattle.roster.specs.State.{State}
 
 -- ---- Facts
@@ -38,16 +38,16 @@ are_of_two_kinds s who other =
     option_map_or (λ m. option_map_or (λ n. not (seats.eq m.seat n.seat)) (fin.get s.crew other) false) (fin.get s.crew who) false
 
 -- who holds the seat of the member's kind in the pairing
-abbrev pub holder_beside : State → List ℕ → List ℕ → Option (List ℕ)
-holder_beside s id who = option_and_then (λ r. option_and_then (λ m. holder m.seat r) (fin.get s.crew who)) (fin.get s.pairings id)
+abbrev pub holder_of_own_seat : State → List ℕ → List ℕ → Option (List ℕ)
+holder_of_own_seat s id who = option_and_then (λ r. option_and_then (λ m. holder m.seat r) (fin.get s.crew who)) (fin.get s.pairings id)
 
 -- the member holds the seat of the own kind
 abbrev pub is_assigned : State → List ℕ → List ℕ → Bool
-is_assigned s id who = is_held_by who (holder_beside s id who)
+is_assigned s id who = is_held_by who (holder_of_own_seat s id who)
 
 -- a seat of the pairing is held; one is free; a period of it is flown
-abbrev pub is_held : State → List ℕ → Bool
-is_held s id = option_map_or is_crewed (fin.get s.pairings id) false
+abbrev pub has_holder : State → List ℕ → Bool
+has_holder s id = option_map_or is_crewed (fin.get s.pairings id) false
 
 abbrev pub has_free_seat : State → List ℕ → Bool
 has_free_seat s id = option_map_or (λ r. not (is_fully_crewed r)) (fin.get s.pairings id) false
@@ -95,14 +95,14 @@ refusals s (AddCrew who member) = (CrewExists, is_member s who) ∷ []
 refusals s (AddPairing plan) = (PairingExists, is_pairing s plan.id) ∷ []
 refusals s (CancelPairing id) =
     (NoSuchPairing, not (is_pairing s id))
-    ∷ (PairingCrewed, is_held s id)
+    ∷ (PairingCrewed, has_holder s id)
     ∷ []
 refusals s (Assign id who) =
     (NoSuchCrew, not (is_member s who))
     ∷ (NoSuchPairing, not (is_pairing s id))
-    ∷ (SeatTaken, is_some (holder_beside s id who))
-    ∷ (Overlap, overlaps (duties_of s id) (others s who none))
-    ∷ over_limits (broken_by who (others s who none) (duties_of s id))
+    ∷ (SeatTaken, is_some (holder_of_own_seat s id who))
+    ∷ (Overlap, overlaps (duties_of s id) (others s who no_place))
+    ∷ over_limits (broken_by who (others s who no_place) (duties_of s id))
     ∷ []
 refusals s (Release id who) =
     (NoSuchCrew, not (is_member s who))
@@ -120,8 +120,8 @@ refusals s (Swap w) =
 refusals s (AddGround g) =
     let new = (ground_at s.zone (g.id, g)).1 ∷ [] in
     (NoSuchCrew, not (is_member s g.crew))
-    ∷ (Overlap, overlaps new (others s g.crew none))
-    ∷ over_limits (broken_by g.crew (others s g.crew none) new)
+    ∷ (Overlap, overlaps new (others s g.crew no_place))
+    ∷ over_limits (broken_by g.crew (others s g.crew no_place) new)
     ∷ (GroundExists, is_ground s g.id)
     ∷ []
 refusals s (CancelGround id) = (NoSuchGround, not (is_ground s id)) ∷ []

@@ -1,5 +1,5 @@
 -- A sound state: every name in it, save inside kept commands and replies, names something, and its pairings, actuals and
--- ground duties keep their orders. It says nothing of the shapes of members' ids and names.
+-- ground duties keep their orders. Exceedances and kept commands stand under what they are known by, and nothing else does.
 use Rattle.std.specs.Prelude.{◌≡◌, ℕ, ◌+◌, ◌<◌, true, List, map, length, Option, Some, None, slice_get}
 use Rattle.std.specs.FinMap as fin
 use Rattle.values.specs.Name.{name_cmp}
@@ -8,6 +8,7 @@ use Rattle.duty.specs.Plans.{Plan, GroundPlan, ActualTimes, as_planned}
 use Rattle.duty.specs.declared.fdp.Fdp.{Fdp}
 use Rattle.limits.specs.declared.section.Section.{Section}
 use Rattle.command.specs.Keys.{KeyParts, key_name}
+use Rattle.command.specs.Orders.{IsMade}
 use Rattle.command.specs.declared.member.Member.{Member}
 use Rattle.command.specs.declared.member.Seat.{Seat}
 use Rattle.command.specs.declared.member.Seat.TheVariants.{Captain, FirstOfficer}
@@ -30,7 +31,7 @@ pub record IsActual (plan : Plan) (i : ℕ) (a : ActualTimes) : Type 0 where
   pub planned : slice_get plan.periods i ≡ Some fdp
   pub number : a.period ≡ i + 1
   pub count : length fdp.segments ≡ length a.segments
-  pub order : actual_fault a ≡ None
+  pub in_order : actual_fault a ≡ None
 
 pub record SoundPairing (crew : Crew) (id : List ℕ) (r : Rostered) : Type 0 where
   pub named : r.plan.id ≡ id
@@ -52,8 +53,12 @@ pub record SoundGround (crew : Crew) (id : List ℕ) (g : GroundPlan) : Type 0 w
   pub of_member : fin.get crew g.crew ≡ Some member
   pub begins : g.begin < g.end
 
--- an exceedance is of a key that is held, a member, and a period with an actual
-pub record SoundExceedance (s : State) (key : KeyParts) (crew : List ℕ) (p : PeriodId) : Type 0 where
+-- an exceedance is known by a key that is held, a member and a section, and is of a period with an actual
+pub record SoundExceedance (s : State) (name : List ℕ) (p : PeriodId) : Type 0 where
+  pub key : KeyParts
+  pub crew : List ℕ
+  pub section : Section
+  pub known_by : name ≡ exceedance_name key crew section
   pub request : Request
   pub held : fin.get s.requests (key_name key) ≡ Some request
   pub member : Member
@@ -65,8 +70,14 @@ pub record SoundExceedance (s : State) (key : KeyParts) (crew : List ℕ) (p : P
   pub actual : ActualTimes
   pub flown : slice_get rostered.actuals place ≡ Some (Some actual)
 
+-- what is kept under a key is a command
+pub record SoundRequest (name : List ℕ) (request : Request) : Type 0 where
+  pub key : KeyParts
+  pub known_by : name ≡ key_name key
+  pub made : IsMade request.command
+
 pub record Sound (s : State) : Type 0 where
   pub pairings : (id : List ℕ) (r : Rostered) → fin.get s.pairings id ≡ Some r → SoundPairing s.crew id r
   pub grounds : (id : List ℕ) (g : GroundPlan) → fin.get s.grounds id ≡ Some g → SoundGround s.crew id g
-  pub exceedances : (key : KeyParts) (crew : List ℕ) (section : Section) (p : PeriodId) →
-      fin.get s.exceedances (exceedance_name key crew section) ≡ Some p → SoundExceedance s key crew p
+  pub exceedances : (name : List ℕ) (p : PeriodId) → fin.get s.exceedances name ≡ Some p → SoundExceedance s name p
+  pub requests : (name : List ℕ) (r : Request) → fin.get s.requests name ≡ Some r → SoundRequest name r

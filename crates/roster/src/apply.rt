@@ -3,7 +3,7 @@ ghost use Rattle.std.specs.Prelude.{◌≡◌, IfOk, OnOk, OnErr, None};
 ghost use Rattle.std.specs.FinMap as fin;
 ghost use Rattle.std.specs.List.{fold};
 ghost use Rattle.command.specs.Keys.{key_name};
-ghost use Rattle.roster.specs.Steps.{effect, after, reseated, recorded, with_actual};
+ghost use Rattle.roster.specs.Steps.{effect, after, kept, reseated, recorded, with_actual};
 ghost use Rattle.roster.specs.declared.state.PeriodId.{PeriodId as PeriodOf};
 ghost use Rattle.values.specs.Name.{changed_at};
 
@@ -93,24 +93,32 @@ fn record_all(
 }
 
 impl Roster {
-    /// Makes the change, or leaves the roster as it is where there is no memory. The change is one that [`Roster::step`]
-    /// gave of this roster, or at least its key is free.
+    /// Makes a change that [`Roster::step`] gave of this roster; of another one, its key must at least be free. Where there
+    /// is no memory the roster stays as it is.
     #[tactic(auto, unfolding(crate::specs::Steps::after), using(crate::proofs::After::after_effect, crate::proofs::After::remove_inserted))]
     pub fn apply(&mut self, alloc: Global, change: &Change) -> Result<(), MemoryFault>
         requires { fin.get self.old.requests (key_name change.now.key) ≡ None }
         ensures ok { OnOk result (self.new ≡ after self.old change.now) }
         ensures err { OnErr result (self.new ≡ self.old) }
     {
-        let request = Request {
-            command: change.command.copy(alloc)?,
-            reply: change.reply.copy(alloc)?,
-        };
-        self.requests.insert(change.key, request)?;
+        self.keep(alloc, change)?;
         if let Err(fault) = self.effect(alloc, change, change.command.order()) {
             self.requests.remove(&change.key);
             return Err(fault);
         }
         Ok(())
+    }
+
+    /// Keeps the command with its reply.
+    fn keep(&mut self, alloc: Global, change: &Change) -> Result<(), MemoryFault>
+        ensures ok { OnOk result (self.new ≡ kept self.old change.now) }
+        ensures err { OnErr result (self.new ≡ self.old) }
+    {
+        let request = Request {
+            command: change.command.copy(alloc)?,
+            reply: change.reply.copy(alloc)?,
+        };
+        self.requests.insert(change.key, request)
     }
 
     /// What the change does, but for its request.

@@ -27,6 +27,7 @@ pub enum Verdict {
     Repeat(Reply),
     /// What the command changes, and its reply.
     Accept(Change, Reply),
+    /// Why the command changes nothing.
     Refuse(Refusal),
 }
 

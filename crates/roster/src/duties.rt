@@ -3,7 +3,7 @@ ghost use Rattle.std.specs.Prelude.{◌≡◌, ◌++◌, IfOk, OnOk, map};
 ghost use Rattle.duty.specs.Overlaps.{overlaps as do_overlap};
 ghost use Rattle.roster.specs.LeftOut.{leaves_out};
 ghost use Rattle.roster.specs.Pairings.{holds, is_held_by, flown, periods_in_force};
-ghost use Rattle.roster.specs.Places.{period, duties, left, others, periods_at, periods_of, grounds_of};
+ghost use Rattle.roster.specs.Places.{period, duties, all_but, others, periods_at, periods_of, grounds_of};
 ghost use Rattle.roster.specs.Refusals.{broken_by};
 
 use crate::state::{Roster, Rostered};
@@ -92,7 +92,7 @@ impl Rostered {
         out: LeftOut,
         history: &mut History,
     ) -> Result<(), MemoryFault>
-        ensures { OnOk result (history.new ≡ history.old ++ left (leaves_out out.entry) (periods_at zone.now (id.now, self.now))) }
+        ensures { OnOk result (history.new ≡ history.old ++ all_but (leaves_out out.entry) (periods_at zone.now (id.now, self.now))) }
     {
         let fdps = self.periods_in_force(alloc)?;
         for (index, fdp) in fdps.iter().enumerate() {
@@ -128,7 +128,7 @@ impl Roster {
         out: LeftOut,
         history: &mut History,
     ) -> Result<(), MemoryFault>
-        ensures { OnOk result (history.new ≡ history.old ++ left (leaves_out out.entry) (periods_of self.now who.now)) }
+        ensures { OnOk result (history.new ≡ history.old ++ all_but (leaves_out out.entry) (periods_of self.now who.now)) }
     {
         for (id, rostered) in self.pairings.iter() {
             if rostered.holds(who) {

@@ -1,5 +1,5 @@
 //! What holds of every book. Each of these functions does nothing; its clause is a law.
-ghost use Rattle.roster.specs.Laws.{AcceptedWithinLimits, IsAscending, KeepsHonest, KeepsRequests, KeepsSound, MadeByCommands, Repeats, Resumes};
+ghost use Rattle.roster.specs.Laws.{AcceptedWithinLimits, IsAscending, KeepsHonest, KeepsRecords, KeepsRequests, KeepsSound, MadeByCommands, Repeats, Resumes, StartsSound, StaysHonest, StaysSound};
 
 /// The refusals of each order are looked at in the order of their numbers.
 pub fn refusals_ascend()
@@ -22,9 +22,29 @@ pub fn keeps_honest()
     ensures { KeepsHonest }
 {}
 
+/// Commands leave a sound roster sound.
+pub fn stays_sound()
+    ensures { StaysSound }
+{}
+
+/// Commands leave an honest roster honest.
+pub fn stays_honest()
+    ensures { StaysHonest }
+{}
+
+/// An empty roster is sound and honest.
+pub fn starts_sound()
+    ensures { StartsSound }
+{}
+
 /// Every roster that commands made of an empty one is sound and honest.
 pub fn made_by_commands()
     ensures { MadeByCommands }
+{}
+
+/// An exceedance that was recorded stays.
+pub fn keeps_records()
+    ensures { KeepsRecords }
 {}
 
 /// A key that is held keeps its command and reply.
@@ -32,7 +52,7 @@ pub fn keeps_requests()
     ensures { KeepsRequests }
 {}
 
-/// A kept command is answered with its reply, and changes nothing.
+/// A command is answered with a kept reply exactly where its key holds it with that reply.
 pub fn repeats()
     ensures { Repeats }
 {}

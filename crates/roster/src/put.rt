@@ -11,13 +11,30 @@ use values::{Copied, MemoryFault};
 /// One thing that a roster knows.
 #[derive(Drop)]
 pub enum Entry {
+    /// A member, under an id.
     Member(CrewId, Member),
     /// A pairing with its actuals and holders, under the id of its plan.
     Pairing(Rostered),
     /// A ground duty, under its id.
     Ground(Ground),
+    /// The period of which an exceedance was recorded.
     Exceedance(ExceedanceId, PeriodId),
+    /// What is kept under a key.
     Request(Key, Request),
+}
+
+impl Copied for Entry {
+    fn copy(&self, alloc: Global) -> Result<Entry, MemoryFault> {
+        Ok(match self {
+            Entry::Member(id, member) => Entry::Member(id.copy(alloc)?, member.copy(alloc)?),
+            Entry::Pairing(rostered) => Entry::Pairing(rostered.copy(alloc)?),
+            Entry::Ground(ground) => Entry::Ground(ground.copy(alloc)?),
+            Entry::Exceedance(id, period) => {
+                Entry::Exceedance(id.copy(alloc)?, period.copy(alloc)?)
+            }
+            Entry::Request(key, request) => Entry::Request(*key, request.copy(alloc)?),
+        })
+    }
 }
 
 impl Roster {

@@ -96,8 +96,8 @@ impl Rostered {
         }
     }
 
-    /// A period as it is planned, by its number from 1.
-    pub fn planned(&self, number: u8) -> Option<&Fdp>
+    /// A period as it is planned, by its number, which is at least 1.
+    pub(crate) fn planned(&self, number: u8) -> Option<&Fdp>
         ensures { option_copied result ≡ slice_get self.now.plan.periods (number - 1) }
     {
         self.plan

@@ -18,7 +18,7 @@ use Rattle.command.specs.declared.member.Member.{Member}
 use Rattle.command.specs.declared.order.Order.TheVariants.{AddCrew, AddPairing, CancelPairing, AddGround, CancelGround}
 use Rattle.roster.proofs.Accepted.{Passed, inserted, removed, insert_keeps, remove_elsewhere}
 use Rattle.roster.proofs.Sound.Kept as kept
-use Rattle.roster.proofs.Sound.Kept.{is_absent, is_there, one_value, IsFlownAt, StaysFlown}
+use Rattle.roster.proofs.Sound.Kept.{Parts, is_absent, is_there, one_value, IsFlownAt, StaysFlown}
 use Rattle.roster.specs.Pairings.{unheld, is_crewed}
 use Rattle.roster.specs.Refusals.{refusals}
 use Rattle.roster.specs.Sound.{SoundPairing, SoundGround, Sound}
@@ -71,7 +71,7 @@ some_flown (y ∷ xs) (suc i) x e = or_right (is_some y) _ (some_flown xs i x e)
 
 module _ (s : State) (key : KeyParts) (free : fin.get s.requests (key_name key) ≡ None) (h : Sound s) where
   pub add_crew : (who : List ℕ) (member : Member) → Passed (refusals s (AddCrew who member)) →
-      Sound (after s (change_of s key (AddCrew who member)))
+      Parts (after s (change_of s key (AddCrew who member)))
   unfolding after refusals
   add_crew who member passed =
       let grows = insert_keeps s.crew who member (is_absent _ passed.0) in
@@ -82,7 +82,7 @@ module _ (s : State) (key : KeyParts) (free : fin.get s.requests (key_name key) 
       }
 
   pub add_pairing : (plan : Plan) → pairing_fault plan ≡ None → map as_planned plan.periods ≡ plan.periods →
-      Passed (refusals s (AddPairing plan)) → Sound (after s (change_of s key (AddPairing plan)))
+      Passed (refusals s (AddPairing plan)) → Parts (after s (change_of s key (AddPairing plan)))
   unfolding after refusals
   add_pairing plan faultless planned passed =
       let grows = insert_keeps s.pairings plan.id (unheld plan) (is_absent _ passed.0) in record {
@@ -105,7 +105,7 @@ module _ (s : State) (key : KeyParts) (free : fin.get s.requests (key_name key) 
       }
 
   pub add_ground : (g : GroundPlan) → ground_fault g ≡ None → Passed (refusals s (AddGround g)) →
-      Sound (after s (change_of s key (AddGround g)))
+      Parts (after s (change_of s key (AddGround g)))
   unfolding after refusals
   add_ground g faultless passed =
       let member = is_there _ (not-false _ passed.0) in record {
@@ -123,7 +123,7 @@ module _ (s : State) (key : KeyParts) (free : fin.get s.requests (key_name key) 
             (λ _ _ f. f) h;
       }
 
-  pub cancel_ground : (id : List ℕ) → Sound (after s (change_of s key (CancelGround id)))
+  pub cancel_ground : (id : List ℕ) → Parts (after s (change_of s key (CancelGround id)))
   unfolding after
   cancel_ground id = record {
     pairings = h.pairings;
@@ -149,7 +149,7 @@ module _ (s : State) (key : KeyParts) (free : fin.get s.requests (key_name key) 
   }
 
   pub cancel_pairing : (id : List ℕ) → Passed (refusals s (CancelPairing id)) →
-      Sound (after s (change_of s key (CancelPairing id)))
+      Parts (after s (change_of s key (CancelPairing id)))
   unfolding after refusals
   cancel_pairing id passed = record {
     pairings = λ k r e. let old = removed s.pairings id k r e in h.pairings k r old.1;

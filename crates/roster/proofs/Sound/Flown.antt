@@ -19,14 +19,14 @@ use Rattle.command.specs.declared.member.Seat.{Seat}
 use Rattle.command.specs.declared.member.Seat.TheVariants.{Captain, FirstOfficer}
 use Rattle.command.specs.declared.order.Order.TheVariants.{Actual}
 use Rattle.roster.proofs.Accepted.{Passed, decide, changed, change_here, change_elsewhere, insert_here, insert_keeps}
-use Rattle.roster.proofs.Records.{names_same, recorded_from}
+use Rattle.roster.proofs.Records.{recorded_from}
 use Rattle.roster.proofs.Sound.Kept as kept
-use Rattle.roster.proofs.Sound.Kept.{Pairings, is_there, one_value, StaysFlown}
+use Rattle.roster.proofs.Sound.Kept.{Parts, Pairings, is_there, one_value, StaysFlown}
 use Rattle.roster.specs.Pairings.{is_fully_crewed}
 use Rattle.roster.specs.Places.{others, the_period}
 use Rattle.roster.specs.Refusals.{planned, broken_by, refusals}
 use Rattle.roster.specs.Sound.{Crew, IsHolder, IsActual, SoundPairing, SoundExceedance, Sound}
-use Rattle.roster.specs.State.{State, exceedance_name}
+use Rattle.roster.specs.State.{State}
 use Rattle.roster.specs.Steps.{after, change_of, with_actual, broken_by_holder, flown_duty, recorded_by}
 use Rattle.roster.specs.declared.state.PeriodId.{PeriodId}
 use Rattle.roster.specs.declared.state.Request.{Request}
@@ -111,7 +111,7 @@ flown_sound crew id a r fdp positive faultless crewed planned count h = record {
           planned = ap (slice_get r.plan.periods) new.0 ∙ planned;
           number = number;
           count = count;
-          order = faultless;
+          in_order = faultless;
         })
     | inr old ↦ h.actuals i b old
   ];
@@ -176,7 +176,7 @@ of_members s id a r is h = subst
 
 module _ (s : State) (key : KeyParts) (free : fin.get s.requests (key_name key) ≡ None) (h : Sound s) where
   pub actual : (id : List ℕ) (a : ActualTimes) → 1 ≤ a.period → actual_fault a ≡ None →
-      Passed (refusals s (Actual id a)) → Sound (after s (change_of s key (Actual id a)))
+      Passed (refusals s (Actual id a)) → Parts (after s (change_of s key (Actual id a)))
   unfolding after
   actual id a positive faultless passed =
       let f = found s id a passed in
@@ -197,18 +197,19 @@ module _ (s : State) (key : KeyParts) (free : fin.get s.requests (key_name key) 
           | inr old ↦ h.pairings k x old.1
         ];
         grounds = h.grounds;
-        exceedances = λ k who section p e. elim (recorded_from (IsOfMember s.crew) key period
-            (recorded_by s (Actual id a)) (of_members s id a f.rostered f.there r)
-            s.exceedances (exceedance_name k who section) p e) [
+        exceedances = λ name p e. elim (recorded_from (IsOfMember s.crew) key period
+            (recorded_by s (Actual id a)) (of_members s id a f.rostered f.there r) s.exceedances name p e) [
               | inl now ↦
                   let x = now.0 in
-                  let parts = names_same k key who x.exceedance.crew section x.exceedance.section x.named in
-                  subst (SoundExceedance (after s (change_of s key (Actual id a))) k who) now.1 (record {
+                  subst (SoundExceedance (after s (change_of s key (Actual id a))) name) now.1 (record {
+                    key = key;
+                    crew = x.exceedance.crew;
+                    section = x.exceedance.section;
+                    known_by = x.named;
                     request = request;
-                    held = ap (λ k. fin.get (fin.insert s.requests (key_name key) request) (key_name k)) parts.0
-                        ∙ insert_here s.requests (key_name key) request;
+                    held = insert_here s.requests (key_name key) request;
                     member = x.holds.0;
-                    of_member = ap (fin.get s.crew) parts.1 ∙ x.holds.1;
+                    of_member = x.holds.1;
                     rostered = with_actual a f.rostered;
                     of_pairing = change_here s.pairings id (with_actual a) ∙ ap (option_map (with_actual a)) f.there;
                     place = a.period - 1;
@@ -217,6 +218,6 @@ module _ (s : State) (key : KeyParts) (free : fin.get s.requests (key_name key) 
                     flown = set_here f.rostered.actuals (a.period - 1) (Some a) within;
                   })
               | inr old ↦ kept.exceedance s _ (insert_keeps s.requests (key_name key) _ free) (λ _ _ m. m)
-                  (still_flown a s.pairings id) k who p (h.exceedances k who section p old)
+                  (still_flown a s.pairings id) name p (h.exceedances name p old)
             ];
       }

@@ -3,10 +3,9 @@ use Rattle.std.proofs.Common.{◌≡◌, refl, sym, ap, ◌∙◌, ℕ, true, fa
 use Rattle.std.specs.FinMap as fin
 use Rattle.values.specs.Name.{name_cmp}
 use Rattle.duty.specs.Plans.{GroundPlan, ActualTimes}
-use Rattle.limits.specs.declared.section.Section.{Section}
-use Rattle.command.specs.Keys.{KeyParts, key_name}
+use Rattle.command.specs.Keys.{key_name}
 use Rattle.roster.specs.Sound.{Crew, SoundPairing, SoundGround, SoundExceedance, Sound}
-use Rattle.roster.specs.State.{State, exceedance_name}
+use Rattle.roster.specs.State.{State}
 use Rattle.roster.specs.declared.state.PeriodId.{PeriodId}
 use Rattle.roster.specs.declared.state.Rostered.{Rostered}
 
@@ -47,15 +46,19 @@ stays_flown m n grows id place h =
     record { rostered = h.rostered; there = grows id h.rostered h.there; actual = h.actual; flown = h.flown }
 
 pub exceedance : (s t : State) → Grows s.requests t.requests → Grows s.crew t.crew → StaysFlown s.pairings t.pairings →
-    (key : KeyParts) (who : List ℕ) (p : PeriodId) → SoundExceedance s key who p → SoundExceedance t key who p
-exceedance s t requests crew flown key who p h =
+    (name : List ℕ) (p : PeriodId) → SoundExceedance s name p → SoundExceedance t name p
+exceedance s t requests crew flown name p h =
     let f = flown p.pairing h.place
     (record { rostered = h.rostered; there = h.of_pairing; actual = h.actual; flown = h.flown }) in
     record {
+      key = h.key;
+      crew = h.crew;
+      section = h.section;
+      known_by = h.known_by;
       request = h.request;
-      held = requests (key_name key) h.request h.held;
+      held = requests (key_name h.key) h.request h.held;
       member = h.member;
-      of_member = crew who h.member h.of_member;
+      of_member = crew h.crew h.member h.of_member;
       rostered = f.rostered;
       of_pairing = f.there;
       place = h.place;
@@ -65,10 +68,17 @@ exceedance s t requests crew flown key who p h =
     }
 
 pub exceedances : (s t : State) → t.exceedances ≡ s.exceedances → Grows s.requests t.requests → Grows s.crew t.crew →
-    StaysFlown s.pairings t.pairings → Sound s → (key : KeyParts) (who : List ℕ) (section : Section) (p : PeriodId) →
-    fin.get t.exceedances (exceedance_name key who section) ≡ Some p → SoundExceedance t key who p
-exceedances s t same requests crew flown h key who section p e = exceedance s t requests crew flown key who p
-    (h.exceedances key who section p (ap (λ m. fin.get m (exceedance_name key who section)) (sym same) ∙ e))
+    StaysFlown s.pairings t.pairings → Sound s → (name : List ℕ) (p : PeriodId) →
+    fin.get t.exceedances name ≡ Some p → SoundExceedance t name p
+exceedances s t same requests crew flown h name p e =
+    exceedance s t requests crew flown name p (h.exceedances name p (ap (λ m. fin.get m name) (sym same) ∙ e))
+
+-- ---- All but the requests, which every accepted order changes alike
+
+pub record Parts (s : State) : Type 0 where
+  pub pairings : (id : List ℕ) (r : Rostered) → fin.get s.pairings id ≡ Some r → SoundPairing s.crew id r
+  pub grounds : (id : List ℕ) (g : GroundPlan) → fin.get s.grounds id ≡ Some g → SoundGround s.crew id g
+  pub exceedances : (name : List ℕ) (p : PeriodId) → fin.get s.exceedances name ≡ Some p → SoundExceedance s name p
 
 -- ---- More members
 

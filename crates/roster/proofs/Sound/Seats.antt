@@ -16,7 +16,7 @@ use Rattle.command.specs.declared.order.Order.TheVariants.{Assign, Release, Swap
 use Rattle.command.specs.declared.order.Swap as swap
 use Rattle.roster.proofs.Accepted.{Passed, decide, changed, change_here, change_elsewhere, insert_keeps}
 use Rattle.roster.proofs.Sound.Kept as kept
-use Rattle.roster.proofs.Sound.Kept.{Pairings, is_there, one_value, IsFlownAt, StaysFlown}
+use Rattle.roster.proofs.Sound.Kept.{Parts, Pairings, is_there, one_value, IsFlownAt, StaysFlown}
 use Rattle.roster.specs.Pairings.{is_flown, with_holder}
 use Rattle.roster.specs.Refusals.{is_member, are_of_two_kinds, refusals}
 use Rattle.roster.specs.Sound.{Crew, IsHolder, SoundPairing, Sound}
@@ -141,8 +141,8 @@ module _ (s : State) (key : KeyParts) (free : fin.get s.requests (key_name key) 
         pairings = fold reseated s.pairings (seats_of s order);
         requests = fin.insert s.requests (key_name key)
             (record { command = order; reply = (change_of s key order).reply });
-      } → AllFit s.crew s.pairings (seats_of s order) → Sound t
-  seated order t is fit = subst Sound (sym is) (record {
+      } → AllFit s.crew s.pairings (seats_of s order) → Parts t
+  seated order t is fit = subst Parts (sym is) (record {
     pairings = reseat_all s.crew s.pairings (seats_of s order) fit h.pairings;
     grounds = h.grounds;
     exceedances = kept.exceedances s _ refl (insert_keeps s.requests (key_name key) _ free) (λ _ _ m. m)
@@ -150,7 +150,7 @@ module _ (s : State) (key : KeyParts) (free : fin.get s.requests (key_name key) 
   })
 
   pub assign : (id who : List ℕ) → Passed (refusals s (Assign id who)) →
-      Sound (after s (change_of s key (Assign id who)))
+      Parts (after s (change_of s key (Assign id who)))
   unfolding after refusals
   assign id who passed =
       let m = is_there _ (not-false _ passed.0) in
@@ -158,7 +158,7 @@ module _ (s : State) (key : KeyParts) (free : fin.get s.requests (key_name key) 
       (record { holder = held s.crew m.0.seat who m.0 m.1 refl; free = λ r _. inl refl }, tt))
 
   pub release : (id who : List ℕ) → Passed (refusals s (Release id who)) →
-      Sound (after s (change_of s key (Release id who)))
+      Parts (after s (change_of s key (Release id who)))
   unfolding after refusals
   release id who passed =
       let m = is_there _ (not-false _ passed.0) in
@@ -170,7 +170,7 @@ module _ (s : State) (key : KeyParts) (free : fin.get s.requests (key_name key) 
         tt,
       ))
 
-  pub swapped : (w : swap.Swap) → Passed (refusals s (Swap w)) → Sound (after s (change_of s key (Swap w)))
+  pub swapped : (w : swap.Swap) → Passed (refusals s (Swap w)) → Parts (after s (change_of s key (Swap w)))
   unfolding after refusals
   swapped w passed =
       let both = and_parts (is_member s w.crew) (is_member s w.other_crew) (not-false _ passed.0) in

@@ -1,5 +1,5 @@
-use Rattle.roster.proofs.Requests.{repeats}
+use Rattle.roster.proofs.Requests.{repeats_both}
 use Rattle.roster.proofs.laws.repeats.Goals as goal
 
 pub returns : goal.returns
-returns c = repeats
+returns c = repeats_both

@@ -3,10 +3,10 @@ use Rattle.std.specs.List.{filter, flat_map}
 use Rattle.values.specs.Name.{rows_of}
 use Rattle.roster.specs.LeftOut.{leaves_out}
 use Rattle.roster.specs.Pairings.{holds}
-use Rattle.roster.specs.Places.{left, periods_at, periods_of}
+use Rattle.roster.specs.Places.{all_but, periods_at, periods_of}
 use Rattle.roster.proofs.state.Roster.add_periods_of.Given as goal
 
 abbrev pub invariant-loop-id : goal.invariant-loop-id
 invariant-loop-id l =
-    l.history ++ left (leaves_out l.out) (flat_map (periods_at l.self.zone) (filter (λ row. holds l.who row.1) (rows_of (λ id. id) l.id-iterator)))
-    ≡ l.initial.history ++ left (leaves_out l.out) (periods_of l.self l.who)
+    l.history ++ all_but (leaves_out l.out) (flat_map (periods_at l.self.zone) (filter (λ row. holds l.who row.1) (rows_of (λ id. id) l.id-iterator)))
+    ≡ l.initial.history ++ all_but (leaves_out l.out) (periods_of l.self l.who)
