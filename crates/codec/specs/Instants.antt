@@ -1,0 +1,26 @@
+-- What the types of its parts see to: the instants of a command are minutes of the years 2000 to 2099.
+use Rattle.std.specs.Prelude.{ℕ, Bool, true, ◌&&◌, nat_lt}
+use Rattle.std.specs.List.{list_all}
+use Rattle.duty.specs.declared.fdp.Fdp.{Fdp}
+use Rattle.duty.specs.declared.segment.BlockTimes.{BlockTimes}
+use Rattle.duty.specs.declared.segment.Segment.{Segment}
+use Rattle.command.specs.declared.order.Order.{Order}
+use Rattle.command.specs.declared.order.Order.TheVariants.{AddPairing, AddGround, Actual}
+
+abbrev pub is_instant : ℕ → Bool
+is_instant minute = nat_lt minute 52_596_000
+
+abbrev pub times_have_instants : BlockTimes → Bool
+times_have_instants t = is_instant t.block_out && is_instant t.block_in
+
+abbrev pub segment_has_instants : Segment → Bool
+segment_has_instants s = is_instant s.block_out && is_instant s.block_in
+
+abbrev pub period_has_instants : Fdp → Bool
+period_has_instants f = is_instant f.report && is_instant f.release && list_all segment_has_instants f.segments
+
+abbrev pub order_has_instants : Order → Bool
+order_has_instants (AddPairing p) = list_all period_has_instants p.periods
+order_has_instants (AddGround g) = is_instant g.begin && is_instant g.end
+order_has_instants (Actual id a) = is_instant a.report && is_instant a.release && list_all times_have_instants a.segments
+order_has_instants order = true

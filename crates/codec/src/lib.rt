@@ -1,0 +1,21 @@
+//! Commands and replies as JSON texts: the text that the book keeps of each, and what such a text is read as.
+#![tactic(auto)]
+
+mod body;
+mod command_json;
+mod encoded;
+mod fault;
+mod field;
+mod kept_text;
+mod laws;
+mod part;
+mod parts;
+mod reply_text;
+mod verb;
+
+pub use command_json::read_canonical;
+pub use fault::CodecFault;
+pub use field::JsonField;
+pub use kept_text::canonical;
+pub use laws::{kept_texts_are_read, kept_texts_differ, reply_texts_are_read};
+pub use reply_text::{read_reply, reply_to_json};
