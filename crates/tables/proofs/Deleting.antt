@@ -1,0 +1,150 @@
+-- DELETE of the rows with a key.
+use Rattle.std.proofs.Common.{◌≡◌, inl, inr, ℕ, ℤ, List, [], ◌∷◌, slice_get, Bool, true, false, not, Some, None, Ok, Option, refl, sym, ap, subst, ◌∙◌, Ordering, Less, Equal, Greater}
+use Rattle.std.specs.Ordering.{is_eq}
+use Rattle.std.specs.List.{list_all, AllByRecursion}
+use Rattle.std.proofs.lemmas.Bool.{cases_Bool, not-true}
+use Rattle.std.proofs.lemmas.Cmp.{tied_itself}
+use Rattle.sqlite_value.specs.declared.value.Value.TheVariants.{Null, Int}
+use Rattle.sqlite_value.specs.Order.{Row, value_cmp}
+use Rattle.sqlite_value.proofs.OrderLemmas.{value_cmp_total}
+use Rattle.sqlite_trees.specs.Tree.{rowid, has_rowid, without_rowid}
+use Rattle.sqlite_schema.specs.declared.schema.Table.{Table}
+use Rattle.sqlite_schema.specs.declared.schema.Keys.TheVariants.{Enforced}
+use Rattle.sqlite_schema.specs.declared.command.Command.{Command}
+use Rattle.sqlite_schema.specs.declared.command.Command.TheVariants.{Delete}
+use Rattle.sqlite_sql.specs.Term.{Term, col, holds}
+use Rattle.sqlite_sql.specs.Program.{overlay}
+use Rattle.sqlite_rules.specs.declared.error.Rowids.TheVariants.{Given}
+use Rattle.sqlite_rules.specs.Lists.{Has}
+use Rattle.sqlite_rules.specs.Calls.{ids_of}
+use Rattle.sqlite_rules.specs.Edit.{edit_of, id_in, without_all, Applies}
+use Rattle.sqlite_rules.proofs.ListLemmas.{has_filtered, has_kept}
+use Rattle.sqlite_rules.proofs.TableLemmas.{int_is}
+use Rattle.sqlite_rules.proofs.ProbeLemmas.{has_mapped, mapped_has}
+use Rattle.sqlite.specs.Effect.{Database}
+use Rattle.sqlite.specs.Rows.{Written}
+use Rattle.sqlite.specs.Does.{Tally, Does}
+use Rattle.sqlite.specs.State.{State}
+use Rattle.tables.proofs.Answering.{plain_query, answer_has, answer_all, overlay_is}
+use Rattle.tables.proofs.Inserting.{applied, plain_mode, went, same_value}
+use Rattle.tables.proofs.Statements.{IsRead, Writer, are_free, book_writer}
+use Rattle.tables.specs.Schema.{BookTable, table_of, HasNoReference, IsBook, tables_before}
+use Rattle.tables.specs.Rows.{cells, rows_of, IsStored, Deletes}
+
+pub equal_is : (o : Ordering) → is_eq o ≡ true → o ≡ Equal
+equal_is Less h = absurd (cc)
+equal_is Equal h = refl
+equal_is Greater h = absurd (cc)
+
+abbrev pub Lacks : List ℤ → Row → Type 0
+Lacks ids x = (id : ℤ) → Has ids id → has_rowid id x ≡ false
+
+pub left_from : (ids : List ℤ) (rows : List Row) (x : Row) → Has (without_all rows ids) x → Has rows x × Lacks ids x
+left_from [] rows x h = (h, λ id none. absurd none)
+left_from (id ∷ ids) rows x h =
+    let r = left_from ids (without_rowid id rows) x h in
+    let was = has_filtered (λ y. not (has_rowid id y)) rows x r.0 in
+    (was.0, λ other k. elim k [ inl e ↦ rw e (not-true _ was.1) | inr more ↦ r.1 other more ])
+
+pub left_has : (ids : List ℤ) (rows : List Row) (x : Row) → Has rows x → Lacks ids x → Has (without_all rows ids) x
+left_has [] rows x h lacks = h
+left_has (id ∷ ids) rows x h lacks = left_has ids (without_rowid id rows) x (has_kept (λ y. not (has_rowid id y)) rows x h (ap not (lacks id (inl refl)))) (λ other k. lacks other (inr k))
+
+module _ (kept : BookTable) (limit : Option ℕ) (old after : Database) (text : List ℕ) (params : Row) (tally : Tally) (filter : List Term)
+    (is : slice_get old.schema.tables kept.place ≡ Some (table_of kept))
+    (free : AllByRecursion HasNoReference old.schema.tables)
+    (does : Does limit plain_mode params old text None (Delete kept.place (record { lets = []; body = plain_query kept.tree filter (col 1 0 ∷ []) [] })) (Ok (tally, after)))
+    (test : Row → Bool) (tests : (r : Row) → list_all (holds (params ∷ r ∷ [])) filter ≡ test (cells kept r)) (stored : IsStored kept old) where
+  abbrev table : Table
+  table = table_of kept
+
+  abbrev rows : List Row
+  rows = old.trees kept.tree
+
+  pub record Deleted : Type 0 where
+    pub ids : List ℤ
+    pub schema : after.schema ≡ old.schema
+    pub applies : Applies old.schema Enforced old.trees (edit_of old.trees table ids Given 0 []) after.trees
+    pub all : (r : Row) → Has rows r → test (cells kept r) ≡ true → Has ids (id_in (rowid r))
+    pub has : (id : ℤ) → Has ids id → (r : Row) × Has rows r × (test (cells kept r) ≡ true) × (id ≡ id_in (rowid r))
+
+  deleted : Deleted
+  deleted =
+      let changed = rw is at does in
+      let done = went changed in
+      let now = ap (λ (p : Tally × Database). p.1) (same_value (went (went done.2).2).2) in
+      let asked = went done.1 in
+      let written = went asked.2 in
+      let trees : done.0.trees ≡ written.0 = ap (λ (it : Written). it.trees) (same_value written.2) in
+      let step = applied old.schema old.trees written.0 (edit_of old.trees table (ids_of asked.0) Given 0 []) free written.1 in
+      let a = asked.1.answer Null in
+      let over = overlay_is old.trees kept.tree in
+      record {
+        ids = ids_of asked.0;
+        schema = ap (λ (d : Database). d.schema) now;
+        applies = subst (Applies old.schema Enforced old.trees (edit_of old.trees table (ids_of asked.0) Given 0 [])) (sym (ap (λ (d : Database). d.trees) now ∙ trees)) step;
+        all = λ r h passes.
+            mapped_has (λ q. id_in (rowid q)) asked.0 (rowid r ∷ [])
+            (answer_all kept.tree filter (col 1 0 ∷ []) [] (overlay old.trees []) params asked.0 a r (subst (λ l. Has l r) (sym over) h) (tests r ∙ passes));
+        has = λ id h.
+            let q = has_mapped (λ q. id_in (rowid q)) asked.0 id h in
+            let r = answer_has kept.tree filter (col 1 0 ∷ []) [] (overlay old.trees []) params asked.0 a q.0 q.1 in
+            (r.0, subst (λ l. Has l r.0) over r.1, sym (tests r.0) ∙ r.2, q.2 ∙ ap (λ x. id_in (rowid x)) r.3);
+      }
+
+  rest : after.trees kept.tree ≡ without_all rows deleted.ids
+  rest = deleted.applies.rows
+
+  own_number : (r : Row) → Has rows r → rowid r ≡ Int (id_in (rowid r))
+  own_number r h = int_is (rowid r) (stored.numbered r h)
+
+  still : (r : Row) → Has (after.trees kept.tree) r → Has rows r × Lacks deleted.ids r
+  still r h = left_from deleted.ids rows r (subst (λ l. Has l r) rest h)
+
+  pub deletes : Deletes kept test old after
+  deletes stored = record {
+    schema = deleted.schema;
+    has = λ x h.
+        let m = has_mapped (cells kept) (after.trees kept.tree) x h in
+        let l = still m.0 m.1 in (
+          subst (Has (rows_of kept old)) (sym m.2) (mapped_has (cells kept) rows m.0 l.0),
+          ap test m.2 ∙ elim (cases_Bool (test (cells kept m.0))) [
+            | inl passes ↦ absurd (
+                let lacks = l.1 _ (deleted.all m.0 l.0 passes) in
+                let tie : value_cmp (rowid m.0) (Int (id_in (rowid m.0))) ≡ Equal = subst (λ v. value_cmp (rowid m.0) v ≡ Equal) (own_number m.0 l.0) (tied_itself value_cmp_total (rowid m.0)) in
+                let e = ap is_eq tie in cc)
+            | inr fails ↦ fails
+          ],
+        );
+    all = λ x h.
+        let m = has_mapped (cells kept) rows x h.0 in
+        let lacks : Lacks deleted.ids m.0 = λ id k. elim (cases_Bool (has_rowid id m.0)) [
+          | inl tied ↦ absurd (
+              let r = deleted.has id k in
+              let its : rowid r.0 ≡ Int id = own_number r.0 r.1 ∙ ap Int (sym r.3) in
+              let same = stored.apart m.0 r.0 m.1 r.1 (subst (λ v. value_cmp (rowid m.0) v ≡ Equal) (sym its) (equal_is _ tied)) in
+              let passes = ap test (m.2 ∙ ap (cells kept) same) ∙ r.2 in
+              let fails = h.1 in
+              cc)
+          | inr other ↦ other
+        ] in
+        subst (Has (rows_of kept after)) (sym m.2) (mapped_has (cells kept) (after.trees kept.tree) m.0 (subst (λ l. Has l m.0) (sym rest) (left_has deleted.ids rows m.0 m.1 lacks)));
+    others = deleted.applies.tables;
+    stored = λ _. record { numbered = λ r h. stored.numbered r (still r h).0; apart = λ a b h k tie. stored.apart a b (still a h).0 (still b k).0 tie };
+  }
+
+module _ (kept : BookTable) (filter : List Term) (text : List ℕ)
+    (read : IsRead text (Delete kept.place (record { lets = []; body = plain_query kept.tree filter (col 1 0 ∷ []) [] })))
+    (listed : (rest : List Table) → slice_get (tables_before rest) kept.place ≡ Some (table_of kept))
+    (params : Row) (test : Row → Bool) (tests : (r : Row) → list_all (holds (params ∷ r ∷ [])) filter ≡ test (cells kept r))
+    (old : State) (book : IsBook old.now.schema) where
+  abbrev command : Command
+  command = Delete kept.place (record { lets = []; body = plain_query kept.tree filter (col 1 0 ∷ []) [] })
+
+  does : (t : List ℕ) (tally : Tally) (after : Database) → Does old.step_limit plain_mode params old.now t None command (Ok (tally, after)) → Deletes kept test old.now after
+  does t tally after h stored =
+      deletes kept old.step_limit old.now after t params tally filter
+      (ap (λ ts. slice_get ts kept.place) book.first ∙ listed book.rest) (are_free old.now.schema book) h test tests stored stored
+
+  pub delete_writer : Writer text params (Deletes kept test) old
+  delete_writer = book_writer text params command read (Deletes kept test) old book does (λ _ _ _ h. h) (λ e. cc) (λ n e. cc)

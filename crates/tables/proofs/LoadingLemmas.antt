@@ -1,0 +1,180 @@
+-- SELECT of a whole table with the numbers of its rows, which rise and so are apart.
+use Rattle.std.proofs.Common.{◌≡◌, inl, inr, ℕ, suc, ℤ, List, [], ◌∷◌, map, filter, drop, length, Bool, true, false, Ok, Err, Result, refl, sym, ap, subst, ◌∙◌, IsPermutation, IsTrue, IfOk, OnOk, OnErr, Ordering, Less, Equal, Greater, arith}
+use Rattle.std.specs.Ordering.{is_eq, is_lt, int_cmp}
+use Rattle.std.specs.List.{AllByRecursion, IsDistinct}
+use Rattle.std.proofs.lemmas.Bool.{and_parts, cases_Bool}
+use Rattle.std.proofs.lemmas.Map.Keys.{IsDistinct-IsPermutation}
+use Rattle.std.proofs.lemmas.List.Sorted.{IsPermutation-sym, IsPermutation-map}
+use Rattle.std.proofs.lemmas.Cmp.{tied_back}
+use Rattle.std.proofs.lemmas.Int.{ints}
+use Rattle.std.proofs.lemmas.Bool.Decides.{nat_tests}
+use Rattle.sqlite_value.specs.declared.keys.Key.{Key}
+use Rattle.sqlite_value.specs.declared.keys.Collation.TheVariants.{Binary}
+use Rattle.sqlite_value.specs.declared.value.Value.TheVariants.{Int}
+use Rattle.sqlite_value.specs.Keys.{ascending}
+use Rattle.sqlite_value.specs.Order.{Row, column, value_cmp}
+use Rattle.sqlite_value.proofs.OrderLemmas.{value_cmp_total, value_cmp-Int}
+use Rattle.sqlite_trees.specs.Tree.{Trees, rowid}
+use Rattle.sqlite_trees.proofs.ListLemmas.{map-map}
+use Rattle.sqlite_schema.specs.declared.schema.Table.{Table}
+use Rattle.sqlite_schema.specs.declared.schema.Index.{Index}
+use Rattle.sqlite_schema.specs.declared.schema.View.{View}
+use Rattle.sqlite_schema.specs.declared.command.Command.TheVariants.{Select}
+use Rattle.sqlite_sql.specs.Term.{Term, col, eval_all}
+use Rattle.sqlite_rules.specs.Lists.{Has}
+use Rattle.sqlite_rules.proofs.ListLemmas.{all_has}
+use Rattle.sqlite_rules.proofs.ProbeLemmas.{has_mapped, mapped_has}
+use Rattle.sqlite.proofs.Callers.{IsPlain}
+use Rattle.sqlite.specs.Listing.{understood, reads_listing}
+use Rattle.sqlite.specs.State.{State, HasCleanDisk, Survives, IsUnchanged, Shown}
+use Rattle.tables.specs.Schema.{BookTable, IsBook, schema_before}
+use Rattle.tables.specs.Rows.{cells, rows_of, begins_with, Finds, HasNoRecord, IsStored}
+use Rattle.tables.specs.Calls.{Leaves, Loaded}
+use Rattle.tables.specs.Texts.{HasInvalid, ShowsNumbered, rises, rises_from}
+use Rattle.tables.specs.declared.table_fault.TableFault.{TableFault}
+use Rattle.tables.specs.declared.table_fault.TableFault.TheVariants.{NotARecord}
+use Rattle.tables.proofs.Answering.{plain_query, has_permuted}
+use Rattle.tables.proofs.Deleting.{equal_is}
+use Rattle.tables.proofs.Selecting.{projected, shown_cells, answered, shows_invalid}
+use Rattle.tables.proofs.Statements.{IsRead, plain_in}
+
+-- ---- numbers that rise differ
+
+abbrev same_first : Row → Row → Bool
+same_first x y = is_eq (value_cmp (column x 0) (column y 0))
+
+abbrev pub one_number : ℤ → Row
+one_number n = Int n ∷ []
+
+less_unlike : (o : Ordering) → is_lt o ≡ true → is_eq o ≡ false
+less_unlike Less h = refl
+less_unlike Equal h = absurd (cc)
+less_unlike Greater h = absurd (cc)
+
+unlike : (a b : ℤ) → is_lt (int_cmp a b) ≡ true → same_first (one_number a) (one_number b) ≡ false
+unlike a b h = ap is_eq (value_cmp-Int a b) ∙ less_unlike _ h
+
+less_less : (a b c : ℤ) → is_lt (int_cmp a b) ≡ true → is_lt (int_cmp b c) ≡ true → is_lt (int_cmp a c) ≡ true
+less_less a b c h k = grind (arith, ints, nat_tests)
+
+rises_above : (last low : ℤ) (ns : List ℤ) → is_lt (int_cmp low last) ≡ true → rises_from last ns ≡ true → AllByRecursion (λ y. same_first (one_number low) y ≡ false) (map one_number ns)
+rises_above last low [] h rise = tt
+rises_above last low (m ∷ ns) h rise =
+    let parts = and_parts (is_lt (int_cmp last m)) (rises_from m ns) rise in
+    let more = less_less low last m h parts.0 in
+    (unlike low m more, rises_above m low ns more parts.1)
+
+rising_differ : (ns : List ℤ) → rises ns ≡ true → IsDistinct same_first (map one_number ns)
+unfolding IsDistinct
+rising_differ [] h = tt
+rising_differ (n ∷ []) h = (tt, tt)
+rising_differ (n ∷ m ∷ ns) h =
+    let parts = and_parts (is_lt (int_cmp n m)) (rises_from m ns) h in
+    ((unlike n m parts.0, rises_above m n ns parts.0 parts.1), rising_differ (m ∷ ns) parts.1)
+
+-- where what is shown of rows differs, rows that show alike are one
+distinct_apart : (f : Row → Row) (e : Row → Row → Bool) (rows : List Row) → IsDistinct e (map f rows) → ((x y : Row) → e x y ≡ e y x) → (a b : Row) → Has rows a → Has rows b → e (f a) (f b) ≡ true → a ≡ b
+unfolding IsDistinct
+distinct_apart f e [] d flips a b h k same = absurd h
+distinct_apart f e (r ∷ rows) d flips a b (inl p) (inl q) same = p ∙ sym q
+distinct_apart f e (r ∷ rows) d flips a b (inl p) (inr q) same = absurd (let no = all_has _ (map f rows) (f b) d.0 (mapped_has f rows b q) in let yes' = rw p at same in cc)
+distinct_apart f e (r ∷ rows) d flips a b (inr p) (inl q) same = absurd (let no = all_has _ (map f rows) (f a) d.0 (mapped_has f rows a p) in let yes' = flips _ _ ∙ rw q at same in cc)
+distinct_apart f e (r ∷ rows) d flips a b (inr p) (inr q) same = distinct_apart f e rows d.1 flips a b p q same
+
+same_flips : (x y : Row) → same_first x y ≡ same_first y x
+same_flips x y = elim (cases_Bool (same_first x y)) [
+  | inl one ↦ one ∙ sym (ap is_eq (tied_back value_cmp_total (column x 0) (column y 0) (equal_is _ one)))
+  | inr differ ↦ elim (cases_Bool (same_first y x)) [
+    | inl one ↦ absurd (let e = ap is_eq (tied_back value_cmp_total (column y 0) (column x 0) (equal_is _ one)) in cc)
+    | inr also ↦ differ ∙ sym also
+  ]
+]
+
+-- the rows of a table whose numbers are shown in rising order
+module _ (kept : BookTable) (db : Rattle.sqlite.specs.Effect.Database) (ns : List ℤ) (shown : IsPermutation (map (λ (r : Row). rowid r ∷ []) (db.trees kept.tree)) (map one_number ns)) (rise : rises ns ≡ true) where
+  abbrev rows : List Row
+  rows = db.trees kept.tree
+
+  pub rising_stored : IsStored kept db
+  rising_stored = record {
+    numbered = λ r k.
+        let there = has_permuted (map (λ (r : Row). rowid r ∷ []) rows) (map one_number ns) (rowid r ∷ []) shown (mapped_has (λ (r : Row). rowid r ∷ []) rows r k) in
+        let n = has_mapped one_number ns (rowid r ∷ []) there in
+        let is : rowid r ≡ Int n.0 = ap rowid n.2 in rw is;
+    apart = λ a b k l tie.
+        distinct_apart (λ (r : Row). rowid r ∷ []) same_first rows (IsDistinct-IsPermutation same_first same_flips (map one_number ns) (map (λ (r : Row). rowid r ∷ []) rows) (IsPermutation-sym _ _ shown) (rising_differ ns rise)) same_flips a b k l
+        (ap is_eq tie);
+  }
+
+-- ---- the whole table
+
+abbrev pub by_number : List (Term × Key)
+by_number = (col 1 0, ascending Binary) ∷ []
+
+pub record Loader (text : List ℕ) (kept : BookTable) (old : State) : Type 1 where
+  pub plain : IsPlain (understood old.now.schema text)
+  pub loaded : (new : State) (rows : List Row) → ShowsNumbered text old new rows → Finds kept (begins_with []) old.now rows × IsStored kept old.now
+  pub invalid : (IsRecord : Row → Type 0) → HasInvalid (λ values. IsRecord (drop 1 values)) text [] old → HasNoRecord kept (begins_with []) IsRecord old.now
+
+all_pass : {X : Type 0} (xs : List X) → filter (λ x. true) xs ≡ xs
+all_pass [] = refl
+all_pass (x ∷ xs) = ap (λ l. x ∷ l) (all_pass xs)
+
+module _ (kept : BookTable) (text : List ℕ) (names : List (List ℕ))
+    (read : IsRead text (Select (record { lets = []; body = plain_query kept.tree [] (projected (suc (length kept.columns)) 0) by_number }) names))
+    (unlisted : (rest : List Table) (indexes : List Index) (views : List View) → reads_listing (schema_before rest indexes views) text ≡ false)
+    (old : State) (book : IsBook old.now.schema) where
+  abbrev stored : List Row
+  stored = old.now.trees kept.tree
+
+  abbrev shown : Row → Row
+  shown r = rowid r ∷ cells kept r
+
+  shows : (r : Row) → eval_all (projected (suc (length kept.columns)) 0) ([] ∷ r ∷ []) ≡ shown r
+  shows = shown_cells (suc (length kept.columns)) 0 []
+
+  found : (new : State) (all : List (ℤ × Row)) → Shown text [] old new (map (λ it. Int it.0 ∷ it.1) all) → IsPermutation (map shown stored) (map (λ it. Int it.0 ∷ it.1) all)
+  found new all h =
+      subst (λ l. IsPermutation (map shown l) (map (λ it. Int it.0 ∷ it.1) all)) (all_pass stored)
+      (answered kept [] (projected (suc (length kept.columns)) 0) by_number text names read unlisted [] (λ _. true) (λ _. refl) shown shows old book new _ h)
+
+  pub loader : Loader text kept old
+  loader = record {
+    plain = plain_in read old.now.schema book;
+    loaded = λ new rows h.
+        let all = h.0 in
+        let same = found new all h.1 in
+        let records : IsPermutation (map (cells kept) stored) (map (λ it. it.1) all) =
+        subst (λ l. IsPermutation (map (cells kept) stored) l) (map-map (drop 1) (λ (it : ℤ × Row). Int it.0 ∷ it.1) all)
+        (subst (λ l. IsPermutation l (map (drop 1) (map (λ (it : ℤ × Row). Int it.0 ∷ it.1) all))) (map-map (drop 1) shown stored) (IsPermutation-map (drop 1) _ _ same)) in
+        let first = λ (x : Row). rowid x ∷ [] in
+        let numbers : IsPermutation (map (λ (r : Row). rowid r ∷ []) stored) (map one_number (map (λ (it : ℤ × Row). it.0) all)) =
+        subst (λ l. IsPermutation (map (λ (r : Row). rowid r ∷ []) stored) l) (map-map first (λ (it : ℤ × Row). Int it.0 ∷ it.1) all ∙ sym (map-map one_number (λ (it : ℤ × Row). it.0) all))
+        (subst (λ l. IsPermutation l (map first (map (λ (it : ℤ × Row). Int it.0 ∷ it.1) all))) (map-map first shown stored) (IsPermutation-map first _ _ same)) in
+        (subst (IsPermutation (filter (begins_with []) (rows_of kept old.now))) h.3 (subst (λ l. IsPermutation l (map (λ it. it.1) all)) (sym (all_pass (rows_of kept old.now))) records), rising_stored kept old.now _ numbers h.2);
+    invalid = λ IsRecord h.
+        let r = shows_invalid kept [] (projected (suc (length kept.columns)) 0) by_number text names read unlisted [] (λ _. true) (λ _. refl) shown shows old book (λ values. IsRecord (drop 1 values)) h in
+        (cells kept r.0, mapped_has (cells kept) stored r.0 r.1, refl, r.3);
+  }
+
+-- numbered records show their rows behind their numbers
+pub numbered_shown : {N R : Type 0} (numbered : List N) (number : N → ℤ) (entry : N → R) (row : R → Row) (sql : List ℕ) (old new : State)
+    → Shown sql [] old new (map (λ it. Int (number it) ∷ row (entry it)) numbered) → IsTrue (rises (map number numbered))
+    → {A : Type 0} (result : Result A TableFault) (items : A → List R) → IfOk result (λ all. items all ≡ map entry numbered) → IfOk result (λ all. ShowsNumbered sql old new (map row (items all)))
+numbered_shown numbered number entry row sql old new h rise (Err fault) items same = same
+numbered_shown {N} numbered number entry row sql old new h rise (Ok all) items same =
+    let pair : N → ℤ × Row = λ it. (number it, row (entry it)) in (
+      map pair numbered,
+      subst (Shown sql [] old new) (sym (map-map (λ (it : ℤ × Row). Int it.0 ∷ it.1) pair numbered)) h,
+      subst (λ l. IsTrue (rises l)) (sym (map-map (λ (it : ℤ × Row). it.0) pair numbered)) rise,
+      map-map (λ (it : ℤ × Row). it.1) pair numbered ∙ sym (map-map row entry numbered) ∙ ap (map row) (sym same),
+    )
+
+-- ---- from the clauses of `load` to those of a function
+
+module _ {text : List ℕ} {kept : BookTable} {B : Type 0} (old new : State) (owed : HasCleanDisk old → B) (reads : B → Loader text kept old) {X : Trees → Type 0} (survives : Survives old new X) where
+  pub loaded_by : {A R : Type 0} (row : R → Row) (IsRecord : Row → Type 0) (items : A → List R) (result : Result A TableFault)
+      → (HasCleanDisk new → IfOk result (λ all. ShowsNumbered text old new (map row (items all)))) → (HasCleanDisk new → OnOk result (IsUnchanged old new)) → (HasCleanDisk new → OnErr result (Leaves old new))
+      → (HasCleanDisk new → result ≡ Err NotARecord → HasInvalid (λ values. IsRecord (drop 1 values)) text [] old) → Loaded kept IsRecord (λ all. map row (items all)) old new result
+  loaded_by row IsRecord items (Ok all) found same err damaged clean = ((reads (owed (omega (arith, survives.clean)))).loaded new (map row (items all)) (found clean), same clean)
+  loaded_by row IsRecord items (Err fault) found same err damaged clean = (err clean, λ e. (reads (owed (omega (arith, survives.clean)))).invalid IsRecord (damaged clean (ap Err e)))

@@ -1,0 +1,196 @@
+-- SELECT of whole rows.
+use Rattle.std.proofs.Common.{Option, MatchOption, ◌≢◌, pos, ◌≡◌, inl, inr, ℕ, zero, suc, ◌+◌, List, [], ◌∷◌, ◌++◌, map, drop, length, Bool, true, false, Some, None, Ok, Err, Result, refl, sym, ap, ap₂, subst, ◌∙◌, arith, drop-cons}
+use Rattle.std.specs.Bool.{⊤}
+use Rattle.std.proofs.lemmas.List.{drop_all}
+use Rattle.std.specs.List.{list_all}
+use Rattle.sqlite_value.specs.declared.value.Value.{Value}
+use Rattle.sqlite_value.specs.declared.value.Value.TheVariants.{Null, Int}
+use Rattle.sqlite_value.specs.declared.keys.Key.{Key}
+use Rattle.sqlite_value.specs.Order.{Row, column}
+use Rattle.sqlite_schema.specs.declared.schema.Table.{Table}
+use Rattle.sqlite_schema.specs.declared.schema.Index.{Index}
+use Rattle.sqlite_schema.specs.declared.schema.View.{View}
+use Rattle.sqlite_schema.specs.declared.command.Command.TheVariants.{Select}
+use Rattle.sqlite_sql.specs.Term.{Term, col, holds, eval_all}
+use Rattle.sqlite_sql.specs.Program.{overlay}
+use Rattle.sqlite_rules.specs.Lists.{Has}
+use Rattle.sqlite_rules.proofs.ProbeLemmas.{mapped_has}
+use Rattle.sqlite.specs.Values.{bound_value}
+use Rattle.sqlite.specs.Listing.{understood, reads_listing}
+use Rattle.sqlite.specs.State.{State, Shown}
+use Rattle.sqlite.proofs.Callers.{IsPlain, reads_as, begins_as}
+use Rattle.sqlite_rules.proofs.ListLemmas.{has_left, has_right}
+use Rattle.tables.proofs.Answering.{plain_query, answer_has, answer_permutes, answer_ordered, output_of, overlay_is}
+use Rattle.tables.proofs.Statements.{IsRead, is_book, plain_in}
+use Rattle.std.proofs.Common.{IsPermutation, IsSorted, filter, IfOk, OnOk, OnErr}
+use Rattle.std.proofs.lemmas.Bool.{cases_Bool}
+use Rattle.std.specs.declared.cmp.Ordering.{Ordering}
+use Rattle.sqlite_trees.specs.Tree.{Trees}
+use Rattle.sqlite_trees.proofs.ListLemmas.{filter-map}
+use Rattle.sqlite_exec.proofs.RowsLemmas.{IsSorted-map}
+use Rattle.sqlite_sql.specs.Query.{output_cmp}
+use Rattle.sqlite.specs.State.{HasCleanDisk, Survives, IsUnchanged}
+use Rattle.tables.specs.Schema.{BookTable, IsBook, schema_before}
+use Rattle.tables.specs.Rows.{cells, cells_from, begins_with, columns_cmp, Finds, FindsInOrder, HasNoRecord}
+use Rattle.tables.specs.Records.{number_or_null}
+use Rattle.tables.specs.Calls.{Leaves, Read, ReadAs}
+use Rattle.tables.specs.Texts.{HasInvalid}
+use Rattle.tables.specs.declared.table_fault.TableFault.{TableFault}
+use Rattle.tables.specs.declared.table_fault.TableFault.TheVariants.{NotARecord}
+
+-- the columns from a place on
+abbrev pub projected : ℕ → ℕ → List Term
+projected zero at = []
+projected (suc count) at = col 1 at ∷ projected count (suc at)
+
+pub shown_cells : (count at : ℕ) (params r : Row) → eval_all (projected count at) (params ∷ r ∷ []) ≡ cells_from count at r
+shown_cells zero at params r = refl
+shown_cells (suc count) at params r = ap (λ row. column r at ∷ row) (shown_cells count (suc at) params r)
+
+-- what is known of a text that reads some rows of a table, from a state on
+pub record Reader (text : List ℕ) (params : Row) (kept : BookTable) (test : Row → Bool) (old : State) : Type 1 where
+  pub plain : IsPlain (understood old.now.schema text)
+  pub found : (new : State) (rows : List Row) → Shown text params old new rows → Finds kept test old.now rows
+  pub invalid : (IsRecord : Row → Type 0) → HasInvalid IsRecord text params old → HasNoRecord kept test IsRecord old.now
+
+filter_same : {X : Type 0} (p q : X → Bool) → ((x : X) → p x ≡ q x) → (xs : List X) → filter p xs ≡ filter q xs
+filter_same p q same [] = refl
+filter_same p q same (x ∷ xs) = elim (cases_Bool (p x)) [
+  | inl passes ↦ let also = sym (same x) ∙ passes in rw (passes, also) (ap (λ l. x ∷ l) (filter_same p q same xs))
+  | inr fails ↦ let also = sym (same x) ∙ fails in rw (fails, also) (filter_same p q same xs)
+]
+
+map_same : {X Y : Type 0} (f g : X → Y) → ((x : X) → f x ≡ g x) → (xs : List X) → map f xs ≡ map g xs
+map_same f g same [] = refl
+map_same f g same (x ∷ xs) = ap₂ ◌∷◌ (same x) (map_same f g same xs)
+
+module _ (kept : BookTable) (filters project : List Term) (order : List (Term × Key)) (text : List ℕ) (names : List (List ℕ))
+    (read : IsRead text (Select (record { lets = []; body = plain_query kept.tree filters project order }) names))
+    (unlisted : (rest : List Table) (indexes : List Index) (views : List View) → reads_listing (schema_before rest indexes views) text ≡ false)
+    (params : Row) (test : Row → Bool) (tests : (r : Row) → list_all (holds (params ∷ r ∷ [])) filters ≡ test (cells kept r))
+    (shown : Row → Row) (shows : (r : Row) → eval_all project (params ∷ r ∷ []) ≡ shown r)
+    (old : State) (book : IsBook old.now.schema) where
+  abbrev stored : List Row
+  stored = old.now.trees kept.tree
+
+  pub answered : (new : State) (rows : List Row) → Shown text params old new rows → IsPermutation (map shown (filter (λ r. test (cells kept r)) stored)) rows
+  answered new rows h =
+      let answers = reads_as text params old new (schema_before book.rest old.now.schema.indexes old.now.schema.views) (is_book old.now.schema book) _ (read.is _ _ _) (read.plain _ _ _) (unlisted _ _ _) rows h in
+      let found = answer_permutes kept.tree filters project order (overlay old.now.trees []) params rows (answers.answer Null) in
+      let same : map (λ r. eval_all project (params ∷ r ∷ [])) (filter (λ r. list_all (holds (params ∷ r ∷ [])) filters) (overlay old.now.trees [] kept.tree)) ≡ map shown (filter (λ r. test (cells kept r)) stored) =
+      ap (λ l. map (λ r. eval_all project (params ∷ r ∷ [])) (filter (λ r. list_all (holds (params ∷ r ∷ [])) filters) l)) (overlay_is old.now.trees kept.tree)
+      ∙ map_same (λ r. eval_all project (params ∷ r ∷ [])) shown shows _ ∙ ap (map shown) (filter_same _ _ tests stored) in
+      subst (λ l. IsPermutation l rows) same found
+
+  -- a row of the answer that is no record shows a row of the table
+  pub shows_invalid : (IsRecord : Row → Type 0) → HasInvalid IsRecord text params old → (r : Row) × Has stored r × (test (cells kept r) ≡ true) × ¬ IsRecord (shown r)
+  shows_invalid IsRecord h =
+      let given = h.0 ++ h.1 ∷ [] in
+      let first = begins_as text params old old (schema_before book.rest old.now.schema.indexes old.now.schema.views) (is_book old.now.schema book) _ (read.is _ _ _) (read.plain _ _ _) (unlisted _ _ _) given h.2 in
+      let start = first.1 in
+      let all = given ++ start.0 in
+      let r = answer_has kept.tree filters project order (overlay old.now.trees []) params all (start.1 Null) h.1 (has_left given start.0 h.1 (has_right h.0 (h.1 ∷ []) h.1 (inl refl))) in
+      (r.0, subst (λ l. Has l r.0) (overlay_is old.now.trees kept.tree) r.1, sym (tests r.0) ∙ r.2, subst (λ x. ¬ IsRecord x) (r.3 ∙ shows r.0) h.3)
+
+module _ (kept : BookTable) (filters : List Term) (text : List ℕ) (names : List (List ℕ))
+    (read : IsRead text (Select (record { lets = []; body = plain_query kept.tree filters (projected (length kept.columns) 1) [] }) names))
+    (unlisted : (rest : List Table) (indexes : List Index) (views : List View) → reads_listing (schema_before rest indexes views) text ≡ false)
+    (params : Row) (test : Row → Bool) (tests : (r : Row) → list_all (holds (params ∷ r ∷ [])) filters ≡ test (cells kept r))
+    (old : State) (book : IsBook old.now.schema) where
+  shows : (r : Row) → eval_all (projected (length kept.columns) 1) (params ∷ r ∷ []) ≡ cells kept r
+  shows = shown_cells (length kept.columns) 1 params
+
+  pub reader : Reader text params kept test old
+  reader = record {
+    plain = plain_in read old.now.schema book;
+    found = λ new rows h.
+        subst (λ l. IsPermutation l rows) (sym (filter-map test (cells kept) (old.now.trees kept.tree)))
+        (answered kept filters (projected (length kept.columns) 1) [] text names read unlisted params test tests (cells kept) shows old book new rows h);
+    invalid = λ IsRecord h.
+        let r = shows_invalid kept filters (projected (length kept.columns) 1) [] text names read unlisted params test tests (cells kept) shows old book IsRecord h in
+        (cells kept r.0, mapped_has (cells kept) (old.now.trees kept.tree) r.0 r.1, r.2, r.3);
+  }
+
+-- ---- the whole table in the order of its first columns
+
+pub record OrderedReader (text : List ℕ) (kept : BookTable) (count : ℕ) (old : State) : Type 1 where
+  pub plain : IsPlain (understood old.now.schema text)
+  pub found : (new : State) (rows : List Row) → Shown text [] old new rows → FindsInOrder count kept old.now rows
+  pub invalid : (IsRecord : Row → Type 0) → HasInvalid IsRecord text [] old → HasNoRecord kept (begins_with []) IsRecord old.now
+
+module _ (kept : BookTable) (count : ℕ) (order : List (Term × Key)) (text : List ℕ) (names : List (List ℕ))
+    (read : IsRead text (Select (record { lets = []; body = plain_query kept.tree [] (projected (length kept.columns) 1) order }) names))
+    (unlisted : (rest : List Table) (indexes : List Index) (views : List View) → reads_listing (schema_before rest indexes views) text ≡ false)
+    (agrees : ◌≡◌ {A = Row → Row → Ordering}
+    (λ a b. output_cmp (plain_query kept.tree [] (projected (length kept.columns) 1) order) (output_of (plain_query kept.tree [] (projected (length kept.columns) 1) order) [] a) (output_of (plain_query kept.tree [] (projected (length kept.columns) 1) order) [] b))
+    (λ a b. columns_cmp count 0 (cells kept a) (cells kept b)))
+    (old : State) (book : IsBook old.now.schema) where
+  abbrev project : List Term
+  project = projected (length kept.columns) 1
+
+  each : (r : Row) → eval_all project ([] ∷ r ∷ []) ≡ cells kept r
+  each = shown_cells (length kept.columns) 1 []
+
+  sorted : (new : State) (rows : List Row) → Shown text [] old new rows → IsSorted (columns_cmp count 0) rows
+  sorted new rows h =
+      let answers = reads_as text [] old new (schema_before book.rest old.now.schema.indexes old.now.schema.views) (is_book old.now.schema book) _ (read.is _ _ _) (read.plain _ _ _) (unlisted _ _ _) rows h in
+      let found = answer_ordered kept.tree [] project order (overlay old.now.trees []) [] rows (answers.answer Null) in
+      let up = subst (λ cmp. IsSorted cmp found.0) agrees found.2 in
+      subst (IsSorted (columns_cmp count 0)) (sym (found.1 ∙ map_same (λ r. eval_all project ([] ∷ r ∷ [])) (cells kept) each found.0)) (IsSorted-map (columns_cmp count 0) (cells kept) found.0 up)
+
+  pub ordered_reader : OrderedReader text kept count old
+  ordered_reader = record {
+    plain = plain_in read old.now.schema book;
+    found = λ new rows h. (
+      subst (λ l. IsPermutation l rows) (sym (filter-map (begins_with []) (cells kept) (old.now.trees kept.tree)))
+          (answered kept [] project order text names read unlisted [] (begins_with []) (λ _. refl) (cells kept) each old book new rows h),
+      sorted new rows h,
+    );
+    invalid = λ IsRecord h.
+        let r = shows_invalid kept [] project order text names read unlisted [] (begins_with []) (λ _. refl) (cells kept) each old book IsRecord h in
+        (cells kept r.0, mapped_has (cells kept) (old.now.trees kept.tree) r.0 r.1, r.2, r.3);
+  }
+
+-- ---- from the clauses of `read_all` to those of a function
+
+module _ {text : List ℕ} {kept : BookTable} {count : ℕ} {B : Type 0} (old new : State) (owed : HasCleanDisk old → B) (ordered : B → OrderedReader text kept count old) {X : Trees → Type 0}
+    (survives : Survives old new X) where
+  pub read_in_order_by : {A : Type 0} (IsRecord : Row → Type 0) (rows : A → List Row) (result : Result A TableFault)
+      → (HasCleanDisk new → IfOk result (λ all. Shown text [] old new (rows all))) → (HasCleanDisk new → OnOk result (IsUnchanged old new)) → (HasCleanDisk new → OnErr result (Leaves old new))
+      → (HasCleanDisk new → result ≡ Err NotARecord → HasInvalid IsRecord text [] old)
+      → ReadAs (λ db found. FindsInOrder count kept db (rows found)) (HasNoRecord kept (begins_with []) IsRecord) old new result
+  read_in_order_by IsRecord rows (Ok all) shown same err damaged clean = ((ordered (owed (omega (arith, survives.clean)))).found new (rows all) (shown clean), same clean)
+  read_in_order_by IsRecord rows (Err fault) shown same err damaged clean =
+      (err clean, λ e. (ordered (owed (omega (arith, survives.clean)))).invalid IsRecord (damaged clean (ap Err e)))
+
+module _ {text : List ℕ} {params : Row} {kept : BookTable} {test : Row → Bool} {B : Type 0} (old new : State) (owed : HasCleanDisk old → B) (reader : B → Reader text params kept test old) {X : Trees → Type 0}
+    (survives : Survives old new X) where
+  pub read_by : {A : Type 0} (IsRecord : Row → Type 0) (rows : A → List Row) (result : Result A TableFault)
+      → (HasCleanDisk new → IfOk result (λ all. Shown text params old new (rows all))) → (HasCleanDisk new → OnOk result (IsUnchanged old new)) → (HasCleanDisk new → OnErr result (Leaves old new))
+      → (HasCleanDisk new → result ≡ Err NotARecord → HasInvalid IsRecord text params old) → Read kept test IsRecord rows old new result
+  read_by IsRecord rows (Ok all) shown same err damaged clean = ((reader (owed (omega (arith, survives.clean)))).found new (rows all) (shown clean), same clean)
+  read_by IsRecord rows (Err fault) shown same err damaged clean =
+      (err clean, λ e. (reader (owed (omega (arith, survives.clean)))).invalid IsRecord (damaged clean (ap Err e)))
+
+-- ---- a row from its columns
+
+abbrev pub Agrees : ℕ → Row → Row → Type 0
+Agrees at [] r = ⊤
+Agrees at (v ∷ vs) r = (column r at ≡ v) × Agrees (suc at) vs r
+
+is_rest : (at : ℕ) (x r : Row) → length r ≡ at + length x → Agrees at x r → drop at r ≡ x
+is_rest at [] r long agrees = drop_all at r (omega (arith, long))
+is_rest at (v ∷ vs) r long agrees = drop-cons r at Null (omega (arith, long)) ∙ ap₂ ◌∷◌ agrees.0 (is_rest (suc at) vs r (omega (arith, long)) agrees.1)
+
+pub is_row : (x r : Row) → length r ≡ length x → Agrees 0 x r → r ≡ x
+is_row x r long agrees = is_rest 0 x r (omega (arith, long)) agrees
+
+-- a column that may be NULL
+pub number_read : (o : Option ℕ) (v : Value) → MatchOption o (v ≡ Null) (λ n. (v ≢ Null) × (v ≡ Int (pos n))) → v ≡ number_or_null o
+number_read None v h = h
+number_read (Some n) v h = h.1
+
+-- as a parameter
+pub bound_number : (o : Option ℕ) → bound_value (number_or_null o) ≡ number_or_null o
+bound_number None = refl
+bound_number (Some n) = refl

@@ -1,0 +1,187 @@
+-- UPDATE of the rows with a key.
+use Rattle.std.proofs.Common.{◌≡◌, ◌⊎◌, inl, inr, ℕ, ℤ, List, [], ◌∷◌, map, drop, slice_get, Bool, true, false, Some, None, Ok, Option, sym, ap, subst, ◌∙◌, Equal}
+use Rattle.std.specs.Ordering.{is_eq}
+use Rattle.std.specs.List.{list_all, AllByRecursion}
+use Rattle.std.proofs.lemmas.Bool.{cases_Bool}
+use Rattle.std.proofs.lemmas.Cmp.{tied_itself}
+use Rattle.sqlite_value.specs.declared.value.Value.{Value}
+use Rattle.sqlite_value.specs.declared.value.Value.TheVariants.{Null, Int}
+use Rattle.sqlite_value.specs.Order.{Row, value_cmp}
+use Rattle.sqlite_value.proofs.OrderLemmas.{value_cmp_total}
+use Rattle.sqlite_trees.specs.Tree.{rowid, has_rowid}
+use Rattle.sqlite_trees.specs.View.{is_int}
+use Rattle.sqlite_schema.specs.declared.schema.Table.{Table}
+use Rattle.sqlite_schema.specs.declared.schema.Keys.TheVariants.{Enforced}
+use Rattle.sqlite_schema.specs.declared.command.Command.{Command}
+use Rattle.sqlite_schema.specs.declared.command.Command.TheVariants.{Update}
+use Rattle.sqlite_sql.specs.Term.{Term, col, holds, eval_all}
+use Rattle.sqlite_sql.specs.Program.{overlay}
+use Rattle.sqlite_rules.specs.declared.error.Rowids.TheVariants.{Given}
+use Rattle.sqlite_rules.specs.Lists.{Has}
+use Rattle.sqlite_rules.specs.Calls.{ids_of}
+use Rattle.sqlite_rules.specs.Cast.{cast_row}
+use Rattle.sqlite_rules.specs.Edit.{edit_of, id_in, without_all, put_all, are_fresh, Applies}
+use Rattle.sqlite_rules.proofs.TableLemmas.{int_is, put_all_has, put_all_keeps, put_all_adds}
+use Rattle.sqlite_rules.proofs.PlaceLemmas.{given}
+use Rattle.sqlite_rules.proofs.ProbeLemmas.{has_mapped, mapped_has}
+use Rattle.sqlite.specs.Effect.{Database}
+use Rattle.sqlite.specs.Rows.{Written}
+use Rattle.sqlite.specs.Does.{Tally, Does}
+use Rattle.sqlite.specs.State.{State}
+use Rattle.tables.proofs.Answering.{plain_query, answer_has, answer_all, overlay_is}
+use Rattle.tables.proofs.Inserting.{applied, plain_mode, went, same_value}
+use Rattle.tables.proofs.Deleting.{Lacks, left_from, left_has, equal_is}
+use Rattle.tables.proofs.Statements.{IsRead, Writer, are_free, book_writer}
+use Rattle.tables.specs.Schema.{BookTable, table_of, HasNoReference, IsBook, tables_before}
+use Rattle.tables.specs.Rows.{cells, rows_of, IsStored, Updates}
+
+module _ (kept : BookTable) (db : Database) (stored : IsStored kept db) (test : Row → Bool) (ids : List ℤ)
+    (all : (r : Row) → Has (db.trees kept.tree) r → test (cells kept r) ≡ true → Has ids (id_in (rowid r)))
+    (has : (id : ℤ) → Has ids id → (r : Row) × Has (db.trees kept.tree) r × (test (cells kept r) ≡ true) × (id ≡ id_in (rowid r))) where
+  own_number : (r : Row) → Has (db.trees kept.tree) r → rowid r ≡ Int (id_in (rowid r))
+  own_number r h = int_is (rowid r) (stored.numbered r h)
+
+  lacks_fails : (r : Row) → Has (db.trees kept.tree) r → Lacks ids r → test (cells kept r) ≡ false
+  lacks_fails r h lacks = elim (cases_Bool (test (cells kept r))) [
+    | inl passes ↦ absurd (
+        let no = lacks _ (all r h passes) in
+        let tie : value_cmp (rowid r) (Int (id_in (rowid r))) ≡ Equal = subst (λ v. value_cmp (rowid r) v ≡ Equal) (own_number r h) (tied_itself value_cmp_total (rowid r)) in
+        let e = ap is_eq tie in cc)
+    | inr fails ↦ fails
+  ]
+
+  fails_lacks : (r : Row) → Has (db.trees kept.tree) r → test (cells kept r) ≡ false → Lacks ids r
+  fails_lacks r h fails id k = elim (cases_Bool (has_rowid id r)) [
+    | inl tied ↦ absurd (
+        let q = has id k in
+        let its : rowid q.0 ≡ Int id = own_number q.0 q.1 ∙ ap Int (sym q.3) in
+        let same = stored.apart r q.0 h q.1 (subst (λ v. value_cmp (rowid r) v ≡ Equal) (sym its) (equal_is _ tied)) in
+        let passes = ap test (ap (cells kept) same) ∙ q.2 in
+        cc)
+    | inr other ↦ other
+  ]
+
+module _ (kept : BookTable) (limit : Option ℕ) (old after : Database) (text : List ℕ) (params : Row) (tally : Tally) (filter terms : List Term)
+    (is : slice_get old.schema.tables kept.place ≡ Some (table_of kept))
+    (free : AllByRecursion HasNoReference old.schema.tables)
+    (does : Does limit plain_mode params old text None (Update kept.place (record { lets = []; body = plain_query kept.tree filter (col 1 0 ∷ terms) [] })) (Ok (tally, after)))
+    (test : Row → Bool) (tests : (r : Row) → list_all (holds (params ∷ r ∷ [])) filter ≡ test (cells kept r)) (stored : IsStored kept old)
+    (new : Row → Row) (writes : (r : Row) → is_int (rowid r) ≡ true → cast_row (table_of kept) (eval_all terms (params ∷ r ∷ [])) ≡ rowid r ∷ new (cells kept r))
+    (shape : (v : Value) (x : Row) → cells kept (v ∷ new x) ≡ new x) where
+  abbrev table : Table
+  table = table_of kept
+
+  abbrev rows : List Row
+  rows = old.trees kept.tree
+
+  abbrev written : Row → Row
+  written r = rowid r ∷ new (cells kept r)
+
+  pub record Updated : Type 0 where
+    pub ids : List ℤ
+    pub news : List Row
+    pub schema : after.schema ≡ old.schema
+    pub fresh : are_fresh (without_all rows ids) news ≡ true
+    pub rows_are : after.trees kept.tree ≡ put_all (without_all rows ids) news
+    pub others : AllByRecursion (λ t. (t.tree ≡ kept.tree → ⊥) → after.trees t.tree ≡ old.trees t.tree) old.schema.tables
+    pub all : (r : Row) → Has rows r → test (cells kept r) ≡ true → Has ids (id_in (rowid r))
+    pub has : (id : ℤ) → Has ids id → (r : Row) × Has rows r × (test (cells kept r) ≡ true) × (id ≡ id_in (rowid r))
+    pub news_all : (r : Row) → Has rows r → test (cells kept r) ≡ true → Has news (written r)
+    pub news_has : (n : Row) → Has news n → (r : Row) × Has rows r × (test (cells kept r) ≡ true) × (n ≡ written r)
+
+  updated : Updated
+  updated =
+      let changed = rw is at does in
+      let done = went changed in
+      let now = ap (λ (p : Tally × Database). p.1) (same_value (went (went done.2).2).2) in
+      let asked = went done.1 in
+      let wrote = went asked.2 in
+      let trees : done.0.trees ≡ wrote.0 = ap (λ (it : Written). it.trees) (same_value wrote.2) in
+      let edit = edit_of old.trees table (ids_of asked.0) Given 1 asked.0 in
+      let step = subst (Applies old.schema Enforced old.trees edit) (sym (ap (λ (d : Database). d.trees) now ∙ trees)) (applied old.schema old.trees wrote.0 edit free wrote.1) in
+      let a = asked.1.answer Null in
+      let over = overlay_is old.trees kept.tree in
+      let cast_one = λ (s : Row). cast_row table (drop 1 s) in
+      let news_are : edit.news ≡ map cast_one asked.0 = given (without_all rows (ids_of asked.0)) (map cast_one asked.0) in
+      let found = λ (r : Row) (h : Has rows r) (passes : test (cells kept r) ≡ true). answer_all kept.tree filter (col 1 0 ∷ terms) [] (overlay old.trees []) params asked.0 a r (subst (λ l. Has l r) (sym over) h) (tests r ∙ passes) in
+      let from = λ (s : Row) (k : Has asked.0 s). answer_has kept.tree filter (col 1 0 ∷ terms) [] (overlay old.trees []) params asked.0 a s k in
+      record {
+        ids = ids_of asked.0;
+        news = map cast_one asked.0;
+        schema = ap (λ (d : Database). d.schema) now;
+        fresh = subst (λ n. are_fresh (without_all rows (ids_of asked.0)) n ≡ true) news_are step.fresh;
+        rows_are = step.rows ∙ ap (put_all (without_all rows (ids_of asked.0))) news_are;
+        others = step.tables;
+        all = λ r h passes. mapped_has (λ q. id_in (rowid q)) asked.0 _ (found r h passes);
+        has = λ id h.
+            let q = has_mapped (λ q. id_in (rowid q)) asked.0 id h in
+            let r = from q.0 q.1 in
+            (r.0, subst (λ l. Has l r.0) over r.1, sym (tests r.0) ∙ r.2, q.2 ∙ ap (λ x. id_in (rowid x)) r.3);
+        news_all = λ r h passes. subst (Has (map cast_one asked.0)) (writes r (stored.numbered r h)) (mapped_has cast_one asked.0 _ (found r h passes));
+        news_has = λ n h.
+            let q = has_mapped cast_one asked.0 n h in
+            let r = from q.0 q.1 in
+            let there = subst (λ l. Has l r.0) over r.1 in
+            (r.0, there, sym (tests r.0) ∙ r.2, q.2 ∙ ap cast_one r.3 ∙ writes r.0 (stored.numbered r.0 there));
+      }
+
+  either_row : (x : Row) → Has (after.trees kept.tree) x
+      → ((r : Row) × Has rows r × (test (cells kept r) ≡ true) × (x ≡ written r)) ⊎ (Has rows x × (test (cells kept x) ≡ false))
+  either_row x h = elim (put_all_has updated.news (without_all rows updated.ids) x (subst (λ l. Has l x) updated.rows_are h)) [
+    | inl new ↦ inl (updated.news_has x new)
+    | inr was ↦ let l = left_from updated.ids rows x was in inr (l.0, lacks_fails kept old stored test updated.ids updated.all updated.has x l.0 l.1)
+  ]
+
+  pub updates : Updates kept test new old after
+  updates stored = record {
+    schema = updated.schema;
+    has = λ x h.
+        let m = has_mapped (cells kept) (after.trees kept.tree) x h in
+        elim (either_row m.0 m.1) [
+          | inl n ↦ inl (cells kept n.0, mapped_has (cells kept) rows n.0 n.1, n.2, m.2 ∙ ap (cells kept) n.3 ∙ shape _ _)
+          | inr was ↦ inr (subst (Has (rows_of kept old)) (sym m.2) (mapped_has (cells kept) rows m.0 was.0), ap test m.2 ∙ was.1)
+        ];
+    all = λ x h. elim h [
+      | inl n ↦
+          let r = has_mapped (cells kept) rows n.0 n.1 in
+          let there = put_all_adds updated.news (without_all rows updated.ids) (written r.0) updated.fresh (updated.news_all r.0 r.1 (ap test (sym r.2) ∙ n.2)) in
+          subst (Has (rows_of kept after)) (shape _ _ ∙ ap new (sym r.2) ∙ sym n.3) (mapped_has (cells kept) (after.trees kept.tree) (written r.0) (subst (λ l. Has l (written r.0)) (sym updated.rows_are) there))
+      | inr was ↦
+          let r = has_mapped (cells kept) rows x was.0 in
+          let lacks = fails_lacks kept old stored test updated.ids updated.all updated.has r.0 r.1 (ap test (sym r.2) ∙ was.1) in
+          let there = put_all_keeps updated.news (without_all rows updated.ids) r.0 updated.fresh (left_has updated.ids rows r.0 r.1 lacks) in
+          subst (Has (rows_of kept after)) (sym r.2) (mapped_has (cells kept) (after.trees kept.tree) r.0 (subst (λ l. Has l r.0) (sym updated.rows_are) there))
+    ];
+    others = updated.others;
+    stored = λ _. record {
+      numbered = λ a h. elim (either_row a h) [ inl n ↦ rw n.3 (stored.numbered n.0 n.1) | inr was ↦ stored.numbered a was.0 ];
+      apart = λ a b h k tie. elim (either_row a h) [
+        | inl n ↦ elim (either_row b k) [
+          | inl m ↦ n.3 ∙ ap written (stored.apart n.0 m.0 n.1 m.1 (rw (n.3, m.3) at tie)) ∙ sym m.3
+          | inr was ↦ absurd (let same = stored.apart n.0 b n.1 was.0 (rw n.3 at tie) in let one = ap (λ r. test (cells kept r)) same in let yes' = n.2 in let no' = was.1 in cc)
+        ]
+        | inr was ↦ elim (either_row b k) [
+          | inl m ↦ absurd (let same = stored.apart a m.0 was.0 m.1 (rw m.3 at tie) in let one = ap (λ r. test (cells kept r)) same in let yes' = m.2 in let no' = was.1 in cc)
+          | inr also ↦ stored.apart a b was.0 also.0 tie
+        ]
+      ];
+    };
+  }
+
+module _ (kept : BookTable) (filter terms : List Term) (text : List ℕ)
+    (read : IsRead text (Update kept.place (record { lets = []; body = plain_query kept.tree filter (col 1 0 ∷ terms) [] })))
+    (listed : (rest : List Table) → slice_get (tables_before rest) kept.place ≡ Some (table_of kept))
+    (params : Row) (test : Row → Bool) (tests : (r : Row) → list_all (holds (params ∷ r ∷ [])) filter ≡ test (cells kept r))
+    (change : Row → Row) (writes : (r : Row) → is_int (rowid r) ≡ true → cast_row (table_of kept) (eval_all terms (params ∷ r ∷ [])) ≡ rowid r ∷ change (cells kept r))
+    (shape : (v : Value) (x : Row) → cells kept (v ∷ change x) ≡ change x)
+    (old : State) (book : IsBook old.now.schema) where
+  abbrev command : Command
+  command = Update kept.place (record { lets = []; body = plain_query kept.tree filter (col 1 0 ∷ terms) [] })
+
+  does : (t : List ℕ) (tally : Tally) (after : Database) → Does old.step_limit plain_mode params old.now t None command (Ok (tally, after)) → Updates kept test change old.now after
+  does t tally after h stored =
+      updates kept old.step_limit old.now after t params tally filter terms
+      (ap (λ ts. slice_get ts kept.place) book.first ∙ listed book.rest) (are_free old.now.schema book) h test tests stored change writes shape stored
+
+  pub update_writer : Writer text params (Updates kept test change) old
+  update_writer = book_writer text params command read (Updates kept test change) old book does (λ _ _ _ h. h) (λ e. cc) (λ n e. cc)

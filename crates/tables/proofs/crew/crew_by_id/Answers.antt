@@ -1,0 +1,14 @@
+use Rattle.std.proofs.Common.{map}
+use Rattle.sqlite.specs.Held.{state}
+use Rattle.tables.specs.Records.{crew_row, IsCrewRow}
+use Rattle.tables.proofs.Selecting.{read_by}
+use Rattle.tables.proofs.CrewTexts.{crew_by_id}
+use Rattle.tables.proofs.crew.crew_by_id.Goals as goal
+
+pub read_all-requires : goal.read_all-requires
+read_all-requires g c clean = (crew_by_id c.args.id.now (state g.S.Store c.args.conn.now) (c.requires clean)).plain
+
+pub returns-clause-read : goal.returns-clause-read
+returns-clause-read g c =
+    let given = rw (c.params-to_sql.ensures) at c.read_all.ensures in
+    read_by _ _ c.requires (crew_by_id c.args.id.now (state g.S.Store c.args.conn.now)) given.crash IsCrewRow (λ all. map crew_row all.items) c.read_all.result given.shown given.same given.err given.damaged

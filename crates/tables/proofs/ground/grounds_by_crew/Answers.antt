@@ -1,0 +1,14 @@
+use Rattle.std.proofs.Common.{map}
+use Rattle.sqlite.specs.Held.{state}
+use Rattle.tables.specs.Records.{ground_row, IsGroundRow}
+use Rattle.tables.proofs.Selecting.{read_by}
+use Rattle.tables.proofs.GroundTexts.{grounds_by_crew}
+use Rattle.tables.proofs.ground.grounds_by_crew.Goals as goal
+
+pub read_all-requires : goal.read_all-requires
+read_all-requires g c clean = (grounds_by_crew c.args.crew.now (state g.S.Store c.args.conn.now) (c.requires clean)).plain
+
+pub returns-clause-read : goal.returns-clause-read
+returns-clause-read g c =
+    let given = rw (c.params-to_sql.ensures) at c.read_all.ensures in
+    read_by _ _ c.requires (grounds_by_crew c.args.crew.now (state g.S.Store c.args.conn.now)) given.crash IsGroundRow (λ all. map ground_row all.items) c.read_all.result given.shown given.same given.err given.damaged

@@ -1,0 +1,16 @@
+use Rattle.std.proofs.Common.{map}
+use Rattle.std.specs.Int.{w64}
+use Rattle.std.proofs.lemmas.Int.{to_z-of_z}
+use Rattle.sqlite.specs.Held.{state}
+use Rattle.tables.specs.Records.{request_row, IsRequestRow}
+use Rattle.tables.proofs.Selecting.{read_by}
+use Rattle.tables.proofs.RequestTexts.{request_by_key}
+use Rattle.tables.proofs.request.request_by_key.Goals as goal
+
+pub read_all-requires : goal.read_all-requires
+read_all-requires g c clean = (request_by_key c.args.number c.args.part (state g.S.Store c.args.conn.now) (c.requires clean)).plain
+
+pub returns-clause-read : goal.returns-clause-read
+returns-clause-read g c =
+    let given = rw (c.params-to_sql.ensures, c.params-to_sql-2.ensures, to_z-of_z w64 c.args.number c.ranges.number) at c.read_all.ensures in
+    read_by _ _ c.requires (request_by_key c.args.number c.args.part (state g.S.Store c.args.conn.now)) given.crash IsRequestRow (λ all. map request_row all.items) c.read_all.result given.shown given.same given.err given.damaged

@@ -1,0 +1,69 @@
+-- What a call leaves of a connection.
+use Rattle.std.specs.Prelude.{◌≡◌, ◌≢◌, ◌⊎◌, if◌then◌else◌, Result, MatchResult, IsTrue, Bool, true, false, List, []}
+use Rattle.sqlite_value.specs.Order.{Row}
+use Rattle.sqlite.specs.Effect.{Database}
+use Rattle.sqlite.specs.State.{State, Shows, IsUnchanged, IsRolledBack, Survives, HasCleanDisk}
+use Rattle.tables.specs.declared.table_fault.TableFault.{TableFault}
+use Rattle.tables.specs.declared.table_fault.TableFault.TheVariants.{NotARecord}
+use Rattle.tables.specs.Schema.{BookTable, IsBook, made}
+use Rattle.tables.specs.Rows.{IsStored, Finds, HasNoRecord, begins_with}
+
+-- All that is said of a database holds as long as the disk has returned what was written.
+
+-- the nine tables are there
+abbrev pub HoldsBook : State → Type 0
+HoldsBook s = HasCleanDisk s → IsBook s.now.schema
+
+-- just these tables are there
+abbrev pub HoldsMade : List BookTable → State → Type 0
+HoldsMade tables s = HasCleanDisk s → s.now.schema ≡ made tables
+
+-- outside a transaction the change is committed; else it waits for the commit
+pub record Takes (old new : State) : Type 0 where
+  pub shown : Shows old new new.now (if old.in_transaction then old.committed else new.now) old.in_transaction
+  pub marks : new.marks ≡ old.marks
+
+-- nothing has changed, or the transaction is undone
+abbrev pub Leaves : State → State → Type 0
+Leaves old new = IsUnchanged old new ⊎ IsRolledBack old new
+
+-- what a call comes to that changes a table, where `Is` says what it makes of the database
+abbrev pub Ran : {A : Type 0} → (Database → Database → Type 0) → State → State → Result A TableFault → Type 0
+Ran Is old new result =
+    HasCleanDisk new → MatchResult result (λ _. Is old.now new.now × Takes old new) (λ fault. Leaves old new × (fault ≢ NotARecord))
+
+-- a crash may leave what it could before, and outside a transaction the change
+abbrev pub MayLeave : (Database → Database → Type 0) → State → State → Type 0
+MayLeave Is old new = Survives old new (λ trees. (old.in_transaction ≡ false) × (db : Database) × Is old.now db × (trees ≡ db.trees))
+
+-- a crash may leave what it could before
+abbrev pub LeavesNothing : State → State → Type 0
+LeavesNothing old new = Survives old new (λ _. ⊥)
+
+-- What a call comes to that reads a table. A row that passes the test and is no record is told as such.
+abbrev pub ReadAs : {A : Type 0} → (Database → A → Type 0) → (Database → Type 0) → State → State → Result A TableFault → Type 0
+ReadAs Is IsDamaged old new result =
+    HasCleanDisk new → MatchResult result (λ found. Is old.now found × IsUnchanged old new) (λ fault. Leaves old new × (fault ≡ NotARecord → IsDamaged old.now))
+
+-- just the rows that pass the test, where `rows` gives the rows of an answer
+abbrev pub Read : {A : Type 0} → BookTable → (Row → Bool) → (Row → Type 0) → (A → List Row) → State → State → Result A TableFault → Type 0
+Read table test IsRecord rows = ReadAs (λ db found. Finds table test db (rows found)) (HasNoRecord table test IsRecord)
+
+-- all rows, and that each is stored under a number of its own
+abbrev pub Loaded : {A : Type 0} → BookTable → (Row → Type 0) → (A → List Row) → State → State → Result A TableFault → Type 0
+Loaded table IsRecord rows =
+    ReadAs (λ db found. Finds table (begins_with []) db (rows found) × IsStored table db) (HasNoRecord table (begins_with []) IsRecord)
+
+-- ---- transactions
+
+-- what a call comes to that begins or ends a transaction
+abbrev pub Gave : {A : Type 0} → Type 0 → State → State → Result A TableFault → Type 0
+Gave Is old new result = HasCleanDisk new → MatchResult result (λ _. Is) (λ fault. Leaves old new × (fault ≢ NotARecord))
+
+-- the transaction is begun
+abbrev pub Begun : State → State → Type 0
+Begun old new = Shows old new old.now old.committed true × (new.marks ≡ old.marks)
+
+-- what the transaction saw is committed
+abbrev pub Committed : State → State → Type 0
+Committed old new = IsTrue old.in_transaction × Shows old new old.now old.now false × (new.marks ≡ [])

@@ -1,0 +1,6 @@
+pub mod Schema
+pub mod Rows
+pub mod Records
+pub mod Faults
+pub mod Calls
+pub mod Texts

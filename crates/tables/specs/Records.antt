@@ -1,0 +1,93 @@
+-- The row that a record stands for, and which rows are some record's. A text is UTF-8, a number has 32 bits.
+use Rattle.std.specs.Prelude.{◌≡◌, ◌<◌, ◌^◌, ⊤, pos, ℕ, IsUtf8, [], ◌∷◌, Option, None, Some}
+use Rattle.sqlite_value.specs.declared.value.Value.{Value}
+use Rattle.sqlite_value.specs.declared.value.Value.TheVariants.{Int, Text}
+use Rattle.sqlite_value.specs.Order.{Row, column}
+use Rattle.sqlite_rules.specs.Cast.{cast_all}
+use Rattle.sqlite.specs.Values.{or_null}
+use Rattle.tables.specs.Schema.{period_table, segment_table}
+use Rattle.tables.specs.declared.book.BookRecord.{BookRecord}
+use Rattle.tables.specs.declared.crew.CrewRecord.{CrewRecord}
+use Rattle.tables.specs.declared.pairing.PairingRecord.{PairingRecord}
+use Rattle.tables.specs.declared.period.PeriodRecord.{PeriodRecord}
+use Rattle.tables.specs.declared.segment.SegmentRecord.{SegmentRecord}
+use Rattle.tables.specs.declared.seat.SeatRecord.{SeatRecord}
+use Rattle.tables.specs.declared.ground.GroundRecord.{GroundRecord}
+use Rattle.tables.specs.declared.exceedance.ExceedanceRecord.{ExceedanceRecord}
+use Rattle.tables.specs.declared.request.RequestRecord.{RequestRecord}
+
+abbrev pub IsNumber : ℕ → Type 0
+IsNumber n = n < 2 ^ 32
+
+-- a number that may be missing
+abbrev pub IsNumberIfAny : Option ℕ → Type 0
+IsNumberIfAny None = ⊤
+IsNumberIfAny (Some n) = IsNumber n
+
+abbrev pub number_or_null : Option ℕ → Value
+number_or_null = or_null (λ n. Int (pos n))
+
+abbrev pub book_row : BookRecord → Row
+book_row it = Int it.one ∷ Int it.version ∷ Text it.zone ∷ []
+
+abbrev pub IsBookRow : Row → Type 0
+IsBookRow row = (it : BookRecord) × IsUtf8 it.zone × (row ≡ book_row it)
+
+abbrev pub crew_row : CrewRecord → Row
+crew_row it = Text it.id ∷ Int (pos it.seat) ∷ Text it.name ∷ []
+
+abbrev pub IsCrewRow : Row → Type 0
+IsCrewRow row = (it : CrewRecord) × IsUtf8 it.id × IsNumber it.seat × IsUtf8 it.name × (row ≡ crew_row it)
+
+abbrev pub pairing_row : PairingRecord → Row
+pairing_row it = Text it.id ∷ []
+
+abbrev pub IsPairingRow : Row → Type 0
+IsPairingRow row = (it : PairingRecord) × IsUtf8 it.id × (row ≡ pairing_row it)
+
+abbrev pub period_row : PeriodRecord → Row
+period_row it = Text it.pairing ∷ Int (pos it.number) ∷ Int (pos it.report_at) ∷ Int (pos it.release_at) ∷ number_or_null it.act_report ∷ number_or_null it.act_release ∷ []
+
+abbrev pub IsPeriodRow : Row → Type 0
+IsPeriodRow row = (it : PeriodRecord) × IsUtf8 it.pairing × IsNumber it.number × IsNumber it.report_at × IsNumber it.release_at × IsNumberIfAny it.act_report × IsNumberIfAny it.act_release × (row ≡ period_row it)
+
+abbrev pub segment_row : SegmentRecord → Row
+segment_row it = Text it.pairing ∷ Int (pos it.period) ∷ Int (pos it.number) ∷ Text it.flight ∷ Text it.origin ∷ Text it.destination ∷ Int (pos it.out_at) ∷ Int (pos it.in_at) ∷ number_or_null it.act_out ∷ number_or_null it.act_in ∷ []
+
+abbrev pub IsSegmentRow : Row → Type 0
+IsSegmentRow row = (it : SegmentRecord) × IsUtf8 it.pairing × IsNumber it.period × IsNumber it.number × IsUtf8 it.flight × IsUtf8 it.origin × IsUtf8 it.destination × IsNumber it.out_at × IsNumber it.in_at × IsNumberIfAny it.act_out × IsNumberIfAny it.act_in × (row ≡ segment_row it)
+
+abbrev pub seat_row : SeatRecord → Row
+seat_row it = Text it.pairing ∷ Int (pos it.seat) ∷ Text it.crew ∷ []
+
+abbrev pub IsSeatRow : Row → Type 0
+IsSeatRow row = (it : SeatRecord) × IsUtf8 it.pairing × IsNumber it.seat × IsUtf8 it.crew × (row ≡ seat_row it)
+
+abbrev pub ground_row : GroundRecord → Row
+ground_row it = Text it.id ∷ Text it.crew ∷ Text it.task ∷ Int (pos it.begin_at) ∷ Int (pos it.end_at) ∷ []
+
+abbrev pub IsGroundRow : Row → Type 0
+IsGroundRow row = (it : GroundRecord) × IsUtf8 it.id × IsUtf8 it.crew × IsUtf8 it.task × IsNumber it.begin_at × IsNumber it.end_at × (row ≡ ground_row it)
+
+abbrev pub exceedance_row : ExceedanceRecord → Row
+exceedance_row it = Int it.number ∷ Int (pos it.part) ∷ Text it.crew ∷ Int (pos it.section) ∷ Text it.pairing ∷ Int (pos it.period) ∷ []
+
+abbrev pub IsExceedanceRow : Row → Type 0
+IsExceedanceRow row = (it : ExceedanceRecord) × IsNumber it.part × IsUtf8 it.crew × IsNumber it.section × IsUtf8 it.pairing × IsNumber it.period × (row ≡ exceedance_row it)
+
+abbrev pub request_row : RequestRecord → Row
+request_row it = Int it.number ∷ Int (pos it.part) ∷ Text it.command ∷ Text it.reply ∷ []
+
+abbrev pub IsRequestRow : Row → Type 0
+IsRequestRow row = (it : RequestRecord) × IsNumber it.part × IsUtf8 it.command × IsUtf8 it.reply × (row ≡ request_row it)
+
+-- ---- actual times: the other columns are written again as their columns keep them, so those of a record stay
+
+abbrev pub with_period_times : ℕ → ℕ → Row → Row
+with_period_times report release row =
+    cast_all period_table.columns (column row 0 ∷ column row 1 ∷ column row 2 ∷ column row 3 ∷ Int (pos report) ∷ Int (pos release) ∷ [])
+
+abbrev pub with_segment_times : ℕ → ℕ → Row → Row
+with_segment_times block_out block_in row =
+    cast_all segment_table.columns
+    (column row 0 ∷ column row 1 ∷ column row 2 ∷ column row 3 ∷ column row 4 ∷ column row 5 ∷ column row 6 ∷ column row 7 ∷ Int (pos block_out) ∷ Int (pos block_in) ∷ [])

@@ -1,0 +1,140 @@
+//! The table `exceedance`.
+
+ghost use Rattle.std.specs.Prelude.{[], ◌≡◌, map, IfOk, IsTrue};
+ghost use Rattle.sqlite.specs.Held.{state};
+ghost use Rattle.tables.specs.Schema.{exceedance_table, before, table_of};
+ghost use Rattle.tables.specs.Rows.{Makes, Inserts, begins_with, FindsInOrder, HasNoRecord};
+ghost use Rattle.tables.specs.Records.{exceedance_row, IsExceedanceRow};
+ghost use Rattle.tables.specs.Calls.{HoldsMade, HoldsBook, Ran, MayLeave, ReadAs, Loaded, LeavesNothing};
+
+use crate::declared::is_declared;
+use crate::loading::load;
+use crate::reading::{Record, column, has_width, read_all};
+use crate::statement::run;
+use crate::table_fault::TableFault;
+use sqlite::{Alter, Connection, Row, params};
+use sqlite_schema::schema::Table;
+use std::alloc::Global;
+use values::{Copied, MemoryFault, Text};
+
+/// A limit that a flown period broke.
+#[derive(Drop)]
+pub struct ExceedanceRecord {
+    /// With `part` the key of the actual.
+    pub number: i64,
+    pub part: u32,
+    /// Whose limit it is.
+    pub crew: Text,
+    /// 1 to 8, in the order of the sections.
+    pub section: u32,
+    pub pairing: Text,
+    pub period: u32,
+}
+
+impl Copied for ExceedanceRecord {
+    fn copy(&self, alloc: Global) -> Result<ExceedanceRecord, MemoryFault> {
+        Ok(ExceedanceRecord {
+            number: self.number,
+            part: self.part,
+            crew: self.crew.copy(alloc)?,
+            section: self.section,
+            pairing: self.pairing.copy(alloc)?,
+            period: self.period,
+        })
+    }
+}
+
+impl Record for ExceedanceRecord {
+    ghost row = { exceedance_row };
+
+    ghost is_record = { IsExceedanceRow };
+
+    fn read(from: &Row, first: usize) -> Result<ExceedanceRecord, TableFault> {
+        if !has_width(from, first, 6) {
+            return Err(TableFault::NotARecord);
+        }
+        Ok(ExceedanceRecord {
+            number: column(from, first, 0)?,
+            part: column(from, first, 1)?,
+            crew: Text::new(column(from, first, 2)?),
+            section: column(from, first, 3)?,
+            pairing: Text::new(column(from, first, 4)?),
+            period: column(from, first, 5)?,
+        })
+    }
+}
+
+const CREATE: &str =
+    "CREATE TABLE exceedance (number INTEGER NOT NULL, part INTEGER NOT NULL, crew TEXT NOT NULL, section INTEGER NOT NULL, pairing TEXT NOT NULL, period INTEGER NOT NULL, PRIMARY KEY (number, part, crew, section)) STRICT";
+
+/// Whether a table is declared as `create_exceedance` declares it, in the tree that it gets in an empty database.
+pub(crate) fn is_exceedance_table(alloc: Global, table: &Table) -> Result<bool, TableFault>
+    ensures { IfOk result (λ yes. IsTrue yes → table.now ≡ table_of exceedance_table) }
+{
+    is_declared(alloc, table, CREATE, 16)
+}
+
+/// Makes the table.
+pub fn create_exceedance<S: Alter>(conn: &mut Connection<S>) -> Result<(), TableFault>
+    requires { HoldsMade (before exceedance_table) (state S.Store conn.old) }
+    ensures ran { Ran (Makes exceedance_table) (state S.Store conn.old) (state S.Store conn.new) result }
+    ensures crash { MayLeave (Makes exceedance_table) (state S.Store conn.old) (state S.Store conn.new) }
+{
+    run(conn, CREATE, &[])
+}
+
+/// Adds an exceedance.
+pub fn insert_exceedance<S: Alter>(
+    conn: &mut Connection<S>,
+    exceedance: &ExceedanceRecord,
+) -> Result<(), TableFault>
+    requires { HoldsBook (state S.Store conn.old) }
+    ensures ran { Ran (Inserts exceedance_table (exceedance_row exceedance.now)) (state S.Store conn.old) (state S.Store conn.new) result }
+    ensures crash { MayLeave (Inserts exceedance_table (exceedance_row exceedance.now)) (state S.Store conn.old) (state S.Store conn.new) }
+{
+    run(
+        conn,
+        "INSERT INTO exceedance (number, part, crew, section, pairing, period) VALUES (?1, ?2, ?3, ?4, ?5, ?6)",
+        params![
+            &exceedance.number,
+            exceedance.part,
+            exceedance.crew.as_str(),
+            exceedance.section,
+            exceedance.pairing.as_str(),
+            exceedance.period
+        ],
+    )
+}
+
+/// All records of the table, in any order.
+pub fn load_exceedances<S: Alter>(
+    alloc: Global,
+    conn: &mut Connection<S>,
+) -> Result<Vec<ExceedanceRecord>, TableFault>
+    requires { HoldsBook (state S.Store conn.old) }
+    ensures loaded { Loaded exceedance_table IsExceedanceRow (λ found. map exceedance_row found.items) (state S.Store conn.old) (state S.Store conn.new) result }
+    ensures crash { LeavesNothing (state S.Store conn.old) (state S.Store conn.new) }
+{
+    load(
+        alloc,
+        conn,
+        "SELECT rowid, number, part, crew, section, pairing, period FROM exceedance ORDER BY rowid",
+    )
+}
+
+/// All exceedances, in the order of number, part, member and section.
+pub fn exceedances<S: Alter>(
+    alloc: Global,
+    conn: &mut Connection<S>,
+) -> Result<Vec<ExceedanceRecord>, TableFault>
+    requires { HoldsBook (state S.Store conn.old) }
+    ensures read { ReadAs (λ db found. FindsInOrder 4 exceedance_table db (map exceedance_row found.items)) (HasNoRecord exceedance_table (begins_with []) IsExceedanceRow) (state S.Store conn.old) (state S.Store conn.new) result }
+    ensures crash { LeavesNothing (state S.Store conn.old) (state S.Store conn.new) }
+{
+    read_all(
+        alloc,
+        conn,
+        "SELECT number, part, crew, section, pairing, period FROM exceedance ORDER BY number, part, crew, section",
+        &[],
+    )
+}

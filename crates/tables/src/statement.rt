@@ -1,0 +1,21 @@
+ghost use Rattle.sqlite.specs.Values.{bound};
+ghost use Rattle.sqlite.specs.State.{HasCleanDisk, Survives, CommitsBy};
+ghost use Rattle.sqlite.specs.Held.{state};
+ghost use Rattle.tables.specs.Texts.{Performs};
+
+use crate::table_fault::TableFault;
+use sqlite::{Alter, Connection};
+use sqlite_value::value::ValueRef;
+
+/// Runs one statement that changes a table.
+pub(crate) fn run<S: Alter>(
+    conn: &mut Connection<S>,
+    sql: &str,
+    params: &[ValueRef<'_>],
+) -> Result<(), TableFault>
+    ensures runs { HasCleanDisk (state S.Store conn.new) → Performs sql.now (bound params.now) (state S.Store conn.old) (state S.Store conn.new) result }
+    ensures survives { Survives (state S.Store conn.old) (state S.Store conn.new) (CommitsBy sql.now (bound params.now) (state S.Store conn.old)) }
+{
+    conn.execute(sql, params)?;
+    Ok(())
+}

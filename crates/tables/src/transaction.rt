@@ -1,0 +1,34 @@
+//! Transactions as texts of their own, so that the functions on tables serve inside and outside one.
+
+ghost use Rattle.std.specs.Prelude.{◌≡◌};
+ghost use Rattle.sqlite.specs.State.{IsRolledBack, Survives};
+ghost use Rattle.sqlite.specs.Held.{state};
+ghost use Rattle.tables.specs.Calls.{Begun, Committed, Gave, LeavesNothing};
+
+use crate::statement::run;
+use crate::table_fault::TableFault;
+use sqlite::{Alter, Connection};
+
+/// Begins a transaction.
+pub fn begin<S: Alter>(conn: &mut Connection<S>) -> Result<(), TableFault>
+    ensures gave { Gave (Begun (state S.Store conn.old) (state S.Store conn.new)) (state S.Store conn.old) (state S.Store conn.new) result }
+    ensures crash { LeavesNothing (state S.Store conn.old) (state S.Store conn.new) }
+{
+    run(conn, "BEGIN", &[])
+}
+
+/// Commits the transaction. After a fault what it changed is lost, or committed.
+pub fn commit<S: Alter>(conn: &mut Connection<S>) -> Result<(), TableFault>
+    ensures gave { Gave (Committed (state S.Store conn.old) (state S.Store conn.new)) (state S.Store conn.old) (state S.Store conn.new) result }
+    ensures crash { Survives (state S.Store conn.old) (state S.Store conn.new) (λ trees. trees ≡ (state S.Store conn.old).now.trees) }
+{
+    run(conn, "COMMIT", &[])
+}
+
+/// Takes back what the transaction changed.
+pub fn rollback<S: Alter>(conn: &mut Connection<S>) -> Result<(), TableFault>
+    ensures gave { Gave (IsRolledBack (state S.Store conn.old) (state S.Store conn.new)) (state S.Store conn.old) (state S.Store conn.new) result }
+    ensures crash { LeavesNothing (state S.Store conn.old) (state S.Store conn.new) }
+{
+    run(conn, "ROLLBACK", &[])
+}
