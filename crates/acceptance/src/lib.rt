@@ -4,8 +4,6 @@
 #[cfg(test)]
 mod command_line;
 #[cfg(test)]
-mod judgement;
-#[cfg(test)]
 mod shut;
 #[cfg(test)]
 mod verdicts;
