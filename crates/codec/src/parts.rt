@@ -70,6 +70,7 @@ impl Model for PeriodNumber {
 impl PeriodNumber {
     ghost use Rattle.std.specs.Prelude.{◌≤◌};
 
+    /// From 1 to 10.
     pub fn get(self) -> u8
         ensures number { result ≡ self }
         ensures low { 1 ≤ result }

@@ -4,8 +4,12 @@
 #[cfg(test)]
 mod assignments;
 #[cfg(test)]
-mod builders;
+mod copies;
 #[cfg(test)]
 mod desk;
 #[cfg(test)]
+mod flown_periods;
+#[cfg(test)]
 mod judgement;
+#[cfg(test)]
+mod requests;

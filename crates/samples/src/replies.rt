@@ -1,0 +1,30 @@
+use crate::ids::crew_id;
+use crate::unmade::Unmade;
+use command::{Exceedance, Refusal, Reply};
+use limits::Section;
+use std::alloc::Global;
+use values::Items;
+
+/// Exceedances, each a member and the section that the member broke.
+pub fn exceedances(alloc: Global, list: &[(&str, Section)]) -> Result<Items<Exceedance>, Unmade> {
+    let mut exceedances = Vec::new(alloc);
+    for (who, section) in list {
+        exceedances.push(Exceedance {
+            crew: crew_id(alloc, who)?,
+            section: *section,
+        })?;
+    }
+    Ok(Items::new(exceedances))
+}
+
+/// The reply to an accepted command that recorded these exceedances.
+pub fn reply(alloc: Global, list: &[(&str, Section)]) -> Result<Reply, Unmade> {
+    Ok(Reply {
+        exceedances: exceedances(alloc, list)?,
+    })
+}
+
+/// The refusal for the one limit that a member breaks.
+pub fn over(alloc: Global, who: &str, section: Section) -> Result<Refusal, Unmade> {
+    Ok(Refusal::Limits(exceedances(alloc, &[(who, section)])?))
+}
