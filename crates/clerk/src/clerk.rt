@@ -22,21 +22,23 @@ pub struct Clerk<S: Alter> {
     conn: Connection<S>,
 }
 
-/// Records as lines, as they come.
-fn told<R: Filed>(alloc: Global, found: &[R]) -> Result<String, TableFault> {
+fn lines_of<R: Filed>(alloc: Global, found: &[R]) -> Result<Vec<String>, TableFault> {
     let mut lines = Vec::new(alloc);
     for record in found {
         lines.push(record.line(alloc)?)?;
     }
+    Ok(lines)
+}
+
+/// Records as lines, as they come.
+fn told<R: Filed>(alloc: Global, found: &[R]) -> Result<String, TableFault> {
+    let lines = lines_of(alloc, found)?;
     joined(alloc, lines.as_slice())
 }
 
 /// Records as lines in the order of the alphabet.
 fn sorted<R: Filed>(alloc: Global, found: &[R]) -> Result<String, TableFault> {
-    let mut lines = Vec::new(alloc);
-    for record in found {
-        lines.push(record.line(alloc)?)?;
-    }
+    let mut lines = lines_of(alloc, found)?;
     lines.sort()?;
     joined(alloc, lines.as_slice())
 }

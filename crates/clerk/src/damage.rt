@@ -58,3 +58,15 @@ fn the_tables_refuse_null_and_values_of_other_types(rt: HostRuntime) -> Result<(
     assert_eq!(rt; clerk.all::<CrewRecord>()?.as_str(), "C1|0|Ada Ray");
     Ok(())
 }
+
+#[test]
+fn faults_are_told(rt: HostRuntime) -> Result<(), Fail> {
+    for (fault, told) in [
+        (TableFault::Store, "90 Store"),
+        (TableFault::Memory, "91 Memory"),
+        (TableFault::NotARecord, "a row is no record of its table"),
+    ] {
+        assert_eq!(rt; format!(in rt.alloc(); "{fault}")?.as_str(), told);
+    }
+    Ok(())
+}

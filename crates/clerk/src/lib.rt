@@ -1,5 +1,5 @@
-//! A clerk of the tables: it looks whether a database is a book before each call on its tables, and tells what it finds as
-//! lines. The tests call each function of the tables through it, over memory.
+//! A clerk of the tables: it looks whether a database is a book before each call on its tables, and tells what it finds
+//! as lines. The tests call each function of the tables through it, over memory.
 #![tactic(auto)]
 
 #[cfg(test)]

@@ -1,6 +1,6 @@
-//! Reads a member's seats from a table of many, or the whole table, to be timed from outside (bench/tables.sh). Its words: a
-//! file, or `memory`; how many seats its table has, which are added where there is no table yet; how many times a member's
-//! seats are read; and how many times the whole table is. `memory`, 1200, 10 and 1 if left out.
+//! Reads a member's seats from a table of many, or the whole table, to be timed from outside (bench/tables.sh). Its
+//! words: a file, or `memory`; how many seats its table has, which are added where there is no table yet; how many
+//! times a member's seats are read; and how many times the whole table is. `memory`, 1200, 10 and 1 if left out.
 //!
 //! By the words `sample` and a new file it writes a small book there, for `sqlite3` to read (tests/file.sh).
 #![tactic(auto)]
