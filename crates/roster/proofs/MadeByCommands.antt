@@ -17,9 +17,9 @@ use Rattle.limits.specs.declared.section.Section.TheVariants as section
 use Rattle.command.specs.Keys.{KeyParts}
 use Rattle.command.specs.Orders.{IsMade}
 use Rattle.command.specs.declared.order.Order.{Order}
-use Rattle.roster.specs.Folds.{Asked, left_by, next, Fold}
+use Rattle.roster.specs.Folds.{Asked, left_by, next}
 use Rattle.roster.specs.Honest.{Honest}
-use Rattle.roster.specs.Laws.{AreMade, KeepsHonest, KeepsSound, MadeByCommands, StartsSound, StaysHonest, StaysSound}
+use Rattle.roster.specs.Laws.{KeepsHonest, KeepsSound, MadeByCommands, StartsSound, StaysHonest, StaysSound}
 use Rattle.roster.specs.Pairings.{holds}
 use Rattle.roster.specs.Places.{duties, grounds_of, ground_at, history_of, periods_at}
 use Rattle.roster.specs.Sound.{Sound}
