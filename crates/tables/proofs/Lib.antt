@@ -1,3 +1,5 @@
+pub mod Known
+pub mod Compiling
 pub mod Survival
 pub mod Inserting
 pub mod Statements
@@ -8,7 +10,6 @@ pub mod Creating
 pub mod ReadingLemmas
 pub mod Selecting
 pub mod LoadingLemmas
-pub mod DeclaredLemmas
 pub mod KeyLemmas
 pub mod Transactions
 pub mod BookTexts

@@ -5,7 +5,7 @@ use Rattle.sqlite.specs.Effect.{Database}
 use Rattle.sqlite.specs.State.{State, Shows, IsUnchanged, IsRolledBack, Survives, HasCleanDisk}
 use Rattle.tables.specs.declared.table_fault.TableFault.{TableFault}
 use Rattle.tables.specs.declared.table_fault.TableFault.TheVariants.{NotARecord}
-use Rattle.tables.specs.Schema.{BookTable, IsBook, made}
+use Rattle.tables.specs.Schema.{BookTable, IsBook, IsTable, IsUnreferenced}
 use Rattle.tables.specs.Rows.{IsStored, Finds, HasNoRecord, begins_with}
 
 -- All that is said of a database holds as long as the disk has returned what was written.
@@ -14,9 +14,13 @@ use Rattle.tables.specs.Rows.{IsStored, Finds, HasNoRecord, begins_with}
 abbrev pub HoldsBook : State → Type 0
 HoldsBook s = HasCleanDisk s → IsBook s.now.schema
 
--- just these tables are there
-abbrev pub HoldsMade : List BookTable → State → Type 0
-HoldsMade tables s = HasCleanDisk s → s.now.schema ≡ made tables
+-- this one is there
+abbrev pub HoldsTable : BookTable → State → Type 0
+HoldsTable table s = HasCleanDisk s → IsTable table s.now.schema
+
+-- no foreign key refers to it
+abbrev pub HoldsUnreferenced : BookTable → State → Type 0
+HoldsUnreferenced table s = HasCleanDisk s → IsUnreferenced table s.now.schema
 
 -- outside a transaction the change is committed; else it waits for the commit
 pub record Takes (old new : State) : Type 0 where

@@ -1,20 +1,18 @@
 //! The table `ground`.
 
-ghost use Rattle.std.specs.Prelude.{[], ◌∷◌, ◌≡◌, map, IfOk, IsTrue};
+ghost use Rattle.std.specs.Prelude.{[], ◌∷◌, map};
 ghost use Rattle.sqlite_value.specs.declared.value.Value.TheVariants as value;
 ghost use Rattle.sqlite.specs.Held.{state};
-ghost use Rattle.tables.specs.Schema.{ground_table, before, table_of};
+ghost use Rattle.tables.specs.Schema.{ground_table};
 ghost use Rattle.tables.specs.Rows.{Makes, Inserts, Deletes, begins_with, equals_at};
 ghost use Rattle.tables.specs.Records.{ground_row, IsGroundRow};
-ghost use Rattle.tables.specs.Calls.{HoldsMade, HoldsBook, Ran, MayLeave, Read, Loaded, LeavesNothing};
+ghost use Rattle.tables.specs.Calls.{HoldsTable, HoldsUnreferenced, Ran, MayLeave, Read, Loaded, LeavesNothing};
 
-use crate::declared::is_declared;
 use crate::loading::load;
 use crate::reading::{Record, column, has_width, read_all};
 use crate::statement::run;
 use crate::table_fault::TableFault;
 use sqlite::{Alter, Connection, Row, params};
-use sqlite_schema::schema::Table;
 use std::alloc::Global;
 use values::{Copied, MemoryFault, Text};
 
@@ -63,16 +61,8 @@ impl Record for GroundRecord {
 const CREATE: &str =
     "CREATE TABLE ground (id TEXT NOT NULL, crew TEXT NOT NULL, task TEXT NOT NULL, begin_at INTEGER NOT NULL, end_at INTEGER NOT NULL, PRIMARY KEY (id), UNIQUE (crew, id)) STRICT";
 
-/// Whether a table is declared as `create_ground` declares it, in the tree that it gets in an empty database.
-pub(crate) fn is_ground_table(alloc: Global, table: &Table) -> Result<bool, TableFault>
-    ensures { IfOk result (λ yes. IsTrue yes → table.now ≡ table_of ground_table) }
-{
-    is_declared(alloc, table, CREATE, 13)
-}
-
 /// Makes the table.
 pub fn create_ground<S: Alter>(conn: &mut Connection<S>) -> Result<(), TableFault>
-    requires { HoldsMade (before ground_table) (state S.Store conn.old) }
     ensures ran { Ran (Makes ground_table) (state S.Store conn.old) (state S.Store conn.new) result }
     ensures crash { MayLeave (Makes ground_table) (state S.Store conn.old) (state S.Store conn.new) }
 {
@@ -84,7 +74,7 @@ pub fn insert_ground<S: Alter>(
     conn: &mut Connection<S>,
     ground: &GroundRecord,
 ) -> Result<(), TableFault>
-    requires { HoldsBook (state S.Store conn.old) }
+    requires { HoldsTable ground_table (state S.Store conn.old) }
     ensures ran { Ran (Inserts ground_table (ground_row ground.now)) (state S.Store conn.old) (state S.Store conn.new) result }
     ensures crash { MayLeave (Inserts ground_table (ground_row ground.now)) (state S.Store conn.old) (state S.Store conn.new) }
 {
@@ -106,7 +96,7 @@ pub fn load_grounds<S: Alter>(
     alloc: Global,
     conn: &mut Connection<S>,
 ) -> Result<Vec<GroundRecord>, TableFault>
-    requires { HoldsBook (state S.Store conn.old) }
+    requires { HoldsTable ground_table (state S.Store conn.old) }
     ensures loaded { Loaded ground_table IsGroundRow (λ found. map ground_row found.items) (state S.Store conn.old) (state S.Store conn.new) result }
     ensures crash { LeavesNothing (state S.Store conn.old) (state S.Store conn.new) }
 {
@@ -123,7 +113,7 @@ pub fn ground_by_id<S: Alter>(
     conn: &mut Connection<S>,
     id: &str,
 ) -> Result<Vec<GroundRecord>, TableFault>
-    requires { HoldsBook (state S.Store conn.old) }
+    requires { HoldsTable ground_table (state S.Store conn.old) }
     ensures read { Read ground_table (begins_with (value.Text id.now ∷ [])) IsGroundRow (λ found. map ground_row found.items) (state S.Store conn.old) (state S.Store conn.new) result }
     ensures crash { LeavesNothing (state S.Store conn.old) (state S.Store conn.new) }
 {
@@ -141,7 +131,7 @@ pub fn grounds_by_crew<S: Alter>(
     conn: &mut Connection<S>,
     crew: &str,
 ) -> Result<Vec<GroundRecord>, TableFault>
-    requires { HoldsBook (state S.Store conn.old) }
+    requires { HoldsTable ground_table (state S.Store conn.old) }
     ensures read { Read ground_table (equals_at 1 (value.Text crew.now)) IsGroundRow (λ found. map ground_row found.items) (state S.Store conn.old) (state S.Store conn.new) result }
     ensures crash { LeavesNothing (state S.Store conn.old) (state S.Store conn.new) }
 {
@@ -155,7 +145,8 @@ pub fn grounds_by_crew<S: Alter>(
 
 /// Removes the ground duty with this id.
 pub fn delete_ground<S: Alter>(conn: &mut Connection<S>, id: &str) -> Result<(), TableFault>
-    requires { HoldsBook (state S.Store conn.old) }
+    requires there { HoldsTable ground_table (state S.Store conn.old) }
+    requires free { HoldsUnreferenced ground_table (state S.Store conn.old) }
     ensures ran { Ran (Deletes ground_table (begins_with (value.Text id.now ∷ []))) (state S.Store conn.old) (state S.Store conn.new) result }
     ensures crash { MayLeave (Deletes ground_table (begins_with (value.Text id.now ∷ []))) (state S.Store conn.old) (state S.Store conn.new) }
 {

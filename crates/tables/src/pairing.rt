@@ -1,20 +1,18 @@
 //! The table `pairing`.
 
-ghost use Rattle.std.specs.Prelude.{[], ◌∷◌, ◌≡◌, map, IfOk, IsTrue};
+ghost use Rattle.std.specs.Prelude.{[], ◌∷◌, map};
 ghost use Rattle.sqlite_value.specs.declared.value.Value.TheVariants as value;
 ghost use Rattle.sqlite.specs.Held.{state};
-ghost use Rattle.tables.specs.Schema.{pairing_table, before, table_of};
+ghost use Rattle.tables.specs.Schema.{pairing_table};
 ghost use Rattle.tables.specs.Rows.{Makes, Inserts, Deletes, begins_with};
 ghost use Rattle.tables.specs.Records.{pairing_row, IsPairingRow};
-ghost use Rattle.tables.specs.Calls.{HoldsMade, HoldsBook, Ran, MayLeave, Read, Loaded, LeavesNothing};
+ghost use Rattle.tables.specs.Calls.{HoldsTable, HoldsUnreferenced, Ran, MayLeave, Read, Loaded, LeavesNothing};
 
-use crate::declared::is_declared;
 use crate::loading::load;
 use crate::reading::{Record, column, has_width, read_all};
 use crate::statement::run;
 use crate::table_fault::TableFault;
 use sqlite::{Alter, Connection, Row, params};
-use sqlite_schema::schema::Table;
 use std::alloc::Global;
 use values::{Copied, MemoryFault, Text};
 
@@ -49,16 +47,8 @@ impl Record for PairingRecord {
 
 const CREATE: &str = "CREATE TABLE pairing (id TEXT NOT NULL, PRIMARY KEY (id)) STRICT";
 
-/// Whether a table is declared as `create_pairing` declares it, in the tree that it gets in an empty database.
-pub(crate) fn is_pairing_table(alloc: Global, table: &Table) -> Result<bool, TableFault>
-    ensures { IfOk result (λ yes. IsTrue yes → table.now ≡ table_of pairing_table) }
-{
-    is_declared(alloc, table, CREATE, 4)
-}
-
 /// Makes the table.
 pub fn create_pairing<S: Alter>(conn: &mut Connection<S>) -> Result<(), TableFault>
-    requires { HoldsMade (before pairing_table) (state S.Store conn.old) }
     ensures ran { Ran (Makes pairing_table) (state S.Store conn.old) (state S.Store conn.new) result }
     ensures crash { MayLeave (Makes pairing_table) (state S.Store conn.old) (state S.Store conn.new) }
 {
@@ -70,7 +60,7 @@ pub fn insert_pairing<S: Alter>(
     conn: &mut Connection<S>,
     pairing: &PairingRecord,
 ) -> Result<(), TableFault>
-    requires { HoldsBook (state S.Store conn.old) }
+    requires { HoldsTable pairing_table (state S.Store conn.old) }
     ensures ran { Ran (Inserts pairing_table (pairing_row pairing.now)) (state S.Store conn.old) (state S.Store conn.new) result }
     ensures crash { MayLeave (Inserts pairing_table (pairing_row pairing.now)) (state S.Store conn.old) (state S.Store conn.new) }
 {
@@ -86,7 +76,7 @@ pub fn load_pairings<S: Alter>(
     alloc: Global,
     conn: &mut Connection<S>,
 ) -> Result<Vec<PairingRecord>, TableFault>
-    requires { HoldsBook (state S.Store conn.old) }
+    requires { HoldsTable pairing_table (state S.Store conn.old) }
     ensures loaded { Loaded pairing_table IsPairingRow (λ found. map pairing_row found.items) (state S.Store conn.old) (state S.Store conn.new) result }
     ensures crash { LeavesNothing (state S.Store conn.old) (state S.Store conn.new) }
 {
@@ -99,7 +89,7 @@ pub fn pairing_by_id<S: Alter>(
     conn: &mut Connection<S>,
     id: &str,
 ) -> Result<Vec<PairingRecord>, TableFault>
-    requires { HoldsBook (state S.Store conn.old) }
+    requires { HoldsTable pairing_table (state S.Store conn.old) }
     ensures read { Read pairing_table (begins_with (value.Text id.now ∷ [])) IsPairingRow (λ found. map pairing_row found.items) (state S.Store conn.old) (state S.Store conn.new) result }
     ensures crash { LeavesNothing (state S.Store conn.old) (state S.Store conn.new) }
 {
@@ -113,7 +103,8 @@ pub fn pairing_by_id<S: Alter>(
 
 /// Removes the pairing with this id.
 pub fn delete_pairing<S: Alter>(conn: &mut Connection<S>, id: &str) -> Result<(), TableFault>
-    requires { HoldsBook (state S.Store conn.old) }
+    requires there { HoldsTable pairing_table (state S.Store conn.old) }
+    requires free { HoldsUnreferenced pairing_table (state S.Store conn.old) }
     ensures ran { Ran (Deletes pairing_table (begins_with (value.Text id.now ∷ []))) (state S.Store conn.old) (state S.Store conn.new) result }
     ensures crash { MayLeave (Deletes pairing_table (begins_with (value.Text id.now ∷ []))) (state S.Store conn.old) (state S.Store conn.new) }
 {

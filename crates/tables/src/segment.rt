@@ -1,20 +1,18 @@
 //! The table `segment`.
 
-ghost use Rattle.std.specs.Prelude.{[], ◌∷◌, ◌≡◌, map, IfOk, IsTrue, pos};
+ghost use Rattle.std.specs.Prelude.{[], ◌∷◌, map, pos};
 ghost use Rattle.sqlite_value.specs.declared.value.Value.TheVariants as value;
 ghost use Rattle.sqlite.specs.Held.{state};
-ghost use Rattle.tables.specs.Schema.{segment_table, before, table_of};
+ghost use Rattle.tables.specs.Schema.{segment_table};
 ghost use Rattle.tables.specs.Rows.{Makes, Inserts, Deletes, Updates, begins_with};
 ghost use Rattle.tables.specs.Records.{segment_row, IsSegmentRow, with_segment_times};
-ghost use Rattle.tables.specs.Calls.{HoldsMade, HoldsBook, Ran, MayLeave, Read, Loaded, LeavesNothing};
+ghost use Rattle.tables.specs.Calls.{HoldsTable, HoldsUnreferenced, Ran, MayLeave, Read, Loaded, LeavesNothing};
 
-use crate::declared::is_declared;
 use crate::loading::load;
 use crate::reading::{Record, column, has_width, read_all};
 use crate::statement::run;
 use crate::table_fault::TableFault;
 use sqlite::{Alter, Connection, Row, params};
-use sqlite_schema::schema::Table;
 use std::alloc::Global;
 use values::{Copied, MemoryFault, Text};
 
@@ -83,16 +81,8 @@ impl Record for SegmentRecord {
 const CREATE: &str =
     "CREATE TABLE segment (pairing TEXT NOT NULL, period INTEGER NOT NULL, number INTEGER NOT NULL, flight TEXT NOT NULL, origin TEXT NOT NULL, destination TEXT NOT NULL, out_at INTEGER NOT NULL, in_at INTEGER NOT NULL, act_out INTEGER, act_in INTEGER, PRIMARY KEY (pairing, period, number)) STRICT";
 
-/// Whether a table is declared as `create_segment` declares it, in the tree that it gets in an empty database.
-pub(crate) fn is_segment_table(alloc: Global, table: &Table) -> Result<bool, TableFault>
-    ensures { IfOk result (λ yes. IsTrue yes → table.now ≡ table_of segment_table) }
-{
-    is_declared(alloc, table, CREATE, 8)
-}
-
 /// Makes the table.
 pub fn create_segment<S: Alter>(conn: &mut Connection<S>) -> Result<(), TableFault>
-    requires { HoldsMade (before segment_table) (state S.Store conn.old) }
     ensures ran { Ran (Makes segment_table) (state S.Store conn.old) (state S.Store conn.new) result }
     ensures crash { MayLeave (Makes segment_table) (state S.Store conn.old) (state S.Store conn.new) }
 {
@@ -104,7 +94,7 @@ pub fn insert_segment<S: Alter>(
     conn: &mut Connection<S>,
     segment: &SegmentRecord,
 ) -> Result<(), TableFault>
-    requires { HoldsBook (state S.Store conn.old) }
+    requires { HoldsTable segment_table (state S.Store conn.old) }
     ensures ran { Ran (Inserts segment_table (segment_row segment.now)) (state S.Store conn.old) (state S.Store conn.new) result }
     ensures crash { MayLeave (Inserts segment_table (segment_row segment.now)) (state S.Store conn.old) (state S.Store conn.new) }
 {
@@ -131,7 +121,7 @@ pub fn load_segments<S: Alter>(
     alloc: Global,
     conn: &mut Connection<S>,
 ) -> Result<Vec<SegmentRecord>, TableFault>
-    requires { HoldsBook (state S.Store conn.old) }
+    requires { HoldsTable segment_table (state S.Store conn.old) }
     ensures loaded { Loaded segment_table IsSegmentRow (λ found. map segment_row found.items) (state S.Store conn.old) (state S.Store conn.new) result }
     ensures crash { LeavesNothing (state S.Store conn.old) (state S.Store conn.new) }
 {
@@ -148,7 +138,7 @@ pub fn segments_of<S: Alter>(
     conn: &mut Connection<S>,
     pairing: &str,
 ) -> Result<Vec<SegmentRecord>, TableFault>
-    requires { HoldsBook (state S.Store conn.old) }
+    requires { HoldsTable segment_table (state S.Store conn.old) }
     ensures read { Read segment_table (begins_with (value.Text pairing.now ∷ [])) IsSegmentRow (λ found. map segment_row found.items) (state S.Store conn.old) (state S.Store conn.new) result }
     ensures crash { LeavesNothing (state S.Store conn.old) (state S.Store conn.new) }
 {
@@ -162,7 +152,8 @@ pub fn segments_of<S: Alter>(
 
 /// Removes the segments of a pairing.
 pub fn delete_segments<S: Alter>(conn: &mut Connection<S>, pairing: &str) -> Result<(), TableFault>
-    requires { HoldsBook (state S.Store conn.old) }
+    requires there { HoldsTable segment_table (state S.Store conn.old) }
+    requires free { HoldsUnreferenced segment_table (state S.Store conn.old) }
     ensures ran { Ran (Deletes segment_table (begins_with (value.Text pairing.now ∷ []))) (state S.Store conn.old) (state S.Store conn.new) result }
     ensures crash { MayLeave (Deletes segment_table (begins_with (value.Text pairing.now ∷ []))) (state S.Store conn.old) (state S.Store conn.new) }
 {
@@ -182,7 +173,8 @@ pub fn update_segment<S: Alter>(
     block_out: u32,
     block_in: u32,
 ) -> Result<(), TableFault>
-    requires { HoldsBook (state S.Store conn.old) }
+    requires there { HoldsTable segment_table (state S.Store conn.old) }
+    requires free { HoldsUnreferenced segment_table (state S.Store conn.old) }
     ensures ran { Ran (Updates segment_table (begins_with (value.Text pairing.now ∷ value.Int (pos period) ∷ value.Int (pos number) ∷ [])) (with_segment_times block_out block_in)) (state S.Store conn.old) (state S.Store conn.new) result }
     ensures crash { MayLeave (Updates segment_table (begins_with (value.Text pairing.now ∷ value.Int (pos period) ∷ value.Int (pos number) ∷ [])) (with_segment_times block_out block_in)) (state S.Store conn.old) (state S.Store conn.new) }
 {
