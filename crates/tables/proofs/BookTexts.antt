@@ -1,5 +1,5 @@
 -- The texts on the table `book`.
-use Rattle.std.proofs.Common.{◌≡◌, List, [], ◌∷◌, codes, refl, ℕ, Ok, None}
+use Rattle.std.proofs.Common.{◌≡◌, List, [], ◌∷◌, codes, refl, ℕ, None}
 use Rattle.sqlite_value.specs.declared.value.Value.TheVariants.{Null}
 use Rattle.sqlite_schema.specs.declared.command.Source.TheVariants.{Values}
 use Rattle.sqlite_schema.specs.declared.command.Command.TheVariants.{Insert, Select}
@@ -9,10 +9,12 @@ use Rattle.sqlite_rules.specs.Cast.{cast_row}
 use Rattle.sqlite.specs.State.{State}
 use Rattle.tables.specs.declared.book.BookRecord.{BookRecord}
 use Rattle.tables.specs.Schema.{book_table, table_of, IsTable}
+use Rattle.tables.specs.Declarations.{HaveNoDefault, IsTextOf}
+use Rattle.sqlite_schema.specs.declared.schema.Column.{Column}
+use Rattle.std.proofs.lemmas.List.Elements.{All-from_recursion}
 use Rattle.tables.specs.Records.{book_row}
 use Rattle.tables.specs.Rows.{Makes, Inserts}
 use Rattle.tables.proofs.Inserting.{cast_null, cast_int}
-use Rattle.sqlite_resolve.specs.Compile.{table_defined_by}
 use Rattle.tables.proofs.Statements.{Writer, insert_writer}
 use Rattle.tables.proofs.Creating.{IsMaker, create_writer}
 use Rattle.tables.proofs.Answering.{plain_query}
@@ -37,8 +39,11 @@ create_book_maker = record { new = refl; whole = refl; defines = refl }
 pub create_book : (old : State) → Writer create_book_text [] (Makes book_table) old
 create_book = create_writer book_table create_book_text create_book_maker
 
-pub create_book_defines : table_defined_by create_book_text ≡ Ok (table_of book_table 0)
-create_book_defines = create_book_maker.defines
+no_default : HaveNoDefault book_table.columns
+no_default = All-from_recursion (λ (c : Column). c.default ≡ Null) book_table.columns (refl, (refl, (refl, tt)))
+
+pub create_book_declares : IsTextOf book_table create_book_text
+create_book_declares = record { defines = create_book_maker.defines; plain = no_default }
 
 -- ----
 

@@ -188,7 +188,7 @@ module _ (old after : Database) (t : Table) (adds : Adds old after t) where
     found = subst (λ ts. find (λ u. same_name u.name other.name) ts ≡ Some (table_of other there.tree)) (sym tables_are)
         (find_stays (λ (u : Table). same_name u.name other.name) old.schema.tables (in_next old.schema t ∷ []) (table_of other there.tree) there.found);
     low = there.low;
-    alone = subst (AllByRecursion (λ u. u.tree ≡ there.tree → u ≡ table_of other there.tree)) (sym tables_are)
+    alone = subst (AllByRecursion (λ u. u.tree ≡ there.tree → u.name ≡ other.name)) (sym tables_are)
         (all_from _ (old.schema.tables ++ in_next old.schema t ∷ []) (λ u h same. elim (has_either old.schema.tables (in_next old.schema t ∷ []) u h) [
           | inl was ↦ all_has _ old.schema.tables u there.alone was same
           | inr new ↦ elim new [
@@ -230,10 +230,10 @@ module _ (old after : Database) (t : Table) (adds : Adds old after t) where
       found = subst (λ ts. find (λ u. same_name u.name kept.name) ts ≡ Some (table_of kept (next_tree old.schema))) (sym tables_end)
           (find_end (λ (u : Table). same_name u.name kept.name) old.schema.tables (table_of kept (next_tree old.schema)) name_free (same_itself kept.name));
       low = low;
-      alone = subst (AllByRecursion (λ u. u.tree ≡ next_tree old.schema → u ≡ table_of kept (next_tree old.schema))) (sym tables_end)
+      alone = subst (AllByRecursion (λ u. u.tree ≡ next_tree old.schema → u.name ≡ kept.name)) (sym tables_end)
           (all_from _ (old.schema.tables ++ table_of kept (next_tree old.schema) ∷ []) (λ u h same. elim (has_either old.schema.tables (table_of kept (next_tree old.schema) ∷ []) u h) [
             | inl was ↦ absurd (omega (arith, table_below old.schema u was))
-            | inr new ↦ elim new [ inl it ↦ it | inr none ↦ absurd none ]
+            | inr new ↦ elim new [ inl it ↦ ap (λ (v : Table). v.name) it | inr none ↦ absurd none ]
           ]));
     }
 

@@ -1,5 +1,5 @@
 -- The texts on the table `crew`.
-use Rattle.std.proofs.Common.{◌≡◌, List, [], ◌∷◌, codes, refl, ℕ, Ok, pos, None, Some}
+use Rattle.std.proofs.Common.{◌≡◌, List, [], ◌∷◌, codes, refl, ℕ, pos, None, Some}
 use Rattle.sqlite_value.specs.declared.value.Value.TheVariants.{Null, Text}
 use Rattle.sqlite_schema.specs.declared.command.Source.TheVariants.{Values}
 use Rattle.sqlite_schema.specs.declared.command.Command.TheVariants.{Insert, Select}
@@ -9,10 +9,12 @@ use Rattle.sqlite_rules.specs.Cast.{cast_row}
 use Rattle.sqlite.specs.State.{State}
 use Rattle.tables.specs.declared.crew.CrewRecord.{CrewRecord}
 use Rattle.tables.specs.Schema.{crew_table, table_of, IsTable}
+use Rattle.tables.specs.Declarations.{HaveNoDefault, IsTextOf}
+use Rattle.sqlite_schema.specs.declared.schema.Column.{Column}
+use Rattle.std.proofs.lemmas.List.Elements.{All-from_recursion}
 use Rattle.tables.specs.Records.{crew_row}
 use Rattle.tables.specs.Rows.{Makes, Inserts, begins_with}
 use Rattle.tables.proofs.Inserting.{cast_null, cast_int}
-use Rattle.sqlite_resolve.specs.Compile.{table_defined_by}
 use Rattle.tables.proofs.Statements.{Writer, insert_writer}
 use Rattle.tables.proofs.Creating.{IsMaker, create_writer}
 use Rattle.tables.proofs.Answering.{plain_query, is_param, one_key}
@@ -37,8 +39,11 @@ create_crew_maker = record { new = refl; whole = refl; defines = refl }
 pub create_crew : (old : State) → Writer create_crew_text [] (Makes crew_table) old
 create_crew = create_writer crew_table create_crew_text create_crew_maker
 
-pub create_crew_defines : table_defined_by create_crew_text ≡ Ok (table_of crew_table 0)
-create_crew_defines = create_crew_maker.defines
+no_default : HaveNoDefault crew_table.columns
+no_default = All-from_recursion (λ (c : Column). c.default ≡ Null) crew_table.columns (refl, (refl, (refl, tt)))
+
+pub create_crew_declares : IsTextOf crew_table create_crew_text
+create_crew_declares = record { defines = create_crew_maker.defines; plain = no_default }
 
 -- ----
 

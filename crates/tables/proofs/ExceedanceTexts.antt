@@ -1,5 +1,5 @@
 -- The texts on the table `exceedance`.
-use Rattle.std.proofs.Common.{false, ◌≡◌, List, [], ◌∷◌, codes, refl, ℕ, Ok, pos, None, Some}
+use Rattle.std.proofs.Common.{false, ◌≡◌, List, [], ◌∷◌, codes, refl, ℕ, pos, None, Some}
 use Rattle.sqlite_value.specs.declared.value.Value.TheVariants.{Null}
 use Rattle.sqlite_schema.specs.declared.command.Source.TheVariants.{Values}
 use Rattle.sqlite_schema.specs.declared.command.Command.TheVariants.{Insert, Select}
@@ -9,10 +9,12 @@ use Rattle.sqlite_rules.specs.Cast.{cast_row}
 use Rattle.sqlite.specs.State.{State}
 use Rattle.tables.specs.declared.exceedance.ExceedanceRecord.{ExceedanceRecord}
 use Rattle.tables.specs.Schema.{exceedance_table, table_of, IsTable}
+use Rattle.tables.specs.Declarations.{HaveNoDefault, IsTextOf}
+use Rattle.sqlite_schema.specs.declared.schema.Column.{Column}
+use Rattle.std.proofs.lemmas.List.Elements.{All-from_recursion}
 use Rattle.tables.specs.Records.{exceedance_row}
 use Rattle.tables.specs.Rows.{Makes, Inserts}
 use Rattle.tables.proofs.Inserting.{cast_null, cast_int}
-use Rattle.sqlite_resolve.specs.Compile.{table_defined_by}
 use Rattle.tables.proofs.Statements.{Writer, insert_writer}
 use Rattle.tables.proofs.Creating.{IsMaker, create_writer}
 use Rattle.tables.proofs.Answering.{plain_query}
@@ -40,8 +42,11 @@ create_exceedance_maker = record { new = refl; whole = refl; defines = refl }
 pub create_exceedance : (old : State) → Writer create_exceedance_text [] (Makes exceedance_table) old
 create_exceedance = create_writer exceedance_table create_exceedance_text create_exceedance_maker
 
-pub create_exceedance_defines : table_defined_by create_exceedance_text ≡ Ok (table_of exceedance_table 0)
-create_exceedance_defines = create_exceedance_maker.defines
+no_default : HaveNoDefault exceedance_table.columns
+no_default = All-from_recursion (λ (c : Column). c.default ≡ Null) exceedance_table.columns (refl, (refl, (refl, (refl, (refl, (refl, tt))))))
+
+pub create_exceedance_declares : IsTextOf exceedance_table create_exceedance_text
+create_exceedance_declares = record { defines = create_exceedance_maker.defines; plain = no_default }
 
 -- ----
 

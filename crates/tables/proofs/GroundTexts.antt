@@ -1,5 +1,5 @@
 -- The texts on the table `ground`.
-use Rattle.std.proofs.Common.{◌≡◌, List, [], ◌∷◌, codes, refl, ℕ, Ok, pos, None, Some}
+use Rattle.std.proofs.Common.{◌≡◌, List, [], ◌∷◌, codes, refl, ℕ, pos, None, Some}
 use Rattle.sqlite_value.specs.declared.value.Value.TheVariants.{Null, Text}
 use Rattle.sqlite_schema.specs.declared.command.Source.TheVariants.{Values}
 use Rattle.sqlite_schema.specs.declared.command.Command.TheVariants.{Insert, Select, Delete}
@@ -9,10 +9,12 @@ use Rattle.sqlite_rules.specs.Cast.{cast_row}
 use Rattle.sqlite.specs.State.{State}
 use Rattle.tables.specs.declared.ground.GroundRecord.{GroundRecord}
 use Rattle.tables.specs.Schema.{ground_table, table_of, IsTable, IsUnreferenced}
+use Rattle.tables.specs.Declarations.{HaveNoDefault, IsTextOf}
+use Rattle.sqlite_schema.specs.declared.schema.Column.{Column}
+use Rattle.std.proofs.lemmas.List.Elements.{All-from_recursion}
 use Rattle.tables.specs.Records.{ground_row}
 use Rattle.tables.specs.Rows.{Makes, Inserts, Deletes, begins_with, equals_at}
 use Rattle.tables.proofs.Inserting.{cast_null, cast_int}
-use Rattle.sqlite_resolve.specs.Compile.{table_defined_by}
 use Rattle.tables.proofs.Statements.{Writer, insert_writer}
 use Rattle.tables.proofs.Creating.{IsMaker, create_writer}
 use Rattle.tables.proofs.Answering.{plain_query, is_param, one_column, one_key}
@@ -38,8 +40,11 @@ create_ground_maker = record { new = refl; whole = refl; defines = refl }
 pub create_ground : (old : State) → Writer create_ground_text [] (Makes ground_table) old
 create_ground = create_writer ground_table create_ground_text create_ground_maker
 
-pub create_ground_defines : table_defined_by create_ground_text ≡ Ok (table_of ground_table 0)
-create_ground_defines = create_ground_maker.defines
+no_default : HaveNoDefault ground_table.columns
+no_default = All-from_recursion (λ (c : Column). c.default ≡ Null) ground_table.columns (refl, (refl, (refl, (refl, (refl, tt)))))
+
+pub create_ground_declares : IsTextOf ground_table create_ground_text
+create_ground_declares = record { defines = create_ground_maker.defines; plain = no_default }
 
 -- ----
 

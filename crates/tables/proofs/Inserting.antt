@@ -40,7 +40,7 @@ use Rattle.sqlite.specs.declared.run.Mode.{Mode}
 use Rattle.sqlite.proofs.Callers.{one_step}
 use Rattle.tables.specs.Schema.{BookTable, IsTable, IsUnreferenced, table_of}
 use Rattle.tables.specs.Rows.{cells, AreNumbered, Changes, Inserts}
-use Rattle.tables.proofs.Known.{place, stored_is, others_apart}
+use Rattle.tables.proofs.Known.{some_same, place, stored_is, others_apart}
 
 -- ---- no foreign key acts
 
@@ -60,9 +60,6 @@ module _ (schema : Schema) (tree : ℕ) (olds news : List Row) where
 and_false : (b : Bool) → (b && false) ≡ false
 and_false true = refl
 and_false false = refl
-
-some_same : {X : Type 0} {a b : X} → ◌≡◌ {A = Option X} (Some a) (Some b) → a ≡ b
-some_same e = cc
 
 no_moves : (tree : ℕ) (child : Table) (ref : Reference) (deed : Option Deed) (key : Option ParentKey) → work_by 0 tree [] child ref deed key ≡ None
 no_moves tree child ref None key = refl
@@ -101,7 +98,7 @@ no_work_of it schema there free olds news = nothing_from schema there.tree olds 
     elim (cases_Bool (key.0 == there.tree)) [
       | inl same ↦ absurd (
           let alike = all_has _ schema.tables parent.0 there.alone parent.1 (sym parent.3 ∙ eqb-true _ _ same) in
-          let named = ap (λ (u : Table). same_name u.name ref.parent) alike in
+          let named = ap (λ n. same_name n ref.parent) alike in
           let yes = parent.2 in
           let no = all_has _ t.references ref (all_has _ schema.tables t free h) k in
           cc)

@@ -1,5 +1,5 @@
 -- What is known of a schema that has a table of the book.
-use Rattle.std.proofs.Common.{IsTrue, IsSome, is_some, Option, ◌↔◌, ◌≡◌, ◌≢◌, ◌^◌, ◌==◌, ◌<◌, ℕ, Bool, List, [], ◌∷◌, true, false, inl, inr, find, slice_get, nat_lt, nat_le, length, Some, ◌+◌, ◌++◌, append_assoc, length-append, refl, sym, ap, subst, ◌∙◌, eqb-true, eq-eqb, arith}
+use Rattle.std.proofs.Common.{IsTrue, IsSome, is_some, Option, ◌↔◌, ◌≡◌, ◌≢◌, ◌^◌, ◌==◌, ◌<◌, ℕ, Bool, List, [], ◌∷◌, true, false, inl, inr, find, slice_get, nat_lt, nat_le, length, Some, ◌+◌, ◌++◌, append_assoc, length-append, refl, ap, subst, ◌∙◌, eqb-true, eq-eqb, arith}
 use Rattle.std.proofs.lemmas.Bool.{cases_Bool}
 use Rattle.std.proofs.lemmas.Bool.Decides.{nat_tests}
 use Rattle.std.specs.List.{AllByRecursion, position_from}
@@ -22,6 +22,9 @@ pub record Known (it : BookTable) (schema : Schema) (at tree : ℕ) : Type 0 whe
   pub high : nat_le (2 ^ 31) tree ≡ false
   pub by_tree : find (λ t. t.tree == tree) schema.tables ≡ Some (table_of it tree)
 
+pub some_same : {X : Type 0} {a b : X} → ◌≡◌ {A = Option X} (Some a) (Some b) → a ≡ b
+some_same e = cc
+
 -- the first that passes a test, by its place
 module _ {X : Type 0} (p : X → Bool) where
   got_at : (ys : List X) (x : X) (xs : List X) → slice_get (ys ++ x ∷ xs) (length ys) ≡ Some x
@@ -43,12 +46,20 @@ module _ {X : Type 0} (p : X → Bool) where
   pub found_at : (xs : List X) (x : X) → find p xs ≡ Some x → (at : ℕ) × (position_from p 0 xs ≡ Some at) × (slice_get xs at ≡ Some x)
   found_at = found_from []
 
-found_by_tree : (tables : List Table) (t : Table) → Has tables t → AllByRecursion (λ u. u.tree ≡ t.tree → u ≡ t) tables → find (λ u. u.tree == t.tree) tables ≡ Some t
-found_by_tree [] t h alone = absurd h
-found_by_tree (u ∷ us) t h alone = elim (cases_Bool (u.tree == t.tree)) [
-  | inl same ↦ rw same (ap Some (alone.0 (eqb-true _ _ same)))
-  | inr other ↦ rw other (found_by_tree us t (elim h [ inl e ↦ absurd (let it = eq-eqb u.tree t.tree (ap (λ (v : Table). v.tree) (sym e)) in cc) | inr more ↦ more ]) alone.1)
-]
+module _ (it : BookTable) (tree : ℕ) where
+  found_by_tree : (tables : List Table) → find (λ t. same_name t.name it.name) tables ≡ Some (table_of it tree) → AllByRecursion (λ t. t.tree ≡ tree → t.name ≡ it.name) tables
+      → find (λ t. t.tree == tree) tables ≡ Some (table_of it tree)
+  found_by_tree [] h alone = absurd (cc)
+  found_by_tree (u ∷ us) h alone = elim (cases_Bool (same_name u.name it.name)) [
+    | inl named ↦
+        let same : Some u ≡ Some (table_of it tree) = rw named at h in
+        let is : u.tree ≡ tree = ap (λ (t : Table). t.tree) (some_same same) in
+        rw (eq-eqb u.tree tree is) same
+    | inr other ↦ elim (cases_Bool (u.tree == tree)) [
+      | inl here ↦ absurd (let name = alone.0 (eqb-true _ _ here) in let e = ap (λ n. same_name n it.name) name in let own = same_itself it.name in cc)
+      | inr past ↦ rw past (found_by_tree us (rw other at h) alone.1)
+    ]
+  ]
 
 is_low : (tree : ℕ) → tree < 2 ^ 31 → (nat_lt tree (2 ^ 31) ≡ true) × (nat_le (2 ^ 31) tree ≡ false)
 is_low tree low = (grind (arith, nat_tests), grind (arith, nat_tests))
@@ -66,15 +77,14 @@ module _ (it : BookTable) (schema : Schema) (there : IsTable it schema) where
     is = place.2;
     low = (is_low there.tree there.low).0;
     high = (is_low there.tree there.low).1;
-    by_tree = found_by_tree schema.tables (table_of it there.tree) listed there.alone;
+    by_tree = found_by_tree it there.tree schema.tables there.found there.alone;
   }
 
   -- a table with another name is kept in another tree
   pub apart : (t : Table) → Has schema.tables t → same_name t.name it.name ≡ false → t.tree ≢ there.tree
   apart t h other same =
-      let alike = all_has _ schema.tables t there.alone h same in
-      let e = ap (λ (u : Table). same_name u.name it.name) alike in
-      let it' = same_itself it.name in
+      let e = ap (λ n. same_name n it.name) (all_has _ schema.tables t there.alone h same) in
+      let own = same_itself it.name in
       cc
 
   pub others_apart : (new old : Trees) → AllByRecursion (λ t. t.tree ≢ there.tree → new t.tree ≡ old t.tree) schema.tables

@@ -21,3 +21,4 @@ pub mod SeatTexts
 pub mod GroundTexts
 pub mod ExceedanceTexts
 pub mod RequestTexts
+pub mod Declaring

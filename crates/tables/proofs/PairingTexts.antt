@@ -1,5 +1,5 @@
 -- The texts on the table `pairing`.
-use Rattle.std.proofs.Common.{◌≡◌, List, [], ◌∷◌, codes, refl, ℕ, Ok, None, Some}
+use Rattle.std.proofs.Common.{◌≡◌, List, [], ◌∷◌, codes, refl, ℕ, None, Some}
 use Rattle.sqlite_value.specs.declared.value.Value.TheVariants.{Null, Text}
 use Rattle.sqlite_schema.specs.declared.command.Source.TheVariants.{Values}
 use Rattle.sqlite_schema.specs.declared.command.Command.TheVariants.{Insert, Select, Delete}
@@ -9,10 +9,12 @@ use Rattle.sqlite_rules.specs.Cast.{cast_row}
 use Rattle.sqlite.specs.State.{State}
 use Rattle.tables.specs.declared.pairing.PairingRecord.{PairingRecord}
 use Rattle.tables.specs.Schema.{pairing_table, table_of, IsTable, IsUnreferenced}
+use Rattle.tables.specs.Declarations.{HaveNoDefault, IsTextOf}
+use Rattle.sqlite_schema.specs.declared.schema.Column.{Column}
+use Rattle.std.proofs.lemmas.List.Elements.{All-from_recursion}
 use Rattle.tables.specs.Records.{pairing_row}
 use Rattle.tables.specs.Rows.{Makes, Inserts, Deletes, begins_with}
 use Rattle.tables.proofs.Inserting.{cast_null}
-use Rattle.sqlite_resolve.specs.Compile.{table_defined_by}
 use Rattle.tables.proofs.Statements.{Writer, insert_writer}
 use Rattle.tables.proofs.Creating.{IsMaker, create_writer}
 use Rattle.tables.proofs.Answering.{plain_query, is_param, one_key}
@@ -38,8 +40,11 @@ create_pairing_maker = record { new = refl; whole = refl; defines = refl }
 pub create_pairing : (old : State) → Writer create_pairing_text [] (Makes pairing_table) old
 create_pairing = create_writer pairing_table create_pairing_text create_pairing_maker
 
-pub create_pairing_defines : table_defined_by create_pairing_text ≡ Ok (table_of pairing_table 0)
-create_pairing_defines = create_pairing_maker.defines
+no_default : HaveNoDefault pairing_table.columns
+no_default = All-from_recursion (λ (c : Column). c.default ≡ Null) pairing_table.columns (refl, tt)
+
+pub create_pairing_declares : IsTextOf pairing_table create_pairing_text
+create_pairing_declares = record { defines = create_pairing_maker.defines; plain = no_default }
 
 -- ----
 

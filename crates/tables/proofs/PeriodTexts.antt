@@ -1,5 +1,5 @@
 -- The texts on the table `period`.
-use Rattle.std.proofs.Common.{◌≡◌, List, [], ◌∷◌, codes, refl, true, ap, Some, ℕ, Ok, pos, None}
+use Rattle.std.proofs.Common.{◌≡◌, List, [], ◌∷◌, codes, refl, true, ap, Some, ℕ, pos, None}
 use Rattle.sqlite_value.specs.declared.value.Value.TheVariants.{Null, Int, Text}
 use Rattle.sqlite_value.specs.Order.{Row}
 use Rattle.sqlite_trees.specs.Tree.{rowid}
@@ -12,10 +12,12 @@ use Rattle.sqlite_rules.specs.Cast.{cast_row}
 use Rattle.sqlite.specs.State.{State}
 use Rattle.tables.specs.declared.period.PeriodRecord.{PeriodRecord}
 use Rattle.tables.specs.Schema.{period_table, table_of, IsTable, IsUnreferenced}
+use Rattle.tables.specs.Declarations.{HaveNoDefault, IsTextOf}
+use Rattle.sqlite_schema.specs.declared.schema.Column.{Column}
+use Rattle.std.proofs.lemmas.List.Elements.{All-from_recursion}
 use Rattle.tables.specs.Records.{period_row, with_period_times}
 use Rattle.tables.specs.Rows.{Makes, Inserts, Deletes, Updates, cells, begins_with}
 use Rattle.tables.proofs.Inserting.{cast_null, cast_int, cast_any, cast_number}
-use Rattle.sqlite_resolve.specs.Compile.{table_defined_by}
 use Rattle.tables.proofs.Statements.{Writer, insert_writer}
 use Rattle.tables.proofs.Creating.{IsMaker, create_writer}
 use Rattle.tables.proofs.Answering.{plain_query, is_param, one_key, two_keys}
@@ -43,8 +45,11 @@ create_period_maker = record { new = refl; whole = refl; defines = refl }
 pub create_period : (old : State) → Writer create_period_text [] (Makes period_table) old
 create_period = create_writer period_table create_period_text create_period_maker
 
-pub create_period_defines : table_defined_by create_period_text ≡ Ok (table_of period_table 0)
-create_period_defines = create_period_maker.defines
+no_default : HaveNoDefault period_table.columns
+no_default = All-from_recursion (λ (c : Column). c.default ≡ Null) period_table.columns (refl, (refl, (refl, (refl, (refl, (refl, tt))))))
+
+pub create_period_declares : IsTextOf period_table create_period_text
+create_period_declares = record { defines = create_period_maker.defines; plain = no_default }
 
 -- ----
 

@@ -1,5 +1,5 @@
 -- The texts on the table `request`.
-use Rattle.std.proofs.Common.{◌≡◌, List, [], ◌∷◌, codes, refl, ℕ, Ok, ℤ, pos, None, Some}
+use Rattle.std.proofs.Common.{◌≡◌, List, [], ◌∷◌, codes, refl, ℕ, ℤ, pos, None, Some}
 use Rattle.sqlite_value.specs.declared.value.Value.TheVariants.{Null, Int}
 use Rattle.sqlite_schema.specs.declared.command.Source.TheVariants.{Values}
 use Rattle.sqlite_schema.specs.declared.command.Command.TheVariants.{Insert, Select}
@@ -9,10 +9,12 @@ use Rattle.sqlite_rules.specs.Cast.{cast_row}
 use Rattle.sqlite.specs.State.{State}
 use Rattle.tables.specs.declared.request.RequestRecord.{RequestRecord}
 use Rattle.tables.specs.Schema.{request_table, table_of, IsTable}
+use Rattle.tables.specs.Declarations.{HaveNoDefault, IsTextOf}
+use Rattle.sqlite_schema.specs.declared.schema.Column.{Column}
+use Rattle.std.proofs.lemmas.List.Elements.{All-from_recursion}
 use Rattle.tables.specs.Records.{request_row}
 use Rattle.tables.specs.Rows.{Makes, Inserts, begins_with}
 use Rattle.tables.proofs.Inserting.{cast_null, cast_int}
-use Rattle.sqlite_resolve.specs.Compile.{table_defined_by}
 use Rattle.tables.proofs.Statements.{Writer, insert_writer}
 use Rattle.tables.proofs.Creating.{IsMaker, create_writer}
 use Rattle.tables.proofs.Answering.{plain_query, is_param, two_keys}
@@ -37,8 +39,11 @@ create_request_maker = record { new = refl; whole = refl; defines = refl }
 pub create_request : (old : State) → Writer create_request_text [] (Makes request_table) old
 create_request = create_writer request_table create_request_text create_request_maker
 
-pub create_request_defines : table_defined_by create_request_text ≡ Ok (table_of request_table 0)
-create_request_defines = create_request_maker.defines
+no_default : HaveNoDefault request_table.columns
+no_default = All-from_recursion (λ (c : Column). c.default ≡ Null) request_table.columns (refl, (refl, (refl, (refl, tt))))
+
+pub create_request_declares : IsTextOf request_table create_request_text
+create_request_declares = record { defines = create_request_maker.defines; plain = no_default }
 
 -- ----
 

@@ -1,5 +1,5 @@
 -- The texts on the table `seat`.
-use Rattle.std.proofs.Common.{◌≡◌, List, [], ◌∷◌, codes, refl, ℕ, Ok, pos, None, Some}
+use Rattle.std.proofs.Common.{◌≡◌, List, [], ◌∷◌, codes, refl, ℕ, pos, None, Some}
 use Rattle.sqlite_value.specs.declared.value.Value.TheVariants.{Null, Int, Text}
 use Rattle.sqlite_schema.specs.declared.command.Source.TheVariants.{Values}
 use Rattle.sqlite_schema.specs.declared.command.Command.TheVariants.{Insert, Select, Delete}
@@ -9,10 +9,12 @@ use Rattle.sqlite_rules.specs.Cast.{cast_row}
 use Rattle.sqlite.specs.State.{State}
 use Rattle.tables.specs.declared.seat.SeatRecord.{SeatRecord}
 use Rattle.tables.specs.Schema.{seat_table, table_of, IsTable, IsUnreferenced}
+use Rattle.tables.specs.Declarations.{HaveNoDefault, IsTextOf}
+use Rattle.sqlite_schema.specs.declared.schema.Column.{Column}
+use Rattle.std.proofs.lemmas.List.Elements.{All-from_recursion}
 use Rattle.tables.specs.Records.{seat_row}
 use Rattle.tables.specs.Rows.{Makes, Inserts, Deletes, begins_with, equals_at}
 use Rattle.tables.proofs.Inserting.{cast_null, cast_int}
-use Rattle.sqlite_resolve.specs.Compile.{table_defined_by}
 use Rattle.tables.proofs.Statements.{Writer, insert_writer}
 use Rattle.tables.proofs.Creating.{IsMaker, create_writer}
 use Rattle.tables.proofs.Answering.{plain_query, is_param, one_column, one_key, two_keys}
@@ -38,8 +40,11 @@ create_seat_maker = record { new = refl; whole = refl; defines = refl }
 pub create_seat : (old : State) → Writer create_seat_text [] (Makes seat_table) old
 create_seat = create_writer seat_table create_seat_text create_seat_maker
 
-pub create_seat_defines : table_defined_by create_seat_text ≡ Ok (table_of seat_table 0)
-create_seat_defines = create_seat_maker.defines
+no_default : HaveNoDefault seat_table.columns
+no_default = All-from_recursion (λ (c : Column). c.default ≡ Null) seat_table.columns (refl, (refl, (refl, tt)))
+
+pub create_seat_declares : IsTextOf seat_table create_seat_text
+create_seat_declares = record { defines = create_seat_maker.defines; plain = no_default }
 
 -- ----
 

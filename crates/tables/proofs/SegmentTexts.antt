@@ -1,5 +1,5 @@
 -- The texts on the table `segment`.
-use Rattle.std.proofs.Common.{◌≡◌, List, [], ◌∷◌, codes, refl, true, ap, Some, ℕ, Ok, pos, None}
+use Rattle.std.proofs.Common.{◌≡◌, List, [], ◌∷◌, codes, refl, true, ap, Some, ℕ, pos, None}
 use Rattle.sqlite_value.specs.declared.value.Value.TheVariants.{Null, Int, Text}
 use Rattle.sqlite_value.specs.Order.{Row}
 use Rattle.sqlite_trees.specs.Tree.{rowid}
@@ -12,10 +12,12 @@ use Rattle.sqlite_rules.specs.Cast.{cast_row}
 use Rattle.sqlite.specs.State.{State}
 use Rattle.tables.specs.declared.segment.SegmentRecord.{SegmentRecord}
 use Rattle.tables.specs.Schema.{segment_table, table_of, IsTable, IsUnreferenced}
+use Rattle.tables.specs.Declarations.{HaveNoDefault, IsTextOf}
+use Rattle.sqlite_schema.specs.declared.schema.Column.{Column}
+use Rattle.std.proofs.lemmas.List.Elements.{All-from_recursion}
 use Rattle.tables.specs.Records.{segment_row, with_segment_times}
 use Rattle.tables.specs.Rows.{Makes, Inserts, Deletes, Updates, cells, begins_with}
 use Rattle.tables.proofs.Inserting.{cast_null, cast_int, cast_any, cast_number}
-use Rattle.sqlite_resolve.specs.Compile.{table_defined_by}
 use Rattle.tables.proofs.Statements.{Writer, insert_writer}
 use Rattle.tables.proofs.Creating.{IsMaker, create_writer}
 use Rattle.tables.proofs.Answering.{plain_query, is_param, one_key, three_keys}
@@ -43,8 +45,11 @@ create_segment_maker = record { new = refl; whole = refl; defines = refl }
 pub create_segment : (old : State) → Writer create_segment_text [] (Makes segment_table) old
 create_segment = create_writer segment_table create_segment_text create_segment_maker
 
-pub create_segment_defines : table_defined_by create_segment_text ≡ Ok (table_of segment_table 0)
-create_segment_defines = create_segment_maker.defines
+no_default : HaveNoDefault segment_table.columns
+no_default = All-from_recursion (λ (c : Column). c.default ≡ Null) segment_table.columns (refl, (refl, (refl, (refl, (refl, (refl, (refl, (refl, (refl, (refl, tt))))))))))
+
+pub create_segment_declares : IsTextOf segment_table create_segment_text
+create_segment_declares = record { defines = create_segment_maker.defines; plain = no_default }
 
 -- ----
 

@@ -147,15 +147,26 @@ pub record IsTable (it : BookTable) (schema : Schema) : Type 0 where
   pub tree : ℕ
   pub found : table_found schema it.name ≡ Some (table_of it tree)
   pub low : tree < 2 ^ 31
-  pub alone : AllByRecursion (λ t. t.tree ≡ tree → t ≡ table_of it tree) schema.tables
+  pub alone : AllByRecursion (λ t. t.tree ≡ tree → t.name ≡ it.name) schema.tables
 
--- no foreign key refers to the table, so that nothing else changes where its rows do
+-- a table of this name has these columns: their names, types and NOT NULL, strict and with no default
+abbrev pub HasColumns : BookTable → Schema → Type 0
+HasColumns it schema = (t : Table) × (table_found schema it.name ≡ Some t) × (t.columns ≡ it.columns)
+
+-- no foreign key refers to a table of this name
+abbrev pub NoneRefersTo : List ℕ → Schema → Type 0
+NoneRefersTo name schema = AllByRecursion (λ t. AllByRecursion (λ ref. same_name name ref.parent ≡ false) t.references) schema.tables
+
+-- none refers to the table, so that nothing else changes where its rows do
 abbrev pub IsUnreferenced : BookTable → Schema → Type 0
-IsUnreferenced it schema = AllByRecursion (λ t. AllByRecursion (λ ref. same_name it.name ref.parent ≡ false) t.references) schema.tables
+IsUnreferenced it = NoneRefersTo it.name
+
+abbrev pub IsOfBook : BookTable → Schema → Type 0
+IsOfBook it schema = IsTable it schema × IsUnreferenced it schema
 
 -- the nine tables are there, in any order and among any others, and no foreign key refers to them
 abbrev pub IsBook : Schema → Type 0
-IsBook schema = AllByRecursion (λ it. IsTable it schema × IsUnreferenced it schema) book_tables
+IsBook schema = AllByRecursion (λ it. IsOfBook it schema) book_tables
 
 abbrev pub empty_schema : Schema
 empty_schema = record { tables = []; indexes = []; views = [] }

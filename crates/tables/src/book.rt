@@ -1,12 +1,14 @@
 //! The table `book`.
 
-ghost use Rattle.std.specs.Prelude.{map};
+ghost use Rattle.std.specs.Prelude.{map, IfErr, IfOk, IsTrue, ◌↔◌, ◌≡◌};
 ghost use Rattle.sqlite.specs.Held.{state};
-ghost use Rattle.tables.specs.Schema.{book_table};
+ghost use Rattle.tables.specs.Schema.{book_table, IsTable, HasColumns};
 ghost use Rattle.tables.specs.Rows.{Makes, Inserts};
 ghost use Rattle.tables.specs.Records.{book_row, IsBookRow};
 ghost use Rattle.tables.specs.Calls.{HoldsTable, Ran, MayLeave, Loaded, LeavesNothing};
+ghost use Rattle.tables.specs.declared.table_fault.TableFault.TheVariants as fault;
 
+use crate::declared::{has_columns, is_there};
 use crate::loading::load;
 use crate::reading::{Record, column, has_width};
 use crate::statement::run;
@@ -55,6 +57,22 @@ impl Record for BookRecord {
 
 const CREATE: &str =
     "CREATE TABLE book (one INTEGER NOT NULL UNIQUE, version INTEGER NOT NULL, zone TEXT NOT NULL) STRICT";
+
+/// Whether there is a table `book` with these columns.
+pub fn has_book_columns<S: Alter>(alloc: Global, conn: &Connection<S>) -> Result<bool, TableFault>
+    ensures has { IfOk result (λ yes. IsTrue yes ↔ HasColumns book_table (state S.Store conn.now).now.schema) }
+    ensures fault { IfErr result (λ e. e ≡ fault.Memory) }
+{
+    has_columns(alloc, conn, CREATE)
+}
+
+/// Whether the table is there as `create_book` declares it, in a tree of its own.
+pub fn is_book_there<S: Alter>(alloc: Global, conn: &Connection<S>) -> Result<bool, TableFault>
+    ensures there { IfOk result (λ yes. IsTrue yes ↔ IsTable book_table (state S.Store conn.now).now.schema) }
+    ensures fault { IfErr result (λ e. e ≡ fault.Memory) }
+{
+    is_there(alloc, conn, CREATE)
+}
 
 /// Makes the table.
 pub fn create_book<S: Alter>(conn: &mut Connection<S>) -> Result<(), TableFault>

@@ -1,13 +1,15 @@
 //! The table `ground`.
 
-ghost use Rattle.std.specs.Prelude.{[], ◌∷◌, map};
+ghost use Rattle.std.specs.Prelude.{[], ◌∷◌, map, IfErr, IfOk, IsTrue, ◌↔◌, ◌≡◌};
 ghost use Rattle.sqlite_value.specs.declared.value.Value.TheVariants as value;
 ghost use Rattle.sqlite.specs.Held.{state};
-ghost use Rattle.tables.specs.Schema.{ground_table};
+ghost use Rattle.tables.specs.Schema.{ground_table, IsTable, HasColumns};
 ghost use Rattle.tables.specs.Rows.{Makes, Inserts, Deletes, begins_with, equals_at};
 ghost use Rattle.tables.specs.Records.{ground_row, IsGroundRow};
 ghost use Rattle.tables.specs.Calls.{HoldsTable, HoldsUnreferenced, Ran, MayLeave, Read, Loaded, LeavesNothing};
+ghost use Rattle.tables.specs.declared.table_fault.TableFault.TheVariants as fault;
 
+use crate::declared::{has_columns, is_there};
 use crate::loading::load;
 use crate::reading::{Record, column, has_width, read_all};
 use crate::statement::run;
@@ -60,6 +62,22 @@ impl Record for GroundRecord {
 
 const CREATE: &str =
     "CREATE TABLE ground (id TEXT NOT NULL, crew TEXT NOT NULL, task TEXT NOT NULL, begin_at INTEGER NOT NULL, end_at INTEGER NOT NULL, PRIMARY KEY (id), UNIQUE (crew, id)) STRICT";
+
+/// Whether there is a table `ground` with these columns.
+pub fn has_ground_columns<S: Alter>(alloc: Global, conn: &Connection<S>) -> Result<bool, TableFault>
+    ensures has { IfOk result (λ yes. IsTrue yes ↔ HasColumns ground_table (state S.Store conn.now).now.schema) }
+    ensures fault { IfErr result (λ e. e ≡ fault.Memory) }
+{
+    has_columns(alloc, conn, CREATE)
+}
+
+/// Whether the table is there as `create_ground` declares it, in a tree of its own.
+pub fn is_ground_there<S: Alter>(alloc: Global, conn: &Connection<S>) -> Result<bool, TableFault>
+    ensures there { IfOk result (λ yes. IsTrue yes ↔ IsTable ground_table (state S.Store conn.now).now.schema) }
+    ensures fault { IfErr result (λ e. e ≡ fault.Memory) }
+{
+    is_there(alloc, conn, CREATE)
+}
 
 /// Makes the table.
 pub fn create_ground<S: Alter>(conn: &mut Connection<S>) -> Result<(), TableFault>

@@ -8,6 +8,7 @@
 pub mod book;
 pub mod book_schema;
 pub mod crew;
+mod declared;
 pub mod exceedance;
 pub mod ground;
 mod loading;

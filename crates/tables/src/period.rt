@@ -1,13 +1,15 @@
 //! The table `period`.
 
-ghost use Rattle.std.specs.Prelude.{[], ◌∷◌, map, pos};
+ghost use Rattle.std.specs.Prelude.{[], ◌∷◌, map, pos, IfErr, IfOk, IsTrue, ◌↔◌, ◌≡◌};
 ghost use Rattle.sqlite_value.specs.declared.value.Value.TheVariants as value;
 ghost use Rattle.sqlite.specs.Held.{state};
-ghost use Rattle.tables.specs.Schema.{period_table};
+ghost use Rattle.tables.specs.Schema.{period_table, IsTable, HasColumns};
 ghost use Rattle.tables.specs.Rows.{Makes, Inserts, Deletes, Updates, begins_with};
 ghost use Rattle.tables.specs.Records.{period_row, IsPeriodRow, with_period_times};
 ghost use Rattle.tables.specs.Calls.{HoldsTable, HoldsUnreferenced, Ran, MayLeave, Read, Loaded, LeavesNothing};
+ghost use Rattle.tables.specs.declared.table_fault.TableFault.TheVariants as fault;
 
+use crate::declared::{has_columns, is_there};
 use crate::loading::load;
 use crate::reading::{Record, column, has_width, read_all};
 use crate::statement::run;
@@ -67,6 +69,22 @@ impl Record for PeriodRecord {
 
 const CREATE: &str =
     "CREATE TABLE period (pairing TEXT NOT NULL, number INTEGER NOT NULL, report_at INTEGER NOT NULL, release_at INTEGER NOT NULL, act_report INTEGER, act_release INTEGER, PRIMARY KEY (pairing, number)) STRICT";
+
+/// Whether there is a table `period` with these columns.
+pub fn has_period_columns<S: Alter>(alloc: Global, conn: &Connection<S>) -> Result<bool, TableFault>
+    ensures has { IfOk result (λ yes. IsTrue yes ↔ HasColumns period_table (state S.Store conn.now).now.schema) }
+    ensures fault { IfErr result (λ e. e ≡ fault.Memory) }
+{
+    has_columns(alloc, conn, CREATE)
+}
+
+/// Whether the table is there as `create_period` declares it, in a tree of its own.
+pub fn is_period_there<S: Alter>(alloc: Global, conn: &Connection<S>) -> Result<bool, TableFault>
+    ensures there { IfOk result (λ yes. IsTrue yes ↔ IsTable period_table (state S.Store conn.now).now.schema) }
+    ensures fault { IfErr result (λ e. e ≡ fault.Memory) }
+{
+    is_there(alloc, conn, CREATE)
+}
 
 /// Makes the table.
 pub fn create_period<S: Alter>(conn: &mut Connection<S>) -> Result<(), TableFault>

@@ -1,13 +1,15 @@
 //! The table `request`.
 
-ghost use Rattle.std.specs.Prelude.{[], ◌∷◌, map, pos};
+ghost use Rattle.std.specs.Prelude.{[], ◌∷◌, map, pos, IfErr, IfOk, IsTrue, ◌↔◌, ◌≡◌};
 ghost use Rattle.sqlite_value.specs.declared.value.Value.TheVariants as value;
 ghost use Rattle.sqlite.specs.Held.{state};
-ghost use Rattle.tables.specs.Schema.{request_table};
+ghost use Rattle.tables.specs.Schema.{request_table, IsTable, HasColumns};
 ghost use Rattle.tables.specs.Rows.{Makes, Inserts, begins_with};
 ghost use Rattle.tables.specs.Records.{request_row, IsRequestRow};
 ghost use Rattle.tables.specs.Calls.{HoldsTable, Ran, MayLeave, Read, Loaded, LeavesNothing};
+ghost use Rattle.tables.specs.declared.table_fault.TableFault.TheVariants as fault;
 
+use crate::declared::{has_columns, is_there};
 use crate::loading::load;
 use crate::reading::{Record, column, has_width, read_all};
 use crate::statement::run;
@@ -60,6 +62,25 @@ impl Record for RequestRecord {
 
 const CREATE: &str =
     "CREATE TABLE request (number INTEGER NOT NULL, part INTEGER NOT NULL, command TEXT NOT NULL, reply TEXT NOT NULL, PRIMARY KEY (number, part)) STRICT";
+
+/// Whether there is a table `request` with these columns.
+pub fn has_request_columns<S: Alter>(
+    alloc: Global,
+    conn: &Connection<S>,
+) -> Result<bool, TableFault>
+    ensures has { IfOk result (λ yes. IsTrue yes ↔ HasColumns request_table (state S.Store conn.now).now.schema) }
+    ensures fault { IfErr result (λ e. e ≡ fault.Memory) }
+{
+    has_columns(alloc, conn, CREATE)
+}
+
+/// Whether the table is there as `create_request` declares it, in a tree of its own.
+pub fn is_request_there<S: Alter>(alloc: Global, conn: &Connection<S>) -> Result<bool, TableFault>
+    ensures there { IfOk result (λ yes. IsTrue yes ↔ IsTable request_table (state S.Store conn.now).now.schema) }
+    ensures fault { IfErr result (λ e. e ≡ fault.Memory) }
+{
+    is_there(alloc, conn, CREATE)
+}
 
 /// Makes the table.
 pub fn create_request<S: Alter>(conn: &mut Connection<S>) -> Result<(), TableFault>

@@ -1,13 +1,15 @@
 //! The table `seat`.
 
-ghost use Rattle.std.specs.Prelude.{[], ◌∷◌, map, pos};
+ghost use Rattle.std.specs.Prelude.{[], ◌∷◌, map, pos, IfErr, IfOk, IsTrue, ◌↔◌, ◌≡◌};
 ghost use Rattle.sqlite_value.specs.declared.value.Value.TheVariants as value;
 ghost use Rattle.sqlite.specs.Held.{state};
-ghost use Rattle.tables.specs.Schema.{seat_table};
+ghost use Rattle.tables.specs.Schema.{seat_table, IsTable, HasColumns};
 ghost use Rattle.tables.specs.Rows.{Makes, Inserts, Deletes, begins_with, equals_at};
 ghost use Rattle.tables.specs.Records.{seat_row, IsSeatRow};
 ghost use Rattle.tables.specs.Calls.{HoldsTable, HoldsUnreferenced, Ran, MayLeave, Read, Loaded, LeavesNothing};
+ghost use Rattle.tables.specs.declared.table_fault.TableFault.TheVariants as fault;
 
+use crate::declared::{has_columns, is_there};
 use crate::loading::load;
 use crate::reading::{Record, column, has_width, read_all};
 use crate::statement::run;
@@ -55,6 +57,22 @@ impl Record for SeatRecord {
 
 const CREATE: &str =
     "CREATE TABLE seat (pairing TEXT NOT NULL, seat INTEGER NOT NULL, crew TEXT NOT NULL, PRIMARY KEY (pairing, seat), UNIQUE (crew, pairing)) STRICT";
+
+/// Whether there is a table `seat` with these columns.
+pub fn has_seat_columns<S: Alter>(alloc: Global, conn: &Connection<S>) -> Result<bool, TableFault>
+    ensures has { IfOk result (λ yes. IsTrue yes ↔ HasColumns seat_table (state S.Store conn.now).now.schema) }
+    ensures fault { IfErr result (λ e. e ≡ fault.Memory) }
+{
+    has_columns(alloc, conn, CREATE)
+}
+
+/// Whether the table is there as `create_seat` declares it, in a tree of its own.
+pub fn is_seat_there<S: Alter>(alloc: Global, conn: &Connection<S>) -> Result<bool, TableFault>
+    ensures there { IfOk result (λ yes. IsTrue yes ↔ IsTable seat_table (state S.Store conn.now).now.schema) }
+    ensures fault { IfErr result (λ e. e ≡ fault.Memory) }
+{
+    is_there(alloc, conn, CREATE)
+}
 
 /// Makes the table.
 pub fn create_seat<S: Alter>(conn: &mut Connection<S>) -> Result<(), TableFault>

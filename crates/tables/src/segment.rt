@@ -1,13 +1,15 @@
 //! The table `segment`.
 
-ghost use Rattle.std.specs.Prelude.{[], ◌∷◌, map, pos};
+ghost use Rattle.std.specs.Prelude.{[], ◌∷◌, map, pos, IfErr, IfOk, IsTrue, ◌↔◌, ◌≡◌};
 ghost use Rattle.sqlite_value.specs.declared.value.Value.TheVariants as value;
 ghost use Rattle.sqlite.specs.Held.{state};
-ghost use Rattle.tables.specs.Schema.{segment_table};
+ghost use Rattle.tables.specs.Schema.{segment_table, IsTable, HasColumns};
 ghost use Rattle.tables.specs.Rows.{Makes, Inserts, Deletes, Updates, begins_with};
 ghost use Rattle.tables.specs.Records.{segment_row, IsSegmentRow, with_segment_times};
 ghost use Rattle.tables.specs.Calls.{HoldsTable, HoldsUnreferenced, Ran, MayLeave, Read, Loaded, LeavesNothing};
+ghost use Rattle.tables.specs.declared.table_fault.TableFault.TheVariants as fault;
 
+use crate::declared::{has_columns, is_there};
 use crate::loading::load;
 use crate::reading::{Record, column, has_width, read_all};
 use crate::statement::run;
@@ -80,6 +82,25 @@ impl Record for SegmentRecord {
 
 const CREATE: &str =
     "CREATE TABLE segment (pairing TEXT NOT NULL, period INTEGER NOT NULL, number INTEGER NOT NULL, flight TEXT NOT NULL, origin TEXT NOT NULL, destination TEXT NOT NULL, out_at INTEGER NOT NULL, in_at INTEGER NOT NULL, act_out INTEGER, act_in INTEGER, PRIMARY KEY (pairing, period, number)) STRICT";
+
+/// Whether there is a table `segment` with these columns.
+pub fn has_segment_columns<S: Alter>(
+    alloc: Global,
+    conn: &Connection<S>,
+) -> Result<bool, TableFault>
+    ensures has { IfOk result (λ yes. IsTrue yes ↔ HasColumns segment_table (state S.Store conn.now).now.schema) }
+    ensures fault { IfErr result (λ e. e ≡ fault.Memory) }
+{
+    has_columns(alloc, conn, CREATE)
+}
+
+/// Whether the table is there as `create_segment` declares it, in a tree of its own.
+pub fn is_segment_there<S: Alter>(alloc: Global, conn: &Connection<S>) -> Result<bool, TableFault>
+    ensures there { IfOk result (λ yes. IsTrue yes ↔ IsTable segment_table (state S.Store conn.now).now.schema) }
+    ensures fault { IfErr result (λ e. e ≡ fault.Memory) }
+{
+    is_there(alloc, conn, CREATE)
+}
 
 /// Makes the table.
 pub fn create_segment<S: Alter>(conn: &mut Connection<S>) -> Result<(), TableFault>
