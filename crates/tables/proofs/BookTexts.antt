@@ -13,9 +13,10 @@ use Rattle.tables.specs.Declarations.{HaveNoDefault, IsTextOf}
 use Rattle.sqlite_schema.specs.declared.schema.Column.{Column}
 use Rattle.std.proofs.lemmas.List.Elements.{All-from_recursion}
 use Rattle.tables.specs.Records.{book_row}
-use Rattle.tables.specs.Rows.{Makes, Inserts}
+use Rattle.tables.specs.Rows.{Makes}
 use Rattle.tables.proofs.Inserting.{cast_null, cast_int}
-use Rattle.tables.proofs.Statements.{Writer, insert_writer}
+use Rattle.tables.proofs.Statements.{Writer}
+use Rattle.tables.proofs.Holding.{InsertsFree, insert_writer}
 use Rattle.tables.proofs.Creating.{IsMaker, create_writer}
 use Rattle.tables.proofs.Answering.{plain_query}
 use Rattle.tables.proofs.Selecting.{projected}
@@ -57,8 +58,8 @@ insert_book_read = is_read book_table _ (insert_into book_table) _ (record { wen
 insert_book_keeps : (it : BookRecord) (tree : ℕ) → cast_row (table_of book_table tree) (Null ∷ book_row it) ≡ Null ∷ book_row it
 insert_book_keeps it tree = rw (cast_null, cast_int it.one, cast_int it.version)
 
-pub insert_book : (it : BookRecord) (old : State) → IsTable book_table old.now.schema → Writer insert_book_text (book_row it) (Inserts book_table (book_row it)) old
-insert_book it = insert_writer book_table (lit Null ∷ col 0 0 ∷ col 0 1 ∷ col 0 2 ∷ []) 4 _ insert_book_read (book_row it) (book_row it) (λ _. refl) refl (insert_book_keeps it)
+pub insert_book : (it : BookRecord) (old : State) → IsTable book_table old.now.schema → Writer insert_book_text (book_row it) (InsertsFree book_table (book_row it)) old
+insert_book it = insert_writer book_table (lit Null ∷ col 0 0 ∷ col 0 1 ∷ col 0 2 ∷ []) 4 _ insert_book_read (book_row it) (book_row it) (λ _. refl) refl (insert_book_keeps it) (λ r. ((refl, tt), tt)) ((refl, tt), tt)
 
 -- ----
 

@@ -13,9 +13,10 @@ use Rattle.tables.specs.Declarations.{HaveNoDefault, IsTextOf}
 use Rattle.sqlite_schema.specs.declared.schema.Column.{Column}
 use Rattle.std.proofs.lemmas.List.Elements.{All-from_recursion}
 use Rattle.tables.specs.Records.{crew_row}
-use Rattle.tables.specs.Rows.{Makes, Inserts, begins_with}
+use Rattle.tables.specs.Rows.{Makes, begins_with}
 use Rattle.tables.proofs.Inserting.{cast_null, cast_int}
-use Rattle.tables.proofs.Statements.{Writer, insert_writer}
+use Rattle.tables.proofs.Statements.{Writer}
+use Rattle.tables.proofs.Holding.{InsertsFree, insert_writer}
 use Rattle.tables.proofs.Creating.{IsMaker, create_writer}
 use Rattle.tables.proofs.Answering.{plain_query, is_param, one_key}
 use Rattle.tables.proofs.Selecting.{projected, Reader, reader}
@@ -57,8 +58,8 @@ insert_crew_read = is_read crew_table _ (insert_into crew_table) _ (record { wen
 insert_crew_keeps : (it : CrewRecord) (tree : ℕ) → cast_row (table_of crew_table tree) (Null ∷ crew_row it) ≡ Null ∷ crew_row it
 insert_crew_keeps it tree = rw (cast_null, cast_int (pos it.seat))
 
-pub insert_crew : (it : CrewRecord) (old : State) → IsTable crew_table old.now.schema → Writer insert_crew_text (crew_row it) (Inserts crew_table (crew_row it)) old
-insert_crew it = insert_writer crew_table (lit Null ∷ col 0 0 ∷ col 0 1 ∷ col 0 2 ∷ []) 4 _ insert_crew_read (crew_row it) (crew_row it) (λ _. refl) refl (insert_crew_keeps it)
+pub insert_crew : (it : CrewRecord) (old : State) → IsTable crew_table old.now.schema → Writer insert_crew_text (crew_row it) (InsertsFree crew_table (crew_row it)) old
+insert_crew it = insert_writer crew_table (lit Null ∷ col 0 0 ∷ col 0 1 ∷ col 0 2 ∷ []) 4 _ insert_crew_read (crew_row it) (crew_row it) (λ _. refl) refl (insert_crew_keeps it) (λ r. ((refl, tt), tt)) ((refl, tt), tt)
 
 -- ----
 

@@ -147,5 +147,5 @@ module _ (kept : BookTable) (filter : List Term) (text : List ℕ)
     (old : State) (there : IsTable kept old.now.schema) (free : IsUnreferenced kept old.now.schema) where
   pub delete_writer : Writer text params (Deletes kept test) old
   delete_writer = table_writer kept text params (λ at tree. Delete at (record { lets = []; body = plain_query tree filter (col 1 0 ∷ []) [] })) read (Deletes kept test) old there
-      (λ t tally after h stored.
+      (λ t tally after _ h stored.
       deletes kept old.step_limit old.now after t params tally filter there free h test tests (subst AreNumbered (stored_is kept old.now.schema there old.now refl) stored)) (λ _ _ _ h. h) (λ e. cc) (λ n e. cc)

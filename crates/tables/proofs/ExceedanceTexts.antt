@@ -13,9 +13,10 @@ use Rattle.tables.specs.Declarations.{HaveNoDefault, IsTextOf}
 use Rattle.sqlite_schema.specs.declared.schema.Column.{Column}
 use Rattle.std.proofs.lemmas.List.Elements.{All-from_recursion}
 use Rattle.tables.specs.Records.{exceedance_row}
-use Rattle.tables.specs.Rows.{Makes, Inserts}
+use Rattle.tables.specs.Rows.{Makes}
 use Rattle.tables.proofs.Inserting.{cast_null, cast_int}
-use Rattle.tables.proofs.Statements.{Writer, insert_writer}
+use Rattle.tables.proofs.Statements.{Writer}
+use Rattle.tables.proofs.Holding.{InsertsFree, insert_writer}
 use Rattle.tables.proofs.Creating.{IsMaker, create_writer}
 use Rattle.tables.proofs.Answering.{plain_query}
 use Rattle.tables.proofs.Selecting.{projected, OrderedReader, ordered_reader}
@@ -60,8 +61,8 @@ insert_exceedance_read = is_read exceedance_table _ (insert_into exceedance_tabl
 insert_exceedance_keeps : (it : ExceedanceRecord) (tree : ℕ) → cast_row (table_of exceedance_table tree) (Null ∷ exceedance_row it) ≡ Null ∷ exceedance_row it
 insert_exceedance_keeps it tree = rw (cast_null, cast_int it.number, cast_int (pos it.part), cast_int (pos it.section), cast_int (pos it.period))
 
-pub insert_exceedance : (it : ExceedanceRecord) (old : State) → IsTable exceedance_table old.now.schema → Writer insert_exceedance_text (exceedance_row it) (Inserts exceedance_table (exceedance_row it)) old
-insert_exceedance it = insert_writer exceedance_table (lit Null ∷ col 0 0 ∷ col 0 1 ∷ col 0 2 ∷ col 0 3 ∷ col 0 4 ∷ col 0 5 ∷ []) 7 _ insert_exceedance_read (exceedance_row it) (exceedance_row it) (λ _. refl) refl (insert_exceedance_keeps it)
+pub insert_exceedance : (it : ExceedanceRecord) (old : State) → IsTable exceedance_table old.now.schema → Writer insert_exceedance_text (exceedance_row it) (InsertsFree exceedance_table (exceedance_row it)) old
+insert_exceedance it = insert_writer exceedance_table (lit Null ∷ col 0 0 ∷ col 0 1 ∷ col 0 2 ∷ col 0 3 ∷ col 0 4 ∷ col 0 5 ∷ []) 7 _ insert_exceedance_read (exceedance_row it) (exceedance_row it) (λ _. refl) refl (insert_exceedance_keeps it) (λ r. ((refl, (refl, (refl, (refl, tt)))), tt)) ((refl, (refl, (refl, (refl, tt)))), tt)
 
 -- ----
 

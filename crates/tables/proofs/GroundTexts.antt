@@ -13,9 +13,10 @@ use Rattle.tables.specs.Declarations.{HaveNoDefault, IsTextOf}
 use Rattle.sqlite_schema.specs.declared.schema.Column.{Column}
 use Rattle.std.proofs.lemmas.List.Elements.{All-from_recursion}
 use Rattle.tables.specs.Records.{ground_row}
-use Rattle.tables.specs.Rows.{Makes, Inserts, Deletes, begins_with, equals_at}
+use Rattle.tables.specs.Rows.{Makes, Deletes, begins_with, equals_at}
 use Rattle.tables.proofs.Inserting.{cast_null, cast_int}
-use Rattle.tables.proofs.Statements.{Writer, insert_writer}
+use Rattle.tables.proofs.Statements.{Writer}
+use Rattle.tables.proofs.Holding.{InsertsFree, insert_writer}
 use Rattle.tables.proofs.Creating.{IsMaker, create_writer}
 use Rattle.tables.proofs.Answering.{plain_query, is_param, one_column, one_key}
 use Rattle.tables.proofs.Selecting.{projected, Reader, reader}
@@ -58,8 +59,8 @@ insert_ground_read = is_read ground_table _ (insert_into ground_table) _ (record
 insert_ground_keeps : (it : GroundRecord) (tree : ℕ) → cast_row (table_of ground_table tree) (Null ∷ ground_row it) ≡ Null ∷ ground_row it
 insert_ground_keeps it tree = rw (cast_null, cast_int (pos it.begin_at), cast_int (pos it.end_at))
 
-pub insert_ground : (it : GroundRecord) (old : State) → IsTable ground_table old.now.schema → Writer insert_ground_text (ground_row it) (Inserts ground_table (ground_row it)) old
-insert_ground it = insert_writer ground_table (lit Null ∷ col 0 0 ∷ col 0 1 ∷ col 0 2 ∷ col 0 3 ∷ col 0 4 ∷ []) 6 _ insert_ground_read (ground_row it) (ground_row it) (λ _. refl) refl (insert_ground_keeps it)
+pub insert_ground : (it : GroundRecord) (old : State) → IsTable ground_table old.now.schema → Writer insert_ground_text (ground_row it) (InsertsFree ground_table (ground_row it)) old
+insert_ground it = insert_writer ground_table (lit Null ∷ col 0 0 ∷ col 0 1 ∷ col 0 2 ∷ col 0 3 ∷ col 0 4 ∷ []) 6 _ insert_ground_read (ground_row it) (ground_row it) (λ _. refl) refl (insert_ground_keeps it) (λ r. ((refl, tt), ((refl, (refl, tt)), tt))) ((refl, tt), ((refl, (refl, tt)), tt))
 
 -- ----
 

@@ -29,7 +29,7 @@ use Rattle.sqlite_value.specs.declared.keys.Order.{Order}
 use Rattle.std.proofs.lemmas.Bool.{cases_Bool}
 use Rattle.sqlite_rules.proofs.ListLemmas.{some_from, all_from, all_has, has_found}
 use Rattle.sqlite_value.proofs.OrderLemmas.{value_cmp_total}
-use Rattle.std.proofs.lemmas.Cmp.{tied_back}
+use Rattle.std.proofs.lemmas.Cmp.{tied_back, tied_itself}
 use Rattle.std.proofs.Common.{Equal}
 use Rattle.sqlite_rules.proofs.TableLemmas.{put_all_has, put_all_keeps, put_all_adds}
 use Rattle.sqlite_rules.proofs.ProbeLemmas.{has_mapped, mapped_has}
@@ -40,7 +40,7 @@ use Rattle.sqlite.specs.declared.run.Mode.{Mode}
 use Rattle.sqlite.proofs.Callers.{one_step}
 use Rattle.tables.specs.Schema.{BookTable, IsTable, IsUnreferenced, table_of}
 use Rattle.tables.specs.Rows.{cells, AreNumbered, Changes, Inserts}
-use Rattle.tables.proofs.Known.{some_same, place, stored_is, others_apart}
+use Rattle.tables.proofs.Known.{some_same, place, stored_is, others_apart, rows_kept}
 
 -- ---- no foreign key acts
 
@@ -161,7 +161,8 @@ changes_by kept old after there same Is rows others =
     let was = stored_is kept old.schema there old refl in
     let now = stored_is kept old.schema there after same in
     let it = subst₂ (λ o n. ChangesRows kept o n (Is o)) (sym was) (sym now) rows in
-    record { schema = same; has = it.has; all = it.all; others = others_apart kept old.schema there after.trees old.trees others; stored = it.stored }
+    let apart = others_apart kept old.schema there after.trees old.trees others in
+    record { schema = same; has = it.has; all = it.all; others = apart; keeps = rows_kept kept old after same apart; stored = it.stored }
 
 module _ (kept : BookTable) (limit : Option ℕ) (old after : Database) (text : List ℕ) (params : Row) (tally : Tally) (terms : List Term) (width : ℕ)
     (there : IsTable kept old.schema)
@@ -251,3 +252,20 @@ module _ (kept : BookTable) (limit : Option ℕ) (old after : Database) (text : 
 
     pub inserted : Inserts kept x old after
     inserted = changes_by kept old after there insert_applies.1 (λ rows y. (y ≡ x) ⊎ Has (map (cells kept) rows) y) grows insert_applies.0.tables
+
+    -- the row that is new
+    pub record NewRow : Type 0 where
+      pub it : Row
+      pub put : Has (after.trees tree) it
+      pub shown : cells kept it ≡ x
+      pub apart : (r : Row) → Has rows r → r ≢ it
+      pub still : (r : Row) → Has rows r → Has (after.trees tree) r
+
+    pub new_row : NewRow
+    new_row = record {
+      it = row;
+      put = subst (λ l. Has l row) (sym grown) (put_all_adds (row ∷ []) rows row fresh (inl refl));
+      shown = shape _;
+      apart = λ r h same. not_tied r h (subst (λ q. value_cmp (rowid q) (rowid row) ≡ Equal) (sym same) (tied_itself value_cmp_total (rowid row)));
+      still = λ r h. subst (λ l. Has l r) (sym grown) (put_all_keeps (row ∷ []) rows r fresh h);
+    }

@@ -1,5 +1,5 @@
 -- In a book that is sound a key stands in one row at most.
-use Rattle.std.proofs.Common.{◌≡◌, inl, inr, ℕ, ℤ, List, [], ◌∷◌, map, true, false, ◌&&◌, ◌==◌, eq-eqb, refl, sym, ap, subst, slice_get, slice_index_or, ◌∙◌, Ordering, Less, Equal, Greater}
+use Rattle.std.proofs.Common.{zero, suc, Some, ◌≡◌, inl, inr, ℕ, ℤ, List, [], ◌∷◌, map, true, false, ◌&&◌, ◌==◌, eq-eqb, refl, sym, ap, subst, slice_get, slice_index_or, ◌∙◌, Ordering, Less, Equal, Greater}
 use Rattle.std.specs.Ordering.{is_eq, is_ne}
 use Rattle.std.proofs.lemmas.Bool.{cases_Bool, and_parts, and_from}
 use Rattle.std.proofs.lemmas.Cmp.{tied_back}
@@ -34,7 +34,12 @@ not_ne Less h = absurd (cc)
 not_ne Equal h = refl
 not_ne Greater h = absurd (cc)
 
-module _ (kept : BookTable) (db : Database) (key : List ℕ) (more : List (List ℕ)) (keys : kept.keys ≡ key ∷ more) (there : IsTable kept db.schema) (sound : IsSound db.schema db.trees) (stored_apart : IsStored kept db) where
+plain_at : (keys : List (List ℕ)) (at : ℕ) → slice_index_or (map (λ _. plain) keys) at plain ≡ plain
+plain_at [] at = refl
+plain_at (key ∷ keys) zero = refl
+plain_at (key ∷ keys) (suc at) = plain_at keys at
+
+module _ (kept : BookTable) (db : Database) (at : ℕ) (key : List ℕ) (got : slice_get kept.keys at ≡ Some key) (there : IsTable kept db.schema) (sound : IsSound db.schema db.trees) (stored_apart : IsStored kept db) where
   stored_rows : stored kept db ≡ db.trees there.tree
   stored_rows = stored_is kept db.schema there db refl
 
@@ -48,9 +53,9 @@ module _ (kept : BookTable) (db : Database) (key : List ℕ) (more : List (List 
       let numbers = subst AreNumbered stored_rows stored_apart in
       let same : (tree == tree) ≡ true = eq-eqb tree tree refl in
       let its_place = listed kept db.schema there in
-      let guard = all_has _ db.schema.tables table sound.lists.guarded its_place 0 key (ap (λ l. slice_get l 0) keys) in
-      let i = automatic table 0 key guard.0 in
-      let ordered : i.order ≡ plain = ap (λ l. slice_index_or (map (λ _. plain) l) 0 plain) keys in
+      let guard = all_has _ db.schema.tables table sound.lists.guarded its_place at key got in
+      let i = automatic table at key guard.0 in
+      let ordered : i.order ≡ plain = plain_at kept.keys at in
       let passes = test_has _ db.schema.indexes i (all_has _ rows b (all_has _ db.schema.tables table (sound.obeys.rules Unique) its_place) k) guard.1 in
       let test = λ (other : Row). agree plain key other key b && differ (rowid other) (rowid b) in
       let tied : value_cmp (rowid a) (rowid b) ≡ Equal = elim (cases_Bool (differ (rowid a) (rowid b))) [
@@ -82,7 +87,7 @@ module _ (kept : BookTable) (db : Database) (key : List ℕ) (more : List (List 
   rows_same agrees =
       let m = has_mapped (cells kept) (stored kept db) x h in
       let n = has_mapped (cells kept) (stored kept db) y k in
-      m.2 ∙ ap (cells kept) (one_row kept db key more keys there sound stored_apart m.0 n.0 m.1 n.1 (agrees m.0 n.0 m.2 n.2)) ∙ sym n.2
+      m.2 ∙ ap (cells kept) (one_row kept db 0 key (ap (λ l. slice_get l 0) keys) there sound stored_apart m.0 n.0 m.1 n.1 (agrees m.0 n.0 m.2 n.2)) ∙ sym n.2
 
   pub once_by_one : (v : Value) → key ≡ 1 ∷ [] → ((r : Row) → column (cells kept r) 0 ≡ column r 1) → is_null v ≡ false → begins_with (v ∷ []) x ≡ true → begins_with (v ∷ []) y ≡ true → x ≡ y
   unfolding first_key

@@ -1,5 +1,5 @@
 -- What is known of a schema that has a table of the book.
-use Rattle.std.proofs.Common.{IsTrue, IsSome, is_some, Option, ◌↔◌, ◌≡◌, ◌≢◌, ◌^◌, ◌==◌, ◌<◌, ℕ, Bool, List, [], ◌∷◌, true, false, inl, inr, find, slice_get, nat_lt, nat_le, length, Some, ◌+◌, ◌++◌, append_assoc, length-append, refl, ap, subst, ◌∙◌, eqb-true, eq-eqb, arith}
+use Rattle.std.proofs.Common.{IsTrue, IsSome, is_some, Option, ◌↔◌, ◌≡◌, ◌≢◌, ◌^◌, ◌==◌, ◌<◌, ℕ, Bool, List, [], ◌∷◌, true, false, inl, inr, find, slice_get, nat_lt, nat_le, length, Some, ◌+◌, ◌++◌, append_assoc, length-append, refl, sym, ap, subst, ◌∙◌, eqb-true, eq-eqb, arith}
 use Rattle.std.proofs.lemmas.Bool.{cases_Bool}
 use Rattle.std.proofs.lemmas.Bool.Decides.{nat_tests}
 use Rattle.std.specs.List.{AllByRecursion, position_from}
@@ -81,18 +81,21 @@ module _ (it : BookTable) (schema : Schema) (there : IsTable it schema) where
   }
 
   -- a table with another name is kept in another tree
-  pub apart : (t : Table) → Has schema.tables t → same_name t.name it.name ≡ false → t.tree ≢ there.tree
-  apart t h other same =
-      let e = ap (λ n. same_name n it.name) (all_has _ schema.tables t there.alone h same) in
-      let own = same_itself it.name in
-      cc
+  apart : (t : Table) → Has schema.tables t → t.name ≢ it.name → t.tree ≢ there.tree
+  apart t h other same = other (all_has _ schema.tables t there.alone h same)
 
   pub others_apart : (new old : Trees) → AllByRecursion (λ t. t.tree ≢ there.tree → new t.tree ≡ old t.tree) schema.tables
-      → AllByRecursion (λ t. same_name t.name it.name ≡ false → new t.tree ≡ old t.tree) schema.tables
+      → AllByRecursion (λ t. t.name ≢ it.name → new t.tree ≡ old t.tree) schema.tables
   others_apart new old all = all_from _ schema.tables (λ t h other. all_has _ schema.tables t all h (apart t h other))
 
   pub stored_is : (db : Database) → db.schema ≡ schema → stored it db ≡ db.trees there.tree
   stored_is db same = ap (λ s. kept_in db.trees (table_found s it.name)) same ∙ ap (kept_in db.trees) there.found
+
+-- a table of the book keeps its rows where each table with another name does
+pub rows_kept : (it : BookTable) (old new : Database) → new.schema ≡ old.schema → AllByRecursion (λ t. t.name ≢ it.name → new.trees t.tree ≡ old.trees t.tree) old.schema.tables
+    → (other : BookTable) → IsTable other old.schema → other.name ≢ it.name → stored other new ≡ stored other old
+rows_kept it old new same others other there differs =
+    stored_is other old.schema there new same ∙ all_has _ old.schema.tables (table_of other there.tree) others (listed other old.schema there) differs ∙ sym (stored_is other old.schema there old refl)
 
 -- ---- whether a name finds a table
 

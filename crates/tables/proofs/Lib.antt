@@ -11,6 +11,7 @@ pub mod ReadingLemmas
 pub mod Selecting
 pub mod LoadingLemmas
 pub mod KeyLemmas
+pub mod Holding
 pub mod Transactions
 pub mod BookTexts
 pub mod CrewTexts

@@ -13,9 +13,10 @@ use Rattle.tables.specs.Declarations.{HaveNoDefault, IsTextOf}
 use Rattle.sqlite_schema.specs.declared.schema.Column.{Column}
 use Rattle.std.proofs.lemmas.List.Elements.{All-from_recursion}
 use Rattle.tables.specs.Records.{pairing_row}
-use Rattle.tables.specs.Rows.{Makes, Inserts, Deletes, begins_with}
+use Rattle.tables.specs.Rows.{Makes, Deletes, begins_with}
 use Rattle.tables.proofs.Inserting.{cast_null}
-use Rattle.tables.proofs.Statements.{Writer, insert_writer}
+use Rattle.tables.proofs.Statements.{Writer}
+use Rattle.tables.proofs.Holding.{InsertsFree, insert_writer}
 use Rattle.tables.proofs.Creating.{IsMaker, create_writer}
 use Rattle.tables.proofs.Answering.{plain_query, is_param, one_key}
 use Rattle.tables.proofs.Selecting.{projected, Reader, reader}
@@ -58,8 +59,8 @@ insert_pairing_read = is_read pairing_table _ (insert_into pairing_table) _ (rec
 insert_pairing_keeps : (it : PairingRecord) (tree : ℕ) → cast_row (table_of pairing_table tree) (Null ∷ pairing_row it) ≡ Null ∷ pairing_row it
 insert_pairing_keeps it tree = rw (cast_null)
 
-pub insert_pairing : (it : PairingRecord) (old : State) → IsTable pairing_table old.now.schema → Writer insert_pairing_text (pairing_row it) (Inserts pairing_table (pairing_row it)) old
-insert_pairing it = insert_writer pairing_table (lit Null ∷ col 0 0 ∷ []) 2 _ insert_pairing_read (pairing_row it) (pairing_row it) (λ _. refl) refl (insert_pairing_keeps it)
+pub insert_pairing : (it : PairingRecord) (old : State) → IsTable pairing_table old.now.schema → Writer insert_pairing_text (pairing_row it) (InsertsFree pairing_table (pairing_row it)) old
+insert_pairing it = insert_writer pairing_table (lit Null ∷ col 0 0 ∷ []) 2 _ insert_pairing_read (pairing_row it) (pairing_row it) (λ _. refl) refl (insert_pairing_keeps it) (λ r. ((refl, tt), tt)) ((refl, tt), tt)
 
 -- ----
 

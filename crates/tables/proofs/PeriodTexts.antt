@@ -16,9 +16,10 @@ use Rattle.tables.specs.Declarations.{HaveNoDefault, IsTextOf}
 use Rattle.sqlite_schema.specs.declared.schema.Column.{Column}
 use Rattle.std.proofs.lemmas.List.Elements.{All-from_recursion}
 use Rattle.tables.specs.Records.{period_row, with_period_times}
-use Rattle.tables.specs.Rows.{Makes, Inserts, Deletes, Updates, cells, begins_with}
+use Rattle.tables.specs.Rows.{Makes, Deletes, Updates, cells, begins_with}
 use Rattle.tables.proofs.Inserting.{cast_null, cast_int, cast_any, cast_number}
-use Rattle.tables.proofs.Statements.{Writer, insert_writer}
+use Rattle.tables.proofs.Statements.{Writer}
+use Rattle.tables.proofs.Holding.{InsertsFree, insert_writer}
 use Rattle.tables.proofs.Creating.{IsMaker, create_writer}
 use Rattle.tables.proofs.Answering.{plain_query, is_param, one_key, two_keys}
 use Rattle.tables.proofs.Selecting.{projected, Reader, reader}
@@ -63,8 +64,8 @@ insert_period_read = is_read period_table _ (insert_into period_table) _ (record
 insert_period_keeps : (it : PeriodRecord) (tree : ℕ) → cast_row (table_of period_table tree) (Null ∷ period_row it) ≡ Null ∷ period_row it
 insert_period_keeps it tree = rw (cast_null, cast_int (pos it.number), cast_int (pos it.report_at), cast_int (pos it.release_at), cast_any it.act_report, cast_any it.act_release)
 
-pub insert_period : (it : PeriodRecord) (old : State) → IsTable period_table old.now.schema → Writer insert_period_text (period_row it) (Inserts period_table (period_row it)) old
-insert_period it = insert_writer period_table (lit Null ∷ col 0 0 ∷ col 0 1 ∷ col 0 2 ∷ col 0 3 ∷ col 0 4 ∷ col 0 5 ∷ []) 7 _ insert_period_read (period_row it) (period_row it) (λ _. refl) refl (insert_period_keeps it)
+pub insert_period : (it : PeriodRecord) (old : State) → IsTable period_table old.now.schema → Writer insert_period_text (period_row it) (InsertsFree period_table (period_row it)) old
+insert_period it = insert_writer period_table (lit Null ∷ col 0 0 ∷ col 0 1 ∷ col 0 2 ∷ col 0 3 ∷ col 0 4 ∷ col 0 5 ∷ []) 7 _ insert_period_read (period_row it) (period_row it) (λ _. refl) refl (insert_period_keeps it) (λ r. ((refl, (refl, tt)), tt)) ((refl, (refl, tt)), tt)
 
 -- ----
 

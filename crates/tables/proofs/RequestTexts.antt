@@ -13,9 +13,10 @@ use Rattle.tables.specs.Declarations.{HaveNoDefault, IsTextOf}
 use Rattle.sqlite_schema.specs.declared.schema.Column.{Column}
 use Rattle.std.proofs.lemmas.List.Elements.{All-from_recursion}
 use Rattle.tables.specs.Records.{request_row}
-use Rattle.tables.specs.Rows.{Makes, Inserts, begins_with}
+use Rattle.tables.specs.Rows.{Makes, begins_with}
 use Rattle.tables.proofs.Inserting.{cast_null, cast_int}
-use Rattle.tables.proofs.Statements.{Writer, insert_writer}
+use Rattle.tables.proofs.Statements.{Writer}
+use Rattle.tables.proofs.Holding.{InsertsFree, insert_writer}
 use Rattle.tables.proofs.Creating.{IsMaker, create_writer}
 use Rattle.tables.proofs.Answering.{plain_query, is_param, two_keys}
 use Rattle.tables.proofs.Selecting.{projected, Reader, reader}
@@ -57,8 +58,8 @@ insert_request_read = is_read request_table _ (insert_into request_table) _ (rec
 insert_request_keeps : (it : RequestRecord) (tree : ℕ) → cast_row (table_of request_table tree) (Null ∷ request_row it) ≡ Null ∷ request_row it
 insert_request_keeps it tree = rw (cast_null, cast_int it.number, cast_int (pos it.part))
 
-pub insert_request : (it : RequestRecord) (old : State) → IsTable request_table old.now.schema → Writer insert_request_text (request_row it) (Inserts request_table (request_row it)) old
-insert_request it = insert_writer request_table (lit Null ∷ col 0 0 ∷ col 0 1 ∷ col 0 2 ∷ col 0 3 ∷ []) 5 _ insert_request_read (request_row it) (request_row it) (λ _. refl) refl (insert_request_keeps it)
+pub insert_request : (it : RequestRecord) (old : State) → IsTable request_table old.now.schema → Writer insert_request_text (request_row it) (InsertsFree request_table (request_row it)) old
+insert_request it = insert_writer request_table (lit Null ∷ col 0 0 ∷ col 0 1 ∷ col 0 2 ∷ col 0 3 ∷ []) 5 _ insert_request_read (request_row it) (request_row it) (λ _. refl) refl (insert_request_keeps it) (λ r. ((refl, (refl, tt)), tt)) ((refl, (refl, tt)), tt)
 
 -- ----
 

@@ -13,9 +13,10 @@ use Rattle.tables.specs.Declarations.{HaveNoDefault, IsTextOf}
 use Rattle.sqlite_schema.specs.declared.schema.Column.{Column}
 use Rattle.std.proofs.lemmas.List.Elements.{All-from_recursion}
 use Rattle.tables.specs.Records.{seat_row}
-use Rattle.tables.specs.Rows.{Makes, Inserts, Deletes, begins_with, equals_at}
+use Rattle.tables.specs.Rows.{Makes, Deletes, begins_with, equals_at}
 use Rattle.tables.proofs.Inserting.{cast_null, cast_int}
-use Rattle.tables.proofs.Statements.{Writer, insert_writer}
+use Rattle.tables.proofs.Statements.{Writer}
+use Rattle.tables.proofs.Holding.{InsertsFree, insert_writer}
 use Rattle.tables.proofs.Creating.{IsMaker, create_writer}
 use Rattle.tables.proofs.Answering.{plain_query, is_param, one_column, one_key, two_keys}
 use Rattle.tables.proofs.Selecting.{projected, Reader, reader}
@@ -58,8 +59,8 @@ insert_seat_read = is_read seat_table _ (insert_into seat_table) _ (record { wen
 insert_seat_keeps : (it : SeatRecord) (tree : ℕ) → cast_row (table_of seat_table tree) (Null ∷ seat_row it) ≡ Null ∷ seat_row it
 insert_seat_keeps it tree = rw (cast_null, cast_int (pos it.seat))
 
-pub insert_seat : (it : SeatRecord) (old : State) → IsTable seat_table old.now.schema → Writer insert_seat_text (seat_row it) (Inserts seat_table (seat_row it)) old
-insert_seat it = insert_writer seat_table (lit Null ∷ col 0 0 ∷ col 0 1 ∷ col 0 2 ∷ []) 4 _ insert_seat_read (seat_row it) (seat_row it) (λ _. refl) refl (insert_seat_keeps it)
+pub insert_seat : (it : SeatRecord) (old : State) → IsTable seat_table old.now.schema → Writer insert_seat_text (seat_row it) (InsertsFree seat_table (seat_row it)) old
+insert_seat it = insert_writer seat_table (lit Null ∷ col 0 0 ∷ col 0 1 ∷ col 0 2 ∷ []) 4 _ insert_seat_read (seat_row it) (seat_row it) (λ _. refl) refl (insert_seat_keeps it) (λ r. ((refl, (refl, tt)), ((refl, (refl, tt)), tt))) ((refl, (refl, tt)), ((refl, (refl, tt)), tt))
 
 -- ----
 

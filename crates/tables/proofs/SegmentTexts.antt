@@ -16,9 +16,10 @@ use Rattle.tables.specs.Declarations.{HaveNoDefault, IsTextOf}
 use Rattle.sqlite_schema.specs.declared.schema.Column.{Column}
 use Rattle.std.proofs.lemmas.List.Elements.{All-from_recursion}
 use Rattle.tables.specs.Records.{segment_row, with_segment_times}
-use Rattle.tables.specs.Rows.{Makes, Inserts, Deletes, Updates, cells, begins_with}
+use Rattle.tables.specs.Rows.{Makes, Deletes, Updates, cells, begins_with}
 use Rattle.tables.proofs.Inserting.{cast_null, cast_int, cast_any, cast_number}
-use Rattle.tables.proofs.Statements.{Writer, insert_writer}
+use Rattle.tables.proofs.Statements.{Writer}
+use Rattle.tables.proofs.Holding.{InsertsFree, insert_writer}
 use Rattle.tables.proofs.Creating.{IsMaker, create_writer}
 use Rattle.tables.proofs.Answering.{plain_query, is_param, one_key, three_keys}
 use Rattle.tables.proofs.Selecting.{projected, Reader, reader}
@@ -63,8 +64,8 @@ insert_segment_read = is_read segment_table _ (insert_into segment_table) _ (rec
 insert_segment_keeps : (it : SegmentRecord) (tree : ℕ) → cast_row (table_of segment_table tree) (Null ∷ segment_row it) ≡ Null ∷ segment_row it
 insert_segment_keeps it tree = rw (cast_null, cast_int (pos it.period), cast_int (pos it.number), cast_int (pos it.out_at), cast_int (pos it.in_at), cast_any it.act_out, cast_any it.act_in)
 
-pub insert_segment : (it : SegmentRecord) (old : State) → IsTable segment_table old.now.schema → Writer insert_segment_text (segment_row it) (Inserts segment_table (segment_row it)) old
-insert_segment it = insert_writer segment_table (lit Null ∷ col 0 0 ∷ col 0 1 ∷ col 0 2 ∷ col 0 3 ∷ col 0 4 ∷ col 0 5 ∷ col 0 6 ∷ col 0 7 ∷ col 0 8 ∷ col 0 9 ∷ []) 11 _ insert_segment_read (segment_row it) (segment_row it) (λ _. refl) refl (insert_segment_keeps it)
+pub insert_segment : (it : SegmentRecord) (old : State) → IsTable segment_table old.now.schema → Writer insert_segment_text (segment_row it) (InsertsFree segment_table (segment_row it)) old
+insert_segment it = insert_writer segment_table (lit Null ∷ col 0 0 ∷ col 0 1 ∷ col 0 2 ∷ col 0 3 ∷ col 0 4 ∷ col 0 5 ∷ col 0 6 ∷ col 0 7 ∷ col 0 8 ∷ col 0 9 ∷ []) 11 _ insert_segment_read (segment_row it) (segment_row it) (λ _. refl) refl (insert_segment_keeps it) (λ r. ((refl, (refl, (refl, tt))), tt)) ((refl, (refl, (refl, tt))), tt)
 
 -- ----
 

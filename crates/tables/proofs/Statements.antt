@@ -1,31 +1,25 @@
 -- From a text to what the statement makes of the tables.
-use Rattle.std.proofs.Common.{append-nil, arith, ◌≡◌, inl, inr, ℕ, ◌/◌, List, [], ◌∷◌, false, None, Ok, Err, Result, refl, sym, ap, subst, ◌∙◌, length}
+use Rattle.std.proofs.Common.{append-nil, arith, ◌≡◌, inl, inr, ℕ, List, false, None, Ok, Err, Result, refl, sym, ap, subst, ◌∙◌}
 use Rattle.std.proofs.lemmas.Bool.{cases_Bool}
-use Rattle.sqlite_value.specs.declared.value.Value.{Value}
-use Rattle.sqlite_value.specs.declared.value.Value.TheVariants.{Null}
 use Rattle.sqlite_value.specs.Order.{Row}
 use Rattle.sqlite_trees.specs.Tree.{Trees}
 use Rattle.sqlite_schema.specs.declared.schema.Schema.{Schema}
-use Rattle.sqlite_schema.specs.declared.command.Source.TheVariants.{Values}
 use Rattle.sqlite_schema.specs.declared.command.Command.{Command}
-use Rattle.sqlite_schema.specs.declared.command.Command.TheVariants.{Insert, Commit, Release}
-use Rattle.sqlite_sql.specs.Term.{Term}
-use Rattle.sqlite_rules.specs.Cast.{cast_row}
+use Rattle.sqlite_schema.specs.declared.command.Command.TheVariants.{Commit, Release}
 use Rattle.sqlite.specs.declared.error.Error.{Error}
 use Rattle.sqlite.specs.declared.error.Error.TheVariants.{SqliteFailure}
 use Rattle.sqlite.specs.declared.error.ErrorCode.TheVariants.{OutOfMemory}
-use Rattle.sqlite.specs.Effect.{Database, IsDatabase, value_rows}
+use Rattle.sqlite.specs.Effect.{Database, IsDatabase}
 use Rattle.sqlite.specs.Does.{Tally, Does}
 use Rattle.sqlite.specs.Listing.{understood}
 use Rattle.sqlite.specs.State.{State, Writes, Runs, Executes, ExecutesIn, CommitsBy, IsNotRun, MayCommit, Survives, shows_rows, text_of, HasCleanDisk}
 use Rattle.sqlite.proofs.StateLemmas.{survives_weaker}
 use Rattle.tables.proofs.Survival.{later}
 use Rattle.sqlite.proofs.Callers.{IsPlain, command_of, statement_of, runs_as}
-use Rattle.tables.proofs.Inserting.{inserted, plain_mode}
-use Rattle.tables.specs.Schema.{BookTable, IsTable, table_of}
+use Rattle.tables.proofs.Inserting.{plain_mode}
+use Rattle.tables.specs.Schema.{BookTable, IsTable}
 use Rattle.tables.proofs.Known.{place, known}
 use Rattle.tables.proofs.Compiling.{IsRead}
-use Rattle.tables.specs.Rows.{cells, Inserts}
 use Rattle.tables.specs.Calls.{Ran, MayLeave, Leaves}
 use Rattle.tables.specs.Texts.{Performs}
 use Rattle.tables.specs.Faults.{fault_of}
@@ -77,20 +71,13 @@ module _ (text : List ℕ) (params : Row) (command : Command) (schema : Schema) 
 
 -- the same of a command that changes rows of a table that is there
 module _ (kept : BookTable) (text : List ℕ) (params : Row) (command : ℕ → ℕ → Command) (read : IsRead kept text command) (Is : Database → Database → Type 0) (old : State) (there : IsTable kept old.now.schema)
-    (does : (t : List ℕ) (tally : Tally) (after : Database) → Does old.step_limit plain_mode params old.now t None (command (place kept old.now.schema there).0 there.tree) (Ok (tally, after)) → Is old.now after)
+    (does : (t : List ℕ) (tally : Tally) (after : Database) → IsDatabase after → Does old.step_limit plain_mode params old.now t None (command (place kept old.now.schema there).0 there.tree) (Ok (tally, after)) → Is old.now after)
     (writes : (new : State) (t : List ℕ) (count : ℕ) → Runs old new None (command (place kept old.now.schema there).0 there.tree) t params count → Writes old new None (command (place kept old.now.schema there).0 there.tree) t params count)
     (not_commit : command (place kept old.now.schema there).0 there.tree ≡ Commit → ⊥) (not_release : (name : List ℕ) → command (place kept old.now.schema there).0 there.tree ≡ Release name → ⊥) where
   pub table_writer : Writer text params Is old
   table_writer =
       let facts = known kept old.now.schema there in
-      writer text params (command (place kept old.now.schema there).0 there.tree) old.now.schema (read.is _ _ _ facts) (read.plain _ _ _ facts) Is old refl (λ t _ tally after _. does t tally after) writes not_commit not_release
-
-module _ (kept : BookTable) (terms : List Term) (width : ℕ) (text : List ℕ) (read : IsRead kept text (λ at _. Insert at (Values terms width)))
-    (params x : Row) (shape : (v : Value) → cells kept (v ∷ x) ≡ x) (one : value_rows params width (length terms / width) terms ≡ (Null ∷ x) ∷ []) (cast_is : (tree : ℕ) → cast_row (table_of kept tree) (Null ∷ x) ≡ Null ∷ x)
-    (old : State) (there : IsTable kept old.now.schema) where
-  pub insert_writer : Writer text params (Inserts kept x) old
-  insert_writer = table_writer kept text params (λ at _. Insert at (Values terms width)) read (Inserts kept x) old there
-      (λ t tally after h. inserted kept old.step_limit old.now after t params tally terms width there h x (Null ∷ x) shape one (cast_is there.tree)) (λ _ _ _ h. h) (λ e. cc) (λ n e. cc)
+      writer text params (command (place kept old.now.schema there).0 there.tree) old.now.schema (read.is _ _ _ facts) (read.plain _ _ _ facts) Is old refl (λ t _ tally after sound. does t tally after sound) writes not_commit not_release
 
 -- ---- from the clauses of `run` to those of a function
 

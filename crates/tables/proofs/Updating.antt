@@ -183,5 +183,5 @@ module _ (kept : BookTable) (filter terms : List Term) (text : List ℕ)
     (old : State) (there : IsTable kept old.now.schema) (free : IsUnreferenced kept old.now.schema) where
   pub update_writer : Writer text params (Updates kept test change) old
   update_writer = table_writer kept text params (λ at tree. Update at (record { lets = []; body = plain_query tree filter (col 1 0 ∷ terms) [] })) read (Updates kept test change) old there
-      (λ t tally after h stored.
+      (λ t tally after _ h stored.
       updates kept old.step_limit old.now after t params tally filter terms there free h test tests (subst AreNumbered (stored_is kept old.now.schema there old.now refl) stored) change (writes there.tree) shape) (λ _ _ _ h. h) (λ e. cc) (λ n e. cc)

@@ -1,5 +1,5 @@
 -- The rows of one table, and what a change makes of them.
-use Rattle.std.specs.Prelude.{◌≡◌, ◌⊎◌, ◌&&◌, ◌+◌, Bool, true, false, Option, None, Some, ℕ, zero, suc, List, [], ◌∷◌, map, filter, length, IsPermutation, IsSorted}
+use Rattle.std.specs.Prelude.{◌≡◌, ◌≢◌, ◌⊎◌, ◌&&◌, ◌+◌, ◌-◌, Bool, true, false, Option, None, Some, ℕ, zero, suc, List, [], ◌∷◌, map, filter, length, IsPermutation, IsSorted}
 use Rattle.std.specs.Ordering.{is_eq, ordering_then}
 use Rattle.std.specs.declared.cmp.Ordering.{Ordering}
 use Rattle.std.specs.declared.cmp.Ordering.TheVariants.{Equal}
@@ -12,7 +12,6 @@ use Rattle.sqlite_rules.specs.Lists.{Has}
 use Rattle.sqlite.specs.Effect.{Database}
 use Rattle.sqlite.specs.Does.{lacks_sequence}
 use Rattle.sqlite_schema.specs.declared.schema.Table.{Table}
-use Rattle.sqlite_schema.specs.Names.{same_name}
 use Rattle.sqlite_catalog.specs.Change.{is_used, created}
 use Rattle.tables.specs.Schema.{BookTable, IsTable, IsUnreferenced, table_found, table_of}
 
@@ -60,6 +59,15 @@ begins_with = begins_from 0
 abbrev pub equals_at : ℕ → Value → Row → Bool
 equals_at at v row = is_eq (value_cmp (column row at) v)
 
+-- two rows have the same values at the columns of a key, as SQL compares them; a key counts columns from 1
+abbrev pub same_at : List ℕ → Row → Row → Bool
+same_at [] a b = true
+same_at (p ∷ ps) a b = is_eq (value_cmp (column a (p - 1)) (column b (p - 1))) && same_at ps a b
+
+-- some row of the table has a key of this row
+abbrev pub HasKeyOf : BookTable → Row → Database → Type 0
+HasKeyOf table row db = (x : Row) × (key : List ℕ) × Has (rows_of table db) x × Has table.keys key × (same_at key x row ≡ true)
+
 -- ---- what is found
 
 -- just the rows that pass the test, each as often as the table has it, in any order
@@ -81,12 +89,14 @@ HasNoRecord table test IsRecord db = (x : Row) × Has (rows_of table db) x × (t
 
 -- ---- what is changed
 
--- The table has just the rows that the fact holds of. The schema and each other table are as they were.
+-- The table has just the rows that the fact holds of. The schema and each other table are as they were, so those of the
+-- book too.
 pub record Changes (table : BookTable) (old new : Database) (Is : Row → Type 0) : Type 0 where
   pub schema : new.schema ≡ old.schema
   pub has : (x : Row) → Has (rows_of table new) x → Is x
   pub all : (x : Row) → Is x → Has (rows_of table new) x
-  pub others : AllByRecursion (λ t. same_name t.name table.name ≡ false → new.trees t.tree ≡ old.trees t.tree) old.schema.tables
+  pub others : AllByRecursion (λ t. t.name ≢ table.name → new.trees t.tree ≡ old.trees t.tree) old.schema.tables
+  pub keeps : (other : BookTable) → IsTable other old.schema → other.name ≢ table.name → stored other new ≡ stored other old
   pub stored : IsStored table old → IsStored table new
 
 -- this row is there, and those that were

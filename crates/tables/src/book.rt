@@ -5,7 +5,7 @@ ghost use Rattle.sqlite.specs.Held.{state};
 ghost use Rattle.tables.specs.Schema.{book_table, IsTable, HasColumns};
 ghost use Rattle.tables.specs.Rows.{Makes, Inserts};
 ghost use Rattle.tables.specs.Records.{book_row, IsBookRow};
-ghost use Rattle.tables.specs.Calls.{HoldsTable, Ran, MayLeave, Loaded, LeavesNothing};
+ghost use Rattle.tables.specs.Calls.{HoldsTable, Ran, RefusesHeld, MayLeave, Loaded, LeavesNothing};
 ghost use Rattle.tables.specs.declared.table_fault.TableFault.TheVariants as fault;
 
 use crate::declared::{has_columns, is_there};
@@ -86,6 +86,7 @@ pub fn create_book<S: Alter>(conn: &mut Connection<S>) -> Result<(), TableFault>
 pub fn insert_book<S: Alter>(conn: &mut Connection<S>, book: &BookRecord) -> Result<(), TableFault>
     requires { HoldsTable book_table (state S.Store conn.old) }
     ensures ran { Ran (Inserts book_table (book_row book.now)) (state S.Store conn.old) (state S.Store conn.new) result }
+    ensures held { RefusesHeld book_table (book_row book.now) (state S.Store conn.old) (state S.Store conn.new) result }
     ensures crash { MayLeave (Inserts book_table (book_row book.now)) (state S.Store conn.old) (state S.Store conn.new) }
 {
     run(

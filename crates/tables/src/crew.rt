@@ -6,7 +6,7 @@ ghost use Rattle.sqlite.specs.Held.{state};
 ghost use Rattle.tables.specs.Schema.{crew_table, IsTable, HasColumns};
 ghost use Rattle.tables.specs.Rows.{Makes, Inserts, begins_with};
 ghost use Rattle.tables.specs.Records.{crew_row, IsCrewRow};
-ghost use Rattle.tables.specs.Calls.{HoldsTable, Ran, MayLeave, Read, Loaded, LeavesNothing};
+ghost use Rattle.tables.specs.Calls.{HoldsTable, Ran, RefusesHeld, MayLeave, Read, Loaded, LeavesNothing};
 ghost use Rattle.tables.specs.declared.table_fault.TableFault.TheVariants as fault;
 
 use crate::declared::{has_columns, is_there};
@@ -85,6 +85,7 @@ pub fn create_crew<S: Alter>(conn: &mut Connection<S>) -> Result<(), TableFault>
 pub fn insert_crew<S: Alter>(conn: &mut Connection<S>, crew: &CrewRecord) -> Result<(), TableFault>
     requires { HoldsTable crew_table (state S.Store conn.old) }
     ensures ran { Ran (Inserts crew_table (crew_row crew.now)) (state S.Store conn.old) (state S.Store conn.new) result }
+    ensures held { RefusesHeld crew_table (crew_row crew.now) (state S.Store conn.old) (state S.Store conn.new) result }
     ensures crash { MayLeave (Inserts crew_table (crew_row crew.now)) (state S.Store conn.old) (state S.Store conn.new) }
 {
     run(

@@ -5,7 +5,7 @@ ghost use Rattle.sqlite.specs.Held.{state};
 ghost use Rattle.tables.specs.Schema.{exceedance_table, IsTable, HasColumns};
 ghost use Rattle.tables.specs.Rows.{Makes, Inserts, begins_with, FindsInOrder, HasNoRecord};
 ghost use Rattle.tables.specs.Records.{exceedance_row, IsExceedanceRow};
-ghost use Rattle.tables.specs.Calls.{HoldsTable, Ran, MayLeave, ReadAs, Loaded, LeavesNothing};
+ghost use Rattle.tables.specs.Calls.{HoldsTable, Ran, RefusesHeld, MayLeave, ReadAs, Loaded, LeavesNothing};
 ghost use Rattle.tables.specs.declared.table_fault.TableFault.TheVariants as fault;
 
 use crate::declared::{has_columns, is_there};
@@ -104,6 +104,7 @@ pub fn insert_exceedance<S: Alter>(
 ) -> Result<(), TableFault>
     requires { HoldsTable exceedance_table (state S.Store conn.old) }
     ensures ran { Ran (Inserts exceedance_table (exceedance_row exceedance.now)) (state S.Store conn.old) (state S.Store conn.new) result }
+    ensures held { RefusesHeld exceedance_table (exceedance_row exceedance.now) (state S.Store conn.old) (state S.Store conn.new) result }
     ensures crash { MayLeave (Inserts exceedance_table (exceedance_row exceedance.now)) (state S.Store conn.old) (state S.Store conn.new) }
 {
     run(

@@ -6,7 +6,7 @@ ghost use Rattle.sqlite.specs.Held.{state};
 ghost use Rattle.tables.specs.Schema.{ground_table, IsTable, HasColumns};
 ghost use Rattle.tables.specs.Rows.{Makes, Inserts, Deletes, begins_with, equals_at};
 ghost use Rattle.tables.specs.Records.{ground_row, IsGroundRow};
-ghost use Rattle.tables.specs.Calls.{HoldsTable, HoldsUnreferenced, Ran, MayLeave, Read, Loaded, LeavesNothing};
+ghost use Rattle.tables.specs.Calls.{HoldsTable, HoldsUnreferenced, Ran, RefusesHeld, MayLeave, Read, Loaded, LeavesNothing};
 ghost use Rattle.tables.specs.declared.table_fault.TableFault.TheVariants as fault;
 
 use crate::declared::{has_columns, is_there};
@@ -94,6 +94,7 @@ pub fn insert_ground<S: Alter>(
 ) -> Result<(), TableFault>
     requires { HoldsTable ground_table (state S.Store conn.old) }
     ensures ran { Ran (Inserts ground_table (ground_row ground.now)) (state S.Store conn.old) (state S.Store conn.new) result }
+    ensures held { RefusesHeld ground_table (ground_row ground.now) (state S.Store conn.old) (state S.Store conn.new) result }
     ensures crash { MayLeave (Inserts ground_table (ground_row ground.now)) (state S.Store conn.old) (state S.Store conn.new) }
 {
     run(

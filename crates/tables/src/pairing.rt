@@ -6,7 +6,7 @@ ghost use Rattle.sqlite.specs.Held.{state};
 ghost use Rattle.tables.specs.Schema.{pairing_table, IsTable, HasColumns};
 ghost use Rattle.tables.specs.Rows.{Makes, Inserts, Deletes, begins_with};
 ghost use Rattle.tables.specs.Records.{pairing_row, IsPairingRow};
-ghost use Rattle.tables.specs.Calls.{HoldsTable, HoldsUnreferenced, Ran, MayLeave, Read, Loaded, LeavesNothing};
+ghost use Rattle.tables.specs.Calls.{HoldsTable, HoldsUnreferenced, Ran, RefusesHeld, MayLeave, Read, Loaded, LeavesNothing};
 ghost use Rattle.tables.specs.declared.table_fault.TableFault.TheVariants as fault;
 
 use crate::declared::{has_columns, is_there};
@@ -83,6 +83,7 @@ pub fn insert_pairing<S: Alter>(
 ) -> Result<(), TableFault>
     requires { HoldsTable pairing_table (state S.Store conn.old) }
     ensures ran { Ran (Inserts pairing_table (pairing_row pairing.now)) (state S.Store conn.old) (state S.Store conn.new) result }
+    ensures held { RefusesHeld pairing_table (pairing_row pairing.now) (state S.Store conn.old) (state S.Store conn.new) result }
     ensures crash { MayLeave (Inserts pairing_table (pairing_row pairing.now)) (state S.Store conn.old) (state S.Store conn.new) }
 {
     run(

@@ -6,7 +6,7 @@ ghost use Rattle.sqlite.specs.Held.{state};
 ghost use Rattle.tables.specs.Schema.{period_table, IsTable, HasColumns};
 ghost use Rattle.tables.specs.Rows.{Makes, Inserts, Deletes, Updates, begins_with};
 ghost use Rattle.tables.specs.Records.{period_row, IsPeriodRow, with_period_times};
-ghost use Rattle.tables.specs.Calls.{HoldsTable, HoldsUnreferenced, Ran, MayLeave, Read, Loaded, LeavesNothing};
+ghost use Rattle.tables.specs.Calls.{HoldsTable, HoldsUnreferenced, Ran, RefusesHeld, MayLeave, Read, Loaded, LeavesNothing};
 ghost use Rattle.tables.specs.declared.table_fault.TableFault.TheVariants as fault;
 
 use crate::declared::{has_columns, is_there};
@@ -101,6 +101,7 @@ pub fn insert_period<S: Alter>(
 ) -> Result<(), TableFault>
     requires { HoldsTable period_table (state S.Store conn.old) }
     ensures ran { Ran (Inserts period_table (period_row period.now)) (state S.Store conn.old) (state S.Store conn.new) result }
+    ensures held { RefusesHeld period_table (period_row period.now) (state S.Store conn.old) (state S.Store conn.new) result }
     ensures crash { MayLeave (Inserts period_table (period_row period.now)) (state S.Store conn.old) (state S.Store conn.new) }
 {
     run(

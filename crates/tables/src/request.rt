@@ -6,7 +6,7 @@ ghost use Rattle.sqlite.specs.Held.{state};
 ghost use Rattle.tables.specs.Schema.{request_table, IsTable, HasColumns};
 ghost use Rattle.tables.specs.Rows.{Makes, Inserts, begins_with};
 ghost use Rattle.tables.specs.Records.{request_row, IsRequestRow};
-ghost use Rattle.tables.specs.Calls.{HoldsTable, Ran, MayLeave, Read, Loaded, LeavesNothing};
+ghost use Rattle.tables.specs.Calls.{HoldsTable, Ran, RefusesHeld, MayLeave, Read, Loaded, LeavesNothing};
 ghost use Rattle.tables.specs.declared.table_fault.TableFault.TheVariants as fault;
 
 use crate::declared::{has_columns, is_there};
@@ -97,6 +97,7 @@ pub fn insert_request<S: Alter>(
 ) -> Result<(), TableFault>
     requires { HoldsTable request_table (state S.Store conn.old) }
     ensures ran { Ran (Inserts request_table (request_row request.now)) (state S.Store conn.old) (state S.Store conn.new) result }
+    ensures held { RefusesHeld request_table (request_row request.now) (state S.Store conn.old) (state S.Store conn.new) result }
     ensures crash { MayLeave (Inserts request_table (request_row request.now)) (state S.Store conn.old) (state S.Store conn.new) }
 {
     run(

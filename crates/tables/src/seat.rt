@@ -6,7 +6,7 @@ ghost use Rattle.sqlite.specs.Held.{state};
 ghost use Rattle.tables.specs.Schema.{seat_table, IsTable, HasColumns};
 ghost use Rattle.tables.specs.Rows.{Makes, Inserts, Deletes, begins_with, equals_at};
 ghost use Rattle.tables.specs.Records.{seat_row, IsSeatRow};
-ghost use Rattle.tables.specs.Calls.{HoldsTable, HoldsUnreferenced, Ran, MayLeave, Read, Loaded, LeavesNothing};
+ghost use Rattle.tables.specs.Calls.{HoldsTable, HoldsUnreferenced, Ran, RefusesHeld, MayLeave, Read, Loaded, LeavesNothing};
 ghost use Rattle.tables.specs.declared.table_fault.TableFault.TheVariants as fault;
 
 use crate::declared::{has_columns, is_there};
@@ -86,6 +86,7 @@ pub fn create_seat<S: Alter>(conn: &mut Connection<S>) -> Result<(), TableFault>
 pub fn insert_seat<S: Alter>(conn: &mut Connection<S>, seat: &SeatRecord) -> Result<(), TableFault>
     requires { HoldsTable seat_table (state S.Store conn.old) }
     ensures ran { Ran (Inserts seat_table (seat_row seat.now)) (state S.Store conn.old) (state S.Store conn.new) result }
+    ensures held { RefusesHeld seat_table (seat_row seat.now) (state S.Store conn.old) (state S.Store conn.new) result }
     ensures crash { MayLeave (Inserts seat_table (seat_row seat.now)) (state S.Store conn.old) (state S.Store conn.new) }
 {
     run(

@@ -6,7 +6,7 @@ ghost use Rattle.sqlite.specs.Held.{state};
 ghost use Rattle.tables.specs.Schema.{segment_table, IsTable, HasColumns};
 ghost use Rattle.tables.specs.Rows.{Makes, Inserts, Deletes, Updates, begins_with};
 ghost use Rattle.tables.specs.Records.{segment_row, IsSegmentRow, with_segment_times};
-ghost use Rattle.tables.specs.Calls.{HoldsTable, HoldsUnreferenced, Ran, MayLeave, Read, Loaded, LeavesNothing};
+ghost use Rattle.tables.specs.Calls.{HoldsTable, HoldsUnreferenced, Ran, RefusesHeld, MayLeave, Read, Loaded, LeavesNothing};
 ghost use Rattle.tables.specs.declared.table_fault.TableFault.TheVariants as fault;
 
 use crate::declared::{has_columns, is_there};
@@ -117,6 +117,7 @@ pub fn insert_segment<S: Alter>(
 ) -> Result<(), TableFault>
     requires { HoldsTable segment_table (state S.Store conn.old) }
     ensures ran { Ran (Inserts segment_table (segment_row segment.now)) (state S.Store conn.old) (state S.Store conn.new) result }
+    ensures held { RefusesHeld segment_table (segment_row segment.now) (state S.Store conn.old) (state S.Store conn.new) result }
     ensures crash { MayLeave (Inserts segment_table (segment_row segment.now)) (state S.Store conn.old) (state S.Store conn.new) }
 {
     run(
