@@ -140,9 +140,9 @@ book_tables =
 abbrev pub table_found : Schema → List ℕ → Option Table
 table_found schema name = find (λ t. same_name t.name name) schema.tables
 
--- A table of the book is there as its text declares it, and no other table is kept in its tree. Where it stands among
--- the tables, and what the others are, is open. (`sqlite` keeps every table in a tree of its own, and numbers trees far
--- below 2^31, but no clause of it says so.)
+-- A table of the book is there as its text declares it, and no table with another name is kept in its tree. Where it
+-- stands among the tables, and what the others are, is open. (`sqlite` keeps every table in a tree of its own, but no
+-- clause of it says so.)
 pub record IsTable (it : BookTable) (schema : Schema) : Type 0 where
   pub tree : ℕ
   pub found : table_found schema it.name ≡ Some (table_of it tree)
