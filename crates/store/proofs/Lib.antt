@@ -1,0 +1,4 @@
+pub mod Lists
+pub mod Values
+pub mod SamePairings
+pub mod SameStates
