@@ -1,2 +1,7 @@
 pub mod Rows
 pub mod SameRows
+pub mod Kept
+pub mod Outcomes
+pub mod Faults
+pub mod Calls
+pub mod Making

@@ -1,6 +1,12 @@
 //! The tables of the book as a state of the machine.
 #![tactic(auto)]
 
+mod fault;
 mod laws;
+mod making;
+mod store;
+mod transaction;
 
+pub use fault::StoreFault;
 pub use laws::{database_holds_one_state, rows_say_all};
+pub use store::Store;

@@ -1,0 +1,110 @@
+-- Calls in a transaction, one after the other.
+use Rattle.std.proofs.Common.{◌≡◌, inl, inr, refl, sym, ap, subst, ◌∙◌, arith, true, false, cond, IsTrue, Result, Ok, Err, OnOk}
+use Rattle.std.proofs.lemmas.Bool.{true≢false}
+use Rattle.sqlite_trees.specs.Tree.{Trees}
+use Rattle.sqlite.specs.Effect.{Database}
+use Rattle.sqlite.specs.State.{State, HasCleanDisk, Shows, KeepsCommit, Survives}
+use Rattle.sqlite.proofs.StateLemmas.{survives_then, survives_weaker}
+use Rattle.tables.specs.Calls.{Ran, MayLeave, Leaves, LeavesNothing}
+use Rattle.tables.specs.declared.table_fault.TableFault.{TableFault}
+use Rattle.store.specs.Calls.{IsInside, Changed, Then}
+
+-- ---- What was committed stays
+
+shown_keeps : (old new : State) (now : Database) → Shows old new now old.committed true → KeepsCommit old new
+shown_keeps old new now shows = record { was_open = λ _. shows.was_open; committed = λ _. shows.committed_is }
+
+pub left_keeps : (old new : State) → Leaves old new → KeepsCommit old new
+left_keeps old new (inl same) = record { was_open = λ _. same.0.was_open; committed = λ _. same.0.committed_is }
+left_keeps old new (inr back) = record { was_open = back.was_open; committed = λ o. (back.undone o).1 }
+
+pub keeps_then : (a b c : State) → KeepsCommit a b → KeepsCommit b c → KeepsCommit a c
+keeps_then a b c one two = record {
+  was_open = λ o. one.was_open (two.was_open o);
+  committed = λ o. two.committed o ∙ one.committed (two.was_open o);
+}
+
+-- ---- One call
+
+module _ (Is : Database → Database → Type 0) (old new : State) (inside : IsInside old) (left : MayLeave Is old new) where
+  clean_before : HasCleanDisk new → HasCleanDisk old
+  clean_before clean = omega (arith, left.clean)
+
+  nothing_left : LeavesNothing old new
+  nothing_left = survives_weaker old new _ _ (λ clean db may. true≢false (sym (inside (clean_before clean)) ∙ may.0)) left
+
+  pub one_call : {A : Type 0} (result : Result A TableFault) → Ran Is old new result → Changed Is old new result
+  one_call (Ok a) ran =
+      let shown = λ (clean : HasCleanDisk new).
+      subst (λ b. Shows old new new.now (cond b old.committed new.now) b) (inside (clean_before clean)) (ran clean).1.shown in
+      record {
+        done = λ clean. ((ran clean).0, shown clean);
+        kept = λ clean. shown_keeps old new new.now (shown clean);
+        left = nothing_left;
+      }
+  one_call (Err fault) ran = record {
+    done = λ clean. tt;
+    kept = λ clean. left_keeps old new (ran clean).0;
+    left = nothing_left;
+  }
+
+-- ---- Two calls
+
+pub still_inside : {A : Type 0} {Is : Database → Database → Type 0} (old new : State) (a : A) → Changed Is old new (Ok a) → IsInside new
+still_inside old new a changed clean = (changed.done clean).1.mode
+
+pub then_call : {A B : Type 0} {First Second : Database → Database → Type 0} (old mid new : State) (a : A) (result : Result B TableFault) →
+    Changed First old mid (Ok a) → Changed Second mid new result → Changed (Then First Second) old new result
+then_call old mid new a (Ok b) one two =
+    let before = λ (clean : HasCleanDisk new). let d : HasCleanDisk mid = omega (arith, two.left.clean) in d in
+    record {
+      done = λ clean.
+          let f = one.done (before clean) in
+          let s = two.done clean in
+          ((mid.now, f.0, s.0), record {
+            was_open = f.1.was_open;
+            is_open = s.1.is_open;
+            now_is = refl;
+            committed_is = s.1.committed_is ∙ f.1.committed_is;
+            mode = s.1.mode;
+          });
+      kept = λ clean. keeps_then old mid new (one.kept (before clean)) (two.kept clean);
+      left = survives_then old mid new _ _ _ (λ _ db none. none) (λ _ db none. none) one.left two.left;
+    }
+then_call old mid new a (Err fault) one two =
+    let before = λ (clean : HasCleanDisk new). let d : HasCleanDisk mid = omega (arith, two.left.clean) in d in
+    record {
+      done = λ clean. tt;
+      kept = λ clean. keeps_then old mid new (one.kept (before clean)) (two.kept clean);
+      left = survives_then old mid new _ _ _ (λ _ db none. none) (λ _ db none. none) one.left two.left;
+    }
+
+-- a call that failed changed nothing that counts
+pub stopped : {A B : Type 0} {First Second : Database → Database → Type 0} (old new : State) (fault other : TableFault) →
+    Changed {A = A} First old new (Err fault) → Changed {A = B} Second old new (Err other)
+stopped old new fault other changed = record { done = λ clean. tt; kept = changed.kept; left = changed.left }
+
+-- the same change in other words
+pub as_change : {A : Type 0} {First Second : Database → Database → Type 0} → ((a b : Database) → First a b → Second a b) → (old new : State) (result : Result A TableFault) →
+    Changed First old new result → Changed Second old new result
+as_change also old new (Ok a) changed = record {
+  done = λ clean. let it = changed.done clean in (also old.now new.now it.0, it.1);
+  kept = changed.kept;
+  left = changed.left;
+}
+as_change also old new (Err fault) changed = record { done = λ clean. tt; kept = changed.kept; left = changed.left }
+
+-- nothing is done yet
+pub nothing_done : {A : Type 0} (Is : Database → Database → Type 0) (s : State) (a : A) → IsInside s → (HasCleanDisk s → IsTrue s.is_open) → Is s.now s.now → Changed Is s s (Ok a)
+nothing_done Is s a inside opened is = record {
+  done = λ clean. (is, record { was_open = opened clean; is_open = opened clean; now_is = refl; committed_is = refl; mode = inside clean });
+  kept = λ clean. record { was_open = λ o. o; committed = λ _. refl };
+  left = record {
+    clean = omega arith;
+    shield = λ h. h;
+    counts = omega arith;
+    limit = refl;
+    closes = λ _ h. inl h;
+    crash = λ _ _ h. inl h;
+  };
+}

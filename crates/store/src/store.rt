@@ -1,0 +1,100 @@
+ghost use Rattle.std.specs.Prelude.{◌≡◌, ◌≢◌, IfOk, IfErr, OnOk, OnErr, Err};
+ghost use Rattle.sqlite.specs.State.{HasCleanDisk};
+ghost use Rattle.sqlite.specs.Held.{state};
+ghost use Rattle.roster.specs.State.{empty};
+ghost use Rattle.tables.specs.Schema.{empty_schema};
+ghost use Rattle.store.specs.Outcomes.{Leaves, LeavesSome, AddsNothing, MayAdd, HoldsNow, IsOutside, IsOverBook, one};
+
+use crate::fault::StoreFault;
+use crate::making::make_tables;
+use crate::transaction::end;
+use sqlite::{Alter, Connection};
+use std::alloc::Global;
+use std::marker::Model;
+use tables::book::BookRecord;
+use tables::book_schema::is_empty;
+use tables::transaction::begin;
+use time117::Zone;
+use values::Text;
+
+/// The tables of a book. Contracts see what its connection holds.
+pub struct Store<S: Alter> {
+    conn: Connection<S>,
+}
+
+impl<S: Alter + Drop> Drop for Store<S> {
+    fn drop(self) {
+        let Store { conn: _ } = self;
+    }
+}
+
+impl<S: Alter> Model for Store<S> {
+    ghost use Rattle.sqlite.specs.Held.{Held, held_code, state};
+    ghost use Rattle.store.specs.Outcomes.{IsOutside, IsOverBook};
+
+    ghost Value = { Held S };
+
+    ghost coded = { held_code S.code };
+
+    ghost view = { λ s. s.conn };
+
+    ghost invariant = { λ s. IsOutside (state S.Store s.conn) × IsOverBook (state S.Store s.conn) };
+}
+
+impl<S: Alter> Store<S> {
+    /// Makes the tables of a book in an empty database, in one transaction. Refused is a database that has a table, an
+    /// index or a view (43), a store's fault (90), and want of memory (91); then the connection is handed back.
+    pub fn create(
+        alloc: Global,
+        mut conn: Connection<S>,
+        zone: &Zone,
+    ) -> Result<Store<S>, (StoreFault, Connection<S>)>
+        requires { IsOutside (state S.Store conn) }
+        ensures ok { IfOk result (λ it. Leaves (state S.Store it) (one (empty zone.now))) }
+        ensures made { IfOk result (λ it. HoldsNow (state S.Store it) (empty zone.now)) }
+        ensures some { IfOk result (λ it. LeavesSome (state S.Store it)) }
+        ensures not_empty { IfErr result (λ e. e.0 ≡ StoreFault.NotEmpty → ((state S.Store conn).now.schema ≢ empty_schema) × (e.1 ≡ conn)) }
+        ensures memory { IfErr result (λ e. e.0 ≡ StoreFault.Memory → AddsNothing (state S.Store conn) (state S.Store e.1)) }
+        ensures store { IfErr result (λ e. MayAdd (state S.Store conn) (state S.Store e.1) (empty zone.now)) }
+        ensures outside { IfErr result (λ e. IsOutside (state S.Store e.1)) }
+    {
+        match make(alloc, &mut conn, zone) {
+            Ok(()) => Ok(Store { conn }),
+            Err(fault) => Err((fault, conn)),
+        }
+    }
+
+    /// The connection, with nothing changed.
+    pub fn into_connection(self) -> Connection<S>
+        ensures same { result ≡ self }
+        ensures outside { IsOutside (state S.Store result) }
+    {
+        let Store { conn } = self;
+        conn
+    }
+}
+
+/// Makes the tables, and the row of the book, in one transaction.
+fn make<S: Alter>(alloc: Global, conn: &mut Connection<S>, zone: &Zone) -> Result<(), StoreFault>
+    requires { IsOutside (state S.Store conn.old) }
+    ensures ok { OnOk result (Leaves (state S.Store conn.new) (one (empty zone.now))) }
+    ensures made { OnOk result (HoldsNow (state S.Store conn.new) (empty zone.now)) }
+    ensures some { LeavesSome (state S.Store conn.new) }
+    ensures over { OnOk result (IsOverBook (state S.Store conn.new)) }
+    ensures not_empty { result ≡ Err StoreFault.NotEmpty → ((state S.Store conn.old).now.schema ≢ empty_schema) × (conn.new ≡ conn.old) }
+    ensures memory { result ≡ Err StoreFault.Memory → AddsNothing (state S.Store conn.old) (state S.Store conn.new) }
+    ensures store { OnErr result (MayAdd (state S.Store conn.old) (state S.Store conn.new) (empty zone.now)) }
+    ensures outside { IsOutside (state S.Store conn.new) }
+{
+    if !is_empty(conn) {
+        return Err(StoreFault::NotEmpty);
+    }
+    let book = BookRecord {
+        one: 1,
+        version: 1,
+        zone: Text::new(String::from_str(alloc, zone.text())?),
+    };
+    begin(conn)?;
+    let done = make_tables(conn, &book);
+    end(conn, done)
+}
