@@ -50,24 +50,26 @@ module _ (Is : Database → Database → Type 0) (old new : State) (inside : IsI
 
 -- ---- Two calls
 
-pub still_inside : {A : Type 0} {Is : Database → Database → Type 0} (old new : State) (a : A) → Changed Is old new (Ok a) → IsInside new
+pub still_inside : {A E : Type 0} {Is : Database → Database → Type 0} (old new : State) (a : A) → Changed {E = E} Is old new (Ok a) → IsInside new
 still_inside old new a changed clean = (changed.done clean).1.mode
 
-pub then_call : {A B : Type 0} {First Second : Database → Database → Type 0} (old mid new : State) (a : A) (result : Result B TableFault) →
-    Changed First old mid (Ok a) → Changed Second mid new result → Changed (Then First Second) old new result
+pub then_call : {A B E F : Type 0} {First Second : Database → Database → Type 0} (old mid new : State) (a : A) (result : Result B E) →
+    Changed {E = F} First old mid (Ok a) → Changed Second mid new result → Changed (Then First Second) old new result
 then_call old mid new a (Ok b) one two =
     let before = λ (clean : HasCleanDisk new). let d : HasCleanDisk mid = omega (arith, two.left.clean) in d in
     record {
       done = λ clean.
           let f = one.done (before clean) in
-          let s = two.done clean in
-          ((mid.now, f.0, s.0), record {
-            was_open = f.1.was_open;
-            is_open = s.1.is_open;
-            now_is = refl;
-            committed_is = s.1.committed_is ∙ f.1.committed_is;
-            mode = s.1.mode;
-          });
+          let s = two.done clean in (
+            (mid.now, f.0, s.0),
+            record {
+              was_open = f.1.was_open;
+              is_open = s.1.is_open;
+              now_is = refl;
+              committed_is = s.1.committed_is ∙ f.1.committed_is;
+              mode = s.1.mode;
+            },
+          );
       kept = λ clean. keeps_then old mid new (one.kept (before clean)) (two.kept clean);
       left = survives_then old mid new _ _ _ (λ _ db none. none) (λ _ db none. none) one.left two.left;
     }
@@ -80,12 +82,12 @@ then_call old mid new a (Err fault) one two =
     }
 
 -- a call that failed changed nothing that counts
-pub stopped : {A B : Type 0} {First Second : Database → Database → Type 0} (old new : State) (fault other : TableFault) →
+pub stopped : {A B E F : Type 0} {First Second : Database → Database → Type 0} (old new : State) (fault : E) (other : F) →
     Changed {A = A} First old new (Err fault) → Changed {A = B} Second old new (Err other)
 stopped old new fault other changed = record { done = λ clean. tt; kept = changed.kept; left = changed.left }
 
 -- the same change in other words
-pub as_change : {A : Type 0} {First Second : Database → Database → Type 0} → ((a b : Database) → First a b → Second a b) → (old new : State) (result : Result A TableFault) →
+pub as_change : {A E : Type 0} {First Second : Database → Database → Type 0} → ((a b : Database) → First a b → Second a b) → (old new : State) (result : Result A E) →
     Changed First old new result → Changed Second old new result
 as_change also old new (Ok a) changed = record {
   done = λ clean. let it = changed.done clean in (also old.now new.now it.0, it.1);
@@ -95,7 +97,7 @@ as_change also old new (Ok a) changed = record {
 as_change also old new (Err fault) changed = record { done = λ clean. tt; kept = changed.kept; left = changed.left }
 
 -- nothing is done yet
-pub nothing_done : {A : Type 0} (Is : Database → Database → Type 0) (s : State) (a : A) → IsInside s → (HasCleanDisk s → IsTrue s.is_open) → Is s.now s.now → Changed Is s s (Ok a)
+pub nothing_done : {A E : Type 0} (Is : Database → Database → Type 0) (s : State) (a : A) → IsInside s → (HasCleanDisk s → IsTrue s.is_open) → Is s.now s.now → Changed {E = E} Is s s (Ok a)
 nothing_done Is s a inside opened is = record {
   done = λ clean. (is, record { was_open = opened clean; is_open = opened clean; now_is = refl; committed_is = refl; mode = inside clean });
   kept = λ clean. record { was_open = λ o. o; committed = λ _. refl };

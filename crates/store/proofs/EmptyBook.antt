@@ -10,7 +10,6 @@ use Rattle.roster.specs.State.{empty}
 use Rattle.tables.specs.Schema.{book_table, book_tables, empty_schema, IsBook}
 use Rattle.tables.specs.Records.{book_row}
 use Rattle.tables.specs.Rows.{Inserts, rows_of}
-use Rattle.tables.specs.declared.table_fault.TableFault.{TableFault}
 use Rattle.store.specs.Calls.{Changed, Then}
 use Rattle.store.specs.Kept.{IsBookOf, AreStored}
 use Rattle.store.specs.Making.{HasEmpty, Grows}
@@ -63,7 +62,7 @@ module _ (zone : List ℕ) (mid new : Database) (made : HasEmpty book_tables mid
   }
 
 -- the same of the calls that make it in a transaction
-pub made_holds : {A : Type 0} (zone text : List ℕ) (begun last : State) (r : Result A TableFault) → text ≡ zone → (HasCleanDisk begun → begun.now.schema ≡ empty_schema) →
+pub made_holds : {A E : Type 0} (zone text : List ℕ) (begun last : State) (r : Result A E) → text ≡ zone → (HasCleanDisk begun → begun.now.schema ≡ empty_schema) →
     Changed (Then (Grows [] book_tables) (Inserts book_table (book_row (record { one = pos 1; version = pos 1; zone = text })))) begun last r →
     IsLive last → HasCleanDisk last → IsOk r → IsBookOf (empty zone) last.now
 made_holds zone text begun last (Err fault) same fresh changed live clean is = absurd (cc)

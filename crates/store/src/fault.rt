@@ -6,18 +6,24 @@ use values::MemoryFault;
 /// Why a call on the tables of a book failed.
 #[derive(Clone, Copy, Debug, PartialEq, Eq)]
 pub enum StoreFault {
-    /// The database isn't empty: refusal 43.
-    NotEmpty,
     /// The store refused or failed, for another reason than memory: refusal 90.
     Store,
     /// No memory was left: refusal 91.
     Memory,
 }
 
+/// Why no book was made.
+#[derive(Clone, Copy, Debug, PartialEq, Eq)]
+pub enum CreateFault {
+    /// The database isn't empty: refusal 43.
+    NotEmpty,
+    /// A fault of the store (90) or want of memory (91).
+    Fault(StoreFault),
+}
+
 impl fmt::Display for StoreFault {
     fn fmt<W: fmt::Write>(&self, f: &mut fmt::Formatter<W>) -> fmt::Result {
         f.write_str(match self {
-            StoreFault::NotEmpty => "43 NotEmpty",
             StoreFault::Store => "90 Store",
             StoreFault::Memory => "91 Memory",
         })
@@ -25,6 +31,17 @@ impl fmt::Display for StoreFault {
 }
 
 impl std::error::Error for StoreFault {}
+
+impl fmt::Display for CreateFault {
+    fn fmt<W: fmt::Write>(&self, f: &mut fmt::Formatter<W>) -> fmt::Result {
+        match self {
+            CreateFault::NotEmpty => f.write_str("43 NotEmpty"),
+            CreateFault::Fault(fault) => write!(f, "{fault}"),
+        }
+    }
+}
+
+impl std::error::Error for CreateFault {}
 
 impl From<TableFault> for StoreFault {
     ghost use Rattle.std.specs.Prelude.{◌≡◌};
@@ -59,5 +76,40 @@ impl From<AllocError> for StoreFault {
 
     fn from(_error: AllocError) -> StoreFault {
         StoreFault::Memory
+    }
+}
+
+impl From<StoreFault> for CreateFault {
+    ghost use Rattle.std.specs.Prelude.{◌≡◌};
+    ghost use Rattle.store.specs.declared.fault.CreateFault.TheVariants.{Fault};
+
+    ghost from_gives = { λ fault given. given ≡ Fault fault };
+
+    fn from(fault: StoreFault) -> CreateFault {
+        CreateFault::Fault(fault)
+    }
+}
+
+impl From<TableFault> for CreateFault {
+    ghost use Rattle.std.specs.Prelude.{◌≡◌};
+    ghost use Rattle.store.specs.Faults.{fault_of};
+    ghost use Rattle.store.specs.declared.fault.CreateFault.TheVariants.{Fault};
+
+    ghost from_gives = { λ fault given. given ≡ Fault (fault_of fault) };
+
+    fn from(fault: TableFault) -> CreateFault {
+        CreateFault::Fault(StoreFault::from(fault))
+    }
+}
+
+impl From<AllocError> for CreateFault {
+    ghost use Rattle.std.specs.Prelude.{◌≡◌};
+    ghost use Rattle.store.specs.declared.fault.CreateFault.TheVariants.{Fault};
+    ghost use Rattle.store.specs.declared.fault.StoreFault.TheVariants.{Memory};
+
+    ghost from_gives = { λ _ fault. fault ≡ Fault Memory };
+
+    fn from(_error: AllocError) -> CreateFault {
+        CreateFault::Fault(StoreFault::Memory)
     }
 }

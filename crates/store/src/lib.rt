@@ -7,6 +7,6 @@ mod making;
 mod store;
 mod transaction;
 
-pub use fault::StoreFault;
+pub use fault::{CreateFault, StoreFault};
 pub use laws::{database_holds_one_state, rows_say_all};
 pub use store::Store;

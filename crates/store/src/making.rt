@@ -9,8 +9,8 @@ ghost use Rattle.tables.specs.Schema.{before, book_table, period_table, ground_t
 ghost use Rattle.store.specs.Calls.{IsInside, Changed, Then};
 ghost use Rattle.store.specs.Making.{Grows};
 
+use crate::fault::StoreFault;
 use sqlite::{Alter, Connection};
-use tables::TableFault;
 use tables::book::{BookRecord, create_book, insert_book};
 use tables::crew::create_crew;
 use tables::exceedance::create_exceedance;
@@ -25,7 +25,7 @@ use tables::segment::create_segment;
 pub(crate) fn make_tables<S: Alter>(
     conn: &mut Connection<S>,
     book: &BookRecord,
-) -> Result<(), TableFault>
+) -> Result<(), StoreFault>
     requires empty { HoldsMade [] (state S.Store conn.old) }
     requires inside { IsInside (state S.Store conn.old) }
     ensures { Changed (Then (Grows [] book_tables) (Inserts book_table (book_row book.now))) (state S.Store conn.old) (state S.Store conn.new) result }
@@ -33,35 +33,35 @@ pub(crate) fn make_tables<S: Alter>(
     make_first(conn)?;
     make_second(conn)?;
     make_third(conn)?;
-    insert_book(conn, book)
+    Ok(insert_book(conn, book)?)
 }
 
-fn make_first<S: Alter>(conn: &mut Connection<S>) -> Result<(), TableFault>
+fn make_first<S: Alter>(conn: &mut Connection<S>) -> Result<(), StoreFault>
     requires empty { HoldsMade [] (state S.Store conn.old) }
     requires inside { IsInside (state S.Store conn.old) }
     ensures { Changed (Grows [] (before period_table)) (state S.Store conn.old) (state S.Store conn.new) result }
 {
     create_book(conn)?;
     create_crew(conn)?;
-    create_pairing(conn)
+    Ok(create_pairing(conn)?)
 }
 
-fn make_second<S: Alter>(conn: &mut Connection<S>) -> Result<(), TableFault>
+fn make_second<S: Alter>(conn: &mut Connection<S>) -> Result<(), StoreFault>
     requires first { HoldsMade (before period_table) (state S.Store conn.old) }
     requires inside { IsInside (state S.Store conn.old) }
     ensures { Changed (Grows (before period_table) (before ground_table)) (state S.Store conn.old) (state S.Store conn.new) result }
 {
     create_period(conn)?;
     create_segment(conn)?;
-    create_seat(conn)
+    Ok(create_seat(conn)?)
 }
 
-fn make_third<S: Alter>(conn: &mut Connection<S>) -> Result<(), TableFault>
+fn make_third<S: Alter>(conn: &mut Connection<S>) -> Result<(), StoreFault>
     requires second { HoldsMade (before ground_table) (state S.Store conn.old) }
     requires inside { IsInside (state S.Store conn.old) }
     ensures { Changed (Grows (before ground_table) book_tables) (state S.Store conn.old) (state S.Store conn.new) result }
 {
     create_ground(conn)?;
     create_exceedance(conn)?;
-    create_request(conn)
+    Ok(create_request(conn)?)
 }

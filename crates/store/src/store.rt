@@ -5,7 +5,7 @@ ghost use Rattle.roster.specs.State.{empty};
 ghost use Rattle.tables.specs.Schema.{empty_schema};
 ghost use Rattle.store.specs.Outcomes.{Leaves, LeavesSome, AddsNothing, MayAdd, HoldsNow, IsOutside, IsOverBook, one};
 
-use crate::fault::StoreFault;
+use crate::fault::{CreateFault, StoreFault};
 use crate::making::make_tables;
 use crate::transaction::end;
 use sqlite::{Alter, Connection};
@@ -48,13 +48,13 @@ impl<S: Alter> Store<S> {
         alloc: Global,
         mut conn: Connection<S>,
         zone: &Zone,
-    ) -> Result<Store<S>, (StoreFault, Connection<S>)>
+    ) -> Result<Store<S>, (CreateFault, Connection<S>)>
         requires { IsOutside (state S.Store conn) }
         ensures ok { IfOk result (λ it. Leaves (state S.Store it) (one (empty zone.now))) }
         ensures made { IfOk result (λ it. HoldsNow (state S.Store it) (empty zone.now)) }
         ensures some { IfOk result (λ it. LeavesSome (state S.Store it)) }
-        ensures not_empty { IfErr result (λ e. e.0 ≡ StoreFault.NotEmpty → ((state S.Store conn).now.schema ≢ empty_schema) × (e.1 ≡ conn)) }
-        ensures memory { IfErr result (λ e. e.0 ≡ StoreFault.Memory → AddsNothing (state S.Store conn) (state S.Store e.1)) }
+        ensures not_empty { IfErr result (λ e. e.0 ≡ CreateFault.NotEmpty → ((state S.Store conn).now.schema ≢ empty_schema) × (e.1 ≡ conn)) }
+        ensures memory { IfErr result (λ e. e.0 ≡ CreateFault.Fault StoreFault.Memory → AddsNothing (state S.Store conn) (state S.Store e.1)) }
         ensures store { IfErr result (λ e. MayAdd (state S.Store conn) (state S.Store e.1) (empty zone.now)) }
         ensures outside { IfErr result (λ e. IsOutside (state S.Store e.1)) }
     {
@@ -75,19 +75,19 @@ impl<S: Alter> Store<S> {
 }
 
 /// Makes the tables, and the row of the book, in one transaction.
-fn make<S: Alter>(alloc: Global, conn: &mut Connection<S>, zone: &Zone) -> Result<(), StoreFault>
+fn make<S: Alter>(alloc: Global, conn: &mut Connection<S>, zone: &Zone) -> Result<(), CreateFault>
     requires { IsOutside (state S.Store conn.old) }
     ensures ok { OnOk result (Leaves (state S.Store conn.new) (one (empty zone.now))) }
     ensures made { OnOk result (HoldsNow (state S.Store conn.new) (empty zone.now)) }
     ensures some { LeavesSome (state S.Store conn.new) }
     ensures over { OnOk result (IsOverBook (state S.Store conn.new)) }
-    ensures not_empty { result ≡ Err StoreFault.NotEmpty → ((state S.Store conn.old).now.schema ≢ empty_schema) × (conn.new ≡ conn.old) }
-    ensures memory { result ≡ Err StoreFault.Memory → AddsNothing (state S.Store conn.old) (state S.Store conn.new) }
+    ensures not_empty { result ≡ Err CreateFault.NotEmpty → ((state S.Store conn.old).now.schema ≢ empty_schema) × (conn.new ≡ conn.old) }
+    ensures memory { result ≡ Err (CreateFault.Fault StoreFault.Memory) → AddsNothing (state S.Store conn.old) (state S.Store conn.new) }
     ensures store { OnErr result (MayAdd (state S.Store conn.old) (state S.Store conn.new) (empty zone.now)) }
     ensures outside { IsOutside (state S.Store conn.new) }
 {
     if !is_empty(conn) {
-        return Err(StoreFault::NotEmpty);
+        return Err(CreateFault::NotEmpty);
     }
     let book = BookRecord {
         one: 1,
@@ -96,5 +96,5 @@ fn make<S: Alter>(alloc: Global, conn: &mut Connection<S>, zone: &Zone) -> Resul
     };
     begin(conn)?;
     let done = make_tables(conn, &book);
-    end(conn, done)
+    Ok(end(conn, done)?)
 }
