@@ -1,5 +1,5 @@
 -- Calls in a transaction, one after the other.
-use Rattle.std.proofs.Common.{◌≡◌, inl, inr, refl, sym, ap, subst, ◌∙◌, arith, true, false, cond, IsTrue, Result, Ok, Err, OnOk}
+use Rattle.std.proofs.Common.{ℕ, zero, suc, ◌+◌, List, [], ◌∷◌, take, Some, slice_get, ◌≡◌, inl, inr, refl, sym, ap, subst, ◌∙◌, arith, true, false, cond, IsTrue, Result, Ok, Err, OnOk}
 use Rattle.std.proofs.lemmas.Bool.{true≢false}
 use Rattle.sqlite_trees.specs.Tree.{Trees}
 use Rattle.sqlite.specs.Effect.{Database}
@@ -7,7 +7,7 @@ use Rattle.sqlite.specs.State.{State, HasCleanDisk, Shows, KeepsCommit, Survives
 use Rattle.sqlite.proofs.StateLemmas.{survives_then, survives_weaker}
 use Rattle.tables.specs.Calls.{Ran, MayLeave, Leaves, LeavesNothing}
 use Rattle.tables.specs.declared.table_fault.TableFault.{TableFault}
-use Rattle.store.specs.Calls.{IsInside, Changed, Then}
+use Rattle.store.specs.Calls.{IsInside, Changed, Then, Each, IsFit, IsReady, Wrote}
 
 -- ---- What was committed stays
 
@@ -110,3 +110,71 @@ nothing_done Is s a inside opened is = record {
     crash = λ _ _ h. inl h;
   };
 }
+
+-- ---- Calls over the tables of a book
+
+-- a change that leaves the tables of a book
+abbrev pub Keeps : (Database → Database → Type 0) → Type 0
+Keeps Is = (old new : Database) → IsFit old → Is old new → IsFit new
+
+pub one_write : {A : Type 0} {Is : Database → Database → Type 0} (old new : State) (result : Result A TableFault) → Keeps Is → IsReady old → Ran Is old new result → MayLeave Is old new →
+    Wrote Is old new result
+one_write {Is = Is} old new (Ok a) keeps ready ran left =
+    let changed = one_call Is old new ready.inside left (Ok a) ran in
+    record {
+      changed = changed;
+      ready = record {
+        inside = still_inside old new a changed;
+        fit = λ clean. keeps old.now new.now (ready.fit (omega (arith, left.clean))) (ran clean).0;
+      };
+    }
+one_write {Is = Is} old new (Err fault) keeps ready ran left = record { changed = one_call Is old new ready.inside left (Err fault) ran; ready = tt }
+
+pub then_write : {A B E F : Type 0} {First Second : Database → Database → Type 0} (old mid new : State) (a : A) (result : Result B E) →
+    Wrote {E = F} First old mid (Ok a) → Wrote Second mid new result → Wrote (Then First Second) old new result
+then_write old mid new a result one two = record { changed = then_call old mid new a result one.changed two.changed; ready = two.ready }
+
+pub write_stopped : {A B E F : Type 0} {First Second : Database → Database → Type 0} (old new : State) (fault : E) (other : F) →
+    Wrote {A = A} First old new (Err fault) → Wrote {A = B} Second old new (Err other)
+write_stopped old new fault other wrote = record { changed = stopped old new fault other wrote.changed; ready = tt }
+
+-- a call that changes nothing
+pub wrote_nothing : {A E : Type 0} (Is : Database → Database → Type 0) (s : State) (fault : E) → Wrote {A = A} Is s s (Err fault)
+wrote_nothing Is s fault = record {
+  changed = record {
+    done = λ clean. tt;
+    kept = λ clean. record { was_open = λ o. o; committed = λ _. refl };
+    left = record { clean = omega arith; shield = λ h. h; counts = omega arith; limit = refl; closes = λ _ h. inl h; crash = λ _ _ h. inl h };
+  };
+  ready = tt;
+}
+
+-- ---- A call for each value
+
+each_one_more : {V : Type 0} (Is : ℕ → V → Database → Database → Type 0) (from n : ℕ) (vs : List V) (v : V) (a b c : Database) →
+    slice_get vs n ≡ Some v → Each Is from (take n vs) a b → Is (from + n) v b c → Each Is from (take (suc n) vs) a c
+each_one_more Is from n [] v a b c at before more = absurd (cc)
+each_one_more Is from zero (x ∷ vs) v a b c at before more =
+    let same : v ≡ x = cc in
+    let place : from + 0 ≡ from = omega arith in
+    (c, subst (λ p. Is p x a c) place (subst (λ y. Is (from + 0) y a c) same (subst (λ d. Is (from + 0) v d c) before more)), refl)
+each_one_more Is from (suc n) (x ∷ vs) v a b c at before more =
+    let place : from + suc n ≡ suc from + n = omega arith in
+    (before.0, before.1, each_one_more Is (suc from) n vs v before.0 b c at before.2 (subst (λ p. Is p v b c) place more))
+
+-- a loop's turn
+pub each_turn : {V A B E F : Type 0} (Is : ℕ → V → Database → Database → Type 0) (n : ℕ) (vs : List V) (v : V) (old mid new : State) (a : A) (b : B) →
+    slice_get vs n ≡ Some v → Wrote {E = E} (Each Is 0 (take n vs)) old mid (Ok a) → Wrote {E = F} (Is n v) mid new (Ok b) → Wrote {E = E} (Each Is 0 (take (n + 1) vs)) old new (Ok a)
+each_turn {E = E} Is n vs v old mid new a b at before more =
+    let both = then_write old mid new a (Ok b) before more in
+    let grown : (d e : Database) → Then (Each Is 0 (take n vs)) (Is n v) d e → Each Is 0 (take (n + 1) vs) d e = λ d e it.
+    subst (λ k. Each Is 0 (take k vs) d e) (let s : suc n ≡ n + 1 = omega arith in s)
+    (each_one_more Is 0 n vs v d it.0 e at it.1 (subst (λ p. Is p v it.0 e) (let z : n ≡ 0 + n = omega arith in z) it.2)) in
+    record {
+      changed = record {
+        done = λ clean. let it = both.changed.done clean in (grown old.now new.now it.0, it.1);
+        kept = both.changed.kept;
+        left = both.changed.left;
+      };
+      ready = more.ready;
+    }

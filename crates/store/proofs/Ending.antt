@@ -43,7 +43,7 @@ module _ {S : Type 0} (g : Ghosts S) (last : State) (new : Held S) (t : roster.S
   ended_now clean = let shows = (ended clean).1 in (shows.is_open, subst (IsBookOf t) (sym shows.now_is) (holds clean))
 
   pub ended_over : IsOverBook (state g new)
-  ended_over clean _ = (ended_now clean).1.tables
+  ended_over clean _ = let book = (ended_now clean).1 in (book.tables, book.stored)
 
 -- where the end may have been reached
 pub ended_adds : (old last new : State) (t : roster.State) (Done : Type 0) → (HasCleanDisk new → Done → IsBookOf t last.now) →

@@ -9,10 +9,12 @@ use Rattle.sqlite_rules.specs.Lists.{Has}
 use Rattle.sqlite_rules.proofs.ListLemmas.{all_has}
 use Rattle.sqlite.specs.Effect.{Database}
 use Rattle.tables.specs.Schema.{BookTable, IsBook, book_tables, table_of, tables_before, made}
-use Rattle.tables.specs.Rows.{IsStored, Changes, cells, rows_of}
+use Rattle.tables.specs.Rows.{IsStored, Changes, Inserts, Deletes, Updates, cells, rows_of}
 use Rattle.tables.proofs.Creating.{all_made}
+use Rattle.store.specs.Calls.{IsFit}
 use Rattle.store.specs.Making.{HasEmpty}
 use Rattle.store.specs.Rows.{TableName, book, crew, pairing, period, segment, seat, ground_duty, exceedance, request, table}
+use Rattle.store.proofs.Chaining.{Keeps}
 
 -- ---- Names
 
@@ -83,6 +85,25 @@ module _ (old new : Database) (tables : IsBook old.schema) (a : TableName) (Is :
     numbered = λ r h. stored.numbered r (subst (λ (rows : List Row). Has rows r) tree_stays h);
     apart = λ r q h k. stored.apart r q (subst (λ (rows : List Row). Has rows r) tree_stays h) (subst (λ (rows : List Row). Has rows q) tree_stays k);
   }
+
+-- a change of one table leaves the tables of a book
+pub fit_after : (old new : Database) → IsFit old → (a : TableName) (Is : Row → Type 0) → Changes (table a) old new Is → IsFit new
+fit_after old new fit a Is changes = (
+  subst IsBook (sym changes.schema) fit.0,
+  λ b. elim (is_same a b) as (λ t. is_same a b ≡ t → IsStored (table b) new) [
+    | true ↦ λ same. subst (λ n. IsStored (table n) new) (same_name a b same) (changes.stored (fit.1 a))
+    | false ↦ λ differ. stored_stays old new fit.0 a Is changes b differ (fit.1 b)
+  ] refl,
+)
+
+pub inserts_keep : (a : TableName) (row : Row) → Keeps (Inserts (table a) row)
+inserts_keep a row old new fit inserts = fit_after old new fit a _ inserts
+
+pub deletes_keep : (a : TableName) (test : Row → Bool) → Keeps (Deletes (table a) test)
+deletes_keep a test old new fit deletes = fit_after old new fit a _ (deletes (fit.1 a))
+
+pub updates_keep : (a : TableName) (test : Row → Bool) (change : Row → Row) → Keeps (Updates (table a) test change)
+updates_keep a test change old new fit updates = fit_after old new fit a _ (updates (fit.1 a))
 
 -- ---- Tables that were just made
 

@@ -3,6 +3,8 @@ use Rattle.std.specs.Prelude.{◌≡◌, ℕ, suc, true, IsTrue, List, [], ◌�
 use Rattle.sqlite.specs.Effect.{Database}
 use Rattle.sqlite.specs.State.{State, HasCleanDisk, Shows, KeepsCommit}
 use Rattle.tables.specs.Calls.{LeavesNothing}
+use Rattle.tables.specs.Schema.{IsBook}
+use Rattle.store.specs.Kept.{AreStored}
 
 -- a transaction is begun
 abbrev pub IsInside : State → Type 0
@@ -23,3 +25,17 @@ Then First Second old new = (mid : Database) × First old mid × Second mid new
 abbrev pub Each : {V : Type 0} → (ℕ → V → Database → Database → Type 0) → ℕ → List V → Database → Database → Type 0
 Each Is place [] old new = new ≡ old
 Each Is place (v ∷ vs) old new = Then (Is place v) (Each Is (suc place) vs) old new
+
+-- the tables of a book, and in each of them each row under a number of its own
+abbrev pub IsFit : Database → Type 0
+IsFit db = IsBook db.schema × AreStored db
+
+-- a transaction is begun over the tables of a book
+pub record IsReady (s : State) : Type 0 where
+  pub inside : IsInside s
+  pub fit : HasCleanDisk s → IsFit s.now
+
+-- such a change, after which the transaction goes on
+pub record Wrote {A E : Type 0} (Is : Database → Database → Type 0) (old new : State) (result : Result A E) : Type 0 where
+  pub changed : Changed Is old new result
+  pub ready : OnOk result (IsReady new)

@@ -5,3 +5,4 @@ pub mod Outcomes
 pub mod Faults
 pub mod Calls
 pub mod Making
+pub mod Writing

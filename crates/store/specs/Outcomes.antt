@@ -4,7 +4,7 @@ use Rattle.sqlite_trees.specs.Tree.{Trees}
 use Rattle.sqlite.specs.State.{State, HasCleanDisk}
 use Rattle.roster.specs.State as roster
 use Rattle.tables.specs.Schema.{IsBook}
-use Rattle.store.specs.Kept.{IsBookOf, Holds}
+use Rattle.store.specs.Kept.{IsBookOf, Holds, AreStored}
 
 -- All of this is said as long as the disk has returned what was written.
 
@@ -36,9 +36,9 @@ pub record MayAdd (old now : State) (s : roster.State) : Type 0 where
 abbrev pub IsOutside : State → Type 0
 IsOutside s = HasCleanDisk s → s.in_transaction ≡ false
 
--- while it is open, it has the tables of a book
+-- while it is open, it has the tables of a book, and each row of them under a number of its own
 abbrev pub IsOverBook : State → Type 0
-IsOverBook s = HasCleanDisk s → IsTrue s.is_open → IsBook s.now.schema
+IsOverBook s = HasCleanDisk s → IsTrue s.is_open → IsBook s.now.schema × AreStored s.now
 
 -- it is open, and has the tables of a book in this state
 abbrev pub HoldsNow : State → roster.State → Type 0

@@ -4,6 +4,7 @@
 mod fault;
 mod laws;
 mod making;
+mod records;
 mod store;
 mod transaction;
 

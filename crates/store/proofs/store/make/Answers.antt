@@ -6,7 +6,7 @@ use Rattle.sqlite.specs.Effect.{Database}
 use Rattle.roster.specs.State.{empty}
 use Rattle.tables.specs.Schema.{empty_schema}
 use Rattle.store.proofs.EmptyBook.{made_holds}
-use Rattle.store.proofs.Ending.{on_err, ended_leaves, ended_now, ended_adds}
+use Rattle.store.proofs.Ending.{on_err, ended_leaves, ended_now, ended_over, ended_adds}
 use Rattle.store.proofs.store.make.Goals as goal
 
 pub returns-clause-ok : goal.returns-clause-ok
@@ -34,6 +34,19 @@ returns-clause-made g c =
     let holds = λ (clean : HasCleanDisk (state G c.end.new.conn)).
     made_holds c.args.zone.now c.new.result begun last c.make_tables-done.result text fresh c.make_tables-done.ensures c.end.ensures.live (before clean) c.in_ok-end.ensures.whole in
     ended_now G last c.end.new.conn (empty c.args.zone.now) c.in_ok-end.ensures.ok holds
+
+pub returns-clause-over : goal.returns-clause-over
+returns-clause-over g c =
+    let G = g.S.Store in
+    let begun = state G c.begin.new.conn in
+    let last = state G c.make_tables-done.new.conn in
+    let text : c.new.result ≡ c.args.zone.now = search rules in
+    let fresh : HasCleanDisk begun → begun.now.schema ≡ empty_schema = λ clean.
+    ap (λ (d : Database). d.schema) (c.in_ok-begin.ensures.gave clean).0.now_is ∙ search rules in
+    let before = λ (clean : HasCleanDisk (state G c.end.new.conn)). let d : HasCleanDisk last = omega (arith, c.end.ensures.crash.clean) in d in
+    let holds = λ (clean : HasCleanDisk (state G c.end.new.conn)).
+    made_holds c.args.zone.now c.new.result begun last c.make_tables-done.result text fresh c.make_tables-done.ensures c.end.ensures.live (before clean) c.in_ok-end.ensures.whole in
+    ended_over G last c.end.new.conn (empty c.args.zone.now) c.in_ok-end.ensures.ok holds
 
 pub returns-in_err-end-clause-store : goal.returns-in_err-end-clause-store
 returns-in_err-end-clause-store g c =
