@@ -125,10 +125,19 @@ one_write {Is = Is} old new (Ok a) keeps ready ran left =
       changed = changed;
       ready = record {
         inside = still_inside old new a changed;
+        opened = λ clean. (changed.done clean).1.is_open;
         fit = λ clean. keeps old.now new.now (ready.fit (omega (arith, left.clean))) (ran clean).0;
       };
     }
 one_write {Is = Is} old new (Err fault) keeps ready ran left = record { changed = one_call Is old new ready.inside left (Err fault) ran; ready = tt }
+
+pub wrote_ok : {A E : Type 0} {Is : Database → Database → Type 0} (old new : State) (a : A) → Keeps Is → IsReady old → Ran Is old new (Ok a) → MayLeave Is old new → Wrote {E = E} Is old new (Ok a)
+wrote_ok {E = E} {Is = Is} old new a keeps ready ran left =
+    let wrote = one_write old new (Ok a) keeps ready ran left in
+    record {
+      changed = record { done = wrote.changed.done; kept = wrote.changed.kept; left = wrote.changed.left };
+      ready = wrote.ready;
+    }
 
 pub then_write : {A B E F : Type 0} {First Second : Database → Database → Type 0} (old mid new : State) (a : A) (result : Result B E) →
     Wrote {E = F} First old mid (Ok a) → Wrote Second mid new result → Wrote (Then First Second) old new result
@@ -137,6 +146,20 @@ then_write old mid new a result one two = record { changed = then_call old mid n
 pub write_stopped : {A B E F : Type 0} {First Second : Database → Database → Type 0} (old new : State) (fault : E) (other : F) →
     Wrote {A = A} First old new (Err fault) → Wrote {A = B} Second old new (Err other)
 write_stopped old new fault other wrote = record { changed = stopped old new fault other wrote.changed; ready = tt }
+
+-- nothing more is to be done
+pub then_nothing : {A E F : Type 0} {First Second : Database → Database → Type 0} (old new : State) (a : A) → ((db : Database) → Second db db) →
+    Wrote {E = E} First old new (Ok a) → Wrote {E = F} (Then First Second) old new (Ok a)
+then_nothing {First = First} {Second = Second} old new a nothing wrote = record {
+  changed = record {
+    done = λ clean.
+        let it = wrote.changed.done clean in
+        let both : Then First Second old.now new.now = (new.now, it.0, nothing new.now) in (both, it.1);
+    kept = wrote.changed.kept;
+    left = wrote.changed.left;
+  };
+  ready = wrote.ready;
+}
 
 -- a call that changes nothing
 pub wrote_nothing : {A E : Type 0} (Is : Database → Database → Type 0) (s : State) (fault : E) → Wrote {A = A} Is s s (Err fault)
@@ -148,6 +171,14 @@ wrote_nothing Is s fault = record {
   };
   ready = tt;
 }
+
+none_taken : {V : Type 0} (Is : ℕ → V → Database → Database → Type 0) (vs : List V) (db : Database) → Each Is 0 (take 0 vs) db db
+none_taken Is [] db = refl
+none_taken Is (v ∷ vs) db = refl
+
+-- a loop that begins
+pub each_start : {V A E : Type 0} (Is : ℕ → V → Database → Database → Type 0) (vs : List V) (s : State) (a : A) → IsReady s → Wrote {E = E} (Each Is 0 (take 0 vs)) s s (Ok a)
+each_start Is vs s a ready = record { changed = nothing_done (Each Is 0 (take 0 vs)) s a ready.inside ready.opened (none_taken Is vs s.now); ready = ready }
 
 -- ---- A call for each value
 

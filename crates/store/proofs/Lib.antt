@@ -1,6 +1,7 @@
 pub mod Chaining
 pub mod EmptyBook
 pub mod Ending
+pub mod FewPeriods
 pub mod Lists
 pub mod Tables
 pub mod Values

@@ -1,10 +1,11 @@
 -- What the functions of this crate say to one another of calls in a transaction. No public clause names these.
-use Rattle.std.specs.Prelude.{◌≡◌, ℕ, suc, true, IsTrue, List, [], ◌∷◌, Result, OnOk}
+use Rattle.std.specs.Prelude.{◌≡◌, ℕ, suc, true, IsTrue, List, [], ◌∷◌, take, Result, Ok, OnOk}
 use Rattle.sqlite.specs.Effect.{Database}
 use Rattle.sqlite.specs.State.{State, HasCleanDisk, Shows, KeepsCommit}
 use Rattle.tables.specs.Calls.{LeavesNothing}
 use Rattle.tables.specs.Schema.{IsBook}
 use Rattle.store.specs.Kept.{AreStored}
+use Rattle.store.specs.declared.fault.StoreFault.{StoreFault}
 
 -- a transaction is begun
 abbrev pub IsInside : State → Type 0
@@ -33,9 +34,14 @@ IsFit db = IsBook db.schema × AreStored db
 -- a transaction is begun over the tables of a book
 pub record IsReady (s : State) : Type 0 where
   pub inside : IsInside s
+  pub opened : HasCleanDisk s → IsTrue s.is_open
   pub fit : HasCleanDisk s → IsFit s.now
 
 -- such a change, after which the transaction goes on
 pub record Wrote {A E : Type 0} (Is : Database → Database → Type 0) (old new : State) (result : Result A E) : Type 0 where
   pub changed : Changed Is old new result
   pub ready : OnOk result (IsReady new)
+
+-- the changes for the first values are made
+abbrev pub WroteSome : {V : Type 0} → (ℕ → V → Database → Database → Type 0) → ℕ → List V → State → State → Type 0
+WroteSome Is count vs old now = Wrote {A = Unit {0}} {E = StoreFault} (Each Is 0 (take count vs)) old now (Ok tt)

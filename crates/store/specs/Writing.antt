@@ -1,5 +1,5 @@
 -- What an accepted command writes, table by table. No public clause names these.
-use Rattle.std.specs.Prelude.{◌≡◌, ◌+◌, ℕ, pos, List, [], ◌∷◌, Option, Some, None}
+use Rattle.std.specs.Prelude.{◌≡◌, ◌+◌, ◌≤◌, ℕ, pos, length, slice_get, List, [], ◌∷◌, Option, Some, None}
 use Rattle.sqlite_value.specs.declared.value.Value.TheVariants.{Int, Text}
 use Rattle.sqlite.specs.Effect.{Database}
 use Rattle.duty.specs.Plans.{Plan, ActualTimes}
@@ -20,11 +20,18 @@ use Rattle.store.specs.Rows.{table, crew, pairing, period, segment, seat, ground
 
 -- ---- A pairing
 
+-- each period has at most twelve segments
+abbrev pub HaveFewSegments : List Fdp → Type 0
+HaveFewSegments periods = (place : ℕ) (fdp : Fdp) → slice_get periods place ≡ Some fdp → length fdp.segments ≤ 12
+
 abbrev pub AddsPeriods : List ℕ → List Fdp → Database → Database → Type 0
 AddsPeriods id = Each (λ place fdp. Inserts (table period) (row_of_period id place fdp None)) 0
 
+abbrev pub AddsSegmentOf : List ℕ → ℕ → ℕ → Segment → Database → Database → Type 0
+AddsSegmentOf id place at s = Inserts (table segment) (row_of_segment id place at s None)
+
 abbrev pub AddsSegmentsOf : List ℕ → ℕ → List Segment → Database → Database → Type 0
-AddsSegmentsOf id place = Each (λ at s. Inserts (table segment) (row_of_segment id place at s None)) 0
+AddsSegmentsOf id place = Each (AddsSegmentOf id place) 0
 
 abbrev pub AddsSegments : List ℕ → List Fdp → Database → Database → Type 0
 AddsSegments id = Each (λ place fdp. AddsSegmentsOf id place fdp.segments) 0
@@ -38,28 +45,40 @@ RemovesPairing id = Then (Deletes (table segment) (begins_with (Text id ∷ []))
 
 -- ---- Seats
 
--- a holder takes a seat that is free
+abbrev pub FreesSeat : SeatChange → Database → Database → Type 0
+FreesSeat change = Deletes (table seat) (begins_with (Text change.pairing ∷ Int (pos (seat_number change.seat)) ∷ []))
+
+abbrev pub TakesSeat : SeatChange → List ℕ → Database → Database → Type 0
+TakesSeat change who = Inserts (table seat) (row_of_seat change.pairing change.seat who)
+
 abbrev pub Seats : SeatChange → Option (List ℕ) → Database → Database → Type 0
 Seats change None old new = new ≡ old
-Seats change (Some who) old new = Inserts (table seat) (row_of_seat change.pairing change.seat who) old new
+Seats change (Some who) old new = TakesSeat change who old new
 
+-- a seat is freed, and its new holder takes it, if there is one
 abbrev pub Reseats : SeatChange → Database → Database → Type 0
-Reseats change = Then (Deletes (table seat) (begins_with (Text change.pairing ∷ Int (pos (seat_number change.seat)) ∷ []))) (Seats change change.holder)
+Reseats change = Then (FreesSeat change) (Seats change change.holder)
 
 abbrev pub ReseatsAll : List SeatChange → Database → Database → Type 0
 ReseatsAll = Each (λ _ change. Reseats change) 0
 
 -- ---- Actual times
 
+abbrev pub FliesSegment : List ℕ → ℕ → ℕ → BlockTimes → Database → Database → Type 0
+FliesSegment id number at t =
+    Updates (table segment) (begins_with (Text id ∷ Int (pos number) ∷ Int (pos (at + 1)) ∷ [])) (with_segment_times t.block_out t.block_in)
+
 abbrev pub FliesSegments : List ℕ → ℕ → List BlockTimes → Database → Database → Type 0
-FliesSegments id number =
-    Each (λ at t. Updates (table segment) (begins_with (Text id ∷ Int (pos number) ∷ Int (pos (at + 1)) ∷ [])) (with_segment_times t.block_out t.block_in)) 0
+FliesSegments id number = Each (FliesSegment id number) 0
 
 abbrev pub FliesPeriod : List ℕ → ActualTimes → Database → Database → Type 0
 FliesPeriod id a = Updates (table period) (begins_with (Text id ∷ Int (pos a.period) ∷ [])) (with_period_times a.report a.release)
 
+abbrev pub Records : KeyParts → PeriodId → Exceedance → Database → Database → Type 0
+Records key p e = Inserts (table exceedance) (row_of_exceedance key e.crew e.section p)
+
 abbrev pub RecordsAll : KeyParts → PeriodId → List Exceedance → Database → Database → Type 0
-RecordsAll key p = Each (λ _ e. Inserts (table exceedance) (row_of_exceedance key e.crew e.section p)) 0
+RecordsAll key p = Each (λ _ e. Records key p e) 0
 
 abbrev pub Flies : Change → List ℕ → ActualTimes → Database → Database → Type 0
 Flies change id a = Then (FliesPeriod id a) (Then (FliesSegments id a.period a.segments)

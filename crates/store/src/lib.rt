@@ -8,6 +8,8 @@ mod records;
 mod store;
 mod transaction;
 
+mod writing;
+
 pub use fault::{CreateFault, StoreFault};
 pub use laws::{database_holds_one_state, rows_say_all};
 pub use store::Store;
