@@ -2,8 +2,15 @@ pub mod Chaining
 pub mod EmptyBook
 pub mod Ending
 pub mod FewPeriods
+pub mod Sets
+pub mod EffectSimple
+pub mod EffectPlans
+pub mod EffectPairing
+pub mod EffectSeats
 pub mod Lists
 pub mod Tables
+pub mod Tests
+pub mod Growing
 pub mod Values
 pub mod SamePairings
 pub mod SameStates

@@ -14,7 +14,7 @@ use Rattle.roster.specs.Pairings.{holder}
 use Rattle.roster.specs.Sound.{SoundPairing}
 use Rattle.roster.specs.State.{State}
 use Rattle.roster.specs.declared.state.Rostered.{Rostered}
-use Rattle.store.specs.Rows.{InPeriod, InSegment, InSeat, PairingAt, PeriodOf, SegmentOf, HeldSeat, row_of_period, row_of_segment, row_of_seat, seat_number, times_flown}
+use Rattle.store.specs.Rows.{InPeriod, InSegment, InSeat, At, PeriodOf, SegmentOf, HeldSeat, row_of_period, row_of_segment, row_of_seat, seat_number, times_flown}
 use Rattle.store.proofs.Lists.{Answers, same_list, same_option, one_value}
 use Rattle.store.proofs.Values.{seats_same, numbers_same, times_same, text_is, number_is}
 
@@ -34,15 +34,15 @@ module _ (s t : State) (id : List ℕ) (r q : Rostered) (here : fin.get s.pairin
   pub period_told : ((row : Row) → InPeriod s row → InPeriod t row) → (place : ℕ) (fdp : Fdp) (actual : Option ActualTimes) →
       slice_get r.plan.periods place ≡ Some fdp → slice_get r.actuals place ≡ Some actual → Period place fdp actual
   period_told told place fdp actual planned flown =
-      let at : PairingAt s = record { id = id; rostered = r; there = here } in
+      let at : At s.pairings = record { name = id; value = r; there = here } in
       let p : PeriodOf r = record { place = place; fdp = fdp; actual = actual; planned = planned; flown = flown } in
       let it = told (row_of_period id place fdp actual) (at, p, refl) in
       let e = it.2 in
       let at_column = λ (k : ℕ). ap (λ (row : Row). column row k) e in
-      let same_id : id ≡ it.0.id = text_is (at_column 0) in
+      let same_id : id ≡ it.0.name = text_is (at_column 0) in
       let n : place + 1 ≡ it.1.place + 1 = number_is (at_column 1) in
       let same_place : place ≡ it.1.place = omega (arith, n) in
-      let same : it.0.rostered ≡ q = one_value (ap (fin.get t.pairings) same_id ∙ it.0.there) there in
+      let same : it.0.value ≡ q = one_value (ap (fin.get t.pairings) same_id ∙ it.0.there) there in
       record {
         its = it.1.fdp;
         flight = it.1.actual;
@@ -63,18 +63,18 @@ module _ (s t : State) (id : List ℕ) (r q : Rostered) (here : fin.get s.pairin
       slice_get q.plan.periods place ≡ Some its → slice_get q.actuals place ≡ Some flight →
       (at : ℕ) (segment : Segment) → slice_get fdp.segments at ≡ Some segment → InFlight its actual flight at segment
   segment_told told place fdp its actual flight planned flown its_planned its_flown number segment there_is =
-      let at : PairingAt s = record { id = id; rostered = r; there = here } in
+      let at : At s.pairings = record { name = id; value = r; there = here } in
       let p : PeriodOf r = record { place = place; fdp = fdp; actual = actual; planned = planned; flown = flown } in
       let g : SegmentOf fdp = record { place = number; segment = segment; planned = there_is } in
       let it = told (row_of_segment id place number segment (times_flown actual number)) (at, p, g, refl) in
       let e = it.3 in
       let at_column = λ (k : ℕ). ap (λ (row : Row). column row k) e in
-      let same_id : id ≡ it.0.id = text_is (at_column 0) in
+      let same_id : id ≡ it.0.name = text_is (at_column 0) in
       let n : place + 1 ≡ it.1.place + 1 = number_is (at_column 1) in
       let m : number + 1 ≡ it.2.place + 1 = number_is (at_column 2) in
       let same_place : place ≡ it.1.place = omega (arith, n) in
       let same_number : number ≡ it.2.place = omega (arith, m) in
-      let same : it.0.rostered ≡ q = one_value (ap (fin.get t.pairings) same_id ∙ it.0.there) there in
+      let same : it.0.value ≡ q = one_value (ap (fin.get t.pairings) same_id ∙ it.0.there) there in
       let same_fdp : its ≡ it.1.fdp =
       one_value its_planned (ap₂ (λ (x : Rostered) i. slice_get x.plan.periods i) (sym same) same_place ∙ it.1.planned) in
       let same_flight : flight ≡ it.1.actual =
@@ -93,14 +93,14 @@ module _ (s t : State) (id : List ℕ) (r q : Rostered) (here : fin.get s.pairin
 
   pub holder_told : ((row : Row) → InSeat s row → InSeat t row) → (seat : Seat) → Answers (holder seat r) (holder seat q)
   holder_told told seat crew held =
-      let at : PairingAt s = record { id = id; rostered = r; there = here } in
+      let at : At s.pairings = record { name = id; value = r; there = here } in
       let h : HeldSeat r = record { seat = seat; crew = crew; held = held } in
       let it = told (row_of_seat id seat crew) (at, h, refl) in
       let e = it.2 in
-      let same_id : id ≡ it.0.id = text_is (ap (λ (row : Row). column row 0) e) in
+      let same_id : id ≡ it.0.name = text_is (ap (λ (row : Row). column row 0) e) in
       let n : seat_number seat ≡ seat_number it.1.seat = number_is (ap (λ (row : Row). column row 1) e) in
       let who : it.1.crew ≡ crew = text_is (sym (ap (λ (row : Row). column row 2) e)) in
-      let same : it.0.rostered ≡ q = one_value (ap (fin.get t.pairings) same_id ∙ it.0.there) there in
+      let same : it.0.value ≡ q = one_value (ap (fin.get t.pairings) same_id ∙ it.0.there) there in
       ap₂ holder (seats_same _ _ n) (sym same) ∙ it.1.held ∙ ap Some who
 
 -- ---- The parts of a period

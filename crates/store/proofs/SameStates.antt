@@ -22,27 +22,27 @@ zones_same s t told = text_is (ap (λ (row : Row). column row 2) (told _ refl))
 
 crew_told : (s t : State) → ((row : Row) → InCrew s row → InCrew t row) → (id : List ℕ) → Answers (fin.get s.crew id) (fin.get t.crew id)
 crew_told s t told id m e =
-    let it = told (row_of_member id m) (record { id = id; member = m; there = e }, refl) in
+    let it = told (row_of_member id m) (record { name = id; value = m; there = e }, refl) in
     let same = it.1 in
     let at_column = λ (k : ℕ). ap (λ (row : Row). column row k) same in
-    let same_id : id ≡ it.0.id = text_is (at_column 0) in
-    let seat : seat_number it.0.member.seat ≡ seat_number m.seat = number_is (sym (at_column 1)) in
-    let name : it.0.member.name ≡ m.name = text_is (sym (at_column 2)) in
-    ap (fin.get t.crew) same_id ∙ it.0.there ∙ ap Some (members_same it.0.member m seat name)
+    let same_id : id ≡ it.0.name = text_is (at_column 0) in
+    let seat : seat_number it.0.value.seat ≡ seat_number m.seat = number_is (sym (at_column 1)) in
+    let name : it.0.value.name ≡ m.name = text_is (sym (at_column 2)) in
+    ap (fin.get t.crew) same_id ∙ it.0.there ∙ ap Some (members_same it.0.value m seat name)
 
 grounds_told : (s t : State) → Sound s → Sound t → ((row : Row) → InGround s row → InGround t row) → (id : List ℕ) → Answers (fin.get s.grounds id) (fin.get t.grounds id)
 grounds_told s t ss st told id g e =
-    let it = told (row_of_ground id g) (record { id = id; plan = g; there = e }, refl) in
+    let it = told (row_of_ground id g) (record { name = id; value = g; there = e }, refl) in
     let same = it.1 in
     let at_column = λ (k : ℕ). ap (λ (row : Row). column row k) same in
-    let same_id : id ≡ it.0.id = text_is (at_column 0) in
+    let same_id : id ≡ it.0.name = text_is (at_column 0) in
     let here = (ss.grounds id g e).named in
-    let there = (st.grounds it.0.id it.0.plan it.0.there).named in
-    let crew : it.0.plan.crew ≡ g.crew = text_is (sym (at_column 1)) in
-    let task : it.0.plan.task ≡ g.task = text_is (sym (at_column 2)) in
-    let begin : it.0.plan.begin ≡ g.begin = number_is (sym (at_column 3)) in
-    let end : it.0.plan.end ≡ g.end = number_is (sym (at_column 4)) in
-    let plan : it.0.plan ≡ g = λ i. record {
+    let there = (st.grounds it.0.name it.0.value it.0.there).named in
+    let crew : it.0.value.crew ≡ g.crew = text_is (sym (at_column 1)) in
+    let task : it.0.value.task ≡ g.task = text_is (sym (at_column 2)) in
+    let begin : it.0.value.begin ≡ g.begin = number_is (sym (at_column 3)) in
+    let end : it.0.value.end ≡ g.end = number_is (sym (at_column 4)) in
+    let plan : it.0.value ≡ g = λ i. record {
       id = (there ∙ sym same_id ∙ sym here) i;
       crew = crew i;
       begin = begin i;
@@ -91,11 +91,11 @@ requests_told s t ss st is it_is told name r e =
 
 pairings_told : (s t : State) → Sound s → Sound t → SameRows s t → (id : List ℕ) → Answers (fin.get s.pairings id) (fin.get t.pairings id)
 pairings_told s t ss st same id r e =
-    let it = (same pairing (row_of_pairing id)).0 (record { id = id; rostered = r; there = e }, refl) in
+    let it = (same pairing (row_of_pairing id)).0 (record { name = id; value = r; there = e }, refl) in
     let is = it.1 in
-    let same_id : id ≡ it.0.id = text_is (ap (λ (row : Row). column row 0) is) in
-    let there : fin.get t.pairings id ≡ Some it.0.rostered = ap (fin.get t.pairings) same_id ∙ it.0.there in
-    there ∙ ap Some (sym (same_pairing s t id r it.0.rostered e there (ss.pairings id r e) (st.pairings id it.0.rostered there)
+    let same_id : id ≡ it.0.name = text_is (ap (λ (row : Row). column row 0) is) in
+    let there : fin.get t.pairings id ≡ Some it.0.value = ap (fin.get t.pairings) same_id ∙ it.0.there in
+    there ∙ ap Some (sym (same_pairing s t id r it.0.value e there (ss.pairings id r e) (st.pairings id it.0.value there)
     (λ row. (same period row).0) (λ row. (same period row).1) (λ row. (same segment row).0) (λ row. (same segment row).1)
     (λ row. (same seat row).0) (λ row. (same seat row).1)))
 

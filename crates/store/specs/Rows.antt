@@ -2,6 +2,7 @@
 use Rattle.std.specs.Prelude.{◌≡◌, ◌↔◌, ◌+◌, ℕ, pos, List, slice_get, Option, Some}
 use Rattle.std.specs.FinMap as fin
 use Rattle.std.specs.Option.{option_map, option_and_then}
+use Rattle.values.specs.Name.{name_cmp}
 use Rattle.sqlite_value.specs.Order.{Row}
 use Rattle.sqlite_rules.specs.Lists.{Has}
 use Rattle.sqlite.specs.Effect.{Database}
@@ -31,6 +32,12 @@ abbrev pub seat_number : Seat → ℕ
 seat_number Captain = 0
 seat_number FirstOfficer = 1
 
+-- what a map has under a name
+pub record At {V : Type 0} (m : fin.FinMap name_cmp V) : Type 0 where
+  pub name : List ℕ
+  pub value : V
+  pub there : fin.get m name ≡ Some value
+
 -- ---- The book, its members and its pairings
 
 -- one row: the version of the tables, and the text of the zone
@@ -38,28 +45,18 @@ abbrev pub InBook : State → Row → Type 0
 InBook s row = row ≡ book_row (record { one = pos 1; version = pos 1; zone = s.zone })
 
 -- a row for each member: the id, the seat that the member takes, and the name
-pub record CrewAt (s : State) : Type 0 where
-  pub id : List ℕ
-  pub member : Member
-  pub there : fin.get s.crew id ≡ Some member
-
 abbrev pub row_of_member : List ℕ → Member → Row
 row_of_member id m = crew_row (record { id = id; seat = seat_number m.seat; name = m.name })
 
 abbrev pub InCrew : State → Row → Type 0
-InCrew s row = (at : CrewAt s) × (row ≡ row_of_member at.id at.member)
+InCrew s row = (at : At s.crew) × (row ≡ row_of_member at.name at.value)
 
 -- a row for each pairing: the id
-pub record PairingAt (s : State) : Type 0 where
-  pub id : List ℕ
-  pub rostered : Rostered
-  pub there : fin.get s.pairings id ≡ Some rostered
-
 abbrev pub row_of_pairing : List ℕ → Row
 row_of_pairing id = pairing_row (record { id = id })
 
 abbrev pub InPairing : State → Row → Type 0
-InPairing s row = (at : PairingAt s) × (row ≡ row_of_pairing at.id)
+InPairing s row = (at : At s.pairings) × (row ≡ row_of_pairing at.name)
 
 -- ---- The periods of a pairing
 
@@ -83,7 +80,7 @@ row_of_period id place fdp actual = period_row (record {
 })
 
 abbrev pub InPeriod : State → Row → Type 0
-InPeriod s row = (at : PairingAt s) × (p : PeriodOf at.rostered) × (row ≡ row_of_period at.id p.place p.fdp p.actual)
+InPeriod s row = (at : At s.pairings) × (p : PeriodOf at.value) × (row ≡ row_of_period at.name p.place p.fdp p.actual)
 
 -- ---- The segments of a period
 
@@ -113,8 +110,8 @@ row_of_segment id period place segment times = segment_row (record {
 })
 
 abbrev pub InSegment : State → Row → Type 0
-InSegment s row = (at : PairingAt s) × (p : PeriodOf at.rostered) × (g : SegmentOf p.fdp)
-    × (row ≡ row_of_segment at.id p.place g.place g.segment (times_flown p.actual g.place))
+InSegment s row = (at : At s.pairings) × (p : PeriodOf at.value) × (g : SegmentOf p.fdp)
+    × (row ≡ row_of_segment at.name p.place g.place g.segment (times_flown p.actual g.place))
 
 -- ---- The holders of seats
 
@@ -128,30 +125,25 @@ abbrev pub row_of_seat : List ℕ → Seat → List ℕ → Row
 row_of_seat id seat crew = seat_row (record { pairing = id; seat = seat_number seat; crew = crew })
 
 abbrev pub InSeat : State → Row → Type 0
-InSeat s row = (at : PairingAt s) × (h : HeldSeat at.rostered) × (row ≡ row_of_seat at.id h.seat h.crew)
+InSeat s row = (at : At s.pairings) × (h : HeldSeat at.value) × (row ≡ row_of_seat at.name h.seat h.crew)
 
 -- ---- Ground duties, exceedances and requests
 
 -- a row for each ground duty: the id, whose duty it is, the task, begin and end
-pub record GroundAt (s : State) : Type 0 where
-  pub id : List ℕ
-  pub plan : GroundPlan
-  pub there : fin.get s.grounds id ≡ Some plan
-
 abbrev pub row_of_ground : List ℕ → GroundPlan → Row
 row_of_ground id g = ground_row (record { id = id; crew = g.crew; task = g.task; begin_at = g.begin; end_at = g.end })
 
 abbrev pub InGround : State → Row → Type 0
-InGround s row = (at : GroundAt s) × (row ≡ row_of_ground at.id at.plan)
+InGround s row = (at : At s.grounds) × (row ≡ row_of_ground at.name at.value)
 
 -- a row for each exceedance: number and part of the request that recorded it, the member, the number of the section,
 -- and the period of the pairing in which it was
-pub record ExceedanceAt (s : State) : Type 0 where
+pub record ExceedanceAt (exceedances : fin.FinMap name_cmp PeriodId) : Type 0 where
   pub key : KeyParts
   pub crew : List ℕ
   pub section : Section
   pub period : PeriodId
-  pub there : fin.get s.exceedances (exceedance_name key crew section) ≡ Some period
+  pub there : fin.get exceedances (exceedance_name key crew section) ≡ Some period
 
 abbrev pub row_of_exceedance : KeyParts → List ℕ → Section → PeriodId → Row
 row_of_exceedance key crew section period = exceedance_row (record {
@@ -164,13 +156,13 @@ row_of_exceedance key crew section period = exceedance_row (record {
 })
 
 abbrev pub InExceedance : State → Row → Type 0
-InExceedance s row = (at : ExceedanceAt s) × (row ≡ row_of_exceedance at.key at.crew at.section at.period)
+InExceedance s row = (at : ExceedanceAt s.exceedances) × (row ≡ row_of_exceedance at.key at.crew at.section at.period)
 
 -- a row for each accepted command: number and part of its key, its kept text, and its reply as JSON
-pub record RequestAt (s : State) : Type 0 where
+pub record RequestAt (requests : fin.FinMap name_cmp Request) : Type 0 where
   pub key : KeyParts
   pub kept : Request
-  pub there : fin.get s.requests (key_name key) ≡ Some kept
+  pub there : fin.get requests (key_name key) ≡ Some kept
 
 abbrev pub row_of_request : KeyParts → Request → Row
 row_of_request key kept = request_row (record {
@@ -181,7 +173,7 @@ row_of_request key kept = request_row (record {
 })
 
 abbrev pub InRequest : State → Row → Type 0
-InRequest s row = (at : RequestAt s) × (row ≡ row_of_request at.key at.kept)
+InRequest s row = (at : RequestAt s.requests) × (row ≡ row_of_request at.key at.kept)
 
 -- ---- The nine tables
 
