@@ -2,9 +2,11 @@ pub mod Chaining
 pub mod EmptyBook
 pub mod Ending
 pub mod FewPeriods
+pub mod Retiming
 pub mod Sets
 pub mod EffectSimple
 pub mod EffectPlans
+pub mod EffectActual
 pub mod EffectPairing
 pub mod EffectSeats
 pub mod Lists

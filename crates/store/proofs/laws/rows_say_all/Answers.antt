@@ -1,4 +1,6 @@
 use Rattle.store.proofs.EffectSimple.{member_added}
+use Rattle.store.proofs.EffectActual.{actual_flown}
+use Rattle.store.proofs.Retiming.{all_flown}
 use Rattle.store.proofs.EffectPairing.{plan_added}
 use Rattle.store.proofs.EffectSeats.{all_reseated}
 use Rattle.store.proofs.Growing.{each_grows}
