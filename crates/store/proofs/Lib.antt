@@ -6,6 +6,7 @@ pub mod Retiming
 pub mod Sets
 pub mod EffectSimple
 pub mod EffectPlans
+pub mod Effects
 pub mod EffectActual
 pub mod EffectPairing
 pub mod EffectSeats

@@ -31,6 +31,10 @@ Each Is place (v ∷ vs) old new = Then (Is place v) (Each Is (suc place) vs) ol
 abbrev pub IsFit : Database → Type 0
 IsFit db = IsBook db.schema × AreStored db
 
+-- a change that leaves such a database
+abbrev pub Fitting : (Database → Database → Type 0) → Database → Database → Type 0
+Fitting Is old new = Is old new × IsFit new
+
 -- a transaction is begun over the tables of a book
 pub record IsReady (s : State) : Type 0 where
   pub inside : IsInside s

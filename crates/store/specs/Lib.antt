@@ -5,4 +5,5 @@ pub mod Outcomes
 pub mod Faults
 pub mod Calls
 pub mod Making
+pub mod Next
 pub mod Writing

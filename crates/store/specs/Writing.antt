@@ -15,7 +15,7 @@ use Rattle.roster.specs.declared.change.SeatChange.{SeatChange}
 use Rattle.roster.specs.declared.state.PeriodId.{PeriodId}
 use Rattle.tables.specs.Records.{with_period_times, with_segment_times}
 use Rattle.tables.specs.Rows.{Inserts, Deletes, Updates, begins_with}
-use Rattle.store.specs.Calls.{Then, Each}
+use Rattle.store.specs.Calls.{Then, Each, Fitting}
 use Rattle.store.specs.Rows.{table, crew, pairing, period, segment, seat, ground_duty, exceedance, request, row_of_member, row_of_pairing, row_of_period, row_of_segment, row_of_seat, row_of_ground, row_of_exceedance, row_of_request, seat_number}
 
 -- ---- A pairing
@@ -97,7 +97,7 @@ WritesOrder change (AddGround g) = Inserts (table ground_duty) (row_of_ground g.
 WritesOrder change (CancelGround id) = Deletes (table ground_duty) (begins_with (Text id ∷ []))
 WritesOrder change (Actual id a) = Flies change id a
 
--- the effect, and the command with its reply under its key
+-- the effect, and then the command with its reply under its key
 abbrev pub Writes : Change → Database → Database → Type 0
-Writes change = Then (WritesOrder change change.command)
+Writes change = Then (Fitting (WritesOrder change change.command))
     (Inserts (table request) (row_of_request change.key (record { command = change.command; reply = change.reply })))

@@ -1,4 +1,5 @@
 use Rattle.store.proofs.EffectSimple.{member_added}
+use Rattle.store.proofs.Effects.{written}
 use Rattle.store.proofs.EffectActual.{actual_flown}
 use Rattle.store.proofs.Retiming.{all_flown}
 use Rattle.store.proofs.EffectPairing.{plan_added}
