@@ -1,13 +1,12 @@
 -- Calls in a transaction, one after the other.
-use Rattle.std.proofs.Common.{ℕ, zero, suc, ◌+◌, List, [], ◌∷◌, take, Some, slice_get, ◌≡◌, inl, inr, refl, sym, ap, subst, ◌∙◌, arith, true, false, cond, IsTrue, Result, Ok, Err, OnOk}
+use Rattle.std.proofs.Common.{ℕ, zero, suc, ◌+◌, List, [], ◌∷◌, take, Some, slice_get, ◌≡◌, inl, inr, refl, sym, subst, ◌∙◌, arith, true, cond, IsTrue, Result, Ok, Err}
 use Rattle.std.proofs.lemmas.Bool.{true≢false}
-use Rattle.sqlite_trees.specs.Tree.{Trees}
 use Rattle.sqlite.specs.Effect.{Database}
-use Rattle.sqlite.specs.State.{State, HasCleanDisk, Shows, KeepsCommit, Survives}
+use Rattle.sqlite.specs.State.{State, HasCleanDisk, Shows, KeepsCommit}
 use Rattle.sqlite.proofs.StateLemmas.{survives_then, survives_weaker}
 use Rattle.tables.specs.Calls.{Ran, MayLeave, Leaves, LeavesNothing}
 use Rattle.tables.specs.declared.table_fault.TableFault.{TableFault}
-use Rattle.store.specs.Calls.{IsInside, Changed, Then, Each, IsFit, IsReady, Wrote}
+use Rattle.store.specs.Calls.{IsInside, Changed, Then, Each, Fitting, IsFit, IsReady, Wrote}
 
 -- ---- What was committed stays
 
@@ -209,3 +208,14 @@ each_turn {E = E} Is n vs v old mid new a b at before more =
       };
       ready = more.ready;
     }
+
+-- a change, with what it leaves
+pub wrote_fit : {A E : Type 0} {Is : Database → Database → Type 0} (old new : State) (a : A) → Wrote {E = E} Is old new (Ok a) → Wrote {E = E} (Fitting Is) old new (Ok a)
+wrote_fit old new a wrote = record {
+  changed = record {
+    done = λ clean. let it = wrote.changed.done clean in ((it.0, wrote.ready.fit clean), it.1);
+    kept = wrote.changed.kept;
+    left = wrote.changed.left;
+  };
+  ready = wrote.ready;
+}

@@ -8,7 +8,6 @@ use Rattle.std.proofs.lemmas.Option.{slice_get_cases, slice_get_within}
 use Rattle.values.specs.Name.{name_cmp, changed_at}
 use Rattle.sqlite_value.specs.declared.value.Value.TheVariants.{Int, Text}
 use Rattle.sqlite_value.specs.Order.{Row, column}
-use Rattle.sqlite_rules.specs.Lists.{Has}
 use Rattle.sqlite.specs.Effect.{Database}
 use Rattle.duty.specs.Plans.{ActualTimes}
 use Rattle.duty.specs.declared.fdp.Fdp.{Fdp}
@@ -27,11 +26,11 @@ use Rattle.roster.specs.Steps.{with_actual, recorded}
 use Rattle.roster.specs.declared.state.PeriodId.{PeriodId}
 use Rattle.roster.specs.declared.state.Rostered.{Rostered}
 use Rattle.tables.specs.Records.{with_period_times}
-use Rattle.tables.specs.Rows.{begins_with, rows_of}
+use Rattle.tables.specs.Rows.{begins_with}
 use Rattle.tables.specs.declared.period.PeriodRecord.{PeriodRecord}
 use Rattle.tables.proofs.PeriodTexts.{with_period_times_is}
 use Rattle.store.specs.Calls.{IsFit, Then}
-use Rattle.store.specs.Rows.{TableName, book, crew, pairing, period, segment, seat, ground_duty, exceedance, request, table, At, PeriodOf, SegmentOf, HeldSeat, ExceedanceAt, In, InPairing, InPeriod, InSegment, InSeat, InExceedance, Rows, row_of_pairing, row_of_period, row_of_segment, row_of_exceedance, times_flown}
+use Rattle.store.specs.Rows.{TableName, pairing, period, segment, seat, exceedance, At, PeriodOf, SegmentOf, ExceedanceAt, In, InPairing, InPeriod, InSegment, InSeat, InExceedance, Rows, row_of_period, row_of_segment, row_of_exceedance, times_flown}
 use Rattle.store.specs.Writing.{FliesPeriod, FliesSegments, RecordsAll}
 use Rattle.store.proofs.Growing.{SomeOf, placed, some_of, each_grows}
 use Rattle.store.proofs.Lists.{one_value, some_same}
@@ -97,14 +96,16 @@ module _ (key : KeyParts) (p : PeriodId) where
           (record { key = key; crew = it.value.crew; section = it.value.section; period = p; there = recorded_here es m it.place it.value it.there }, it.is)
       | inr was ↦
           let other : (e : Exceedance) → exceedance_name was.0.key was.0.crew was.0.section ≡ name_of e → ⊥ = λ e same.
-          fresh was.0 (names_same was.0.key key was.0.crew e.crew was.0.section e.section same).0 in
-          (record {
-            key = was.0.key;
-            crew = was.0.crew;
-            section = was.0.section;
-            period = was.0.period;
-            there = stays es m _ was.0.period (inl other) was.0.there;
-          }, was.1)
+          fresh was.0 (names_same was.0.key key was.0.crew e.crew was.0.section e.section same).0 in (
+            record {
+              key = was.0.key;
+              crew = was.0.crew;
+              section = was.0.section;
+              period = was.0.period;
+              there = stays es m _ was.0.period (inl other) was.0.there;
+            },
+            was.1,
+          )
     ],
     λ h. elim (recorded_back es m (exceedance_name h.0.key h.0.crew h.0.section) h.0.period h.0.there) [
       | inl it ↦
@@ -356,7 +357,7 @@ module _ (s : State) (id : List ℕ) (a : ActualTimes) (r : Rostered) (there : f
     row_of_segment name p n g tf,
     was,
     subst (Flown id a.period 0 a.segments (row_of_segment name p n g tf)) (ap (row_of_segment name p n g) (retimed_not name p n g tf other) ∙ sym is)
-    (flown_from id a.period name p n g 0 a.segments tf),
+        (flown_from id a.period name p n g 0 a.segments tf),
   )
 
   segment_before : (row : Row) (name : List ℕ) → name ≡ id → (p : PeriodOf now) (g : SegmentOf p.fdp) → row ≡ row_of_segment name p.place g.place g.segment (times_flown p.actual g.place) → Reflown row
@@ -368,8 +369,7 @@ module _ (s : State) (id : List ℕ) (a : ActualTimes) (r : Rostered) (there : f
         let tf = times_flown was_flown.0 g.place in
         let to : row_of_segment id place g.place g.segment (after id a.period id place g.place g.segment 0 a.segments tf) ≡ row =
         ap (row_of_segment id place g.place g.segment) (retimed_here id place g.place g.segment tf refl refl at)
-        ∙ sym (is ∙ (λ i. row_of_segment (same i) (here i) g.place g.segment (times_flown (t.1 i) g.place))) in
-        (
+        ∙ sym (is ∙ (λ i. row_of_segment (same i) (here i) g.place g.segment (times_flown (t.1 i) g.place))) in (
           row_of_segment id place g.place g.segment tf,
           (was_at, was_period, of, refl),
           subst (Flown id a.period 0 a.segments (row_of_segment id place g.place g.segment tf)) to (flown_from id a.period id place g.place g.segment 0 a.segments tf),

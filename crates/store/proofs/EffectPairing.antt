@@ -1,13 +1,12 @@
 -- What a new pairing, and a pairing that goes, make of the rows of a state.
-use Rattle.std.proofs.Common.{◌≡◌, ◌⊎◌, ◌↔◌, inl, inr, refl, sym, ap, subst, ◌∙◌, arith, ℕ, ◌+◌, List, [], ◌∷◌, map, Option, Some, None, Bool, true, false, ◌||◌, is_some, slice_get, option_map}
+use Rattle.std.proofs.Common.{◌≡◌, ◌⊎◌, ◌↔◌, inl, inr, sym, ap, subst, ◌∙◌, arith, ℕ, ◌+◌, List, [], ◌∷◌, Some, None, Bool, false, ◌||◌, is_some, slice_get, option_map}
 use Rattle.std.specs.FinMap as fin
 use Rattle.std.proofs.lemmas.Bool.{true≢false, or_right}
 use Rattle.std.proofs.lemmas.Option.{slice_get-map}
 use Rattle.sqlite_value.specs.declared.value.Value.TheVariants.{Text}
 use Rattle.sqlite_value.specs.Order.{Row, column}
-use Rattle.sqlite_rules.specs.Lists.{Has}
 use Rattle.sqlite.specs.Effect.{Database}
-use Rattle.duty.specs.Plans.{Plan, ActualTimes}
+use Rattle.duty.specs.Plans.{Plan}
 use Rattle.duty.specs.declared.fdp.Fdp.{Fdp}
 use Rattle.duty.specs.declared.segment.Segment.{Segment}
 use Rattle.command.specs.declared.member.Seat.{Seat}
@@ -16,12 +15,12 @@ use Rattle.roster.proofs.Accepted.{inserted, insert_here, insert_keeps, removed,
 use Rattle.roster.specs.Pairings.{holder, is_crewed, unheld}
 use Rattle.roster.specs.State.{State}
 use Rattle.roster.specs.declared.state.Rostered.{Rostered}
-use Rattle.tables.specs.Rows.{Changes, begins_with, rows_of}
+use Rattle.tables.specs.Rows.{begins_with}
 use Rattle.store.specs.Calls.{IsFit}
 use Rattle.store.specs.Rows.{TableName, book, crew, pairing, period, segment, seat, ground_duty, exceedance, request, table, At, PeriodOf, SegmentOf, In, InPairing, InPeriod, InSegment, InSeat, Rows, row_of_pairing, row_of_period, row_of_segment}
 use Rattle.store.specs.Writing.{AddsPairing, RemovesPairing}
 use Rattle.store.proofs.Growing.{SomeOf, placed, some_of, each_grows}
-use Rattle.store.proofs.Lists.{one_value, some_same}
+use Rattle.store.proofs.Lists.{one_value}
 use Rattle.store.proofs.Sets as sets
 use Rattle.store.proofs.Tables.{fit_after, inserts_keep, deletes_keep}
 use Rattle.store.proofs.Tests.{fails, others}

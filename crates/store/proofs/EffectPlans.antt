@@ -1,11 +1,11 @@
 -- Pairings whose plans and actuals stay have the same rows, but for those of seats.
-use Rattle.std.proofs.Common.{◌≡◌, refl, sym, ap, subst, ◌∙◌, ℕ, List, Some, slice_get}
+use Rattle.std.proofs.Common.{◌≡◌, sym, ap, ◌∙◌, ℕ, List, Some, slice_get}
 use Rattle.std.specs.FinMap as fin
 use Rattle.values.specs.Name.{name_cmp}
 use Rattle.sqlite_value.specs.Order.{Row}
 use Rattle.roster.specs.State.{State}
 use Rattle.roster.specs.declared.state.Rostered.{Rostered}
-use Rattle.store.specs.Rows.{At, PeriodOf, InPairing, InPeriod, InSegment}
+use Rattle.store.specs.Rows.{PeriodOf, InPairing, InPeriod, InSegment}
 
 abbrev pub Pairings : Type 0
 Pairings = fin.FinMap name_cmp Rostered

@@ -1,5 +1,5 @@
 -- What seats that get or lose a holder make of the rows of a state.
-use Rattle.std.proofs.Common.{◌≡◌, ◌⊎◌, ◌↔◌, inl, inr, refl, sym, ap, subst, ◌∙◌, ℕ, suc, pos, List, [], ◌∷◌, Option, Some, None, Bool, true, false}
+use Rattle.std.proofs.Common.{◌≡◌, ◌⊎◌, ◌↔◌, inl, inr, refl, sym, ap, subst, ◌∙◌, ℕ, suc, pos, List, [], ◌∷◌, Option, Some, None, Bool, false}
 use Rattle.std.specs.FinMap as fin
 use Rattle.std.specs.List.{AllByRecursion, fold}
 use Rattle.sqlite_value.specs.declared.value.Value.TheVariants.{Int, Text}
@@ -16,13 +16,13 @@ use Rattle.roster.specs.declared.change.SeatChange.{SeatChange}
 use Rattle.roster.specs.declared.state.Rostered.{Rostered}
 use Rattle.tables.specs.Rows.{Changes, begins_with, rows_of}
 use Rattle.store.specs.Calls.{Then, Each, IsFit}
-use Rattle.store.specs.Rows.{TableName, book, crew, pairing, period, segment, seat, ground_duty, exceedance, request, table, At, HeldSeat, In, InSeat, Rows, row_of_seat, seat_number}
+use Rattle.store.specs.Rows.{TableName, pairing, period, segment, seat, table, At, HeldSeat, In, InSeat, Rows, row_of_seat, seat_number}
 use Rattle.store.specs.Writing.{FreesSeat, Seats, Reseats}
-use Rattle.store.proofs.EffectPlans.{Pairings, SamePlan, SamePlans, Found, pairing_told, period_told, segment_told}
+use Rattle.store.proofs.EffectPlans.{Pairings, SamePlan, SamePlans, pairing_told, period_told, segment_told}
 use Rattle.store.proofs.Growing.{changed_twice}
 use Rattle.store.proofs.Lists.{one_value, some_same}
 use Rattle.store.proofs.Sets as sets
-use Rattle.store.proofs.Tables.{fit_after, deletes_keep}
+use Rattle.store.proofs.Tables.{fit_after}
 use Rattle.store.proofs.Tests.{fails, others}
 use Rattle.store.proofs.Values.{text_is, number_is, seats_same}
 
@@ -187,8 +187,7 @@ module _ (s : State) (c : SeatChange) (r : Rostered) (there : fin.get s.pairings
 
   pub one_reseated : (old new : Database) → IsFit old → Rows s old → Reseats c old new → IsFit new × Rows after new
   one_reseated old new fit rows is =
-      let changes = seat_changes c c.holder old new fit is in
-      (
+      let changes = seat_changes c c.holder old new fit is in (
         fit_after old new fit seat _ changes,
         sets.shows_as _ _ new seat_words (sets.changed seat old new fit (In s) rows _ _ changes (λ x. (
           λ h. elim h [ inl new ↦ inl new | inr was ↦ inr ((rows seat x).0 was.0, was.1) ],

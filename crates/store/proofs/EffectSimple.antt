@@ -1,8 +1,7 @@
 -- What the commands of one row make of the rows of a state.
-use Rattle.std.proofs.Common.{◌≡◌, ◌⊎◌, ◌↔◌, inl, inr, refl, sym, ap, subst, ◌∙◌, ℕ, List, [], ◌∷◌, Some, None, Bool, true, false}
+use Rattle.std.proofs.Common.{◌≡◌, ◌⊎◌, ◌↔◌, inl, inr, sym, ap, ◌∙◌, ℕ, List, [], ◌∷◌, None, Bool, false}
 use Rattle.std.specs.FinMap as fin
 use Rattle.sqlite_value.specs.declared.value.Value.TheVariants.{Text}
-use Rattle.values.specs.Name.{name_cmp}
 use Rattle.sqlite_value.specs.Order.{Row, column}
 use Rattle.sqlite.specs.Effect.{Database}
 use Rattle.duty.specs.Plans.{GroundPlan}
@@ -13,7 +12,7 @@ use Rattle.roster.specs.State.{State}
 use Rattle.roster.specs.declared.state.Request.{Request}
 use Rattle.tables.specs.Rows.{Inserts, Deletes, begins_with}
 use Rattle.store.specs.Calls.{IsFit}
-use Rattle.store.specs.Rows.{TableName, book, crew, pairing, period, segment, seat, ground_duty, exceedance, request, table, In, InCrew, InGround, InRequest, Rows, row_of_member, row_of_ground, row_of_request}
+use Rattle.store.specs.Rows.{TableName, crew, ground_duty, request, table, In, InCrew, InGround, InRequest, Rows, row_of_member, row_of_ground, row_of_request}
 use Rattle.store.proofs.Sets as sets
 use Rattle.store.proofs.Tests.{fails, others}
 use Rattle.store.proofs.Values.{text_is}

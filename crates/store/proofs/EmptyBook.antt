@@ -1,5 +1,5 @@
 -- The tables that `create` makes are those of a book with nothing but its zone.
-use Rattle.std.proofs.Common.{◌≡◌, ◌↔◌, inl, inr, refl, sym, ap, subst, ◌∙◌, ℕ, pos, List, [], Some, None, true, false, Result, Ok, Err, IsOk, arith}
+use Rattle.std.proofs.Common.{◌≡◌, inl, inr, refl, sym, subst, ◌∙◌, ℕ, pos, List, [], Some, None, false, Result, Ok, Err, IsOk, arith}
 use Rattle.std.specs.FinMap as fin
 use Rattle.values.specs.Name.{name_cmp}
 use Rattle.sqlite_value.specs.Order.{Row}

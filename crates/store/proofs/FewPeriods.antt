@@ -1,5 +1,5 @@
 -- A pairing has at most ten periods, and each of them at most twelve segments; so has an actual.
-use Rattle.std.proofs.Common.{◌≡◌, ◌≤◌, inl, inr, refl, sym, ap, ◌∙◌, arith, ℕ, zero, suc, ◌+◌, Bool, true, false, not, nat_le, ◌&&◌, List, [], ◌∷◌, length, Option, Some, None, slice_get, option_map}
+use Rattle.std.proofs.Common.{◌≡◌, ◌≤◌, inl, inr, refl, sym, ap, ◌∙◌, ℕ, zero, suc, ◌+◌, Bool, true, false, not, nat_le, List, [], ◌∷◌, length, Option, Some, None, slice_get, option_map}
 use Rattle.std.specs.List.{list_all, position_from}
 use Rattle.std.proofs.lemmas.Bool.{and_parts, cases_Bool, leb-true}
 use Rattle.duty.specs.Pairings.{pairing_fault, count_fault, times_fault, chain_fault, actual_fault, are_shaped, is_segment_count, is_in_order}

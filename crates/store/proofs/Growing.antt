@@ -41,7 +41,7 @@ module _ (kept : BookTable) where
     has = λ x h. (same x).0 (two.has x h);
     all = λ x h. two.all x ((same x).1 h);
     others = all_both (Stays a b) (Stays b c) (Stays a c) (λ t p q other. q other ∙ p other) a.schema.tables one.others
-    (subst (λ (s : List Table). AllByRecursion (Stays b c) s) (ap (λ s. s.tables) one.schema) two.others);
+        (subst (λ (s : List Table). AllByRecursion (Stays b c) s) (ap (λ s. s.tables) one.schema) two.others);
     stored = λ stored. two.stored (one.stored stored);
   }
 

@@ -1,4 +1,5 @@
 pub mod Chaining
+pub mod Committing
 pub mod EmptyBook
 pub mod Ending
 pub mod FewPeriods

@@ -1,6 +1,6 @@
 -- The segments of a period, one after the other given their actual times.
-use Rattle.std.proofs.Common.{◌≡◌, ◌≢◌, ◌⊎◌, ◌↔◌, inl, inr, refl, sym, ap, subst, ◌∙◌, arith, ℕ, zero, suc, pos, ◌+◌, ◌≤◌, List, [], ◌∷◌, Option, Some, None, Bool, true, false, cond, slice_get, option_map}
-use Rattle.std.proofs.lemmas.Bool.{cases_Bool, true≢false}
+use Rattle.std.proofs.Common.{◌≡◌, ◌⊎◌, inl, inr, refl, sym, ap, subst, ◌∙◌, arith, ℕ, zero, suc, pos, ◌+◌, ◌≤◌, List, [], ◌∷◌, Option, Some, None, Bool, true, false, cond, slice_get, option_map}
+use Rattle.std.proofs.lemmas.Bool.{cases_Bool}
 use Rattle.sqlite_value.specs.declared.value.Value.TheVariants.{Int, Text}
 use Rattle.sqlite_value.specs.Order.{Row}
 use Rattle.sqlite_rules.specs.Lists.{Has}
@@ -15,8 +15,7 @@ use Rattle.store.specs.Calls.{Each, IsFit}
 use Rattle.store.specs.Rows.{table, segment, row_of_segment}
 use Rattle.store.specs.Writing.{FliesSegment}
 use Rattle.store.proofs.Growing.{unchanged, changed_twice}
-use Rattle.store.proofs.Lists.{some_same}
-use Rattle.store.proofs.Tables.{fit_after, updates_keep}
+use Rattle.store.proofs.Tables.{updates_keep}
 use Rattle.store.proofs.Tests.{passes, fails}
 use Rattle.store.proofs.Values.{text_is, number_is}
 

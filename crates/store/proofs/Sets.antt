@@ -3,10 +3,9 @@ use Rattle.std.proofs.Common.{◌≡◌, ◌⊎◌, ◌↔◌, inl, inr, refl, s
 use Rattle.sqlite_value.specs.Order.{Row}
 use Rattle.sqlite_rules.specs.Lists.{Has}
 use Rattle.sqlite.specs.Effect.{Database}
-use Rattle.roster.specs.State.{State}
-use Rattle.tables.specs.Rows.{Changes, Inserts, Deletes, Updates, rows_of}
+use Rattle.tables.specs.Rows.{Changes, Inserts, Deletes, Updates}
 use Rattle.store.specs.Calls.{IsFit}
-use Rattle.store.specs.Rows.{TableName, table, HasJust, In, Rows}
+use Rattle.store.specs.Rows.{TableName, table, HasJust}
 use Rattle.store.proofs.Tables.{is_same, same_name, rows_stay}
 
 -- a set of rows for each table

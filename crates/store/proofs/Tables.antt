@@ -1,14 +1,13 @@
 -- The tables of the book are nine, each with rows of its own. Nothing else of this crate looks at how they are declared.
-use Rattle.std.proofs.Common.{◌≡◌, ◌≢◌, ◌↔◌, inl, inr, refl, sym, ap, subst, ◌∙◌, ℕ, Bool, true, false, List, [], ◌∷◌, map, filter, length, nat_eq, nat_lt, eq-eqb}
+use Rattle.std.proofs.Common.{◌≡◌, ◌≢◌, inl, inr, refl, sym, ap, subst, ◌∙◌, ℕ, Bool, true, false, List, [], ◌∷◌, map, filter, length, nat_eq, nat_lt, eq-eqb}
 use Rattle.std.specs.Prelude.{slice_index_or}
-use Rattle.std.specs.List.{AllByRecursion}
 use Rattle.std.proofs.lemmas.Bool.{true≢false, eqb-true}
 use Rattle.sqlite_value.specs.Order.{Row}
 use Rattle.sqlite_schema.specs.declared.schema.Table.{Table}
 use Rattle.sqlite_rules.specs.Lists.{Has}
 use Rattle.sqlite_rules.proofs.ListLemmas.{all_has}
 use Rattle.sqlite.specs.Effect.{Database}
-use Rattle.tables.specs.Schema.{BookTable, IsBook, book_tables, table_of, tables_before, made}
+use Rattle.tables.specs.Schema.{BookTable, IsBook, book_tables, table_of, tables_before}
 use Rattle.tables.specs.Rows.{IsStored, Changes, Inserts, Deletes, Updates, cells, rows_of}
 use Rattle.tables.proofs.Creating.{all_made}
 use Rattle.store.specs.Calls.{IsFit}

@@ -7,7 +7,6 @@ mod making;
 mod records;
 mod store;
 mod transaction;
-
 mod writing;
 
 pub use fault::{CreateFault, StoreFault};

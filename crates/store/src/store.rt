@@ -1,13 +1,18 @@
 ghost use Rattle.std.specs.Prelude.{◌≡◌, ◌≢◌, IfOk, IfErr, OnOk, OnErr, Err};
 ghost use Rattle.sqlite.specs.State.{HasCleanDisk};
 ghost use Rattle.sqlite.specs.Held.{state};
-ghost use Rattle.roster.specs.State.{empty};
+ghost use Rattle.roster.specs.State.{State, empty};
+ghost use Rattle.roster.specs.Steps.{after};
 ghost use Rattle.tables.specs.Schema.{empty_schema};
-ghost use Rattle.store.specs.Outcomes.{Leaves, LeavesSome, AddsNothing, MayAdd, HoldsNow, IsOutside, IsOverBook, one};
+ghost use Rattle.store.specs.Next.{IsNext};
+ghost use Rattle.store.specs.Outcomes.{Leaves, LeavesSome, AddsNothing, MayAdd, HoldsNow, IsOutside, IsOverBook, one, either};
 
 use crate::fault::{CreateFault, StoreFault};
 use crate::making::make_tables;
+use crate::records::request_record;
 use crate::transaction::end;
+use crate::writing::write_change;
+use roster::Change;
 use sqlite::{Alter, Connection};
 use std::alloc::Global;
 use std::marker::Model;
@@ -64,6 +69,19 @@ impl<S: Alter> Store<S> {
         }
     }
 
+    /// Writes a change that the step gave of the state that the tables hold, in one transaction. After want of memory (91)
+    /// nothing is changed; after a store's fault (90) all of the change is kept, or nothing of it.
+    pub fn commit(&mut self, alloc: Global, change: &Change) -> Result<(), StoreFault>
+        ensures ok { (s : State) → IsNext s change.now → Leaves (state S.Store self.old) (one s) → OnOk result (Leaves (state S.Store self.new) (one (after s change.now))) }
+        ensures made { (s : State) → IsNext s change.now → Leaves (state S.Store self.old) (one s) → OnOk result (HoldsNow (state S.Store self.new) (after s change.now)) }
+        ensures memory { (s : State) → Leaves (state S.Store self.old) (one s) → result ≡ Err StoreFault.Memory → Leaves (state S.Store self.new) (one s) }
+        ensures store { (s : State) → IsNext s change.now → Leaves (state S.Store self.old) (one s) → result ≡ Err StoreFault.Store → Leaves (state S.Store self.new) (either s (after s change.now)) }
+        ensures some { LeavesSome (state S.Store self.new) }
+        ensures honest { HasCleanDisk (state S.Store self.new) → HasCleanDisk (state S.Store self.old) }
+    {
+        write(alloc, &mut self.conn, change)
+    }
+
     /// The connection, with nothing changed.
     pub fn into_connection(self) -> Connection<S>
         ensures same { result ≡ self }
@@ -97,4 +115,29 @@ fn make<S: Alter>(alloc: Global, conn: &mut Connection<S>, zone: &Zone) -> Resul
     begin(conn)?;
     let done = make_tables(conn, &book);
     Ok(end(conn, done)?)
+}
+
+/// Writes a change, in one transaction.
+fn write<S: Alter>(
+    alloc: Global,
+    conn: &mut Connection<S>,
+    change: &Change,
+) -> Result<(), StoreFault>
+    requires outside { IsOutside (state S.Store conn.old) }
+    requires over { IsOverBook (state S.Store conn.old) }
+    ensures ok { (s : State) → IsNext s change.now → Leaves (state S.Store conn.old) (one s) → OnOk result (Leaves (state S.Store conn.new) (one (after s change.now))) }
+    ensures made { (s : State) → IsNext s change.now → Leaves (state S.Store conn.old) (one s) → OnOk result (HoldsNow (state S.Store conn.new) (after s change.now)) }
+    ensures memory { (s : State) → Leaves (state S.Store conn.old) (one s) → result ≡ Err StoreFault.Memory → Leaves (state S.Store conn.new) (one s) }
+    ensures store { (s : State) → IsNext s change.now → Leaves (state S.Store conn.old) (one s) → result ≡ Err StoreFault.Store → Leaves (state S.Store conn.new) (either s (after s change.now)) }
+    ensures some { LeavesSome (state S.Store conn.new) }
+    ensures honest { HasCleanDisk (state S.Store conn.new) → HasCleanDisk (state S.Store conn.old) }
+    ensures outside { IsOutside (state S.Store conn.new) }
+    ensures over { IsOverBook (state S.Store conn.new) }
+{
+    let row = request_record(alloc, change.key, &change.command, &change.reply)?;
+    let _live = conn.schema();
+    let _settled = conn.is_autocommit();
+    begin(conn)?;
+    let done = write_change(alloc, conn, change, &row);
+    end(conn, done)
 }

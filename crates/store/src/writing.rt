@@ -1,13 +1,14 @@
 //! What an accepted command writes, table by table. Each function runs in a transaction that is begun, and after a fault
 //! it has changed nothing that the end of the transaction doesn't take back.
 
-ghost use Rattle.std.specs.Prelude.{◌≤◌, ◌<◌, [], ◌∷◌, length, None};
+ghost use Rattle.std.specs.Prelude.{◌≡◌, ◌≤◌, ◌<◌, [], ◌∷◌, length, None};
 ghost use Rattle.sqlite.specs.Held.{state};
 ghost use Rattle.sqlite_value.specs.declared.value.Value.TheVariants as value;
+ghost use Rattle.tables.specs.Records.{request_row};
 ghost use Rattle.tables.specs.Rows.{Inserts, Deletes, begins_with};
 ghost use Rattle.store.specs.Calls.{IsReady, Wrote};
-ghost use Rattle.store.specs.Rows.{table, crew, pairing, period, segment, ground_duty, row_of_member, row_of_pairing, row_of_period, row_of_segment, row_of_ground};
-ghost use Rattle.store.specs.Writing.{HaveFewSegments, AddsPeriods, AddsSegmentsOf, AddsSegments, AddsPairing, RemovesPairing, FreesSeat, TakesSeat, Reseats, ReseatsAll, FliesSegment, FliesSegments, FliesPeriod, Records, RecordsAll, Flies, WritesOrder};
+ghost use Rattle.store.specs.Rows.{table, crew, pairing, period, segment, ground_duty, request, row_of_member, row_of_pairing, row_of_period, row_of_segment, row_of_ground, row_of_request};
+ghost use Rattle.store.specs.Writing.{HaveFewSegments, AddsPeriods, AddsSegmentsOf, AddsSegments, AddsPairing, RemovesPairing, FreesSeat, TakesSeat, Reseats, ReseatsAll, FliesSegment, FliesSegments, FliesPeriod, Records, RecordsAll, Flies, WritesOrder, Writes};
 
 use crate::fault::StoreFault;
 use crate::records::{
@@ -24,6 +25,7 @@ use tables::exceedance::insert_exceedance;
 use tables::ground::{delete_ground, insert_ground};
 use tables::pairing::{delete_pairing, insert_pairing};
 use tables::period::{delete_periods, insert_period, update_period};
+use tables::request::{RequestRecord, insert_request};
 use tables::seat::{delete_seat, insert_seat};
 use tables::segment::{delete_segments, insert_segment, update_segment};
 
@@ -416,4 +418,28 @@ pub(crate) fn write_order<S: Alter>(
         Order::CancelGround(id) => remove_ground(conn, id),
         Order::Actual(id, actual) => fly(alloc, conn, change, id, actual),
     }
+}
+
+/// Writes the change, and then its command with its reply under its key.
+#[tactic(auto, using(crate::proofs::Chaining::one_write, crate::proofs::Tables::inserts_keep))]
+pub(crate) fn write_change<S: Alter>(
+    alloc: Global,
+    conn: &mut Connection<S>,
+    change: &Change,
+    row: &RequestRecord,
+) -> Result<(), StoreFault>
+    requires ready { IsReady (state S.Store conn.old) }
+    requires written { request_row row.now ≡ row_of_request change.now.key (record { command = change.now.command; reply = change.now.reply }) }
+    ensures { Wrote (Writes change.now) (state S.Store conn.old) (state S.Store conn.new) result }
+{
+    write_order(alloc, conn, change, change.command.order())?;
+    write_request(conn, row)
+}
+
+#[tactic(auto, using(crate::proofs::Chaining::one_write, crate::proofs::Tables::inserts_keep))]
+fn write_request<S: Alter>(conn: &mut Connection<S>, row: &RequestRecord) -> Result<(), StoreFault>
+    requires { IsReady (state S.Store conn.old) }
+    ensures { Wrote (Inserts (table request) (request_row row.now)) (state S.Store conn.old) (state S.Store conn.new) result }
+{
+    Ok(insert_request(conn, row)?)
 }
