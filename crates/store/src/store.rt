@@ -1,4 +1,4 @@
-ghost use Rattle.std.specs.Prelude.{◌≡◌, ◌≢◌, IfOk, IfErr, OnOk, OnErr, Err};
+ghost use Rattle.std.specs.Prelude.{◌≡◌, ◌≢◌, IfOk, IfErr, IsErrAnd, OnOk, OnErr, Err};
 ghost use Rattle.sqlite.specs.State.{HasCleanDisk};
 ghost use Rattle.sqlite.specs.Held.{state};
 ghost use Rattle.roster.specs.State.{State, empty};
@@ -58,6 +58,7 @@ impl<S: Alter> Store<S> {
         ensures ok { IfOk result (λ it. Leaves (state S.Store it) (one (empty zone.now))) }
         ensures made { IfOk result (λ it. HoldsNow (state S.Store it) (empty zone.now)) }
         ensures some { IfOk result (λ it. LeavesSome (state S.Store it)) }
+        ensures refused { (state S.Store conn).now.schema ≢ empty_schema → IsErrAnd result (λ e. e.0 ≡ CreateFault.NotEmpty) }
         ensures not_empty { IfErr result (λ e. e.0 ≡ CreateFault.NotEmpty → ((state S.Store conn).now.schema ≢ empty_schema) × (e.1 ≡ conn)) }
         ensures memory { IfErr result (λ e. e.0 ≡ CreateFault.Fault StoreFault.Memory → AddsNothing (state S.Store conn) (state S.Store e.1)) }
         ensures store { IfErr result (λ e. MayAdd (state S.Store conn) (state S.Store e.1) (empty zone.now)) }
@@ -99,6 +100,7 @@ fn make<S: Alter>(alloc: Global, conn: &mut Connection<S>, zone: &Zone) -> Resul
     ensures made { OnOk result (HoldsNow (state S.Store conn.new) (empty zone.now)) }
     ensures some { LeavesSome (state S.Store conn.new) }
     ensures over { OnOk result (IsOverBook (state S.Store conn.new)) }
+    ensures refused { (state S.Store conn.old).now.schema ≢ empty_schema → result ≡ Err CreateFault.NotEmpty }
     ensures not_empty { result ≡ Err CreateFault.NotEmpty → ((state S.Store conn.old).now.schema ≢ empty_schema) × (conn.new ≡ conn.old) }
     ensures memory { result ≡ Err (CreateFault.Fault StoreFault.Memory) → AddsNothing (state S.Store conn.old) (state S.Store conn.new) }
     ensures store { OnErr result (MayAdd (state S.Store conn.old) (state S.Store conn.new) (empty zone.now)) }
