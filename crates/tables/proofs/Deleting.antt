@@ -1,7 +1,7 @@
 -- DELETE of the rows with a key.
-use Rattle.std.proofs.Common.{◌≡◌, inl, inr, ℕ, ℤ, List, [], ◌∷◌, slice_get, Bool, true, false, not, Some, None, Ok, Option, refl, sym, ap, subst, ◌∙◌, Ordering, Less, Equal, Greater}
+use Rattle.std.proofs.Common.{◌≡◌, map, inl, inr, ℕ, ℤ, List, [], ◌∷◌, slice_get, Bool, true, false, not, Some, None, Ok, Option, refl, sym, ap, subst, ◌∙◌, Ordering, Less, Equal, Greater}
 use Rattle.std.specs.Ordering.{is_eq}
-use Rattle.std.specs.List.{list_all, AllByRecursion}
+use Rattle.std.specs.List.{list_all}
 use Rattle.std.proofs.lemmas.Bool.{cases_Bool, not-true}
 use Rattle.std.proofs.lemmas.Cmp.{tied_itself}
 use Rattle.sqlite_value.specs.declared.value.Value.TheVariants.{Null, Int}
@@ -10,14 +10,13 @@ use Rattle.sqlite_value.proofs.OrderLemmas.{value_cmp_total}
 use Rattle.sqlite_trees.specs.Tree.{rowid, has_rowid, without_rowid}
 use Rattle.sqlite_schema.specs.declared.schema.Table.{Table}
 use Rattle.sqlite_schema.specs.declared.schema.Keys.TheVariants.{Enforced}
-use Rattle.sqlite_schema.specs.declared.command.Command.{Command}
 use Rattle.sqlite_schema.specs.declared.command.Command.TheVariants.{Delete}
 use Rattle.sqlite_sql.specs.Term.{Term, col, holds}
 use Rattle.sqlite_sql.specs.Program.{overlay}
 use Rattle.sqlite_rules.specs.declared.error.Rowids.TheVariants.{Given}
 use Rattle.sqlite_rules.specs.Lists.{Has}
 use Rattle.sqlite_rules.specs.Calls.{ids_of}
-use Rattle.sqlite_rules.specs.Edit.{edit_of, id_in, without_all, Applies}
+use Rattle.sqlite_rules.specs.Edit.{edit_of, id_in, without_all, taken_by, Applies}
 use Rattle.sqlite_rules.proofs.ListLemmas.{has_filtered, has_kept}
 use Rattle.sqlite_rules.proofs.TableLemmas.{int_is}
 use Rattle.sqlite_rules.proofs.ProbeLemmas.{has_mapped, mapped_has}
@@ -26,10 +25,12 @@ use Rattle.sqlite.specs.Rows.{Written}
 use Rattle.sqlite.specs.Does.{Tally, Does}
 use Rattle.sqlite.specs.State.{State}
 use Rattle.tables.proofs.Answering.{plain_query, answer_has, answer_all, overlay_is}
-use Rattle.tables.proofs.Inserting.{applied, plain_mode, went, same_value}
-use Rattle.tables.proofs.Statements.{IsRead, Writer, are_free, book_writer}
-use Rattle.tables.specs.Schema.{BookTable, table_of, HasNoReference, IsBook, tables_before}
-use Rattle.tables.specs.Rows.{cells, rows_of, IsStored, Deletes}
+use Rattle.tables.proofs.Known.{place, stored_is}
+use Rattle.tables.proofs.Compiling.{IsRead}
+use Rattle.tables.proofs.Inserting.{applied, no_work_of, ChangesRows, changes_by, plain_mode, went, same_value}
+use Rattle.tables.proofs.Statements.{Writer, table_writer}
+use Rattle.tables.specs.Schema.{BookTable, IsTable, IsUnreferenced, table_of}
+use Rattle.tables.specs.Rows.{cells, rows_of, AreNumbered, Changes, Deletes}
 
 pub equal_is : (o : Ordering) → is_eq o ≡ true → o ≡ Equal
 equal_is Less h = absurd (cc)
@@ -51,15 +52,20 @@ left_has [] rows x h lacks = h
 left_has (id ∷ ids) rows x h lacks = left_has ids (without_rowid id rows) x (has_kept (λ y. not (has_rowid id y)) rows x h (ap not (lacks id (inl refl)))) (λ other k. lacks other (inr k))
 
 module _ (kept : BookTable) (limit : Option ℕ) (old after : Database) (text : List ℕ) (params : Row) (tally : Tally) (filter : List Term)
-    (is : slice_get old.schema.tables kept.place ≡ Some (table_of kept))
-    (free : AllByRecursion HasNoReference old.schema.tables)
-    (does : Does limit plain_mode params old text None (Delete kept.place (record { lets = []; body = plain_query kept.tree filter (col 1 0 ∷ []) [] })) (Ok (tally, after)))
-    (test : Row → Bool) (tests : (r : Row) → list_all (holds (params ∷ r ∷ [])) filter ≡ test (cells kept r)) (stored : IsStored kept old) where
+    (there : IsTable kept old.schema) (free : IsUnreferenced kept old.schema)
+    (does : Does limit plain_mode params old text None (Delete (place kept old.schema there).0 (record { lets = []; body = plain_query there.tree filter (col 1 0 ∷ []) [] })) (Ok (tally, after)))
+    (test : Row → Bool) (tests : (r : Row) → list_all (holds (params ∷ r ∷ [])) filter ≡ test (cells kept r)) (stored : AreNumbered (old.trees there.tree)) where
+  abbrev tree : ℕ
+  tree = there.tree
+
   abbrev table : Table
-  table = table_of kept
+  table = table_of kept tree
 
   abbrev rows : List Row
-  rows = old.trees kept.tree
+  rows = old.trees tree
+
+  is : slice_get old.schema.tables (place kept old.schema there).0 ≡ Some table
+  is = (place kept old.schema there).2
 
   pub record Deleted : Type 0 where
     pub ids : List ℤ
@@ -76,38 +82,38 @@ module _ (kept : BookTable) (limit : Option ℕ) (old after : Database) (text : 
       let asked = went done.1 in
       let written = went asked.2 in
       let trees : done.0.trees ≡ written.0 = ap (λ (it : Written). it.trees) (same_value written.2) in
-      let step = applied old.schema old.trees written.0 (edit_of old.trees table (ids_of asked.0) Given 0 []) free written.1 in
+      let step = applied old.schema old.trees written.0 (edit_of old.trees table (ids_of asked.0) Given 0 [])
+      (no_work_of kept old.schema there free (taken_by old.trees (edit_of old.trees table (ids_of asked.0) Given 0 [])) []) written.1 in
       let a = asked.1.answer Null in
-      let over = overlay_is old.trees kept.tree in
+      let over = overlay_is old.trees tree in
       record {
         ids = ids_of asked.0;
         schema = ap (λ (d : Database). d.schema) now;
         applies = subst (Applies old.schema Enforced old.trees (edit_of old.trees table (ids_of asked.0) Given 0 [])) (sym (ap (λ (d : Database). d.trees) now ∙ trees)) step;
         all = λ r h passes.
             mapped_has (λ q. id_in (rowid q)) asked.0 (rowid r ∷ [])
-            (answer_all kept.tree filter (col 1 0 ∷ []) [] (overlay old.trees []) params asked.0 a r (subst (λ l. Has l r) (sym over) h) (tests r ∙ passes));
+            (answer_all tree filter (col 1 0 ∷ []) [] (overlay old.trees []) params asked.0 a r (subst (λ l. Has l r) (sym over) h) (tests r ∙ passes));
         has = λ id h.
             let q = has_mapped (λ q. id_in (rowid q)) asked.0 id h in
-            let r = answer_has kept.tree filter (col 1 0 ∷ []) [] (overlay old.trees []) params asked.0 a q.0 q.1 in
+            let r = answer_has tree filter (col 1 0 ∷ []) [] (overlay old.trees []) params asked.0 a q.0 q.1 in
             (r.0, subst (λ l. Has l r.0) over r.1, sym (tests r.0) ∙ r.2, q.2 ∙ ap (λ x. id_in (rowid x)) r.3);
       }
 
-  rest : after.trees kept.tree ≡ without_all rows deleted.ids
+  rest : after.trees tree ≡ without_all rows deleted.ids
   rest = deleted.applies.rows
 
   own_number : (r : Row) → Has rows r → rowid r ≡ Int (id_in (rowid r))
   own_number r h = int_is (rowid r) (stored.numbered r h)
 
-  still : (r : Row) → Has (after.trees kept.tree) r → Has rows r × Lacks deleted.ids r
+  still : (r : Row) → Has (after.trees tree) r → Has rows r × Lacks deleted.ids r
   still r h = left_from deleted.ids rows r (subst (λ l. Has l r) rest h)
 
-  pub deletes : Deletes kept test old after
-  deletes stored = record {
-    schema = deleted.schema;
+  shrinks : ChangesRows kept rows (after.trees tree) (λ x. Has (map (cells kept) rows) x × (test x ≡ false))
+  shrinks = record {
     has = λ x h.
-        let m = has_mapped (cells kept) (after.trees kept.tree) x h in
+        let m = has_mapped (cells kept) (after.trees tree) x h in
         let l = still m.0 m.1 in (
-          subst (Has (rows_of kept old)) (sym m.2) (mapped_has (cells kept) rows m.0 l.0),
+          subst (Has (map (cells kept) rows)) (sym m.2) (mapped_has (cells kept) rows m.0 l.0),
           ap test m.2 ∙ elim (cases_Bool (test (cells kept m.0))) [
             | inl passes ↦ absurd (
                 let lacks = l.1 _ (deleted.all m.0 l.0 passes) in
@@ -128,23 +134,18 @@ module _ (kept : BookTable) (limit : Option ℕ) (old after : Database) (text : 
               cc)
           | inr other ↦ other
         ] in
-        subst (Has (rows_of kept after)) (sym m.2) (mapped_has (cells kept) (after.trees kept.tree) m.0 (subst (λ l. Has l m.0) (sym rest) (left_has deleted.ids rows m.0 m.1 lacks)));
-    others = deleted.applies.tables;
+        subst (Has (map (cells kept) (after.trees tree))) (sym m.2) (mapped_has (cells kept) (after.trees tree) m.0 (subst (λ l. Has l m.0) (sym rest) (left_has deleted.ids rows m.0 m.1 lacks)));
     stored = λ _. record { numbered = λ r h. stored.numbered r (still r h).0; apart = λ a b h k tie. stored.apart a b (still a h).0 (still b k).0 tie };
   }
 
+  pub deletes : Changes kept old after (λ x. Has (rows_of kept old) x × (test x ≡ false))
+  deletes = changes_by kept old after there deleted.schema (λ rows x. Has (map (cells kept) rows) x × (test x ≡ false)) shrinks deleted.applies.tables
+
 module _ (kept : BookTable) (filter : List Term) (text : List ℕ)
-    (read : IsRead text (Delete kept.place (record { lets = []; body = plain_query kept.tree filter (col 1 0 ∷ []) [] })))
-    (listed : (rest : List Table) → slice_get (tables_before rest) kept.place ≡ Some (table_of kept))
+    (read : IsRead kept text (λ at tree. Delete at (record { lets = []; body = plain_query tree filter (col 1 0 ∷ []) [] })))
     (params : Row) (test : Row → Bool) (tests : (r : Row) → list_all (holds (params ∷ r ∷ [])) filter ≡ test (cells kept r))
-    (old : State) (book : IsBook old.now.schema) where
-  abbrev command : Command
-  command = Delete kept.place (record { lets = []; body = plain_query kept.tree filter (col 1 0 ∷ []) [] })
-
-  does : (t : List ℕ) (tally : Tally) (after : Database) → Does old.step_limit plain_mode params old.now t None command (Ok (tally, after)) → Deletes kept test old.now after
-  does t tally after h stored =
-      deletes kept old.step_limit old.now after t params tally filter
-      (ap (λ ts. slice_get ts kept.place) book.first ∙ listed book.rest) (are_free old.now.schema book) h test tests stored stored
-
+    (old : State) (there : IsTable kept old.now.schema) (free : IsUnreferenced kept old.now.schema) where
   pub delete_writer : Writer text params (Deletes kept test) old
-  delete_writer = book_writer text params command read (Deletes kept test) old book does (λ _ _ _ h. h) (λ e. cc) (λ n e. cc)
+  delete_writer = table_writer kept text params (λ at tree. Delete at (record { lets = []; body = plain_query tree filter (col 1 0 ∷ []) [] })) read (Deletes kept test) old there
+      (λ t tally after _ h stored.
+      deletes kept old.step_limit old.now after t params tally filter there free h test tests (subst AreNumbered (stored_is kept old.now.schema there old.now refl) stored)) (λ _ _ _ h. h) (λ e. cc) (λ n e. cc)

@@ -1,5 +1,5 @@
 -- In a book that is sound a key stands in one row at most.
-use Rattle.std.proofs.Common.{◌≡◌, inl, inr, ℕ, ℤ, List, [], ◌∷◌, map, true, false, ◌&&◌, ◌==◌, refl, sym, ap, subst, slice_get, slice_index_or, ◌∙◌, Ordering, Less, Equal, Greater}
+use Rattle.std.proofs.Common.{zero, suc, Some, ◌≡◌, inl, inr, ℕ, ℤ, List, [], ◌∷◌, map, true, false, ◌&&◌, ◌==◌, eq-eqb, refl, sym, ap, subst, slice_get, slice_index_or, ◌∙◌, Ordering, Less, Equal, Greater}
 use Rattle.std.specs.Ordering.{is_eq, is_ne}
 use Rattle.std.proofs.lemmas.Bool.{cases_Bool, and_parts, and_from}
 use Rattle.std.proofs.lemmas.Cmp.{tied_back}
@@ -19,8 +19,9 @@ use Rattle.sqlite_rules.proofs.ListLemmas.{all_has, test_has, some_from}
 use Rattle.sqlite_rules.proofs.TableLemmas.{int_is}
 use Rattle.sqlite_rules.proofs.ProbeLemmas.{has_mapped}
 use Rattle.sqlite.specs.Effect.{Database}
-use Rattle.tables.specs.Schema.{BookTable, table_of, IsBook, book_table, crew_table, pairing_table, period_table, segment_table, seat_table, ground_table, exceedance_table, request_table}
-use Rattle.tables.specs.Rows.{IsStored, rows_of, cells, begins_with}
+use Rattle.tables.proofs.Known.{listed, stored_is}
+use Rattle.tables.specs.Schema.{BookTable, table_of, IsTable, book_table, crew_table, pairing_table, period_table, segment_table, seat_table, ground_table, exceedance_table, request_table}
+use Rattle.tables.specs.Rows.{AreNumbered, IsStored, stored, rows_of, cells, begins_with}
 use Rattle.tables.proofs.Answering.{compared, unlike_null, from_true}
 use Rattle.tables.proofs.Deleting.{equal_is}
 
@@ -33,25 +34,40 @@ not_ne Less h = absurd (cc)
 not_ne Equal h = refl
 not_ne Greater h = absurd (cc)
 
-module _ (kept : BookTable) (db : Database) (key : List ℕ) (more : List (List ℕ)) (keys : kept.keys ≡ key ∷ more) (listed : Has db.schema.tables (table_of kept)) (same : (kept.tree == kept.tree) ≡ true) (sound : IsSound db.schema db.trees) (stored : IsStored kept db) where
-  pub one_row : (a b : Row) → Has (db.trees kept.tree) a → Has (db.trees kept.tree) b → agree plain key a key b ≡ true → a ≡ b
-  one_row a b h k same_key =
-      let rows = db.trees kept.tree in
-      let guard = all_has _ db.schema.tables (table_of kept) sound.lists.guarded listed 0 key (ap (λ l. slice_get l 0) keys) in
-      let i = automatic (table_of kept) 0 key guard.0 in
-      let ordered : i.order ≡ plain = ap (λ l. slice_index_or (map (λ _. plain) l) 0 plain) keys in
-      let passes = test_has _ db.schema.indexes i (all_has _ rows b (all_has _ db.schema.tables (table_of kept) (sound.obeys.rules Unique) listed) k) guard.1 in
+plain_at : (keys : List (List ℕ)) (at : ℕ) → slice_index_or (map (λ _. plain) keys) at plain ≡ plain
+plain_at [] at = refl
+plain_at (key ∷ keys) zero = refl
+plain_at (key ∷ keys) (suc at) = plain_at keys at
+
+module _ (kept : BookTable) (db : Database) (at : ℕ) (key : List ℕ) (got : slice_get kept.keys at ≡ Some key) (there : IsTable kept db.schema) (sound : IsSound db.schema db.trees) (stored_apart : IsStored kept db) where
+  stored_rows : stored kept db ≡ db.trees there.tree
+  stored_rows = stored_is kept db.schema there db refl
+
+  pub one_row : (a b : Row) → Has (stored kept db) a → Has (stored kept db) b → agree plain key a key b ≡ true → a ≡ b
+  one_row a b was_a was_b same_key =
+      let tree = there.tree in
+      let table = table_of kept tree in
+      let rows = db.trees tree in
+      let h : Has rows a = subst (λ l. Has l a) stored_rows was_a in
+      let k : Has rows b = subst (λ l. Has l b) stored_rows was_b in
+      let numbers = subst AreNumbered stored_rows stored_apart in
+      let same : (tree == tree) ≡ true = eq-eqb tree tree refl in
+      let its_place = listed kept db.schema there in
+      let guard = all_has _ db.schema.tables table sound.lists.guarded its_place at key got in
+      let i = automatic table at key guard.0 in
+      let ordered : i.order ≡ plain = plain_at kept.keys at in
+      let passes = test_has _ db.schema.indexes i (all_has _ rows b (all_has _ db.schema.tables table (sound.obeys.rules Unique) its_place) k) guard.1 in
       let test = λ (other : Row). agree plain key other key b && differ (rowid other) (rowid b) in
       let tied : value_cmp (rowid a) (rowid b) ≡ Equal = elim (cases_Bool (differ (rowid a) (rowid b))) [
         | inl apart ↦ absurd (
             let clash : clashes plain key rows b ≡ true = some_from test rows a h (and_from _ _ same_key apart) in
             let e = rw (same, ordered, clash) at passes in cc)
         | inr equal ↦
-            let ia = int_is (rowid a) (stored.numbered a h) in
-            let ib = int_is (rowid b) (stored.numbered b k) in
+            let ia = int_is (rowid a) (numbers.numbered a h) in
+            let ib = int_is (rowid b) (numbers.numbered b k) in
             rw (ia, ib) (not_ne _ (sym (differs _ _) ∙ rw (ia, ib) at equal))
       ] in
-      stored.apart a b h k tied
+      numbers.apart a b h k tied
 
 found : (a b v : Value) → is_null b ≡ false → is_eq (value_cmp a v) ≡ true → is_eq (value_cmp b v) ≡ true → equal Binary a b ≡ true
 found a b v some h k = compared a b some ∙ ap is_eq (value_cmp_total.congr a v b (equal_is _ h) ∙ tied_back value_cmp_total b v (equal_is _ k))
@@ -65,13 +81,13 @@ alike a (Text n) v some h k = found a (Text n) v refl h k
 alike a (Blob n) v some h k = found a (Blob n) v refl h k
 
 -- the first columns of a table are its key
-module _ (kept : BookTable) (db : Database) (key : List ℕ) (more : List (List ℕ)) (keys : kept.keys ≡ key ∷ more) (listed : Has db.schema.tables (table_of kept)) (same : (kept.tree == kept.tree) ≡ true) (sound : IsSound db.schema db.trees) (stored : IsStored kept db)
+module _ (kept : BookTable) (db : Database) (key : List ℕ) (more : List (List ℕ)) (keys : kept.keys ≡ key ∷ more) (there : IsTable kept db.schema) (sound : IsSound db.schema db.trees) (stored_apart : IsStored kept db)
     (x y : Row) (h : Has (rows_of kept db) x) (k : Has (rows_of kept db) y) where
   rows_same : ((a b : Row) → x ≡ cells kept a → y ≡ cells kept b → agree plain key a key b ≡ true) → x ≡ y
   rows_same agrees =
-      let m = has_mapped (cells kept) (db.trees kept.tree) x h in
-      let n = has_mapped (cells kept) (db.trees kept.tree) y k in
-      m.2 ∙ ap (cells kept) (one_row kept db key more keys listed same sound stored m.0 n.0 m.1 n.1 (agrees m.0 n.0 m.2 n.2)) ∙ sym n.2
+      let m = has_mapped (cells kept) (stored kept db) x h in
+      let n = has_mapped (cells kept) (stored kept db) y k in
+      m.2 ∙ ap (cells kept) (one_row kept db 0 key (ap (λ l. slice_get l 0) keys) there sound stored_apart m.0 n.0 m.1 n.1 (agrees m.0 n.0 m.2 n.2)) ∙ sym n.2
 
   pub once_by_one : (v : Value) → key ≡ 1 ∷ [] → ((r : Row) → column (cells kept r) 0 ≡ column r 1) → is_null v ≡ false → begins_with (v ∷ []) x ≡ true → begins_with (v ∷ []) y ≡ true → x ≡ y
   unfolding first_key
@@ -114,39 +130,39 @@ module _ (kept : BookTable) (db : Database) (key : List ℕ) (more : List (List 
 
 -- ---- each table
 
-module _ (db : Database) (book : IsBook db.schema) (sound : IsSound db.schema db.trees) where
-  pub book_once : IsStored book_table db → (one : ℤ) (x y : Row) → Has (rows_of book_table db) x → Has (rows_of book_table db) y → begins_with (Int one ∷ []) x ≡ true → begins_with (Int one ∷ []) y ≡ true → x ≡ y
-  book_once stored one x y h k =
-      once_by_one book_table db (1 ∷ []) [] refl (subst (λ ts. Has ts (table_of book_table)) (sym book.first) (inl refl)) refl sound stored x y h k (Int one) refl (λ r. refl) refl
+module _ (db : Database) (sound : IsSound db.schema db.trees) where
+  pub book_once : IsTable book_table db.schema → IsStored book_table db → (one : ℤ) (x y : Row) → Has (rows_of book_table db) x → Has (rows_of book_table db) y → begins_with (Int one ∷ []) x ≡ true → begins_with (Int one ∷ []) y ≡ true → x ≡ y
+  book_once there stored_apart one x y h k =
+      once_by_one book_table db (1 ∷ []) [] refl there sound stored_apart x y h k (Int one) refl (λ r. refl) refl
 
-  pub crew_once : IsStored crew_table db → (id : List ℕ) (x y : Row) → Has (rows_of crew_table db) x → Has (rows_of crew_table db) y → begins_with (Text id ∷ []) x ≡ true → begins_with (Text id ∷ []) y ≡ true → x ≡ y
-  crew_once stored id x y h k =
-      once_by_one crew_table db (1 ∷ []) [] refl (subst (λ ts. Has ts (table_of crew_table)) (sym book.first) (inr (inl refl))) refl sound stored x y h k (Text id) refl (λ r. refl) refl
+  pub crew_once : IsTable crew_table db.schema → IsStored crew_table db → (id : List ℕ) (x y : Row) → Has (rows_of crew_table db) x → Has (rows_of crew_table db) y → begins_with (Text id ∷ []) x ≡ true → begins_with (Text id ∷ []) y ≡ true → x ≡ y
+  crew_once there stored_apart id x y h k =
+      once_by_one crew_table db (1 ∷ []) [] refl there sound stored_apart x y h k (Text id) refl (λ r. refl) refl
 
-  pub pairing_once : IsStored pairing_table db → (id : List ℕ) (x y : Row) → Has (rows_of pairing_table db) x → Has (rows_of pairing_table db) y → begins_with (Text id ∷ []) x ≡ true → begins_with (Text id ∷ []) y ≡ true → x ≡ y
-  pairing_once stored id x y h k =
-      once_by_one pairing_table db (1 ∷ []) [] refl (subst (λ ts. Has ts (table_of pairing_table)) (sym book.first) (inr (inr (inl refl)))) refl sound stored x y h k (Text id) refl (λ r. refl) refl
+  pub pairing_once : IsTable pairing_table db.schema → IsStored pairing_table db → (id : List ℕ) (x y : Row) → Has (rows_of pairing_table db) x → Has (rows_of pairing_table db) y → begins_with (Text id ∷ []) x ≡ true → begins_with (Text id ∷ []) y ≡ true → x ≡ y
+  pairing_once there stored_apart id x y h k =
+      once_by_one pairing_table db (1 ∷ []) [] refl there sound stored_apart x y h k (Text id) refl (λ r. refl) refl
 
-  pub period_once : IsStored period_table db → (pairing : List ℕ) (number : ℤ) (x y : Row) → Has (rows_of period_table db) x → Has (rows_of period_table db) y → begins_with (Text pairing ∷ Int number ∷ []) x ≡ true → begins_with (Text pairing ∷ Int number ∷ []) y ≡ true → x ≡ y
-  period_once stored pairing number x y h k =
-      once_by_two period_table db (1 ∷ 2 ∷ []) [] refl (subst (λ ts. Has ts (table_of period_table)) (sym book.first) (inr (inr (inr (inl refl))))) refl sound stored x y h k (Text pairing) (Int number) refl (λ r. (refl, refl)) refl refl
+  pub period_once : IsTable period_table db.schema → IsStored period_table db → (pairing : List ℕ) (number : ℤ) (x y : Row) → Has (rows_of period_table db) x → Has (rows_of period_table db) y → begins_with (Text pairing ∷ Int number ∷ []) x ≡ true → begins_with (Text pairing ∷ Int number ∷ []) y ≡ true → x ≡ y
+  period_once there stored_apart pairing number x y h k =
+      once_by_two period_table db (1 ∷ 2 ∷ []) [] refl there sound stored_apart x y h k (Text pairing) (Int number) refl (λ r. (refl, refl)) refl refl
 
-  pub segment_once : IsStored segment_table db → (pairing : List ℕ) (period : ℤ) (number : ℤ) (x y : Row) → Has (rows_of segment_table db) x → Has (rows_of segment_table db) y → begins_with (Text pairing ∷ Int period ∷ Int number ∷ []) x ≡ true → begins_with (Text pairing ∷ Int period ∷ Int number ∷ []) y ≡ true → x ≡ y
-  segment_once stored pairing period number x y h k =
-      once_by_three segment_table db (1 ∷ 2 ∷ 3 ∷ []) [] refl (subst (λ ts. Has ts (table_of segment_table)) (sym book.first) (inr (inr (inr (inr (inl refl)))))) refl sound stored x y h k (Text pairing) (Int period) (Int number) refl (λ r. (refl, refl, refl)) refl refl refl
+  pub segment_once : IsTable segment_table db.schema → IsStored segment_table db → (pairing : List ℕ) (period : ℤ) (number : ℤ) (x y : Row) → Has (rows_of segment_table db) x → Has (rows_of segment_table db) y → begins_with (Text pairing ∷ Int period ∷ Int number ∷ []) x ≡ true → begins_with (Text pairing ∷ Int period ∷ Int number ∷ []) y ≡ true → x ≡ y
+  segment_once there stored_apart pairing period number x y h k =
+      once_by_three segment_table db (1 ∷ 2 ∷ 3 ∷ []) [] refl there sound stored_apart x y h k (Text pairing) (Int period) (Int number) refl (λ r. (refl, refl, refl)) refl refl refl
 
-  pub seat_once : IsStored seat_table db → (pairing : List ℕ) (number : ℤ) (x y : Row) → Has (rows_of seat_table db) x → Has (rows_of seat_table db) y → begins_with (Text pairing ∷ Int number ∷ []) x ≡ true → begins_with (Text pairing ∷ Int number ∷ []) y ≡ true → x ≡ y
-  seat_once stored pairing number x y h k =
-      once_by_two seat_table db (1 ∷ 2 ∷ []) ((3 ∷ 1 ∷ []) ∷ []) refl (subst (λ ts. Has ts (table_of seat_table)) (sym book.first) (inr (inr (inr (inr (inr (inl refl))))))) refl sound stored x y h k (Text pairing) (Int number) refl (λ r. (refl, refl)) refl refl
+  pub seat_once : IsTable seat_table db.schema → IsStored seat_table db → (pairing : List ℕ) (number : ℤ) (x y : Row) → Has (rows_of seat_table db) x → Has (rows_of seat_table db) y → begins_with (Text pairing ∷ Int number ∷ []) x ≡ true → begins_with (Text pairing ∷ Int number ∷ []) y ≡ true → x ≡ y
+  seat_once there stored_apart pairing number x y h k =
+      once_by_two seat_table db (1 ∷ 2 ∷ []) ((3 ∷ 1 ∷ []) ∷ []) refl there sound stored_apart x y h k (Text pairing) (Int number) refl (λ r. (refl, refl)) refl refl
 
-  pub ground_once : IsStored ground_table db → (id : List ℕ) (x y : Row) → Has (rows_of ground_table db) x → Has (rows_of ground_table db) y → begins_with (Text id ∷ []) x ≡ true → begins_with (Text id ∷ []) y ≡ true → x ≡ y
-  ground_once stored id x y h k =
-      once_by_one ground_table db (1 ∷ []) ((2 ∷ 1 ∷ []) ∷ []) refl (subst (λ ts. Has ts (table_of ground_table)) (sym book.first) (inr (inr (inr (inr (inr (inr (inl refl)))))))) refl sound stored x y h k (Text id) refl (λ r. refl) refl
+  pub ground_once : IsTable ground_table db.schema → IsStored ground_table db → (id : List ℕ) (x y : Row) → Has (rows_of ground_table db) x → Has (rows_of ground_table db) y → begins_with (Text id ∷ []) x ≡ true → begins_with (Text id ∷ []) y ≡ true → x ≡ y
+  ground_once there stored_apart id x y h k =
+      once_by_one ground_table db (1 ∷ []) ((2 ∷ 1 ∷ []) ∷ []) refl there sound stored_apart x y h k (Text id) refl (λ r. refl) refl
 
-  pub exceedance_once : IsStored exceedance_table db → (number : ℤ) (part : ℤ) (crew : List ℕ) (section : ℤ) (x y : Row) → Has (rows_of exceedance_table db) x → Has (rows_of exceedance_table db) y → begins_with (Int number ∷ Int part ∷ Text crew ∷ Int section ∷ []) x ≡ true → begins_with (Int number ∷ Int part ∷ Text crew ∷ Int section ∷ []) y ≡ true → x ≡ y
-  exceedance_once stored number part crew section x y h k =
-      once_by_four exceedance_table db (1 ∷ 2 ∷ 3 ∷ 4 ∷ []) [] refl (subst (λ ts. Has ts (table_of exceedance_table)) (sym book.first) (inr (inr (inr (inr (inr (inr (inr (inl refl))))))))) refl sound stored x y h k (Int number) (Int part) (Text crew) (Int section) refl (λ r. (refl, refl, refl, refl)) refl refl refl refl
+  pub exceedance_once : IsTable exceedance_table db.schema → IsStored exceedance_table db → (number : ℤ) (part : ℤ) (crew : List ℕ) (section : ℤ) (x y : Row) → Has (rows_of exceedance_table db) x → Has (rows_of exceedance_table db) y → begins_with (Int number ∷ Int part ∷ Text crew ∷ Int section ∷ []) x ≡ true → begins_with (Int number ∷ Int part ∷ Text crew ∷ Int section ∷ []) y ≡ true → x ≡ y
+  exceedance_once there stored_apart number part crew section x y h k =
+      once_by_four exceedance_table db (1 ∷ 2 ∷ 3 ∷ 4 ∷ []) [] refl there sound stored_apart x y h k (Int number) (Int part) (Text crew) (Int section) refl (λ r. (refl, refl, refl, refl)) refl refl refl refl
 
-  pub request_once : IsStored request_table db → (number : ℤ) (part : ℤ) (x y : Row) → Has (rows_of request_table db) x → Has (rows_of request_table db) y → begins_with (Int number ∷ Int part ∷ []) x ≡ true → begins_with (Int number ∷ Int part ∷ []) y ≡ true → x ≡ y
-  request_once stored number part x y h k =
-      once_by_two request_table db (1 ∷ 2 ∷ []) [] refl (subst (λ ts. Has ts (table_of request_table)) (sym book.first) (inr (inr (inr (inr (inr (inr (inr (inr (inl refl)))))))))) refl sound stored x y h k (Int number) (Int part) refl (λ r. (refl, refl)) refl refl
+  pub request_once : IsTable request_table db.schema → IsStored request_table db → (number : ℤ) (part : ℤ) (x y : Row) → Has (rows_of request_table db) x → Has (rows_of request_table db) y → begins_with (Int number ∷ Int part ∷ []) x ≡ true → begins_with (Int number ∷ Int part ∷ []) y ≡ true → x ≡ y
+  request_once there stored_apart number part x y h k =
+      once_by_two request_table db (1 ∷ 2 ∷ []) [] refl there sound stored_apart x y h k (Int number) (Int part) refl (λ r. (refl, refl)) refl refl

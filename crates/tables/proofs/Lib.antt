@@ -1,3 +1,5 @@
+pub mod Known
+pub mod Compiling
 pub mod Survival
 pub mod Inserting
 pub mod Statements
@@ -8,8 +10,8 @@ pub mod Creating
 pub mod ReadingLemmas
 pub mod Selecting
 pub mod LoadingLemmas
-pub mod DeclaredLemmas
 pub mod KeyLemmas
+pub mod Holding
 pub mod Transactions
 pub mod BookTexts
 pub mod CrewTexts
@@ -20,3 +22,4 @@ pub mod SeatTexts
 pub mod GroundTexts
 pub mod ExceedanceTexts
 pub mod RequestTexts
+pub mod Declaring

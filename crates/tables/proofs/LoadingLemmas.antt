@@ -16,19 +16,18 @@ use Rattle.sqlite_value.specs.Order.{Row, column, value_cmp}
 use Rattle.sqlite_value.proofs.OrderLemmas.{value_cmp_total, value_cmp-Int}
 use Rattle.sqlite_trees.specs.Tree.{Trees, rowid}
 use Rattle.sqlite_trees.proofs.ListLemmas.{map-map}
-use Rattle.sqlite_schema.specs.declared.schema.Table.{Table}
-use Rattle.sqlite_schema.specs.declared.schema.Index.{Index}
-use Rattle.sqlite_schema.specs.declared.schema.View.{View}
 use Rattle.sqlite_schema.specs.declared.command.Command.TheVariants.{Select}
 use Rattle.sqlite_sql.specs.Term.{Term, col, eval_all}
 use Rattle.sqlite_rules.specs.Lists.{Has}
 use Rattle.sqlite_rules.proofs.ListLemmas.{all_has}
 use Rattle.sqlite_rules.proofs.ProbeLemmas.{has_mapped, mapped_has}
 use Rattle.sqlite.proofs.Callers.{IsPlain}
-use Rattle.sqlite.specs.Listing.{understood, reads_listing}
+use Rattle.sqlite.specs.Listing.{understood}
 use Rattle.sqlite.specs.State.{State, HasCleanDisk, Survives, IsUnchanged, Shown}
-use Rattle.tables.specs.Schema.{BookTable, IsBook, schema_before}
-use Rattle.tables.specs.Rows.{cells, rows_of, begins_with, Finds, HasNoRecord, IsStored}
+use Rattle.tables.specs.Schema.{BookTable, IsTable}
+use Rattle.tables.proofs.Known.{known, stored_is}
+use Rattle.tables.proofs.Compiling.{IsRead}
+use Rattle.tables.specs.Rows.{cells, rows_of, begins_with, Finds, HasNoRecord, AreNumbered, IsStored}
 use Rattle.tables.specs.Calls.{Leaves, Loaded}
 use Rattle.tables.specs.Texts.{HasInvalid, ShowsNumbered, rises, rises_from}
 use Rattle.tables.specs.declared.table_fault.TableFault.{TableFault}
@@ -36,7 +35,6 @@ use Rattle.tables.specs.declared.table_fault.TableFault.TheVariants.{NotARecord}
 use Rattle.tables.proofs.Answering.{plain_query, has_permuted}
 use Rattle.tables.proofs.Deleting.{equal_is}
 use Rattle.tables.proofs.Selecting.{projected, shown_cells, answered, shows_invalid}
-use Rattle.tables.proofs.Statements.{IsRead, plain_in}
 
 -- ---- numbers that rise differ
 
@@ -91,11 +89,8 @@ same_flips x y = elim (cases_Bool (same_first x y)) [
 ]
 
 -- the rows of a table whose numbers are shown in rising order
-module _ (kept : BookTable) (db : Rattle.sqlite.specs.Effect.Database) (ns : List ℤ) (shown : IsPermutation (map (λ (r : Row). rowid r ∷ []) (db.trees kept.tree)) (map one_number ns)) (rise : rises ns ≡ true) where
-  abbrev rows : List Row
-  rows = db.trees kept.tree
-
-  pub rising_stored : IsStored kept db
+module _ (rows : List Row) (ns : List ℤ) (shown : IsPermutation (map (λ (r : Row). rowid r ∷ []) rows) (map one_number ns)) (rise : rises ns ≡ true) where
+  pub rising_stored : AreNumbered rows
   rising_stored = record {
     numbered = λ r k.
         let there = has_permuted (map (λ (r : Row). rowid r ∷ []) rows) (map one_number ns) (rowid r ∷ []) shown (mapped_has (λ (r : Row). rowid r ∷ []) rows r k) in
@@ -121,11 +116,13 @@ all_pass [] = refl
 all_pass (x ∷ xs) = ap (λ l. x ∷ l) (all_pass xs)
 
 module _ (kept : BookTable) (text : List ℕ) (names : List (List ℕ))
-    (read : IsRead text (Select (record { lets = []; body = plain_query kept.tree [] (projected (suc (length kept.columns)) 0) by_number }) names))
-    (unlisted : (rest : List Table) (indexes : List Index) (views : List View) → reads_listing (schema_before rest indexes views) text ≡ false)
-    (old : State) (book : IsBook old.now.schema) where
+    (read : IsRead kept text (λ _ tree. Select (record { lets = []; body = plain_query tree [] (projected (suc (length kept.columns)) 0) by_number }) names))
+    (old : State) (there : IsTable kept old.now.schema) where
   abbrev stored : List Row
-  stored = old.now.trees kept.tree
+  stored = old.now.trees there.tree
+
+  is_stored : Rattle.tables.specs.Rows.stored kept old.now ≡ stored
+  is_stored = stored_is kept old.now.schema there old.now refl
 
   abbrev shown : Row → Row
   shown r = rowid r ∷ cells kept r
@@ -136,11 +133,11 @@ module _ (kept : BookTable) (text : List ℕ) (names : List (List ℕ))
   found : (new : State) (all : List (ℤ × Row)) → Shown text [] old new (map (λ it. Int it.0 ∷ it.1) all) → IsPermutation (map shown stored) (map (λ it. Int it.0 ∷ it.1) all)
   found new all h =
       subst (λ l. IsPermutation (map shown l) (map (λ it. Int it.0 ∷ it.1) all)) (all_pass stored)
-      (answered kept [] (projected (suc (length kept.columns)) 0) by_number text names read unlisted [] (λ _. true) (λ _. refl) shown shows old book new _ h)
+      (answered kept [] (projected (suc (length kept.columns)) 0) by_number text names read [] (λ _. true) (λ _. refl) shown shows old there new _ h)
 
   pub loader : Loader text kept old
   loader = record {
-    plain = plain_in read old.now.schema book;
+    plain = read.plain _ _ _ (known kept old.now.schema there);
     loaded = λ new rows h.
         let all = h.0 in
         let same = found new all h.1 in
@@ -150,11 +147,14 @@ module _ (kept : BookTable) (text : List ℕ) (names : List (List ℕ))
         let first = λ (x : Row). rowid x ∷ [] in
         let numbers : IsPermutation (map (λ (r : Row). rowid r ∷ []) stored) (map one_number (map (λ (it : ℤ × Row). it.0) all)) =
         subst (λ l. IsPermutation (map (λ (r : Row). rowid r ∷ []) stored) l) (map-map first (λ (it : ℤ × Row). Int it.0 ∷ it.1) all ∙ sym (map-map one_number (λ (it : ℤ × Row). it.0) all))
-        (subst (λ l. IsPermutation l (map first (map (λ (it : ℤ × Row). Int it.0 ∷ it.1) all))) (map-map first shown stored) (IsPermutation-map first _ _ same)) in
-        (subst (IsPermutation (filter (begins_with []) (rows_of kept old.now))) h.3 (subst (λ l. IsPermutation l (map (λ it. it.1) all)) (sym (all_pass (rows_of kept old.now))) records), rising_stored kept old.now _ numbers h.2);
+        (subst (λ l. IsPermutation l (map first (map (λ (it : ℤ × Row). Int it.0 ∷ it.1) all))) (map-map first shown stored) (IsPermutation-map first _ _ same)) in (
+          subst (IsPermutation (filter (begins_with []) (rows_of kept old.now))) h.3
+              (subst (λ l. IsPermutation l (map (λ it. it.1) all)) (ap (map (cells kept)) (sym is_stored) ∙ sym (all_pass (rows_of kept old.now))) records),
+          subst AreNumbered (sym is_stored) (rising_stored stored _ numbers h.2),
+        );
     invalid = λ IsRecord h.
-        let r = shows_invalid kept [] (projected (suc (length kept.columns)) 0) by_number text names read unlisted [] (λ _. true) (λ _. refl) shown shows old book (λ values. IsRecord (drop 1 values)) h in
-        (cells kept r.0, mapped_has (cells kept) stored r.0 r.1, refl, r.3);
+        let r = shows_invalid kept [] (projected (suc (length kept.columns)) 0) by_number text names read [] (λ _. true) (λ _. refl) shown shows old there (λ values. IsRecord (drop 1 values)) h in
+        (cells kept r.0, subst (λ l. Has (map (cells kept) l) (cells kept r.0)) (sym is_stored) (mapped_has (cells kept) stored r.0 r.1), refl, r.3);
   }
 
 -- numbered records show their rows behind their numbers

@@ -1,35 +1,38 @@
 -- The texts on the table `segment`.
-use Rattle.std.proofs.Common.{◌≡◌, List, [], ◌∷◌, codes, refl, false, true, ap, Some, ℕ, Ok, pos}
+use Rattle.std.proofs.Common.{◌≡◌, List, [], ◌∷◌, codes, refl, true, ap, Some, ℕ, pos, None}
 use Rattle.sqlite_value.specs.declared.value.Value.TheVariants.{Null, Int, Text}
 use Rattle.sqlite_value.specs.Order.{Row}
 use Rattle.sqlite_trees.specs.Tree.{rowid}
 use Rattle.sqlite_trees.specs.View.{is_int}
-use Rattle.sqlite_schema.specs.declared.schema.Table.{Table}
-use Rattle.sqlite_schema.specs.declared.schema.Index.{Index}
-use Rattle.sqlite_schema.specs.declared.schema.View.{View}
 use Rattle.sqlite_schema.specs.declared.command.Source.TheVariants.{Values}
 use Rattle.sqlite_schema.specs.declared.command.Command.TheVariants.{Insert, Select, Delete, Update}
 use Rattle.sqlite_sql.specs.Term.{lit, col, eval_all}
 use Rattle.sqlite_tied.specs.Compute.{everything}
 use Rattle.sqlite_rules.specs.Cast.{cast_row}
-use Rattle.sqlite.specs.Listing.{understood, reads_listing}
 use Rattle.sqlite.specs.State.{State}
 use Rattle.tables.specs.declared.segment.SegmentRecord.{SegmentRecord}
-use Rattle.tables.specs.Schema.{segment_table, table_of, defined, IsBook, schema_before, made, before}
+use Rattle.tables.specs.Schema.{segment_table, table_of, IsTable, IsUnreferenced}
+use Rattle.tables.specs.Declarations.{HaveNoDefault, IsTextOf}
+use Rattle.sqlite_schema.specs.declared.schema.Column.{Column}
+use Rattle.std.proofs.lemmas.List.Elements.{All-from_recursion}
 use Rattle.tables.specs.Records.{segment_row, with_segment_times}
-use Rattle.tables.specs.Rows.{Makes, Inserts, Deletes, Updates, cells, begins_with}
+use Rattle.tables.specs.Rows.{Makes, Deletes, Updates, cells, begins_with}
 use Rattle.tables.proofs.Inserting.{cast_null, cast_int, cast_any, cast_number}
-use Rattle.sqlite_resolve.specs.Compile.{table_defined_by}
-use Rattle.tables.proofs.Statements.{IsRead, Writer, insert_writer}
+use Rattle.tables.proofs.Statements.{Writer}
+use Rattle.tables.proofs.Holding.{InsertsFree, insert_writer}
 use Rattle.tables.proofs.Creating.{IsMaker, create_writer}
 use Rattle.tables.proofs.Answering.{plain_query, is_param, one_key, three_keys}
 use Rattle.tables.proofs.Selecting.{projected, Reader, reader}
 use Rattle.tables.proofs.LoadingLemmas.{Loader, loader, by_number}
 use Rattle.tables.proofs.Deleting.{delete_writer}
 use Rattle.tables.proofs.Updating.{update_writer}
+use Rattle.sqlite_ast.specs.declared.Expr.TheVariants as e
+use Rattle.sqlite_ast.specs.declared.Statement.TheVariants as written
+use Rattle.tables.proofs.Compiling.{IsRead, IsNamed, is_read, insert_into, insert_meant, delete_meant, update_meant, rows_meant, numbered_meant, is_given, both, select_from, words_of, outputs_of, rowid_output, shown_names, shown_one, sort_by, last_of, no_carried}
 
-abbrev names : List (List ℕ)
-names = codes "pairing" ∷ codes "period" ∷ codes "number" ∷ codes "flight" ∷ codes "origin" ∷ codes "destination" ∷ codes "out_at" ∷ codes "in_at" ∷ codes "act_out" ∷ codes "act_in" ∷ []
+named : IsNamed segment_table
+unfolding everything
+named = (λ tree. (refl, refl, (refl, refl, (refl, refl, (refl, refl, (refl, refl, (refl, refl, (refl, refl, (refl, refl, (refl, refl, (refl, refl, tt)))))))))), λ tree. refl, refl, refl)
 
 -- ----
 
@@ -37,82 +40,89 @@ abbrev create_segment_text : List ℕ
 create_segment_text = codes "CREATE TABLE segment (pairing TEXT NOT NULL, period INTEGER NOT NULL, number INTEGER NOT NULL, flight TEXT NOT NULL, origin TEXT NOT NULL, destination TEXT NOT NULL, out_at INTEGER NOT NULL, in_at INTEGER NOT NULL, act_out INTEGER, act_in INTEGER, PRIMARY KEY (pairing, period, number)) STRICT"
 
 create_segment_maker : IsMaker segment_table create_segment_text
-unfolding understood everything
-create_segment_maker = record { is = refl; plain = (refl, refl); whole = refl; defines = refl; tree = refl; after = refl; lacks = refl }
+unfolding everything
+create_segment_maker = record { new = refl; whole = refl; defines = refl }
 
-pub create_segment : (old : State) → old.now.schema ≡ made (before segment_table) → Writer create_segment_text [] (Makes segment_table) old
-create_segment = create_writer _ _ create_segment_maker
+pub create_segment : (old : State) → Writer create_segment_text [] (Makes segment_table) old
+create_segment = create_writer segment_table create_segment_text create_segment_maker
 
-pub create_segment_defines : table_defined_by create_segment_text ≡ Ok (defined segment_table)
-create_segment_defines = create_segment_maker.defines
+no_default : HaveNoDefault segment_table.columns
+no_default = All-from_recursion (λ (c : Column). c.default ≡ Null) segment_table.columns (refl, (refl, (refl, (refl, (refl, (refl, (refl, (refl, (refl, (refl, tt))))))))))
+
+pub create_segment_declares : IsTextOf segment_table create_segment_text
+create_segment_declares = record { defines = create_segment_maker.defines; plain = no_default }
 
 -- ----
 
 abbrev insert_segment_text : List ℕ
 insert_segment_text = codes "INSERT INTO segment (pairing, period, number, flight, origin, destination, out_at, in_at, act_out, act_in) VALUES (?1, ?2, ?3, ?4, ?5, ?6, ?7, ?8, ?9, ?10)"
 
-insert_segment_read : IsRead insert_segment_text (Insert 4 (Values (lit Null ∷ col 0 0 ∷ col 0 1 ∷ col 0 2 ∷ col 0 3 ∷ col 0 4 ∷ col 0 5 ∷ col 0 6 ∷ col 0 7 ∷ col 0 8 ∷ col 0 9 ∷ []) 11))
-unfolding understood everything
-insert_segment_read = record { is = λ _ _ _. refl; plain = λ _ _ _. (refl, refl) }
+insert_segment_read : IsRead segment_table insert_segment_text (λ at tree. Insert at (Values (lit Null ∷ col 0 0 ∷ col 0 1 ∷ col 0 2 ∷ col 0 3 ∷ col 0 4 ∷ col 0 5 ∷ col 0 6 ∷ col 0 7 ∷ col 0 8 ∷ col 0 9 ∷ []) 11))
+unfolding everything
+insert_segment_read = is_read segment_table _ (insert_into segment_table) _ (record { went = refl; is = refl; untimed = refl }) (insert_meant segment_table _ (λ schema tree base. refl))
 
-insert_segment_keeps : (it : SegmentRecord) → cast_row (table_of segment_table) (Null ∷ segment_row it) ≡ Null ∷ segment_row it
-insert_segment_keeps it = rw (cast_null, cast_int (pos it.period), cast_int (pos it.number), cast_int (pos it.out_at), cast_int (pos it.in_at), cast_any it.act_out, cast_any it.act_in)
+insert_segment_keeps : (it : SegmentRecord) (tree : ℕ) → cast_row (table_of segment_table tree) (Null ∷ segment_row it) ≡ Null ∷ segment_row it
+insert_segment_keeps it tree = rw (cast_null, cast_int (pos it.period), cast_int (pos it.number), cast_int (pos it.out_at), cast_int (pos it.in_at), cast_any it.act_out, cast_any it.act_in)
 
-pub insert_segment : (it : SegmentRecord) (old : State) → IsBook old.now.schema → Writer insert_segment_text (segment_row it) (Inserts segment_table (segment_row it)) old
-insert_segment it = insert_writer segment_table (lit Null ∷ col 0 0 ∷ col 0 1 ∷ col 0 2 ∷ col 0 3 ∷ col 0 4 ∷ col 0 5 ∷ col 0 6 ∷ col 0 7 ∷ col 0 8 ∷ col 0 9 ∷ []) 11 _ insert_segment_read (λ _. refl) (segment_row it) (segment_row it) (λ _. refl) refl (insert_segment_keeps it)
+pub insert_segment : (it : SegmentRecord) (old : State) → IsTable segment_table old.now.schema → Writer insert_segment_text (segment_row it) (InsertsFree segment_table (segment_row it)) old
+insert_segment it = insert_writer segment_table (lit Null ∷ col 0 0 ∷ col 0 1 ∷ col 0 2 ∷ col 0 3 ∷ col 0 4 ∷ col 0 5 ∷ col 0 6 ∷ col 0 7 ∷ col 0 8 ∷ col 0 9 ∷ []) 11 _ insert_segment_read (segment_row it) (segment_row it) (λ _. refl) refl (insert_segment_keeps it) (λ r. ((refl, (refl, (refl, tt))), tt)) ((refl, (refl, (refl, tt))), tt)
 
 -- ----
 
 abbrev load_segments_text : List ℕ
 load_segments_text = codes "SELECT rowid, pairing, period, number, flight, origin, destination, out_at, in_at, act_out, act_in FROM segment ORDER BY rowid"
 
-load_segments_read : IsRead load_segments_text (Select (record { lets = []; body = plain_query segment_table.tree [] (projected 11 0) by_number }) (codes "rowid" ∷ codes "pairing" ∷ codes "period" ∷ codes "number" ∷ codes "flight" ∷ codes "origin" ∷ codes "destination" ∷ codes "out_at" ∷ codes "in_at" ∷ codes "act_out" ∷ codes "act_in" ∷ []))
-unfolding understood everything
-load_segments_read = record { is = λ _ _ _. refl; plain = λ _ _ _. (refl, refl) }
+load_segments_read : IsRead segment_table load_segments_text (λ at tree. Select (record { lets = []; body = plain_query tree [] (projected 11 0) by_number }) (shown_names (rowid_output ∷ outputs_of segment_table)))
+unfolding everything
+load_segments_read =
+    is_read segment_table _ (written.Select (select_from segment_table.name (shown_one (codes "rowid") ∷ words_of segment_table) None (sort_by (codes "rowid") ∷ []))) _ (record { went = refl; is = refl; untimed = refl })
+    (numbered_meant segment_table named None (sort_by (codes "rowid") ∷ []) [] by_number (λ tree. plain_query tree [] (projected 11 0) by_number) 99989 99988 (last_of segment_table.columns no_carried) no_carried
+    (λ schema at tree known. simp (known.is) refl) (λ schema at tree known. simp (known.is, known.low) refl) (λ schema at tree known. simp (known.high, known.by_tree) refl))
 
-load_segments_unlisted : (rest : List Table) (indexes : List Index) (views : List View) → reads_listing (schema_before rest indexes views) load_segments_text ≡ false
-unfolding understood everything
-load_segments_unlisted _ _ _ = refl
-
-pub load_segments : (old : State) → IsBook old.now.schema → Loader load_segments_text segment_table old
-load_segments = loader segment_table _ _ load_segments_read load_segments_unlisted
+pub load_segments : (old : State) → IsTable segment_table old.now.schema → Loader load_segments_text segment_table old
+load_segments = loader segment_table _ _ load_segments_read
 
 -- ----
 
 abbrev segments_of_text : List ℕ
 segments_of_text = codes "SELECT pairing, period, number, flight, origin, destination, out_at, in_at, act_out, act_in FROM segment WHERE pairing = ?1"
 
-segments_of_read : IsRead segments_of_text (Select (record { lets = []; body = plain_query segment_table.tree (is_param 1 0 ∷ []) (projected 10 1) [] }) names)
-unfolding understood everything
-segments_of_read = record { is = λ _ _ _. refl; plain = λ _ _ _. (refl, refl) }
+segments_of_read : IsRead segment_table segments_of_text (λ at tree. Select (record { lets = []; body = plain_query tree (is_param 1 0 ∷ []) (projected 10 1) [] }) (shown_names (outputs_of segment_table)))
+unfolding everything
+segments_of_read =
+    is_read segment_table _ (written.Select (select_from segment_table.name (words_of segment_table) (Some (is_given (codes "pairing") 1)) [])) _ (record { went = refl; is = refl; untimed = refl })
+    (rows_meant segment_table named (Some (is_given (codes "pairing") 1)) [] (is_param 1 0 ∷ []) [] (λ tree. plain_query tree (is_param 1 0 ∷ []) (projected 10 1) []) 99987 99987 no_carried no_carried
+    (λ schema at tree known. simp (known.is) refl) (λ schema at tree known. refl) (λ schema at tree known. simp (known.high, known.by_tree) refl))
 
-segments_of_unlisted : (rest : List Table) (indexes : List Index) (views : List View) → reads_listing (schema_before rest indexes views) segments_of_text ≡ false
-unfolding understood everything
-segments_of_unlisted _ _ _ = refl
-
-pub segments_of : (pairing : List ℕ) (old : State) → IsBook old.now.schema → Reader segments_of_text (Text pairing ∷ []) segment_table (begins_with (Text pairing ∷ [])) old
-segments_of pairing = reader segment_table (is_param 1 0 ∷ []) _ names segments_of_read segments_of_unlisted (Text pairing ∷ []) _ (λ r. one_key (Text pairing) [] r refl 9)
+pub segments_of : (pairing : List ℕ) (old : State) → IsTable segment_table old.now.schema → Reader segments_of_text (Text pairing ∷ []) segment_table (begins_with (Text pairing ∷ [])) old
+segments_of pairing = reader segment_table (is_param 1 0 ∷ []) _ _ segments_of_read (Text pairing ∷ []) _ (λ r. one_key (Text pairing) [] r refl 9)
 
 -- ----
 
 abbrev delete_segments_text : List ℕ
 delete_segments_text = codes "DELETE FROM segment WHERE pairing = ?1"
 
-delete_segments_read : IsRead delete_segments_text (Delete 4 (record { lets = []; body = plain_query segment_table.tree (is_param 1 0 ∷ []) (col 1 0 ∷ []) [] }))
-unfolding understood everything
-delete_segments_read = record { is = λ _ _ _. refl; plain = λ _ _ _. (refl, refl) }
+delete_segments_read : IsRead segment_table delete_segments_text (λ at tree. Delete at (record { lets = []; body = plain_query tree (is_param 1 0 ∷ []) (col 1 0 ∷ []) [] }))
+unfolding everything
+delete_segments_read =
+    is_read segment_table _ (written.Delete segment_table.name (Some (is_given (codes "pairing") 1)) []) _ (record { went = refl; is = refl; untimed = refl })
+    (delete_meant segment_table (is_given (codes "pairing") 1) (is_param 1 0 ∷ []) (λ tree. plain_query tree (is_param 1 0 ∷ []) (col 1 0 ∷ []) [])
+    (λ schema at tree known. simp (known.is) refl) (λ schema at tree known. simp (known.high, known.by_tree) refl))
 
-pub delete_segments : (pairing : List ℕ) (old : State) → IsBook old.now.schema → Writer delete_segments_text (Text pairing ∷ []) (Deletes segment_table (begins_with (Text pairing ∷ []))) old
-delete_segments pairing = delete_writer segment_table (is_param 1 0 ∷ []) _ delete_segments_read (λ _. refl) (Text pairing ∷ []) _ (λ r. one_key (Text pairing) [] r refl 9)
+pub delete_segments : (pairing : List ℕ) (old : State) → IsTable segment_table old.now.schema → IsUnreferenced segment_table old.now.schema → Writer delete_segments_text (Text pairing ∷ []) (Deletes segment_table (begins_with (Text pairing ∷ []))) old
+delete_segments pairing = delete_writer segment_table (is_param 1 0 ∷ []) _ delete_segments_read (Text pairing ∷ []) _ (λ r. one_key (Text pairing) [] r refl 9)
 
 -- ----
 
 abbrev update_segment_text : List ℕ
 update_segment_text = codes "UPDATE segment SET act_out = ?4, act_in = ?5 WHERE pairing = ?1 AND period = ?2 AND number = ?3"
 
-update_segment_read : IsRead update_segment_text (Update 4 (record { lets = []; body = plain_query segment_table.tree (is_param 1 0 ∷ is_param 2 1 ∷ is_param 3 2 ∷ []) (col 1 0 ∷ col 1 0 ∷ col 1 1 ∷ col 1 2 ∷ col 1 3 ∷ col 1 4 ∷ col 1 5 ∷ col 1 6 ∷ col 1 7 ∷ col 1 8 ∷ col 0 3 ∷ col 0 4 ∷ []) [] }))
-unfolding understood everything
-update_segment_read = record { is = λ _ _ _. refl; plain = λ _ _ _. (refl, refl) }
+update_segment_read : IsRead segment_table update_segment_text (λ at tree. Update at (record { lets = []; body = plain_query tree (is_param 1 0 ∷ is_param 2 1 ∷ is_param 3 2 ∷ []) (col 1 0 ∷ col 1 0 ∷ col 1 1 ∷ col 1 2 ∷ col 1 3 ∷ col 1 4 ∷ col 1 5 ∷ col 1 6 ∷ col 1 7 ∷ col 1 8 ∷ col 0 3 ∷ col 0 4 ∷ []) [] }))
+unfolding everything
+update_segment_read =
+    is_read segment_table _ (written.Update segment_table.name ((codes "act_out", e.Parameter 4) ∷ (codes "act_in", e.Parameter 5) ∷ []) (Some (both (both (is_given (codes "pairing") 1) (is_given (codes "period") 2)) (is_given (codes "number") 3))) []) _ (record { went = refl; is = refl; untimed = refl })
+    (update_meant segment_table ((codes "act_out", e.Parameter 4) ∷ (codes "act_in", e.Parameter 5) ∷ []) (both (both (is_given (codes "pairing") 1) (is_given (codes "period") 2)) (is_given (codes "number") 3)) (is_param 1 0 ∷ is_param 2 1 ∷ is_param 3 2 ∷ []) (col 1 0 ∷ col 1 1 ∷ col 1 2 ∷ col 1 3 ∷ col 1 4 ∷ col 1 5 ∷ col 1 6 ∷ col 1 7 ∷ col 1 8 ∷ col 0 3 ∷ col 0 4 ∷ []) (λ tree. plain_query tree (is_param 1 0 ∷ is_param 2 1 ∷ is_param 3 2 ∷ []) (col 1 0 ∷ col 1 0 ∷ col 1 1 ∷ col 1 2 ∷ col 1 3 ∷ col 1 4 ∷ col 1 5 ∷ col 1 6 ∷ col 1 7 ∷ col 1 8 ∷ col 0 3 ∷ col 0 4 ∷ []) [])
+    (λ schema at tree known. simp (known.is) refl) (λ schema at tree known. simp (known.high, known.by_tree) refl))
 
 -- of a record's row only the actual times change
 pub with_segment_times_is : (it : SegmentRecord) (block_out block_in : ℕ) → with_segment_times block_out block_in (segment_row it) ≡ segment_row (record it { act_out = Some block_out; act_in = Some block_in })
@@ -122,10 +132,10 @@ module _ (pairing : List ℕ) (period : ℕ) (number : ℕ) (block_out block_in 
   abbrev given : Row
   given = Text pairing ∷ Int (pos period) ∷ Int (pos number) ∷ Int (pos block_out) ∷ Int (pos block_in) ∷ []
 
-  update_segment_writes : (r : Row) → is_int (rowid r) ≡ true → cast_row (table_of segment_table) (eval_all (col 1 0 ∷ col 1 1 ∷ col 1 2 ∷ col 1 3 ∷ col 1 4 ∷ col 1 5 ∷ col 1 6 ∷ col 1 7 ∷ col 1 8 ∷ col 0 3 ∷ col 0 4 ∷ []) (given ∷ r ∷ [])) ≡ rowid r ∷ with_segment_times block_out block_in (cells segment_table r)
-  update_segment_writes r h = ap (λ v. v ∷ with_segment_times block_out block_in (cells segment_table r)) (cast_number (rowid r) h)
+  update_segment_writes : (tree : ℕ) (r : Row) → is_int (rowid r) ≡ true → cast_row (table_of segment_table tree) (eval_all (col 1 0 ∷ col 1 1 ∷ col 1 2 ∷ col 1 3 ∷ col 1 4 ∷ col 1 5 ∷ col 1 6 ∷ col 1 7 ∷ col 1 8 ∷ col 0 3 ∷ col 0 4 ∷ []) (given ∷ r ∷ [])) ≡ rowid r ∷ with_segment_times block_out block_in (cells segment_table r)
+  update_segment_writes tree r h = ap (λ v. v ∷ with_segment_times block_out block_in (cells segment_table r)) (cast_number (rowid r) h)
 
-  pub update_segment : (old : State) → IsBook old.now.schema → Writer update_segment_text given (Updates segment_table (begins_with (Text pairing ∷ Int (pos period) ∷ Int (pos number) ∷ [])) (with_segment_times block_out block_in)) old
+  pub update_segment : (old : State) → IsTable segment_table old.now.schema → IsUnreferenced segment_table old.now.schema → Writer update_segment_text given (Updates segment_table (begins_with (Text pairing ∷ Int (pos period) ∷ Int (pos number) ∷ [])) (with_segment_times block_out block_in)) old
   update_segment =
-      update_writer segment_table (is_param 1 0 ∷ is_param 2 1 ∷ is_param 3 2 ∷ []) (col 1 0 ∷ col 1 1 ∷ col 1 2 ∷ col 1 3 ∷ col 1 4 ∷ col 1 5 ∷ col 1 6 ∷ col 1 7 ∷ col 1 8 ∷ col 0 3 ∷ col 0 4 ∷ []) _ update_segment_read (λ _. refl) given _ (λ r. three_keys (Text pairing) (Int (pos period)) (Int (pos number)) (Int (pos block_out) ∷ Int (pos block_in) ∷ []) r refl refl refl 7)
+      update_writer segment_table (is_param 1 0 ∷ is_param 2 1 ∷ is_param 3 2 ∷ []) (col 1 0 ∷ col 1 1 ∷ col 1 2 ∷ col 1 3 ∷ col 1 4 ∷ col 1 5 ∷ col 1 6 ∷ col 1 7 ∷ col 1 8 ∷ col 0 3 ∷ col 0 4 ∷ []) _ update_segment_read given _ (λ r. three_keys (Text pairing) (Int (pos period)) (Int (pos number)) (Int (pos block_out) ∷ Int (pos block_in) ∷ []) r refl refl refl 7)
       (with_segment_times block_out block_in) update_segment_writes (λ _ _. refl)

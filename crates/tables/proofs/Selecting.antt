@@ -1,5 +1,5 @@
 -- SELECT of whole rows.
-use Rattle.std.proofs.Common.{Option, MatchOption, ◌≢◌, pos, ◌≡◌, inl, inr, ℕ, zero, suc, ◌+◌, List, [], ◌∷◌, ◌++◌, map, drop, length, Bool, true, false, Some, None, Ok, Err, Result, refl, sym, ap, ap₂, subst, ◌∙◌, arith, drop-cons}
+use Rattle.std.proofs.Common.{Option, MatchOption, ◌≢◌, pos, ◌≡◌, inl, inr, ℕ, zero, suc, ◌+◌, List, [], ◌∷◌, ◌++◌, map, drop, length, Bool, true, Some, None, Ok, Err, Result, refl, sym, ap, ap₂, subst, ◌∙◌, arith, drop-cons}
 use Rattle.std.specs.Bool.{⊤}
 use Rattle.std.proofs.lemmas.List.{drop_all}
 use Rattle.std.specs.List.{list_all}
@@ -7,21 +7,19 @@ use Rattle.sqlite_value.specs.declared.value.Value.{Value}
 use Rattle.sqlite_value.specs.declared.value.Value.TheVariants.{Null, Int}
 use Rattle.sqlite_value.specs.declared.keys.Key.{Key}
 use Rattle.sqlite_value.specs.Order.{Row, column}
-use Rattle.sqlite_schema.specs.declared.schema.Table.{Table}
-use Rattle.sqlite_schema.specs.declared.schema.Index.{Index}
-use Rattle.sqlite_schema.specs.declared.schema.View.{View}
 use Rattle.sqlite_schema.specs.declared.command.Command.TheVariants.{Select}
 use Rattle.sqlite_sql.specs.Term.{Term, col, holds, eval_all}
 use Rattle.sqlite_sql.specs.Program.{overlay}
 use Rattle.sqlite_rules.specs.Lists.{Has}
 use Rattle.sqlite_rules.proofs.ProbeLemmas.{mapped_has}
 use Rattle.sqlite.specs.Values.{bound_value}
-use Rattle.sqlite.specs.Listing.{understood, reads_listing}
+use Rattle.sqlite.specs.Listing.{understood}
 use Rattle.sqlite.specs.State.{State, Shown}
 use Rattle.sqlite.proofs.Callers.{IsPlain, reads_as, begins_as}
 use Rattle.sqlite_rules.proofs.ListLemmas.{has_left, has_right}
 use Rattle.tables.proofs.Answering.{plain_query, answer_has, answer_permutes, answer_ordered, output_of, overlay_is}
-use Rattle.tables.proofs.Statements.{IsRead, is_book, plain_in}
+use Rattle.tables.proofs.Known.{Known, known, place, stored_is}
+use Rattle.tables.proofs.Compiling.{IsRead}
 use Rattle.std.proofs.Common.{IsPermutation, IsSorted, filter, IfOk, OnOk, OnErr}
 use Rattle.std.proofs.lemmas.Bool.{cases_Bool}
 use Rattle.std.specs.declared.cmp.Ordering.{Ordering}
@@ -30,7 +28,7 @@ use Rattle.sqlite_trees.proofs.ListLemmas.{filter-map}
 use Rattle.sqlite_exec.proofs.RowsLemmas.{IsSorted-map}
 use Rattle.sqlite_sql.specs.Query.{output_cmp}
 use Rattle.sqlite.specs.State.{HasCleanDisk, Survives, IsUnchanged}
-use Rattle.tables.specs.Schema.{BookTable, IsBook, schema_before}
+use Rattle.tables.specs.Schema.{BookTable, IsTable}
 use Rattle.tables.specs.Rows.{cells, cells_from, begins_with, columns_cmp, Finds, FindsInOrder, HasNoRecord}
 use Rattle.tables.specs.Records.{number_or_null}
 use Rattle.tables.specs.Calls.{Leaves, Read, ReadAs}
@@ -65,20 +63,25 @@ map_same f g same [] = refl
 map_same f g same (x ∷ xs) = ap₂ ◌∷◌ (same x) (map_same f g same xs)
 
 module _ (kept : BookTable) (filters project : List Term) (order : List (Term × Key)) (text : List ℕ) (names : List (List ℕ))
-    (read : IsRead text (Select (record { lets = []; body = plain_query kept.tree filters project order }) names))
-    (unlisted : (rest : List Table) (indexes : List Index) (views : List View) → reads_listing (schema_before rest indexes views) text ≡ false)
+    (read : IsRead kept text (λ _ tree. Select (record { lets = []; body = plain_query tree filters project order }) names))
     (params : Row) (test : Row → Bool) (tests : (r : Row) → list_all (holds (params ∷ r ∷ [])) filters ≡ test (cells kept r))
     (shown : Row → Row) (shows : (r : Row) → eval_all project (params ∷ r ∷ []) ≡ shown r)
-    (old : State) (book : IsBook old.now.schema) where
+    (old : State) (there : IsTable kept old.now.schema) where
+  abbrev tree : ℕ
+  tree = there.tree
+
   abbrev stored : List Row
-  stored = old.now.trees kept.tree
+  stored = old.now.trees tree
+
+  facts : Known kept old.now.schema (place kept old.now.schema there).0 tree
+  facts = known kept old.now.schema there
 
   pub answered : (new : State) (rows : List Row) → Shown text params old new rows → IsPermutation (map shown (filter (λ r. test (cells kept r)) stored)) rows
   answered new rows h =
-      let answers = reads_as text params old new (schema_before book.rest old.now.schema.indexes old.now.schema.views) (is_book old.now.schema book) _ (read.is _ _ _) (read.plain _ _ _) (unlisted _ _ _) rows h in
-      let found = answer_permutes kept.tree filters project order (overlay old.now.trees []) params rows (answers.answer Null) in
-      let same : map (λ r. eval_all project (params ∷ r ∷ [])) (filter (λ r. list_all (holds (params ∷ r ∷ [])) filters) (overlay old.now.trees [] kept.tree)) ≡ map shown (filter (λ r. test (cells kept r)) stored) =
-      ap (λ l. map (λ r. eval_all project (params ∷ r ∷ [])) (filter (λ r. list_all (holds (params ∷ r ∷ [])) filters) l)) (overlay_is old.now.trees kept.tree)
+      let answers = reads_as text params old new old.now.schema refl _ (read.is _ _ _ facts) (read.plain _ _ _ facts) (read.unlisted _ _ _ facts) rows h in
+      let found = answer_permutes tree filters project order (overlay old.now.trees []) params rows (answers.answer Null) in
+      let same : map (λ r. eval_all project (params ∷ r ∷ [])) (filter (λ r. list_all (holds (params ∷ r ∷ [])) filters) (overlay old.now.trees [] tree)) ≡ map shown (filter (λ r. test (cells kept r)) stored) =
+      ap (λ l. map (λ r. eval_all project (params ∷ r ∷ [])) (filter (λ r. list_all (holds (params ∷ r ∷ [])) filters) l)) (overlay_is old.now.trees tree)
       ∙ map_same (λ r. eval_all project (params ∷ r ∷ [])) shown shows _ ∙ ap (map shown) (filter_same _ _ tests stored) in
       subst (λ l. IsPermutation l rows) same found
 
@@ -86,29 +89,29 @@ module _ (kept : BookTable) (filters project : List Term) (order : List (Term ×
   pub shows_invalid : (IsRecord : Row → Type 0) → HasInvalid IsRecord text params old → (r : Row) × Has stored r × (test (cells kept r) ≡ true) × ¬ IsRecord (shown r)
   shows_invalid IsRecord h =
       let given = h.0 ++ h.1 ∷ [] in
-      let first = begins_as text params old old (schema_before book.rest old.now.schema.indexes old.now.schema.views) (is_book old.now.schema book) _ (read.is _ _ _) (read.plain _ _ _) (unlisted _ _ _) given h.2 in
+      let first = begins_as text params old old old.now.schema refl _ (read.is _ _ _ facts) (read.plain _ _ _ facts) (read.unlisted _ _ _ facts) given h.2 in
       let start = first.1 in
       let all = given ++ start.0 in
-      let r = answer_has kept.tree filters project order (overlay old.now.trees []) params all (start.1 Null) h.1 (has_left given start.0 h.1 (has_right h.0 (h.1 ∷ []) h.1 (inl refl))) in
-      (r.0, subst (λ l. Has l r.0) (overlay_is old.now.trees kept.tree) r.1, sym (tests r.0) ∙ r.2, subst (λ x. ¬ IsRecord x) (r.3 ∙ shows r.0) h.3)
+      let r = answer_has tree filters project order (overlay old.now.trees []) params all (start.1 Null) h.1 (has_left given start.0 h.1 (has_right h.0 (h.1 ∷ []) h.1 (inl refl))) in
+      (r.0, subst (λ l. Has l r.0) (overlay_is old.now.trees tree) r.1, sym (tests r.0) ∙ r.2, subst (λ x. ¬ IsRecord x) (r.3 ∙ shows r.0) h.3)
 
 module _ (kept : BookTable) (filters : List Term) (text : List ℕ) (names : List (List ℕ))
-    (read : IsRead text (Select (record { lets = []; body = plain_query kept.tree filters (projected (length kept.columns) 1) [] }) names))
-    (unlisted : (rest : List Table) (indexes : List Index) (views : List View) → reads_listing (schema_before rest indexes views) text ≡ false)
+    (read : IsRead kept text (λ _ tree. Select (record { lets = []; body = plain_query tree filters (projected (length kept.columns) 1) [] }) names))
     (params : Row) (test : Row → Bool) (tests : (r : Row) → list_all (holds (params ∷ r ∷ [])) filters ≡ test (cells kept r))
-    (old : State) (book : IsBook old.now.schema) where
+    (old : State) (there : IsTable kept old.now.schema) where
   shows : (r : Row) → eval_all (projected (length kept.columns) 1) (params ∷ r ∷ []) ≡ cells kept r
   shows = shown_cells (length kept.columns) 1 params
 
   pub reader : Reader text params kept test old
   reader = record {
-    plain = plain_in read old.now.schema book;
+    plain = read.plain _ _ _ (known kept old.now.schema there);
     found = λ new rows h.
-        subst (λ l. IsPermutation l rows) (sym (filter-map test (cells kept) (old.now.trees kept.tree)))
-        (answered kept filters (projected (length kept.columns) 1) [] text names read unlisted params test tests (cells kept) shows old book new rows h);
+        subst (λ l. IsPermutation (filter test (map (cells kept) l)) rows) (sym (stored_is kept old.now.schema there old.now refl))
+        (subst (λ l. IsPermutation l rows) (sym (filter-map test (cells kept) (old.now.trees there.tree)))
+        (answered kept filters (projected (length kept.columns) 1) [] text names read params test tests (cells kept) shows old there new rows h));
     invalid = λ IsRecord h.
-        let r = shows_invalid kept filters (projected (length kept.columns) 1) [] text names read unlisted params test tests (cells kept) shows old book IsRecord h in
-        (cells kept r.0, mapped_has (cells kept) (old.now.trees kept.tree) r.0 r.1, r.2, r.3);
+        let r = shows_invalid kept filters (projected (length kept.columns) 1) [] text names read params test tests (cells kept) shows old there IsRecord h in
+        (cells kept r.0, subst (λ l. Has (map (cells kept) l) (cells kept r.0)) (sym (stored_is kept old.now.schema there old.now refl)) (mapped_has (cells kept) (old.now.trees there.tree) r.0 r.1), r.2, r.3);
   }
 
 -- ---- the whole table in the order of its first columns
@@ -119,12 +122,11 @@ pub record OrderedReader (text : List ℕ) (kept : BookTable) (count : ℕ) (old
   pub invalid : (IsRecord : Row → Type 0) → HasInvalid IsRecord text [] old → HasNoRecord kept (begins_with []) IsRecord old.now
 
 module _ (kept : BookTable) (count : ℕ) (order : List (Term × Key)) (text : List ℕ) (names : List (List ℕ))
-    (read : IsRead text (Select (record { lets = []; body = plain_query kept.tree [] (projected (length kept.columns) 1) order }) names))
-    (unlisted : (rest : List Table) (indexes : List Index) (views : List View) → reads_listing (schema_before rest indexes views) text ≡ false)
-    (agrees : ◌≡◌ {A = Row → Row → Ordering}
-    (λ a b. output_cmp (plain_query kept.tree [] (projected (length kept.columns) 1) order) (output_of (plain_query kept.tree [] (projected (length kept.columns) 1) order) [] a) (output_of (plain_query kept.tree [] (projected (length kept.columns) 1) order) [] b))
+    (read : IsRead kept text (λ _ tree. Select (record { lets = []; body = plain_query tree [] (projected (length kept.columns) 1) order }) names))
+    (agrees : (tree : ℕ) → ◌≡◌ {A = Row → Row → Ordering}
+    (λ a b. output_cmp (plain_query tree [] (projected (length kept.columns) 1) order) (output_of (plain_query tree [] (projected (length kept.columns) 1) order) [] a) (output_of (plain_query tree [] (projected (length kept.columns) 1) order) [] b))
     (λ a b. columns_cmp count 0 (cells kept a) (cells kept b)))
-    (old : State) (book : IsBook old.now.schema) where
+    (old : State) (there : IsTable kept old.now.schema) where
   abbrev project : List Term
   project = projected (length kept.columns) 1
 
@@ -133,22 +135,24 @@ module _ (kept : BookTable) (count : ℕ) (order : List (Term × Key)) (text : L
 
   sorted : (new : State) (rows : List Row) → Shown text [] old new rows → IsSorted (columns_cmp count 0) rows
   sorted new rows h =
-      let answers = reads_as text [] old new (schema_before book.rest old.now.schema.indexes old.now.schema.views) (is_book old.now.schema book) _ (read.is _ _ _) (read.plain _ _ _) (unlisted _ _ _) rows h in
-      let found = answer_ordered kept.tree [] project order (overlay old.now.trees []) [] rows (answers.answer Null) in
-      let up = subst (λ cmp. IsSorted cmp found.0) agrees found.2 in
+      let facts = known kept old.now.schema there in
+      let answers = reads_as text [] old new old.now.schema refl _ (read.is _ _ _ facts) (read.plain _ _ _ facts) (read.unlisted _ _ _ facts) rows h in
+      let found = answer_ordered there.tree [] project order (overlay old.now.trees []) [] rows (answers.answer Null) in
+      let up = subst (λ cmp. IsSorted cmp found.0) (agrees there.tree) found.2 in
       subst (IsSorted (columns_cmp count 0)) (sym (found.1 ∙ map_same (λ r. eval_all project ([] ∷ r ∷ [])) (cells kept) each found.0)) (IsSorted-map (columns_cmp count 0) (cells kept) found.0 up)
 
   pub ordered_reader : OrderedReader text kept count old
   ordered_reader = record {
-    plain = plain_in read old.now.schema book;
+    plain = read.plain _ _ _ (known kept old.now.schema there);
     found = λ new rows h. (
-      subst (λ l. IsPermutation l rows) (sym (filter-map (begins_with []) (cells kept) (old.now.trees kept.tree)))
-          (answered kept [] project order text names read unlisted [] (begins_with []) (λ _. refl) (cells kept) each old book new rows h),
+      subst (λ l. IsPermutation (filter (begins_with []) (map (cells kept) l)) rows) (sym (stored_is kept old.now.schema there old.now refl))
+          (subst (λ l. IsPermutation l rows) (sym (filter-map (begins_with []) (cells kept) (old.now.trees there.tree)))
+          (answered kept [] project order text names read [] (begins_with []) (λ _. refl) (cells kept) each old there new rows h)),
       sorted new rows h,
     );
     invalid = λ IsRecord h.
-        let r = shows_invalid kept [] project order text names read unlisted [] (begins_with []) (λ _. refl) (cells kept) each old book IsRecord h in
-        (cells kept r.0, mapped_has (cells kept) (old.now.trees kept.tree) r.0 r.1, r.2, r.3);
+        let r = shows_invalid kept [] project order text names read [] (begins_with []) (λ _. refl) (cells kept) each old there IsRecord h in
+        (cells kept r.0, subst (λ l. Has (map (cells kept) l) (cells kept r.0)) (sym (stored_is kept old.now.schema there old.now refl)) (mapped_has (cells kept) (old.now.trees there.tree) r.0 r.1), r.2, r.3);
   }
 
 -- ---- from the clauses of `read_all` to those of a function

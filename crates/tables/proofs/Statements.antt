@@ -1,52 +1,30 @@
 -- From a text to what the statement makes of the tables.
-use Rattle.std.proofs.Common.{append-nil, arith, ◌≡◌, inl, inr, ℕ, ◌/◌, List, [], ◌∷◌, slice_get, false, Some, None, Ok, Err, Result, refl, sym, ap, subst, ◌∙◌, length}
+use Rattle.std.proofs.Common.{append-nil, arith, ◌≡◌, inl, inr, ℕ, List, false, None, Ok, Err, Result, refl, sym, ap, subst, ◌∙◌}
 use Rattle.std.proofs.lemmas.Bool.{cases_Bool}
-use Rattle.std.specs.List.{AllByRecursion}
-use Rattle.sqlite_value.specs.declared.value.Value.{Value}
-use Rattle.sqlite_value.specs.declared.value.Value.TheVariants.{Null}
 use Rattle.sqlite_value.specs.Order.{Row}
 use Rattle.sqlite_trees.specs.Tree.{Trees}
-use Rattle.sqlite_schema.specs.declared.schema.Table.{Table}
-use Rattle.sqlite_schema.specs.declared.schema.Index.{Index}
-use Rattle.sqlite_schema.specs.declared.schema.View.{View}
 use Rattle.sqlite_schema.specs.declared.schema.Schema.{Schema}
-use Rattle.sqlite_schema.specs.declared.command.Source.TheVariants.{Values}
 use Rattle.sqlite_schema.specs.declared.command.Command.{Command}
-use Rattle.sqlite_schema.specs.declared.command.Command.TheVariants.{Insert, Commit, Release}
-use Rattle.sqlite_sql.specs.Term.{Term}
-use Rattle.sqlite_rules.specs.Cast.{cast_row}
+use Rattle.sqlite_schema.specs.declared.command.Command.TheVariants.{Commit, Release}
 use Rattle.sqlite.specs.declared.error.Error.{Error}
 use Rattle.sqlite.specs.declared.error.Error.TheVariants.{SqliteFailure}
 use Rattle.sqlite.specs.declared.error.ErrorCode.TheVariants.{OutOfMemory}
-use Rattle.sqlite.specs.Effect.{Database, value_rows}
+use Rattle.sqlite.specs.Effect.{Database, IsDatabase}
 use Rattle.sqlite.specs.Does.{Tally, Does}
 use Rattle.sqlite.specs.Listing.{understood}
 use Rattle.sqlite.specs.State.{State, Writes, Runs, Executes, ExecutesIn, CommitsBy, IsNotRun, MayCommit, Survives, shows_rows, text_of, HasCleanDisk}
 use Rattle.sqlite.proofs.StateLemmas.{survives_weaker}
 use Rattle.tables.proofs.Survival.{later}
 use Rattle.sqlite.proofs.Callers.{IsPlain, command_of, statement_of, runs_as}
-use Rattle.tables.proofs.Inserting.{inserted, plain_mode}
-use Rattle.tables.specs.Schema.{BookTable, table_of, IsBook, HasNoReference, tables_before, schema_before}
-use Rattle.tables.specs.Rows.{cells, Inserts}
+use Rattle.tables.proofs.Inserting.{plain_mode}
+use Rattle.tables.specs.Schema.{BookTable, IsTable}
+use Rattle.tables.proofs.Known.{place, known}
+use Rattle.tables.proofs.Compiling.{IsRead}
 use Rattle.tables.specs.Calls.{Ran, MayLeave, Leaves}
 use Rattle.tables.specs.Texts.{Performs}
 use Rattle.tables.specs.Faults.{fault_of}
 use Rattle.tables.specs.declared.table_fault.TableFault.{TableFault}
 use Rattle.tables.specs.declared.table_fault.TableFault.TheVariants.{NotARecord}
-
--- what a text is read as, in each schema that has the book's tables
-pub record IsRead (text : List ℕ) (command : Command) : Type 0 where
-  pub is : (rest : List Table) (indexes : List Index) (views : List View) → command_of (understood (schema_before rest indexes views) text) ≡ command
-  pub plain : (rest : List Table) (indexes : List Index) (views : List View) → IsPlain (understood (schema_before rest indexes views) text)
-
-pub is_book : (schema : Schema) (book : IsBook schema) → schema ≡ schema_before book.rest schema.indexes schema.views
-is_book schema book = ap (λ ts. let s : Schema = record schema { tables = ts } in s) book.first
-
-pub are_free : (schema : Schema) → IsBook schema → AllByRecursion HasNoReference schema.tables
-are_free schema book = subst (AllByRecursion HasNoReference) (sym book.first) (refl, (refl, (refl, (refl, (refl, (refl, (refl, (refl, (refl, book.free)))))))))
-
-pub plain_in : {text : List ℕ} {command : Command} → IsRead text command → (schema : Schema) → IsBook schema → IsPlain (understood schema text)
-plain_in {text} {command} read schema book = subst (λ s. IsPlain (understood s text)) (sym (is_book schema book)) (read.plain _ _ _)
 
 pub failed : (text : List ℕ) (params : Row) (old new : State) (e : Error) → Executes text params old new (Err e) → Leaves old new
 unfolding ExecutesIn IsNotRun
@@ -68,16 +46,16 @@ pub record Writer (text : List ℕ) (params : Row) (Is : Database → Database �
 
 module _ (text : List ℕ) (params : Row) (command : Command) (schema : Schema) (is : command_of (understood schema text) ≡ command) (plain : IsPlain (understood schema text))
     (Is : Database → Database → Type 0) (old : State) (has : old.now.schema ≡ schema)
-    (does : (t : List ℕ) → t ≡ statement_of text (understood schema text) → (tally : Tally) (after : Database) → Does old.step_limit plain_mode params old.now t None command (Ok (tally, after)) → Is old.now after)
+    (does : (t : List ℕ) → t ≡ statement_of text (understood schema text) → (tally : Tally) (after : Database) → IsDatabase after → Does old.step_limit plain_mode params old.now t None command (Ok (tally, after)) → Is old.now after)
     (writes : (new : State) (t : List ℕ) (count : ℕ) → Runs old new None command t params count → Writes old new None command t params count)
     (not_commit : command ≡ Commit → ⊥) (not_release : (name : List ℕ) → command ≡ Release name → ⊥) where
   ran : {A : Type 0} (new : State) (result : Result A TableFault) → Performs text params old new result → Ran Is old new result
   ran new (Err f) h _ = (failed text params old new h.0 h.2, λ e. some_fault h.0 (sym h.1 ∙ e))
   ran new (Ok a) h _ =
       let w = writes new _ h.0 (runs_as text params old new schema has command is plain h.0 h.1) in
-      (does _ refl w.tally new.now w.changed, record { shown = w.shown; marks = w.marks })
+      (does _ refl w.tally new.now w.sound w.changed, record { shown = w.shown; marks = w.marks })
 
-  committed : (db : Trees) → CommitsBy text params old db → (old.in_transaction ≡ false) × (after : Database) × Is old.now after × (db ≡ after.trees)
+  pub committed : (db : Trees) → CommitsBy text params old db → (old.in_transaction ≡ false) × (after : Database) × Is old.now after × (db ≡ after.trees)
   unfolding CommitsBy
   committed db h =
       let known = sym h.1.is ∙ ap (λ s. understood s text) has in
@@ -85,33 +63,21 @@ module _ (text : List ℕ) (params : Row) (command : Command) (schema : Schema) 
       let may = subst (λ k. MayCommit old None k (text_of text h.0) params db) (ap command_of known ∙ is) (rw (bare.0, bare.1, append-nil params) at h.2) in
       elim may [
         | inl ends ↦ elim ends.0 [ inl commit ↦ absurd (not_commit commit) | inr release ↦ absurd (not_release release.0 release.2) ]
-        | inr w ↦ (w.0, w.2, does _ (ap (statement_of text) known) w.1 w.2 w.3, w.5)
+        | inr w ↦ (w.0, w.2, does _ (ap (statement_of text) known) w.1 w.2 w.4 w.3, w.5)
       ]
 
   pub writer : Writer text params Is old
   writer = record { ran = ran; left = λ new s. survives_weaker old new _ _ (λ _ db h. committed db h) s }
 
--- the same over a book, of a command that changes rows
-module _ (text : List ℕ) (params : Row) (command : Command) (read : IsRead text command) (Is : Database → Database → Type 0) (old : State) (book : IsBook old.now.schema)
-    (does : (t : List ℕ) (tally : Tally) (after : Database) → Does old.step_limit plain_mode params old.now t None command (Ok (tally, after)) → Is old.now after)
-    (writes : (new : State) (t : List ℕ) (count : ℕ) → Runs old new None command t params count → Writes old new None command t params count)
-    (not_commit : command ≡ Commit → ⊥) (not_release : (name : List ℕ) → command ≡ Release name → ⊥) where
-  pub book_writer : Writer text params Is old
-  book_writer =
-      writer text params command _ (read.is book.rest old.now.schema.indexes old.now.schema.views) (read.plain _ _ _) Is old (is_book old.now.schema book)
-      (λ t _. does t) writes not_commit not_release
-
-module _ (kept : BookTable) (terms : List Term) (width : ℕ) (text : List ℕ) (read : IsRead text (Insert kept.place (Values terms width)))
-    (listed : (rest : List Table) → slice_get (tables_before rest) kept.place ≡ Some (table_of kept))
-    (params x : Row) (shape : (v : Value) → cells kept (v ∷ x) ≡ x) (one : value_rows params width (length terms / width) terms ≡ (Null ∷ x) ∷ []) (cast_is : cast_row (table_of kept) (Null ∷ x) ≡ Null ∷ x)
-    (old : State) (book : IsBook old.now.schema) where
-  does : (t : List ℕ) (tally : Tally) (after : Database) → Does old.step_limit plain_mode params old.now t None (Insert kept.place (Values terms width)) (Ok (tally, after)) → Inserts kept x old.now after
-  does t tally after h =
-      inserted kept old.step_limit old.now after t params tally terms width
-      (ap (λ ts. slice_get ts kept.place) book.first ∙ listed book.rest) (are_free old.now.schema book) h x (Null ∷ x) shape one cast_is
-
-  pub insert_writer : Writer text params (Inserts kept x) old
-  insert_writer = book_writer text params (Insert kept.place (Values terms width)) read (Inserts kept x) old book does (λ _ _ _ h. h) (λ e. cc) (λ n e. cc)
+-- the same of a command that changes rows of a table that is there
+module _ (kept : BookTable) (text : List ℕ) (params : Row) (command : ℕ → ℕ → Command) (read : IsRead kept text command) (Is : Database → Database → Type 0) (old : State) (there : IsTable kept old.now.schema)
+    (does : (t : List ℕ) (tally : Tally) (after : Database) → IsDatabase after → Does old.step_limit plain_mode params old.now t None (command (place kept old.now.schema there).0 there.tree) (Ok (tally, after)) → Is old.now after)
+    (writes : (new : State) (t : List ℕ) (count : ℕ) → Runs old new None (command (place kept old.now.schema there).0 there.tree) t params count → Writes old new None (command (place kept old.now.schema there).0 there.tree) t params count)
+    (not_commit : command (place kept old.now.schema there).0 there.tree ≡ Commit → ⊥) (not_release : (name : List ℕ) → command (place kept old.now.schema there).0 there.tree ≡ Release name → ⊥) where
+  pub table_writer : Writer text params Is old
+  table_writer =
+      let facts = known kept old.now.schema there in
+      writer text params (command (place kept old.now.schema there).0 there.tree) old.now.schema (read.is _ _ _ facts) (read.plain _ _ _ facts) Is old refl (λ t _ tally after sound. does t tally after sound) writes not_commit not_release
 
 -- ---- from the clauses of `run` to those of a function
 
@@ -122,3 +88,19 @@ module _ {text : List ℕ} {params : Row} {Is : Database → Database → Type 0
 
   pub left_by : MayLeave Is old new
   left_by = later old new _ _ survives (λ clean. (writer (owed (omega (arith, survives.clean)))).left new survives)
+
+-- the same where two facts are owed, and where none is
+module _ {text : List ℕ} {params : Row} {Is : Database → Database → Type 0} {B C : Type 0} (old new : State) (owed : HasCleanDisk old → B) (also : HasCleanDisk old → C) (writer : B → C → Writer text params Is old)
+    (survives : Survives old new (CommitsBy text params old)) where
+  pub ran_by_both : {A : Type 0} (result : Result A TableFault) → (HasCleanDisk new → Performs text params old new result) → Ran Is old new result
+  ran_by_both = ran_by old new (λ clean. (owed clean, also clean)) (λ (both : B × C). writer both.0 both.1) survives
+
+  pub left_by_both : MayLeave Is old new
+  left_by_both = left_by old new (λ clean. (owed clean, also clean)) (λ (both : B × C). writer both.0 both.1) survives
+
+module _ {text : List ℕ} {params : Row} {Is : Database → Database → Type 0} (old new : State) (writer : Writer text params Is old) (survives : Survives old new (CommitsBy text params old)) where
+  pub ran_at : {A : Type 0} (result : Result A TableFault) → (HasCleanDisk new → Performs text params old new result) → Ran Is old new result
+  ran_at = ran_by {B = Unit {0}} old new (λ _. tt) (λ _. writer) survives
+
+  pub left_at : MayLeave Is old new
+  left_at = left_by {B = Unit {0}} old new (λ _. tt) (λ _. writer) survives

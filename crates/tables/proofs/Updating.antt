@@ -1,5 +1,5 @@
 -- UPDATE of the rows with a key.
-use Rattle.std.proofs.Common.{◌≡◌, ◌⊎◌, inl, inr, ℕ, ℤ, List, [], ◌∷◌, map, drop, slice_get, Bool, true, false, Some, None, Ok, Option, sym, ap, subst, ◌∙◌, Equal}
+use Rattle.std.proofs.Common.{◌≡◌, ◌⊎◌, inl, inr, ℕ, ℤ, List, [], ◌∷◌, map, drop, slice_get, Bool, true, false, Some, None, Ok, Option, refl, sym, ap, subst, ◌∙◌, Equal}
 use Rattle.std.specs.Ordering.{is_eq}
 use Rattle.std.specs.List.{list_all, AllByRecursion}
 use Rattle.std.proofs.lemmas.Bool.{cases_Bool}
@@ -12,7 +12,6 @@ use Rattle.sqlite_trees.specs.Tree.{rowid, has_rowid}
 use Rattle.sqlite_trees.specs.View.{is_int}
 use Rattle.sqlite_schema.specs.declared.schema.Table.{Table}
 use Rattle.sqlite_schema.specs.declared.schema.Keys.TheVariants.{Enforced}
-use Rattle.sqlite_schema.specs.declared.command.Command.{Command}
 use Rattle.sqlite_schema.specs.declared.command.Command.TheVariants.{Update}
 use Rattle.sqlite_sql.specs.Term.{Term, col, holds, eval_all}
 use Rattle.sqlite_sql.specs.Program.{overlay}
@@ -20,7 +19,7 @@ use Rattle.sqlite_rules.specs.declared.error.Rowids.TheVariants.{Given}
 use Rattle.sqlite_rules.specs.Lists.{Has}
 use Rattle.sqlite_rules.specs.Calls.{ids_of}
 use Rattle.sqlite_rules.specs.Cast.{cast_row}
-use Rattle.sqlite_rules.specs.Edit.{edit_of, id_in, without_all, put_all, are_fresh, Applies}
+use Rattle.sqlite_rules.specs.Edit.{edit_of, id_in, without_all, put_all, are_fresh, taken_by, Applies}
 use Rattle.sqlite_rules.proofs.TableLemmas.{int_is, put_all_has, put_all_keeps, put_all_adds}
 use Rattle.sqlite_rules.proofs.PlaceLemmas.{given}
 use Rattle.sqlite_rules.proofs.ProbeLemmas.{has_mapped, mapped_has}
@@ -29,19 +28,21 @@ use Rattle.sqlite.specs.Rows.{Written}
 use Rattle.sqlite.specs.Does.{Tally, Does}
 use Rattle.sqlite.specs.State.{State}
 use Rattle.tables.proofs.Answering.{plain_query, answer_has, answer_all, overlay_is}
-use Rattle.tables.proofs.Inserting.{applied, plain_mode, went, same_value}
+use Rattle.tables.proofs.Known.{place, stored_is}
+use Rattle.tables.proofs.Compiling.{IsRead}
+use Rattle.tables.proofs.Inserting.{applied, no_work_of, ChangesRows, changes_by, plain_mode, went, same_value}
 use Rattle.tables.proofs.Deleting.{Lacks, left_from, left_has, equal_is}
-use Rattle.tables.proofs.Statements.{IsRead, Writer, are_free, book_writer}
-use Rattle.tables.specs.Schema.{BookTable, table_of, HasNoReference, IsBook, tables_before}
-use Rattle.tables.specs.Rows.{cells, rows_of, IsStored, Updates}
+use Rattle.tables.proofs.Statements.{Writer, table_writer}
+use Rattle.tables.specs.Schema.{BookTable, IsTable, IsUnreferenced, table_of}
+use Rattle.tables.specs.Rows.{cells, rows_of, AreNumbered, Changes, Updates}
 
-module _ (kept : BookTable) (db : Database) (stored : IsStored kept db) (test : Row → Bool) (ids : List ℤ)
-    (all : (r : Row) → Has (db.trees kept.tree) r → test (cells kept r) ≡ true → Has ids (id_in (rowid r)))
-    (has : (id : ℤ) → Has ids id → (r : Row) × Has (db.trees kept.tree) r × (test (cells kept r) ≡ true) × (id ≡ id_in (rowid r))) where
-  own_number : (r : Row) → Has (db.trees kept.tree) r → rowid r ≡ Int (id_in (rowid r))
+module _ (kept : BookTable) (rows : List Row) (stored : AreNumbered rows) (test : Row → Bool) (ids : List ℤ)
+    (all : (r : Row) → Has rows r → test (cells kept r) ≡ true → Has ids (id_in (rowid r)))
+    (has : (id : ℤ) → Has ids id → (r : Row) × Has rows r × (test (cells kept r) ≡ true) × (id ≡ id_in (rowid r))) where
+  own_number : (r : Row) → Has rows r → rowid r ≡ Int (id_in (rowid r))
   own_number r h = int_is (rowid r) (stored.numbered r h)
 
-  lacks_fails : (r : Row) → Has (db.trees kept.tree) r → Lacks ids r → test (cells kept r) ≡ false
+  lacks_fails : (r : Row) → Has rows r → Lacks ids r → test (cells kept r) ≡ false
   lacks_fails r h lacks = elim (cases_Bool (test (cells kept r))) [
     | inl passes ↦ absurd (
         let no = lacks _ (all r h passes) in
@@ -50,7 +51,7 @@ module _ (kept : BookTable) (db : Database) (stored : IsStored kept db) (test : 
     | inr fails ↦ fails
   ]
 
-  fails_lacks : (r : Row) → Has (db.trees kept.tree) r → test (cells kept r) ≡ false → Lacks ids r
+  fails_lacks : (r : Row) → Has rows r → test (cells kept r) ≡ false → Lacks ids r
   fails_lacks r h fails id k = elim (cases_Bool (has_rowid id r)) [
     | inl tied ↦ absurd (
         let q = has id k in
@@ -62,17 +63,22 @@ module _ (kept : BookTable) (db : Database) (stored : IsStored kept db) (test : 
   ]
 
 module _ (kept : BookTable) (limit : Option ℕ) (old after : Database) (text : List ℕ) (params : Row) (tally : Tally) (filter terms : List Term)
-    (is : slice_get old.schema.tables kept.place ≡ Some (table_of kept))
-    (free : AllByRecursion HasNoReference old.schema.tables)
-    (does : Does limit plain_mode params old text None (Update kept.place (record { lets = []; body = plain_query kept.tree filter (col 1 0 ∷ terms) [] })) (Ok (tally, after)))
-    (test : Row → Bool) (tests : (r : Row) → list_all (holds (params ∷ r ∷ [])) filter ≡ test (cells kept r)) (stored : IsStored kept old)
-    (new : Row → Row) (writes : (r : Row) → is_int (rowid r) ≡ true → cast_row (table_of kept) (eval_all terms (params ∷ r ∷ [])) ≡ rowid r ∷ new (cells kept r))
+    (there : IsTable kept old.schema) (free : IsUnreferenced kept old.schema)
+    (does : Does limit plain_mode params old text None (Update (place kept old.schema there).0 (record { lets = []; body = plain_query there.tree filter (col 1 0 ∷ terms) [] })) (Ok (tally, after)))
+    (test : Row → Bool) (tests : (r : Row) → list_all (holds (params ∷ r ∷ [])) filter ≡ test (cells kept r)) (stored : AreNumbered (old.trees there.tree))
+    (new : Row → Row) (writes : (r : Row) → is_int (rowid r) ≡ true → cast_row (table_of kept there.tree) (eval_all terms (params ∷ r ∷ [])) ≡ rowid r ∷ new (cells kept r))
     (shape : (v : Value) (x : Row) → cells kept (v ∷ new x) ≡ new x) where
+  abbrev tree : ℕ
+  tree = there.tree
+
   abbrev table : Table
-  table = table_of kept
+  table = table_of kept tree
 
   abbrev rows : List Row
-  rows = old.trees kept.tree
+  rows = old.trees tree
+
+  is : slice_get old.schema.tables (place kept old.schema there).0 ≡ Some table
+  is = (place kept old.schema there).2
 
   abbrev written : Row → Row
   written r = rowid r ∷ new (cells kept r)
@@ -82,8 +88,8 @@ module _ (kept : BookTable) (limit : Option ℕ) (old after : Database) (text : 
     pub news : List Row
     pub schema : after.schema ≡ old.schema
     pub fresh : are_fresh (without_all rows ids) news ≡ true
-    pub rows_are : after.trees kept.tree ≡ put_all (without_all rows ids) news
-    pub others : AllByRecursion (λ t. (t.tree ≡ kept.tree → ⊥) → after.trees t.tree ≡ old.trees t.tree) old.schema.tables
+    pub rows_are : after.trees tree ≡ put_all (without_all rows ids) news
+    pub others : AllByRecursion (λ t. (t.tree ≡ tree → ⊥) → after.trees t.tree ≡ old.trees t.tree) old.schema.tables
     pub all : (r : Row) → Has rows r → test (cells kept r) ≡ true → Has ids (id_in (rowid r))
     pub has : (id : ℤ) → Has ids id → (r : Row) × Has rows r × (test (cells kept r) ≡ true) × (id ≡ id_in (rowid r))
     pub news_all : (r : Row) → Has rows r → test (cells kept r) ≡ true → Has news (written r)
@@ -98,13 +104,13 @@ module _ (kept : BookTable) (limit : Option ℕ) (old after : Database) (text : 
       let wrote = went asked.2 in
       let trees : done.0.trees ≡ wrote.0 = ap (λ (it : Written). it.trees) (same_value wrote.2) in
       let edit = edit_of old.trees table (ids_of asked.0) Given 1 asked.0 in
-      let step = subst (Applies old.schema Enforced old.trees edit) (sym (ap (λ (d : Database). d.trees) now ∙ trees)) (applied old.schema old.trees wrote.0 edit free wrote.1) in
+      let step = subst (Applies old.schema Enforced old.trees edit) (sym (ap (λ (d : Database). d.trees) now ∙ trees)) (applied old.schema old.trees wrote.0 edit (no_work_of kept old.schema there free (taken_by old.trees edit) edit.news) wrote.1) in
       let a = asked.1.answer Null in
-      let over = overlay_is old.trees kept.tree in
+      let over = overlay_is old.trees tree in
       let cast_one = λ (s : Row). cast_row table (drop 1 s) in
       let news_are : edit.news ≡ map cast_one asked.0 = given (without_all rows (ids_of asked.0)) (map cast_one asked.0) in
-      let found = λ (r : Row) (h : Has rows r) (passes : test (cells kept r) ≡ true). answer_all kept.tree filter (col 1 0 ∷ terms) [] (overlay old.trees []) params asked.0 a r (subst (λ l. Has l r) (sym over) h) (tests r ∙ passes) in
-      let from = λ (s : Row) (k : Has asked.0 s). answer_has kept.tree filter (col 1 0 ∷ terms) [] (overlay old.trees []) params asked.0 a s k in
+      let found = λ (r : Row) (h : Has rows r) (passes : test (cells kept r) ≡ true). answer_all tree filter (col 1 0 ∷ terms) [] (overlay old.trees []) params asked.0 a r (subst (λ l. Has l r) (sym over) h) (tests r ∙ passes) in
+      let from = λ (s : Row) (k : Has asked.0 s). answer_has tree filter (col 1 0 ∷ terms) [] (overlay old.trees []) params asked.0 a s k in
       record {
         ids = ids_of asked.0;
         news = map cast_one asked.0;
@@ -125,34 +131,32 @@ module _ (kept : BookTable) (limit : Option ℕ) (old after : Database) (text : 
             (r.0, there, sym (tests r.0) ∙ r.2, q.2 ∙ ap cast_one r.3 ∙ writes r.0 (stored.numbered r.0 there));
       }
 
-  either_row : (x : Row) → Has (after.trees kept.tree) x
+  either_row : (x : Row) → Has (after.trees tree) x
       → ((r : Row) × Has rows r × (test (cells kept r) ≡ true) × (x ≡ written r)) ⊎ (Has rows x × (test (cells kept x) ≡ false))
   either_row x h = elim (put_all_has updated.news (without_all rows updated.ids) x (subst (λ l. Has l x) updated.rows_are h)) [
     | inl new ↦ inl (updated.news_has x new)
-    | inr was ↦ let l = left_from updated.ids rows x was in inr (l.0, lacks_fails kept old stored test updated.ids updated.all updated.has x l.0 l.1)
+    | inr was ↦ let l = left_from updated.ids rows x was in inr (l.0, lacks_fails kept rows stored test updated.ids updated.all updated.has x l.0 l.1)
   ]
 
-  pub updates : Updates kept test new old after
-  updates stored = record {
-    schema = updated.schema;
+  turns : ChangesRows kept rows (after.trees tree) (λ x. ((was : Row) × Has (map (cells kept) rows) was × (test was ≡ true) × (x ≡ new was)) ⊎ (Has (map (cells kept) rows) x × (test x ≡ false)))
+  turns = record {
     has = λ x h.
-        let m = has_mapped (cells kept) (after.trees kept.tree) x h in
+        let m = has_mapped (cells kept) (after.trees tree) x h in
         elim (either_row m.0 m.1) [
           | inl n ↦ inl (cells kept n.0, mapped_has (cells kept) rows n.0 n.1, n.2, m.2 ∙ ap (cells kept) n.3 ∙ shape _ _)
-          | inr was ↦ inr (subst (Has (rows_of kept old)) (sym m.2) (mapped_has (cells kept) rows m.0 was.0), ap test m.2 ∙ was.1)
+          | inr was ↦ inr (subst (Has (map (cells kept) rows)) (sym m.2) (mapped_has (cells kept) rows m.0 was.0), ap test m.2 ∙ was.1)
         ];
     all = λ x h. elim h [
       | inl n ↦
           let r = has_mapped (cells kept) rows n.0 n.1 in
           let there = put_all_adds updated.news (without_all rows updated.ids) (written r.0) updated.fresh (updated.news_all r.0 r.1 (ap test (sym r.2) ∙ n.2)) in
-          subst (Has (rows_of kept after)) (shape _ _ ∙ ap new (sym r.2) ∙ sym n.3) (mapped_has (cells kept) (after.trees kept.tree) (written r.0) (subst (λ l. Has l (written r.0)) (sym updated.rows_are) there))
+          subst (Has (map (cells kept) (after.trees tree))) (shape _ _ ∙ ap new (sym r.2) ∙ sym n.3) (mapped_has (cells kept) (after.trees tree) (written r.0) (subst (λ l. Has l (written r.0)) (sym updated.rows_are) there))
       | inr was ↦
           let r = has_mapped (cells kept) rows x was.0 in
-          let lacks = fails_lacks kept old stored test updated.ids updated.all updated.has r.0 r.1 (ap test (sym r.2) ∙ was.1) in
+          let lacks = fails_lacks kept rows stored test updated.ids updated.all updated.has r.0 r.1 (ap test (sym r.2) ∙ was.1) in
           let there = put_all_keeps updated.news (without_all rows updated.ids) r.0 updated.fresh (left_has updated.ids rows r.0 r.1 lacks) in
-          subst (Has (rows_of kept after)) (sym r.2) (mapped_has (cells kept) (after.trees kept.tree) r.0 (subst (λ l. Has l r.0) (sym updated.rows_are) there))
+          subst (Has (map (cells kept) (after.trees tree))) (sym r.2) (mapped_has (cells kept) (after.trees tree) r.0 (subst (λ l. Has l r.0) (sym updated.rows_are) there))
     ];
-    others = updated.others;
     stored = λ _. record {
       numbered = λ a h. elim (either_row a h) [ inl n ↦ rw n.3 (stored.numbered n.0 n.1) | inr was ↦ stored.numbered a was.0 ];
       apart = λ a b h k tie. elim (either_row a h) [
@@ -168,20 +172,16 @@ module _ (kept : BookTable) (limit : Option ℕ) (old after : Database) (text : 
     };
   }
 
+  pub updates : Changes kept old after (λ x. ((was : Row) × Has (rows_of kept old) was × (test was ≡ true) × (x ≡ new was)) ⊎ (Has (rows_of kept old) x × (test x ≡ false)))
+  updates = changes_by kept old after there updated.schema (λ rows x. ((was : Row) × Has (map (cells kept) rows) was × (test was ≡ true) × (x ≡ new was)) ⊎ (Has (map (cells kept) rows) x × (test x ≡ false))) turns updated.others
+
 module _ (kept : BookTable) (filter terms : List Term) (text : List ℕ)
-    (read : IsRead text (Update kept.place (record { lets = []; body = plain_query kept.tree filter (col 1 0 ∷ terms) [] })))
-    (listed : (rest : List Table) → slice_get (tables_before rest) kept.place ≡ Some (table_of kept))
+    (read : IsRead kept text (λ at tree. Update at (record { lets = []; body = plain_query tree filter (col 1 0 ∷ terms) [] })))
     (params : Row) (test : Row → Bool) (tests : (r : Row) → list_all (holds (params ∷ r ∷ [])) filter ≡ test (cells kept r))
-    (change : Row → Row) (writes : (r : Row) → is_int (rowid r) ≡ true → cast_row (table_of kept) (eval_all terms (params ∷ r ∷ [])) ≡ rowid r ∷ change (cells kept r))
+    (change : Row → Row) (writes : (tree : ℕ) (r : Row) → is_int (rowid r) ≡ true → cast_row (table_of kept tree) (eval_all terms (params ∷ r ∷ [])) ≡ rowid r ∷ change (cells kept r))
     (shape : (v : Value) (x : Row) → cells kept (v ∷ change x) ≡ change x)
-    (old : State) (book : IsBook old.now.schema) where
-  abbrev command : Command
-  command = Update kept.place (record { lets = []; body = plain_query kept.tree filter (col 1 0 ∷ terms) [] })
-
-  does : (t : List ℕ) (tally : Tally) (after : Database) → Does old.step_limit plain_mode params old.now t None command (Ok (tally, after)) → Updates kept test change old.now after
-  does t tally after h stored =
-      updates kept old.step_limit old.now after t params tally filter terms
-      (ap (λ ts. slice_get ts kept.place) book.first ∙ listed book.rest) (are_free old.now.schema book) h test tests stored change writes shape stored
-
+    (old : State) (there : IsTable kept old.now.schema) (free : IsUnreferenced kept old.now.schema) where
   pub update_writer : Writer text params (Updates kept test change) old
-  update_writer = book_writer text params command read (Updates kept test change) old book does (λ _ _ _ h. h) (λ e. cc) (λ n e. cc)
+  update_writer = table_writer kept text params (λ at tree. Update at (record { lets = []; body = plain_query tree filter (col 1 0 ∷ terms) [] })) read (Updates kept test change) old there
+      (λ t tally after _ h stored.
+      updates kept old.step_limit old.now after t params tally filter terms there free h test tests (subst AreNumbered (stored_is kept old.now.schema there old.now refl) stored) change (writes there.tree) shape) (λ _ _ _ h. h) (λ e. cc) (λ n e. cc)

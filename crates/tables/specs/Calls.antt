@@ -1,12 +1,12 @@
 -- What a call leaves of a connection.
-use Rattle.std.specs.Prelude.{◌≡◌, ◌≢◌, ◌⊎◌, if◌then◌else◌, Result, MatchResult, IsTrue, Bool, true, false, List, []}
+use Rattle.std.specs.Prelude.{◌≡◌, ◌≢◌, ◌⊎◌, if◌then◌else◌, Result, MatchResult, IsErr, IsTrue, Bool, true, false, List, []}
 use Rattle.sqlite_value.specs.Order.{Row}
 use Rattle.sqlite.specs.Effect.{Database}
 use Rattle.sqlite.specs.State.{State, Shows, IsUnchanged, IsRolledBack, Survives, HasCleanDisk}
 use Rattle.tables.specs.declared.table_fault.TableFault.{TableFault}
 use Rattle.tables.specs.declared.table_fault.TableFault.TheVariants.{NotARecord}
-use Rattle.tables.specs.Schema.{BookTable, IsBook, made}
-use Rattle.tables.specs.Rows.{IsStored, Finds, HasNoRecord, begins_with}
+use Rattle.tables.specs.Schema.{BookTable, IsBook, IsTable, IsUnreferenced}
+use Rattle.tables.specs.Rows.{IsStored, Finds, HasKeyOf, HasNoRecord, begins_with}
 
 -- All that is said of a database holds as long as the disk has returned what was written.
 
@@ -14,9 +14,13 @@ use Rattle.tables.specs.Rows.{IsStored, Finds, HasNoRecord, begins_with}
 abbrev pub HoldsBook : State → Type 0
 HoldsBook s = HasCleanDisk s → IsBook s.now.schema
 
--- just these tables are there
-abbrev pub HoldsMade : List BookTable → State → Type 0
-HoldsMade tables s = HasCleanDisk s → s.now.schema ≡ made tables
+-- this one is there
+abbrev pub HoldsTable : BookTable → State → Type 0
+HoldsTable table s = HasCleanDisk s → IsTable table s.now.schema
+
+-- no foreign key refers to it
+abbrev pub HoldsUnreferenced : BookTable → State → Type 0
+HoldsUnreferenced table s = HasCleanDisk s → IsUnreferenced table s.now.schema
 
 -- outside a transaction the change is committed; else it waits for the commit
 pub record Takes (old new : State) : Type 0 where
@@ -31,6 +35,10 @@ Leaves old new = IsUnchanged old new ⊎ IsRolledBack old new
 abbrev pub Ran : {A : Type 0} → (Database → Database → Type 0) → State → State → Result A TableFault → Type 0
 Ran Is old new result =
     HasCleanDisk new → MatchResult result (λ _. Is old.now new.now × Takes old new) (λ fault. Leaves old new × (fault ≢ NotARecord))
+
+-- a row whose key is held is refused, where each row is stored under a number of its own
+abbrev pub RefusesHeld : {A : Type 0} → BookTable → Row → State → State → Result A TableFault → Type 0
+RefusesHeld table row old new result = HasCleanDisk new → IsStored table old.now → HasKeyOf table row old.now → IsErr result
 
 -- a crash may leave what it could before, and outside a transaction the change
 abbrev pub MayLeave : (Database → Database → Type 0) → State → State → Type 0

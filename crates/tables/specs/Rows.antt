@@ -1,16 +1,19 @@
 -- The rows of one table, and what a change makes of them.
-use Rattle.std.specs.Prelude.{◌≡◌, ◌≢◌, ◌⊎◌, ◌&&◌, ◌+◌, Bool, true, false, ℕ, zero, suc, List, [], ◌∷◌, ◌++◌, map, filter, length, IsPermutation, IsSorted}
+use Rattle.std.specs.Prelude.{◌≡◌, ◌≢◌, ◌⊎◌, ◌&&◌, ◌+◌, ◌-◌, Bool, true, false, Option, None, Some, ℕ, zero, suc, List, [], ◌∷◌, map, filter, length, IsPermutation, IsSorted}
 use Rattle.std.specs.Ordering.{is_eq, ordering_then}
 use Rattle.std.specs.declared.cmp.Ordering.{Ordering}
 use Rattle.std.specs.declared.cmp.Ordering.TheVariants.{Equal}
 use Rattle.std.specs.List.{AllByRecursion}
 use Rattle.sqlite_value.specs.declared.value.Value.{Value}
 use Rattle.sqlite_value.specs.Order.{Row, column, value_cmp}
-use Rattle.sqlite_trees.specs.Tree.{rowid}
+use Rattle.sqlite_trees.specs.Tree.{Trees, rowid}
 use Rattle.sqlite_trees.specs.View.{is_int}
 use Rattle.sqlite_rules.specs.Lists.{Has}
 use Rattle.sqlite.specs.Effect.{Database}
-use Rattle.tables.specs.Schema.{BookTable, made, before}
+use Rattle.sqlite.specs.Does.{lacks_sequence}
+use Rattle.sqlite_schema.specs.declared.schema.Table.{Table}
+use Rattle.sqlite_catalog.specs.Change.{is_used, created}
+use Rattle.tables.specs.Schema.{BookTable, IsTable, IsUnreferenced, table_found, table_of}
 
 -- so many columns of a row from a place on
 abbrev pub cells_from : ℕ → ℕ → Row → Row
@@ -21,14 +24,26 @@ cells_from (suc count) at row = column row at ∷ cells_from count (suc at) row
 abbrev pub cells : BookTable → Row → Row
 cells table = cells_from (length table.columns) 1
 
+-- the rows in the tree of a table, if there is one
+abbrev pub kept_in : Trees → Option Table → List Row
+kept_in trees None = []
+kept_in trees (Some t) = trees t.tree
+
+-- the rows of a table as they are stored, which its name finds
+abbrev pub stored : BookTable → Database → List Row
+stored table db = kept_in db.trees (table_found db.schema table.name)
+
 -- the rows of a table
 abbrev pub rows_of : BookTable → Database → List Row
-rows_of table db = map (cells table) (db.trees table.tree)
+rows_of table db = map (cells table) (stored table db)
 
 -- each row is stored under a number of its own
-pub record IsStored (table : BookTable) (db : Database) : Type 0 where
-  pub numbered : (r : Row) → Has (db.trees table.tree) r → is_int (rowid r) ≡ true
-  pub apart : (a b : Row) → Has (db.trees table.tree) a → Has (db.trees table.tree) b → value_cmp (rowid a) (rowid b) ≡ Equal → a ≡ b
+pub record AreNumbered (rows : List Row) : Type 0 where
+  pub numbered : (r : Row) → Has rows r → is_int (rowid r) ≡ true
+  pub apart : (a b : Row) → Has rows a → Has rows b → value_cmp (rowid a) (rowid b) ≡ Equal → a ≡ b
+
+abbrev pub IsStored : BookTable → Database → Type 0
+IsStored table db = AreNumbered (stored table db)
 
 -- ---- which rows: a test, where values are compared as SQL compares them, and columns count from 0
 
@@ -43,6 +58,15 @@ begins_with = begins_from 0
 -- one column is this
 abbrev pub equals_at : ℕ → Value → Row → Bool
 equals_at at v row = is_eq (value_cmp (column row at) v)
+
+-- two rows have the same values at the columns of a key, as SQL compares them; a key counts columns from 1
+abbrev pub same_at : List ℕ → Row → Row → Bool
+same_at [] a b = true
+same_at (p ∷ ps) a b = is_eq (value_cmp (column a (p - 1)) (column b (p - 1))) && same_at ps a b
+
+-- some row of the table has a key of this row
+abbrev pub HasKeyOf : BookTable → Row → Database → Type 0
+HasKeyOf table row db = (x : Row) × (key : List ℕ) × Has (rows_of table db) x × Has table.keys key × (same_at key x row ≡ true)
 
 -- ---- what is found
 
@@ -65,12 +89,14 @@ HasNoRecord table test IsRecord db = (x : Row) × Has (rows_of table db) x × (t
 
 -- ---- what is changed
 
--- The table has just the rows that the fact holds of. The schema and each other table are as they were.
+-- The table has just the rows that the fact holds of. The schema and each other table are as they were, so those of the
+-- book too.
 pub record Changes (table : BookTable) (old new : Database) (Is : Row → Type 0) : Type 0 where
   pub schema : new.schema ≡ old.schema
   pub has : (x : Row) → Has (rows_of table new) x → Is x
   pub all : (x : Row) → Is x → Has (rows_of table new) x
-  pub others : AllByRecursion (λ t. t.tree ≢ table.tree → new.trees t.tree ≡ old.trees t.tree) old.schema.tables
+  pub others : AllByRecursion (λ t. t.name ≢ table.name → new.trees t.tree ≡ old.trees t.tree) old.schema.tables
+  pub keeps : (other : BookTable) → IsTable other old.schema → other.name ≢ table.name → stored other new ≡ stored other old
   pub stored : IsStored table old → IsStored table new
 
 -- this row is there, and those that were
@@ -87,8 +113,13 @@ Updates table test change old new =
     IsStored table old → Changes table old new (λ x.
     ((was : Row) × Has (rows_of table old) was × (test was ≡ true) × (x ≡ change was)) ⊎ (Has (rows_of table old) x × (test x ≡ false)))
 
--- where the tables before it alone were, the table is there too, with no row, and they keep their rows
+-- The table is there and has no row, and its name was free. Each other table keeps its rows, and a table of the book that
+-- was there still is. Nothing else is made, but for the table `sqlite_sequence` where an AUTOINCREMENT lacks it.
 pub record Makes (table : BookTable) (old new : Database) : Type 0 where
-  pub schema : new.schema ≡ made (before table ++ table ∷ [])
-  pub empty : new.trees table.tree ≡ []
+  pub free : is_used old.schema table.name ≡ false
+  pub schema : lacks_sequence old.schema ≡ false → new.schema ≡ created old.schema (table_of table 0)
+  pub there : IsTable table new.schema
+  pub empty : stored table new ≡ []
   pub others : AllByRecursion (λ t. new.trees t.tree ≡ old.trees t.tree) old.schema.tables
+  pub keeps : (other : BookTable) → IsTable other old.schema → IsTable other new.schema × (stored other new ≡ stored other old)
+  pub unreferenced : (other : BookTable) → IsUnreferenced other old.schema → IsUnreferenced other new.schema

@@ -1,5 +1,5 @@
 -- The tables of the book, as `sqlite` sees them once they are created.
-use Rattle.std.specs.Prelude.{◌≡◌, Bool, true, false, [], ◌∷◌, None, codes, List, ℕ, map, take, fold}
+use Rattle.std.specs.Prelude.{◌≡◌, ◌<◌, ◌^◌, Bool, true, false, [], ◌∷◌, Option, None, Some, codes, List, ℕ, map, find}
 use Rattle.std.specs.List.{AllByRecursion}
 use Rattle.sqlite_value.specs.declared.keys.Collation.TheVariants.{Binary}
 use Rattle.sqlite_value.specs.declared.value.Value.TheVariants.{Null}
@@ -9,9 +9,7 @@ use Rattle.sqlite_schema.specs.declared.schema.Kind.TheVariants.{Integer, Text}
 use Rattle.sqlite_schema.specs.declared.schema.Column.{Column}
 use Rattle.sqlite_schema.specs.declared.schema.Table.{Table}
 use Rattle.sqlite_schema.specs.declared.schema.Schema.{Schema}
-use Rattle.sqlite_schema.specs.declared.schema.Index.{Index}
-use Rattle.sqlite_schema.specs.declared.schema.View.{View}
-use Rattle.sqlite_catalog.specs.Change.{created}
+use Rattle.sqlite_schema.specs.Names.{same_name}
 
 abbrev pub strict_column : Bool → Kind → List ℕ → Column
 strict_column is_required kind name =
@@ -27,11 +25,8 @@ words = strict_column true Text
 abbrev pub number_if_any : List ℕ → Column
 number_if_any = strict_column false Integer
 
--- A table of the book: its place among the tables, the number of the tree that holds its rows, and what it is. Columns
--- count from 1 in a key; the first key is the primary one, but for `book`, which has none.
+-- A table of the book. Columns count from 1 in a key; the first key is the primary one, but for `book`, which has none.
 pub record BookTable : Type 0 where
-  pub place : ℕ
-  pub tree : ℕ
   pub name : List ℕ
   pub columns : List Column
   pub primary : List ℕ
@@ -39,8 +34,6 @@ pub record BookTable : Type 0 where
 
 abbrev pub book_table : BookTable
 book_table = record {
-  place = 0;
-  tree = 0;
   name = codes "book";
   columns = number (codes "one") ∷ number (codes "version") ∷ words (codes "zone") ∷ [];
   primary = [];
@@ -49,8 +42,6 @@ book_table = record {
 
 abbrev pub crew_table : BookTable
 crew_table = record {
-  place = 1;
-  tree = 2;
   name = codes "crew";
   columns = words (codes "id") ∷ number (codes "seat") ∷ words (codes "name") ∷ [];
   primary = 1 ∷ [];
@@ -59,8 +50,6 @@ crew_table = record {
 
 abbrev pub pairing_table : BookTable
 pairing_table = record {
-  place = 2;
-  tree = 4;
   name = codes "pairing";
   columns = words (codes "id") ∷ [];
   primary = 1 ∷ [];
@@ -69,8 +58,6 @@ pairing_table = record {
 
 abbrev pub period_table : BookTable
 period_table = record {
-  place = 3;
-  tree = 6;
   name = codes "period";
   columns =
       words (codes "pairing") ∷ number (codes "number") ∷ number (codes "report_at") ∷ number (codes "release_at")
@@ -81,8 +68,6 @@ period_table = record {
 
 abbrev pub segment_table : BookTable
 segment_table = record {
-  place = 4;
-  tree = 8;
   name = codes "segment";
   columns =
       words (codes "pairing") ∷ number (codes "period") ∷ number (codes "number") ∷ words (codes "flight") ∷ words (codes "origin")
@@ -94,8 +79,6 @@ segment_table = record {
 
 abbrev pub seat_table : BookTable
 seat_table = record {
-  place = 5;
-  tree = 10;
   name = codes "seat";
   columns = words (codes "pairing") ∷ number (codes "seat") ∷ words (codes "crew") ∷ [];
   primary = 1 ∷ 2 ∷ [];
@@ -104,8 +87,6 @@ seat_table = record {
 
 abbrev pub ground_table : BookTable
 ground_table = record {
-  place = 6;
-  tree = 13;
   name = codes "ground";
   columns = words (codes "id") ∷ words (codes "crew") ∷ words (codes "task") ∷ number (codes "begin_at") ∷ number (codes "end_at") ∷ [];
   primary = 1 ∷ [];
@@ -114,8 +95,6 @@ ground_table = record {
 
 abbrev pub exceedance_table : BookTable
 exceedance_table = record {
-  place = 7;
-  tree = 16;
   name = codes "exceedance";
   columns =
       number (codes "number") ∷ number (codes "part") ∷ words (codes "crew") ∷ number (codes "section") ∷ words (codes "pairing")
@@ -126,19 +105,18 @@ exceedance_table = record {
 
 abbrev pub request_table : BookTable
 request_table = record {
-  place = 8;
-  tree = 18;
   name = codes "request";
   columns = number (codes "number") ∷ number (codes "part") ∷ words (codes "command") ∷ words (codes "reply") ∷ [];
   primary = 1 ∷ 2 ∷ [];
   keys = (1 ∷ 2 ∷ []) ∷ [];
 }
 
--- strict, with its keys alone: no check, no reference, no computed default, and no column that is the row's number
-abbrev pub table_of : BookTable → Table
-table_of it = record {
+-- As its text declares it, kept in this tree: strict, with its keys alone, so no check, no reference, no computed default,
+-- and no column that is the row's number.
+abbrev pub table_of : BookTable → ℕ → Table
+table_of it tree = record {
   name = it.name;
-  tree = it.tree;
+  tree = tree;
   columns = it.columns;
   key = None;
   primary = it.primary;
@@ -151,45 +129,44 @@ table_of it = record {
   is_counted = false;
 }
 
--- The nine tables come first, each in the tree that it gets in an empty database; other tables may follow.
-abbrev pub tables_before : List Table → List Table
-tables_before rest =
-    table_of book_table ∷ table_of crew_table ∷ table_of pairing_table ∷ table_of period_table ∷ table_of segment_table
-    ∷ table_of seat_table ∷ table_of ground_table ∷ table_of exceedance_table ∷ table_of request_table ∷ rest
-
-abbrev pub schema_before : List Table → List Index → List View → Schema
-schema_before rest indexes views = record { tables = tables_before rest; indexes = indexes; views = views }
-
-abbrev pub HasNoReference : Table → Type 0
-HasNoReference table = table.references ≡ []
-
--- the nine tables are there, and no table refers to another
-pub record AreBook (tables : List Table) : Type 0 where
-  pub rest : List Table
-  pub first : tables ≡ tables_before rest
-  pub free : AllByRecursion HasNoReference rest
-
-abbrev pub IsBook : Schema → Type 0
-IsBook schema = AreBook schema.tables
-
--- ---- how the tables are made, one after the other, in an empty database
-
-abbrev pub empty_schema : Schema
-empty_schema = record { tables = []; indexes = []; views = [] }
-
--- a table as its text defines it, before it has a tree
-abbrev pub defined : BookTable → Table
-defined it = let t : Table = record (table_of it) { tree = 0 } in t
-
 abbrev pub book_tables : List BookTable
 book_tables =
     book_table ∷ crew_table ∷ pairing_table ∷ period_table ∷ segment_table ∷ seat_table ∷ ground_table ∷ exceedance_table
     ∷ request_table ∷ []
 
--- the tables that are made before this one
-abbrev pub before : BookTable → List BookTable
-before table = take table.place book_tables
+-- ---- what a schema has
 
--- the schema once these tables are made
-abbrev pub made : List BookTable → Schema
-made tables = fold (λ schema it. created schema (defined it)) empty_schema tables
+-- the table that a name finds, in which letters of ASCII match in either case
+abbrev pub table_found : Schema → List ℕ → Option Table
+table_found schema name = find (λ t. same_name t.name name) schema.tables
+
+-- A table of the book is there as its text declares it, and no table with another name is kept in its tree. Where it
+-- stands among the tables, and what the others are, is open. (`sqlite` keeps every table in a tree of its own, but no
+-- clause of it says so.)
+pub record IsTable (it : BookTable) (schema : Schema) : Type 0 where
+  pub tree : ℕ
+  pub found : table_found schema it.name ≡ Some (table_of it tree)
+  pub low : tree < 2 ^ 31
+  pub alone : AllByRecursion (λ t. t.tree ≡ tree → t.name ≡ it.name) schema.tables
+
+-- a table of this name has these columns: their names, types and NOT NULL, strict and with no default
+abbrev pub HasColumns : BookTable → Schema → Type 0
+HasColumns it schema = (t : Table) × (table_found schema it.name ≡ Some t) × (t.columns ≡ it.columns)
+
+-- no foreign key refers to a table of this name
+abbrev pub NoneRefersTo : List ℕ → Schema → Type 0
+NoneRefersTo name schema = AllByRecursion (λ t. AllByRecursion (λ ref. same_name name ref.parent ≡ false) t.references) schema.tables
+
+-- none refers to the table, so that nothing else changes where its rows do
+abbrev pub IsUnreferenced : BookTable → Schema → Type 0
+IsUnreferenced it = NoneRefersTo it.name
+
+abbrev pub IsOfBook : BookTable → Schema → Type 0
+IsOfBook it schema = IsTable it schema × IsUnreferenced it schema
+
+-- the nine tables are there, in any order and among any others, and no foreign key refers to them
+abbrev pub IsBook : Schema → Type 0
+IsBook schema = AllByRecursion (λ it. IsOfBook it schema) book_tables
+
+abbrev pub empty_schema : Schema
+empty_schema = record { tables = []; indexes = []; views = [] }

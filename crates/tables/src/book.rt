@@ -1,19 +1,19 @@
 //! The table `book`.
 
-ghost use Rattle.std.specs.Prelude.{◌≡◌, map, IfOk, IsTrue};
+ghost use Rattle.std.specs.Prelude.{map, IfErr, IfOk, IsTrue, ◌↔◌, ◌≡◌};
 ghost use Rattle.sqlite.specs.Held.{state};
-ghost use Rattle.tables.specs.Schema.{book_table, before, table_of};
+ghost use Rattle.tables.specs.Schema.{book_table, IsTable, HasColumns};
 ghost use Rattle.tables.specs.Rows.{Makes, Inserts};
 ghost use Rattle.tables.specs.Records.{book_row, IsBookRow};
-ghost use Rattle.tables.specs.Calls.{HoldsMade, HoldsBook, Ran, MayLeave, Loaded, LeavesNothing};
+ghost use Rattle.tables.specs.Calls.{HoldsTable, Ran, RefusesHeld, MayLeave, Loaded, LeavesNothing};
+ghost use Rattle.tables.specs.declared.table_fault.TableFault.TheVariants as fault;
 
-use crate::declared::is_declared;
+use crate::declared::{has_columns, is_there};
 use crate::loading::load;
 use crate::reading::{Record, column, has_width};
 use crate::statement::run;
 use crate::table_fault::TableFault;
 use sqlite::{Alter, Connection, Row, params};
-use sqlite_schema::schema::Table;
 use std::alloc::Global;
 use values::{Copied, MemoryFault, Text};
 
@@ -58,16 +58,24 @@ impl Record for BookRecord {
 const CREATE: &str =
     "CREATE TABLE book (one INTEGER NOT NULL UNIQUE, version INTEGER NOT NULL, zone TEXT NOT NULL) STRICT";
 
-/// Whether a table is declared as `create_book` declares it, in the tree that it gets in an empty database.
-pub(crate) fn is_book_table(alloc: Global, table: &Table) -> Result<bool, TableFault>
-    ensures { IfOk result (λ yes. IsTrue yes → table.now ≡ table_of book_table) }
+/// Whether there is a table `book` with these columns.
+pub fn has_book_columns<S: Alter>(alloc: Global, conn: &Connection<S>) -> Result<bool, TableFault>
+    ensures has { IfOk result (λ yes. IsTrue yes ↔ HasColumns book_table (state S.Store conn.now).now.schema) }
+    ensures fault { IfErr result (λ e. e ≡ fault.Memory) }
 {
-    is_declared(alloc, table, CREATE, 0)
+    has_columns(alloc, conn, CREATE)
+}
+
+/// Whether the table is there as `create_book` declares it, in a tree of its own.
+pub fn is_book_there<S: Alter>(alloc: Global, conn: &Connection<S>) -> Result<bool, TableFault>
+    ensures there { IfOk result (λ yes. IsTrue yes ↔ IsTable book_table (state S.Store conn.now).now.schema) }
+    ensures fault { IfErr result (λ e. e ≡ fault.Memory) }
+{
+    is_there(alloc, conn, CREATE)
 }
 
 /// Makes the table.
 pub fn create_book<S: Alter>(conn: &mut Connection<S>) -> Result<(), TableFault>
-    requires { HoldsMade (before book_table) (state S.Store conn.old) }
     ensures ran { Ran (Makes book_table) (state S.Store conn.old) (state S.Store conn.new) result }
     ensures crash { MayLeave (Makes book_table) (state S.Store conn.old) (state S.Store conn.new) }
 {
@@ -76,8 +84,9 @@ pub fn create_book<S: Alter>(conn: &mut Connection<S>) -> Result<(), TableFault>
 
 /// Adds the row of the book.
 pub fn insert_book<S: Alter>(conn: &mut Connection<S>, book: &BookRecord) -> Result<(), TableFault>
-    requires { HoldsBook (state S.Store conn.old) }
+    requires { HoldsTable book_table (state S.Store conn.old) }
     ensures ran { Ran (Inserts book_table (book_row book.now)) (state S.Store conn.old) (state S.Store conn.new) result }
+    ensures held { RefusesHeld book_table (book_row book.now) (state S.Store conn.old) (state S.Store conn.new) result }
     ensures crash { MayLeave (Inserts book_table (book_row book.now)) (state S.Store conn.old) (state S.Store conn.new) }
 {
     run(
@@ -92,7 +101,7 @@ pub fn load_book<S: Alter>(
     alloc: Global,
     conn: &mut Connection<S>,
 ) -> Result<Vec<BookRecord>, TableFault>
-    requires { HoldsBook (state S.Store conn.old) }
+    requires { HoldsTable book_table (state S.Store conn.old) }
     ensures loaded { Loaded book_table IsBookRow (λ found. map book_row found.items) (state S.Store conn.old) (state S.Store conn.new) result }
     ensures crash { LeavesNothing (state S.Store conn.old) (state S.Store conn.new) }
 {

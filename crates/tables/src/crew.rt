@@ -1,20 +1,20 @@
 //! The table `crew`.
 
-ghost use Rattle.std.specs.Prelude.{[], ◌∷◌, ◌≡◌, map, IfOk, IsTrue};
+ghost use Rattle.std.specs.Prelude.{[], ◌∷◌, map, IfErr, IfOk, IsTrue, ◌↔◌, ◌≡◌};
 ghost use Rattle.sqlite_value.specs.declared.value.Value.TheVariants as value;
 ghost use Rattle.sqlite.specs.Held.{state};
-ghost use Rattle.tables.specs.Schema.{crew_table, before, table_of};
+ghost use Rattle.tables.specs.Schema.{crew_table, IsTable, HasColumns};
 ghost use Rattle.tables.specs.Rows.{Makes, Inserts, begins_with};
 ghost use Rattle.tables.specs.Records.{crew_row, IsCrewRow};
-ghost use Rattle.tables.specs.Calls.{HoldsMade, HoldsBook, Ran, MayLeave, Read, Loaded, LeavesNothing};
+ghost use Rattle.tables.specs.Calls.{HoldsTable, Ran, RefusesHeld, MayLeave, Read, Loaded, LeavesNothing};
+ghost use Rattle.tables.specs.declared.table_fault.TableFault.TheVariants as fault;
 
-use crate::declared::is_declared;
+use crate::declared::{has_columns, is_there};
 use crate::loading::load;
 use crate::reading::{Record, column, has_width, read_all};
 use crate::statement::run;
 use crate::table_fault::TableFault;
 use sqlite::{Alter, Connection, Row, params};
-use sqlite_schema::schema::Table;
 use std::alloc::Global;
 use values::{Copied, MemoryFault, Text};
 
@@ -57,16 +57,24 @@ impl Record for CrewRecord {
 const CREATE: &str =
     "CREATE TABLE crew (id TEXT NOT NULL, seat INTEGER NOT NULL, name TEXT NOT NULL, PRIMARY KEY (id)) STRICT";
 
-/// Whether a table is declared as `create_crew` declares it, in the tree that it gets in an empty database.
-pub(crate) fn is_crew_table(alloc: Global, table: &Table) -> Result<bool, TableFault>
-    ensures { IfOk result (λ yes. IsTrue yes → table.now ≡ table_of crew_table) }
+/// Whether there is a table `crew` with these columns.
+pub fn has_crew_columns<S: Alter>(alloc: Global, conn: &Connection<S>) -> Result<bool, TableFault>
+    ensures has { IfOk result (λ yes. IsTrue yes ↔ HasColumns crew_table (state S.Store conn.now).now.schema) }
+    ensures fault { IfErr result (λ e. e ≡ fault.Memory) }
 {
-    is_declared(alloc, table, CREATE, 2)
+    has_columns(alloc, conn, CREATE)
+}
+
+/// Whether the table is there as `create_crew` declares it, in a tree of its own.
+pub fn is_crew_there<S: Alter>(alloc: Global, conn: &Connection<S>) -> Result<bool, TableFault>
+    ensures there { IfOk result (λ yes. IsTrue yes ↔ IsTable crew_table (state S.Store conn.now).now.schema) }
+    ensures fault { IfErr result (λ e. e ≡ fault.Memory) }
+{
+    is_there(alloc, conn, CREATE)
 }
 
 /// Makes the table.
 pub fn create_crew<S: Alter>(conn: &mut Connection<S>) -> Result<(), TableFault>
-    requires { HoldsMade (before crew_table) (state S.Store conn.old) }
     ensures ran { Ran (Makes crew_table) (state S.Store conn.old) (state S.Store conn.new) result }
     ensures crash { MayLeave (Makes crew_table) (state S.Store conn.old) (state S.Store conn.new) }
 {
@@ -75,8 +83,9 @@ pub fn create_crew<S: Alter>(conn: &mut Connection<S>) -> Result<(), TableFault>
 
 /// Adds a member.
 pub fn insert_crew<S: Alter>(conn: &mut Connection<S>, crew: &CrewRecord) -> Result<(), TableFault>
-    requires { HoldsBook (state S.Store conn.old) }
+    requires { HoldsTable crew_table (state S.Store conn.old) }
     ensures ran { Ran (Inserts crew_table (crew_row crew.now)) (state S.Store conn.old) (state S.Store conn.new) result }
+    ensures held { RefusesHeld crew_table (crew_row crew.now) (state S.Store conn.old) (state S.Store conn.new) result }
     ensures crash { MayLeave (Inserts crew_table (crew_row crew.now)) (state S.Store conn.old) (state S.Store conn.new) }
 {
     run(
@@ -91,7 +100,7 @@ pub fn load_crew<S: Alter>(
     alloc: Global,
     conn: &mut Connection<S>,
 ) -> Result<Vec<CrewRecord>, TableFault>
-    requires { HoldsBook (state S.Store conn.old) }
+    requires { HoldsTable crew_table (state S.Store conn.old) }
     ensures loaded { Loaded crew_table IsCrewRow (λ found. map crew_row found.items) (state S.Store conn.old) (state S.Store conn.new) result }
     ensures crash { LeavesNothing (state S.Store conn.old) (state S.Store conn.new) }
 {
@@ -108,7 +117,7 @@ pub fn crew_by_id<S: Alter>(
     conn: &mut Connection<S>,
     id: &str,
 ) -> Result<Vec<CrewRecord>, TableFault>
-    requires { HoldsBook (state S.Store conn.old) }
+    requires { HoldsTable crew_table (state S.Store conn.old) }
     ensures read { Read crew_table (begins_with (value.Text id.now ∷ [])) IsCrewRow (λ found. map crew_row found.items) (state S.Store conn.old) (state S.Store conn.new) result }
     ensures crash { LeavesNothing (state S.Store conn.old) (state S.Store conn.new) }
 {

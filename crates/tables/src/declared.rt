@@ -1,12 +1,16 @@
 //! Whether a table is declared as its text declares it.
 
-ghost use Rattle.std.specs.Prelude.{◌≡◌, [], IfOk, IsTrue, None, Ok, false};
-ghost use Rattle.std.specs.List.{AllByRecursion};
+ghost use Rattle.std.specs.Prelude.{◌≡◌, ◌↔◌, IfErr, IfOk, IsTrue, Ok, option_map};
+ghost use Rattle.sqlite.specs.Held.{state};
 ghost use Rattle.sqlite_resolve.specs.Compile.{table_defined_by};
 ghost use Rattle.sqlite_schema.specs.declared.schema.Table.{Table as SqlTable};
-ghost use Rattle.tables.specs.Schema.{HasNoReference};
+ghost use Rattle.sqlite_value.specs.declared.value.Value.TheVariants as value;
+ghost use Rattle.tables.specs.Schema.{BookTable, IsTable, HasColumns, table_found, table_of};
+ghost use Rattle.tables.specs.Declarations.{IsSimple, IsLike, HaveNoDefault, StandsAs, IsTextOf, is_own_tree};
+ghost use Rattle.tables.specs.declared.table_fault.TableFault.TheVariants as fault;
 
 use crate::table_fault::TableFault;
+use sqlite::{Alter, Connection};
 use sqlite_items::Items;
 use sqlite_resolve::{CompileError, define_table};
 use sqlite_schema::schema::{Column, Table};
@@ -15,7 +19,8 @@ use sqlite_value::value::Value;
 use std::alloc::Global;
 
 fn is_same_column(a: &Column, b: &Column) -> bool
-    ensures { IsTrue result → a.now ≡ b.now }
+    ensures same { IsTrue result → a.now ≡ b.now }
+    ensures all { a.now ≡ b.now → b.now.default ≡ value.Null → IsTrue result }
 {
     a.name.as_slice() == b.name.as_slice()
         && a.kind == b.kind
@@ -27,7 +32,8 @@ fn is_same_column(a: &Column, b: &Column) -> bool
 }
 
 fn are_same_columns(a: &[Column], b: &[Column]) -> bool
-    ensures { IsTrue result → a.now ≡ b.now }
+    ensures same { IsTrue result → a.now ≡ b.now }
+    ensures all { a.now ≡ b.now → HaveNoDefault b.now → IsTrue result }
 {
     if a.len() != b.len() {
         return false;
@@ -41,13 +47,13 @@ fn are_same_columns(a: &[Column], b: &[Column]) -> bool
 }
 
 fn is_same_key(a: &Items<usize>, b: &Items<usize>) -> bool
-    ensures { IsTrue result → a.now ≡ b.now }
+    ensures { IsTrue result ↔ (a.now ≡ b.now) }
 {
     a.as_slice() == b.as_slice()
 }
 
 fn are_same_keys(a: &[Items<usize>], b: &[Items<usize>]) -> bool
-    ensures { IsTrue result → a.now ≡ b.now }
+    ensures { IsTrue result ↔ (a.now ≡ b.now) }
 {
     if a.len() != b.len() {
         return false;
@@ -61,7 +67,7 @@ fn are_same_keys(a: &[Items<usize>], b: &[Items<usize>]) -> bool
 }
 
 fn are_same_orders(a: &[Order], b: &[Order]) -> bool
-    ensures { IsTrue result → a.now ≡ b.now }
+    ensures { IsTrue result ↔ (a.now ≡ b.now) }
 {
     if a.len() != b.len() {
         return false;
@@ -74,9 +80,9 @@ fn are_same_orders(a: &[Order], b: &[Order]) -> bool
     true
 }
 
-/// Whether no column is the row's number, and nothing is checked, referred to or computed.
+/// Whether no column is the row's number, and nothing is counted, checked, referred to or computed.
 fn is_simple(table: &Table) -> bool
-    ensures { IsTrue result → (table.now.key ≡ None) × (table.now.is_counted ≡ false) × (table.now.checks ≡ []) × (table.now.references ≡ []) × (table.now.computed ≡ []) × (table.now.stamps ≡ record { places = []; terms = []; formats = [] }) }
+    ensures { IsTrue result ↔ IsSimple table.now }
 {
     table.key.is_none()
         && !table.is_counted
@@ -89,8 +95,9 @@ fn is_simple(table: &Table) -> bool
 }
 
 /// Whether two tables have the same name, columns, keys and orders of keys.
-fn has_same_columns(a: &Table, b: &Table) -> bool
-    ensures { IsTrue result → (a.now.name ≡ b.now.name) × (a.now.columns ≡ b.now.columns) × (a.now.primary ≡ b.now.primary) × (a.now.uniques ≡ b.now.uniques) × (a.now.orders ≡ b.now.orders) }
+fn is_like(a: &Table, b: &Table) -> bool
+    ensures same { IsTrue result → IsLike a.now b.now }
+    ensures all { IsLike a.now b.now → HaveNoDefault b.now.columns → IsTrue result }
 {
     a.name.as_slice() == b.name.as_slice()
         && are_same_columns(a.columns.as_slice(), b.columns.as_slice())
@@ -99,41 +106,95 @@ fn has_same_columns(a: &Table, b: &Table) -> bool
         && are_same_orders(a.orders.as_slice(), b.orders.as_slice())
 }
 
-#[tactic(auto, using(crate::proofs::DeclaredLemmas::alike))]
+/// Whether two tables are declared alike.
+#[tactic(auto, using(crate::proofs::Declaring::alike))]
 fn is_alike(found: &Table, wanted: &Table) -> bool
-    ensures { IsTrue result → found.now ≡ record wanted.now { tree = found.now.tree } }
+    ensures same { IsTrue result → found.now ≡ record wanted.now { tree = found.now.tree } }
+    ensures all { found.now ≡ record wanted.now { tree = found.now.tree } → IsSimple wanted.now → HaveNoDefault wanted.now.columns → IsTrue result }
 {
-    has_same_columns(found, wanted) && is_simple(found) && is_simple(wanted)
+    is_like(found, wanted) && is_simple(found) && is_simple(wanted)
 }
 
-fn fault_of(error: CompileError) -> TableFault {
-    match error {
-        CompileError::OutOfMemory => TableFault::Memory,
-        _ => TableFault::Store,
+fn is_own_tree(tables: &[Table], tree: u32, name: &[u8]) -> bool
+    ensures { result ≡ is_own_tree tables.now tree name.now }
+{
+    tables.iter().all(|table| table.tree != tree || table.name.as_slice() == name)
+}
+
+fn define(alloc: Global, text: &str) -> Result<Table, TableFault>
+    ensures ok { IfOk result (λ table. table_defined_by text.now ≡ Ok table) }
+    ensures err { (table : SqlTable) → table_defined_by text.now ≡ Ok table → IfErr result (λ e. e ≡ fault.Memory) }
+{
+    match define_table(alloc, text.as_bytes()) {
+        Ok(table) => Ok(table),
+        Err(CompileError::OutOfMemory) => Err(TableFault::Memory),
+        Err(_) => Err(TableFault::Store),
     }
 }
 
-/// Whether a table is the one that a text defines, in this tree.
-pub(crate) fn is_declared(
+/// The table that a name finds.
+fn table_named<'a, S: Alter>(conn: &'a Connection<S>, name: &[u8]) -> Option<&'a Table>
+    ensures { option_map (λ table. table.now) result ≡ table_found (state S.Store conn.now).now.schema name.now }
+{
+    conn.schema()
+        .tables
+        .as_slice()
+        .iter()
+        .find(|table| table.is_named(name))
+}
+
+/// Whether the table that a name finds is declared as the wanted one, in a tree of its own.
+fn stands_as(tables: &[Table], found: &Table, wanted: &Table) -> bool
+    ensures same { IsTrue result → StandsAs tables.now found.now wanted.now }
+    ensures all { StandsAs tables.now found.now wanted.now → IsSimple wanted.now → HaveNoDefault wanted.now.columns → IsTrue result }
+{
+    is_alike(found, wanted)
+        && found.tree < 1 << 31
+        && is_own_tree(tables, found.tree, wanted.name.as_slice())
+}
+
+/// Whether the wanted table is there, in a tree of its own.
+fn is_there_as<S: Alter>(conn: &Connection<S>, wanted: &Table) -> bool
+    ensures { (it : BookTable) → wanted.now ≡ table_of it 0 → HaveNoDefault it.columns → IsTrue result ↔ IsTable it (state S.Store conn.now).now.schema }
+{
+    match table_named(conn, wanted.name.as_slice()) {
+        Some(found) => stands_as(conn.schema().tables.as_slice(), found, wanted),
+        None => false,
+    }
+}
+
+/// Whether a table of the wanted one's name has its columns.
+fn has_columns_of<S: Alter>(conn: &Connection<S>, wanted: &Table) -> bool
+    ensures { (it : BookTable) → wanted.now ≡ table_of it 0 → HaveNoDefault it.columns → IsTrue result ↔ HasColumns it (state S.Store conn.now).now.schema }
+{
+    match table_named(conn, wanted.name.as_slice()) {
+        Some(found) => are_same_columns(found.columns.as_slice(), wanted.columns.as_slice()),
+        None => false,
+    }
+}
+
+/// Whether the table is there as its text declares it, in a tree of its own.
+pub(crate) fn is_there<S: Alter>(
     alloc: Global,
-    found: &Table,
+    conn: &Connection<S>,
     text: &str,
-    tree: u32,
 ) -> Result<bool, TableFault>
-    ensures { IfOk result (λ yes. IsTrue yes → (wanted : SqlTable) × (table_defined_by text.now ≡ Ok wanted) × (found.now ≡ record wanted { tree = tree })) }
+    ensures there { (it : BookTable) → IsTextOf it text.now → IfOk result (λ yes. IsTrue yes ↔ IsTable it (state S.Store conn.now).now.schema) }
+    ensures fault { (it : BookTable) → IsTextOf it text.now → IfErr result (λ e. e ≡ fault.Memory) }
 {
-    let wanted = define_table(alloc, text.as_bytes()).map_err(fault_of)?;
-    Ok(found.tree == tree && is_alike(found, &wanted))
+    let wanted = define(alloc, text)?;
+    Ok(is_there_as(conn, &wanted))
 }
 
-/// Whether no table has a reference.
-pub(crate) fn have_no_reference(tables: &[Table]) -> bool
-    ensures { IsTrue result → AllByRecursion HasNoReference tables.now }
+/// Whether a table of the name has the columns that the text declares.
+pub(crate) fn has_columns<S: Alter>(
+    alloc: Global,
+    conn: &Connection<S>,
+    text: &str,
+) -> Result<bool, TableFault>
+    ensures has { (it : BookTable) → IsTextOf it text.now → IfOk result (λ yes. IsTrue yes ↔ HasColumns it (state S.Store conn.now).now.schema) }
+    ensures fault { (it : BookTable) → IsTextOf it text.now → IfErr result (λ e. e ≡ fault.Memory) }
 {
-    for table in tables {
-        if !table.references.is_empty() {
-            return false;
-        }
-    }
-    true
+    let wanted = define(alloc, text)?;
+    Ok(has_columns_of(conn, &wanted))
 }

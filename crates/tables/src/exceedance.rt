@@ -1,19 +1,19 @@
 //! The table `exceedance`.
 
-ghost use Rattle.std.specs.Prelude.{[], ◌≡◌, map, IfOk, IsTrue};
+ghost use Rattle.std.specs.Prelude.{[], map, IfErr, IfOk, IsTrue, ◌↔◌, ◌≡◌};
 ghost use Rattle.sqlite.specs.Held.{state};
-ghost use Rattle.tables.specs.Schema.{exceedance_table, before, table_of};
+ghost use Rattle.tables.specs.Schema.{exceedance_table, IsTable, HasColumns};
 ghost use Rattle.tables.specs.Rows.{Makes, Inserts, begins_with, FindsInOrder, HasNoRecord};
 ghost use Rattle.tables.specs.Records.{exceedance_row, IsExceedanceRow};
-ghost use Rattle.tables.specs.Calls.{HoldsMade, HoldsBook, Ran, MayLeave, ReadAs, Loaded, LeavesNothing};
+ghost use Rattle.tables.specs.Calls.{HoldsTable, Ran, RefusesHeld, MayLeave, ReadAs, Loaded, LeavesNothing};
+ghost use Rattle.tables.specs.declared.table_fault.TableFault.TheVariants as fault;
 
-use crate::declared::is_declared;
+use crate::declared::{has_columns, is_there};
 use crate::loading::load;
 use crate::reading::{Record, column, has_width, read_all};
 use crate::statement::run;
 use crate::table_fault::TableFault;
 use sqlite::{Alter, Connection, Row, params};
-use sqlite_schema::schema::Table;
 use std::alloc::Global;
 use values::{Copied, MemoryFault, Text};
 
@@ -67,16 +67,30 @@ impl Record for ExceedanceRecord {
 const CREATE: &str =
     "CREATE TABLE exceedance (number INTEGER NOT NULL, part INTEGER NOT NULL, crew TEXT NOT NULL, section INTEGER NOT NULL, pairing TEXT NOT NULL, period INTEGER NOT NULL, PRIMARY KEY (number, part, crew, section)) STRICT";
 
-/// Whether a table is declared as `create_exceedance` declares it, in the tree that it gets in an empty database.
-pub(crate) fn is_exceedance_table(alloc: Global, table: &Table) -> Result<bool, TableFault>
-    ensures { IfOk result (λ yes. IsTrue yes → table.now ≡ table_of exceedance_table) }
+/// Whether there is a table `exceedance` with these columns.
+pub fn has_exceedance_columns<S: Alter>(
+    alloc: Global,
+    conn: &Connection<S>,
+) -> Result<bool, TableFault>
+    ensures has { IfOk result (λ yes. IsTrue yes ↔ HasColumns exceedance_table (state S.Store conn.now).now.schema) }
+    ensures fault { IfErr result (λ e. e ≡ fault.Memory) }
 {
-    is_declared(alloc, table, CREATE, 16)
+    has_columns(alloc, conn, CREATE)
+}
+
+/// Whether the table is there as `create_exceedance` declares it, in a tree of its own.
+pub fn is_exceedance_there<S: Alter>(
+    alloc: Global,
+    conn: &Connection<S>,
+) -> Result<bool, TableFault>
+    ensures there { IfOk result (λ yes. IsTrue yes ↔ IsTable exceedance_table (state S.Store conn.now).now.schema) }
+    ensures fault { IfErr result (λ e. e ≡ fault.Memory) }
+{
+    is_there(alloc, conn, CREATE)
 }
 
 /// Makes the table.
 pub fn create_exceedance<S: Alter>(conn: &mut Connection<S>) -> Result<(), TableFault>
-    requires { HoldsMade (before exceedance_table) (state S.Store conn.old) }
     ensures ran { Ran (Makes exceedance_table) (state S.Store conn.old) (state S.Store conn.new) result }
     ensures crash { MayLeave (Makes exceedance_table) (state S.Store conn.old) (state S.Store conn.new) }
 {
@@ -88,8 +102,9 @@ pub fn insert_exceedance<S: Alter>(
     conn: &mut Connection<S>,
     exceedance: &ExceedanceRecord,
 ) -> Result<(), TableFault>
-    requires { HoldsBook (state S.Store conn.old) }
+    requires { HoldsTable exceedance_table (state S.Store conn.old) }
     ensures ran { Ran (Inserts exceedance_table (exceedance_row exceedance.now)) (state S.Store conn.old) (state S.Store conn.new) result }
+    ensures held { RefusesHeld exceedance_table (exceedance_row exceedance.now) (state S.Store conn.old) (state S.Store conn.new) result }
     ensures crash { MayLeave (Inserts exceedance_table (exceedance_row exceedance.now)) (state S.Store conn.old) (state S.Store conn.new) }
 {
     run(
@@ -111,7 +126,7 @@ pub fn load_exceedances<S: Alter>(
     alloc: Global,
     conn: &mut Connection<S>,
 ) -> Result<Vec<ExceedanceRecord>, TableFault>
-    requires { HoldsBook (state S.Store conn.old) }
+    requires { HoldsTable exceedance_table (state S.Store conn.old) }
     ensures loaded { Loaded exceedance_table IsExceedanceRow (λ found. map exceedance_row found.items) (state S.Store conn.old) (state S.Store conn.new) result }
     ensures crash { LeavesNothing (state S.Store conn.old) (state S.Store conn.new) }
 {
@@ -127,7 +142,7 @@ pub fn exceedances<S: Alter>(
     alloc: Global,
     conn: &mut Connection<S>,
 ) -> Result<Vec<ExceedanceRecord>, TableFault>
-    requires { HoldsBook (state S.Store conn.old) }
+    requires { HoldsTable exceedance_table (state S.Store conn.old) }
     ensures read { ReadAs (λ db found. FindsInOrder 4 exceedance_table db (map exceedance_row found.items)) (HasNoRecord exceedance_table (begins_with []) IsExceedanceRow) (state S.Store conn.old) (state S.Store conn.new) result }
     ensures crash { LeavesNothing (state S.Store conn.old) (state S.Store conn.new) }
 {

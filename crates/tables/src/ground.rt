@@ -1,20 +1,20 @@
 //! The table `ground`.
 
-ghost use Rattle.std.specs.Prelude.{[], ◌∷◌, ◌≡◌, map, IfOk, IsTrue};
+ghost use Rattle.std.specs.Prelude.{[], ◌∷◌, map, IfErr, IfOk, IsTrue, ◌↔◌, ◌≡◌};
 ghost use Rattle.sqlite_value.specs.declared.value.Value.TheVariants as value;
 ghost use Rattle.sqlite.specs.Held.{state};
-ghost use Rattle.tables.specs.Schema.{ground_table, before, table_of};
+ghost use Rattle.tables.specs.Schema.{ground_table, IsTable, HasColumns};
 ghost use Rattle.tables.specs.Rows.{Makes, Inserts, Deletes, begins_with, equals_at};
 ghost use Rattle.tables.specs.Records.{ground_row, IsGroundRow};
-ghost use Rattle.tables.specs.Calls.{HoldsMade, HoldsBook, Ran, MayLeave, Read, Loaded, LeavesNothing};
+ghost use Rattle.tables.specs.Calls.{HoldsTable, HoldsUnreferenced, Ran, RefusesHeld, MayLeave, Read, Loaded, LeavesNothing};
+ghost use Rattle.tables.specs.declared.table_fault.TableFault.TheVariants as fault;
 
-use crate::declared::is_declared;
+use crate::declared::{has_columns, is_there};
 use crate::loading::load;
 use crate::reading::{Record, column, has_width, read_all};
 use crate::statement::run;
 use crate::table_fault::TableFault;
 use sqlite::{Alter, Connection, Row, params};
-use sqlite_schema::schema::Table;
 use std::alloc::Global;
 use values::{Copied, MemoryFault, Text};
 
@@ -63,16 +63,24 @@ impl Record for GroundRecord {
 const CREATE: &str =
     "CREATE TABLE ground (id TEXT NOT NULL, crew TEXT NOT NULL, task TEXT NOT NULL, begin_at INTEGER NOT NULL, end_at INTEGER NOT NULL, PRIMARY KEY (id), UNIQUE (crew, id)) STRICT";
 
-/// Whether a table is declared as `create_ground` declares it, in the tree that it gets in an empty database.
-pub(crate) fn is_ground_table(alloc: Global, table: &Table) -> Result<bool, TableFault>
-    ensures { IfOk result (λ yes. IsTrue yes → table.now ≡ table_of ground_table) }
+/// Whether there is a table `ground` with these columns.
+pub fn has_ground_columns<S: Alter>(alloc: Global, conn: &Connection<S>) -> Result<bool, TableFault>
+    ensures has { IfOk result (λ yes. IsTrue yes ↔ HasColumns ground_table (state S.Store conn.now).now.schema) }
+    ensures fault { IfErr result (λ e. e ≡ fault.Memory) }
 {
-    is_declared(alloc, table, CREATE, 13)
+    has_columns(alloc, conn, CREATE)
+}
+
+/// Whether the table is there as `create_ground` declares it, in a tree of its own.
+pub fn is_ground_there<S: Alter>(alloc: Global, conn: &Connection<S>) -> Result<bool, TableFault>
+    ensures there { IfOk result (λ yes. IsTrue yes ↔ IsTable ground_table (state S.Store conn.now).now.schema) }
+    ensures fault { IfErr result (λ e. e ≡ fault.Memory) }
+{
+    is_there(alloc, conn, CREATE)
 }
 
 /// Makes the table.
 pub fn create_ground<S: Alter>(conn: &mut Connection<S>) -> Result<(), TableFault>
-    requires { HoldsMade (before ground_table) (state S.Store conn.old) }
     ensures ran { Ran (Makes ground_table) (state S.Store conn.old) (state S.Store conn.new) result }
     ensures crash { MayLeave (Makes ground_table) (state S.Store conn.old) (state S.Store conn.new) }
 {
@@ -84,8 +92,9 @@ pub fn insert_ground<S: Alter>(
     conn: &mut Connection<S>,
     ground: &GroundRecord,
 ) -> Result<(), TableFault>
-    requires { HoldsBook (state S.Store conn.old) }
+    requires { HoldsTable ground_table (state S.Store conn.old) }
     ensures ran { Ran (Inserts ground_table (ground_row ground.now)) (state S.Store conn.old) (state S.Store conn.new) result }
+    ensures held { RefusesHeld ground_table (ground_row ground.now) (state S.Store conn.old) (state S.Store conn.new) result }
     ensures crash { MayLeave (Inserts ground_table (ground_row ground.now)) (state S.Store conn.old) (state S.Store conn.new) }
 {
     run(
@@ -106,7 +115,7 @@ pub fn load_grounds<S: Alter>(
     alloc: Global,
     conn: &mut Connection<S>,
 ) -> Result<Vec<GroundRecord>, TableFault>
-    requires { HoldsBook (state S.Store conn.old) }
+    requires { HoldsTable ground_table (state S.Store conn.old) }
     ensures loaded { Loaded ground_table IsGroundRow (λ found. map ground_row found.items) (state S.Store conn.old) (state S.Store conn.new) result }
     ensures crash { LeavesNothing (state S.Store conn.old) (state S.Store conn.new) }
 {
@@ -123,7 +132,7 @@ pub fn ground_by_id<S: Alter>(
     conn: &mut Connection<S>,
     id: &str,
 ) -> Result<Vec<GroundRecord>, TableFault>
-    requires { HoldsBook (state S.Store conn.old) }
+    requires { HoldsTable ground_table (state S.Store conn.old) }
     ensures read { Read ground_table (begins_with (value.Text id.now ∷ [])) IsGroundRow (λ found. map ground_row found.items) (state S.Store conn.old) (state S.Store conn.new) result }
     ensures crash { LeavesNothing (state S.Store conn.old) (state S.Store conn.new) }
 {
@@ -141,7 +150,7 @@ pub fn grounds_by_crew<S: Alter>(
     conn: &mut Connection<S>,
     crew: &str,
 ) -> Result<Vec<GroundRecord>, TableFault>
-    requires { HoldsBook (state S.Store conn.old) }
+    requires { HoldsTable ground_table (state S.Store conn.old) }
     ensures read { Read ground_table (equals_at 1 (value.Text crew.now)) IsGroundRow (λ found. map ground_row found.items) (state S.Store conn.old) (state S.Store conn.new) result }
     ensures crash { LeavesNothing (state S.Store conn.old) (state S.Store conn.new) }
 {
@@ -155,7 +164,8 @@ pub fn grounds_by_crew<S: Alter>(
 
 /// Removes the ground duty with this id.
 pub fn delete_ground<S: Alter>(conn: &mut Connection<S>, id: &str) -> Result<(), TableFault>
-    requires { HoldsBook (state S.Store conn.old) }
+    requires there { HoldsTable ground_table (state S.Store conn.old) }
+    requires free { HoldsUnreferenced ground_table (state S.Store conn.old) }
     ensures ran { Ran (Deletes ground_table (begins_with (value.Text id.now ∷ []))) (state S.Store conn.old) (state S.Store conn.new) result }
     ensures crash { MayLeave (Deletes ground_table (begins_with (value.Text id.now ∷ []))) (state S.Store conn.old) (state S.Store conn.new) }
 {

@@ -1,20 +1,20 @@
 //! The table `pairing`.
 
-ghost use Rattle.std.specs.Prelude.{[], ◌∷◌, ◌≡◌, map, IfOk, IsTrue};
+ghost use Rattle.std.specs.Prelude.{[], ◌∷◌, map, IfErr, IfOk, IsTrue, ◌↔◌, ◌≡◌};
 ghost use Rattle.sqlite_value.specs.declared.value.Value.TheVariants as value;
 ghost use Rattle.sqlite.specs.Held.{state};
-ghost use Rattle.tables.specs.Schema.{pairing_table, before, table_of};
+ghost use Rattle.tables.specs.Schema.{pairing_table, IsTable, HasColumns};
 ghost use Rattle.tables.specs.Rows.{Makes, Inserts, Deletes, begins_with};
 ghost use Rattle.tables.specs.Records.{pairing_row, IsPairingRow};
-ghost use Rattle.tables.specs.Calls.{HoldsMade, HoldsBook, Ran, MayLeave, Read, Loaded, LeavesNothing};
+ghost use Rattle.tables.specs.Calls.{HoldsTable, HoldsUnreferenced, Ran, RefusesHeld, MayLeave, Read, Loaded, LeavesNothing};
+ghost use Rattle.tables.specs.declared.table_fault.TableFault.TheVariants as fault;
 
-use crate::declared::is_declared;
+use crate::declared::{has_columns, is_there};
 use crate::loading::load;
 use crate::reading::{Record, column, has_width, read_all};
 use crate::statement::run;
 use crate::table_fault::TableFault;
 use sqlite::{Alter, Connection, Row, params};
-use sqlite_schema::schema::Table;
 use std::alloc::Global;
 use values::{Copied, MemoryFault, Text};
 
@@ -49,16 +49,27 @@ impl Record for PairingRecord {
 
 const CREATE: &str = "CREATE TABLE pairing (id TEXT NOT NULL, PRIMARY KEY (id)) STRICT";
 
-/// Whether a table is declared as `create_pairing` declares it, in the tree that it gets in an empty database.
-pub(crate) fn is_pairing_table(alloc: Global, table: &Table) -> Result<bool, TableFault>
-    ensures { IfOk result (λ yes. IsTrue yes → table.now ≡ table_of pairing_table) }
+/// Whether there is a table `pairing` with these columns.
+pub fn has_pairing_columns<S: Alter>(
+    alloc: Global,
+    conn: &Connection<S>,
+) -> Result<bool, TableFault>
+    ensures has { IfOk result (λ yes. IsTrue yes ↔ HasColumns pairing_table (state S.Store conn.now).now.schema) }
+    ensures fault { IfErr result (λ e. e ≡ fault.Memory) }
 {
-    is_declared(alloc, table, CREATE, 4)
+    has_columns(alloc, conn, CREATE)
+}
+
+/// Whether the table is there as `create_pairing` declares it, in a tree of its own.
+pub fn is_pairing_there<S: Alter>(alloc: Global, conn: &Connection<S>) -> Result<bool, TableFault>
+    ensures there { IfOk result (λ yes. IsTrue yes ↔ IsTable pairing_table (state S.Store conn.now).now.schema) }
+    ensures fault { IfErr result (λ e. e ≡ fault.Memory) }
+{
+    is_there(alloc, conn, CREATE)
 }
 
 /// Makes the table.
 pub fn create_pairing<S: Alter>(conn: &mut Connection<S>) -> Result<(), TableFault>
-    requires { HoldsMade (before pairing_table) (state S.Store conn.old) }
     ensures ran { Ran (Makes pairing_table) (state S.Store conn.old) (state S.Store conn.new) result }
     ensures crash { MayLeave (Makes pairing_table) (state S.Store conn.old) (state S.Store conn.new) }
 {
@@ -70,8 +81,9 @@ pub fn insert_pairing<S: Alter>(
     conn: &mut Connection<S>,
     pairing: &PairingRecord,
 ) -> Result<(), TableFault>
-    requires { HoldsBook (state S.Store conn.old) }
+    requires { HoldsTable pairing_table (state S.Store conn.old) }
     ensures ran { Ran (Inserts pairing_table (pairing_row pairing.now)) (state S.Store conn.old) (state S.Store conn.new) result }
+    ensures held { RefusesHeld pairing_table (pairing_row pairing.now) (state S.Store conn.old) (state S.Store conn.new) result }
     ensures crash { MayLeave (Inserts pairing_table (pairing_row pairing.now)) (state S.Store conn.old) (state S.Store conn.new) }
 {
     run(
@@ -86,7 +98,7 @@ pub fn load_pairings<S: Alter>(
     alloc: Global,
     conn: &mut Connection<S>,
 ) -> Result<Vec<PairingRecord>, TableFault>
-    requires { HoldsBook (state S.Store conn.old) }
+    requires { HoldsTable pairing_table (state S.Store conn.old) }
     ensures loaded { Loaded pairing_table IsPairingRow (λ found. map pairing_row found.items) (state S.Store conn.old) (state S.Store conn.new) result }
     ensures crash { LeavesNothing (state S.Store conn.old) (state S.Store conn.new) }
 {
@@ -99,7 +111,7 @@ pub fn pairing_by_id<S: Alter>(
     conn: &mut Connection<S>,
     id: &str,
 ) -> Result<Vec<PairingRecord>, TableFault>
-    requires { HoldsBook (state S.Store conn.old) }
+    requires { HoldsTable pairing_table (state S.Store conn.old) }
     ensures read { Read pairing_table (begins_with (value.Text id.now ∷ [])) IsPairingRow (λ found. map pairing_row found.items) (state S.Store conn.old) (state S.Store conn.new) result }
     ensures crash { LeavesNothing (state S.Store conn.old) (state S.Store conn.new) }
 {
@@ -113,7 +125,8 @@ pub fn pairing_by_id<S: Alter>(
 
 /// Removes the pairing with this id.
 pub fn delete_pairing<S: Alter>(conn: &mut Connection<S>, id: &str) -> Result<(), TableFault>
-    requires { HoldsBook (state S.Store conn.old) }
+    requires there { HoldsTable pairing_table (state S.Store conn.old) }
+    requires free { HoldsUnreferenced pairing_table (state S.Store conn.old) }
     ensures ran { Ran (Deletes pairing_table (begins_with (value.Text id.now ∷ []))) (state S.Store conn.old) (state S.Store conn.new) result }
     ensures crash { MayLeave (Deletes pairing_table (begins_with (value.Text id.now ∷ []))) (state S.Store conn.old) (state S.Store conn.new) }
 {

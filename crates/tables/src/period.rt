@@ -1,20 +1,20 @@
 //! The table `period`.
 
-ghost use Rattle.std.specs.Prelude.{[], ◌∷◌, ◌≡◌, map, IfOk, IsTrue, pos};
+ghost use Rattle.std.specs.Prelude.{[], ◌∷◌, map, pos, IfErr, IfOk, IsTrue, ◌↔◌, ◌≡◌};
 ghost use Rattle.sqlite_value.specs.declared.value.Value.TheVariants as value;
 ghost use Rattle.sqlite.specs.Held.{state};
-ghost use Rattle.tables.specs.Schema.{period_table, before, table_of};
+ghost use Rattle.tables.specs.Schema.{period_table, IsTable, HasColumns};
 ghost use Rattle.tables.specs.Rows.{Makes, Inserts, Deletes, Updates, begins_with};
 ghost use Rattle.tables.specs.Records.{period_row, IsPeriodRow, with_period_times};
-ghost use Rattle.tables.specs.Calls.{HoldsMade, HoldsBook, Ran, MayLeave, Read, Loaded, LeavesNothing};
+ghost use Rattle.tables.specs.Calls.{HoldsTable, HoldsUnreferenced, Ran, RefusesHeld, MayLeave, Read, Loaded, LeavesNothing};
+ghost use Rattle.tables.specs.declared.table_fault.TableFault.TheVariants as fault;
 
-use crate::declared::is_declared;
+use crate::declared::{has_columns, is_there};
 use crate::loading::load;
 use crate::reading::{Record, column, has_width, read_all};
 use crate::statement::run;
 use crate::table_fault::TableFault;
 use sqlite::{Alter, Connection, Row, params};
-use sqlite_schema::schema::Table;
 use std::alloc::Global;
 use values::{Copied, MemoryFault, Text};
 
@@ -70,16 +70,24 @@ impl Record for PeriodRecord {
 const CREATE: &str =
     "CREATE TABLE period (pairing TEXT NOT NULL, number INTEGER NOT NULL, report_at INTEGER NOT NULL, release_at INTEGER NOT NULL, act_report INTEGER, act_release INTEGER, PRIMARY KEY (pairing, number)) STRICT";
 
-/// Whether a table is declared as `create_period` declares it, in the tree that it gets in an empty database.
-pub(crate) fn is_period_table(alloc: Global, table: &Table) -> Result<bool, TableFault>
-    ensures { IfOk result (λ yes. IsTrue yes → table.now ≡ table_of period_table) }
+/// Whether there is a table `period` with these columns.
+pub fn has_period_columns<S: Alter>(alloc: Global, conn: &Connection<S>) -> Result<bool, TableFault>
+    ensures has { IfOk result (λ yes. IsTrue yes ↔ HasColumns period_table (state S.Store conn.now).now.schema) }
+    ensures fault { IfErr result (λ e. e ≡ fault.Memory) }
 {
-    is_declared(alloc, table, CREATE, 6)
+    has_columns(alloc, conn, CREATE)
+}
+
+/// Whether the table is there as `create_period` declares it, in a tree of its own.
+pub fn is_period_there<S: Alter>(alloc: Global, conn: &Connection<S>) -> Result<bool, TableFault>
+    ensures there { IfOk result (λ yes. IsTrue yes ↔ IsTable period_table (state S.Store conn.now).now.schema) }
+    ensures fault { IfErr result (λ e. e ≡ fault.Memory) }
+{
+    is_there(alloc, conn, CREATE)
 }
 
 /// Makes the table.
 pub fn create_period<S: Alter>(conn: &mut Connection<S>) -> Result<(), TableFault>
-    requires { HoldsMade (before period_table) (state S.Store conn.old) }
     ensures ran { Ran (Makes period_table) (state S.Store conn.old) (state S.Store conn.new) result }
     ensures crash { MayLeave (Makes period_table) (state S.Store conn.old) (state S.Store conn.new) }
 {
@@ -91,8 +99,9 @@ pub fn insert_period<S: Alter>(
     conn: &mut Connection<S>,
     period: &PeriodRecord,
 ) -> Result<(), TableFault>
-    requires { HoldsBook (state S.Store conn.old) }
+    requires { HoldsTable period_table (state S.Store conn.old) }
     ensures ran { Ran (Inserts period_table (period_row period.now)) (state S.Store conn.old) (state S.Store conn.new) result }
+    ensures held { RefusesHeld period_table (period_row period.now) (state S.Store conn.old) (state S.Store conn.new) result }
     ensures crash { MayLeave (Inserts period_table (period_row period.now)) (state S.Store conn.old) (state S.Store conn.new) }
 {
     run(
@@ -114,7 +123,7 @@ pub fn load_periods<S: Alter>(
     alloc: Global,
     conn: &mut Connection<S>,
 ) -> Result<Vec<PeriodRecord>, TableFault>
-    requires { HoldsBook (state S.Store conn.old) }
+    requires { HoldsTable period_table (state S.Store conn.old) }
     ensures loaded { Loaded period_table IsPeriodRow (λ found. map period_row found.items) (state S.Store conn.old) (state S.Store conn.new) result }
     ensures crash { LeavesNothing (state S.Store conn.old) (state S.Store conn.new) }
 {
@@ -131,7 +140,7 @@ pub fn periods_of<S: Alter>(
     conn: &mut Connection<S>,
     pairing: &str,
 ) -> Result<Vec<PeriodRecord>, TableFault>
-    requires { HoldsBook (state S.Store conn.old) }
+    requires { HoldsTable period_table (state S.Store conn.old) }
     ensures read { Read period_table (begins_with (value.Text pairing.now ∷ [])) IsPeriodRow (λ found. map period_row found.items) (state S.Store conn.old) (state S.Store conn.new) result }
     ensures crash { LeavesNothing (state S.Store conn.old) (state S.Store conn.new) }
 {
@@ -145,7 +154,8 @@ pub fn periods_of<S: Alter>(
 
 /// Removes the periods of a pairing.
 pub fn delete_periods<S: Alter>(conn: &mut Connection<S>, pairing: &str) -> Result<(), TableFault>
-    requires { HoldsBook (state S.Store conn.old) }
+    requires there { HoldsTable period_table (state S.Store conn.old) }
+    requires free { HoldsUnreferenced period_table (state S.Store conn.old) }
     ensures ran { Ran (Deletes period_table (begins_with (value.Text pairing.now ∷ []))) (state S.Store conn.old) (state S.Store conn.new) result }
     ensures crash { MayLeave (Deletes period_table (begins_with (value.Text pairing.now ∷ []))) (state S.Store conn.old) (state S.Store conn.new) }
 {
@@ -164,7 +174,8 @@ pub fn update_period<S: Alter>(
     report: u32,
     release: u32,
 ) -> Result<(), TableFault>
-    requires { HoldsBook (state S.Store conn.old) }
+    requires there { HoldsTable period_table (state S.Store conn.old) }
+    requires free { HoldsUnreferenced period_table (state S.Store conn.old) }
     ensures ran { Ran (Updates period_table (begins_with (value.Text pairing.now ∷ value.Int (pos number) ∷ [])) (with_period_times report release)) (state S.Store conn.old) (state S.Store conn.new) result }
     ensures crash { MayLeave (Updates period_table (begins_with (value.Text pairing.now ∷ value.Int (pos number) ∷ [])) (with_period_times report release)) (state S.Store conn.old) (state S.Store conn.new) }
 {

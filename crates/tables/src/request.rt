@@ -1,20 +1,20 @@
 //! The table `request`.
 
-ghost use Rattle.std.specs.Prelude.{[], ◌∷◌, ◌≡◌, map, IfOk, IsTrue, pos};
+ghost use Rattle.std.specs.Prelude.{[], ◌∷◌, map, pos, IfErr, IfOk, IsTrue, ◌↔◌, ◌≡◌};
 ghost use Rattle.sqlite_value.specs.declared.value.Value.TheVariants as value;
 ghost use Rattle.sqlite.specs.Held.{state};
-ghost use Rattle.tables.specs.Schema.{request_table, before, table_of};
+ghost use Rattle.tables.specs.Schema.{request_table, IsTable, HasColumns};
 ghost use Rattle.tables.specs.Rows.{Makes, Inserts, begins_with};
 ghost use Rattle.tables.specs.Records.{request_row, IsRequestRow};
-ghost use Rattle.tables.specs.Calls.{HoldsMade, HoldsBook, Ran, MayLeave, Read, Loaded, LeavesNothing};
+ghost use Rattle.tables.specs.Calls.{HoldsTable, Ran, RefusesHeld, MayLeave, Read, Loaded, LeavesNothing};
+ghost use Rattle.tables.specs.declared.table_fault.TableFault.TheVariants as fault;
 
-use crate::declared::is_declared;
+use crate::declared::{has_columns, is_there};
 use crate::loading::load;
 use crate::reading::{Record, column, has_width, read_all};
 use crate::statement::run;
 use crate::table_fault::TableFault;
 use sqlite::{Alter, Connection, Row, params};
-use sqlite_schema::schema::Table;
 use std::alloc::Global;
 use values::{Copied, MemoryFault, Text};
 
@@ -63,16 +63,27 @@ impl Record for RequestRecord {
 const CREATE: &str =
     "CREATE TABLE request (number INTEGER NOT NULL, part INTEGER NOT NULL, command TEXT NOT NULL, reply TEXT NOT NULL, PRIMARY KEY (number, part)) STRICT";
 
-/// Whether a table is declared as `create_request` declares it, in the tree that it gets in an empty database.
-pub(crate) fn is_request_table(alloc: Global, table: &Table) -> Result<bool, TableFault>
-    ensures { IfOk result (λ yes. IsTrue yes → table.now ≡ table_of request_table) }
+/// Whether there is a table `request` with these columns.
+pub fn has_request_columns<S: Alter>(
+    alloc: Global,
+    conn: &Connection<S>,
+) -> Result<bool, TableFault>
+    ensures has { IfOk result (λ yes. IsTrue yes ↔ HasColumns request_table (state S.Store conn.now).now.schema) }
+    ensures fault { IfErr result (λ e. e ≡ fault.Memory) }
 {
-    is_declared(alloc, table, CREATE, 18)
+    has_columns(alloc, conn, CREATE)
+}
+
+/// Whether the table is there as `create_request` declares it, in a tree of its own.
+pub fn is_request_there<S: Alter>(alloc: Global, conn: &Connection<S>) -> Result<bool, TableFault>
+    ensures there { IfOk result (λ yes. IsTrue yes ↔ IsTable request_table (state S.Store conn.now).now.schema) }
+    ensures fault { IfErr result (λ e. e ≡ fault.Memory) }
+{
+    is_there(alloc, conn, CREATE)
 }
 
 /// Makes the table.
 pub fn create_request<S: Alter>(conn: &mut Connection<S>) -> Result<(), TableFault>
-    requires { HoldsMade (before request_table) (state S.Store conn.old) }
     ensures ran { Ran (Makes request_table) (state S.Store conn.old) (state S.Store conn.new) result }
     ensures crash { MayLeave (Makes request_table) (state S.Store conn.old) (state S.Store conn.new) }
 {
@@ -84,8 +95,9 @@ pub fn insert_request<S: Alter>(
     conn: &mut Connection<S>,
     request: &RequestRecord,
 ) -> Result<(), TableFault>
-    requires { HoldsBook (state S.Store conn.old) }
+    requires { HoldsTable request_table (state S.Store conn.old) }
     ensures ran { Ran (Inserts request_table (request_row request.now)) (state S.Store conn.old) (state S.Store conn.new) result }
+    ensures held { RefusesHeld request_table (request_row request.now) (state S.Store conn.old) (state S.Store conn.new) result }
     ensures crash { MayLeave (Inserts request_table (request_row request.now)) (state S.Store conn.old) (state S.Store conn.new) }
 {
     run(
@@ -105,7 +117,7 @@ pub fn load_requests<S: Alter>(
     alloc: Global,
     conn: &mut Connection<S>,
 ) -> Result<Vec<RequestRecord>, TableFault>
-    requires { HoldsBook (state S.Store conn.old) }
+    requires { HoldsTable request_table (state S.Store conn.old) }
     ensures loaded { Loaded request_table IsRequestRow (λ found. map request_row found.items) (state S.Store conn.old) (state S.Store conn.new) result }
     ensures crash { LeavesNothing (state S.Store conn.old) (state S.Store conn.new) }
 {
@@ -123,7 +135,7 @@ pub fn request_by_key<S: Alter>(
     number: i64,
     part: u32,
 ) -> Result<Vec<RequestRecord>, TableFault>
-    requires { HoldsBook (state S.Store conn.old) }
+    requires { HoldsTable request_table (state S.Store conn.old) }
     ensures read { Read request_table (begins_with (value.Int number ∷ value.Int (pos part) ∷ [])) IsRequestRow (λ found. map request_row found.items) (state S.Store conn.old) (state S.Store conn.new) result }
     ensures crash { LeavesNothing (state S.Store conn.old) (state S.Store conn.new) }
 {

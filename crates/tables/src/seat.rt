@@ -1,20 +1,20 @@
 //! The table `seat`.
 
-ghost use Rattle.std.specs.Prelude.{[], ◌∷◌, ◌≡◌, map, IfOk, IsTrue, pos};
+ghost use Rattle.std.specs.Prelude.{[], ◌∷◌, map, pos, IfErr, IfOk, IsTrue, ◌↔◌, ◌≡◌};
 ghost use Rattle.sqlite_value.specs.declared.value.Value.TheVariants as value;
 ghost use Rattle.sqlite.specs.Held.{state};
-ghost use Rattle.tables.specs.Schema.{seat_table, before, table_of};
+ghost use Rattle.tables.specs.Schema.{seat_table, IsTable, HasColumns};
 ghost use Rattle.tables.specs.Rows.{Makes, Inserts, Deletes, begins_with, equals_at};
 ghost use Rattle.tables.specs.Records.{seat_row, IsSeatRow};
-ghost use Rattle.tables.specs.Calls.{HoldsMade, HoldsBook, Ran, MayLeave, Read, Loaded, LeavesNothing};
+ghost use Rattle.tables.specs.Calls.{HoldsTable, HoldsUnreferenced, Ran, RefusesHeld, MayLeave, Read, Loaded, LeavesNothing};
+ghost use Rattle.tables.specs.declared.table_fault.TableFault.TheVariants as fault;
 
-use crate::declared::is_declared;
+use crate::declared::{has_columns, is_there};
 use crate::loading::load;
 use crate::reading::{Record, column, has_width, read_all};
 use crate::statement::run;
 use crate::table_fault::TableFault;
 use sqlite::{Alter, Connection, Row, params};
-use sqlite_schema::schema::Table;
 use std::alloc::Global;
 use values::{Copied, MemoryFault, Text};
 
@@ -58,16 +58,24 @@ impl Record for SeatRecord {
 const CREATE: &str =
     "CREATE TABLE seat (pairing TEXT NOT NULL, seat INTEGER NOT NULL, crew TEXT NOT NULL, PRIMARY KEY (pairing, seat), UNIQUE (crew, pairing)) STRICT";
 
-/// Whether a table is declared as `create_seat` declares it, in the tree that it gets in an empty database.
-pub(crate) fn is_seat_table(alloc: Global, table: &Table) -> Result<bool, TableFault>
-    ensures { IfOk result (λ yes. IsTrue yes → table.now ≡ table_of seat_table) }
+/// Whether there is a table `seat` with these columns.
+pub fn has_seat_columns<S: Alter>(alloc: Global, conn: &Connection<S>) -> Result<bool, TableFault>
+    ensures has { IfOk result (λ yes. IsTrue yes ↔ HasColumns seat_table (state S.Store conn.now).now.schema) }
+    ensures fault { IfErr result (λ e. e ≡ fault.Memory) }
 {
-    is_declared(alloc, table, CREATE, 10)
+    has_columns(alloc, conn, CREATE)
+}
+
+/// Whether the table is there as `create_seat` declares it, in a tree of its own.
+pub fn is_seat_there<S: Alter>(alloc: Global, conn: &Connection<S>) -> Result<bool, TableFault>
+    ensures there { IfOk result (λ yes. IsTrue yes ↔ IsTable seat_table (state S.Store conn.now).now.schema) }
+    ensures fault { IfErr result (λ e. e ≡ fault.Memory) }
+{
+    is_there(alloc, conn, CREATE)
 }
 
 /// Makes the table.
 pub fn create_seat<S: Alter>(conn: &mut Connection<S>) -> Result<(), TableFault>
-    requires { HoldsMade (before seat_table) (state S.Store conn.old) }
     ensures ran { Ran (Makes seat_table) (state S.Store conn.old) (state S.Store conn.new) result }
     ensures crash { MayLeave (Makes seat_table) (state S.Store conn.old) (state S.Store conn.new) }
 {
@@ -76,8 +84,9 @@ pub fn create_seat<S: Alter>(conn: &mut Connection<S>) -> Result<(), TableFault>
 
 /// A member takes a seat.
 pub fn insert_seat<S: Alter>(conn: &mut Connection<S>, seat: &SeatRecord) -> Result<(), TableFault>
-    requires { HoldsBook (state S.Store conn.old) }
+    requires { HoldsTable seat_table (state S.Store conn.old) }
     ensures ran { Ran (Inserts seat_table (seat_row seat.now)) (state S.Store conn.old) (state S.Store conn.new) result }
+    ensures held { RefusesHeld seat_table (seat_row seat.now) (state S.Store conn.old) (state S.Store conn.new) result }
     ensures crash { MayLeave (Inserts seat_table (seat_row seat.now)) (state S.Store conn.old) (state S.Store conn.new) }
 {
     run(
@@ -92,7 +101,7 @@ pub fn load_seats<S: Alter>(
     alloc: Global,
     conn: &mut Connection<S>,
 ) -> Result<Vec<SeatRecord>, TableFault>
-    requires { HoldsBook (state S.Store conn.old) }
+    requires { HoldsTable seat_table (state S.Store conn.old) }
     ensures loaded { Loaded seat_table IsSeatRow (λ found. map seat_row found.items) (state S.Store conn.old) (state S.Store conn.new) result }
     ensures crash { LeavesNothing (state S.Store conn.old) (state S.Store conn.new) }
 {
@@ -109,7 +118,7 @@ pub fn seats_of<S: Alter>(
     conn: &mut Connection<S>,
     pairing: &str,
 ) -> Result<Vec<SeatRecord>, TableFault>
-    requires { HoldsBook (state S.Store conn.old) }
+    requires { HoldsTable seat_table (state S.Store conn.old) }
     ensures read { Read seat_table (begins_with (value.Text pairing.now ∷ [])) IsSeatRow (λ found. map seat_row found.items) (state S.Store conn.old) (state S.Store conn.new) result }
     ensures crash { LeavesNothing (state S.Store conn.old) (state S.Store conn.new) }
 {
@@ -127,7 +136,7 @@ pub fn seats_by_crew<S: Alter>(
     conn: &mut Connection<S>,
     crew: &str,
 ) -> Result<Vec<SeatRecord>, TableFault>
-    requires { HoldsBook (state S.Store conn.old) }
+    requires { HoldsTable seat_table (state S.Store conn.old) }
     ensures read { Read seat_table (equals_at 2 (value.Text crew.now)) IsSeatRow (λ found. map seat_row found.items) (state S.Store conn.old) (state S.Store conn.new) result }
     ensures crash { LeavesNothing (state S.Store conn.old) (state S.Store conn.new) }
 {
@@ -145,7 +154,8 @@ pub fn delete_seat<S: Alter>(
     pairing: &str,
     seat: u32,
 ) -> Result<(), TableFault>
-    requires { HoldsBook (state S.Store conn.old) }
+    requires there { HoldsTable seat_table (state S.Store conn.old) }
+    requires free { HoldsUnreferenced seat_table (state S.Store conn.old) }
     ensures ran { Ran (Deletes seat_table (begins_with (value.Text pairing.now ∷ value.Int (pos seat) ∷ []))) (state S.Store conn.old) (state S.Store conn.new) result }
     ensures crash { MayLeave (Deletes seat_table (begins_with (value.Text pairing.now ∷ value.Int (pos seat) ∷ []))) (state S.Store conn.old) (state S.Store conn.new) }
 {

@@ -1,20 +1,20 @@
 //! The table `segment`.
 
-ghost use Rattle.std.specs.Prelude.{[], ◌∷◌, ◌≡◌, map, IfOk, IsTrue, pos};
+ghost use Rattle.std.specs.Prelude.{[], ◌∷◌, map, pos, IfErr, IfOk, IsTrue, ◌↔◌, ◌≡◌};
 ghost use Rattle.sqlite_value.specs.declared.value.Value.TheVariants as value;
 ghost use Rattle.sqlite.specs.Held.{state};
-ghost use Rattle.tables.specs.Schema.{segment_table, before, table_of};
+ghost use Rattle.tables.specs.Schema.{segment_table, IsTable, HasColumns};
 ghost use Rattle.tables.specs.Rows.{Makes, Inserts, Deletes, Updates, begins_with};
 ghost use Rattle.tables.specs.Records.{segment_row, IsSegmentRow, with_segment_times};
-ghost use Rattle.tables.specs.Calls.{HoldsMade, HoldsBook, Ran, MayLeave, Read, Loaded, LeavesNothing};
+ghost use Rattle.tables.specs.Calls.{HoldsTable, HoldsUnreferenced, Ran, RefusesHeld, MayLeave, Read, Loaded, LeavesNothing};
+ghost use Rattle.tables.specs.declared.table_fault.TableFault.TheVariants as fault;
 
-use crate::declared::is_declared;
+use crate::declared::{has_columns, is_there};
 use crate::loading::load;
 use crate::reading::{Record, column, has_width, read_all};
 use crate::statement::run;
 use crate::table_fault::TableFault;
 use sqlite::{Alter, Connection, Row, params};
-use sqlite_schema::schema::Table;
 use std::alloc::Global;
 use values::{Copied, MemoryFault, Text};
 
@@ -83,16 +83,27 @@ impl Record for SegmentRecord {
 const CREATE: &str =
     "CREATE TABLE segment (pairing TEXT NOT NULL, period INTEGER NOT NULL, number INTEGER NOT NULL, flight TEXT NOT NULL, origin TEXT NOT NULL, destination TEXT NOT NULL, out_at INTEGER NOT NULL, in_at INTEGER NOT NULL, act_out INTEGER, act_in INTEGER, PRIMARY KEY (pairing, period, number)) STRICT";
 
-/// Whether a table is declared as `create_segment` declares it, in the tree that it gets in an empty database.
-pub(crate) fn is_segment_table(alloc: Global, table: &Table) -> Result<bool, TableFault>
-    ensures { IfOk result (λ yes. IsTrue yes → table.now ≡ table_of segment_table) }
+/// Whether there is a table `segment` with these columns.
+pub fn has_segment_columns<S: Alter>(
+    alloc: Global,
+    conn: &Connection<S>,
+) -> Result<bool, TableFault>
+    ensures has { IfOk result (λ yes. IsTrue yes ↔ HasColumns segment_table (state S.Store conn.now).now.schema) }
+    ensures fault { IfErr result (λ e. e ≡ fault.Memory) }
 {
-    is_declared(alloc, table, CREATE, 8)
+    has_columns(alloc, conn, CREATE)
+}
+
+/// Whether the table is there as `create_segment` declares it, in a tree of its own.
+pub fn is_segment_there<S: Alter>(alloc: Global, conn: &Connection<S>) -> Result<bool, TableFault>
+    ensures there { IfOk result (λ yes. IsTrue yes ↔ IsTable segment_table (state S.Store conn.now).now.schema) }
+    ensures fault { IfErr result (λ e. e ≡ fault.Memory) }
+{
+    is_there(alloc, conn, CREATE)
 }
 
 /// Makes the table.
 pub fn create_segment<S: Alter>(conn: &mut Connection<S>) -> Result<(), TableFault>
-    requires { HoldsMade (before segment_table) (state S.Store conn.old) }
     ensures ran { Ran (Makes segment_table) (state S.Store conn.old) (state S.Store conn.new) result }
     ensures crash { MayLeave (Makes segment_table) (state S.Store conn.old) (state S.Store conn.new) }
 {
@@ -104,8 +115,9 @@ pub fn insert_segment<S: Alter>(
     conn: &mut Connection<S>,
     segment: &SegmentRecord,
 ) -> Result<(), TableFault>
-    requires { HoldsBook (state S.Store conn.old) }
+    requires { HoldsTable segment_table (state S.Store conn.old) }
     ensures ran { Ran (Inserts segment_table (segment_row segment.now)) (state S.Store conn.old) (state S.Store conn.new) result }
+    ensures held { RefusesHeld segment_table (segment_row segment.now) (state S.Store conn.old) (state S.Store conn.new) result }
     ensures crash { MayLeave (Inserts segment_table (segment_row segment.now)) (state S.Store conn.old) (state S.Store conn.new) }
 {
     run(
@@ -131,7 +143,7 @@ pub fn load_segments<S: Alter>(
     alloc: Global,
     conn: &mut Connection<S>,
 ) -> Result<Vec<SegmentRecord>, TableFault>
-    requires { HoldsBook (state S.Store conn.old) }
+    requires { HoldsTable segment_table (state S.Store conn.old) }
     ensures loaded { Loaded segment_table IsSegmentRow (λ found. map segment_row found.items) (state S.Store conn.old) (state S.Store conn.new) result }
     ensures crash { LeavesNothing (state S.Store conn.old) (state S.Store conn.new) }
 {
@@ -148,7 +160,7 @@ pub fn segments_of<S: Alter>(
     conn: &mut Connection<S>,
     pairing: &str,
 ) -> Result<Vec<SegmentRecord>, TableFault>
-    requires { HoldsBook (state S.Store conn.old) }
+    requires { HoldsTable segment_table (state S.Store conn.old) }
     ensures read { Read segment_table (begins_with (value.Text pairing.now ∷ [])) IsSegmentRow (λ found. map segment_row found.items) (state S.Store conn.old) (state S.Store conn.new) result }
     ensures crash { LeavesNothing (state S.Store conn.old) (state S.Store conn.new) }
 {
@@ -162,7 +174,8 @@ pub fn segments_of<S: Alter>(
 
 /// Removes the segments of a pairing.
 pub fn delete_segments<S: Alter>(conn: &mut Connection<S>, pairing: &str) -> Result<(), TableFault>
-    requires { HoldsBook (state S.Store conn.old) }
+    requires there { HoldsTable segment_table (state S.Store conn.old) }
+    requires free { HoldsUnreferenced segment_table (state S.Store conn.old) }
     ensures ran { Ran (Deletes segment_table (begins_with (value.Text pairing.now ∷ []))) (state S.Store conn.old) (state S.Store conn.new) result }
     ensures crash { MayLeave (Deletes segment_table (begins_with (value.Text pairing.now ∷ []))) (state S.Store conn.old) (state S.Store conn.new) }
 {
@@ -182,7 +195,8 @@ pub fn update_segment<S: Alter>(
     block_out: u32,
     block_in: u32,
 ) -> Result<(), TableFault>
-    requires { HoldsBook (state S.Store conn.old) }
+    requires there { HoldsTable segment_table (state S.Store conn.old) }
+    requires free { HoldsUnreferenced segment_table (state S.Store conn.old) }
     ensures ran { Ran (Updates segment_table (begins_with (value.Text pairing.now ∷ value.Int (pos period) ∷ value.Int (pos number) ∷ [])) (with_segment_times block_out block_in)) (state S.Store conn.old) (state S.Store conn.new) result }
     ensures crash { MayLeave (Updates segment_table (begins_with (value.Text pairing.now ∷ value.Int (pos period) ∷ value.Int (pos number) ∷ [])) (with_segment_times block_out block_in)) (state S.Store conn.old) (state S.Store conn.new) }
 {

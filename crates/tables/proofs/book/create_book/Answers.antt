@@ -1,14 +1,14 @@
 use Rattle.sqlite.specs.Held.{state}
-use Rattle.tables.proofs.Statements.{ran_by, left_by}
+use Rattle.tables.proofs.Statements.{ran_at, left_at}
 use Rattle.tables.proofs.BookTexts.{create_book}
 use Rattle.tables.proofs.book.create_book.Goals as goal
 
 pub returns-clause-ran : goal.returns-clause-ran
 returns-clause-ran g c =
     let given = c.run.ensures in
-    ran_by _ _ c.requires (create_book (state g.S.Store c.args.conn.now)) given.survives c.run.result given.runs
+    ran_at _ _ (create_book (state g.S.Store c.args.conn.now)) given.survives c.run.result given.runs
 
 pub returns-clause-crash : goal.returns-clause-crash
 returns-clause-crash g c =
     let given = c.run.ensures in
-    left_by _ _ c.requires (create_book (state g.S.Store c.args.conn.now)) given.survives
+    left_at _ _ (create_book (state g.S.Store c.args.conn.now)) given.survives

@@ -1,14 +1,14 @@
 use Rattle.sqlite.specs.Held.{state}
-use Rattle.tables.proofs.Statements.{ran_by, left_by}
+use Rattle.tables.proofs.Statements.{ran_by_both, left_by_both}
 use Rattle.tables.proofs.GroundTexts.{delete_ground}
 use Rattle.tables.proofs.ground.delete_ground.Goals as goal
 
 pub returns-clause-ran : goal.returns-clause-ran
 returns-clause-ran g c =
     let given = rw (c.params-to_sql.ensures) at c.run.ensures in
-    ran_by _ _ c.requires (delete_ground c.args.id.now (state g.S.Store c.args.conn.now)) given.survives c.run.result given.runs
+    ran_by_both _ _ c.requires.there c.requires.free (delete_ground c.args.id.now (state g.S.Store c.args.conn.now)) given.survives c.run.result given.runs
 
 pub returns-clause-crash : goal.returns-clause-crash
 returns-clause-crash g c =
     let given = rw (c.params-to_sql.ensures) at c.run.ensures in
-    left_by _ _ c.requires (delete_ground c.args.id.now (state g.S.Store c.args.conn.now)) given.survives
+    left_by_both _ _ c.requires.there c.requires.free (delete_ground c.args.id.now (state g.S.Store c.args.conn.now)) given.survives

@@ -1,14 +1,19 @@
 use Rattle.sqlite.specs.Held.{state}
-use Rattle.tables.proofs.Statements.{ran_by, left_by}
+use Rattle.tables.proofs.Holding.{inserts_by, refuses_by, inserts_left_by}
 use Rattle.tables.proofs.PairingTexts.{insert_pairing}
 use Rattle.tables.proofs.pairing.insert_pairing.Goals as goal
 
 pub returns-clause-ran : goal.returns-clause-ran
 returns-clause-ran g c =
     let given = rw (c.params-to_sql.ensures, c.as_str.ensures) at c.run.ensures in
-    ran_by _ _ c.requires (insert_pairing c.args.pairing.now (state g.S.Store c.args.conn.now)) given.survives c.run.result given.runs
+    inserts_by _ _ c.requires (insert_pairing c.args.pairing.now (state g.S.Store c.args.conn.now)) given.survives c.run.result given.runs
+
+pub returns-clause-held : goal.returns-clause-held
+returns-clause-held g c =
+    let given = rw (c.params-to_sql.ensures, c.as_str.ensures) at c.run.ensures in
+    refuses_by _ _ c.requires (insert_pairing c.args.pairing.now (state g.S.Store c.args.conn.now)) given.survives c.run.result given.runs
 
 pub returns-clause-crash : goal.returns-clause-crash
 returns-clause-crash g c =
     let given = rw (c.params-to_sql.ensures, c.as_str.ensures) at c.run.ensures in
-    left_by _ _ c.requires (insert_pairing c.args.pairing.now (state g.S.Store c.args.conn.now)) given.survives
+    inserts_left_by _ _ c.requires (insert_pairing c.args.pairing.now (state g.S.Store c.args.conn.now)) given.survives

@@ -1,15 +1,20 @@
 use Rattle.tables.proofs.Selecting.{bound_number}
 use Rattle.sqlite.specs.Held.{state}
-use Rattle.tables.proofs.Statements.{ran_by, left_by}
+use Rattle.tables.proofs.Holding.{inserts_by, refuses_by, inserts_left_by}
 use Rattle.tables.proofs.PeriodTexts.{insert_period}
 use Rattle.tables.proofs.period.insert_period.Goals as goal
 
 pub returns-clause-ran : goal.returns-clause-ran
 returns-clause-ran g c =
     let given = rw (c.params-to_sql.ensures, c.params-to_sql-2.ensures, c.params-to_sql-3.ensures, c.params-to_sql-4.ensures, c.params-to_sql-5.ensures, c.params-to_sql-6.ensures, c.as_str.ensures, bound_number c.args.period.now.act_report, bound_number c.args.period.now.act_release) at c.run.ensures in
-    ran_by _ _ c.requires (insert_period c.args.period.now (state g.S.Store c.args.conn.now)) given.survives c.run.result given.runs
+    inserts_by _ _ c.requires (insert_period c.args.period.now (state g.S.Store c.args.conn.now)) given.survives c.run.result given.runs
+
+pub returns-clause-held : goal.returns-clause-held
+returns-clause-held g c =
+    let given = rw (c.params-to_sql.ensures, c.params-to_sql-2.ensures, c.params-to_sql-3.ensures, c.params-to_sql-4.ensures, c.params-to_sql-5.ensures, c.params-to_sql-6.ensures, c.as_str.ensures, bound_number c.args.period.now.act_report, bound_number c.args.period.now.act_release) at c.run.ensures in
+    refuses_by _ _ c.requires (insert_period c.args.period.now (state g.S.Store c.args.conn.now)) given.survives c.run.result given.runs
 
 pub returns-clause-crash : goal.returns-clause-crash
 returns-clause-crash g c =
     let given = rw (c.params-to_sql.ensures, c.params-to_sql-2.ensures, c.params-to_sql-3.ensures, c.params-to_sql-4.ensures, c.params-to_sql-5.ensures, c.params-to_sql-6.ensures, c.as_str.ensures, bound_number c.args.period.now.act_report, bound_number c.args.period.now.act_release) at c.run.ensures in
-    left_by _ _ c.requires (insert_period c.args.period.now (state g.S.Store c.args.conn.now)) given.survives
+    inserts_left_by _ _ c.requires (insert_period c.args.period.now (state g.S.Store c.args.conn.now)) given.survives

@@ -1,0 +1,109 @@
+-- Tables that are declared alike.
+use Rattle.std.proofs.Common.{inl, inr, ◌≡◌, ◌<◌, ◌^◌, ◌==◌, ◌||◌, ◌↔◌, ◌∙◌, ℕ, Bool, List, [], ◌∷◌, true, false, not, None, Some, IsTrue, refl, sym, ap, subst, bytes_eq, eqb-true, eq-eqb}
+use Rattle.std.proofs.lemmas.Bool.{cases_Bool, and_parts, and_from}
+use Rattle.std.proofs.lemmas.Slice.Eq.{bytes_eq-Decides}
+use Rattle.std.specs.List.{AllByRecursion, list_all}
+use Rattle.sqlite_schema.specs.declared.schema.Table.{Table}
+use Rattle.sqlite_schema.specs.declared.schema.Schema.{Schema}
+use Rattle.tables.specs.Schema.{BookTable, IsTable, HasColumns, NoneRefersTo, table_of, table_found}
+use Rattle.sqlite_schema.specs.declared.schema.Reference.{Reference}
+use Rattle.sqlite_schema.specs.Names.{same_name}
+use Rattle.tables.specs.Declarations.{IsSimple, IsLike, HaveNoDefault, StandsAs, is_own_tree, is_not_parent}
+use Rattle.tables.proofs.Known.{some_same}
+
+pub alike : (a b : Table) → IsLike a b → IsSimple a → IsSimple b → a ≡ (let t : Table = record b { tree = a.tree } in t)
+alike a b form bare other = λ i. record {
+  name = form.name i;
+  tree = a.tree;
+  columns = form.columns i;
+  key = (bare.key ∙ sym other.key) i;
+  primary = form.primary i;
+  uniques = form.uniques i;
+  orders = form.orders i;
+  checks = (bare.checks ∙ sym other.checks) i;
+  references = (bare.references ∙ sym other.references) i;
+  computed = (bare.computed ∙ sym other.computed) i;
+  stamps = (bare.stamps ∙ sym other.stamps) i;
+  is_counted = (bare.uncounted ∙ sym other.uncounted) i;
+}
+
+-- ---- a tree of its own
+
+one_own : (t : Table) (tree : ℕ) (name : List ℕ) → (IsTrue (not (t.tree == tree) || bytes_eq t.name name) → t.tree ≡ tree → t.name ≡ name) × ((t.tree ≡ tree → t.name ≡ name) → (not (t.tree == tree) || bytes_eq t.name name) ≡ true)
+one_own t tree name = elim (cases_Bool (t.tree == tree)) [
+  | inl here ↦ rw here (λ h _. (bytes_eq-Decides t.name name).0 h, λ h. (bytes_eq-Decides t.name name).1 (h (eqb-true _ _ here)))
+  | inr other ↦ rw other (λ h same. absurd (let e = eq-eqb _ _ same in cc), λ h. refl)
+]
+
+own_tree : (tables : List Table) (tree : ℕ) (name : List ℕ) → (is_own_tree tables tree name ≡ true → AllByRecursion (λ t. t.tree ≡ tree → t.name ≡ name) tables) × (AllByRecursion (λ t. t.tree ≡ tree → t.name ≡ name) tables → is_own_tree tables tree name ≡ true)
+own_tree [] tree name = (λ h. tt, λ h. refl)
+own_tree (t ∷ ts) tree name =
+    let more = own_tree ts tree name in
+    let one = one_own t tree name in
+    (λ h. let parts = and_parts _ _ h in (one.0 parts.0, more.0 parts.1), λ h. and_from _ _ (one.1 h.0) (more.1 h.1))
+
+-- ---- what a name finds
+
+module _ (it : BookTable) (schema : Schema) (wanted : Table) (is : wanted ≡ table_of it 0) (plain : HaveNoDefault it.columns) where
+  named : table_found schema wanted.name ≡ table_found schema it.name
+  named = ap (λ (w : Table). table_found schema w.name) is
+
+  no_default : HaveNoDefault wanted.columns
+  no_default = subst HaveNoDefault (sym (ap (λ (w : Table). w.columns) is)) plain
+
+  pub none_has : None ≡ table_found schema wanted.name → IsTrue false ↔ HasColumns it schema
+  none_has none = (λ h. absurd (cc), λ h. absurd (let e = none ∙ named ∙ h.1 in cc))
+
+  pub none_there : None ≡ table_found schema wanted.name → IsTrue false ↔ IsTable it schema
+  none_there none = (λ h. absurd (cc), λ h. absurd (let e = none ∙ named ∙ h.found in cc))
+
+  module _ (t : Table) (found : Some t ≡ table_found schema wanted.name) (result : Bool) where
+    same_table : (u : Table) → table_found schema it.name ≡ Some u → t ≡ u
+    same_table u h = some_same (found ∙ named ∙ h)
+
+    pub some_has : (IsTrue result → t.columns ≡ wanted.columns) → (t.columns ≡ wanted.columns → HaveNoDefault wanted.columns → IsTrue result) → IsTrue result ↔ HasColumns it schema
+    some_has same all = (
+      λ h. (t, sym (found ∙ named), same h ∙ ap (λ (w : Table). w.columns) is),
+      λ h. all (ap (λ (u : Table). u.columns) (same_table h.0 h.1) ∙ h.2 ∙ sym (ap (λ (w : Table). w.columns) is)) no_default,
+    )
+
+    pub some_there : (IsTrue result → StandsAs schema.tables t wanted) → (StandsAs schema.tables t wanted → IsSimple wanted → HaveNoDefault wanted.columns → IsTrue result) → IsTrue result ↔ IsTable it schema
+    some_there same all = (
+      λ h.
+          let stands = same h in
+          let alike : t ≡ table_of it t.tree = stands.alike ∙ ap (λ (w : Table). let u : Table = record w { tree = t.tree } in u) is in
+          record {
+            tree = t.tree;
+            found = sym (found ∙ named) ∙ ap Some alike;
+            low = stands.low;
+            alone = (own_tree schema.tables t.tree it.name).0 (subst (λ n. is_own_tree schema.tables t.tree n ≡ true) (ap (λ (w : Table). w.name) is) stands.own);
+          },
+      λ h.
+          let alike = same_table (table_of it h.tree) h.found in
+          let tree = ap (λ (u : Table). u.tree) alike in
+          all (record {
+            alike = alike ∙ ap (λ n. table_of it n) (sym tree) ∙ ap (λ (w : Table). let u : Table = record w { tree = t.tree } in u) (sym is);
+            low = subst (λ n. n < 2 ^ 31) (sym tree) h.low;
+            own = subst (λ n. is_own_tree schema.tables n wanted.name ≡ true) (sym tree) (subst (λ n. is_own_tree schema.tables h.tree n ≡ true) (sym (ap (λ (w : Table). w.name) is)) ((own_tree schema.tables h.tree it.name).1 h.alone));
+          }) (subst IsSimple (sym is) (record { key = refl; uncounted = refl; checks = refl; references = refl; computed = refl; stamps = refl })) no_default,
+    )
+
+-- ---- foreign keys
+
+test_not : (b : Bool) → (not b ≡ true → b ≡ false) × (b ≡ false → not b ≡ true)
+test_not true = (λ h. absurd (cc), λ h. absurd (cc))
+test_not false = (λ h. refl, λ h. refl)
+
+-- a test that holds of each element
+module _ {X : Type 0} (p : X → Bool) (P : X → Type 0) (means : (x : X) → (p x ≡ true → P x) × (P x → p x ≡ true)) where
+  all_mean : (xs : List X) → (list_all p xs ≡ true → AllByRecursion P xs) × (AllByRecursion P xs → list_all p xs ≡ true)
+  all_mean [] = (λ h. tt, λ h. refl)
+  all_mean (x ∷ xs) =
+      let more = all_mean xs in
+      (λ h. let parts = and_parts _ _ h in ((means x).0 parts.0, more.0 parts.1), λ h. and_from _ _ ((means x).1 h.0) (more.1 h.1))
+
+pub none_refers : (schema : Schema) (name : List ℕ) (result : Bool) → result ≡ is_not_parent schema.tables name → IsTrue result ↔ NoneRefersTo name schema
+none_refers schema name result is =
+    let it = all_mean (λ (t : Table). list_all (λ ref. not (same_name name ref.parent)) t.references) (λ (t : Table). AllByRecursion (λ ref. same_name name ref.parent ≡ false) t.references)
+    (λ t. all_mean (λ (ref : Reference). not (same_name name ref.parent)) (λ (ref : Reference). same_name name ref.parent ≡ false) (λ ref. test_not (same_name name ref.parent)) t.references) schema.tables in
+    (λ h. it.0 (sym is ∙ h), λ h. is ∙ it.1 h)

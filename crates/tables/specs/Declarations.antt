@@ -1,0 +1,47 @@
+-- What the functions of this crate say to one another of how a table is declared. No public clause names these.
+use Rattle.std.specs.Prelude.{◌≡◌, ◌<◌, ◌^◌, Ok, ◌||◌, ◌==◌, [], None, true, false, not, All, Bool, List, ℕ, bytes_eq}
+use Rattle.std.specs.List.{list_all}
+use Rattle.sqlite_value.specs.declared.value.Value.TheVariants.{Null}
+use Rattle.sqlite_resolve.specs.Compile.{table_defined_by}
+use Rattle.sqlite_schema.specs.Names.{same_name}
+use Rattle.sqlite_schema.specs.declared.schema.Column.{Column}
+use Rattle.sqlite_schema.specs.declared.schema.Table.{Table}
+use Rattle.tables.specs.Schema.{BookTable, table_of}
+
+-- no column is the row's number, and nothing is counted, checked, referred to or computed
+pub record IsSimple (t : Table) : Type 0 where
+  pub key : t.key ≡ None
+  pub uncounted : t.is_counted ≡ false
+  pub checks : t.checks ≡ []
+  pub references : t.references ≡ []
+  pub computed : t.computed ≡ []
+  pub stamps : t.stamps ≡ record { places = []; terms = []; formats = [] }
+
+abbrev pub HaveNoDefault : List Column → Type 0
+HaveNoDefault = All (λ c. c.default ≡ Null)
+
+pub record IsLike (a b : Table) : Type 0 where
+  pub name : a.name ≡ b.name
+  pub columns : a.columns ≡ b.columns
+  pub primary : a.primary ≡ b.primary
+  pub uniques : a.uniques ≡ b.uniques
+  pub orders : a.orders ≡ b.orders
+
+-- each table in this tree has this name
+abbrev pub is_own_tree : List Table → ℕ → List ℕ → Bool
+is_own_tree tables tree name = list_all (λ t. not (t.tree == tree) || bytes_eq t.name name) tables
+
+-- declared alike, in a low tree of its own
+pub record StandsAs (tables : List Table) (found wanted : Table) : Type 0 where
+  pub alike : found ≡ (let t : Table = record wanted { tree = found.tree } in t)
+  pub low : found.tree < 2 ^ 31
+  pub own : is_own_tree tables found.tree wanted.name ≡ true
+
+-- the text declares the table
+pub record IsTextOf (it : BookTable) (text : List ℕ) : Type 0 where
+  pub defines : table_defined_by text ≡ Ok (table_of it 0)
+  pub plain : HaveNoDefault it.columns
+
+-- no table refers to one of this name
+abbrev pub is_not_parent : List Table → List ℕ → Bool
+is_not_parent tables name = list_all (λ t. list_all (λ ref. not (same_name name ref.parent)) t.references) tables
