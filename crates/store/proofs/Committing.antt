@@ -11,7 +11,7 @@ use Rattle.command.specs.Orders.{IsMade}
 use Rattle.roster.specs.State as roster
 use Rattle.roster.specs.Steps.{after}
 use Rattle.roster.specs.declared.change.Change.{Change}
-use Rattle.tables.specs.Calls.{Begun, Committed}
+use Rattle.tables.specs.Calls.{Begun, Committed, Leaves as NotMade}
 use Rattle.store.specs.Calls.{IsFit, IsReady, Wrote}
 use Rattle.store.specs.Kept.{IsBookOf}
 use Rattle.store.specs.Next.{IsNext}
@@ -84,6 +84,14 @@ either_leaves old last new s t Done survives holds leaves = record {
 }
 
 -- ---- The tables stay those of a book
+
+pub unbegun_over : (old new : State) → (HasCleanDisk new → HasCleanDisk old) → IsOverBook old → (HasCleanDisk old → IsTrue old.is_open → old.now ≡ old.committed) → (HasCleanDisk new → NotMade old new) → IsOverBook new
+unbegun_over old new before over settled left clean opened = elim (left clean) [
+  | inl same ↦ subst IsFit (sym same.0.now_is) (over (before clean) same.0.was_open)
+  | inr back ↦
+      let was = back.was_open opened in
+      subst IsFit (settled (before clean) was ∙ sym (back.undone opened).0) (over (before clean) was)
+]
 
 pub ended_fit : {A E : Type 0} {Is : Database → Database → Type 0} (begun last new : State) (r : Result A E) → Wrote Is begun last r → IsOk r → (HasCleanDisk new → HasCleanDisk last) →
     (HasCleanDisk new → Committed last new) → IsOverBook new

@@ -108,6 +108,7 @@ seat_changes c None old new fit h =
       has = λ x k. inr (freed.has x k);
       all = λ x k. elim k [ inl none ↦ absurd none | inr was ↦ freed.all x was ];
       others = freed.others;
+      keeps = freed.keeps;
       stored = freed.stored;
     })
 seat_changes c (Some who) old new fit h =

@@ -7,12 +7,12 @@ use Rattle.sqlite_rules.specs.Lists.{Has}
 use Rattle.sqlite.specs.Effect.{Database, IsDatabase}
 use Rattle.sqlite.specs.State.{State, HasCleanDisk, IsLive}
 use Rattle.roster.specs.State.{empty}
-use Rattle.tables.specs.Schema.{book_table, book_tables, empty_schema, IsBook}
+use Rattle.tables.specs.Schema.{book_table, IsBook}
 use Rattle.tables.specs.Records.{book_row}
 use Rattle.tables.specs.Rows.{Inserts, rows_of}
 use Rattle.store.specs.Calls.{Changed, Then}
 use Rattle.store.specs.Kept.{IsBookOf, AreStored}
-use Rattle.store.specs.Making.{HasEmpty, Grows}
+use Rattle.store.specs.Making.{HasEmpty, Grows, AreUnreferenced, all_tables}
 use Rattle.store.specs.Rows.{TableName, book, crew, pairing, period, segment, seat, ground_duty, exceedance, request, table, HasJust, In, Rows}
 use Rattle.store.proofs.Tables.{is_same, rows_stay, stored_stays, no_rows, none_stored, made_book}
 
@@ -31,7 +31,7 @@ no_row zone ground_duty row other is = nothing _ _ is.0.there
 no_row zone exceedance row other is = nothing _ _ is.0.there
 no_row zone request row other is = nothing _ _ is.0.there
 
-module _ (zone : List ℕ) (mid new : Database) (made : HasEmpty book_tables mid)
+module _ (zone : List ℕ) (mid new : Database) (made : HasEmpty all_tables mid)
     (inserts : Inserts book_table (book_row (record { one = pos 1; version = pos 1; zone = zone })) mid new) where
   none_before : (name : TableName) (row : Row) → Has (rows_of (table name) mid) row → ⊥
   none_before name row h = subst (λ (rows : List Row). Has rows row) (no_rows mid made name) h
@@ -62,12 +62,12 @@ module _ (zone : List ℕ) (mid new : Database) (made : HasEmpty book_tables mid
   }
 
 -- the same of the calls that make it in a transaction
-pub made_holds : {A E : Type 0} (zone text : List ℕ) (begun last : State) (r : Result A E) → text ≡ zone → (HasCleanDisk begun → begun.now.schema ≡ empty_schema) →
-    Changed (Then (Grows [] book_tables) (Inserts book_table (book_row (record { one = pos 1; version = pos 1; zone = text })))) begun last r →
+pub made_holds : {A E : Type 0} (zone text : List ℕ) (begun last : State) (r : Result A E) → text ≡ zone → (HasCleanDisk begun → AreUnreferenced begun.now.schema) →
+    Changed (Then (Grows [] all_tables) (Inserts book_table (book_row (record { one = pos 1; version = pos 1; zone = text })))) begun last r →
     IsLive last → HasCleanDisk last → IsOk r → IsBookOf (empty zone) last.now
 made_holds zone text begun last (Err fault) same fresh changed live clean is = absurd (cc)
 made_holds zone text begun last (Ok a) same fresh changed live clean is =
     let it = changed.done clean in
-    let first : HasEmpty [] begun.now = record { schema = fresh (omega (arith, changed.left.clean)); empty = tt } in
+    let first : HasEmpty [] begun.now = record { there = tt; unreferenced = fresh (omega (arith, changed.left.clean)) } in
     let insert = subst (λ z. Inserts book_table (book_row (record { one = pos 1; version = pos 1; zone = z })) it.0.0 last.now) same it.0.2 in
     empty_book zone it.0.0 last.now (it.0.1 first) insert (live it.1.is_open).0

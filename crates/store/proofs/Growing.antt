@@ -5,8 +5,8 @@ use Rattle.sqlite_value.specs.Order.{Row}
 use Rattle.sqlite_schema.specs.declared.schema.Table.{Table}
 use Rattle.sqlite_rules.specs.Lists.{Has}
 use Rattle.sqlite.specs.Effect.{Database}
-use Rattle.tables.specs.Schema.{BookTable}
-use Rattle.tables.specs.Rows.{IsStored, Changes, rows_of}
+use Rattle.tables.specs.Schema.{BookTable, IsTable}
+use Rattle.tables.specs.Rows.{IsStored, Changes, rows_of, stored}
 use Rattle.store.specs.Calls.{Each, IsFit}
 use Rattle.store.specs.Rows.{TableName, table}
 use Rattle.store.proofs.Lists.{some_same}
@@ -22,7 +22,7 @@ all_hold P f (x ∷ xs) = (f x, all_hold P f xs)
 
 module _ (kept : BookTable) where
   abbrev Stays : Database → Database → Table → Type 0
-  Stays old new t = t.tree ≢ kept.tree → new.trees t.tree ≡ old.trees t.tree
+  Stays old new t = t.name ≢ kept.name → new.trees t.tree ≡ old.trees t.tree
 
   -- nothing has changed
   pub unchanged : (old new : Database) (Is : Row → Type 0) → new ≡ old → ((x : Row) → Has (rows_of kept old) x ↔ Is x) → Changes kept old new Is
@@ -31,7 +31,8 @@ module _ (kept : BookTable) where
     has = λ x h. (is x).0 (subst (λ d. Has (rows_of kept d) x) same h);
     all = λ x h. subst (λ d. Has (rows_of kept d) x) (sym same) ((is x).1 h);
     others = all_hold (Stays old new) (λ t _. ap (λ (d : Database). d.trees t.tree) same) old.schema.tables;
-    stored = λ stored. subst (IsStored kept) (sym same) stored;
+    keeps = λ other there apart. ap (stored other) same;
+    stored = λ numbered. subst (IsStored kept) (sym same) numbered;
   }
 
   -- one change after the other
@@ -42,7 +43,8 @@ module _ (kept : BookTable) where
     all = λ x h. two.all x ((same x).1 h);
     others = all_both (Stays a b) (Stays b c) (Stays a c) (λ t p q other. q other ∙ p other) a.schema.tables one.others
         (subst (λ (s : List Table). AllByRecursion (Stays b c) s) (ap (λ s. s.tables) one.schema) two.others);
-    stored = λ stored. two.stored (one.stored stored);
+    keeps = λ other there apart. two.keeps other (subst (IsTable other) (sym one.schema) there) apart ∙ one.keeps other there apart;
+    stored = λ numbered. two.stored (one.stored numbered);
   }
 
 -- ---- Rows that are added for each value

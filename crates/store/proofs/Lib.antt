@@ -14,6 +14,7 @@ pub mod EffectSeats
 pub mod Lists
 pub mod Tables
 pub mod Tests
+pub mod Growth
 pub mod Growing
 pub mod Values
 pub mod SamePairings

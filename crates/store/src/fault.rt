@@ -15,7 +15,7 @@ pub enum StoreFault {
 /// Why no book was made.
 #[derive(Clone, Copy, Debug, PartialEq, Eq)]
 pub enum CreateFault {
-    /// The database isn't empty: refusal 43.
+    /// The database has a table with a name of the book's, or a foreign key that refers to one: refusal 43.
     NotEmpty,
     /// A fault of the store (90) or want of memory (91).
     Fault(StoreFault),

@@ -1,14 +1,14 @@
-ghost use Rattle.std.specs.Prelude.{◌≡◌, ◌≢◌, IfOk, IfErr, IsErrAnd, OnOk, OnErr, Err};
+ghost use Rattle.std.specs.Prelude.{◌≡◌, IfOk, IfErr, IsErrAnd, OnOk, OnErr, Err};
 ghost use Rattle.sqlite.specs.State.{HasCleanDisk};
 ghost use Rattle.sqlite.specs.Held.{state};
 ghost use Rattle.roster.specs.State.{State, empty};
 ghost use Rattle.roster.specs.Steps.{after};
-ghost use Rattle.tables.specs.Schema.{empty_schema};
+ghost use Rattle.store.specs.Making.{IsFree};
 ghost use Rattle.store.specs.Next.{IsNext};
 ghost use Rattle.store.specs.Outcomes.{Leaves, LeavesSome, AddsNothing, MayAdd, HoldsNow, IsOutside, IsOverBook, one, either};
 
 use crate::fault::{CreateFault, StoreFault};
-use crate::making::make_tables;
+use crate::making::{is_free, make_tables};
 use crate::records::request_record;
 use crate::transaction::end;
 use crate::writing::write_change;
@@ -17,7 +17,6 @@ use sqlite::{Alter, Connection};
 use std::alloc::Global;
 use std::marker::Model;
 use tables::book::BookRecord;
-use tables::book_schema::is_empty;
 use tables::transaction::begin;
 use time117::Zone;
 use values::Text;
@@ -47,8 +46,9 @@ impl<S: Alter> Model for Store<S> {
 }
 
 impl<S: Alter> Store<S> {
-    /// Makes the tables of a book in an empty database, in one transaction. Refused is a database that has a table, an
-    /// index or a view (43), a store's fault (90), and want of memory (91); then the connection is handed back.
+    /// Makes the tables of a book, in one transaction. Refused is a database that has a table with the name of one of them,
+    /// or a foreign key that refers to one (43), a store's fault (90), and want of memory (91); then the connection is
+    /// handed back.
     pub fn create(
         alloc: Global,
         mut conn: Connection<S>,
@@ -58,8 +58,8 @@ impl<S: Alter> Store<S> {
         ensures ok { IfOk result (λ it. Leaves (state S.Store it) (one (empty zone.now))) }
         ensures made { IfOk result (λ it. HoldsNow (state S.Store it) (empty zone.now)) }
         ensures some { IfOk result (λ it. LeavesSome (state S.Store it)) }
-        ensures refused { (state S.Store conn).now.schema ≢ empty_schema → IsErrAnd result (λ e. e.0 ≡ CreateFault.NotEmpty) }
-        ensures not_empty { IfErr result (λ e. e.0 ≡ CreateFault.NotEmpty → ((state S.Store conn).now.schema ≢ empty_schema) × (e.1 ≡ conn)) }
+        ensures refused { (¬ IsFree (state S.Store conn).now.schema) → IsErrAnd result (λ e. e.0 ≡ CreateFault.NotEmpty) }
+        ensures not_empty { IfErr result (λ e. e.0 ≡ CreateFault.NotEmpty → (¬ IsFree (state S.Store conn).now.schema) × (e.1 ≡ conn)) }
         ensures memory { IfErr result (λ e. e.0 ≡ CreateFault.Fault StoreFault.Memory → AddsNothing (state S.Store conn) (state S.Store e.1)) }
         ensures store { IfErr result (λ e. MayAdd (state S.Store conn) (state S.Store e.1) (empty zone.now)) }
         ensures outside { IfErr result (λ e. IsOutside (state S.Store e.1)) }
@@ -100,13 +100,13 @@ fn make<S: Alter>(alloc: Global, conn: &mut Connection<S>, zone: &Zone) -> Resul
     ensures made { OnOk result (HoldsNow (state S.Store conn.new) (empty zone.now)) }
     ensures some { LeavesSome (state S.Store conn.new) }
     ensures over { OnOk result (IsOverBook (state S.Store conn.new)) }
-    ensures refused { (state S.Store conn.old).now.schema ≢ empty_schema → result ≡ Err CreateFault.NotEmpty }
-    ensures not_empty { result ≡ Err CreateFault.NotEmpty → ((state S.Store conn.old).now.schema ≢ empty_schema) × (conn.new ≡ conn.old) }
+    ensures refused { (¬ IsFree (state S.Store conn.old).now.schema) → result ≡ Err CreateFault.NotEmpty }
+    ensures not_empty { result ≡ Err CreateFault.NotEmpty → (¬ IsFree (state S.Store conn.old).now.schema) × (conn.new ≡ conn.old) }
     ensures memory { result ≡ Err (CreateFault.Fault StoreFault.Memory) → AddsNothing (state S.Store conn.old) (state S.Store conn.new) }
     ensures store { OnErr result (MayAdd (state S.Store conn.old) (state S.Store conn.new) (empty zone.now)) }
     ensures outside { IsOutside (state S.Store conn.new) }
 {
-    if !is_empty(conn) {
+    if !is_free(conn) {
         return Err(CreateFault::NotEmpty);
     }
     let book = BookRecord {

@@ -1,10 +1,11 @@
-use Rattle.std.proofs.Common.{◌≡◌, arith, rules, ap, ◌∙◌, IsOk}
+use Rattle.std.proofs.Common.{◌≡◌, arith, rules, sym, subst, IsOk}
 use Rattle.sqlite.specs.State.{HasCleanDisk}
 use Rattle.sqlite.specs.Held.{state}
 use Rattle.sqlite.proofs.StateLemmas.{survives_then}
 use Rattle.sqlite.specs.Effect.{Database}
 use Rattle.roster.specs.State.{empty}
-use Rattle.tables.specs.Schema.{empty_schema}
+use Rattle.store.specs.Making.{IsFree, AreUnreferenced}
+use Rattle.store.proofs.Growth.{unreferenced}
 use Rattle.store.proofs.EmptyBook.{made_holds}
 use Rattle.store.proofs.Ending.{on_err, ended_leaves, ended_now, ended_over, ended_adds}
 use Rattle.store.proofs.store.make.Goals as goal
@@ -15,8 +16,9 @@ returns-clause-ok g c =
     let begun = state G c.begin.new.conn in
     let last = state G c.make_tables-done.new.conn in
     let text : c.new.result ≡ c.args.zone.now = search rules in
-    let fresh : HasCleanDisk begun → begun.now.schema ≡ empty_schema = λ clean.
-    ap (λ (d : Database). d.schema) (c.in_ok-begin.ensures.gave clean).0.now_is ∙ search rules in
+    let free : IsFree (state G c.args.conn.now).now.schema = search rules in
+    let fresh : HasCleanDisk begun → AreUnreferenced begun.now.schema = λ clean.
+    subst (λ (d : Database). AreUnreferenced d.schema) (sym (c.in_ok-begin.ensures.gave clean).0.now_is) (unreferenced (state G c.args.conn.now).now.schema free) in
     let before = λ (clean : HasCleanDisk (state G c.end.new.conn)). let d : HasCleanDisk last = omega (arith, c.end.ensures.crash.clean) in d in
     let holds = λ (clean : HasCleanDisk (state G c.end.new.conn)).
     made_holds c.args.zone.now c.new.result begun last c.make_tables-done.result text fresh c.make_tables-done.ensures c.end.ensures.live (before clean) c.in_ok-end.ensures.whole in
@@ -28,8 +30,9 @@ returns-clause-made g c =
     let begun = state G c.begin.new.conn in
     let last = state G c.make_tables-done.new.conn in
     let text : c.new.result ≡ c.args.zone.now = search rules in
-    let fresh : HasCleanDisk begun → begun.now.schema ≡ empty_schema = λ clean.
-    ap (λ (d : Database). d.schema) (c.in_ok-begin.ensures.gave clean).0.now_is ∙ search rules in
+    let free : IsFree (state G c.args.conn.now).now.schema = search rules in
+    let fresh : HasCleanDisk begun → AreUnreferenced begun.now.schema = λ clean.
+    subst (λ (d : Database). AreUnreferenced d.schema) (sym (c.in_ok-begin.ensures.gave clean).0.now_is) (unreferenced (state G c.args.conn.now).now.schema free) in
     let before = λ (clean : HasCleanDisk (state G c.end.new.conn)). let d : HasCleanDisk last = omega (arith, c.end.ensures.crash.clean) in d in
     let holds = λ (clean : HasCleanDisk (state G c.end.new.conn)).
     made_holds c.args.zone.now c.new.result begun last c.make_tables-done.result text fresh c.make_tables-done.ensures c.end.ensures.live (before clean) c.in_ok-end.ensures.whole in
@@ -41,8 +44,9 @@ returns-clause-over g c =
     let begun = state G c.begin.new.conn in
     let last = state G c.make_tables-done.new.conn in
     let text : c.new.result ≡ c.args.zone.now = search rules in
-    let fresh : HasCleanDisk begun → begun.now.schema ≡ empty_schema = λ clean.
-    ap (λ (d : Database). d.schema) (c.in_ok-begin.ensures.gave clean).0.now_is ∙ search rules in
+    let free : IsFree (state G c.args.conn.now).now.schema = search rules in
+    let fresh : HasCleanDisk begun → AreUnreferenced begun.now.schema = λ clean.
+    subst (λ (d : Database). AreUnreferenced d.schema) (sym (c.in_ok-begin.ensures.gave clean).0.now_is) (unreferenced (state G c.args.conn.now).now.schema free) in
     let before = λ (clean : HasCleanDisk (state G c.end.new.conn)). let d : HasCleanDisk last = omega (arith, c.end.ensures.crash.clean) in d in
     let holds = λ (clean : HasCleanDisk (state G c.end.new.conn)).
     made_holds c.args.zone.now c.new.result begun last c.make_tables-done.result text fresh c.make_tables-done.ensures c.end.ensures.live (before clean) c.in_ok-end.ensures.whole in
@@ -56,8 +60,9 @@ returns-in_err-end-clause-store g c =
     let last = state G c.make_tables-done.new.conn in
     let new = state G c.end.new.conn in
     let text : c.new.result ≡ c.args.zone.now = search rules in
-    let fresh : HasCleanDisk begun → begun.now.schema ≡ empty_schema = λ clean.
-    ap (λ (d : Database). d.schema) (c.in_ok-begin.ensures.gave clean).0.now_is ∙ search rules in
+    let free : IsFree (state G c.args.conn.now).now.schema = search rules in
+    let fresh : HasCleanDisk begun → AreUnreferenced begun.now.schema = λ clean.
+    subst (λ (d : Database). AreUnreferenced d.schema) (sym (c.in_ok-begin.ensures.gave clean).0.now_is) (unreferenced (state G c.args.conn.now).now.schema free) in
     let before = λ (clean : HasCleanDisk new). let d : HasCleanDisk last = omega (arith, c.end.ensures.crash.clean) in d in
     let holds = λ (clean : HasCleanDisk new) (is : IsOk c.make_tables-done.result).
     made_holds c.args.zone.now c.new.result begun last c.make_tables-done.result text fresh c.make_tables-done.ensures c.end.ensures.live (before clean) is in

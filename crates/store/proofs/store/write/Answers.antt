@@ -4,7 +4,7 @@ use Rattle.sqlite.specs.State.{HasCleanDisk}
 use Rattle.sqlite.proofs.StateLemmas.{survives_then, survives_weaker}
 use Rattle.roster.specs.Steps.{after}
 use Rattle.store.specs.Outcomes.{Leaves, one}
-use Rattle.store.proofs.Committing.{begun_ready, begun_holds, written_holds, kept_leaves, either_leaves, ended_fit, undone_fit, none_done, over_at_end, weaker}
+use Rattle.store.proofs.Committing.{begun_ready, begun_holds, written_holds, kept_leaves, either_leaves, ended_fit, undone_fit, none_done, over_at_end, unbegun_over, weaker}
 use Rattle.store.proofs.Ending.{on_ok, ended_leaves, ended_now}
 use Rattle.store.proofs.store.write.Goals as goal
 
@@ -89,3 +89,20 @@ returns-clause-over g c =
     over_at_end new c.end.result c.end.ensures.whole c.end.ensures.ok c.end.ensures.kept
     (λ is ended. ended_fit begun last new c.write_change-done.result c.write_change-done.ensures is late ended)
     (λ kept. undone_fit old begun last new c.write_change-done.result c.write_change-done.ensures late before c.requires.over settled c.in_ok-begin.ensures.gave kept c.end.ensures.settled)
+
+pub write_change-done-requires-clause-ready : goal.write_change-done-requires-clause-ready
+write_change-done-requires-clause-ready g c =
+    let G = g.S.Store in
+    let old = state G c.args.conn.now in
+    let begun = state G c.begin.new.conn in
+    let before = λ (clean : HasCleanDisk begun). let d : HasCleanDisk old = omega (arith, c.in_ok-begin.ensures.crash.clean) in d in
+    begun_ready old begun before c.requires.over c.in_ok-begin.ensures.gave
+
+pub returns-in_err-begin-clause-over : goal.returns-in_err-begin-clause-over
+returns-in_err-begin-clause-over g c =
+    let G = g.S.Store in
+    let old = state G c.args.conn.now in
+    let new = state G c.begin.new.conn in
+    let settled = λ (clean : HasCleanDisk old). c.is_autocommit-settled.ensures.settled (c.is_autocommit-settled.ensures.value ∙ ap not (c.requires.outside clean)) in
+    let before = λ (clean : HasCleanDisk new). let d : HasCleanDisk old = omega (arith, c.in_err-begin.ensures.crash.clean) in d in
+    unbegun_over old new before c.requires.over settled (λ clean. (c.in_err-begin.ensures.gave clean).0)
