@@ -1,12 +1,17 @@
 -- BEGIN, COMMIT and ROLLBACK.
-use Rattle.std.proofs.Common.{◌≡◌, inl, inr, ℕ, List, [], codes, None, Ok, Err, Result, refl, sym, ap, subst, ◌∙◌}
+use Rattle.std.proofs.Common.{◌≡◌, ◌⊎◌, ◌≤◌, inl, inr, ℕ, List, [], codes, length, None, Ok, Err, Result, false, IsSome, refl, sym, ap, subst, ◌∙◌, arith}
+use Rattle.std.proofs.lemmas.Bool.{cases_Bool}
 use Rattle.sqlite_trees.specs.Tree.{Trees}
 use Rattle.sqlite_schema.specs.declared.schema.Schema.{Schema}
 use Rattle.sqlite_schema.specs.declared.command.Command.{Command}
 use Rattle.sqlite_schema.specs.declared.command.Command.TheVariants.{Begin, Commit, Rollback}
 use Rattle.sqlite_tied.specs.Compute.{everything}
 use Rattle.sqlite.specs.Listing.{understood}
-use Rattle.sqlite.specs.State.{State, CommitsBy, MayCommit, Survives, IsRolledBack, text_of}
+use Rattle.sqlite_resolve.specs.declared.compiled.Compiled.{Compiled}
+use Rattle.sqlite_resolve.specs.declared.error.CompileError.{CompileError}
+use Rattle.sqlite.specs.declared.error.Error.{Error}
+use Rattle.sqlite.specs.Calls.{IsWrite}
+use Rattle.sqlite.specs.State.{State, CommitsBy, MayCommit, Survives, IsRolledBack, text_of, Executes, ExecutesIn, IsNotRun, IsNoStatement, IsMisplaced, MayChange, shows_rows}
 use Rattle.sqlite.proofs.StateLemmas.{survives_weaker}
 use Rattle.sqlite.proofs.Callers.{IsPlain, command_of, runs_as}
 use Rattle.tables.proofs.Statements.{failed, some_fault}
@@ -66,3 +71,54 @@ rollback_left old new = survives_weaker old new _ _ (λ _ db h. elim (may _ Roll
   | inl ends ↦ elim ends.0 [ inl e ↦ cc | inr r ↦ let e = r.2 in cc ]
   | inr w ↦ let e = w.3 in cc
 ])
+
+-- ---- ROLLBACK leaves no transaction, whatever it answers
+
+-- a whole text without parameters
+abbrev IsWholeRollback : Result Compiled CompileError → Type 0
+IsWholeRollback (Ok c) = (c.command ≡ Rollback) × (c.returning ≡ None) × (c.formats ≡ []) × (c.names ≡ []) × (c.tail ≡ 8)
+IsWholeRollback (Err e) = ⊥
+
+whole_rollback : (schema : Schema) → IsWholeRollback (understood schema (codes "ROLLBACK"))
+unfolding understood everything
+whole_rollback schema = (refl, refl, refl, refl, refl)
+
+abbrev whole : (schema : Schema) (c : Compiled) → understood schema (codes "ROLLBACK") ≡ Ok c → IsWholeRollback (Ok c)
+whole schema c is = subst IsWholeRollback is (whole_rollback schema)
+
+is_statement : (s : State) (e : Error) → IsNoStatement s (codes "ROLLBACK") [] e → ⊥
+is_statement s e (inl (fault, is, _)) = subst IsWholeRollback is (whole_rollback s.now.schema)
+is_statement s e (inr (c, is, inl (short, _))) =
+    let w = whole s.now.schema c is in
+    short (subst (λ n. 8 ≤ n) (sym w.4) (omega arith))
+is_statement s e (inr (c, is, inr (inl (differ, _)))) = let w = whole s.now.schema c is in differ (ap length (sym w.3))
+is_statement s e (inr (c, is, inr (inr (some, _)))) = let w = whole s.now.schema c is in some w.2
+
+misplaced : (s : State) (e : Error) → IsMisplaced s Rollback e → s.in_transaction ≡ false
+misplaced s e (inl (_, inl begin)) = absurd (let no = begin.0 in cc)
+misplaced s e (inl (_, inr it)) = it.1
+misplaced s e (inr (_, name, inl release, _)) = absurd (cc)
+misplaced s e (inr (_, name, inr back, _)) = absurd (cc)
+
+refused : (s : State) (e : Error) (c : Compiled) (X : Type 0) → IsWholeRollback (Ok c) → IsMisplaced s c.command e ⊎ (MayChange c × X) → s.in_transaction ≡ false
+refused s e c X w (inl is) = misplaced s e (subst (λ k. IsMisplaced s k e) w.0 is)
+refused s e c X w (inr (inl writes, _)) = absurd (subst IsWrite w.0 writes)
+refused s e c X w (inr (inr some, _)) = absurd (let no = subst IsSome w.1 some in cc)
+
+pub rollback_ended : (old new : State) (e : Error) → Executes (codes "ROLLBACK") [] old new (Err e) → new.in_transaction ≡ false
+unfolding ExecutesIn IsNotRun
+rollback_ended old new e (inl (inl none)) = absurd (is_statement old e none.0)
+rollback_ended old new e (inl (inr fails)) = fails.3.autocommit
+rollback_ended old new e (inr ran) =
+    let w = whole old.now.schema ran.0 ran.1.is in
+    elim (cases_Bool (shows_rows false ran.0)) [
+      | inl shows ↦ absurd (let no = rw (w.0, w.1) at shows in cc)
+      | inr runs ↦ elim (rw runs at ran.2) [
+        | inl is ↦ is.1.0.mode ∙ refused old e ran.0 _ w is.0
+        | inr fails ↦ fails.3.autocommit
+      ]
+    ]
+
+pub rollback_ends : {A : Type 0} (old new : State) (result : Result A TableFault) → Performs (codes "ROLLBACK") [] old new result → new.in_transaction ≡ false
+rollback_ends old new (Err f) h = rollback_ended old new h.0 h.2
+rollback_ends old new (Ok a) h = (runs_as _ [] old new old.now.schema refl Rollback (said_rollback.is _) (said_rollback.plain _) h.0 h.1).1.autocommit

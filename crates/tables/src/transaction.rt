@@ -1,7 +1,7 @@
 //! Transactions as texts of their own, so that the functions on tables serve inside and outside one.
 
-ghost use Rattle.std.specs.Prelude.{◌≡◌};
-ghost use Rattle.sqlite.specs.State.{IsRolledBack, Survives};
+ghost use Rattle.std.specs.Prelude.{◌≡◌, false};
+ghost use Rattle.sqlite.specs.State.{HasCleanDisk, IsRolledBack, Survives};
 ghost use Rattle.sqlite.specs.Held.{state};
 ghost use Rattle.tables.specs.Calls.{Begun, Committed, Gave, LeavesNothing};
 
@@ -25,9 +25,10 @@ pub fn commit<S: Alter>(conn: &mut Connection<S>) -> Result<(), TableFault>
     run(conn, "COMMIT", &[])
 }
 
-/// Takes back what the transaction changed.
+/// Takes back what the transaction changed. After a fault it is undone too.
 pub fn rollback<S: Alter>(conn: &mut Connection<S>) -> Result<(), TableFault>
     ensures gave { Gave (IsRolledBack (state S.Store conn.old) (state S.Store conn.new)) (state S.Store conn.old) (state S.Store conn.new) result }
+    ensures ended { HasCleanDisk (state S.Store conn.new) → (state S.Store conn.new).in_transaction ≡ false }
     ensures crash { LeavesNothing (state S.Store conn.old) (state S.Store conn.new) }
 {
     run(conn, "ROLLBACK", &[])

@@ -1,0 +1,10 @@
+use Rattle.sqlite.specs.Held.{state}
+use Rattle.store.specs.Rows.{crew}
+use Rattle.store.proofs.Chaining.{wrote_ok}
+use Rattle.store.proofs.Tables.{inserts_keep}
+use Rattle.store.proofs.writing.add_member.Goals as goal
+
+pub returns : goal.returns
+returns g c =
+    let given = rw c.in_ok-record.ensures at c.in_ok-insert_crew.ensures in
+    wrote_ok (state g.S.Store c.args.conn.now) (state g.S.Store c.insert_crew.new.conn) tt (inserts_keep crew _) c.requires given.ran given.crash

@@ -1,0 +1,10 @@
+use Rattle.sqlite.specs.Held.{state}
+use Rattle.store.specs.Rows.{period}
+use Rattle.store.proofs.Chaining.{wrote_ok}
+use Rattle.store.proofs.Tables.{inserts_keep}
+use Rattle.store.proofs.writing.add_period.Goals as goal
+
+pub returns : goal.returns
+returns g c =
+    let given = rw c.in_ok-record.ensures at c.in_ok-insert_period.ensures in
+    wrote_ok (state g.S.Store c.args.conn.now) (state g.S.Store c.insert_period.new.conn) tt (inserts_keep period _) c.requires.ready given.ran given.crash

@@ -1,0 +1,18 @@
+-- Which changes are written.
+use Rattle.std.specs.Prelude.{◌≡◌}
+use Rattle.command.specs.Keys.{KeyParts}
+use Rattle.command.specs.declared.exceedance.Reply.{Reply}
+use Rattle.command.specs.declared.order.Order.{Order}
+use Rattle.roster.specs.Sound.{Sound}
+use Rattle.roster.specs.State.{State}
+use Rattle.roster.specs.Steps.{step_of}
+use Rattle.roster.specs.declared.change.Change.{Change}
+use Rattle.roster.specs.declared.change.Verdict.TheVariants.{Accept}
+
+-- the change is what the step accepted in a sound state, of some command under some key
+pub record IsNext (s : State) (change : Change) : Type 0 where
+  pub sound : Sound s
+  pub key : KeyParts
+  pub order : Order
+  pub reply : Reply
+  pub accepted : step_of s key order ≡ Accept change reply

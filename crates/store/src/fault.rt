@@ -1,0 +1,115 @@
+use std::alloc::AllocError;
+use std::fmt;
+use tables::TableFault;
+use values::MemoryFault;
+
+/// Why a call on the tables of a book failed.
+#[derive(Clone, Copy, Debug, PartialEq, Eq)]
+pub enum StoreFault {
+    /// The store refused or failed, for another reason than memory: refusal 90.
+    Store,
+    /// No memory was left: refusal 91.
+    Memory,
+}
+
+/// Why no book was made.
+#[derive(Clone, Copy, Debug, PartialEq, Eq)]
+pub enum CreateFault {
+    /// The database has a table with a name of the book's, or a foreign key that refers to one: refusal 43.
+    NotEmpty,
+    /// A fault of the store (90) or want of memory (91).
+    Fault(StoreFault),
+}
+
+impl fmt::Display for StoreFault {
+    fn fmt<W: fmt::Write>(&self, f: &mut fmt::Formatter<W>) -> fmt::Result {
+        f.write_str(match self {
+            StoreFault::Store => "90 Store",
+            StoreFault::Memory => "91 Memory",
+        })
+    }
+}
+
+impl std::error::Error for StoreFault {}
+
+impl fmt::Display for CreateFault {
+    fn fmt<W: fmt::Write>(&self, f: &mut fmt::Formatter<W>) -> fmt::Result {
+        match self {
+            CreateFault::NotEmpty => f.write_str("43 NotEmpty"),
+            CreateFault::Fault(fault) => write!(f, "{fault}"),
+        }
+    }
+}
+
+impl std::error::Error for CreateFault {}
+
+impl From<TableFault> for StoreFault {
+    ghost use Rattle.std.specs.Prelude.{◌≡◌};
+    ghost use Rattle.store.specs.Faults.{fault_of};
+
+    ghost from_gives = { λ fault given. given ≡ fault_of fault };
+
+    fn from(fault: TableFault) -> StoreFault {
+        match fault {
+            TableFault::Memory => StoreFault::Memory,
+            TableFault::Store | TableFault::NotARecord => StoreFault::Store,
+        }
+    }
+}
+
+impl From<MemoryFault> for StoreFault {
+    ghost use Rattle.std.specs.Prelude.{◌≡◌};
+    ghost use Rattle.store.specs.declared.fault.StoreFault.TheVariants.{Memory};
+
+    ghost from_gives = { λ _ fault. fault ≡ Memory };
+
+    fn from(_fault: MemoryFault) -> StoreFault {
+        StoreFault::Memory
+    }
+}
+
+impl From<AllocError> for StoreFault {
+    ghost use Rattle.std.specs.Prelude.{◌≡◌};
+    ghost use Rattle.store.specs.declared.fault.StoreFault.TheVariants.{Memory};
+
+    ghost from_gives = { λ _ fault. fault ≡ Memory };
+
+    fn from(_error: AllocError) -> StoreFault {
+        StoreFault::Memory
+    }
+}
+
+impl From<StoreFault> for CreateFault {
+    ghost use Rattle.std.specs.Prelude.{◌≡◌};
+    ghost use Rattle.store.specs.declared.fault.CreateFault.TheVariants.{Fault};
+
+    ghost from_gives = { λ fault given. given ≡ Fault fault };
+
+    fn from(fault: StoreFault) -> CreateFault {
+        CreateFault::Fault(fault)
+    }
+}
+
+impl From<TableFault> for CreateFault {
+    ghost use Rattle.std.specs.Prelude.{◌≡◌};
+    ghost use Rattle.store.specs.Faults.{fault_of};
+    ghost use Rattle.store.specs.declared.fault.CreateFault.TheVariants.{Fault};
+
+    ghost from_gives = { λ fault given. given ≡ Fault (fault_of fault) };
+
+    fn from(fault: TableFault) -> CreateFault {
+        CreateFault::Fault(StoreFault::from(fault))
+    }
+}
+
+impl From<AllocError> for CreateFault {
+    ghost use Rattle.std.specs.Prelude.{◌≡◌};
+    ghost use Rattle.store.specs.declared.fault.CreateFault.TheVariants.{Fault};
+    ghost use Rattle.store.specs.declared.fault.StoreFault.TheVariants.{Memory};
+
+    ghost from_gives = { λ _ fault. fault ≡ Fault Memory };
+
+    fn from(_error: AllocError) -> CreateFault {
+        CreateFault::Fault(StoreFault::Memory)
+    }
+}

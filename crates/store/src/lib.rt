@@ -1,0 +1,14 @@
+//! The tables of the book as a state of the machine.
+#![tactic(auto)]
+
+mod fault;
+mod laws;
+mod making;
+mod records;
+mod store;
+mod transaction;
+mod writing;
+
+pub use fault::{CreateFault, StoreFault};
+pub use laws::{database_holds_one_state, rows_say_all};
+pub use store::Store;

@@ -1,0 +1,145 @@
+ghost use Rattle.std.specs.Prelude.{◌≡◌, IfOk, IfErr, IsErrAnd, OnOk, OnErr, Err};
+ghost use Rattle.sqlite.specs.State.{HasCleanDisk};
+ghost use Rattle.sqlite.specs.Held.{state};
+ghost use Rattle.roster.specs.State.{State, empty};
+ghost use Rattle.roster.specs.Steps.{after};
+ghost use Rattle.store.specs.Making.{IsFree};
+ghost use Rattle.store.specs.Next.{IsNext};
+ghost use Rattle.store.specs.Outcomes.{Leaves, LeavesSome, AddsNothing, MayAdd, HoldsNow, IsOutside, IsOverBook, one, either};
+
+use crate::fault::{CreateFault, StoreFault};
+use crate::making::{is_free, make_tables};
+use crate::records::request_record;
+use crate::transaction::end;
+use crate::writing::write_change;
+use roster::Change;
+use sqlite::{Alter, Connection};
+use std::alloc::Global;
+use std::marker::Model;
+use tables::book::BookRecord;
+use tables::transaction::begin;
+use time117::Zone;
+use values::Text;
+
+/// The tables of a book. Contracts see what its connection holds.
+pub struct Store<S: Alter> {
+    conn: Connection<S>,
+}
+
+impl<S: Alter + Drop> Drop for Store<S> {
+    fn drop(self) {
+        let Store { conn: _ } = self;
+    }
+}
+
+impl<S: Alter> Model for Store<S> {
+    ghost use Rattle.sqlite.specs.Held.{Held, held_code, state};
+    ghost use Rattle.store.specs.Outcomes.{IsOutside, IsOverBook};
+
+    ghost Value = { Held S };
+
+    ghost coded = { held_code S.code };
+
+    ghost view = { λ s. s.conn };
+
+    ghost invariant = { λ s. IsOutside (state S.Store s.conn) × IsOverBook (state S.Store s.conn) };
+}
+
+impl<S: Alter> Store<S> {
+    /// Makes the tables of a book, in one transaction. Refused is a database that has a table with the name of one of them,
+    /// or a foreign key that refers to one (43), a store's fault (90), and want of memory (91); then the connection is
+    /// handed back.
+    pub fn create(
+        alloc: Global,
+        mut conn: Connection<S>,
+        zone: &Zone,
+    ) -> Result<Store<S>, (CreateFault, Connection<S>)>
+        requires { IsOutside (state S.Store conn) }
+        ensures ok { IfOk result (λ it. Leaves (state S.Store it) (one (empty zone.now))) }
+        ensures made { IfOk result (λ it. HoldsNow (state S.Store it) (empty zone.now)) }
+        ensures some { IfOk result (λ it. LeavesSome (state S.Store it)) }
+        ensures refused { (¬ IsFree (state S.Store conn).now.schema) → IsErrAnd result (λ e. e.0 ≡ CreateFault.NotEmpty) }
+        ensures not_empty { IfErr result (λ e. e.0 ≡ CreateFault.NotEmpty → (¬ IsFree (state S.Store conn).now.schema) × (e.1 ≡ conn)) }
+        ensures memory { IfErr result (λ e. e.0 ≡ CreateFault.Fault StoreFault.Memory → AddsNothing (state S.Store conn) (state S.Store e.1)) }
+        ensures store { IfErr result (λ e. MayAdd (state S.Store conn) (state S.Store e.1) (empty zone.now)) }
+        ensures outside { IfErr result (λ e. IsOutside (state S.Store e.1)) }
+    {
+        match make(alloc, &mut conn, zone) {
+            Ok(()) => Ok(Store { conn }),
+            Err(fault) => Err((fault, conn)),
+        }
+    }
+
+    /// Writes a change that the step gave of the state that the tables hold, in one transaction. After want of memory (91)
+    /// nothing is changed; after a store's fault (90) all of the change is kept, or nothing of it.
+    pub fn commit(&mut self, alloc: Global, change: &Change) -> Result<(), StoreFault>
+        ensures ok { (s : State) → IsNext s change.now → Leaves (state S.Store self.old) (one s) → OnOk result (Leaves (state S.Store self.new) (one (after s change.now))) }
+        ensures made { (s : State) → IsNext s change.now → Leaves (state S.Store self.old) (one s) → OnOk result (HoldsNow (state S.Store self.new) (after s change.now)) }
+        ensures memory { (s : State) → Leaves (state S.Store self.old) (one s) → result ≡ Err StoreFault.Memory → Leaves (state S.Store self.new) (one s) }
+        ensures store { (s : State) → IsNext s change.now → Leaves (state S.Store self.old) (one s) → result ≡ Err StoreFault.Store → Leaves (state S.Store self.new) (either s (after s change.now)) }
+        ensures some { LeavesSome (state S.Store self.new) }
+        ensures honest { HasCleanDisk (state S.Store self.new) → HasCleanDisk (state S.Store self.old) }
+    {
+        write(alloc, &mut self.conn, change)
+    }
+
+    /// The connection, with nothing changed.
+    pub fn into_connection(self) -> Connection<S>
+        ensures same { result ≡ self }
+        ensures outside { IsOutside (state S.Store result) }
+    {
+        let Store { conn } = self;
+        conn
+    }
+}
+
+/// Makes the tables, and the row of the book, in one transaction.
+fn make<S: Alter>(alloc: Global, conn: &mut Connection<S>, zone: &Zone) -> Result<(), CreateFault>
+    requires { IsOutside (state S.Store conn.old) }
+    ensures ok { OnOk result (Leaves (state S.Store conn.new) (one (empty zone.now))) }
+    ensures made { OnOk result (HoldsNow (state S.Store conn.new) (empty zone.now)) }
+    ensures some { LeavesSome (state S.Store conn.new) }
+    ensures over { OnOk result (IsOverBook (state S.Store conn.new)) }
+    ensures refused { (¬ IsFree (state S.Store conn.old).now.schema) → result ≡ Err CreateFault.NotEmpty }
+    ensures not_empty { result ≡ Err CreateFault.NotEmpty → (¬ IsFree (state S.Store conn.old).now.schema) × (conn.new ≡ conn.old) }
+    ensures memory { result ≡ Err (CreateFault.Fault StoreFault.Memory) → AddsNothing (state S.Store conn.old) (state S.Store conn.new) }
+    ensures store { OnErr result (MayAdd (state S.Store conn.old) (state S.Store conn.new) (empty zone.now)) }
+    ensures outside { IsOutside (state S.Store conn.new) }
+{
+    if !is_free(conn) {
+        return Err(CreateFault::NotEmpty);
+    }
+    let book = BookRecord {
+        one: 1,
+        version: 1,
+        zone: Text::new(String::from_str(alloc, zone.text())?),
+    };
+    begin(conn)?;
+    let done = make_tables(conn, &book);
+    Ok(end(conn, done)?)
+}
+
+/// Writes a change, in one transaction.
+fn write<S: Alter>(
+    alloc: Global,
+    conn: &mut Connection<S>,
+    change: &Change,
+) -> Result<(), StoreFault>
+    requires outside { IsOutside (state S.Store conn.old) }
+    requires over { IsOverBook (state S.Store conn.old) }
+    ensures ok { (s : State) → IsNext s change.now → Leaves (state S.Store conn.old) (one s) → OnOk result (Leaves (state S.Store conn.new) (one (after s change.now))) }
+    ensures made { (s : State) → IsNext s change.now → Leaves (state S.Store conn.old) (one s) → OnOk result (HoldsNow (state S.Store conn.new) (after s change.now)) }
+    ensures memory { (s : State) → Leaves (state S.Store conn.old) (one s) → result ≡ Err StoreFault.Memory → Leaves (state S.Store conn.new) (one s) }
+    ensures store { (s : State) → IsNext s change.now → Leaves (state S.Store conn.old) (one s) → result ≡ Err StoreFault.Store → Leaves (state S.Store conn.new) (either s (after s change.now)) }
+    ensures some { LeavesSome (state S.Store conn.new) }
+    ensures honest { HasCleanDisk (state S.Store conn.new) → HasCleanDisk (state S.Store conn.old) }
+    ensures outside { IsOutside (state S.Store conn.new) }
+    ensures over { IsOverBook (state S.Store conn.new) }
+{
+    let row = request_record(alloc, change.key, &change.command, &change.reply)?;
+    let _live = conn.schema();
+    let _settled = conn.is_autocommit();
+    begin(conn)?;
+    let done = write_change(alloc, conn, change, &row);
+    end(conn, done)
+}
