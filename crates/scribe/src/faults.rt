@@ -60,6 +60,53 @@ fn members_are_refused_in_turn(rt: HostRuntime) {
     }
 }
 
+/// The members that the rows above leave out.
+#[test]
+fn other_members_are_refused_in_turn(rt: HostRuntime) {
+    let alloc = rt.alloc();
+    for (text, member) in [
+        (
+            "{\"do\":\"add-crew\",\"crew\":\"c\",\"seat\":\"captain\"}",
+            JsonField::Name,
+        ),
+        (
+            "{\"do\":\"add-pairing\",\"pairing\":\"p\",\"periods\":{}}",
+            JsonField::Periods,
+        ),
+        (
+            "{\"do\":\"swap\",\"pairing\":\"p\",\"crew\":\"c\"}",
+            JsonField::OtherPairing,
+        ),
+        (
+            "{\"do\":\"swap\",\"pairing\":\"p\",\"crew\":\"c\",\"other_pairing\":\"q\"}",
+            JsonField::OtherCrew,
+        ),
+        ("{\"do\":\"cancel-ground\"}", JsonField::Ground),
+        (
+            "{\"do\":\"add-ground\",\"ground\":\"g\",\"crew\":\"c\",\"begin\":\"2025-06-10T24:00Z\"}",
+            JsonField::Begin,
+        ),
+        (
+            "{\"do\":\"add-ground\",\"ground\":\"g\",\"crew\":\"c\",\"begin\":\"2025-06-10T12:00Z\"}",
+            JsonField::End,
+        ),
+        (
+            "{\"do\":\"add-ground\",\"ground\":\"g\",\"crew\":\"c\",\"begin\":\"2025-06-10T12:00Z\",\
+            \"end\":\"2025-06-10T13:00Z\",\"task\":null}",
+            JsonField::Task,
+        ),
+        (
+            "{\"do\":\"actual\",\"pairing\":\"p\",\"period\":1,\"report\":\"2025-06-10T12:00Z\"}",
+            JsonField::Release,
+        ),
+    ] {
+        assert!(rt;
+            is_refused(alloc, text, CodecFault::BadJson(member)),
+            "{text}"
+        );
+    }
+}
+
 /// After the members a shape, then a count, then an order of times.
 #[test]
 fn duties_are_refused_in_turn(rt: HostRuntime) {

@@ -51,6 +51,16 @@ fn members_are_kept(rt: HostRuntime) {
     );
 }
 
+/// A name of 60 bytes, the longest.
+#[test]
+fn the_longest_name_is_kept(rt: HostRuntime) {
+    let alloc = rt.alloc();
+    let name = "Maximiliana Theodora Alexandrina von Hohenberg-Wittelsbacher";
+    let kept = "{\"crew\":\"C1\",\"do\":\"add-crew\",\
+        \"name\":\"Maximiliana Theodora Alexandrina von Hohenberg-Wittelsbacher\",\"seat\":\"captain\"}";
+    assert!(rt; keeps(alloc, add_crew(alloc, "C1", Seat::Captain, name), kept));
+}
+
 #[test]
 fn pairings_are_kept(rt: HostRuntime) {
     let alloc = rt.alloc();
