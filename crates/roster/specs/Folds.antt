@@ -45,7 +45,8 @@ abbrev pub import : ℕ → List Plan → List Asked
 import number plans = map (λ p. (record { number = number; part = p.0 }, AddPairing p.1)) (enumerate_from 1 plans)
 
 -- a session of a book: the commands that were asked, how many of them were answered, and how many it left done. All were
--- answered, save perhaps the last, and all that were answered are done: the last alone, unanswered, may be done or not
+-- answered, save perhaps the last, and all that were answered are done: the last alone, unanswered, may be done or not.
+-- A command that was answered with want of memory changed nothing, and is no part of a session.
 pub record Session : Type 0 where
   pub asked : List Asked
   pub answered : ℕ

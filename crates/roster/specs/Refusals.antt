@@ -41,7 +41,7 @@ are_of_two_kinds s who other =
 abbrev pub holder_of_own_seat : State → List ℕ → List ℕ → Option (List ℕ)
 holder_of_own_seat s id who = option_and_then (λ r. option_and_then (λ m. holder m.seat r) (fin.get s.crew who)) (fin.get s.pairings id)
 
--- the member holds the seat of the own kind
+-- the member holds the seat of the own kind: in a sound state, holds the pairing
 abbrev pub is_assigned : State → List ℕ → List ℕ → Bool
 is_assigned s id who = is_held_by who (holder_of_own_seat s id who)
 
