@@ -7,7 +7,8 @@
 
 ghost use Rattle.std.specs.Prelude.{OnOk};
 ghost use Rattle.sqlite.specs.Held.{state};
-ghost use Rattle.tables.specs.Calls.{HoldsBook};
+ghost use Rattle.tables.specs.Calls.{HoldsTable};
+ghost use Rattle.tables.specs.Schema.{seat_table};
 
 use anyhow::{Context, Result};
 use clerk::clerk::Clerk;
@@ -50,15 +51,15 @@ fn nth_seat(alloc: Global, number: u32) -> Result<SeatRecord, TableFault> {
 }
 
 fn begin_adding<S: Alter>(conn: &mut Connection<S>) -> Result<(), TableFault>
-    requires { HoldsBook (state S.Store conn.old) }
-    ensures { OnOk result (HoldsBook (state S.Store conn.new)) }
+    requires { HoldsTable seat_table (state S.Store conn.old) }
+    ensures { OnOk result (HoldsTable seat_table (state S.Store conn.new)) }
 {
     begin(conn)
 }
 
 fn end_adding<S: Alter>(conn: &mut Connection<S>) -> Result<(), TableFault>
-    requires { HoldsBook (state S.Store conn.old) }
-    ensures { OnOk result (HoldsBook (state S.Store conn.new)) }
+    requires { HoldsTable seat_table (state S.Store conn.old) }
+    ensures { OnOk result (HoldsTable seat_table (state S.Store conn.new)) }
 {
     commit(conn)
 }
@@ -68,8 +69,8 @@ fn add_seat<S: Alter>(
     conn: &mut Connection<S>,
     number: u32,
 ) -> Result<(), TableFault>
-    requires { HoldsBook (state S.Store conn.old) }
-    ensures { OnOk result (HoldsBook (state S.Store conn.new)) }
+    requires { HoldsTable seat_table (state S.Store conn.old) }
+    ensures { OnOk result (HoldsTable seat_table (state S.Store conn.new)) }
 {
     let seat = nth_seat(alloc, number)?;
     insert_seat(conn, &seat)
@@ -80,8 +81,8 @@ fn add_seats<S: Alter>(
     conn: &mut Connection<S>,
     seats: u32,
 ) -> Result<(), TableFault>
-    requires { HoldsBook (state S.Store conn.old) }
-    ensures { OnOk result (HoldsBook (state S.Store conn.new)) }
+    requires { HoldsTable seat_table (state S.Store conn.old) }
+    ensures { OnOk result (HoldsTable seat_table (state S.Store conn.new)) }
 {
     for number in 0..seats {
         add_seat(alloc, conn, number)?;
@@ -104,8 +105,8 @@ fn count_held<S: Alter>(
     conn: &mut Connection<S>,
     crew: &str,
 ) -> Result<usize, TableFault>
-    requires { HoldsBook (state S.Store conn.old) }
-    ensures { OnOk result (HoldsBook (state S.Store conn.new)) }
+    requires { HoldsTable seat_table (state S.Store conn.old) }
+    ensures { OnOk result (HoldsTable seat_table (state S.Store conn.new)) }
 {
     let found = seats_by_crew(alloc, conn, crew)?;
     Ok(found.len())
@@ -113,8 +114,8 @@ fn count_held<S: Alter>(
 
 /// How many seats the table has.
 fn count_all<S: Alter>(alloc: Global, conn: &mut Connection<S>) -> Result<usize, TableFault>
-    requires { HoldsBook (state S.Store conn.old) }
-    ensures { OnOk result (HoldsBook (state S.Store conn.new)) }
+    requires { HoldsTable seat_table (state S.Store conn.old) }
+    ensures { OnOk result (HoldsTable seat_table (state S.Store conn.new)) }
 {
     let found = load_seats(alloc, conn)?;
     Ok(found.len())
@@ -126,8 +127,8 @@ fn read_members<S: Alter>(
     conn: &mut Connection<S>,
     counts: &Counts,
 ) -> Result<usize, TableFault>
-    requires { HoldsBook (state S.Store conn.old) }
-    ensures { OnOk result (HoldsBook (state S.Store conn.new)) }
+    requires { HoldsTable seat_table (state S.Store conn.old) }
+    ensures { OnOk result (HoldsTable seat_table (state S.Store conn.new)) }
 {
     let members = (counts.seats / HELD).max(1);
     let mut found = 0usize;
@@ -144,7 +145,7 @@ fn read_table<S: Alter>(
     conn: &mut Connection<S>,
     loads: u32,
 ) -> Result<usize, TableFault>
-    requires { HoldsBook (state S.Store conn.old) }
+    requires { HoldsTable seat_table (state S.Store conn.old) }
 {
     let mut found = 0usize;
     for _load in 0..loads {
