@@ -41,7 +41,7 @@ use Rattle.tables.proofs.Known.{listed, stored_is}
 use Rattle.tables.proofs.Compiling.{statement_in}
 use Rattle.tables.proofs.Inserting.{plain_mode, went, same_value}
 use Rattle.tables.proofs.Statements.{Writer, Stopper, writer, committed, failed}
-use Rattle.tables.proofs.Stopping.{some_fault, failed_for, in_place, statement_told, stopped_in}
+use Rattle.tables.proofs.Stopping.{some_fault, failed_for, statement_told, stopped_in}
 use Rattle.tables.proofs.Refusing.{err_same, makes_told}
 use Rattle.tables.specs.Calls.{Stops}
 use Rattle.tables.specs.Faults.{fault_of}

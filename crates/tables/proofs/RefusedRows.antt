@@ -1,7 +1,6 @@
 -- Which rows INSERT refuses.
-use Rattle.std.proofs.Common.{◌≡◌, ◌≢◌, ◌⊎◌, ◌/◌, ◌++◌, inl, inr, ℕ, ℤ, List, [], ◌∷◌, length, slice_get, option_map, Bool, true, false, true≢false, Some, None, Ok, Err, Option, IsSome, refl, sym, ap, subst, ◌∙◌, append-nil}
+use Rattle.std.proofs.Common.{◌≡◌, ◌≢◌, ◌⊎◌, ◌/◌, ◌++◌, inl, inr, ℕ, ℤ, List, [], ◌∷◌, length, slice_get, option_map, true, false, true≢false, Some, None, Err, Option, IsSome, refl, sym, ap, subst, ◌∙◌, append-nil}
 use Rattle.std.proofs.lemmas.Bool.{cases_eq, cases_Bool}
-use Rattle.std.proofs.lemmas.Bool.{and_from, both_ways, false_from_ne_true}
 use Rattle.sqlite_value.specs.declared.value.Value.{Value}
 use Rattle.sqlite_value.specs.declared.value.Value.TheVariants.{Null, Int}
 use Rattle.sqlite_value.specs.Order.{Row}
@@ -30,16 +29,16 @@ use Rattle.sqlite_rules.proofs.RuleLemmas.{parent_is_table}
 use Rattle.sqlite_rules.proofs.TableLemmas.{put_all_has, put_all_keeps}
 use Rattle.sqlite_catalog.proofs.StepLemmas.{named_once, same_itself}
 use Rattle.sqlite.specs.declared.error.Error.{Error}
-use Rattle.sqlite.specs.Effect.{Database, IsDatabase, IsSource, RefusesSource, value_rows, edit_error}
+use Rattle.sqlite.specs.Effect.{Database, IsDatabase, IsSource, value_rows, edit_error}
 use Rattle.sqlite.specs.Rows.{Written, Sourced}
 use Rattle.sqlite.specs.Does.{Does}
 use Rattle.sqlite.specs.State.{State, IsLive}
 use Rattle.sqlite.proofs.StateLemmas.{refers_if_sound}
-use Rattle.tables.specs.Calls.{HasStepLimit, RefusesRow}
+use Rattle.tables.specs.Calls.{RefusesRow}
 use Rattle.tables.specs.Faults.{fault_of}
 use Rattle.tables.specs.declared.table_fault.TableFault.TheVariants.{Store}
 use Rattle.tables.specs.Schema.{BookTable, IsTable, table_of}
-use Rattle.tables.specs.Rows.{stored, HasNoNumber, IsKeyTaken, IsTooBig}
+use Rattle.tables.specs.Rows.{HasNoNumber, IsKeyTaken, IsTooBig}
 use Rattle.tables.proofs.Compiling.{IsRead}
 use Rattle.tables.proofs.Inserting.{applied, no_work_of_new, plain_mode, went, same_value}
 use Rattle.tables.proofs.Known.{listed, place, stored_is, some_same}
@@ -239,7 +238,7 @@ module _ (kept : BookTable) (terms : List Term) (width : ℕ) (text : List ℕ) 
         table_of kept there.tree,
         there.found,
         subst (λ l. IsOversized old.now.schema (table_of kept there.tree) (Int (next_rowid l) ∷ x)) (sym (stored_is kept old.now.schema there old.now refl))
-        (insert_big kept old.step_limit old.now t params terms width there x (Null ∷ x) one (cast_is there.tree) fits typed present does),
+            (insert_big kept old.step_limit old.now t params terms width there x (Null ∷ x) one (cast_is there.tree) fits typed present does),
       ))
       (λ t e opened does. let it = insert_stops kept old.step_limit old.now t params terms width there x (Null ∷ x) one (cast_is there.tree) fits typed present (live opened).0 e does in (refused_by it.0, it.1))
       (λ e. in_place old _ e (λ i. cc) (λ i. cc) (λ i. cc) (λ n i. cc) (λ n i. cc))

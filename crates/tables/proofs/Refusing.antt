@@ -1,12 +1,12 @@
 -- What the store refuses of a statement on one table, and what it does not.
-use Rattle.std.proofs.Common.{◌≡◌, ◌≢◌, ◌⊎◌, ◌&&◌, ◌==◌, ◌++◌, inl, inr, ℕ, zero, suc, ℤ, Bool, true, false, not, true≢false, List, [], ◌∷◌, length, length-append, Option, Some, None, Ok, Err, Result, IsSome, refl, sym, ap, subst, ◌∙◌, arith, eqb-true, eq-eqb}
-use Rattle.std.specs.List.{list_any, list_all}
+use Rattle.std.proofs.Common.{◌≡◌, ◌≢◌, ◌⊎◌, ◌&&◌, ◌==◌, inl, inr, ℕ, zero, suc, ℤ, Bool, true, false, true≢false, List, [], ◌∷◌, length, length-append, Option, Some, None, Err, Result, IsSome, refl, sym, ap, subst, ◌∙◌, arith, eqb-true, eq-eqb}
+use Rattle.std.specs.List.{list_any}
 use Rattle.std.specs.Ordering.{is_ne}
 use Rattle.std.proofs.lemmas.Bool.{cases_Bool, cases_eq, and_parts, and_from, or_cases, or_left, or_right, not-true, not_from_false, false_from_ne_true, both_ways}
 use Rattle.std.proofs.lemmas.Cmp.{tied_itself}
 use Rattle.sqlite_value.specs.declared.keys.Key.{Key}
 use Rattle.sqlite_value.specs.declared.value.Value.TheVariants.{Int}
-use Rattle.sqlite_value.specs.Order.{Row, value_cmp}
+use Rattle.sqlite_value.specs.Order.{Row}
 use Rattle.sqlite_value.proofs.OrderLemmas.{value_cmp_total}
 use Rattle.sqlite_trees.specs.Tree.{Trees, rowid, with_tree}
 use Rattle.sqlite_schema.specs.declared.schema.Among.TheVariants.{All}
@@ -27,7 +27,7 @@ use Rattle.sqlite_rules.specs.Lists.{Has}
 use Rattle.sqlite_rules.specs.Edit.{Edit, taken_by, IsRefused, IsOversized}
 use Rattle.sqlite_rules.specs.Action.{works, Leads, Writes}
 use Rattle.sqlite_rules.proofs.KeyLemmas.{agree_back}
-use Rattle.sqlite_rules.proofs.ListLemmas.{all_has, any_has, some_has, some_from, test_has, test_from}
+use Rattle.sqlite_rules.proofs.ListLemmas.{any_has, some_has, some_from, test_has, test_from}
 use Rattle.sqlite_rules.proofs.RuleLemmas.{keeps_at, keeps_from, refers_at, refers_from}
 use Rattle.sqlite.specs.declared.error.Error.{Error}
 use Rattle.sqlite.specs.Effect.{Database, RefusesQuery, RefusesToAlter, IsNoText, edit_error, alter_error}

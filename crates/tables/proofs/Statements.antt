@@ -24,7 +24,7 @@ use Rattle.tables.specs.Calls.{Ran, MayLeave, Leaves, Stops, Faults}
 use Rattle.tables.specs.Texts.{Performs}
 use Rattle.tables.specs.Faults.{fault_of}
 use Rattle.tables.specs.declared.table_fault.TableFault.{TableFault}
-use Rattle.tables.specs.declared.table_fault.TableFault.TheVariants.{Store, NotARecord}
+use Rattle.tables.specs.declared.table_fault.TableFault.TheVariants.{Store}
 
 pub failed : (text : List ℕ) (params : Row) (old new : State) (e : Error) → Executes text params old new (Err e) → Leaves old new
 unfolding ExecutesIn IsNotRun

@@ -1,6 +1,5 @@
 -- Why a statement stops, and which fault that is.
-use Rattle.std.proofs.Common.{append-nil, arith, min, ◌≡◌, ◌≢◌, ◌⊎◌, ◌+◌, ◌-◌, ◌^◌, ◌≤◌, inl, inr, ℕ, List, length, false, None, Some, Option, Ok, Err, Result, IsSome, refl, sym, ap, subst, subst₂, ◌∙◌, true≢false, IsTrue}
-use Rattle.std.proofs.lemmas.Bool.{cases_Bool}
+use Rattle.std.proofs.Common.{append-nil, arith, ◌≡◌, ◌≢◌, ◌⊎◌, inl, inr, ℕ, List, length, false, None, Some, Option, Ok, Err, Result, IsSome, refl, sym, ap, subst, ◌∙◌, IsTrue}
 use Rattle.sqlite_value.specs.Order.{Row}
 use Rattle.sqlite_trees.specs.declared.error.StoreError.{StoreError}
 use Rattle.sqlite_trees.specs.declared.error.StoreError.TheVariants as cause
@@ -11,15 +10,15 @@ use Rattle.sqlite_schema.specs.declared.command.Returning.{Returning}
 use Rattle.sqlite_resolve.specs.declared.compiled.Compiled.{Compiled}
 use Rattle.sqlite_resolve.specs.declared.error.CompileError.{CompileError}
 use Rattle.sqlite.specs.declared.error.Error.{Error}
-use Rattle.sqlite.specs.declared.error.Error.TheVariants.{SqliteFailure, SqlInputError, ExecuteReturnedResults}
+use Rattle.sqlite.specs.declared.error.Error.TheVariants.{SqliteFailure}
 use Rattle.sqlite.specs.declared.error.ErrorCode.TheVariants.{OutOfMemory}
 use Rattle.sqlite.specs.Calls.{IsWrite}
 use Rattle.sqlite.specs.Clock.{timed}
 use Rattle.sqlite.specs.Does.{Does}
 use Rattle.sqlite.specs.Listing.{understood}
-use Rattle.sqlite.specs.State.{State, Fails, HasCause, IsUnchanged, IsRolledBack, KeepsCounts, Executes, ExecutesIn, IsNotRun, IsNoStatement, IsMisplaced, IsStatement, RunsAlone, shows_rows, text_of, mode_of}
+use Rattle.sqlite.specs.State.{State, Fails, HasCause, IsUnchanged, Executes, ExecutesIn, IsNotRun, IsNoStatement, IsMisplaced, IsStatement, RunsAlone, shows_rows, text_of, mode_of}
 use Rattle.sqlite.proofs.Callers.{IsPlain, command_of, statement_of}
-use Rattle.tables.specs.Calls.{Leaves, Failed, Refused, Stops}
+use Rattle.tables.specs.Calls.{Leaves, Failed, Stops}
 use Rattle.tables.specs.Faults.{fault_of}
 use Rattle.tables.specs.declared.table_fault.TableFault.{TableFault}
 use Rattle.tables.specs.declared.table_fault.TableFault.TheVariants.{Store, NotARecord}

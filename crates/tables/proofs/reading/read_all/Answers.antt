@@ -1,4 +1,4 @@
-use Rattle.std.proofs.Common.{inl, inr, IfErr, ◌≡◌, ◌∷◌, ◌++◌, [], map, refl, sym, ap, subst, ◌∙◌, rules, arith}
+use Rattle.std.proofs.Common.{inl, IfErr, ◌≡◌, ◌∷◌, ◌++◌, [], map, refl, sym, ap, subst, ◌∙◌, rules, arith}
 use Rattle.std.proofs.lemmas.List.{map-append}
 use Rattle.sqlite.specs.Given.{HasGiven}
 use Rattle.sqlite.proofs.StateLemmas.{survives_then}
