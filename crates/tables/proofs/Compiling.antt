@@ -51,6 +51,7 @@ use Rattle.sqlite.specs.Listing.{understood, reads_listing}
 use Rattle.sqlite.proofs.Callers.{IsPlain, command_of}
 use Rattle.tables.specs.Schema.{BookTable, table_of}
 use Rattle.tables.proofs.Known.{Known}
+use Rattle.tables.proofs.Stopping.{IsWhole}
 
 -- ---- texts as they are written
 
@@ -84,10 +85,21 @@ abbrev pub formats_in : Checked Parsed → List (List ℕ)
 formats_in (Ok p) = p.formats
 formats_in (Err e) = []
 
-pub record IsParsed (text : List ℕ) (s : Statement) : Type 0 where
+abbrev pub tail_in : Checked Parsed → ℕ
+tail_in (Ok p) = p.tail
+tail_in (Err e) = 0
+
+abbrev pub names_in : Checked Parsed → List (List ℕ)
+names_in (Ok p) = p.names
+names_in (Err e) = []
+
+-- one statement to its end, with so many parameters
+pub record IsParsed (text : List ℕ) (count : ℕ) (s : Statement) : Type 0 where
   pub went : is_ok (first text) ≡ true
   pub is : statement_in (first text) ≡ s
   pub untimed : formats_in (first text) ≡ []
+  pub ends : length text ≡ tail_in (first text)
+  pub given : count ≡ length (names_in (first text))
 
 -- so many parameters from a number on
 abbrev pub parameters : ℕ → ℕ → List Expr
@@ -103,43 +115,47 @@ insert_into it = written.Insert Abort it.name (names_of it) (rows.Values (parame
 
 -- ---- what a text is read as, in each schema that has the table
 
-pub record IsRead (it : BookTable) (text : List ℕ) (command : ℕ → ℕ → Command) : Type 0 where
+pub record IsRead (it : BookTable) (text : List ℕ) (count : ℕ) (command : ℕ → ℕ → Command) : Type 0 where
   pub is : (schema : Schema) (at tree : ℕ) → Known it schema at tree → command_of (understood schema text) ≡ command at tree
   pub plain : (schema : Schema) (at tree : ℕ) → Known it schema at tree → IsPlain (understood schema text)
   pub unlisted : (schema : Schema) (at tree : ℕ) → Known it schema at tree → reads_listing schema text ≡ false
+  pub whole : (schema : Schema) (at tree : ℕ) → Known it schema at tree → IsWhole text count (understood schema text)
 
 pub record IsMeant (it : BookTable) (s : Statement) (command : ℕ → ℕ → Command) : Type 0 where
   pub is : (schema : Schema) (at tree base : ℕ) → Known it schema at tree → compile.command schema [] base s ≡ Ok (command at tree)
   pub silent : (schema : Schema) (base : ℕ) → compile.returning schema base s ≡ Ok None
   pub untimed : (schema : Schema) (at tree : ℕ) → Known it schema at tree → compile.timed schema [] s ≡ []
 
-module _ (schema : Schema) (text : List ℕ) (s : Statement) (command : Command) (parsed : IsParsed text s)
+module _ (schema : Schema) (text : List ℕ) (count : ℕ) (s : Statement) (command : Command) (parsed : IsParsed text count s)
     (is : (base : ℕ) → compile.command schema [] base s ≡ Ok command) (silent : (base : ℕ) → compile.returning schema base s ≡ Ok None) (untimed : compile.timed schema [] s ≡ []) where
-  went_on : (r : Checked Parsed) → is_ok r ≡ true → statement_in r ≡ s → formats_in r ≡ [] → first text ≡ r
-      → (c : Compiled) × (compiled schema text ≡ Ok c) × (c.command ≡ command) × (c.returning ≡ None) × (c.formats ≡ [])
+  went_on : (r : Checked Parsed) → is_ok r ≡ true → statement_in r ≡ s → formats_in r ≡ [] → length text ≡ tail_in r → count ≡ length (names_in r) → first text ≡ r
+      → (c : Compiled) × (compiled schema text ≡ Ok c) × (c.command ≡ command) × (c.returning ≡ None) × (c.formats ≡ []) × (length text ≡ c.tail) × (count ≡ length c.names)
   unfolding compiled compile.planned compile.meaning
-  went_on (Err e) went has none from = absurd (cc)
-  went_on (Ok p) went has none from =
+  went_on (Err e) went has none ends given from = absurd (cc)
+  went_on (Ok p) went has none ends given from =
       let base = compile.small p.names + compile.small [] in (
         compile.with_command p ([], (command, None)),
         rw (from, has, none, untimed, silent base, is base),
         refl,
         refl,
         refl,
+        ends,
+        given,
       )
 
-  pub compiled_is : (c : Compiled) × (compiled schema text ≡ Ok c) × (c.command ≡ command) × (c.returning ≡ None) × (c.formats ≡ [])
-  compiled_is = went_on (first text) parsed.went parsed.is parsed.untimed refl
+  pub compiled_is : (c : Compiled) × (compiled schema text ≡ Ok c) × (c.command ≡ command) × (c.returning ≡ None) × (c.formats ≡ []) × (length text ≡ c.tail) × (count ≡ length c.names)
+  compiled_is = went_on (first text) parsed.went parsed.is parsed.untimed parsed.ends parsed.given refl
 
-pub is_read : (it : BookTable) (text : List ℕ) (s : Statement) (command : ℕ → ℕ → Command) → IsParsed text s → IsMeant it s command → IsRead it text command
+pub is_read : (it : BookTable) (text : List ℕ) {count : ℕ} (s : Statement) (command : ℕ → ℕ → Command) → IsParsed text count s → IsMeant it s command → IsRead it text count command
 unfolding understood
-is_read it text s command parsed meant =
+is_read it text {count} s command parsed meant =
     let whole = λ (schema : Schema) (at tree : ℕ) (known : Known it schema at tree).
-    compiled_is schema text s (command at tree) parsed (λ base. meant.is schema at tree base known) (meant.silent schema) (meant.untimed schema at tree known) in
+    compiled_is schema text count s (command at tree) parsed (λ base. meant.is schema at tree base known) (meant.silent schema) (meant.untimed schema at tree known) in
     record {
       is = λ schema at tree known. let c = whole schema at tree known in rw c.1 c.2;
       plain = λ schema at tree known. let c = whole schema at tree known in rw c.1 (c.3, c.4);
       unlisted = λ schema at tree known. let c = whole schema at tree known in rw c.1 refl;
+      whole = λ schema at tree known. let c = whole schema at tree known in rw c.1 (c.5, c.6);
     }
 
 -- ---- INSERT, UPDATE and DELETE

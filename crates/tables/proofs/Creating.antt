@@ -1,5 +1,6 @@
 -- CREATE TABLE.
-use Rattle.std.proofs.Common.{◌≡◌, ◌⊎◌, zero, suc, codes, slice_get, option_and_then, ◌+◌, if◌then◌else◌, length, ◌^◌, ◌<◌, ◌==◌, ◌||◌, ◌&&◌, ℕ, Bool, List, [], ◌∷◌, ◌++◌, inl, inr, true, false, not, cond, find, slice_range, Option, None, Some, Ok, Err, Result, refl, sym, ap, subst, ◌∙◌, arith, is_some}
+use Rattle.std.proofs.Common.{nat_le, ◌*◌, ◌≤◌, ◌≡◌, ◌⊎◌, zero, suc, codes, slice_get, option_and_then, ◌+◌, if◌then◌else◌, length, ◌^◌, ◌<◌, ◌==◌, ◌||◌, ◌&&◌, ℕ, Bool, List, [], ◌∷◌, ◌++◌, inl, inr, true, false, not, cond, find, slice_range, Option, None, Some, Ok, Err, Result, refl, sym, ap, subst, ◌∙◌, arith, is_some}
+use Rattle.std.proofs.lemmas.Bool.Decides.{nat_tests}
 use Rattle.std.proofs.lemmas.Bool.{cases_Bool, not-true, not-false}
 use Rattle.std.specs.List.{AllByRecursion, list_any, position_from}
 use Rattle.sqlite_trees.specs.Tree.{Trees}
@@ -28,9 +29,9 @@ use Rattle.sqlite_resolve.specs.Compile as compile
 use Rattle.sqlite_schema.specs.declared.command.Returning.{Returning}
 use Rattle.sqlite_resolve.specs.Compile.{first, compiled, table_defined_by}
 use Rattle.sqlite.specs.Effect.{Database, IsDatabase}
-use Rattle.sqlite.specs.Does.{Tally, Does, lacks_sequence, sequence_text, MakesSequence}
+use Rattle.sqlite.specs.Does.{Tally, Does, lacks_sequence, sequence_text, MakesTable, MakesSequence}
 use Rattle.sqlite.specs.Listing.{understood, reads_listing, listing_schema, if_select, is_select}
-use Rattle.sqlite.specs.State.{State, Executes, ExecutesIn, CommitsBy, text_of}
+use Rattle.sqlite.specs.State.{State, Executes, ExecutesIn, IsNotRun, CommitsBy, text_of}
 use Rattle.sqlite.proofs.Callers.{IsPlain, command_of, statement_of}
 use Rattle.sqlite.proofs.StateLemmas.{survives_weaker}
 use Rattle.tables.specs.Schema.{BookTable, IsTable, IsUnreferenced, table_of}
@@ -39,7 +40,14 @@ use Rattle.tables.specs.Texts.{Performs}
 use Rattle.tables.proofs.Known.{listed, stored_is}
 use Rattle.tables.proofs.Compiling.{statement_in}
 use Rattle.tables.proofs.Inserting.{plain_mode, went, same_value}
-use Rattle.tables.proofs.Statements.{Writer, writer, committed, failed, some_fault}
+use Rattle.tables.proofs.Statements.{Writer, Stopper, writer, committed, failed}
+use Rattle.tables.proofs.Stopping.{some_fault, failed_for, statement_told, stopped_in}
+use Rattle.tables.proofs.Refusing.{err_same, makes_told}
+use Rattle.tables.specs.Calls.{Stops}
+use Rattle.tables.specs.Faults.{fault_of}
+use Rattle.tables.specs.declared.table_fault.TableFault.TheVariants.{Store}
+use Rattle.sqlite_catalog.specs.Calls.{IsLongTable, RefusesTable}
+use Rattle.sqlite.specs.declared.error.Error.{Error}
 use Rattle.tables.specs.Calls.{Ran}
 use Rattle.tables.specs.declared.table_fault.TableFault.{TableFault}
 use Rattle.sqlite_tied.specs.Compute.{everything}
@@ -59,6 +67,7 @@ pub record IsMaker (kept : BookTable) (sql : List ℕ) : Type 0 where
   pub new : is_new_table (statement_in (first sql)) ≡ true
   pub whole : text_in sql (first sql) ≡ sql
   pub defines : table_defined_by sql ≡ Ok (table_of kept 0)
+  pub short : nat_le (10 ^ 9) (2 * length kept.name + length sql + 200) ≡ false
 
 of_both : {A B : Type 0} (r : Checked A) (f : A → Checked B) (b : B) → and_then r f ≡ Ok b → (a : A) × (r ≡ Ok a) × (f a ≡ Ok b)
 of_both (Ok a) f b h = (a, refl, h)
@@ -388,3 +397,64 @@ module _ (kept : BookTable) (sql : List ℕ) (maker : IsMaker kept sql) (old : S
 
   pub create_writer : Writer sql [] (Makes kept) old
   create_writer = record { ran = create_ran; left = λ new s. survives_weaker old new _ _ (λ _ db h. let c = commits db h in made_committed c.0 c.1 db h) s }
+
+-- ---- it is refused, or the store fails: no text of a table is too long to be kept
+
+not_long : (a b : ℕ) → nat_le a b ≡ false → a ≤ b → ⊥
+not_long a b short long = grind (arith, nat_tests)
+
+name_in : Checked Table → List ℕ
+name_in (Ok t) = t.name
+name_in (Err e) = []
+
+sequence_name : (t : Table) → table_defined_by sequence_text ≡ Ok t → t.name ≡ codes "sqlite_sequence"
+unfolding name_in everything
+sequence_name t h = ap name_in (sym h)
+
+short_sequence : IsLongTable sequence_text → ⊥
+short_sequence h = not_long (10 ^ 9) (2 * length (codes "sqlite_sequence") + length sequence_text + 200) refl (subst (λ name. 10 ^ 9 ≤ 2 * length name + length sequence_text + 200) (sequence_name h.0 h.1) h.2)
+
+module _ (kept : BookTable) (sql : List ℕ) (maker : IsMaker kept sql) (limit : Option ℕ) (old : Database) where
+  short_table : IsLongTable sql → ⊥
+  short_table h =
+      let is : h.0 ≡ table_of kept 0 = same_value (sym h.1 ∙ maker.defines) in
+      not_long (10 ^ 9) (2 * length kept.name + length sql + 200) maker.short (subst (λ name. 10 ^ 9 ≤ 2 * length name + length sql + 200) (ap (λ (t : Table). t.name) is) h.2)
+
+  create_small : (t : List ℕ) → t ≡ sql → Does limit plain_mode [] old t None CreateTable (Err None) → ⊥
+  create_small t whole does = elim (subst (λ s. Does limit plain_mode [] old s None CreateTable (Err None)) whole does) [
+    | inl first ↦ elim first.1 [
+      | inl made ↦ short_table (subst (λ stop. MakesTable sql old (Err stop)) (sym (err_same first.2 ∙ err_same made.2)) made.1)
+      | inr on ↦ elim (cases_Bool (lacks_sequence on.0.schema)) [
+        | inl lacks ↦ short_sequence (subst (λ stop. MakesTable sequence_text on.0 (Err stop)) (sym (err_same first.2)) (rw lacks at on.2))
+        | inr has ↦ absurd (let no = rw has at on.2 in cc)
+      ]
+    ]
+    | inr done ↦ absurd (let no = done.2 in cc)
+  ]
+
+  create_told : (t : List ℕ) → t ≡ sql → (e : Error) → Does limit plain_mode [] old t None CreateTable (Err (Some e)) → fault_of e ≡ Store
+  create_told t whole e does = elim (subst (λ s. Does limit plain_mode [] old s None CreateTable (Err (Some e))) whole does) [
+    | inl first ↦ elim first.1 [
+      | inl made ↦ makes_told sql (RefusesTable old.schema sql) e (subst (λ stop. MakesTable sql old (Err stop)) (sym (err_same first.2 ∙ err_same made.2)) made.1)
+      | inr on ↦ elim (cases_Bool (lacks_sequence on.0.schema)) [
+        | inl lacks ↦ makes_told sequence_text (RefusesTable on.0.schema sequence_text) e (subst (λ stop. MakesTable sequence_text on.0 (Err stop)) (sym (err_same first.2)) (rw lacks at on.2))
+        | inr has ↦ absurd (let no = rw has at on.2 in cc)
+      ]
+    ]
+    | inr done ↦ absurd (let no = done.2 in cc)
+  ]
+
+module _ (kept : BookTable) (sql : List ℕ) (maker : IsMaker kept sql) (old : State) where
+  create_stops : (new : State) (e : Error) → Executes sql [] old new (Err e) → Stops ⊥ (Unit {0}) old new (fault_of e)
+  unfolding ExecutesIn IsNotRun
+  create_stops new e (inl (inl none)) = inr (tt, none.1, statement_told old sql [] e none.0)
+  create_stops new e (inl (inr fails)) = inl (failed_for old new ⊥ ⊥ (λ none. none) e fails)
+  create_stops new e (inr ran) =
+      let is = ran.1.is in
+      let made = understood_made kept sql maker old.now.schema ran.0 is in
+      let text_is = ap (statement_of sql) is ∙ made.whole in
+      stopped_in sql [] CreateTable old.now.schema (ap command_of is ∙ made.is) (subst IsPlain (sym is) made.plain) (λ c same none. rw (same, none) refl) old refl ⊥ (Unit {0})
+      (λ t same. create_small kept sql maker old.step_limit old.now t (same ∙ text_is)) (λ t e same _ _ does. (tt, create_told kept sql maker old.step_limit old.now t (same ∙ text_is) e does)) (λ e _. tt) new e ran
+
+  pub create_stopper : Stopper sql [] ⊥ (Unit {0}) old
+  create_stopper = record { stops = create_stops }

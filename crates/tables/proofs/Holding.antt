@@ -64,7 +64,7 @@ not_held kept old after there x same sound numbered new put is apart still in_ce
     let alike = agreed kept x r.0 new held.1 is (all_has _ kept.keys held.1 (in_cells r.0) held.3) (all_has _ kept.keys held.1 (in_cells new) held.3) (all_has _ kept.keys held.1 some held.3) (subst (λ y. same_at held.1 y x ≡ true) r.2 held.4) in
     apart r.0 old_row (one_row kept after key.0 held.1 key.1 in_after sound numbered r.0 new (subst (λ l. Has l r.0) (sym now) (still r.0 old_row)) (subst (λ l. Has l new) (sym now) put) alike)
 
-module _ (kept : BookTable) (terms : List Term) (width : ℕ) (text : List ℕ) (read : IsRead kept text (λ at _. Insert at (Values terms width)))
+module _ (kept : BookTable) (terms : List Term) (width : ℕ) (text : List ℕ) {count : ℕ} (read : IsRead kept text count (λ at _. Insert at (Values terms width)))
     (params x : Row) (shape : (v : Value) → cells kept (v ∷ x) ≡ x) (one : value_rows params width (length terms / width) terms ≡ (Null ∷ x) ∷ []) (cast_is : (tree : ℕ) → cast_row (table_of kept tree) (Null ∷ x) ≡ Null ∷ x)
     (in_cells : (r : Row) → AllByRecursion (λ key. AllByRecursion (λ p. column (cells kept r) (p - 1) ≡ column r p) key) kept.keys) (some : AllByRecursion (λ key. AllByRecursion (λ p. is_null (column x (p - 1)) ≡ false) key) kept.keys)
     (old : State) (there : IsTable kept old.now.schema) where

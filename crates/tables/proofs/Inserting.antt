@@ -89,21 +89,22 @@ key_of_parent : (tables : List Table) (ref : Reference) (o : Option Table) → f
 key_of_parent tables ref None is k h = absurd (cc)
 key_of_parent tables ref (Some t) is k h = let it = has_found (λ (u : Table). same_name u.name ref.parent) tables t is in (t, it.0, it.1, parent_tree t (key_places t ref.parent_columns) k h)
 
--- where no foreign key refers to the table
+-- where no foreign key refers to the table, each parent is elsewhere
+pub elsewhere : (it : BookTable) (schema : Schema) (there : IsTable it schema) → IsUnreferenced it schema → (t : Table) (ref : Reference) → Has schema.tables t → Has t.references ref
+    → (key : ParentKey) → parent_key schema.tables ref ≡ Some key → key.0 ≢ there.tree
+elsewhere it schema there free t ref h k key is same =
+    let parent = key_of_parent schema.tables ref (find (λ (u : Table). same_name u.name ref.parent) schema.tables) refl key is in
+    let alike = all_has _ schema.tables parent.0 there.alone parent.1 (sym parent.3 ∙ same) in
+    let named = ap (λ n. same_name n ref.parent) alike in
+    let yes = parent.2 in
+    let no = all_has _ t.references ref (all_has _ schema.tables t free h) k in
+    absurd (cc)
+
 pub no_work_of : (it : BookTable) (schema : Schema) (there : IsTable it schema) → IsUnreferenced it schema → (olds news : List Row) → works schema Enforced 0 there.tree olds news ≡ []
 no_work_of it schema there free olds news = nothing_from schema there.tree olds news schema.tables
     (all_from _ schema.tables (λ t h. all_from _ t.references (λ ref k.
     other_tree there.tree (pairs olds news) t ref (deed_for Enforced (length news == 0) ref) (parent_key schema.tables ref) (λ key is.
-    let parent = key_of_parent schema.tables ref (find (λ (u : Table). same_name u.name ref.parent) schema.tables) refl key is in
-    elim (cases_Bool (key.0 == there.tree)) [
-      | inl same ↦ absurd (
-          let alike = all_has _ schema.tables parent.0 there.alone parent.1 (sym parent.3 ∙ eqb-true _ _ same) in
-          let named = ap (λ n. same_name n ref.parent) alike in
-          let yes = parent.2 in
-          let no = all_has _ t.references ref (all_has _ schema.tables t free h) k in
-          cc)
-      | inr other ↦ other
-    ]))))
+    elim (cases_Bool (key.0 == there.tree)) [ inl same ↦ absurd (elsewhere it schema there free t ref h k key is (eqb-true _ _ same)) | inr other ↦ other ]))))
 
 pub applied : (schema : Schema) (db next : Trees) (edit : Edit) → works schema Enforced 0 edit.table.tree (taken_by db edit) edit.news ≡ []
     → Rattle.sqlite_rules.specs.Action.Writes schema Enforced db edit (Ok next) → Applies schema Enforced db edit next

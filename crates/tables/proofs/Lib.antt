@@ -1,9 +1,11 @@
 pub mod Known
 pub mod Compiling
 pub mod Survival
+pub mod Stopping
 pub mod Inserting
 pub mod Statements
 pub mod Answering
+pub mod Refusing
 pub mod Deleting
 pub mod Updating
 pub mod Creating
@@ -12,6 +14,7 @@ pub mod Selecting
 pub mod LoadingLemmas
 pub mod KeyLemmas
 pub mod Holding
+pub mod RefusedRows
 pub mod Transactions
 pub mod BookTexts
 pub mod CrewTexts

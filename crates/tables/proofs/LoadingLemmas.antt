@@ -1,5 +1,5 @@
 -- SELECT of a whole table with the numbers of its rows, which rise and so are apart.
-use Rattle.std.proofs.Common.{◌≡◌, inl, inr, ℕ, suc, ℤ, List, [], ◌∷◌, map, filter, drop, length, Bool, true, false, Ok, Err, Result, refl, sym, ap, subst, ◌∙◌, IsPermutation, IsTrue, IfOk, OnOk, OnErr, Ordering, Less, Equal, Greater, arith}
+use Rattle.std.proofs.Common.{◌≡◌, inl, inr, ℕ, suc, ℤ, List, [], ◌∷◌, map, filter, drop, length, Bool, true, false, Ok, Err, Result, refl, sym, ap, subst, ◌∙◌, IsPermutation, IsTrue, IfOk, OnOk, IfErr, Ordering, Less, Equal, Greater, arith}
 use Rattle.std.specs.Ordering.{is_eq, is_lt, int_cmp}
 use Rattle.std.specs.List.{AllByRecursion, IsDistinct}
 use Rattle.std.proofs.lemmas.Bool.{and_parts, cases_Bool}
@@ -23,18 +23,21 @@ use Rattle.sqlite_rules.proofs.ListLemmas.{all_has}
 use Rattle.sqlite_rules.proofs.ProbeLemmas.{has_mapped, mapped_has}
 use Rattle.sqlite.proofs.Callers.{IsPlain}
 use Rattle.sqlite.specs.Listing.{understood}
-use Rattle.sqlite.specs.State.{State, HasCleanDisk, Survives, IsUnchanged, Shown}
+use Rattle.sqlite.specs.declared.error.Error.{Error}
+use Rattle.sqlite.specs.State.{State, HasCleanDisk, Survives, IsUnchanged, Shown, FailsToQuery}
 use Rattle.tables.specs.Schema.{BookTable, IsTable}
 use Rattle.tables.proofs.Known.{known, stored_is}
 use Rattle.tables.proofs.Compiling.{IsRead}
 use Rattle.tables.specs.Rows.{cells, rows_of, begins_with, Finds, HasNoRecord, AreNumbered, IsStored}
-use Rattle.tables.specs.Calls.{Leaves, Loaded}
-use Rattle.tables.specs.Texts.{HasInvalid, ShowsNumbered, rises, rises_from}
+use Rattle.tables.specs.Calls.{Stops, HasStepLimit, Loaded}
+use Rattle.tables.specs.Faults.{fault_of}
+use Rattle.tables.specs.Texts.{HasInvalid, Unread, ShowsNumbered, rises, rises_from}
 use Rattle.tables.specs.declared.table_fault.TableFault.{TableFault}
 use Rattle.tables.specs.declared.table_fault.TableFault.TheVariants.{NotARecord}
 use Rattle.tables.proofs.Answering.{plain_query, has_permuted}
 use Rattle.tables.proofs.Deleting.{equal_is}
-use Rattle.tables.proofs.Selecting.{projected, shown_cells, answered, shows_invalid}
+use Rattle.tables.proofs.Refusing.{suits}
+use Rattle.tables.proofs.Selecting.{projected, shown_cells, answered, shows_invalid, unread, unread_as}
 
 -- ---- numbers that rise differ
 
@@ -109,6 +112,7 @@ by_number = (col 1 0, ascending Binary) ∷ []
 pub record Loader (text : List ℕ) (kept : BookTable) (old : State) : Type 1 where
   pub plain : IsPlain (understood old.now.schema text)
   pub loaded : (new : State) (rows : List Row) → ShowsNumbered text old new rows → Finds kept (begins_with []) old.now rows × IsStored kept old.now
+  pub stops : (new : State) (e : Error) → FailsToQuery text [] old new e → Stops ⊥ (HasStepLimit old) old new (fault_of e)
   pub invalid : (IsRecord : Row → Type 0) → HasInvalid (λ values. IsRecord (drop 1 values)) text [] old → HasNoRecord kept (begins_with []) IsRecord old.now
 
 all_pass : {X : Type 0} (xs : List X) → filter (λ x. true) xs ≡ xs
@@ -116,7 +120,8 @@ all_pass [] = refl
 all_pass (x ∷ xs) = ap (λ l. x ∷ l) (all_pass xs)
 
 module _ (kept : BookTable) (text : List ℕ) (names : List (List ℕ))
-    (read : IsRead kept text (λ _ tree. Select (record { lets = []; body = plain_query tree [] (projected (suc (length kept.columns)) 0) by_number }) names))
+    {count : ℕ} (read : IsRead kept text count (λ _ tree. Select (record { lets = []; body = plain_query tree [] (projected (suc (length kept.columns)) 0) by_number }) names))
+    (given : count ≡ 0) (fits : suits kept [] (projected (suc (length kept.columns)) 0) by_number [] ≡ true)
     (old : State) (there : IsTable kept old.now.schema) where
   abbrev stored : List Row
   stored = old.now.trees there.tree
@@ -152,6 +157,7 @@ module _ (kept : BookTable) (text : List ℕ) (names : List (List ℕ))
               (subst (λ l. IsPermutation l (map (λ it. it.1) all)) (ap (map (cells kept)) (sym is_stored) ∙ sym (all_pass (rows_of kept old.now))) records),
           subst AreNumbered (sym is_stored) (rising_stored stored _ numbers h.2),
         );
+    stops = unread kept [] (projected (suc (length kept.columns)) 0) by_number text names read [] (λ _. true) (λ _. refl) shown shows old there given fits;
     invalid = λ IsRecord h.
         let r = shows_invalid kept [] (projected (suc (length kept.columns)) 0) by_number text names read [] (λ _. true) (λ _. refl) shown shows old there (λ values. IsRecord (drop 1 values)) h in
         (cells kept r.0, subst (λ l. Has (map (cells kept) l) (cells kept r.0)) (sym is_stored) (mapped_has (cells kept) stored r.0 r.1), refl, r.3);
@@ -174,7 +180,9 @@ numbered_shown {N} numbered number entry row sql old new h rise (Ok all) items s
 
 module _ {text : List ℕ} {kept : BookTable} {B : Type 0} (old new : State) (owed : HasCleanDisk old → B) (reads : B → Loader text kept old) {X : Trees → Type 0} (survives : Survives old new X) where
   pub loaded_by : {A R : Type 0} (row : R → Row) (IsRecord : Row → Type 0) (items : A → List R) (result : Result A TableFault)
-      → (HasCleanDisk new → IfOk result (λ all. ShowsNumbered text old new (map row (items all)))) → (HasCleanDisk new → OnOk result (IsUnchanged old new)) → (HasCleanDisk new → OnErr result (Leaves old new))
+      → (HasCleanDisk new → IfOk result (λ all. ShowsNumbered text old new (map row (items all)))) → (HasCleanDisk new → OnOk result (IsUnchanged old new)) → (HasCleanDisk new → IfErr result (Unread (λ _. Unit {0}) text [] old new))
       → (HasCleanDisk new → result ≡ Err NotARecord → HasInvalid (λ values. IsRecord (drop 1 values)) text [] old) → Loaded kept IsRecord (λ all. map row (items all)) old new result
   loaded_by row IsRecord items (Ok all) found same err damaged clean = ((reads (owed (omega (arith, survives.clean)))).loaded new (map row (items all)) (found clean), same clean)
-  loaded_by row IsRecord items (Err fault) found same err damaged clean = (err clean, λ e. (reads (owed (omega (arith, survives.clean)))).invalid IsRecord (damaged clean (ap Err e)))
+  loaded_by row IsRecord items (Err fault) found same err damaged clean =
+      let loads = reads (owed (omega (arith, survives.clean))) in
+      unread_as text [] old new (Unit {0}) _ (λ _. Unit {0}) fault (loads.stops new) (λ _. tt) (λ _ _. tt) (err clean) (λ e. loads.invalid IsRecord (damaged clean (ap Err e)))

@@ -1,5 +1,5 @@
 -- SELECT of whole rows.
-use Rattle.std.proofs.Common.{Option, MatchOption, ◌≢◌, pos, ◌≡◌, inl, inr, ℕ, zero, suc, ◌+◌, List, [], ◌∷◌, ◌++◌, map, drop, length, Bool, true, Some, None, Ok, Err, Result, refl, sym, ap, ap₂, subst, ◌∙◌, arith, drop-cons}
+use Rattle.std.proofs.Common.{Option, MatchOption, IfErr, ◌⊎◌, append-nil, subst₂, ◌≢◌, pos, ◌≡◌, inl, inr, ℕ, zero, suc, ◌+◌, List, [], ◌∷◌, ◌++◌, map, drop, length, Bool, true, Some, None, Ok, Err, Result, refl, sym, ap, ap₂, subst, ◌∙◌, arith, drop-cons}
 use Rattle.std.specs.Bool.{⊤}
 use Rattle.std.proofs.lemmas.List.{drop_all}
 use Rattle.std.specs.List.{list_all}
@@ -13,14 +13,20 @@ use Rattle.sqlite_sql.specs.Program.{overlay}
 use Rattle.sqlite_rules.specs.Lists.{Has}
 use Rattle.sqlite_rules.proofs.ProbeLemmas.{mapped_has}
 use Rattle.sqlite.specs.Values.{bound_value}
-use Rattle.sqlite.specs.Listing.{understood}
-use Rattle.sqlite.specs.State.{State, Shown}
-use Rattle.sqlite.proofs.Callers.{IsPlain, reads_as, begins_as}
+use Rattle.sqlite.specs.Clock.{timed}
+use Rattle.sqlite.specs.Effect.{RefusesToRead}
+use Rattle.sqlite.specs.Listing.{understood, IsSourceOf}
+use Rattle.sqlite.specs.declared.error.Error.{Error}
+use Rattle.sqlite.specs.State.{State, Shown, FailsToQuery, FailsToShow, IsNotRun}
+use Rattle.sqlite.proofs.Callers.{IsPlain, command_of, reads_as, begins_as}
 use Rattle.sqlite_rules.proofs.ListLemmas.{has_left, has_right}
 use Rattle.tables.proofs.Answering.{plain_query, answer_has, answer_permutes, answer_ordered, output_of, overlay_is}
 use Rattle.tables.proofs.Known.{Known, known, place, stored_is}
 use Rattle.tables.proofs.Compiling.{IsRead}
-use Rattle.std.proofs.Common.{IsPermutation, IsSorted, filter, IfOk, OnOk, OnErr}
+use Rattle.tables.proofs.Refusing.{suits, limited}
+use Rattle.tables.proofs.Stopping.{IsWhole, is_statement, failed_for}
+use Rattle.tables.specs.Faults.{fault_of}
+use Rattle.std.proofs.Common.{IsPermutation, IsSorted, filter, IfOk, OnOk}
 use Rattle.std.proofs.lemmas.Bool.{cases_Bool}
 use Rattle.std.specs.declared.cmp.Ordering.{Ordering}
 use Rattle.sqlite_trees.specs.Tree.{Trees}
@@ -31,10 +37,10 @@ use Rattle.sqlite.specs.State.{HasCleanDisk, Survives, IsUnchanged}
 use Rattle.tables.specs.Schema.{BookTable, IsTable}
 use Rattle.tables.specs.Rows.{cells, cells_from, begins_with, columns_cmp, Finds, FindsInOrder, HasNoRecord}
 use Rattle.tables.specs.Records.{number_or_null}
-use Rattle.tables.specs.Calls.{Leaves, Read, ReadAs}
-use Rattle.tables.specs.Texts.{HasInvalid}
+use Rattle.tables.specs.Calls.{Failed, Stops, HasStepLimit, IsUnread, Read, ReadAs}
+use Rattle.tables.specs.Texts.{HasInvalid, Unread}
 use Rattle.tables.specs.declared.table_fault.TableFault.{TableFault}
-use Rattle.tables.specs.declared.table_fault.TableFault.TheVariants.{NotARecord}
+use Rattle.tables.specs.declared.table_fault.TableFault.TheVariants.{Store, Memory, NotARecord}
 
 -- the columns from a place on
 abbrev pub projected : ℕ → ℕ → List Term
@@ -49,6 +55,7 @@ shown_cells (suc count) at params r = ap (λ row. column r at ∷ row) (shown_ce
 pub record Reader (text : List ℕ) (params : Row) (kept : BookTable) (test : Row → Bool) (old : State) : Type 1 where
   pub plain : IsPlain (understood old.now.schema text)
   pub found : (new : State) (rows : List Row) → Shown text params old new rows → Finds kept test old.now rows
+  pub stops : (new : State) (e : Error) → FailsToQuery text params old new e → Stops ⊥ (HasStepLimit old) old new (fault_of e)
   pub invalid : (IsRecord : Row → Type 0) → HasInvalid IsRecord text params old → HasNoRecord kept test IsRecord old.now
 
 filter_same : {X : Type 0} (p q : X → Bool) → ((x : X) → p x ≡ q x) → (xs : List X) → filter p xs ≡ filter q xs
@@ -63,7 +70,7 @@ map_same f g same [] = refl
 map_same f g same (x ∷ xs) = ap₂ ◌∷◌ (same x) (map_same f g same xs)
 
 module _ (kept : BookTable) (filters project : List Term) (order : List (Term × Key)) (text : List ℕ) (names : List (List ℕ))
-    (read : IsRead kept text (λ _ tree. Select (record { lets = []; body = plain_query tree filters project order }) names))
+    {count : ℕ} (read : IsRead kept text count (λ _ tree. Select (record { lets = []; body = plain_query tree filters project order }) names))
     (params : Row) (test : Row → Bool) (tests : (r : Row) → list_all (holds (params ∷ r ∷ [])) filters ≡ test (cells kept r))
     (shown : Row → Row) (shows : (r : Row) → eval_all project (params ∷ r ∷ []) ≡ shown r)
     (old : State) (there : IsTable kept old.now.schema) where
@@ -95,9 +102,26 @@ module _ (kept : BookTable) (filters project : List Term) (order : List (Term ×
       let r = answer_has tree filters project order (overlay old.now.trees []) params all (start.1 Null) h.1 (has_left given start.0 h.1 (has_right h.0 (h.1 ∷ []) h.1 (inl refl))) in
       (r.0, subst (λ l. Has l r.0) (overlay_is old.now.trees tree) r.1, sym (tests r.0) ∙ r.2, subst (λ x. ¬ IsRecord x) (r.3 ∙ shows r.0) h.3)
 
+  -- only a limit on its steps stops it that is not a failure of the store
+  module _ (given : count ≡ length params) (fits : suits kept filters project order params ≡ true) where
+    pub unread : (new : State) (e : Error) → FailsToQuery text params old new e → Stops ⊥ (HasStepLimit old) old new (fault_of e)
+    unfolding FailsToQuery IsNotRun
+    unread new e (inl (inl none)) = absurd (is_statement old text params e (read.plain _ _ _ facts) (subst (λ n. IsWhole text n (understood old.now.schema text)) given (read.whole _ _ _ facts)) none.0)
+    unread new e (inl (inr fails)) = inl (failed_for old new ⊥ ⊥ (λ none. none) e fails)
+    unread new e (inr h) =
+        let bare = subst IsPlain h.1.is (read.plain _ _ _ facts) in
+        let select = Select (record { lets = []; body = plain_query tree filters project order }) names in
+        let as_command : h.0.command ≡ select = ap command_of (sym h.1.is) ∙ read.is _ _ _ facts in
+        let it = subst (FailsToShow old new text h.0 (timed params h.0.formats h.1.now) e) bare.0 h.2 in
+        let db : it.0 ≡ old.now = subst (λ b. IsSourceOf b old.now it.0) (read.unlisted _ _ _ facts) it.1 in
+        let refused = subst (λ ps. RefusesToRead old.step_limit h.0.command it.0 ps e) (ap (λ formats. timed params formats h.1.now) bare.1 ∙ append-nil params) it.2 in
+        let why = limited kept filters project order params old.step_limit old.now _ tree facts fits e (subst₂ (λ k d. RefusesToRead old.step_limit k d params e) as_command db refused) in
+        inr (why.0, it.3, why.1)
+
 module _ (kept : BookTable) (filters : List Term) (text : List ℕ) (names : List (List ℕ))
-    (read : IsRead kept text (λ _ tree. Select (record { lets = []; body = plain_query tree filters (projected (length kept.columns) 1) [] }) names))
+    {count : ℕ} (read : IsRead kept text count (λ _ tree. Select (record { lets = []; body = plain_query tree filters (projected (length kept.columns) 1) [] }) names))
     (params : Row) (test : Row → Bool) (tests : (r : Row) → list_all (holds (params ∷ r ∷ [])) filters ≡ test (cells kept r))
+    (given : count ≡ length params) (fits : suits kept filters (projected (length kept.columns) 1) [] params ≡ true)
     (old : State) (there : IsTable kept old.now.schema) where
   shows : (r : Row) → eval_all (projected (length kept.columns) 1) (params ∷ r ∷ []) ≡ cells kept r
   shows = shown_cells (length kept.columns) 1 params
@@ -109,6 +133,7 @@ module _ (kept : BookTable) (filters : List Term) (text : List ℕ) (names : Lis
         subst (λ l. IsPermutation (filter test (map (cells kept) l)) rows) (sym (stored_is kept old.now.schema there old.now refl))
         (subst (λ l. IsPermutation l rows) (sym (filter-map test (cells kept) (old.now.trees there.tree)))
         (answered kept filters (projected (length kept.columns) 1) [] text names read params test tests (cells kept) shows old there new rows h));
+    stops = unread kept filters (projected (length kept.columns) 1) [] text names read params test tests (cells kept) shows old there given fits;
     invalid = λ IsRecord h.
         let r = shows_invalid kept filters (projected (length kept.columns) 1) [] text names read params test tests (cells kept) shows old there IsRecord h in
         (cells kept r.0, subst (λ l. Has (map (cells kept) l) (cells kept r.0)) (sym (stored_is kept old.now.schema there old.now refl)) (mapped_has (cells kept) (old.now.trees there.tree) r.0 r.1), r.2, r.3);
@@ -119,13 +144,15 @@ module _ (kept : BookTable) (filters : List Term) (text : List ℕ) (names : Lis
 pub record OrderedReader (text : List ℕ) (kept : BookTable) (count : ℕ) (old : State) : Type 1 where
   pub plain : IsPlain (understood old.now.schema text)
   pub found : (new : State) (rows : List Row) → Shown text [] old new rows → FindsInOrder count kept old.now rows
+  pub stops : (new : State) (e : Error) → FailsToQuery text [] old new e → Stops ⊥ (HasStepLimit old) old new (fault_of e)
   pub invalid : (IsRecord : Row → Type 0) → HasInvalid IsRecord text [] old → HasNoRecord kept (begins_with []) IsRecord old.now
 
 module _ (kept : BookTable) (count : ℕ) (order : List (Term × Key)) (text : List ℕ) (names : List (List ℕ))
-    (read : IsRead kept text (λ _ tree. Select (record { lets = []; body = plain_query tree [] (projected (length kept.columns) 1) order }) names))
+    {given : ℕ} (read : IsRead kept text given (λ _ tree. Select (record { lets = []; body = plain_query tree [] (projected (length kept.columns) 1) order }) names))
     (agrees : (tree : ℕ) → ◌≡◌ {A = Row → Row → Ordering}
     (λ a b. output_cmp (plain_query tree [] (projected (length kept.columns) 1) order) (output_of (plain_query tree [] (projected (length kept.columns) 1) order) [] a) (output_of (plain_query tree [] (projected (length kept.columns) 1) order) [] b))
     (λ a b. columns_cmp count 0 (cells kept a) (cells kept b)))
+    (whole : given ≡ 0) (fits : suits kept [] (projected (length kept.columns) 1) order [] ≡ true)
     (old : State) (there : IsTable kept old.now.schema) where
   abbrev project : List Term
   project = projected (length kept.columns) 1
@@ -150,6 +177,7 @@ module _ (kept : BookTable) (count : ℕ) (order : List (Term × Key)) (text : L
           (answered kept [] project order text names read [] (begins_with []) (λ _. refl) (cells kept) each old there new rows h)),
       sorted new rows h,
     );
+    stops = unread kept [] project order text names read [] (begins_with []) (λ _. refl) (cells kept) each old there whole fits;
     invalid = λ IsRecord h.
         let r = shows_invalid kept [] project order text names read [] (begins_with []) (λ _. refl) (cells kept) each old there IsRecord h in
         (cells kept r.0, subst (λ l. Has (map (cells kept) l) (cells kept r.0)) (sym (stored_is kept old.now.schema there old.now refl)) (mapped_has (cells kept) (old.now.trees there.tree) r.0 r.1), r.2, r.3);
@@ -157,24 +185,40 @@ module _ (kept : BookTable) (count : ℕ) (order : List (Term × Key)) (text : L
 
 -- ---- from the clauses of `read_all` to those of a function
 
+told_as : (Why Damaged : Type 0) (fault : TableFault) → (fault ≡ Store → Why) → (fault ≡ NotARecord → Damaged) → IsUnread Why Damaged fault
+told_as Why Damaged Store refused damaged = refused refl
+told_as Why Damaged Memory refused damaged = tt
+told_as Why Damaged NotARecord refused damaged = damaged refl
+
+pub unread_as : (text : List ℕ) (params : Row) (old new : State) (Why Damaged : Type 0) (IsRefused : Row → Type 0) (fault : TableFault)
+    → ((e : Error) → FailsToQuery text params old new e → Stops ⊥ (HasStepLimit old) old new (fault_of e)) → (HasStepLimit old → Why) → ((values : Row) → IsRefused values → Why)
+    → Unread IsRefused text params old new fault → (fault ≡ NotARecord → Damaged) → Failed ⊥ old new fault ⊎ (IsUnchanged old new × IsUnread Why Damaged fault)
+unread_as text params old new Why Damaged IsRefused fault stops met refused (inl query) damaged = elim (stops query.0 query.2) [
+  | inl failed ↦ inl (subst (Failed ⊥ old new) (sym query.1) failed)
+  | inr limit ↦ inr (limit.1, subst (IsUnread Why Damaged) (sym (query.1 ∙ limit.2)) (met limit.0))
+]
+unread_as text params old new Why Damaged IsRefused fault stops met refused (inr own) damaged = inr (own.0, told_as Why Damaged fault (λ is. let values = own.1 is in refused values.0 values.1) damaged)
+
 module _ {text : List ℕ} {kept : BookTable} {count : ℕ} {B : Type 0} (old new : State) (owed : HasCleanDisk old → B) (ordered : B → OrderedReader text kept count old) {X : Trees → Type 0}
     (survives : Survives old new X) where
   pub read_in_order_by : {A : Type 0} (IsRecord : Row → Type 0) (rows : A → List Row) (result : Result A TableFault)
-      → (HasCleanDisk new → IfOk result (λ all. Shown text [] old new (rows all))) → (HasCleanDisk new → OnOk result (IsUnchanged old new)) → (HasCleanDisk new → OnErr result (Leaves old new))
+      → (HasCleanDisk new → IfOk result (λ all. Shown text [] old new (rows all))) → (HasCleanDisk new → OnOk result (IsUnchanged old new)) → (HasCleanDisk new → IfErr result (Unread (λ _. ⊥) text [] old new))
       → (HasCleanDisk new → result ≡ Err NotARecord → HasInvalid IsRecord text [] old)
-      → ReadAs (λ db found. FindsInOrder count kept db (rows found)) (HasNoRecord kept (begins_with []) IsRecord) old new result
+      → ReadAs (λ db found. FindsInOrder count kept db (rows found)) (HasNoRecord kept (begins_with []) IsRecord) (HasStepLimit old) old new result
   read_in_order_by IsRecord rows (Ok all) shown same err damaged clean = ((ordered (owed (omega (arith, survives.clean)))).found new (rows all) (shown clean), same clean)
   read_in_order_by IsRecord rows (Err fault) shown same err damaged clean =
-      (err clean, λ e. (ordered (owed (omega (arith, survives.clean)))).invalid IsRecord (damaged clean (ap Err e)))
+      let reads = ordered (owed (omega (arith, survives.clean))) in
+      unread_as text [] old new (HasStepLimit old) _ (λ _. ⊥) fault (reads.stops new) (λ h. h) (λ _ none. absurd none) (err clean) (λ e. reads.invalid IsRecord (damaged clean (ap Err e)))
 
 module _ {text : List ℕ} {params : Row} {kept : BookTable} {test : Row → Bool} {B : Type 0} (old new : State) (owed : HasCleanDisk old → B) (reader : B → Reader text params kept test old) {X : Trees → Type 0}
     (survives : Survives old new X) where
   pub read_by : {A : Type 0} (IsRecord : Row → Type 0) (rows : A → List Row) (result : Result A TableFault)
-      → (HasCleanDisk new → IfOk result (λ all. Shown text params old new (rows all))) → (HasCleanDisk new → OnOk result (IsUnchanged old new)) → (HasCleanDisk new → OnErr result (Leaves old new))
+      → (HasCleanDisk new → IfOk result (λ all. Shown text params old new (rows all))) → (HasCleanDisk new → OnOk result (IsUnchanged old new)) → (HasCleanDisk new → IfErr result (Unread (λ _. ⊥) text params old new))
       → (HasCleanDisk new → result ≡ Err NotARecord → HasInvalid IsRecord text params old) → Read kept test IsRecord rows old new result
   read_by IsRecord rows (Ok all) shown same err damaged clean = ((reader (owed (omega (arith, survives.clean)))).found new (rows all) (shown clean), same clean)
   read_by IsRecord rows (Err fault) shown same err damaged clean =
-      (err clean, λ e. (reader (owed (omega (arith, survives.clean)))).invalid IsRecord (damaged clean (ap Err e)))
+      let reads = reader (owed (omega (arith, survives.clean))) in
+      unread_as text params old new (HasStepLimit old) _ (λ _. ⊥) fault (reads.stops new) (λ h. h) (λ _ none. absurd none) (err clean) (λ e. reads.invalid IsRecord (damaged clean (ap Err e)))
 
 -- ---- a row from its columns
 

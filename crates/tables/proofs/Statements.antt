@@ -1,30 +1,30 @@
 -- From a text to what the statement makes of the tables.
-use Rattle.std.proofs.Common.{append-nil, arith, ◌≡◌, inl, inr, ℕ, List, false, None, Ok, Err, Result, refl, sym, ap, subst, ◌∙◌}
+use Rattle.std.proofs.Common.{append-nil, arith, ◌≡◌, inl, inr, ℕ, List, length, false, None, Some, Ok, Err, Result, IsTrue, refl, sym, ap, subst, ◌∙◌}
 use Rattle.std.proofs.lemmas.Bool.{cases_Bool}
 use Rattle.sqlite_value.specs.Order.{Row}
 use Rattle.sqlite_trees.specs.Tree.{Trees}
 use Rattle.sqlite_schema.specs.declared.schema.Schema.{Schema}
 use Rattle.sqlite_schema.specs.declared.command.Command.{Command}
 use Rattle.sqlite_schema.specs.declared.command.Command.TheVariants.{Commit, Release}
+use Rattle.sqlite_resolve.specs.declared.compiled.Compiled.{Compiled}
 use Rattle.sqlite.specs.declared.error.Error.{Error}
-use Rattle.sqlite.specs.declared.error.Error.TheVariants.{SqliteFailure}
-use Rattle.sqlite.specs.declared.error.ErrorCode.TheVariants.{OutOfMemory}
 use Rattle.sqlite.specs.Effect.{Database, IsDatabase}
 use Rattle.sqlite.specs.Does.{Tally, Does}
 use Rattle.sqlite.specs.Listing.{understood}
-use Rattle.sqlite.specs.State.{State, Writes, Runs, Executes, ExecutesIn, CommitsBy, IsNotRun, MayCommit, Survives, shows_rows, text_of, HasCleanDisk}
+use Rattle.sqlite.specs.State.{State, Writes, Runs, Executes, ExecutesIn, CommitsBy, IsNotRun, IsMisplaced, MayCommit, Survives, shows_rows, text_of, HasCleanDisk}
 use Rattle.sqlite.proofs.StateLemmas.{survives_weaker}
 use Rattle.tables.proofs.Survival.{later}
+use Rattle.tables.proofs.Stopping.{IsWhole, some_fault, stopped}
 use Rattle.sqlite.proofs.Callers.{IsPlain, command_of, statement_of, runs_as}
 use Rattle.tables.proofs.Inserting.{plain_mode}
 use Rattle.tables.specs.Schema.{BookTable, IsTable}
 use Rattle.tables.proofs.Known.{place, known}
 use Rattle.tables.proofs.Compiling.{IsRead}
-use Rattle.tables.specs.Calls.{Ran, MayLeave, Leaves}
+use Rattle.tables.specs.Calls.{Ran, MayLeave, Leaves, Stops, Faults}
 use Rattle.tables.specs.Texts.{Performs}
 use Rattle.tables.specs.Faults.{fault_of}
 use Rattle.tables.specs.declared.table_fault.TableFault.{TableFault}
-use Rattle.tables.specs.declared.table_fault.TableFault.TheVariants.{NotARecord}
+use Rattle.tables.specs.declared.table_fault.TableFault.TheVariants.{Store}
 
 pub failed : (text : List ℕ) (params : Row) (old new : State) (e : Error) → Executes text params old new (Err e) → Leaves old new
 unfolding ExecutesIn IsNotRun
@@ -34,10 +34,6 @@ failed text params old new e (inr ran) = elim (cases_Bool (shows_rows false ran.
   | inl shows ↦ inl (rw shows at ran.2).1
   | inr runs ↦ elim (rw runs at ran.2) [ inl refused ↦ inl refused.1 | inr fails ↦ inr fails.3 ]
 ]
-
-pub some_fault : (e : Error) → fault_of e ≡ NotARecord → ⊥
-some_fault (SqliteFailure OutOfMemory) h = cc
-some_fault _ h = cc
 
 -- what is known of a text that writes, from a state on
 pub record Writer (text : List ℕ) (params : Row) (Is : Database → Database → Type 0) (old : State) : Type 1 where
@@ -70,7 +66,7 @@ module _ (text : List ℕ) (params : Row) (command : Command) (schema : Schema) 
   writer = record { ran = ran; left = λ new s. survives_weaker old new _ _ (λ _ db h. committed db h) s }
 
 -- the same of a command that changes rows of a table that is there
-module _ (kept : BookTable) (text : List ℕ) (params : Row) (command : ℕ → ℕ → Command) (read : IsRead kept text command) (Is : Database → Database → Type 0) (old : State) (there : IsTable kept old.now.schema)
+module _ (kept : BookTable) (text : List ℕ) (params : Row) (command : ℕ → ℕ → Command) {count : ℕ} (read : IsRead kept text count command) (Is : Database → Database → Type 0) (old : State) (there : IsTable kept old.now.schema)
     (does : (t : List ℕ) (tally : Tally) (after : Database) → IsDatabase after → Does old.step_limit plain_mode params old.now t None (command (place kept old.now.schema there).0 there.tree) (Ok (tally, after)) → Is old.now after)
     (writes : (new : State) (t : List ℕ) (count : ℕ) → Runs old new None (command (place kept old.now.schema there).0 there.tree) t params count → Writes old new None (command (place kept old.now.schema there).0 there.tree) t params count)
     (not_commit : command (place kept old.now.schema there).0 there.tree ≡ Commit → ⊥) (not_release : (name : List ℕ) → command (place kept old.now.schema there).0 there.tree ≡ Release name → ⊥) where
@@ -78,6 +74,42 @@ module _ (kept : BookTable) (text : List ℕ) (params : Row) (command : ℕ → 
   table_writer =
       let facts = known kept old.now.schema there in
       writer text params (command (place kept old.now.schema there).0 there.tree) old.now.schema (read.is _ _ _ facts) (read.plain _ _ _ facts) Is old refl (λ t _ tally after sound. does t tally after sound) writes not_commit not_release
+
+-- ---- why it stops
+
+-- what is known of a text that writes and does not go through, from a state on
+pub record Stopper (text : List ℕ) (params : Row) (too_big why : Type 0) (old : State) : Type 1 where
+  pub stops : (new : State) (e : Error) → Executes text params old new (Err e) → Stops too_big why old new (fault_of e)
+
+module _ (kept : BookTable) (text : List ℕ) (params : Row) (command : ℕ → ℕ → Command) {count : ℕ} (read : IsRead kept text count command) (fits : count ≡ length params) (TooBig Why : Type 0) (old : State) (there : IsTable kept old.now.schema)
+    (quiet : (at tree : ℕ) (c : Compiled) → c.command ≡ command at tree → c.returning ≡ None → shows_rows false c ≡ false)
+    (big : (t : List ℕ) → Does old.step_limit plain_mode params old.now t None (command (place kept old.now.schema there).0 there.tree) (Err None) → TooBig)
+    (why : (t : List ℕ) (e : Error) → IsTrue old.is_open → Does old.step_limit plain_mode params old.now t None (command (place kept old.now.schema there).0 there.tree) (Err (Some e)) → Why × (fault_of e ≡ Store))
+    (placed : (e : Error) → IsMisplaced old (command (place kept old.now.schema there).0 there.tree) e → ⊥) where
+  pub table_stopper : Stopper text params TooBig Why old
+  table_stopper =
+      let facts = known kept old.now.schema there in
+      record {
+        stops = stopped text params (command (place kept old.now.schema there).0 there.tree) old.now.schema (read.is _ _ _ facts) (read.plain _ _ _ facts) (quiet _ _) old refl TooBig Why
+            (λ t _. big t) (λ t e _ _. why t e) (λ e h. absurd (placed e h)) (subst (λ n. IsWhole text n (understood old.now.schema text)) fits (read.whole _ _ _ facts));
+      }
+
+module _ {text : List ℕ} {params : Row} {TooBig Why : Type 0} {B : Type 0} (old new : State) (owed : HasCleanDisk old → B) (stopper : B → Stopper text params TooBig Why old)
+    (survives : Survives old new (CommitsBy text params old)) where
+  pub faults_by : {A : Type 0} (result : Result A TableFault) → (HasCleanDisk new → Performs text params old new result) → Faults TooBig Why old new result
+  faults_by (Ok a) performs clean = tt
+  faults_by (Err fault) performs clean =
+      let h = performs clean in
+      subst (Stops TooBig Why old new) (sym h.1) ((stopper (owed (omega (arith, survives.clean)))).stops new h.0 h.2)
+
+module _ {text : List ℕ} {params : Row} {TooBig Why : Type 0} {B C : Type 0} (old new : State) (owed : HasCleanDisk old → B) (also : HasCleanDisk old → C) (stopper : B → C → Stopper text params TooBig Why old)
+    (survives : Survives old new (CommitsBy text params old)) where
+  pub faults_by_both : {A : Type 0} (result : Result A TableFault) → (HasCleanDisk new → Performs text params old new result) → Faults TooBig Why old new result
+  faults_by_both = faults_by old new (λ clean. (owed clean, also clean)) (λ (both : B × C). stopper both.0 both.1) survives
+
+module _ {text : List ℕ} {params : Row} {TooBig Why : Type 0} (old new : State) (stopper : Stopper text params TooBig Why old) (survives : Survives old new (CommitsBy text params old)) where
+  pub faults_at : {A : Type 0} (result : Result A TableFault) → (HasCleanDisk new → Performs text params old new result) → Faults TooBig Why old new result
+  faults_at = faults_by {B = Unit {0}} old new (λ _. tt) (λ _. stopper) survives
 
 -- ---- from the clauses of `run` to those of a function
 

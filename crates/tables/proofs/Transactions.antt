@@ -1,5 +1,5 @@
 -- BEGIN, COMMIT and ROLLBACK.
-use Rattle.std.proofs.Common.{◌≡◌, ◌⊎◌, ◌≤◌, inl, inr, ℕ, List, [], codes, length, None, Ok, Err, Result, false, IsSome, refl, sym, ap, subst, ◌∙◌, arith}
+use Rattle.std.proofs.Common.{◌≡◌, ◌⊎◌, ◌≤◌, inl, inr, ℕ, List, [], codes, length, None, Ok, Err, Result, false, IsSome, IsTrue, refl, sym, ap, subst, ◌∙◌, arith}
 use Rattle.std.proofs.lemmas.Bool.{cases_Bool}
 use Rattle.sqlite_trees.specs.Tree.{Trees}
 use Rattle.sqlite_schema.specs.declared.schema.Schema.{Schema}
@@ -11,11 +11,13 @@ use Rattle.sqlite_resolve.specs.declared.compiled.Compiled.{Compiled}
 use Rattle.sqlite_resolve.specs.declared.error.CompileError.{CompileError}
 use Rattle.sqlite.specs.declared.error.Error.{Error}
 use Rattle.sqlite.specs.Calls.{IsWrite}
-use Rattle.sqlite.specs.State.{State, CommitsBy, MayCommit, Survives, IsRolledBack, text_of, Executes, ExecutesIn, IsNotRun, IsNoStatement, IsMisplaced, MayChange, shows_rows}
+use Rattle.sqlite.specs.Does.{Does}
+use Rattle.sqlite.specs.State.{State, HasCleanDisk, CommitsBy, MayCommit, Survives, IsRolledBack, text_of, Executes, ExecutesIn, IsNotRun, IsNoStatement, IsMisplaced, MayChange, shows_rows, mode_of}
 use Rattle.sqlite.proofs.StateLemmas.{survives_weaker}
 use Rattle.sqlite.proofs.Callers.{IsPlain, command_of, runs_as}
-use Rattle.tables.proofs.Statements.{failed, some_fault}
-use Rattle.tables.specs.Calls.{Begun, Committed, Gave}
+use Rattle.tables.proofs.Stopping.{IsWhole, left, of_store, stopped}
+use Rattle.tables.specs.Calls.{Begun, Committed, Faults, Gave, Stops}
+use Rattle.tables.specs.Faults.{fault_of}
 use Rattle.tables.specs.Texts.{Performs}
 use Rattle.tables.specs.declared.table_fault.TableFault.{TableFault}
 
@@ -23,18 +25,19 @@ use Rattle.tables.specs.declared.table_fault.TableFault.{TableFault}
 pub record IsSaid (sql : List ℕ) (command : Command) : Type 0 where
   pub is : (schema : Schema) → command_of (understood schema sql) ≡ command
   pub plain : (schema : Schema) → IsPlain (understood schema sql)
+  pub whole : (schema : Schema) → IsWhole sql 0 (understood schema sql)
 
 said_begin : IsSaid (codes "BEGIN") Begin
 unfolding understood everything
-said_begin = record { is = λ _. refl; plain = λ _. (refl, refl) }
+said_begin = record { is = λ _. refl; plain = λ _. (refl, refl); whole = λ _. (refl, refl) }
 
 said_commit : IsSaid (codes "COMMIT") Commit
 unfolding understood everything
-said_commit = record { is = λ _. refl; plain = λ _. (refl, refl) }
+said_commit = record { is = λ _. refl; plain = λ _. (refl, refl); whole = λ _. (refl, refl) }
 
 said_rollback : IsSaid (codes "ROLLBACK") Rollback
 unfolding understood everything
-said_rollback = record { is = λ _. refl; plain = λ _. (refl, refl) }
+said_rollback = record { is = λ _. refl; plain = λ _. (refl, refl); whole = λ _. (refl, refl) }
 
 may : (sql : List ℕ) (command : Command) → IsSaid sql command → (old : State) (db : Trees) → CommitsBy sql [] old db → (t : List ℕ) × MayCommit old None command t [] db
 unfolding CommitsBy
@@ -42,17 +45,57 @@ may sql command said old db h =
     let bare = subst IsPlain h.1.is (said.plain old.now.schema) in
     (text_of sql h.0, subst (λ k. MayCommit old None k (text_of sql h.0) [] db) (ap command_of (sym h.1.is) ∙ said.is old.now.schema) (rw (bare.0, bare.1) at h.2))
 
+-- why it is refused
+module _ (sql : List ℕ) (command : Command) (said : IsSaid sql command) (quiet : (c : Compiled) → c.command ≡ command → c.returning ≡ None → shows_rows false c ≡ false)
+    (silent : IsWrite command → ⊥) (stored : (old : State) (t : List ℕ) → Does old.step_limit (mode_of old) [] old.now t None command (Err None) → ⊥)
+    (Why : State → Type 0) (placed : (old : State) (e : Error) → IsMisplaced old command e → Why old) where
+  pub refused_by : (old new : State) (fault : TableFault) (e : Error) → fault ≡ fault_of e → Executes sql [] old new (Err e) → Stops ⊥ (Why old) old new fault
+  refused_by old new fault e is h =
+      subst (Stops ⊥ (Why old) old new) (sym is)
+      (stopped sql [] command old.now.schema (said.is _) (said.plain _) quiet old refl ⊥ (Why old) (λ t _. stored old t) (λ t e _ writes. absurd (silent writes)) (placed old) (said.whole _) new e h)
+
+begins_in : (old : State) (e : Error) → IsMisplaced old Begin e → IsTrue old.in_transaction
+begins_in old e (inl (_, inl begin)) = begin.1
+begins_in old e (inl (_, inr (inl ends, _))) = absurd (let no = ends in cc)
+begins_in old e (inl (_, inr (inr ends, _))) = absurd (let no = ends in cc)
+begins_in old e (inr (_, name, inl release, _)) = absurd (cc)
+begins_in old e (inr (_, name, inr back, _)) = absurd (cc)
+
+commits_out : (old : State) (e : Error) → IsMisplaced old Commit e → old.in_transaction ≡ false
+commits_out old e (inl (_, inl begin)) = absurd (let no = begin.0 in cc)
+commits_out old e (inl (_, inr it)) = it.1
+commits_out old e (inr (_, name, inl release, _)) = absurd (cc)
+commits_out old e (inr (_, name, inr back, _)) = absurd (cc)
+
+rolls_back_out : (old : State) (e : Error) → IsMisplaced old Rollback e → old.in_transaction ≡ false
+rolls_back_out old e (inl (_, inl begin)) = absurd (let no = begin.0 in cc)
+rolls_back_out old e (inl (_, inr it)) = it.1
+rolls_back_out old e (inr (_, name, inl release, _)) = absurd (cc)
+rolls_back_out old e (inr (_, name, inr back, _)) = absurd (cc)
+
 pub begin_ran : {A : Type 0} (old new : State) (result : Result A TableFault) → Performs (codes "BEGIN") [] old new result → Gave (Begun old new) old new result
-begin_ran old new (Err f) h clean = (failed _ [] old new h.0 h.2, λ e. some_fault h.0 (sym h.1 ∙ e))
+begin_ran old new (Err f) h clean = let stops = refused_by _ Begin said_begin (λ c is none. rw (is, none) refl) (λ h. h) (λ old t h. cc) (λ s. IsTrue s.in_transaction) begins_in old new f h.0 h.1 h.2 in (left _ _ old new f stops, of_store _ _ old new f stops)
 begin_ran old new (Ok a) h clean = let r = runs_as _ [] old new old.now.schema refl Begin (said_begin.is _) (said_begin.plain _) h.0 h.1 in (r.1, r.4)
 
+pub begin_faults : {A : Type 0} (old new : State) (result : Result A TableFault) → (HasCleanDisk new → Performs (codes "BEGIN") [] old new result) → Faults ⊥ (IsTrue old.in_transaction) old new result
+begin_faults old new (Err f) performs clean = let h = performs clean in refused_by _ Begin said_begin (λ c is none. rw (is, none) refl) (λ h. h) (λ old t h. cc) (λ s. IsTrue s.in_transaction) begins_in old new f h.0 h.1 h.2
+begin_faults old new (Ok a) performs clean = tt
+
 pub commit_ran : {A : Type 0} (old new : State) (result : Result A TableFault) → Performs (codes "COMMIT") [] old new result → Gave (Committed old new) old new result
-commit_ran old new (Err f) h clean = (failed _ [] old new h.0 h.2, λ e. some_fault h.0 (sym h.1 ∙ e))
+commit_ran old new (Err f) h clean = let stops = refused_by _ Commit said_commit (λ c is none. rw (is, none) refl) (λ h. h) (λ old t h. cc) (λ s. s.in_transaction ≡ false) commits_out old new f h.0 h.1 h.2 in (left _ _ old new f stops, of_store _ _ old new f stops)
 commit_ran old new (Ok a) h clean = let r = runs_as _ [] old new old.now.schema refl Commit (said_commit.is _) (said_commit.plain _) h.0 h.1 in (r.0, r.1, r.4)
 
+pub commit_faults : {A : Type 0} (old new : State) (result : Result A TableFault) → (HasCleanDisk new → Performs (codes "COMMIT") [] old new result) → Faults ⊥ (old.in_transaction ≡ false) old new result
+commit_faults old new (Err f) performs clean = let h = performs clean in refused_by _ Commit said_commit (λ c is none. rw (is, none) refl) (λ h. h) (λ old t h. cc) (λ s. s.in_transaction ≡ false) commits_out old new f h.0 h.1 h.2
+commit_faults old new (Ok a) performs clean = tt
+
 pub rollback_ran : {A : Type 0} (old new : State) (result : Result A TableFault) → Performs (codes "ROLLBACK") [] old new result → Gave (IsRolledBack old new) old new result
-rollback_ran old new (Err f) h clean = (failed _ [] old new h.0 h.2, λ e. some_fault h.0 (sym h.1 ∙ e))
+rollback_ran old new (Err f) h clean = let stops = refused_by _ Rollback said_rollback (λ c is none. rw (is, none) refl) (λ h. h) (λ old t h. cc) (λ s. s.in_transaction ≡ false) rolls_back_out old new f h.0 h.1 h.2 in (left _ _ old new f stops, of_store _ _ old new f stops)
 rollback_ran old new (Ok a) h clean = let r = runs_as _ [] old new old.now.schema refl Rollback (said_rollback.is _) (said_rollback.plain _) h.0 h.1 in r.1
+
+pub rollback_faults : {A : Type 0} (old new : State) (result : Result A TableFault) → (HasCleanDisk new → Performs (codes "ROLLBACK") [] old new result) → Faults ⊥ (old.in_transaction ≡ false) old new result
+rollback_faults old new (Err f) performs clean = let h = performs clean in refused_by _ Rollback said_rollback (λ c is none. rw (is, none) refl) (λ h. h) (λ old t h. cc) (λ s. s.in_transaction ≡ false) rolls_back_out old new f h.0 h.1 h.2
+rollback_faults old new (Ok a) performs clean = tt
 
 pub begin_left : (old new : State) → Survives old new (CommitsBy (codes "BEGIN") [] old) → Survives old new (λ _. ⊥)
 begin_left old new = survives_weaker old new _ _ (λ _ db h. elim (may _ Begin said_begin old db h).1 [
@@ -94,14 +137,8 @@ is_statement s e (inr (c, is, inl (short, _))) =
 is_statement s e (inr (c, is, inr (inl (differ, _)))) = let w = whole s.now.schema c is in differ (ap length (sym w.3))
 is_statement s e (inr (c, is, inr (inr (some, _)))) = let w = whole s.now.schema c is in some w.2
 
-misplaced : (s : State) (e : Error) → IsMisplaced s Rollback e → s.in_transaction ≡ false
-misplaced s e (inl (_, inl begin)) = absurd (let no = begin.0 in cc)
-misplaced s e (inl (_, inr it)) = it.1
-misplaced s e (inr (_, name, inl release, _)) = absurd (cc)
-misplaced s e (inr (_, name, inr back, _)) = absurd (cc)
-
 refused : (s : State) (e : Error) (c : Compiled) (X : Type 0) → IsWholeRollback (Ok c) → IsMisplaced s c.command e ⊎ (MayChange c × X) → s.in_transaction ≡ false
-refused s e c X w (inl is) = misplaced s e (subst (λ k. IsMisplaced s k e) w.0 is)
+refused s e c X w (inl is) = rolls_back_out s e (subst (λ k. IsMisplaced s k e) w.0 is)
 refused s e c X w (inr (inl writes, _)) = absurd (subst IsWrite w.0 writes)
 refused s e c X w (inr (inr some, _)) = absurd (let no = subst IsSome w.1 some in cc)
 

@@ -1,5 +1,5 @@
 -- UPDATE of the rows with a key.
-use Rattle.std.proofs.Common.{◌≡◌, ◌⊎◌, inl, inr, ℕ, ℤ, List, [], ◌∷◌, map, drop, slice_get, Bool, true, false, Some, None, Ok, Option, refl, sym, ap, subst, ◌∙◌, Equal}
+use Rattle.std.proofs.Common.{◌≡◌, ◌⊎◌, inl, inr, ℕ, ℤ, List, [], ◌∷◌, length, map, drop, slice_get, option_map, Bool, true, false, Some, None, Ok, Err, Option, refl, sym, ap, subst, ◌∙◌, Equal}
 use Rattle.std.specs.Ordering.{is_eq}
 use Rattle.std.specs.List.{list_all, AllByRecursion}
 use Rattle.std.proofs.lemmas.Bool.{cases_Bool}
@@ -11,30 +11,37 @@ use Rattle.sqlite_value.proofs.OrderLemmas.{value_cmp_total}
 use Rattle.sqlite_trees.specs.Tree.{rowid, has_rowid}
 use Rattle.sqlite_trees.specs.View.{is_int}
 use Rattle.sqlite_schema.specs.declared.schema.Table.{Table}
+use Rattle.sqlite_schema.specs.declared.program.Program.{Program}
 use Rattle.sqlite_schema.specs.declared.schema.Keys.TheVariants.{Enforced}
 use Rattle.sqlite_schema.specs.declared.command.Command.TheVariants.{Update}
 use Rattle.sqlite_sql.specs.Term.{Term, col, holds, eval_all}
 use Rattle.sqlite_sql.specs.Program.{overlay}
 use Rattle.sqlite_rules.specs.declared.error.Rowids.TheVariants.{Given}
+use Rattle.sqlite_rules.specs.declared.error.Refusal.{Refusal}
 use Rattle.sqlite_rules.specs.Lists.{Has}
 use Rattle.sqlite_rules.specs.Calls.{ids_of}
 use Rattle.sqlite_rules.specs.Cast.{cast_row}
-use Rattle.sqlite_rules.specs.Edit.{edit_of, id_in, without_all, put_all, are_fresh, taken_by, Applies}
+use Rattle.sqlite_rules.specs.Edit.{Edit, IsOversized, edit_of, id_in, without_all, put_all, are_fresh, taken_by, Applies}
 use Rattle.sqlite_rules.proofs.TableLemmas.{int_is, put_all_has, put_all_keeps, put_all_adds}
 use Rattle.sqlite_rules.proofs.PlaceLemmas.{given}
 use Rattle.sqlite_rules.proofs.ProbeLemmas.{has_mapped, mapped_has}
-use Rattle.sqlite.specs.Effect.{Database}
+use Rattle.sqlite.specs.declared.error.Error.{Error}
+use Rattle.sqlite.specs.Effect.{Database, Answers, edit_error}
 use Rattle.sqlite.specs.Rows.{Written}
 use Rattle.sqlite.specs.Does.{Tally, Does}
 use Rattle.sqlite.specs.State.{State}
 use Rattle.tables.proofs.Answering.{plain_query, answer_has, answer_all, overlay_is}
-use Rattle.tables.proofs.Known.{place, stored_is}
+use Rattle.tables.proofs.Known.{place, stored_is, some_same}
 use Rattle.tables.proofs.Compiling.{IsRead}
 use Rattle.tables.proofs.Inserting.{applied, no_work_of, ChangesRows, changes_by, plain_mode, went, same_value}
 use Rattle.tables.proofs.Deleting.{Lacks, left_from, left_has, equal_is}
-use Rattle.tables.proofs.Statements.{Writer, table_writer}
+use Rattle.tables.proofs.Statements.{Writer, Stopper, table_writer, table_stopper}
+use Rattle.tables.proofs.Stopping.{in_place}
+use Rattle.tables.proofs.Refusing.{err_same, edit_told, queried_stops, refused_told, not_made}
+use Rattle.tables.specs.Faults.{fault_of}
+use Rattle.tables.specs.declared.table_fault.TableFault.TheVariants.{Store}
 use Rattle.tables.specs.Schema.{BookTable, IsTable, IsUnreferenced, table_of}
-use Rattle.tables.specs.Rows.{cells, rows_of, AreNumbered, Changes, Updates}
+use Rattle.tables.specs.Rows.{cells, rows_of, AreNumbered, BecomesTooBig, Changes, Updates}
 
 module _ (kept : BookTable) (rows : List Row) (stored : AreNumbered rows) (test : Row → Bool) (ids : List ℤ)
     (all : (r : Row) → Has rows r → test (cells kept r) ≡ true → Has ids (id_in (rowid r)))
@@ -176,7 +183,7 @@ module _ (kept : BookTable) (limit : Option ℕ) (old after : Database) (text : 
   updates = changes_by kept old after there updated.schema (λ rows x. ((was : Row) × Has (map (cells kept) rows) was × (test was ≡ true) × (x ≡ new was)) ⊎ (Has (map (cells kept) rows) x × (test x ≡ false))) turns updated.others
 
 module _ (kept : BookTable) (filter terms : List Term) (text : List ℕ)
-    (read : IsRead kept text (λ at tree. Update at (record { lets = []; body = plain_query tree filter (col 1 0 ∷ terms) [] })))
+    {count : ℕ} (read : IsRead kept text count (λ at tree. Update at (record { lets = []; body = plain_query tree filter (col 1 0 ∷ terms) [] })))
     (params : Row) (test : Row → Bool) (tests : (r : Row) → list_all (holds (params ∷ r ∷ [])) filter ≡ test (cells kept r))
     (change : Row → Row) (writes : (tree : ℕ) (r : Row) → is_int (rowid r) ≡ true → cast_row (table_of kept tree) (eval_all terms (params ∷ r ∷ [])) ≡ rowid r ∷ change (cells kept r))
     (shape : (v : Value) (x : Row) → cells kept (v ∷ change x) ≡ change x)
@@ -185,3 +192,94 @@ module _ (kept : BookTable) (filter terms : List Term) (text : List ℕ)
   update_writer = table_writer kept text params (λ at tree. Update at (record { lets = []; body = plain_query tree filter (col 1 0 ∷ terms) [] })) read (Updates kept test change) old there
       (λ t tally after _ h stored.
       updates kept old.step_limit old.now after t params tally filter terms there free h test tests (subst AreNumbered (stored_is kept old.now.schema there old.now refl) stored) change (writes there.tree) shape) (λ _ _ _ h. h) (λ e. cc) (λ n e. cc)
+
+-- ---- why it is not made
+
+edit_said : (e : Error) (why : Option Refusal) → Some e ≡ option_map edit_error why → fault_of e ≡ Store
+edit_said e None h = absurd (cc)
+edit_said e (Some why) h = ap fault_of (some_same h) ∙ edit_told why
+
+module _ (kept : BookTable) (limit : Option ℕ) (old : Database) (text : List ℕ) (params : Row) (filter terms : List Term) (there : IsTable kept old.schema) (free : IsUnreferenced kept old.schema)
+    (test : Row → Bool) (tests : (r : Row) → list_all (holds (params ∷ r ∷ [])) filter ≡ test (cells kept r))
+    (new : Row → Row) (writes : (r : Row) → is_int (rowid r) ≡ true → cast_row (table_of kept there.tree) (eval_all terms (params ∷ r ∷ [])) ≡ rowid r ∷ new (cells kept r)) where
+  abbrev own : Table
+  own = table_of kept there.tree
+
+  abbrev program : Program
+  program = record { lets = []; body = plain_query there.tree filter (col 1 0 ∷ terms) [] }
+
+  abbrev edit : List Row → Edit
+  edit found = edit_of old.trees own (ids_of found) Given 1 found
+
+  found_at : slice_get old.schema.tables (place kept old.schema there).0 ≡ Some own
+  found_at = (place kept old.schema there).2
+
+  pub update_told : (e : Error) → Does limit plain_mode params old text None (Update (place kept old.schema there).0 program) (Err (Some e)) → fault_of e ≡ Store
+  update_told e does =
+      let changed = rw found_at at does in
+      elim changed [
+        | inl first ↦ elim first.1 [
+          | inl asked ↦ let it = queried_stops limit old program params asked.0 asked.1 in ap fault_of (some_same (err_same first.2 ∙ err_same asked.2 ∙ it.1)) ∙ refused_told limit old program params it.0 it.2
+          | inr on ↦ elim on.2 [
+            | inl edited ↦ edit_said e edited.1.0 (err_same first.2 ∙ err_same edited.2 ∙ edited.1.2)
+            | inr done ↦ absurd (let no = done.2 in cc)
+          ]
+        ]
+        | inr wrote ↦ elim wrote.2 [
+          | inl tested ↦ ap fault_of (some_same (err_same tested.2 ∙ tested.1.1))
+          | inr kept_keys ↦ elim kept_keys.2 [ inl shown ↦ absurd (let no = shown.1 in cc) | inr done ↦ absurd (let no = done.2 in cc) ]
+        ]
+      ]
+
+  -- a row that cannot be kept is what some row was to become
+  becomes : (rows : List Row) → Answers old program params rows → AreNumbered (old.trees there.tree) → (row : Row) → Has (edit rows).news row → (r : Row) × Has (old.trees there.tree) r × (test (cells kept r) ≡ true) × (row ≡ rowid r ∷ new (cells kept r))
+  becomes rows answers stored row h =
+      let cast_one = λ (s : Row). cast_row own (drop 1 s) in
+      let news_are : (edit rows).news ≡ map cast_one rows = given (without_all (old.trees there.tree) (ids_of rows)) (map cast_one rows) in
+      let q = has_mapped cast_one rows row (subst (λ l. Has l row) news_are h) in
+      let r = answer_has there.tree filter (col 1 0 ∷ terms) [] (overlay old.trees []) params rows (answers.answer Null) q.0 q.1 in
+      let here = subst (λ l. Has l r.0) (overlay_is old.trees there.tree) r.1 in
+      (r.0, here, sym (tests r.0) ∙ r.2, q.2 ∙ ap cast_one r.3 ∙ writes r.0 (stored.numbered r.0 here))
+
+  pub update_big : Does limit plain_mode params old text None (Update (place kept old.schema there).0 program) (Err None) → BecomesTooBig kept test new old
+  update_big does numbered =
+      let stored : AreNumbered (old.trees there.tree) = subst AreNumbered (stored_is kept old.schema there old refl) numbered in
+      let changed = rw found_at at does in
+      elim changed [
+        | inl first ↦ elim first.1 [
+          | inl asked ↦ absurd (let it = queried_stops limit old program params asked.0 asked.1 in let no = err_same first.2 ∙ err_same asked.2 ∙ it.1 in cc)
+          | inr on ↦ elim on.2 [
+            | inl edited ↦ elim (not_made old.schema old.trees (edit on.0) (no_work_of kept old.schema there free (taken_by old.trees (edit on.0)) (edit on.0).news) edited.1.0 edited.1.1) [
+              | inl refused ↦ absurd (let no = err_same first.2 ∙ err_same edited.2 ∙ edited.1.2 ∙ ap (option_map edit_error) refused.1 in cc)
+              | inr big ↦
+                  let r = becomes on.0 on.1 stored big.1 big.2 in
+                  let number : rowid r.0 ≡ Int (id_in (rowid r.0)) = int_is (rowid r.0) (stored.numbered r.0 r.1) in (
+                    cells kept r.0,
+                    subst (λ l. Has (map (cells kept) l) (cells kept r.0)) (sym (stored_is kept old.schema there old refl)) (mapped_has (cells kept) (old.trees there.tree) r.0 r.1),
+                    r.2,
+                    own,
+                    there.found,
+                    id_in (rowid r.0),
+                    subst (IsOversized old.schema own) (r.3 ∙ ap (λ v. v ∷ new (cells kept r.0)) number) big.3,
+                  )
+            ]
+            | inr done ↦ absurd (let no = done.2 in cc)
+          ]
+        ]
+        | inr wrote ↦ elim wrote.2 [
+          | inl tested ↦ absurd (let no = err_same tested.2 ∙ tested.1.1 in cc)
+          | inr kept_keys ↦ elim kept_keys.2 [ inl shown ↦ absurd (let no = shown.1 in cc) | inr done ↦ absurd (let no = done.2 in cc) ]
+        ]
+      ]
+
+module _ (kept : BookTable) (filter terms : List Term) (text : List ℕ)
+    {count : ℕ} (read : IsRead kept text count (λ at tree. Update at (record { lets = []; body = plain_query tree filter (col 1 0 ∷ terms) [] })))
+    (params : Row) (fits : count ≡ length params) (test : Row → Bool) (tests : (r : Row) → list_all (holds (params ∷ r ∷ [])) filter ≡ test (cells kept r))
+    (change : Row → Row) (writes : (tree : ℕ) (r : Row) → is_int (rowid r) ≡ true → cast_row (table_of kept tree) (eval_all terms (params ∷ r ∷ [])) ≡ rowid r ∷ change (cells kept r))
+    (old : State) (there : IsTable kept old.now.schema) (free : IsUnreferenced kept old.now.schema) where
+  pub update_stopper : Stopper text params (BecomesTooBig kept test change old.now) (Unit {0}) old
+  update_stopper = table_stopper kept text params (λ at tree. Update at (record { lets = []; body = plain_query tree filter (col 1 0 ∷ terms) [] })) read fits (BecomesTooBig kept test change old.now) (Unit {0}) old there
+      (λ at tree c is none. rw (is, none) refl)
+      (λ t. update_big kept old.step_limit old.now t params filter terms there free test tests change (writes there.tree))
+      (λ t e _ does. (tt, update_told kept old.step_limit old.now t params filter terms there free test tests change (writes there.tree) e does))
+      (λ e. in_place old _ e (λ i. cc) (λ i. cc) (λ i. cc) (λ n i. cc) (λ n i. cc))

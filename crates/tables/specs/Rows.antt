@@ -1,17 +1,22 @@
 -- The rows of one table, and what a change makes of them.
-use Rattle.std.specs.Prelude.{◌≡◌, ◌≢◌, ◌⊎◌, ◌&&◌, ◌+◌, ◌-◌, Bool, true, false, Option, None, Some, ℕ, zero, suc, List, [], ◌∷◌, map, filter, length, IsPermutation, IsSorted}
+use Rattle.std.specs.Prelude.{◌≡◌, ◌≢◌, ◌⊎◌, ◌&&◌, ◌+◌, ◌-◌, Bool, true, false, Option, None, Some, ℕ, ℤ, zero, suc, List, [], ◌∷◌, map, filter, length, IsPermutation, IsSorted}
 use Rattle.std.specs.Ordering.{is_eq, ordering_then}
 use Rattle.std.specs.declared.cmp.Ordering.{Ordering}
 use Rattle.std.specs.declared.cmp.Ordering.TheVariants.{Equal}
 use Rattle.std.specs.List.{AllByRecursion}
 use Rattle.sqlite_value.specs.declared.value.Value.{Value}
+use Rattle.sqlite_value.specs.declared.value.Value.TheVariants.{Int}
 use Rattle.sqlite_value.specs.Order.{Row, column, value_cmp}
 use Rattle.sqlite_trees.specs.Tree.{Trees, rowid}
 use Rattle.sqlite_trees.specs.View.{is_int}
+use Rattle.sqlite_sql.specs.Ops.{fits_i64}
+use Rattle.sqlite_rules.specs.Edit.{IsOversized, is_taken, next_rowid}
 use Rattle.sqlite_rules.specs.Lists.{Has}
 use Rattle.sqlite.specs.Effect.{Database}
 use Rattle.sqlite.specs.Does.{lacks_sequence}
+use Rattle.sqlite_schema.specs.declared.schema.Index.{Index}
 use Rattle.sqlite_schema.specs.declared.schema.Table.{Table}
+use Rattle.sqlite_schema.specs.Rules.{agree, guards}
 use Rattle.sqlite_catalog.specs.Change.{is_used, created}
 use Rattle.tables.specs.Schema.{BookTable, IsTable, IsUnreferenced, table_found, table_of}
 
@@ -86,6 +91,32 @@ FindsInOrder count table db found = Finds table (begins_with []) db found × IsS
 -- some row of the table passes the test and is no record
 abbrev pub HasNoRecord : BookTable → (Row → Bool) → (Row → Type 0) → Database → Type 0
 HasNoRecord table test IsRecord db = (x : Row) × Has (rows_of table db) x × (test x ≡ true) × ¬ IsRecord x
+
+-- ---- what a row is refused for
+
+-- no number is left to store a new row under: the one above the last has more than 64 bits, or is taken
+abbrev pub HasNoNumber : BookTable → Database → Type 0
+HasNoNumber table db = (fits_i64 (next_rowid (stored table db)) ≡ false) ⊎ (is_taken (stored table db) (Int (next_rowid (stored table db)) ∷ []) ≡ true)
+
+-- a row as it is stored under that number
+abbrev pub stored_next : BookTable → Row → Database → Row
+stored_next table row db = Int (next_rowid (stored table db)) ∷ row
+
+-- a UNIQUE index of the table, that of one of its keys or another, has the row's key already
+abbrev pub IsKeyTaken : BookTable → Row → Database → Type 0
+IsKeyTaken table row db =
+    (t : Table) × (table_found db.schema table.name ≡ Some t) × (i : Index) × Has db.schema.indexes i × (guards i t ≡ true)
+    × (x : Row) × Has (db.trees t.tree) x × (agree i.order i.columns x i.columns (stored_next table row db) ≡ true)
+
+-- a new row takes more than a billion bytes, or its entry in an index does
+abbrev pub IsTooBig : BookTable → Row → Database → Type 0
+IsTooBig table row db = (t : Table) × (table_found db.schema table.name ≡ Some t) × IsOversized db.schema t (stored_next table row db)
+
+-- so does what some row is to become
+abbrev pub BecomesTooBig : BookTable → (Row → Bool) → (Row → Row) → Database → Type 0
+BecomesTooBig table test change db =
+    IsStored table db → (was : Row) × Has (rows_of table db) was × (test was ≡ true)
+    × (t : Table) × (table_found db.schema table.name ≡ Some t) × (n : ℤ) × IsOversized db.schema t (Int n ∷ change was)
 
 -- ---- what is changed
 

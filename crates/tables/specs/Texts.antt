@@ -1,11 +1,12 @@
 -- What the functions of this crate say to one another of SQL texts. No public clause names these.
-use Rattle.std.specs.Prelude.{◌≡◌, ◌&&◌, ◌++◌, ◌∷◌, [], Bool, true, ℕ, ℤ, List, map, Result, Ok, Err, MatchResult, IsTrue}
+use Rattle.std.specs.Prelude.{◌≡◌, ◌⊎◌, ◌&&◌, ◌++◌, ◌∷◌, [], Bool, true, ℕ, ℤ, List, map, Result, Ok, Err, MatchResult, IsTrue}
 use Rattle.std.specs.Ordering.{is_lt, int_cmp}
 use Rattle.sqlite_value.specs.declared.value.Value.TheVariants.{Int}
 use Rattle.sqlite_value.specs.Order.{Row}
 use Rattle.sqlite.specs.declared.error.Error.{Error}
-use Rattle.sqlite.specs.State.{State, Executes, Shown, Begins}
+use Rattle.sqlite.specs.State.{State, Executes, Shown, Begins, FailsToQuery, IsUnchanged}
 use Rattle.tables.specs.declared.table_fault.TableFault.{TableFault}
+use Rattle.tables.specs.declared.table_fault.TableFault.TheVariants.{Store}
 use Rattle.tables.specs.Faults.{fault_of}
 
 -- a statement ran, or did not
@@ -13,6 +14,12 @@ abbrev pub Performs : {A : Type 0} → List ℕ → Row → State → State → 
 Performs sql params old new result =
     MatchResult result (λ _. (count : ℕ) × Executes sql params old new (Ok count))
     (λ fault. (e : Error) × (fault ≡ fault_of e) × Executes sql params old new (Err e))
+
+-- a query failed, or its rows became no records, which changes nothing
+abbrev pub Unread : (Row → Type 0) → List ℕ → Row → State → State → TableFault → Type 0
+Unread IsRefused sql params old new fault =
+    ((e : Error) × (fault ≡ fault_of e) × FailsToQuery sql params old new e)
+    ⊎ (IsUnchanged old new × (fault ≡ Store → (values : Row) × IsRefused values))
 
 -- some row of the answer is no record
 abbrev pub HasInvalid : (Row → Type 0) → List ℕ → Row → State → Type 0

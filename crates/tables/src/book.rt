@@ -1,11 +1,11 @@
 //! The table `book`.
 
-ghost use Rattle.std.specs.Prelude.{map, IfErr, IfOk, IsTrue, ◌↔◌, ◌≡◌};
+ghost use Rattle.std.specs.Prelude.{⊤, map, IfErr, IfOk, IsTrue, ◌↔◌, ◌≡◌};
 ghost use Rattle.sqlite.specs.Held.{state};
 ghost use Rattle.tables.specs.Schema.{book_table, IsTable, HasColumns};
-ghost use Rattle.tables.specs.Rows.{Makes, Inserts};
+ghost use Rattle.tables.specs.Rows.{Makes, Inserts, IsTooBig};
 ghost use Rattle.tables.specs.Records.{book_row, IsBookRow};
-ghost use Rattle.tables.specs.Calls.{HoldsTable, Ran, RefusesHeld, MayLeave, Loaded, LeavesNothing};
+ghost use Rattle.tables.specs.Calls.{HoldsTable, Ran, RefusesHeld, MayLeave, Loaded, LeavesNothing, Faults, RefusesRow};
 ghost use Rattle.tables.specs.declared.table_fault.TableFault.TheVariants as fault;
 
 use crate::declared::{has_columns, is_there};
@@ -43,6 +43,8 @@ impl Record for BookRecord {
 
     ghost is_record = { IsBookRow };
 
+    ghost is_refused = { λ _. ⊥ };
+
     fn read(from: &Row, first: usize) -> Result<BookRecord, TableFault> {
         if !has_width(from, first, 3) {
             return Err(TableFault::NotARecord);
@@ -77,6 +79,7 @@ pub fn is_book_there<S: Alter>(alloc: Global, conn: &Connection<S>) -> Result<bo
 /// Makes the table.
 pub fn create_book<S: Alter>(conn: &mut Connection<S>) -> Result<(), TableFault>
     ensures ran { Ran (Makes book_table) (state S.Store conn.old) (state S.Store conn.new) result }
+    ensures fault { Faults ⊥ ⊤ (state S.Store conn.old) (state S.Store conn.new) result }
     ensures crash { MayLeave (Makes book_table) (state S.Store conn.old) (state S.Store conn.new) }
 {
     run(conn, CREATE, &[])
@@ -87,6 +90,7 @@ pub fn insert_book<S: Alter>(conn: &mut Connection<S>, book: &BookRecord) -> Res
     requires { HoldsTable book_table (state S.Store conn.old) }
     ensures ran { Ran (Inserts book_table (book_row book.now)) (state S.Store conn.old) (state S.Store conn.new) result }
     ensures held { RefusesHeld book_table (book_row book.now) (state S.Store conn.old) (state S.Store conn.new) result }
+    ensures fault { Faults (IsTooBig book_table (book_row book.now) (state S.Store conn.old).now) (RefusesRow book_table (book_row book.now) (state S.Store conn.old)) (state S.Store conn.old) (state S.Store conn.new) result }
     ensures crash { MayLeave (Inserts book_table (book_row book.now)) (state S.Store conn.old) (state S.Store conn.new) }
 {
     run(

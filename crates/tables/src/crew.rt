@@ -1,12 +1,12 @@
 //! The table `crew`.
 
-ghost use Rattle.std.specs.Prelude.{[], ◌∷◌, map, IfErr, IfOk, IsTrue, ◌↔◌, ◌≡◌};
+ghost use Rattle.std.specs.Prelude.{⊤, [], ◌∷◌, map, IfErr, IfOk, IsTrue, ◌↔◌, ◌≡◌};
 ghost use Rattle.sqlite_value.specs.declared.value.Value.TheVariants as value;
 ghost use Rattle.sqlite.specs.Held.{state};
 ghost use Rattle.tables.specs.Schema.{crew_table, IsTable, HasColumns};
-ghost use Rattle.tables.specs.Rows.{Makes, Inserts, begins_with};
+ghost use Rattle.tables.specs.Rows.{Makes, Inserts, begins_with, IsTooBig};
 ghost use Rattle.tables.specs.Records.{crew_row, IsCrewRow};
-ghost use Rattle.tables.specs.Calls.{HoldsTable, Ran, RefusesHeld, MayLeave, Read, Loaded, LeavesNothing};
+ghost use Rattle.tables.specs.Calls.{HoldsTable, Ran, RefusesHeld, MayLeave, Read, Loaded, LeavesNothing, Faults, RefusesRow};
 ghost use Rattle.tables.specs.declared.table_fault.TableFault.TheVariants as fault;
 
 use crate::declared::{has_columns, is_there};
@@ -42,6 +42,8 @@ impl Record for CrewRecord {
 
     ghost is_record = { IsCrewRow };
 
+    ghost is_refused = { λ _. ⊥ };
+
     fn read(from: &Row, first: usize) -> Result<CrewRecord, TableFault> {
         if !has_width(from, first, 3) {
             return Err(TableFault::NotARecord);
@@ -76,6 +78,7 @@ pub fn is_crew_there<S: Alter>(alloc: Global, conn: &Connection<S>) -> Result<bo
 /// Makes the table.
 pub fn create_crew<S: Alter>(conn: &mut Connection<S>) -> Result<(), TableFault>
     ensures ran { Ran (Makes crew_table) (state S.Store conn.old) (state S.Store conn.new) result }
+    ensures fault { Faults ⊥ ⊤ (state S.Store conn.old) (state S.Store conn.new) result }
     ensures crash { MayLeave (Makes crew_table) (state S.Store conn.old) (state S.Store conn.new) }
 {
     run(conn, CREATE, &[])
@@ -86,6 +89,7 @@ pub fn insert_crew<S: Alter>(conn: &mut Connection<S>, crew: &CrewRecord) -> Res
     requires { HoldsTable crew_table (state S.Store conn.old) }
     ensures ran { Ran (Inserts crew_table (crew_row crew.now)) (state S.Store conn.old) (state S.Store conn.new) result }
     ensures held { RefusesHeld crew_table (crew_row crew.now) (state S.Store conn.old) (state S.Store conn.new) result }
+    ensures fault { Faults (IsTooBig crew_table (crew_row crew.now) (state S.Store conn.old).now) (RefusesRow crew_table (crew_row crew.now) (state S.Store conn.old)) (state S.Store conn.old) (state S.Store conn.new) result }
     ensures crash { MayLeave (Inserts crew_table (crew_row crew.now)) (state S.Store conn.old) (state S.Store conn.new) }
 {
     run(

@@ -1,11 +1,11 @@
 //! The table `exceedance`.
 
-ghost use Rattle.std.specs.Prelude.{[], map, IfErr, IfOk, IsTrue, ◌↔◌, ◌≡◌};
+ghost use Rattle.std.specs.Prelude.{⊤, [], map, IfErr, IfOk, IsTrue, ◌↔◌, ◌≡◌};
 ghost use Rattle.sqlite.specs.Held.{state};
 ghost use Rattle.tables.specs.Schema.{exceedance_table, IsTable, HasColumns};
-ghost use Rattle.tables.specs.Rows.{Makes, Inserts, begins_with, FindsInOrder, HasNoRecord};
+ghost use Rattle.tables.specs.Rows.{Makes, Inserts, begins_with, FindsInOrder, HasNoRecord, IsTooBig};
 ghost use Rattle.tables.specs.Records.{exceedance_row, IsExceedanceRow};
-ghost use Rattle.tables.specs.Calls.{HoldsTable, Ran, RefusesHeld, MayLeave, ReadAs, Loaded, LeavesNothing};
+ghost use Rattle.tables.specs.Calls.{HoldsTable, Ran, RefusesHeld, MayLeave, ReadAs, Loaded, LeavesNothing, Faults, RefusesRow, HasStepLimit};
 ghost use Rattle.tables.specs.declared.table_fault.TableFault.TheVariants as fault;
 
 use crate::declared::{has_columns, is_there};
@@ -48,6 +48,8 @@ impl Record for ExceedanceRecord {
     ghost row = { exceedance_row };
 
     ghost is_record = { IsExceedanceRow };
+
+    ghost is_refused = { λ _. ⊥ };
 
     fn read(from: &Row, first: usize) -> Result<ExceedanceRecord, TableFault> {
         if !has_width(from, first, 6) {
@@ -92,6 +94,7 @@ pub fn is_exceedance_there<S: Alter>(
 /// Makes the table.
 pub fn create_exceedance<S: Alter>(conn: &mut Connection<S>) -> Result<(), TableFault>
     ensures ran { Ran (Makes exceedance_table) (state S.Store conn.old) (state S.Store conn.new) result }
+    ensures fault { Faults ⊥ ⊤ (state S.Store conn.old) (state S.Store conn.new) result }
     ensures crash { MayLeave (Makes exceedance_table) (state S.Store conn.old) (state S.Store conn.new) }
 {
     run(conn, CREATE, &[])
@@ -105,6 +108,7 @@ pub fn insert_exceedance<S: Alter>(
     requires { HoldsTable exceedance_table (state S.Store conn.old) }
     ensures ran { Ran (Inserts exceedance_table (exceedance_row exceedance.now)) (state S.Store conn.old) (state S.Store conn.new) result }
     ensures held { RefusesHeld exceedance_table (exceedance_row exceedance.now) (state S.Store conn.old) (state S.Store conn.new) result }
+    ensures fault { Faults (IsTooBig exceedance_table (exceedance_row exceedance.now) (state S.Store conn.old).now) (RefusesRow exceedance_table (exceedance_row exceedance.now) (state S.Store conn.old)) (state S.Store conn.old) (state S.Store conn.new) result }
     ensures crash { MayLeave (Inserts exceedance_table (exceedance_row exceedance.now)) (state S.Store conn.old) (state S.Store conn.new) }
 {
     run(
@@ -143,7 +147,7 @@ pub fn exceedances<S: Alter>(
     conn: &mut Connection<S>,
 ) -> Result<Vec<ExceedanceRecord>, TableFault>
     requires { HoldsTable exceedance_table (state S.Store conn.old) }
-    ensures read { ReadAs (λ db found. FindsInOrder 4 exceedance_table db (map exceedance_row found.items)) (HasNoRecord exceedance_table (begins_with []) IsExceedanceRow) (state S.Store conn.old) (state S.Store conn.new) result }
+    ensures read { ReadAs (λ db found. FindsInOrder 4 exceedance_table db (map exceedance_row found.items)) (HasNoRecord exceedance_table (begins_with []) IsExceedanceRow) (HasStepLimit (state S.Store conn.old)) (state S.Store conn.old) (state S.Store conn.new) result }
     ensures crash { LeavesNothing (state S.Store conn.old) (state S.Store conn.new) }
 {
     read_all(

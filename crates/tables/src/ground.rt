@@ -1,12 +1,12 @@
 //! The table `ground`.
 
-ghost use Rattle.std.specs.Prelude.{[], ◌∷◌, map, IfErr, IfOk, IsTrue, ◌↔◌, ◌≡◌};
+ghost use Rattle.std.specs.Prelude.{⊤, [], ◌∷◌, map, IfErr, IfOk, IsTrue, ◌↔◌, ◌≡◌};
 ghost use Rattle.sqlite_value.specs.declared.value.Value.TheVariants as value;
 ghost use Rattle.sqlite.specs.Held.{state};
 ghost use Rattle.tables.specs.Schema.{ground_table, IsTable, HasColumns};
-ghost use Rattle.tables.specs.Rows.{Makes, Inserts, Deletes, begins_with, equals_at};
+ghost use Rattle.tables.specs.Rows.{Makes, Inserts, Deletes, begins_with, equals_at, IsTooBig};
 ghost use Rattle.tables.specs.Records.{ground_row, IsGroundRow};
-ghost use Rattle.tables.specs.Calls.{HoldsTable, HoldsUnreferenced, Ran, RefusesHeld, MayLeave, Read, Loaded, LeavesNothing};
+ghost use Rattle.tables.specs.Calls.{HoldsTable, HoldsUnreferenced, Ran, RefusesHeld, MayLeave, Read, Loaded, LeavesNothing, Faults, HasStepLimit, RefusesRow};
 ghost use Rattle.tables.specs.declared.table_fault.TableFault.TheVariants as fault;
 
 use crate::declared::{has_columns, is_there};
@@ -46,6 +46,8 @@ impl Record for GroundRecord {
 
     ghost is_record = { IsGroundRow };
 
+    ghost is_refused = { λ _. ⊥ };
+
     fn read(from: &Row, first: usize) -> Result<GroundRecord, TableFault> {
         if !has_width(from, first, 5) {
             return Err(TableFault::NotARecord);
@@ -82,6 +84,7 @@ pub fn is_ground_there<S: Alter>(alloc: Global, conn: &Connection<S>) -> Result<
 /// Makes the table.
 pub fn create_ground<S: Alter>(conn: &mut Connection<S>) -> Result<(), TableFault>
     ensures ran { Ran (Makes ground_table) (state S.Store conn.old) (state S.Store conn.new) result }
+    ensures fault { Faults ⊥ ⊤ (state S.Store conn.old) (state S.Store conn.new) result }
     ensures crash { MayLeave (Makes ground_table) (state S.Store conn.old) (state S.Store conn.new) }
 {
     run(conn, CREATE, &[])
@@ -95,6 +98,7 @@ pub fn insert_ground<S: Alter>(
     requires { HoldsTable ground_table (state S.Store conn.old) }
     ensures ran { Ran (Inserts ground_table (ground_row ground.now)) (state S.Store conn.old) (state S.Store conn.new) result }
     ensures held { RefusesHeld ground_table (ground_row ground.now) (state S.Store conn.old) (state S.Store conn.new) result }
+    ensures fault { Faults (IsTooBig ground_table (ground_row ground.now) (state S.Store conn.old).now) (RefusesRow ground_table (ground_row ground.now) (state S.Store conn.old)) (state S.Store conn.old) (state S.Store conn.new) result }
     ensures crash { MayLeave (Inserts ground_table (ground_row ground.now)) (state S.Store conn.old) (state S.Store conn.new) }
 {
     run(
@@ -167,6 +171,7 @@ pub fn delete_ground<S: Alter>(conn: &mut Connection<S>, id: &str) -> Result<(),
     requires there { HoldsTable ground_table (state S.Store conn.old) }
     requires free { HoldsUnreferenced ground_table (state S.Store conn.old) }
     ensures ran { Ran (Deletes ground_table (begins_with (value.Text id.now ∷ []))) (state S.Store conn.old) (state S.Store conn.new) result }
+    ensures fault { Faults ⊥ (HasStepLimit (state S.Store conn.old)) (state S.Store conn.old) (state S.Store conn.new) result }
     ensures crash { MayLeave (Deletes ground_table (begins_with (value.Text id.now ∷ []))) (state S.Store conn.old) (state S.Store conn.new) }
 {
     run(conn, "DELETE FROM ground WHERE id = ?1", params![id])

@@ -1,13 +1,13 @@
 //! Whole tables, and that each of their rows is stored under a number of its own, which `sqlite` tells nowhere else.
 
-ghost use Rattle.std.specs.Prelude.{◌≡◌, ◌≢◌, [], ◌∷◌, map, drop, Err, IfOk, OnOk, OnErr, IsTrue};
+ghost use Rattle.std.specs.Prelude.{◌≡◌, ◌≢◌, [], ◌∷◌, ⊤, map, drop, Err, IfOk, IfErr, OnOk, IsTrue};
 ghost use Rattle.sqlite_value.specs.declared.value.Value.TheVariants.{Int};
 ghost use Rattle.sqlite.specs.State.{HasCleanDisk, IsUnchanged};
 ghost use Rattle.sqlite.specs.Held.{state};
 ghost use Rattle.sqlite.specs.Given.{IsPlain};
 ghost use Rattle.sqlite.specs.Listing.{understood};
-ghost use Rattle.tables.specs.Calls.{Leaves, LeavesNothing};
-ghost use Rattle.tables.specs.Texts.{HasInvalid, ShowsNumbered, rises, rises_from};
+ghost use Rattle.tables.specs.Calls.{LeavesNothing};
+ghost use Rattle.tables.specs.Texts.{HasInvalid, Unread, ShowsNumbered, rises, rises_from};
 
 use crate::reading::{Record, read_all};
 use crate::table_fault::TableFault;
@@ -25,6 +25,8 @@ impl<R: Record> Record for Numbered<R> {
     ghost row = { λ it. Int it.number ∷ R.Record.row it.entry };
 
     ghost is_record = { λ values. R.Record.is_record (drop 1 values) };
+
+    ghost is_refused = { λ _. ⊤ };
 
     fn read(from: &Row, first: usize) -> Result<Numbered<R>, TableFault> {
         let Some(second) = first.checked_add(1) else {
@@ -76,7 +78,7 @@ pub(crate) fn load<S: Alter, R: Record>(
     requires { HasCleanDisk (state S.Store conn.old) → IsPlain (understood conn.old.schema sql.now) }
     ensures found { HasCleanDisk (state S.Store conn.new) → IfOk result (λ all. ShowsNumbered sql.now (state S.Store conn.old) (state S.Store conn.new) (map R.Record.row all.items)) }
     ensures same { HasCleanDisk (state S.Store conn.new) → OnOk result (IsUnchanged (state S.Store conn.old) (state S.Store conn.new)) }
-    ensures err { HasCleanDisk (state S.Store conn.new) → OnErr result (Leaves (state S.Store conn.old) (state S.Store conn.new)) }
+    ensures stops { HasCleanDisk (state S.Store conn.new) → IfErr result (Unread (λ _. ⊤) sql.now [] (state S.Store conn.old) (state S.Store conn.new)) }
     ensures damaged { HasCleanDisk (state S.Store conn.new) → result ≡ Err TableFault.NotARecord → HasInvalid (λ values. R.Record.is_record (drop 1 values)) sql.now [] (state S.Store conn.old) }
     ensures crash { LeavesNothing (state S.Store conn.old) (state S.Store conn.new) }
 {

@@ -1,12 +1,12 @@
 //! The table `pairing`.
 
-ghost use Rattle.std.specs.Prelude.{[], ◌∷◌, map, IfErr, IfOk, IsTrue, ◌↔◌, ◌≡◌};
+ghost use Rattle.std.specs.Prelude.{⊤, [], ◌∷◌, map, IfErr, IfOk, IsTrue, ◌↔◌, ◌≡◌};
 ghost use Rattle.sqlite_value.specs.declared.value.Value.TheVariants as value;
 ghost use Rattle.sqlite.specs.Held.{state};
 ghost use Rattle.tables.specs.Schema.{pairing_table, IsTable, HasColumns};
-ghost use Rattle.tables.specs.Rows.{Makes, Inserts, Deletes, begins_with};
+ghost use Rattle.tables.specs.Rows.{Makes, Inserts, Deletes, begins_with, IsTooBig};
 ghost use Rattle.tables.specs.Records.{pairing_row, IsPairingRow};
-ghost use Rattle.tables.specs.Calls.{HoldsTable, HoldsUnreferenced, Ran, RefusesHeld, MayLeave, Read, Loaded, LeavesNothing};
+ghost use Rattle.tables.specs.Calls.{HoldsTable, HoldsUnreferenced, Ran, RefusesHeld, MayLeave, Read, Loaded, LeavesNothing, Faults, HasStepLimit, RefusesRow};
 ghost use Rattle.tables.specs.declared.table_fault.TableFault.TheVariants as fault;
 
 use crate::declared::{has_columns, is_there};
@@ -36,6 +36,8 @@ impl Record for PairingRecord {
     ghost row = { pairing_row };
 
     ghost is_record = { IsPairingRow };
+
+    ghost is_refused = { λ _. ⊥ };
 
     fn read(from: &Row, first: usize) -> Result<PairingRecord, TableFault> {
         if !has_width(from, first, 1) {
@@ -71,6 +73,7 @@ pub fn is_pairing_there<S: Alter>(alloc: Global, conn: &Connection<S>) -> Result
 /// Makes the table.
 pub fn create_pairing<S: Alter>(conn: &mut Connection<S>) -> Result<(), TableFault>
     ensures ran { Ran (Makes pairing_table) (state S.Store conn.old) (state S.Store conn.new) result }
+    ensures fault { Faults ⊥ ⊤ (state S.Store conn.old) (state S.Store conn.new) result }
     ensures crash { MayLeave (Makes pairing_table) (state S.Store conn.old) (state S.Store conn.new) }
 {
     run(conn, CREATE, &[])
@@ -84,6 +87,7 @@ pub fn insert_pairing<S: Alter>(
     requires { HoldsTable pairing_table (state S.Store conn.old) }
     ensures ran { Ran (Inserts pairing_table (pairing_row pairing.now)) (state S.Store conn.old) (state S.Store conn.new) result }
     ensures held { RefusesHeld pairing_table (pairing_row pairing.now) (state S.Store conn.old) (state S.Store conn.new) result }
+    ensures fault { Faults (IsTooBig pairing_table (pairing_row pairing.now) (state S.Store conn.old).now) (RefusesRow pairing_table (pairing_row pairing.now) (state S.Store conn.old)) (state S.Store conn.old) (state S.Store conn.new) result }
     ensures crash { MayLeave (Inserts pairing_table (pairing_row pairing.now)) (state S.Store conn.old) (state S.Store conn.new) }
 {
     run(
@@ -128,6 +132,7 @@ pub fn delete_pairing<S: Alter>(conn: &mut Connection<S>, id: &str) -> Result<()
     requires there { HoldsTable pairing_table (state S.Store conn.old) }
     requires free { HoldsUnreferenced pairing_table (state S.Store conn.old) }
     ensures ran { Ran (Deletes pairing_table (begins_with (value.Text id.now ∷ []))) (state S.Store conn.old) (state S.Store conn.new) result }
+    ensures fault { Faults ⊥ (HasStepLimit (state S.Store conn.old)) (state S.Store conn.old) (state S.Store conn.new) result }
     ensures crash { MayLeave (Deletes pairing_table (begins_with (value.Text id.now ∷ []))) (state S.Store conn.old) (state S.Store conn.new) }
 {
     run(conn, "DELETE FROM pairing WHERE id = ?1", params![id])

@@ -1,12 +1,12 @@
 //! The table `period`.
 
-ghost use Rattle.std.specs.Prelude.{[], ◌∷◌, map, pos, IfErr, IfOk, IsTrue, ◌↔◌, ◌≡◌};
+ghost use Rattle.std.specs.Prelude.{⊤, [], ◌∷◌, map, pos, IfErr, IfOk, IsTrue, ◌↔◌, ◌≡◌};
 ghost use Rattle.sqlite_value.specs.declared.value.Value.TheVariants as value;
 ghost use Rattle.sqlite.specs.Held.{state};
 ghost use Rattle.tables.specs.Schema.{period_table, IsTable, HasColumns};
-ghost use Rattle.tables.specs.Rows.{Makes, Inserts, Deletes, Updates, begins_with};
+ghost use Rattle.tables.specs.Rows.{Makes, Inserts, Deletes, Updates, begins_with, IsTooBig, BecomesTooBig};
 ghost use Rattle.tables.specs.Records.{period_row, IsPeriodRow, with_period_times};
-ghost use Rattle.tables.specs.Calls.{HoldsTable, HoldsUnreferenced, Ran, RefusesHeld, MayLeave, Read, Loaded, LeavesNothing};
+ghost use Rattle.tables.specs.Calls.{HoldsTable, HoldsUnreferenced, Ran, RefusesHeld, MayLeave, Read, Loaded, LeavesNothing, Faults, HasStepLimit, RefusesRow};
 ghost use Rattle.tables.specs.declared.table_fault.TableFault.TheVariants as fault;
 
 use crate::declared::{has_columns, is_there};
@@ -52,6 +52,8 @@ impl Record for PeriodRecord {
 
     ghost is_record = { IsPeriodRow };
 
+    ghost is_refused = { λ _. ⊥ };
+
     fn read(from: &Row, first: usize) -> Result<PeriodRecord, TableFault> {
         if !has_width(from, first, 6) {
             return Err(TableFault::NotARecord);
@@ -89,6 +91,7 @@ pub fn is_period_there<S: Alter>(alloc: Global, conn: &Connection<S>) -> Result<
 /// Makes the table.
 pub fn create_period<S: Alter>(conn: &mut Connection<S>) -> Result<(), TableFault>
     ensures ran { Ran (Makes period_table) (state S.Store conn.old) (state S.Store conn.new) result }
+    ensures fault { Faults ⊥ ⊤ (state S.Store conn.old) (state S.Store conn.new) result }
     ensures crash { MayLeave (Makes period_table) (state S.Store conn.old) (state S.Store conn.new) }
 {
     run(conn, CREATE, &[])
@@ -102,6 +105,7 @@ pub fn insert_period<S: Alter>(
     requires { HoldsTable period_table (state S.Store conn.old) }
     ensures ran { Ran (Inserts period_table (period_row period.now)) (state S.Store conn.old) (state S.Store conn.new) result }
     ensures held { RefusesHeld period_table (period_row period.now) (state S.Store conn.old) (state S.Store conn.new) result }
+    ensures fault { Faults (IsTooBig period_table (period_row period.now) (state S.Store conn.old).now) (RefusesRow period_table (period_row period.now) (state S.Store conn.old)) (state S.Store conn.old) (state S.Store conn.new) result }
     ensures crash { MayLeave (Inserts period_table (period_row period.now)) (state S.Store conn.old) (state S.Store conn.new) }
 {
     run(
@@ -157,6 +161,7 @@ pub fn delete_periods<S: Alter>(conn: &mut Connection<S>, pairing: &str) -> Resu
     requires there { HoldsTable period_table (state S.Store conn.old) }
     requires free { HoldsUnreferenced period_table (state S.Store conn.old) }
     ensures ran { Ran (Deletes period_table (begins_with (value.Text pairing.now ∷ []))) (state S.Store conn.old) (state S.Store conn.new) result }
+    ensures fault { Faults ⊥ (HasStepLimit (state S.Store conn.old)) (state S.Store conn.old) (state S.Store conn.new) result }
     ensures crash { MayLeave (Deletes period_table (begins_with (value.Text pairing.now ∷ []))) (state S.Store conn.old) (state S.Store conn.new) }
 {
     run(
@@ -177,6 +182,7 @@ pub fn update_period<S: Alter>(
     requires there { HoldsTable period_table (state S.Store conn.old) }
     requires free { HoldsUnreferenced period_table (state S.Store conn.old) }
     ensures ran { Ran (Updates period_table (begins_with (value.Text pairing.now ∷ value.Int (pos number) ∷ [])) (with_period_times report release)) (state S.Store conn.old) (state S.Store conn.new) result }
+    ensures fault { Faults (BecomesTooBig period_table (begins_with (value.Text pairing.now ∷ value.Int (pos number) ∷ [])) (with_period_times report release) (state S.Store conn.old).now) ⊤ (state S.Store conn.old) (state S.Store conn.new) result }
     ensures crash { MayLeave (Updates period_table (begins_with (value.Text pairing.now ∷ value.Int (pos number) ∷ [])) (with_period_times report release)) (state S.Store conn.old) (state S.Store conn.new) }
 {
     run(

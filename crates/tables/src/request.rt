@@ -1,12 +1,12 @@
 //! The table `request`.
 
-ghost use Rattle.std.specs.Prelude.{[], ◌∷◌, map, pos, IfErr, IfOk, IsTrue, ◌↔◌, ◌≡◌};
+ghost use Rattle.std.specs.Prelude.{⊤, [], ◌∷◌, map, pos, IfErr, IfOk, IsTrue, ◌↔◌, ◌≡◌};
 ghost use Rattle.sqlite_value.specs.declared.value.Value.TheVariants as value;
 ghost use Rattle.sqlite.specs.Held.{state};
 ghost use Rattle.tables.specs.Schema.{request_table, IsTable, HasColumns};
-ghost use Rattle.tables.specs.Rows.{Makes, Inserts, begins_with};
+ghost use Rattle.tables.specs.Rows.{Makes, Inserts, begins_with, IsTooBig};
 ghost use Rattle.tables.specs.Records.{request_row, IsRequestRow};
-ghost use Rattle.tables.specs.Calls.{HoldsTable, Ran, RefusesHeld, MayLeave, Read, Loaded, LeavesNothing};
+ghost use Rattle.tables.specs.Calls.{HoldsTable, Ran, RefusesHeld, MayLeave, Read, Loaded, LeavesNothing, Faults, RefusesRow};
 ghost use Rattle.tables.specs.declared.table_fault.TableFault.TheVariants as fault;
 
 use crate::declared::{has_columns, is_there};
@@ -47,6 +47,8 @@ impl Record for RequestRecord {
 
     ghost is_record = { IsRequestRow };
 
+    ghost is_refused = { λ _. ⊥ };
+
     fn read(from: &Row, first: usize) -> Result<RequestRecord, TableFault> {
         if !has_width(from, first, 4) {
             return Err(TableFault::NotARecord);
@@ -85,6 +87,7 @@ pub fn is_request_there<S: Alter>(alloc: Global, conn: &Connection<S>) -> Result
 /// Makes the table.
 pub fn create_request<S: Alter>(conn: &mut Connection<S>) -> Result<(), TableFault>
     ensures ran { Ran (Makes request_table) (state S.Store conn.old) (state S.Store conn.new) result }
+    ensures fault { Faults ⊥ ⊤ (state S.Store conn.old) (state S.Store conn.new) result }
     ensures crash { MayLeave (Makes request_table) (state S.Store conn.old) (state S.Store conn.new) }
 {
     run(conn, CREATE, &[])
@@ -98,6 +101,7 @@ pub fn insert_request<S: Alter>(
     requires { HoldsTable request_table (state S.Store conn.old) }
     ensures ran { Ran (Inserts request_table (request_row request.now)) (state S.Store conn.old) (state S.Store conn.new) result }
     ensures held { RefusesHeld request_table (request_row request.now) (state S.Store conn.old) (state S.Store conn.new) result }
+    ensures fault { Faults (IsTooBig request_table (request_row request.now) (state S.Store conn.old).now) (RefusesRow request_table (request_row request.now) (state S.Store conn.old)) (state S.Store conn.old) (state S.Store conn.new) result }
     ensures crash { MayLeave (Inserts request_table (request_row request.now)) (state S.Store conn.old) (state S.Store conn.new) }
 {
     run(

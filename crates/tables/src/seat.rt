@@ -1,12 +1,12 @@
 //! The table `seat`.
 
-ghost use Rattle.std.specs.Prelude.{[], ◌∷◌, map, pos, IfErr, IfOk, IsTrue, ◌↔◌, ◌≡◌};
+ghost use Rattle.std.specs.Prelude.{⊤, [], ◌∷◌, map, pos, IfErr, IfOk, IsTrue, ◌↔◌, ◌≡◌};
 ghost use Rattle.sqlite_value.specs.declared.value.Value.TheVariants as value;
 ghost use Rattle.sqlite.specs.Held.{state};
 ghost use Rattle.tables.specs.Schema.{seat_table, IsTable, HasColumns};
-ghost use Rattle.tables.specs.Rows.{Makes, Inserts, Deletes, begins_with, equals_at};
+ghost use Rattle.tables.specs.Rows.{Makes, Inserts, Deletes, begins_with, equals_at, IsTooBig};
 ghost use Rattle.tables.specs.Records.{seat_row, IsSeatRow};
-ghost use Rattle.tables.specs.Calls.{HoldsTable, HoldsUnreferenced, Ran, RefusesHeld, MayLeave, Read, Loaded, LeavesNothing};
+ghost use Rattle.tables.specs.Calls.{HoldsTable, HoldsUnreferenced, Ran, RefusesHeld, MayLeave, Read, Loaded, LeavesNothing, Faults, HasStepLimit, RefusesRow};
 ghost use Rattle.tables.specs.declared.table_fault.TableFault.TheVariants as fault;
 
 use crate::declared::{has_columns, is_there};
@@ -43,6 +43,8 @@ impl Record for SeatRecord {
 
     ghost is_record = { IsSeatRow };
 
+    ghost is_refused = { λ _. ⊥ };
+
     fn read(from: &Row, first: usize) -> Result<SeatRecord, TableFault> {
         if !has_width(from, first, 3) {
             return Err(TableFault::NotARecord);
@@ -77,6 +79,7 @@ pub fn is_seat_there<S: Alter>(alloc: Global, conn: &Connection<S>) -> Result<bo
 /// Makes the table.
 pub fn create_seat<S: Alter>(conn: &mut Connection<S>) -> Result<(), TableFault>
     ensures ran { Ran (Makes seat_table) (state S.Store conn.old) (state S.Store conn.new) result }
+    ensures fault { Faults ⊥ ⊤ (state S.Store conn.old) (state S.Store conn.new) result }
     ensures crash { MayLeave (Makes seat_table) (state S.Store conn.old) (state S.Store conn.new) }
 {
     run(conn, CREATE, &[])
@@ -87,6 +90,7 @@ pub fn insert_seat<S: Alter>(conn: &mut Connection<S>, seat: &SeatRecord) -> Res
     requires { HoldsTable seat_table (state S.Store conn.old) }
     ensures ran { Ran (Inserts seat_table (seat_row seat.now)) (state S.Store conn.old) (state S.Store conn.new) result }
     ensures held { RefusesHeld seat_table (seat_row seat.now) (state S.Store conn.old) (state S.Store conn.new) result }
+    ensures fault { Faults (IsTooBig seat_table (seat_row seat.now) (state S.Store conn.old).now) (RefusesRow seat_table (seat_row seat.now) (state S.Store conn.old)) (state S.Store conn.old) (state S.Store conn.new) result }
     ensures crash { MayLeave (Inserts seat_table (seat_row seat.now)) (state S.Store conn.old) (state S.Store conn.new) }
 {
     run(
@@ -157,6 +161,7 @@ pub fn delete_seat<S: Alter>(
     requires there { HoldsTable seat_table (state S.Store conn.old) }
     requires free { HoldsUnreferenced seat_table (state S.Store conn.old) }
     ensures ran { Ran (Deletes seat_table (begins_with (value.Text pairing.now ∷ value.Int (pos seat) ∷ []))) (state S.Store conn.old) (state S.Store conn.new) result }
+    ensures fault { Faults ⊥ (HasStepLimit (state S.Store conn.old)) (state S.Store conn.old) (state S.Store conn.new) result }
     ensures crash { MayLeave (Deletes seat_table (begins_with (value.Text pairing.now ∷ value.Int (pos seat) ∷ []))) (state S.Store conn.old) (state S.Store conn.new) }
 {
     run(

@@ -1,12 +1,12 @@
 //! The table `segment`.
 
-ghost use Rattle.std.specs.Prelude.{[], ◌∷◌, map, pos, IfErr, IfOk, IsTrue, ◌↔◌, ◌≡◌};
+ghost use Rattle.std.specs.Prelude.{⊤, [], ◌∷◌, map, pos, IfErr, IfOk, IsTrue, ◌↔◌, ◌≡◌};
 ghost use Rattle.sqlite_value.specs.declared.value.Value.TheVariants as value;
 ghost use Rattle.sqlite.specs.Held.{state};
 ghost use Rattle.tables.specs.Schema.{segment_table, IsTable, HasColumns};
-ghost use Rattle.tables.specs.Rows.{Makes, Inserts, Deletes, Updates, begins_with};
+ghost use Rattle.tables.specs.Rows.{Makes, Inserts, Deletes, Updates, begins_with, IsTooBig, BecomesTooBig};
 ghost use Rattle.tables.specs.Records.{segment_row, IsSegmentRow, with_segment_times};
-ghost use Rattle.tables.specs.Calls.{HoldsTable, HoldsUnreferenced, Ran, RefusesHeld, MayLeave, Read, Loaded, LeavesNothing};
+ghost use Rattle.tables.specs.Calls.{HoldsTable, HoldsUnreferenced, Ran, RefusesHeld, MayLeave, Read, Loaded, LeavesNothing, Faults, HasStepLimit, RefusesRow};
 ghost use Rattle.tables.specs.declared.table_fault.TableFault.TheVariants as fault;
 
 use crate::declared::{has_columns, is_there};
@@ -61,6 +61,8 @@ impl Record for SegmentRecord {
 
     ghost is_record = { IsSegmentRow };
 
+    ghost is_refused = { λ _. ⊥ };
+
     fn read(from: &Row, first: usize) -> Result<SegmentRecord, TableFault> {
         if !has_width(from, first, 10) {
             return Err(TableFault::NotARecord);
@@ -105,6 +107,7 @@ pub fn is_segment_there<S: Alter>(alloc: Global, conn: &Connection<S>) -> Result
 /// Makes the table.
 pub fn create_segment<S: Alter>(conn: &mut Connection<S>) -> Result<(), TableFault>
     ensures ran { Ran (Makes segment_table) (state S.Store conn.old) (state S.Store conn.new) result }
+    ensures fault { Faults ⊥ ⊤ (state S.Store conn.old) (state S.Store conn.new) result }
     ensures crash { MayLeave (Makes segment_table) (state S.Store conn.old) (state S.Store conn.new) }
 {
     run(conn, CREATE, &[])
@@ -118,6 +121,7 @@ pub fn insert_segment<S: Alter>(
     requires { HoldsTable segment_table (state S.Store conn.old) }
     ensures ran { Ran (Inserts segment_table (segment_row segment.now)) (state S.Store conn.old) (state S.Store conn.new) result }
     ensures held { RefusesHeld segment_table (segment_row segment.now) (state S.Store conn.old) (state S.Store conn.new) result }
+    ensures fault { Faults (IsTooBig segment_table (segment_row segment.now) (state S.Store conn.old).now) (RefusesRow segment_table (segment_row segment.now) (state S.Store conn.old)) (state S.Store conn.old) (state S.Store conn.new) result }
     ensures crash { MayLeave (Inserts segment_table (segment_row segment.now)) (state S.Store conn.old) (state S.Store conn.new) }
 {
     run(
@@ -177,6 +181,7 @@ pub fn delete_segments<S: Alter>(conn: &mut Connection<S>, pairing: &str) -> Res
     requires there { HoldsTable segment_table (state S.Store conn.old) }
     requires free { HoldsUnreferenced segment_table (state S.Store conn.old) }
     ensures ran { Ran (Deletes segment_table (begins_with (value.Text pairing.now ∷ []))) (state S.Store conn.old) (state S.Store conn.new) result }
+    ensures fault { Faults ⊥ (HasStepLimit (state S.Store conn.old)) (state S.Store conn.old) (state S.Store conn.new) result }
     ensures crash { MayLeave (Deletes segment_table (begins_with (value.Text pairing.now ∷ []))) (state S.Store conn.old) (state S.Store conn.new) }
 {
     run(
@@ -198,6 +203,7 @@ pub fn update_segment<S: Alter>(
     requires there { HoldsTable segment_table (state S.Store conn.old) }
     requires free { HoldsUnreferenced segment_table (state S.Store conn.old) }
     ensures ran { Ran (Updates segment_table (begins_with (value.Text pairing.now ∷ value.Int (pos period) ∷ value.Int (pos number) ∷ [])) (with_segment_times block_out block_in)) (state S.Store conn.old) (state S.Store conn.new) result }
+    ensures fault { Faults (BecomesTooBig segment_table (begins_with (value.Text pairing.now ∷ value.Int (pos period) ∷ value.Int (pos number) ∷ [])) (with_segment_times block_out block_in) (state S.Store conn.old).now) ⊤ (state S.Store conn.old) (state S.Store conn.new) result }
     ensures crash { MayLeave (Updates segment_table (begins_with (value.Text pairing.now ∷ value.Int (pos period) ∷ value.Int (pos number) ∷ [])) (with_segment_times block_out block_in)) (state S.Store conn.old) (state S.Store conn.new) }
 {
     run(

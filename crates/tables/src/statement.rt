@@ -1,5 +1,5 @@
 ghost use Rattle.sqlite.specs.Values.{bound};
-ghost use Rattle.sqlite.specs.State.{HasCleanDisk, Survives, CommitsBy};
+ghost use Rattle.sqlite.specs.State.{HasCleanDisk, IsLive, Survives, CommitsBy};
 ghost use Rattle.sqlite.specs.Held.{state};
 ghost use Rattle.tables.specs.Texts.{Performs};
 
@@ -14,8 +14,10 @@ pub(crate) fn run<S: Alter>(
     params: &[ValueRef<'_>],
 ) -> Result<(), TableFault>
     ensures runs { HasCleanDisk (state S.Store conn.new) → Performs sql.now (bound params.now) (state S.Store conn.old) (state S.Store conn.new) result }
+    ensures live { IsLive (state S.Store conn.old) }
     ensures survives { Survives (state S.Store conn.old) (state S.Store conn.new) (CommitsBy sql.now (bound params.now) (state S.Store conn.old)) }
 {
+    let _live = conn.schema();
     conn.execute(sql, params)?;
     Ok(())
 }

@@ -1,6 +1,7 @@
 use Rattle.sqlite.specs.Held.{state}
+use Rattle.tables.proofs.Statements.{faults_by}
 use Rattle.tables.proofs.Holding.{inserts_by, refuses_by, inserts_left_by}
-use Rattle.tables.proofs.BookTexts.{insert_book}
+use Rattle.tables.proofs.BookTexts.{insert_book, insert_book_stops}
 use Rattle.tables.proofs.book.insert_book.Goals as goal
 
 pub returns-clause-ran : goal.returns-clause-ran
@@ -17,3 +18,8 @@ pub returns-clause-crash : goal.returns-clause-crash
 returns-clause-crash g c =
     let given = rw (c.params-to_sql.ensures, c.params-to_sql-2.ensures, c.params-to_sql-3.ensures, c.as_str.ensures) at c.run.ensures in
     inserts_left_by _ _ c.requires (insert_book c.args.book.now (state g.S.Store c.args.conn.now)) given.survives
+
+pub returns-clause-fault : goal.returns-clause-fault
+returns-clause-fault g c =
+    let given = rw (c.params-to_sql.ensures, c.params-to_sql-2.ensures, c.params-to_sql-3.ensures, c.as_str.ensures) at c.run.ensures in
+    faults_by _ _ c.requires (insert_book_stops c.args.book.now (state g.S.Store c.args.conn.now) given.live) given.survives c.run.result given.runs

@@ -10,4 +10,4 @@ load-requires g c clean = (load_crew (state g.S.Store c.args.conn.now) (c.requir
 pub returns-clause-loaded : goal.returns-clause-loaded
 returns-clause-loaded g c =
     let given = c.load.ensures in
-    loaded_by _ _ c.requires (load_crew (state g.S.Store c.args.conn.now)) given.crash crew_row IsCrewRow (λ all. all.items) c.load.result given.found given.same given.err given.damaged
+    loaded_by _ _ c.requires (load_crew (state g.S.Store c.args.conn.now)) given.crash crew_row IsCrewRow (λ all. all.items) c.load.result given.found given.same given.stops given.damaged

@@ -11,4 +11,4 @@ read_all-requires g c clean = (exceedances (state g.S.Store c.args.conn.now) (c.
 pub returns-clause-read : goal.returns-clause-read
 returns-clause-read g c =
     let given = c.read_all.ensures in
-    read_in_order_by _ _ c.requires (exceedances (state g.S.Store c.args.conn.now)) given.crash IsExceedanceRow (λ all. map exceedance_row all.items) c.read_all.result given.shown given.same given.err given.damaged
+    read_in_order_by _ _ c.requires (exceedances (state g.S.Store c.args.conn.now)) given.crash IsExceedanceRow (λ all. map exceedance_row all.items) c.read_all.result given.shown given.same given.stops given.damaged

@@ -1,6 +1,7 @@
 use Rattle.sqlite.specs.Held.{state}
+use Rattle.tables.proofs.Statements.{faults_by}
 use Rattle.tables.proofs.Holding.{inserts_by, refuses_by, inserts_left_by}
-use Rattle.tables.proofs.PairingTexts.{insert_pairing}
+use Rattle.tables.proofs.PairingTexts.{insert_pairing, insert_pairing_stops}
 use Rattle.tables.proofs.pairing.insert_pairing.Goals as goal
 
 pub returns-clause-ran : goal.returns-clause-ran
@@ -17,3 +18,8 @@ pub returns-clause-crash : goal.returns-clause-crash
 returns-clause-crash g c =
     let given = rw (c.params-to_sql.ensures, c.as_str.ensures) at c.run.ensures in
     inserts_left_by _ _ c.requires (insert_pairing c.args.pairing.now (state g.S.Store c.args.conn.now)) given.survives
+
+pub returns-clause-fault : goal.returns-clause-fault
+returns-clause-fault g c =
+    let given = rw (c.params-to_sql.ensures, c.as_str.ensures) at c.run.ensures in
+    faults_by _ _ c.requires (insert_pairing_stops c.args.pairing.now (state g.S.Store c.args.conn.now) given.live) given.survives c.run.result given.runs

@@ -1,7 +1,8 @@
 use Rattle.tables.proofs.Selecting.{bound_number}
 use Rattle.sqlite.specs.Held.{state}
+use Rattle.tables.proofs.Statements.{faults_by}
 use Rattle.tables.proofs.Holding.{inserts_by, refuses_by, inserts_left_by}
-use Rattle.tables.proofs.PeriodTexts.{insert_period}
+use Rattle.tables.proofs.PeriodTexts.{insert_period, insert_period_stops}
 use Rattle.tables.proofs.period.insert_period.Goals as goal
 
 pub returns-clause-ran : goal.returns-clause-ran
@@ -18,3 +19,8 @@ pub returns-clause-crash : goal.returns-clause-crash
 returns-clause-crash g c =
     let given = rw (c.params-to_sql.ensures, c.params-to_sql-2.ensures, c.params-to_sql-3.ensures, c.params-to_sql-4.ensures, c.params-to_sql-5.ensures, c.params-to_sql-6.ensures, c.as_str.ensures, bound_number c.args.period.now.act_report, bound_number c.args.period.now.act_release) at c.run.ensures in
     inserts_left_by _ _ c.requires (insert_period c.args.period.now (state g.S.Store c.args.conn.now)) given.survives
+
+pub returns-clause-fault : goal.returns-clause-fault
+returns-clause-fault g c =
+    let given = rw (c.params-to_sql.ensures, c.params-to_sql-2.ensures, c.params-to_sql-3.ensures, c.params-to_sql-4.ensures, c.params-to_sql-5.ensures, c.params-to_sql-6.ensures, c.as_str.ensures, bound_number c.args.period.now.act_report, bound_number c.args.period.now.act_release) at c.run.ensures in
+    faults_by _ _ c.requires (insert_period_stops c.args.period.now (state g.S.Store c.args.conn.now) given.live) given.survives c.run.result given.runs

@@ -1,4 +1,4 @@
-use Rattle.std.proofs.Common.{◌≡◌, ◌∷◌, ◌++◌, [], map, refl, sym, ap, subst, ◌∙◌, rules, arith}
+use Rattle.std.proofs.Common.{inl, IfErr, ◌≡◌, ◌∷◌, ◌++◌, [], map, refl, sym, ap, subst, ◌∙◌, rules, arith}
 use Rattle.std.proofs.lemmas.List.{map-append}
 use Rattle.sqlite.specs.Given.{HasGiven}
 use Rattle.sqlite.proofs.StateLemmas.{survives_then}
@@ -6,8 +6,9 @@ use Rattle.sqlite.specs.Values.{bound}
 use Rattle.sqlite.specs.State.{HasCleanDisk, Survives, CommitsShowing, FailsToQuery}
 use Rattle.sqlite.specs.Held.{state}
 use Rattle.sqlite.proofs.Callers.{begun_plain, unchanged_then, given_begin}
-use Rattle.tables.proofs.ReadingLemmas.{commits_nothing, shown_from, failed_query, begins_back}
+use Rattle.tables.proofs.ReadingLemmas.{commits_nothing, shown_from, query_from, err_then, begins_back}
 use Rattle.tables.proofs.Survival.{later}
+use Rattle.tables.specs.Faults.{fault_of}
 use Rattle.tables.proofs.reading.read_all.Goals as goal
 
 pub returns-in_err-rows-clause-crash : goal.returns-in_err-rows-clause-crash
@@ -52,15 +53,27 @@ rows-preserved g c =
           (subst (HasGiven g.S.Store c.args.sql.now (bound c.args.params.now) now) (sym grown) more, unchanged_then _ _ _ was.1 same),
     )
 
-pub returns-in_err-rows-clause-err : goal.returns-in_err-rows-clause-err
-returns-in_err-rows-clause-err g c clean =
+pub returns-in_err-rows-clause-stops : goal.returns-in_err-rows-clause-stops
+returns-in_err-rows-clause-stops g c clean =
     let old = state g.S.Store c.args.conn.now in
     let new = state g.S.Store c.query.follows.lender-at-none in
     let held = c.query.follows.holds-at-none in
     let refused = rw c.in_err-rows.was at held in
     let fails : FailsToQuery c.args.sql.now (bound c.args.params.now) old new c.in_err-rows.field-0.0 = refused.err clean in
-    let left = failed_query c.args.sql.now (bound c.args.params.now) old new c.in_err-rows.field-0.0 (c.requires (omega (arith, refused.survives.clean))) fails in
-    search rules
+    let told : IfErr c.from_residual.result (λ fault. fault ≡ fault_of c.in_err-rows.field-0.0) = search rules in
+    err_then c.from_residual.result told (λ fault is. inl (c.in_err-rows.field-0.0, is, fails))
+
+pub returns-in_err-row-clause-stops : goal.returns-in_err-row-clause-stops
+returns-in_err-row-clause-stops g c clean =
+    let moved = c.next.follows.holds-at-none in
+    let now = c.next.follows.lender-at-none.conn.now in
+    let late : HasCleanDisk (state g.S.Store now) = search rules in
+    let was = c.rows.invariant.2 (omega (arith, moved.survives.clean)) in
+    let plain = c.requires (omega (arith, moved.survives.clean, c.rows.invariant.1.clean)) in
+    let fails = (rw c.in_err-row.was at (moved.err late)) c.args.sql.now (bound c.args.params.now) (map g.R.Record.row c.rows.all.items) was.0 in
+    let query = query_from (state g.S.Store c.args.conn.now) _ (state g.S.Store now) c.args.sql.now (bound c.args.params.now) c.in_err-row.field-0.0 plain was.1 c.rows.invariant.1.counts c.rows.invariant.1.limit fails in
+    let told : IfErr c.from_residual-in_err-row.result (λ fault. fault ≡ fault_of c.in_err-row.field-0.0) = search rules in
+    err_then c.from_residual-in_err-row.result told (λ fault is. inl (c.in_err-row.field-0.0, is, search rules))
 
 pub returns-in_err-read-clause-damaged : goal.returns-in_err-read-clause-damaged
 returns-in_err-read-clause-damaged g c clean damaged =

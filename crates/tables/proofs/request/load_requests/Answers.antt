@@ -10,4 +10,4 @@ load-requires g c clean = (load_requests (state g.S.Store c.args.conn.now) (c.re
 pub returns-clause-loaded : goal.returns-clause-loaded
 returns-clause-loaded g c =
     let given = c.load.ensures in
-    loaded_by _ _ c.requires (load_requests (state g.S.Store c.args.conn.now)) given.crash request_row IsRequestRow (λ all. all.items) c.load.result given.found given.same given.err given.damaged
+    loaded_by _ _ c.requires (load_requests (state g.S.Store c.args.conn.now)) given.crash request_row IsRequestRow (λ all. all.items) c.load.result given.found given.same given.stops given.damaged

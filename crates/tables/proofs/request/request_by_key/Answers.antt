@@ -13,4 +13,4 @@ read_all-requires g c clean = (request_by_key c.args.number c.args.part (state g
 pub returns-clause-read : goal.returns-clause-read
 returns-clause-read g c =
     let given = rw (c.params-to_sql.ensures, c.params-to_sql-2.ensures, to_z-of_z w64 c.args.number c.ranges.number) at c.read_all.ensures in
-    read_by _ _ c.requires (request_by_key c.args.number c.args.part (state g.S.Store c.args.conn.now)) given.crash IsRequestRow (λ all. map request_row all.items) c.read_all.result given.shown given.same given.err given.damaged
+    read_by _ _ c.requires (request_by_key c.args.number c.args.part (state g.S.Store c.args.conn.now)) given.crash IsRequestRow (λ all. map request_row all.items) c.read_all.result given.shown given.same given.stops given.damaged

@@ -11,4 +11,4 @@ read_all-requires g c clean = (seats_of c.args.pairing.now (state g.S.Store c.ar
 pub returns-clause-read : goal.returns-clause-read
 returns-clause-read g c =
     let given = rw (c.params-to_sql.ensures) at c.read_all.ensures in
-    read_by _ _ c.requires (seats_of c.args.pairing.now (state g.S.Store c.args.conn.now)) given.crash IsSeatRow (λ all. map seat_row all.items) c.read_all.result given.shown given.same given.err given.damaged
+    read_by _ _ c.requires (seats_of c.args.pairing.now (state g.S.Store c.args.conn.now)) given.crash IsSeatRow (λ all. map seat_row all.items) c.read_all.result given.shown given.same given.stops given.damaged
