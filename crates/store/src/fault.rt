@@ -6,9 +6,9 @@ use values::MemoryFault;
 /// Why a call on the tables of a book failed.
 #[derive(Clone, Copy, Debug, PartialEq, Eq)]
 pub enum StoreFault {
-    /// The store refused or failed, for another reason than memory: refusal 90.
+    /// The store refused or failed for another reason than memory, or a commit failed for whatever reason: refusal 90.
     Store,
-    /// No memory was left: refusal 91.
+    /// No memory was left before the commit: refusal 91. Nothing is changed.
     Memory,
 }
 

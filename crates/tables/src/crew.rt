@@ -21,9 +21,11 @@ use values::{Copied, MemoryFault, Text};
 /// A member.
 #[derive(Drop)]
 pub struct CrewRecord {
+    /// The member's id.
     pub id: Text,
     /// 0 is captain, 1 first officer.
     pub seat: u32,
+    /// The member's name.
     pub name: Text,
 }
 

@@ -22,12 +22,15 @@ use values::{Copied, MemoryFault, Text};
 pub struct ExceedanceRecord {
     /// With `part` the key of the actual.
     pub number: i64,
+    /// The part of that key.
     pub part: u32,
     /// Whose limit it is.
     pub crew: Text,
     /// 1 to 8, in the order of the sections.
     pub section: u32,
+    /// The id of the pairing in which it was.
     pub pairing: Text,
+    /// The number of the period, from 1.
     pub period: u32,
 }
 

@@ -21,11 +21,15 @@ use values::{Copied, MemoryFault, Text};
 /// A ground duty. Times are minutes since 2000-01-01T00:00Z.
 #[derive(Drop)]
 pub struct GroundRecord {
+    /// The ground duty's id.
     pub id: Text,
     /// Whose duty it is.
     pub crew: Text,
+    /// What is to be done.
     pub task: Text,
+    /// Its first minute.
     pub begin_at: u32,
+    /// The minute that it ends before.
     pub end_at: u32,
 }
 

@@ -21,6 +21,7 @@ use values::{Copied, MemoryFault, Text};
 /// A pairing.
 #[derive(Drop)]
 pub struct PairingRecord {
+    /// The pairing's id.
     pub id: Text,
 }
 

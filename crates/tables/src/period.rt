@@ -21,6 +21,7 @@ use values::{Copied, MemoryFault, Text};
 /// A flight duty period of a pairing. Times are minutes since 2000-01-01T00:00Z.
 #[derive(Drop)]
 pub struct PeriodRecord {
+    /// The id of its pairing.
     pub pairing: Text,
     /// Counted from 1 in its pairing.
     pub number: u32,

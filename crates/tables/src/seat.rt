@@ -21,6 +21,7 @@ use values::{Copied, MemoryFault, Text};
 /// A seat of a pairing that a member holds.
 #[derive(Drop)]
 pub struct SeatRecord {
+    /// The id of its pairing.
     pub pairing: Text,
     /// 0 is the captain's, 1 the first officer's.
     pub seat: u32,

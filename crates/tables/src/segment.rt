@@ -21,13 +21,17 @@ use values::{Copied, MemoryFault, Text};
 /// A flight segment of a period. Times are minutes since 2000-01-01T00:00Z.
 #[derive(Drop)]
 pub struct SegmentRecord {
+    /// The id of its pairing.
     pub pairing: Text,
     /// The number of its period.
     pub period: u32,
     /// Counted from 1 in its period.
     pub number: u32,
+    /// The flight, by its number with the airline's letters.
     pub flight: Text,
+    /// The airport that it departs from.
     pub origin: Text,
+    /// The airport that it arrives at.
     pub destination: Text,
     /// Block-out, as planned.
     pub out_at: u32,
