@@ -19,3 +19,11 @@ pub mod Growing
 pub mod Values
 pub mod SamePairings
 pub mod SameStates
+pub mod Mapping
+pub mod Telling
+pub mod ReadCrew
+pub mod Ascii
+pub mod ReadGrounds
+pub mod ReadRequests
+pub mod PlanKeys
+pub mod PlanLemmas

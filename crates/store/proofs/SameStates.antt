@@ -20,7 +20,7 @@ use Rattle.store.proofs.Values.{members_same, sections_same, text_is, number_is}
 zones_same : (s t : State) → ((row : Row) → InBook s row → InBook t row) → s.zone ≡ t.zone
 zones_same s t told = text_is (ap (λ (row : Row). column row 2) (told _ refl))
 
-crew_told : (s t : State) → ((row : Row) → InCrew s row → InCrew t row) → (id : List ℕ) → Answers (fin.get s.crew id) (fin.get t.crew id)
+pub crew_told : (s t : State) → ((row : Row) → InCrew s row → InCrew t row) → (id : List ℕ) → Answers (fin.get s.crew id) (fin.get t.crew id)
 crew_told s t told id m e =
     let it = told (row_of_member id m) (record { name = id; value = m; there = e }, refl) in
     let same = it.1 in

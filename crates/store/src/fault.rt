@@ -1,4 +1,4 @@
-use std::alloc::AllocError;
+use std::alloc::{AllocError, AllocFailed};
 use std::fmt;
 use tables::TableFault;
 use values::MemoryFault;
@@ -17,6 +17,34 @@ pub enum StoreFault {
 pub enum CreateFault {
     /// The database has a table with a name of the book's, or a foreign key that refers to one: refusal 43.
     NotEmpty,
+    /// A fault of the store (90) or want of memory (91).
+    Fault(StoreFault),
+}
+
+/// A table of the book, in the order in which loading looks at them.
+#[derive(Clone, Copy, Debug, PartialEq, Eq)]
+pub enum TableName {
+    Book,
+    Crew,
+    Pairing,
+    Period,
+    Segment,
+    Seat,
+    Ground,
+    Exceedance,
+    Request,
+}
+
+/// Why a database was not loaded.
+#[derive(Clone, Copy, Debug, PartialEq, Eq)]
+pub enum LoadFault {
+    /// There is no table `book`: refusal 40.
+    NotABook,
+    /// This is the first table that isn't there as it is declared, has a row that is no value of its type, or doesn't fit
+    /// the tables above it: refusal 41.
+    Damaged(TableName),
+    /// The tables are of a version that this program doesn't know: refusal 42.
+    Version,
     /// A fault of the store (90) or want of memory (91).
     Fault(StoreFault),
 }
@@ -111,5 +139,84 @@ impl From<AllocError> for CreateFault {
 
     fn from(_error: AllocError) -> CreateFault {
         CreateFault::Fault(StoreFault::Memory)
+    }
+}
+
+impl fmt::Display for TableName {
+    /// Writes the table's name, as `seat`.
+    fn fmt<W: fmt::Write>(&self, f: &mut fmt::Formatter<W>) -> fmt::Result {
+        f.write_str(match self {
+            TableName::Book => "book",
+            TableName::Crew => "crew",
+            TableName::Pairing => "pairing",
+            TableName::Period => "period",
+            TableName::Segment => "segment",
+            TableName::Seat => "seat",
+            TableName::Ground => "ground",
+            TableName::Exceedance => "exceedance",
+            TableName::Request => "request",
+        })
+    }
+}
+
+impl fmt::Display for LoadFault {
+    /// Writes the refusal, as `41 Damaged seat`.
+    fn fmt<W: fmt::Write>(&self, f: &mut fmt::Formatter<W>) -> fmt::Result {
+        match self {
+            LoadFault::NotABook => f.write_str("40 NotABook"),
+            LoadFault::Damaged(table) => write!(f, "41 Damaged {table}"),
+            LoadFault::Version => f.write_str("42 Version"),
+            LoadFault::Fault(fault) => write!(f, "{fault}"),
+        }
+    }
+}
+
+impl std::error::Error for LoadFault {}
+
+impl From<TableFault> for LoadFault {
+    ghost use Rattle.std.specs.Prelude.{◌≡◌};
+    ghost use Rattle.store.specs.Faults.{fault_of};
+    ghost use Rattle.store.specs.declared.fault.LoadFault.TheVariants.{Fault};
+
+    ghost from_gives = { λ fault given. given ≡ Fault (fault_of fault) };
+
+    fn from(fault: TableFault) -> LoadFault {
+        LoadFault::Fault(StoreFault::from(fault))
+    }
+}
+
+impl From<MemoryFault> for LoadFault {
+    ghost use Rattle.std.specs.Prelude.{◌≡◌};
+    ghost use Rattle.store.specs.declared.fault.LoadFault.TheVariants.{Fault};
+    ghost use Rattle.store.specs.declared.fault.StoreFault.TheVariants.{Memory};
+
+    ghost from_gives = { λ _ fault. fault ≡ Fault Memory };
+
+    fn from(_fault: MemoryFault) -> LoadFault {
+        LoadFault::Fault(StoreFault::Memory)
+    }
+}
+
+impl From<AllocError> for LoadFault {
+    ghost use Rattle.std.specs.Prelude.{◌≡◌};
+    ghost use Rattle.store.specs.declared.fault.LoadFault.TheVariants.{Fault};
+    ghost use Rattle.store.specs.declared.fault.StoreFault.TheVariants.{Memory};
+
+    ghost from_gives = { λ _ fault. fault ≡ Fault Memory };
+
+    fn from(_error: AllocError) -> LoadFault {
+        LoadFault::Fault(StoreFault::Memory)
+    }
+}
+
+impl<T: Drop> From<AllocFailed<T>> for LoadFault {
+    ghost use Rattle.std.specs.Prelude.{◌≡◌};
+    ghost use Rattle.store.specs.declared.fault.LoadFault.TheVariants.{Fault};
+    ghost use Rattle.store.specs.declared.fault.StoreFault.TheVariants.{Memory};
+
+    ghost from_gives = { λ _ fault. fault ≡ Fault Memory };
+
+    fn from(_failed: AllocFailed<T>) -> LoadFault {
+        LoadFault::Fault(StoreFault::Memory)
     }
 }

@@ -4,11 +4,16 @@
 mod fault;
 mod laws;
 mod making;
+mod plan_rows;
+mod plans;
+mod read_crew;
+mod read_grounds;
+mod read_requests;
 mod records;
 mod store;
 mod transaction;
 mod writing;
 
-pub use fault::{CreateFault, StoreFault};
+pub use fault::{CreateFault, LoadFault, StoreFault, TableName};
 pub use laws::{database_holds_one_state, rows_say_all};
 pub use store::Store;
