@@ -27,3 +27,6 @@ pub mod ReadGrounds
 pub mod ReadRequests
 pub mod PlanKeys
 pub mod PlanLemmas
+pub mod SamePlans
+pub mod ReadSeats
+pub mod SeatTable

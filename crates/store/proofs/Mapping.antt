@@ -13,12 +13,12 @@ use Rattle.sqlite_rules.specs.Lists.{Has}
 use Rattle.store.specs.Reading.{Under, Mapped, AreOnce}
 use Rattle.store.proofs.Lists.{one_value, some_same}
 
-of_appended : (xs ys : List Row) (x : Row) → Has (xs ++ ys) x → Has xs x ⊎ Has ys x
+pub of_appended : (xs ys : List Row) (x : Row) → Has (xs ++ ys) x → Has xs x ⊎ Has ys x
 of_appended [] ys x h = inr h
 of_appended (y ∷ xs) ys x (inl e) = inl (inl e)
 of_appended (y ∷ xs) ys x (inr h) = elim (of_appended xs ys x h) [ inl a ↦ inl (inr a) | inr b ↦ inr b ]
 
-in_appended : (xs ys : List Row) (x : Row) → Has xs x ⊎ Has ys x → Has (xs ++ ys) x
+pub in_appended : (xs ys : List Row) (x : Row) → Has xs x ⊎ Has ys x → Has (xs ++ ys) x
 in_appended [] ys x (inl none) = absurd none
 in_appended [] ys x (inr h) = h
 in_appended (y ∷ xs) ys x (inl (inl e)) = inl e
@@ -30,14 +30,14 @@ has_at [] at x e = absurd (cc)
 has_at (y ∷ xs) zero x e = inl (sym (some_same e))
 has_at (y ∷ xs) (suc at) x e = inr (has_at xs at x e)
 
-of_taken : (xs : List Row) (at : ℕ) (x : Row) → Has (take at xs) x → Has xs x
+pub of_taken : (xs : List Row) (at : ℕ) (x : Row) → Has (take at xs) x → Has xs x
 of_taken [] zero x h = absurd h
 of_taken [] (suc at) x h = absurd h
 of_taken (y ∷ xs) zero x h = absurd h
 of_taken (y ∷ xs) (suc at) x (inl e) = inl e
 of_taken (y ∷ xs) (suc at) x (inr h) = inr (of_taken xs at x h)
 
-take_next : (xs : List Row) (at : ℕ) (x : Row) → slice_get xs at ≡ Some x → take (at + 1) xs ≡ take at xs ++ x ∷ []
+pub take_next : (xs : List Row) (at : ℕ) (x : Row) → slice_get xs at ≡ Some x → take (at + 1) xs ≡ take at xs ++ x ∷ []
 take_next [] at x e = absurd (cc)
 take_next (y ∷ xs) zero x e = ap (λ z. z ∷ []) (some_same e)
 take_next (y ∷ xs) (suc at) x e = ap (λ n. take n (y ∷ xs)) (let n : suc at + 1 ≡ suc (at + 1) = omega arith in n) ∙ ap (λ l. y ∷ l) (take_next xs at x e)

@@ -31,11 +31,11 @@ use Rattle.store.specs.declared.fault.LoadFault.{LoadFault}
 use Rattle.store.specs.declared.fault.TableName.TheVariants as table_name
 use Rattle.store.specs.Rows.{seat_number, row_of_member, crew, book}
 
-seat_known : (seat : Seat) → seat_of (seat_number seat) ≡ Some seat
+pub seat_known : (seat : Seat) → seat_of (seat_number seat) ≡ Some seat
 seat_known Captain = refl
 seat_known FirstOfficer = refl
 
-number_known : (n : ℕ) (seat : Seat) → seat_of n ≡ Some seat → n ≡ seat_number seat
+pub number_known : (n : ℕ) (seat : Seat) → seat_of n ≡ Some seat → n ≡ seat_number seat
 number_known zero seat e = cc
 number_known (suc zero) seat e = cc
 number_known (suc (suc n)) seat e = absurd (cc)
@@ -93,7 +93,7 @@ module _ (records : List CrewRecord) (at : ℕ) (it : CrewRecord) (there : slice
 
 -- ---- The table
 
-number_fits : (seat : Seat) → seat_number seat < 2 ^ 32
+pub number_fits : (seat : Seat) → seat_number seat < 2 ^ 32
 number_fits Captain = omega arith
 number_fits FirstOfficer = omega arith
 

@@ -11,7 +11,7 @@ use Rattle.duty.specs.declared.segment.Segment.{Segment}
 use Rattle.command.specs.declared.member.Seat.{Seat}
 use Rattle.command.specs.declared.member.Seat.TheVariants.{Captain, FirstOfficer}
 use Rattle.roster.specs.Pairings.{holder}
-use Rattle.roster.specs.Sound.{SoundPairing}
+use Rattle.roster.specs.Sound.{IsActual, SoundPairing}
 use Rattle.roster.specs.State.{State}
 use Rattle.roster.specs.declared.state.Rostered.{Rostered}
 use Rattle.store.specs.Rows.{InPeriod, InSegment, InSeat, At, PeriodOf, SegmentOf, HeldSeat, row_of_period, row_of_segment, row_of_seat, seat_number, times_flown}
@@ -134,8 +134,15 @@ within fdp a count i v e =
 
 -- ---- The whole pairing
 
+-- a plan as it was made, with a place for the actual of each period
+pub record Planned (id : List ℕ) (r : Rostered) : Type 0 where
+  pub named : r.plan.id ≡ id
+  pub planned : map as_planned r.plan.periods ≡ r.plan.periods
+  pub places : length r.actuals ≡ length r.plan.periods
+  pub actuals : (i : ℕ) (a : ActualTimes) → slice_get r.actuals i ≡ Some (Some a) → IsActual r.plan i a
+
 module _ (s t : State) (id : List ℕ) (r q : Rostered) (here : fin.get s.pairings id ≡ Some r) (there : fin.get t.pairings id ≡ Some q)
-    (sr : SoundPairing s.crew id r) (sq : SoundPairing t.crew id q)
+    (sr : Planned id r) (sq : Planned id q)
     (periods : (row : Row) → InPeriod s row → InPeriod t row) (periods' : (row : Row) → InPeriod t row → InPeriod s row)
     (segments : (row : Row) → InSegment s row → InSegment t row) (segments' : (row : Row) → InSegment t row → InSegment s row) where
   -- a period of one is the same in the other, and so is its actual
@@ -201,21 +208,38 @@ beside xs ys count i x e =
       | inr p ↦ absurd (omega (arith, inside, count, p.0))
     ]
 
+-- two pairings, but for who holds their seats
+pub record SamePlan (r q : Rostered) : Type 0 where
+  pub plan : r.plan ≡ q.plan
+  pub actuals : r.actuals ≡ q.actuals
+
+pub same_plan : (s t : State) (id : List ℕ) (r q : Rostered) → fin.get s.pairings id ≡ Some r → fin.get t.pairings id ≡ Some q →
+    Planned id r → Planned id q →
+    ((row : Row) → InPeriod s row → InPeriod t row) → ((row : Row) → InPeriod t row → InPeriod s row) →
+    ((row : Row) → InSegment s row → InSegment t row) → ((row : Row) → InSegment t row → InSegment s row) → SamePlan r q
+same_plan s t id r q here there sr sq periods periods' segments segments' =
+    let to = as_here s t id r q here there sr sq periods periods' segments segments' in
+    let back = as_here t s id q r there here sq sr periods' periods segments' segments in
+    let plans : r.plan.periods ≡ q.plan.periods = same_list r.plan.periods q.plan.periods
+    (λ i v e. let o = beside r.plan.periods r.actuals (sym sr.places) i v e in (to i v o.0 e o.1).planned)
+    (λ i v e. let o = beside q.plan.periods q.actuals (sym sq.places) i v e in (back i v o.0 e o.1).planned) in
+    record {
+      plan = λ i. record { id = (sr.named ∙ sym sq.named) i; periods = plans i };
+      actuals = same_list r.actuals q.actuals
+      (λ i v e. let o = beside r.actuals r.plan.periods sr.places i v e in (to i o.0 v o.1 e).flown)
+      (λ i v e. let o = beside q.actuals q.plan.periods sq.places i v e in (back i o.0 v o.1 e).flown);
+    }
+
+of_sound : (s : State) (id : List ℕ) (r : Rostered) → SoundPairing s.crew id r → Planned id r
+of_sound s id r is = record { named = is.named; planned = is.planned; places = is.places; actuals = is.actuals }
+
 pub same_pairing : (s t : State) (id : List ℕ) (r q : Rostered) → fin.get s.pairings id ≡ Some r → fin.get t.pairings id ≡ Some q →
     SoundPairing s.crew id r → SoundPairing t.crew id q →
     ((row : Row) → InPeriod s row → InPeriod t row) → ((row : Row) → InPeriod t row → InPeriod s row) →
     ((row : Row) → InSegment s row → InSegment t row) → ((row : Row) → InSegment t row → InSegment s row) →
     ((row : Row) → InSeat s row → InSeat t row) → ((row : Row) → InSeat t row → InSeat s row) → r ≡ q
 same_pairing s t id r q here there sr sq periods periods' segments segments' seats seats' =
-    let to = as_here s t id r q here there sr sq periods periods' segments segments' in
-    let back = as_here t s id q r there here sq sr periods' periods segments' segments in
-    let plans : r.plan.periods ≡ q.plan.periods = same_list r.plan.periods q.plan.periods
-    (λ i v e. let o = beside r.plan.periods r.actuals (sym sr.places) i v e in (to i v o.0 e o.1).planned)
-    (λ i v e. let o = beside q.plan.periods q.actuals (sym sq.places) i v e in (back i v o.0 e o.1).planned) in
-    let actuals : r.actuals ≡ q.actuals = same_list r.actuals q.actuals
-    (λ i v e. let o = beside r.actuals r.plan.periods sr.places i v e in (to i o.0 v o.1 e).flown)
-    (λ i v e. let o = beside q.actuals q.plan.periods sq.places i v e in (back i o.0 v o.1 e).flown) in
-    let plan : r.plan ≡ q.plan = λ i. record { id = (sr.named ∙ sym sq.named) i; periods = plans i } in
+    let same = same_plan s t id r q here there (of_sound s id r sr) (of_sound t id q sq) periods periods' segments segments' in
     let holds : (seat : Seat) → holder seat r ≡ holder seat q = λ seat.
     same_option _ _ (holder_told s t id r q here there seats seat) (holder_told t s id q r there here seats' seat) in
-    λ i. record { plan = plan i; actuals = actuals i; captain = holds Captain i; first_officer = holds FirstOfficer i }
+    λ i. record { plan = same.plan i; actuals = same.actuals i; captain = holds Captain i; first_officer = holds FirstOfficer i }

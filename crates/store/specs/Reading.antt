@@ -1,5 +1,5 @@
 -- What the functions that load a book say to one another. No public clause names these.
-use Rattle.std.specs.Prelude.{◌≡◌, ◌⊎◌, ◌↔◌, ⊤, ℕ, zero, suc, List, [], map, take, length, Option, None, Some, Result, MatchResult}
+use Rattle.std.specs.Prelude.{◌≡◌, ◌⊎◌, ◌↔◌, ⊤, true, ℕ, zero, suc, List, [], map, take, length, Option, None, Some, Result, MatchResult}
 use Rattle.std.specs.FinMap as fin
 use Rattle.values.specs.Name.{name_cmp}
 use Rattle.sqlite_value.specs.Order.{Row}
@@ -7,18 +7,24 @@ use Rattle.sqlite_rules.specs.Lists.{Has}
 use Rattle.sqlite.specs.Effect.{Database, IsDatabase}
 use Rattle.sqlite.specs.State.{State, HasCleanDisk, IsUnchanged}
 use Rattle.command.specs.Keys.{key_name}
+use Rattle.command.specs.declared.member.Member.{Member}
 use Rattle.command.specs.declared.member.Seat.{Seat}
 use Rattle.command.specs.declared.member.Seat.TheVariants.{Captain, FirstOfficer}
+use Rattle.roster.specs.Pairings.{holder, is_flown, is_fully_crewed}
+use Rattle.roster.specs.Sound.{Crew, IsHolder}
 use Rattle.roster.specs.State as roster
+use Rattle.roster.specs.declared.state.Rostered.{Rostered}
 use Rattle.tables.specs.Calls.{LeavesNothing}
 use Rattle.tables.specs.Rows.{IsStored, rows_of, HasNoRecord, begins_with}
 use Rattle.tables.specs.Schema.{IsOfBook}
-use Rattle.tables.specs.Records.{crew_row, ground_row, request_row}
+use Rattle.tables.specs.Records.{book_row, crew_row, ground_row, request_row, seat_row}
+use Rattle.tables.specs.declared.book.BookRecord.{BookRecord}
 use Rattle.tables.specs.declared.crew.CrewRecord.{CrewRecord}
 use Rattle.tables.specs.declared.ground.GroundRecord.{GroundRecord}
 use Rattle.tables.specs.declared.request.RequestRecord.{RequestRecord}
+use Rattle.tables.specs.declared.seat.SeatRecord.{SeatRecord}
 use Rattle.store.specs.Loading.{IsMember, IsGround, IsRequest, AreHeld, IsRight, IsNoBook, IsOfOtherVersion, Says}
-use Rattle.store.specs.Rows.{TableName, table, row_of_member, row_of_ground, row_of_request}
+use Rattle.store.specs.Rows.{TableName, table, row_of_member, row_of_seat, row_of_ground, row_of_request, InSeat}
 use Rattle.store.specs.declared.fault.LoadFault.{LoadFault}
 use Rattle.store.specs.declared.fault.LoadFault.TheVariants.{NotABook, Damaged, Version, Fault}
 use Rattle.store.specs.declared.fault.TableName as name
@@ -105,3 +111,53 @@ pub record RequestsRead (records : List RequestRecord) (count : ℕ) (old new : 
 -- some row is no request's, or some exceedance has a key that isn't held
 abbrev pub AreWanting : List RequestRecord → roster.State → Type 0
 AreWanting records s = HasStranger row_of_request IsRequest (map request_row records) ⊎ ((r : roster.State) × RequestsRead records (length records) s r × (AreHeld r → ⊥))
+
+-- ---- The holders of seats
+
+-- what a seat is known by
+pub record SeatIndex : Type 0 where
+  pub pairing : List ℕ
+  pub seat : Seat
+
+abbrev pub row_of_held : SeatIndex → List ℕ → Row
+row_of_held at who = row_of_seat at.pairing at.seat who
+
+-- the pairing is there, and the holder is a member of the seat's kind
+pub record IsHeld (members : Crew) (pairings : fin.FinMap name_cmp Rostered) (at : SeatIndex) (who : List ℕ) : Type 0 where
+  pub rostered : Rostered
+  pub of_pairing : fin.get pairings at.pairing ≡ Some rostered
+  pub member : Member
+  pub of_member : fin.get members who ≡ Some member
+  pub of_kind : member.seat ≡ at.seat
+
+-- two pairings alike, but for who holds their seats; or none
+abbrev pub IsSamePlan : Option Rostered → Option Rostered → Type 0
+IsSamePlan None None = ⊤
+IsSamePlan (Some r) (Some q) = (q.plan ≡ r.plan) × (q.actuals ≡ r.actuals)
+IsSamePlan _ _ = ⊥
+
+-- the seats of so many first records are taken in a roster
+pub record SeatsRead (records : List SeatRecord) (count : ℕ) (old new : roster.State) : Type 0 where
+  pub same : new ≡ record old { pairings = new.pairings }
+  pub planned : (id : List ℕ) → IsSamePlan (fin.get old.pairings id) (fin.get new.pairings id)
+  pub rows : AreOnce row_of_held (map seat_row records) → (row : Row) → Has (take count (map seat_row records)) row ↔ InSeat new row
+  pub known : (id : List ℕ) (r : Rostered) (seat : Seat) → fin.get new.pairings id ≡ Some r → IsHolder old.crew seat (holder seat r)
+
+-- both seats of each flown pairing are held
+abbrev pub AreCrewed : roster.State → Type 0
+AreCrewed s = (id : List ℕ) (r : Rostered) → fin.get s.pairings id ≡ Some r → is_flown r ≡ true → is_fully_crewed r ≡ true
+
+-- no seat is held
+abbrev pub AreFree : roster.State → Type 0
+AreFree s = (id : List ℕ) (r : Rostered) → fin.get s.pairings id ≡ Some r → (r.captain ≡ None) × (r.first_officer ≡ None)
+
+-- some row is of no seat, or some flown pairing has a free one
+abbrev pub AreUnseated : List SeatRecord → roster.State → Type 0
+AreUnseated records s = HasStranger row_of_held (IsHeld s.crew s.pairings) (map seat_row records)
+    ⊎ ((r : roster.State) × SeatsRead records (length records) s r × (AreCrewed r → ⊥))
+
+-- ---- The book's own row
+
+-- all rows are that of this record
+abbrev pub IsOnly : List BookRecord → BookRecord → Type 0
+IsOnly records it = (row : Row) → Has (map book_row records) row ↔ (row ≡ book_row it)

@@ -9,6 +9,7 @@ mod plans;
 mod read_crew;
 mod read_grounds;
 mod read_requests;
+mod read_seats;
 mod records;
 mod store;
 mod transaction;
