@@ -1,5 +1,5 @@
 -- The table `seat`: what its records tell, and when it is right.
-use Rattle.std.proofs.Common.{◌≡◌, ◌⊎◌, ◌↔◌, inl, inr, refl, sym, ap, ap₂, subst, ◌∙◌, arith, ℕ, zero, suc, pos, true, false, Bool, ◌&&◌, List, [], ◌∷◌, ◌++◌, map, take, cond, slice_get, ◌+◌, length, Option, Some, None, Result, Ok, Err, MatchResult, Contains}
+use Rattle.std.proofs.Common.{◌≡◌, ◌⊎◌, ◌↔◌, inl, inr, refl, sym, ap, ap₂, subst, ◌∙◌, arith, ℕ, zero, suc, pos, true, false, not, Bool, ◌&&◌, ◌||◌, List, [], ◌∷◌, ◌++◌, map, take, cond, slice_get, ◌+◌, length, Option, Some, None, Result, Ok, Err, MatchResult, Contains}
 use Rattle.std.specs.FinMap as fin
 use Rattle.std.specs.List.{list_all}
 use Rattle.std.specs.Option.{option_map}
@@ -34,8 +34,11 @@ use Rattle.store.proofs.ReadCrew.{seat_known, number_known}
 use Rattle.store.proofs.SamePairings.{holder_told}
 use Rattle.store.proofs.Tests.{passes}
 use Rattle.store.proofs.Values.{text_is, number_is}
-use Rattle.store.specs.Reading.{seat_of, AreOnce, SeatIndex, SeatsRead, IsHeld, IsSamePlan, AreCrewed, AreFree, AreUnseated, row_of_held, TellsOf, HasStranger}
+use Rattle.store.specs.Reading.{seat_of, AreOnce, SeatIndex, SeatsRead, IsHeld, IsSamePlan, AreCrewed, AreFree, AreUnseated, Blames, row_of_held, TellsOf, HasStranger}
 use Rattle.store.specs.Rows.{InSeat, row_of_seat, seat_number}
+use Rattle.store.specs.declared.fault.LoadFault.{LoadFault}
+use Rattle.store.specs.declared.fault.LoadFault.TheVariants.{NotABook, Version, Damaged, Fault}
+use Rattle.store.specs.declared.fault.TableName.TheVariants as table_name
 use Rattle.store.specs.declared.read_seats.HeldSeat.{HeldSeat}
 
 -- ---- One record
@@ -64,15 +67,15 @@ module _ (members : Crew) (pairings : fin.FinMap name_cmp Rostered) (it : SeatRe
   pairing_there None e = absurd (cc)
   pairing_there (Some r) e = (r, refl)
 
-  pub tells : (seat : Seat) → seat_of it.seat ≡ Some seat → fin.contains_key pairings it.pairing ≡ true → (m : Member) × (fin.get members it.crew ≡ Some m) × (m.seat ≡ seat) →
-      Tells (Some (record { pairing = it.pairing; taken = record { seat = seat; crew = it.crew } }))
-  tells seat is_seat known m =
-      let r = pairing_there (fin.get pairings it.pairing) known in
+  pub tells : (pairing who : List ℕ) (seat : Seat) → pairing ≡ it.pairing → who ≡ it.crew → seat_of it.seat ≡ Some seat → fin.contains_key pairings pairing ≡ true →
+      (m : Member) × (fin.get members who ≡ Some m) × (m.seat ≡ seat) → Tells (Some (record { pairing = pairing; taken = record { seat = seat; crew = who } }))
+  tells pairing who seat is_pairing is_crew is_seat known m =
+      let r = pairing_there (fin.get pairings pairing) known in
       (
-        record { pairing = it.pairing; seat = seat },
-        it.crew,
+        record { pairing = pairing; seat = seat },
+        who,
         (refl, refl, refl),
-        ap (λ n. seat_row (record it { seat = n })) (number_known it.seat seat is_seat),
+        (λ i. seat_row (record { pairing = sym is_pairing i; seat = number_known it.seat seat is_seat i; crew = sym is_crew i })),
         record { rostered = r.0; of_pairing = r.1; member = m.0; of_member = m.1; of_kind = m.2 },
       )
 
@@ -296,3 +299,45 @@ module _ (test : Rostered → Bool) where
         λ all id r there. all_in items all (id, r) (subst (λ l. Contains l (id, r)) (sym same) (in_rows m id r there)),
         λ each. in_all items (λ row c. each row.0 row.1 (from_rows m row.0 row.1 (subst (λ l. Contains l row) same c))),
       )
+
+-- where it is flown, both its seats are held
+abbrev pub is_seated : Rostered → Bool
+is_seated r = not (is_flown r) || is_fully_crewed r
+
+seated_if : (flown crewed : Bool) → (not flown || crewed ≡ true) ↔ (flown ≡ true → crewed ≡ true)
+seated_if true crewed = (λ e _. e, λ f. f refl)
+seated_if false crewed = (λ _ e. absurd (cc), λ _. refl)
+
+pub all_crewed : (items : List (List ℕ × Rostered)) (s : State) → rows_of (λ (id : List ℕ). id) items ≡ fin.entries s.pairings → (list_all (λ e. is_seated e.1) items ≡ true) ↔ AreCrewed s
+all_crewed items s listed =
+    let pass = passes_all is_seated items s.pairings listed in
+    (
+      λ all id r here. (seated_if (is_flown r) (is_fully_crewed r)).0 (pass.0 all id r here),
+      λ crewed. pass.1 (λ id r here. (seated_if (is_flown r) (is_fully_crewed r)).1 (crewed id r here)),
+    )
+
+pub read_stranger : (fault : LoadFault) (records : List SeatRecord) (s : State) →
+    Blames table_name.Seat (HasStranger row_of_held (IsHeld s.crew s.pairings) (map seat_row records)) fault → Blames table_name.Seat (AreUnseated records s) fault
+read_stranger NotABook records s blame = blame
+read_stranger Version records s blame = blame
+read_stranger (Damaged other) records s blame = (blame.0, inl blame.1)
+read_stranger (Fault fault) records s blame = blame
+
+pub not_all_crewed : (records : List SeatRecord) (s t : State) → SeatsRead records (length records) s t → (AreCrewed t → ⊥) → AreUnseated records s
+not_all_crewed records s t read none = inr (t, read, none)
+
+-- the rest of some pairings, after one
+module _ {I : Type 0} (items rest : List (I × Rostered)) (i : I) (r : Rostered) (P : Type 0) (steps : items ≡ (i, r) ∷ rest)
+    (all : (list_all (λ e. is_seated e.1) items ≡ true) ↔ P) where
+  first : list_all (λ (e : I × Rostered). is_seated e.1) items ≡ (is_seated r && list_all (λ (e : I × Rostered). is_seated e.1) rest)
+  first = ap (list_all (λ (e : I × Rostered). is_seated e.1)) steps
+
+  pub falls : is_seated r ≡ false → (false ≡ true) ↔ P
+  falls none =
+      let no : list_all (λ (e : I × Rostered). is_seated e.1) items ≡ false = first ∙ ap (λ b. b && list_all (λ (e : I × Rostered). is_seated e.1) rest) none in
+      (λ e. absurd (cc), λ p. sym no ∙ all.1 p)
+
+  pub stands : is_seated r ≡ true → (list_all (λ e. is_seated e.1) rest ≡ true) ↔ P
+  stands is =
+      let same : list_all (λ (e : I × Rostered). is_seated e.1) items ≡ list_all (λ (e : I × Rostered). is_seated e.1) rest = first ∙ ap (λ b. b && list_all (λ (e : I × Rostered). is_seated e.1) rest) is in
+      (λ e. all.0 (same ∙ e), λ p. sym same ∙ all.1 p)

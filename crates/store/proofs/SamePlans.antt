@@ -7,15 +7,14 @@ use Rattle.sqlite.specs.Effect.{Database}
 use Rattle.duty.specs.Plans.{ActualTimes}
 use Rattle.roster.specs.State.{State}
 use Rattle.roster.specs.declared.state.Rostered.{Rostered}
-use Rattle.tables.specs.Schema.{BookTable}
 use Rattle.store.specs.Loading.{IsCrewRight, IsPlanned, IsSegmentRight}
-use Rattle.store.specs.Rows.{HasJust, InPeriod, InSegment, row_of_pairing}
+use Rattle.store.specs.Rows.{TableName, table, HasJust, pairing, period, segment, row_of_pairing}
 use Rattle.store.proofs.SamePairings.{Planned, SamePlan, same_plan}
 use Rattle.store.proofs.SameStates.{crew_told}
 use Rattle.store.proofs.Values.{text_is}
 
 -- what one has another has too, if both have just the rows of a table
-pub told : (it : BookTable) (db : Database) (P Q : Row → Type 0) → HasJust it db P → HasJust it db Q → (row : Row) → P row → Q row
+pub told : (it : TableName) (db : Database) (P Q : Row → Type 0) → HasJust (table it) db P → HasJust (table it) db Q → (row : Row) → P row → Q row
 told it db P Q p q row is = (q row).0 ((p row).1 is)
 
 of_planned : (id : List ℕ) (r : Rostered) → IsPlanned id r → Planned id r
@@ -32,12 +31,12 @@ module _ (s t : State) (db : Database) (a : IsSegmentRight s db) (b : IsSegmentR
   beside id r here =
       let crew_and_pairings = a.0.0 in
       let its = b.0.0 in
-      let x = told _ db _ _ crew_and_pairings.1.1 its.1.1 (row_of_pairing id) (record { name = id; value = r; there = here }, refl) in
+      let x = told pairing db _ _ crew_and_pairings.1.1 its.1.1 (row_of_pairing id) (record { name = id; value = r; there = here }, refl) in
       let same_id : id ≡ x.0.name = text_is (ap (λ (row : Row). column row 0) x.1) in
       let there : fin.get t.pairings id ≡ Some x.0.value = ap (fin.get t.pairings) same_id ∙ x.0.there in
       record {
         other = x.0.value;
         there = there;
         same = same_plan s t id r x.0.value here there (of_planned id r (a.3 id r here)) (of_planned id x.0.value (b.3 id x.0.value there))
-        (told _ db _ _ a.1 b.1) (told _ db _ _ b.1 a.1) (told _ db _ _ a.2.1 b.2.1) (told _ db _ _ b.2.1 a.2.1);
+        (told period db _ _ a.1 b.1) (told period db _ _ b.1 a.1) (told segment db _ _ a.2.1 b.2.1) (told segment db _ _ b.2.1 a.2.1);
       }

@@ -21,7 +21,7 @@ use Rattle.roster.specs.declared.state.Rostered.{Rostered}
 use Rattle.tables.proofs.KeyLemmas.{seat_once}
 use Rattle.tables.specs.Calls.{LeavesNothing}
 use Rattle.tables.specs.Records.{IsSeatRow, seat_row}
-use Rattle.tables.specs.Rows.{begins_with}
+use Rattle.tables.specs.Rows.{begins_with, rows_of}
 use Rattle.tables.specs.declared.seat.SeatRecord.{SeatRecord}
 use Rattle.store.proofs.Ascii.{id_utf8}
 use Rattle.store.proofs.Lists.{one_value, same_option}
@@ -34,7 +34,7 @@ use Rattle.store.proofs.Telling.{unread, of_blame, clean_before}
 use Rattle.store.proofs.Tests.{passes}
 use Rattle.store.specs.Loading.{IsPlanned, IsSegmentRight, IsSeatRight, AreRight, IsDamaged, Says}
 use Rattle.store.specs.Reading.{AreOnce, SeatIndex, SeatsRead, IsHeld, IsSamePlan, AreCrewed, AreUnseated, row_of_held, Saw, Blames, HasRows, IsUnreadable, IsReadTo, HasStranger}
-use Rattle.store.specs.Rows.{InPairing, InPeriod, InSegment, InSeat, seat_number, seat, segment}
+use Rattle.store.specs.Rows.{table, crew, InPairing, InPeriod, InSegment, InSeat, seat_number, seat, segment}
 use Rattle.store.specs.declared.fault.LoadFault.{LoadFault}
 use Rattle.store.specs.declared.fault.TableName.TheVariants as table_name
 
@@ -189,7 +189,7 @@ module _ (s : State) (db : Database) (above : IsReadTo segment s db) where
         rostered = here.other;
         of_pairing = here.there;
         member = m.0;
-        of_member = crew_told right.0 s (told _ db _ _ right.1.0.0.0.0.1.1 above.right.0.0.0.1.1) held.crew m.0 m.1;
+        of_member = crew_told right.0 s (told crew db _ _ right.1.0.0.0.0.1.1 above.right.0.0.0.1.1) held.crew m.0 m.1;
         of_kind = m.2;
       })
 
@@ -202,7 +202,7 @@ module _ (s : State) (db : Database) (above : IsReadTo segment s db) where
     just_these : (row : Row) → Has (map seat_row records) row ↔ InSeat t row
     just_these row = subst (λ l. Has l row ↔ InSeat t row) (all_taken seat_row records) (seats.rows (seats_once (map seat_row records) read) row)
 
-    in_table : (row : Row) → Has _ row ↔ InSeat t row
+    in_table : (row : Row) → Has (rows_of (table seat) db) row ↔ InSeat t row
     in_table row = (λ h. (just_these row).0 ((read.all row).0 h), λ x. (read.all row).1 ((just_these row).1 x))
 
     -- if each flown pairing is crewed in any state with these rows, it is here

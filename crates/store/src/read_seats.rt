@@ -1,10 +1,11 @@
 //! The table `seat`, as it is loaded.
 
-ghost use Rattle.std.specs.Prelude.{◌≡◌, length, map, true, IfOk, IsTrue, ◌↔◌, MatchResult, Some};
+ghost use Rattle.std.specs.Prelude.{◌≡◌, ◌||◌, not, length, map, true, IfOk, IsTrue, ◌↔◌, MatchResult, Some};
 ghost use Rattle.std.specs.FinMap as fin;
 ghost use Rattle.sqlite.specs.Held.{state};
 ghost use Rattle.sqlite.specs.State.{HasCleanDisk};
 ghost use Rattle.command.specs.declared.member.Member.{Member as MemberOf};
+ghost use Rattle.roster.specs.Pairings.{is_flown, is_fully_crewed};
 ghost use Rattle.tables.specs.Records.{seat_row, IsSeatRow};
 ghost use Rattle.store.specs.Loading.{Says};
 ghost use Rattle.store.specs.Reading.{AreCrewed, AreFree, AreUnseated, IsHeld, SeatsRead, row_of_held, Saw, HasRows, IsUnreadable, Blames, IsReadTo, TellsOf, HasStranger};
@@ -82,6 +83,7 @@ fn takes(roster: &Roster, crew: &CrewId, seat: Seat) -> bool
 }
 
 /// The seat that a record tells of, if it tells of one of a pairing, held by a member who takes such seats.
+#[tactic(auto, using(crate::proofs::ReadSeats::no_seat, crate::proofs::ReadSeats::no_pairing, crate::proofs::ReadSeats::no_holder))]
 fn held_seat_of(
     alloc: Global,
     roster: &Roster,
@@ -117,24 +119,36 @@ fn take_seats(
 {
     let mut roster = roster;
     for row in records {
-        let Some(held) = held_seat_of(alloc, &roster, row)? else {
+        let Some(HeldSeat { pairing, taken }) = held_seat_of(alloc, &roster, row)? else {
             return Err(LoadFault::Damaged(TableName::Seat));
         };
-        roster.pairings.edit(&held.pairing, held.taken);
+        roster.pairings.edit(&pairing, taken);
     }
     Ok(roster)
 }
 
+/// Whether both seats of a pairing are held, if it is flown.
+fn is_seated(rostered: &Rostered) -> bool
+    ensures { result ≡ not (is_flown rostered.now) || is_fully_crewed rostered.now }
+{
+    !rostered.is_flown() || rostered.captain.is_some() && rostered.first_officer.is_some()
+}
+
 /// Whether both seats of each flown pairing are held.
+#[tactic(auto, using(crate::proofs::ReadSeats::all_crewed))]
 fn are_crewed(roster: &Roster) -> bool
     ensures { IsTrue result ↔ AreCrewed roster.now }
 {
-    roster.pairings.iter().all(|(_, rostered)| {
-        !rostered.is_flown() || rostered.captain.is_some() && rostered.first_officer.is_some()
-    })
+    for (_, rostered) in roster.pairings.iter() {
+        if !is_seated(rostered) {
+            return false;
+        }
+    }
+    true
 }
 
 /// Puts the members into the seats that the records tell of, where that leaves no flown pairing with a free seat.
+#[tactic(auto, using(crate::proofs::ReadSeats::read_stranger, crate::proofs::ReadSeats::not_all_crewed))]
 fn seat_all(alloc: Global, roster: Roster, records: &[SeatRecord]) -> Result<Roster, LoadFault>
     requires { AreFree roster }
     ensures { MatchResult result (λ r. SeatsRead records.now (length records.now) roster r × AreCrewed r) (Blames table_name.Seat (AreUnseated records.now roster)) }
