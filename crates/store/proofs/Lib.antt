@@ -30,3 +30,4 @@ pub mod PlanLemmas
 pub mod SamePlans
 pub mod ReadSeats
 pub mod SeatTable
+pub mod ReadBook

@@ -1,5 +1,5 @@
 -- What the functions that load a book say to one another. No public clause names these.
-use Rattle.std.specs.Prelude.{◌≡◌, ◌⊎◌, ◌↔◌, ⊤, true, ℕ, zero, suc, List, [], map, take, length, Option, None, Some, Result, MatchResult}
+use Rattle.std.specs.Prelude.{◌≡◌, ◌⊎◌, ◌↔◌, ⊤, true, false, pos, IsUtf8, ℕ, zero, suc, List, [], map, take, length, Option, None, Some, Result, MatchResult}
 use Rattle.std.specs.FinMap as fin
 use Rattle.values.specs.Name.{name_cmp}
 use Rattle.sqlite_value.specs.Order.{Row}
@@ -28,6 +28,8 @@ use Rattle.store.specs.Rows.{TableName, table, row_of_member, row_of_seat, row_o
 use Rattle.store.specs.declared.fault.LoadFault.{LoadFault}
 use Rattle.store.specs.declared.fault.LoadFault.TheVariants.{NotABook, Damaged, Version, Fault}
 use Rattle.store.specs.declared.fault.TableName as name
+use Rattle.store.specs.declared.fault.TableName.TheVariants as its
+use Rattle.time117.specs.Local.{is_zone_text}
 
 -- what a call comes to that reads the database: what its answer tells, or why it was refused
 pub record Saw {A : Type 0} (Is : A → Type 0) (Refuses : LoadFault → Type 0) (old new : State) (result : Result A LoadFault) : Type 0 where
@@ -159,5 +161,20 @@ AreUnseated records s = HasStranger row_of_held (IsHeld s.crew s.pairings) (map 
 -- ---- The book's own row
 
 -- all rows are that of this record
-abbrev pub IsOnly : List BookRecord → BookRecord → Type 0
-IsOnly records it = (row : Row) → Has (map book_row records) row ↔ (row ≡ book_row it)
+pub record IsOnly (records : List BookRecord) (it : BookRecord) : Type 0 where
+  pub all : (row : Row) → Has (map book_row records) row ↔ (row ≡ book_row it)
+
+-- the row of a book with this zone, as this version writes it
+abbrev pub book_of : List ℕ → BookRecord
+book_of zone = record { one = pos 1; version = pos 1; zone = zone }
+
+-- there are not just rows of one record, or that one is of this version and not of a book
+abbrev pub IsNoBookRow : List BookRecord → Type 0
+IsNoBookRow records = (it : BookRecord) → IsOnly records it → (it.version ≡ pos 1) × (it.one ≡ pos 1 → is_zone_text it.zone ≡ false)
+
+-- why the records are refused: the one of them is of another version, or there is no row of a book
+abbrev pub BlamesBook : List BookRecord → LoadFault → Type 0
+BlamesBook records NotABook = ⊥
+BlamesBook records Version = (it : BookRecord) × IsOnly records it × IsUtf8 it.zone × ¬ (it.version ≡ pos 1)
+BlamesBook records (Damaged other) = (other ≡ its.Book) × IsNoBookRow records
+BlamesBook records (Fault fault) = ⊤

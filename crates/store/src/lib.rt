@@ -6,6 +6,7 @@ mod laws;
 mod making;
 mod plan_rows;
 mod plans;
+mod read_book;
 mod read_crew;
 mod read_grounds;
 mod read_requests;
