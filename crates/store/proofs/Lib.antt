@@ -31,3 +31,4 @@ pub mod SamePlans
 pub mod ReadSeats
 pub mod SeatTable
 pub mod ReadBook
+pub mod Loads

@@ -142,6 +142,7 @@ module _ (db : Database) (there : IsNoBook db → ⊥) where
 
     pub right : (r : State) → r ≡ empty r.zone → IsOnly records (book_of r.zone) → is_zone_text r.zone ≡ true → IsReadTo book r db
     right r is only zone = record {
+      stored = (read.stored, tt);
       book = there;
       version = λ other. other.other (ap (λ (x : BookRecord). x.version) (only_one records other.it (book_of r.zone) (told_only other.it other.one_row) only));
       right = ((read.there, only_rows db records (book_of r.zone) read only), zone);

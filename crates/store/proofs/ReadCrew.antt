@@ -135,6 +135,7 @@ module _ (s : State) (db : Database) (above : IsReadTo book s db) where
   right rows t read same mapped =
       let map = mapped (members_once rows read) in
       record {
+        stored = (read.stored, above.stored);
         book = above.book;
         version = above.version;
         right = (

@@ -217,6 +217,7 @@ module _ (s : State) (db : Database) (above : IsReadTo seat s db) where
   right rows t read same mapped =
       let map = mapped (grounds_once rows read) in
       record {
+        stored = (read.stored, above.stored);
         book = above.book;
         version = above.version;
         right = (

@@ -179,6 +179,7 @@ module _ (s : State) (db : Database) (above : IsReadTo exceedance s db) where
   kept_requests rows t read same mapped held =
       let map = mapped (requests_once rows read) in
       record {
+        stored = (read.stored, above.stored);
         book = above.book;
         version = above.version;
         right = (

@@ -222,6 +222,7 @@ module _ (s : State) (db : Database) (above : IsReadTo segment s db) where
 
     pub right : AreCrewed t → IsReadTo seat t db
     right crewed = record {
+      stored = (read.stored, above.stored);
       book = above.book;
       version = above.version;
       right = (

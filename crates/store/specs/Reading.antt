@@ -1,6 +1,7 @@
 -- What the functions that load a book say to one another. No public clause names these.
-use Rattle.std.specs.Prelude.{◌≡◌, ◌⊎◌, ◌↔◌, ⊤, true, false, pos, IsUtf8, ℕ, zero, suc, List, [], map, take, length, Option, None, Some, Result, MatchResult}
+use Rattle.std.specs.Prelude.{◌≡◌, ◌⊎◌, ◌↔◌, ⊤, true, false, pos, IsUtf8, ℕ, zero, suc, List, [], ◌∷◌, map, take, length, Option, None, Some, Result, MatchResult}
 use Rattle.std.specs.FinMap as fin
+use Rattle.std.specs.List.{AllByRecursion}
 use Rattle.values.specs.Name.{name_cmp}
 use Rattle.sqlite_value.specs.Order.{Row}
 use Rattle.sqlite_rules.specs.Lists.{Has}
@@ -24,7 +25,7 @@ use Rattle.tables.specs.declared.ground.GroundRecord.{GroundRecord}
 use Rattle.tables.specs.declared.request.RequestRecord.{RequestRecord}
 use Rattle.tables.specs.declared.seat.SeatRecord.{SeatRecord}
 use Rattle.store.specs.Loading.{IsMember, IsGround, IsRequest, AreHeld, IsRight, IsNoBook, IsOfOtherVersion, Says}
-use Rattle.store.specs.Rows.{TableName, table, row_of_member, row_of_seat, row_of_ground, row_of_request, InSeat}
+use Rattle.store.specs.Rows.{TableName, book, crew, pairing, period, segment, seat, ground_duty, exceedance, request, table, row_of_member, row_of_seat, row_of_ground, row_of_request, InSeat}
 use Rattle.store.specs.declared.fault.LoadFault.{LoadFault}
 use Rattle.store.specs.declared.fault.LoadFault.TheVariants.{NotABook, Damaged, Version, Fault}
 use Rattle.store.specs.declared.fault.TableName as name
@@ -54,8 +55,21 @@ Blames it Why Version = ⊥
 Blames it Why (Damaged other) = (other ≡ it) × Why
 Blames it Why (Fault fault) = ⊤
 
--- the book is of this version, and its tables down to one are right
+-- the tables down to one, the last first
+abbrev pub down_to : TableName → List TableName
+down_to book = book ∷ []
+down_to crew = crew ∷ book ∷ []
+down_to pairing = pairing ∷ crew ∷ book ∷ []
+down_to period = period ∷ pairing ∷ crew ∷ book ∷ []
+down_to segment = segment ∷ period ∷ pairing ∷ crew ∷ book ∷ []
+down_to seat = seat ∷ segment ∷ period ∷ pairing ∷ crew ∷ book ∷ []
+down_to ground_duty = ground_duty ∷ seat ∷ segment ∷ period ∷ pairing ∷ crew ∷ book ∷ []
+down_to exceedance = exceedance ∷ ground_duty ∷ seat ∷ segment ∷ period ∷ pairing ∷ crew ∷ book ∷ []
+down_to request = request ∷ exceedance ∷ ground_duty ∷ seat ∷ segment ∷ period ∷ pairing ∷ crew ∷ book ∷ []
+
+-- the book is of this version, and its tables down to one are right, with each row under a number of its own
 pub record IsReadTo (it : TableName) (s : roster.State) (db : Database) : Type 0 where
+  pub stored : AllByRecursion (λ name. IsStored (table name) db) (down_to it)
   pub book : ¬ IsNoBook db
   pub version : ¬ IsOfOtherVersion db
   pub right : IsRight it s db
@@ -178,3 +192,9 @@ BlamesBook records NotABook = ⊥
 BlamesBook records Version = (it : BookRecord) × IsOnly records it × IsUtf8 it.zone × ¬ (it.version ≡ pos 1)
 BlamesBook records (Damaged other) = (other ≡ its.Book) × IsNoBookRow records
 BlamesBook records (Fault fault) = ⊤
+
+-- ---- A roster of plans
+
+-- nothing but members and pairings is known
+abbrev pub HasNoDuties : roster.State → Type 0
+HasNoDuties s = (s.grounds ≡ fin.empty) × (s.exceedances ≡ fin.empty) × (s.requests ≡ fin.empty)

@@ -3,12 +3,15 @@
 
 mod fault;
 mod laws;
+mod loading;
 mod making;
 mod plan_rows;
 mod plans;
 mod read_book;
 mod read_crew;
 mod read_grounds;
+mod read_exceedances;
+mod read_plans;
 mod read_requests;
 mod read_seats;
 mod records;

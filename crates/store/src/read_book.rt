@@ -1,6 +1,6 @@
 //! The book's own row, as it is loaded.
 
-ghost use Rattle.std.specs.Prelude.{◌≡◌, ◌↔◌, ℕ, List, map, true, IsTrue, MatchOption, MatchResult};
+ghost use Rattle.std.specs.Prelude.{◌≡◌, ◌↔◌, ℕ, List, map, true, IfOk, IsTrue, MatchOption, MatchResult};
 ghost use Rattle.std.specs.Option.{option_copied};
 ghost use Rattle.sqlite.specs.Held.{state};
 ghost use Rattle.time117.specs.Local.{is_zone_text};
@@ -96,7 +96,8 @@ pub(crate) fn read_book<S: Alter>(
     alloc: Global,
     conn: &mut Connection<S>,
 ) -> Result<Roster, LoadFault>
-    ensures { Saw (λ r. IsReadTo book r (state S.Store conn.old).now × (r ≡ empty r.zone)) (λ fault. Says fault (state S.Store conn.old).now) (state S.Store conn.old) (state S.Store conn.new) result }
+    ensures read { Saw (λ r. IsReadTo book r (state S.Store conn.old).now × (r ≡ empty r.zone)) (λ fault. Says fault (state S.Store conn.old).now) (state S.Store conn.old) (state S.Store conn.new) result }
+    ensures rest { IfOk result (λ r. r ≡ empty r.zone) }
 {
     if !has_table(conn, "book") {
         return Err(LoadFault::NotABook);

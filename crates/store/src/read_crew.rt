@@ -98,7 +98,8 @@ pub(crate) fn read_crew<S: Alter>(
 ) -> Result<Roster, LoadFault>
     requires none { roster.crew ≡ fin.empty }
     requires above { HasCleanDisk (state S.Store conn.old) → IsReadTo book roster (state S.Store conn.old).now }
-    ensures { Saw (λ r. IsReadTo crew r (state S.Store conn.old).now × (r ≡ record roster { crew = r.crew })) (λ fault. Says fault (state S.Store conn.old).now) (state S.Store conn.old) (state S.Store conn.new) result }
+    ensures read { Saw (λ r. IsReadTo crew r (state S.Store conn.old).now × (r ≡ record roster { crew = r.crew })) (λ fault. Says fault (state S.Store conn.old).now) (state S.Store conn.old) (state S.Store conn.new) result }
+    ensures rest { IfOk result (λ r. r ≡ record roster { crew = r.crew }) }
 {
     let records = crew_records(alloc, conn)?;
     add_members(alloc, roster, &records)

@@ -95,7 +95,8 @@ pub(crate) fn read_grounds<S: Alter>(
 ) -> Result<Roster, LoadFault>
     requires none { roster.grounds ≡ fin.empty }
     requires above { HasCleanDisk (state S.Store conn.old) → IsReadTo seat roster (state S.Store conn.old).now }
-    ensures { Saw (λ r. IsReadTo ground_duty r (state S.Store conn.old).now × (r ≡ record roster { grounds = r.grounds })) (λ fault. Says fault (state S.Store conn.old).now) (state S.Store conn.old) (state S.Store conn.new) result }
+    ensures read { Saw (λ r. IsReadTo ground_duty r (state S.Store conn.old).now × (r ≡ record roster { grounds = r.grounds })) (λ fault. Says fault (state S.Store conn.old).now) (state S.Store conn.old) (state S.Store conn.new) result }
+    ensures rest { IfOk result (λ r. r ≡ record roster { grounds = r.grounds }) }
 {
     let records = ground_records(alloc, conn)?;
     add_grounds(alloc, roster, &records)

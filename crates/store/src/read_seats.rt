@@ -168,7 +168,8 @@ pub(crate) fn read_seats<S: Alter>(
 ) -> Result<Roster, LoadFault>
     requires free { AreFree roster }
     requires above { HasCleanDisk (state S.Store conn.old) → IsReadTo segment roster (state S.Store conn.old).now }
-    ensures { Saw (λ r. IsReadTo seat r (state S.Store conn.old).now × (r ≡ record roster { pairings = r.pairings })) (λ fault. Says fault (state S.Store conn.old).now) (state S.Store conn.old) (state S.Store conn.new) result }
+    ensures read { Saw (λ r. IsReadTo seat r (state S.Store conn.old).now × (r ≡ record roster { pairings = r.pairings })) (λ fault. Says fault (state S.Store conn.old).now) (state S.Store conn.old) (state S.Store conn.new) result }
+    ensures rest { IfOk result (λ r. r ≡ record roster { pairings = r.pairings }) }
 {
     let records = seat_records(alloc, conn)?;
     seat_all(alloc, roster, &records)

@@ -7,8 +7,8 @@ use Rattle.store.specs.declared.fault.LoadFault.{LoadFault}
 use Rattle.store.proofs.ReadCrew.{Now, not_read, is_read}
 use Rattle.store.proofs.read_crew.read_crew.Goals as goal
 
-pub returns-in_err-records : goal.returns-in_err-records
-returns-in_err-records g c =
+pub returns-in_err-records-clause-read : goal.returns-in_err-records-clause-read
+returns-in_err-records-clause-read g c =
     let old = state g.S.Store c.args.conn.now in
     let new = state g.S.Store c.crew_records.new.conn in
     let fault = c.in_err-records.field-0.0 in
@@ -16,7 +16,7 @@ returns-in_err-records g c =
     subst (λ (r : Result State LoadFault). Saw (Now c.args.roster old new c.requires.above) (λ f. Says f old.now) old new r) (sym is)
     (not_read c.args.roster old new c.requires.above fault c.in_err-records.ensures.told c.crew_records.ensures.left)
 
-pub returns : goal.returns
-returns g c =
+pub returns-clause-read : goal.returns-clause-read
+returns-clause-read g c =
     is_read c.args.roster (state g.S.Store c.args.conn.now) (state g.S.Store c.crew_records.new.conn) c.requires.above c.in_ok-records.records.items c.deref.result.now c.add_members.result c.deref.ensures.value
     c.in_ok-records.ensures.told c.crew_records.ensures.left c.add_members.ensures
