@@ -7,6 +7,7 @@ mod making;
 mod plan_rows;
 mod plans;
 mod read_crew;
+mod read_exceedances;
 mod read_grounds;
 mod read_requests;
 mod records;
