@@ -24,6 +24,7 @@ pub mod Telling
 pub mod ReadCrew
 pub mod Ascii
 pub mod ReadGrounds
+pub mod ReadExceedances
 pub mod ReadRequests
 pub mod PlanKeys
 pub mod PlanLemmas

@@ -1,5 +1,5 @@
 -- The table `ground`: what its records tell, and when it is right.
-use Rattle.std.proofs.Common.{◌≡◌, ◌⊎◌, inl, inr, refl, sym, ap, subst, ◌∙◌, arith, ℕ, ◌<◌, ◌^◌, true, false, List, [], ◌∷◌, map, take, slice_get, ◌+◌, length, nat_lt, Option, Some, None, Result, Ok, Err, MatchResult, IsUtf8}
+use Rattle.std.proofs.Common.{◌≡◌, inl, inr, refl, sym, ap, subst, ◌∙◌, arith, ℕ, ◌<◌, ◌^◌, true, false, List, [], ◌∷◌, map, take, slice_get, ◌+◌, length, Option, Some, None, Result, Ok, Err, MatchResult, IsUtf8}
 use Rattle.std.specs.FinMap as fin
 use Rattle.std.specs.Prelude.{is_some}
 use Rattle.std.proofs.lemmas.Bool.{cases_Bool}
@@ -92,8 +92,7 @@ module _ (members : Crew) (it : GroundRecord) where
       checked (ground_fault told_plan) told_plan ≡ Ok g → Tells (Some (entry.Ground g))
   tells g begin end known utf8 made =
       let free = fault_free (ground_fault told_plan) told_plan g made in
-      let member = member_there (fin.get members it.crew) known in
-      (
+      let member = member_there (fin.get members it.crew) known in (
         it.id,
         told_plan,
         ap entry.Ground (sym free.1),
@@ -143,7 +142,7 @@ number_fits : (n : ℕ) → is_instant n ≡ true → n < 2 ^ 32
 number_fits n e = grind (arith, nat_tests)
 
 -- a ground duty is known by the same parts
-members_same : (s t : State) (db : Database) → IsCrewRight s db → IsCrewRight t db → (who : List ℕ) (m : Member) → fin.get t.crew who ≡ Some m → fin.get s.crew who ≡ Some m
+pub members_same : (s t : State) (db : Database) → IsCrewRight s db → IsCrewRight t db → (who : List ℕ) (m : Member) → fin.get t.crew who ≡ Some m → fin.get s.crew who ≡ Some m
 members_same s t db a b who m e = crew_told t s (λ row it. (a.1.1 row).0 ((b.1.1 row).1 it)) who m e
 
 known_here : (s t : State) (db : Database) → IsCrewRight s db → IsCrewRight t db → (id : List ℕ) (g : GroundPlan) → IsGround t.crew id g → IsGround s.crew id g
@@ -162,9 +161,9 @@ ground_shapes : (g : GroundPlan) → ground_fault g ≡ None → (is_id g.id ≡
 unfolding ground_fault
 ground_shapes g e = elim (cases_Bool (is_id g.id)) [
   | inl first ↦ elim (cases_Bool (is_id g.crew)) [
-      | inl second ↦ (first, second)
-      | inr other ↦ absurd (let f = rw (first, other) at e in cc)
-    ]
+    | inl second ↦ (first, second)
+    | inr other ↦ absurd (let f = rw (first, other) at e in cc)
+  ]
   | inr other ↦ absurd (let f = rw other at e in cc)
 ]
 
@@ -190,7 +189,7 @@ itself : (id : List ℕ) (g : GroundPlan) → begins_with (Text id ∷ []) (row_
 itself id g = passes (Text id ∷ []) (row_of_ground id g) (refl, tt)
 
 -- the members of a roster that is read down to the seats
-crew_part : (s : State) (db : Database) → IsSeatRight s db → IsCrewRight s db
+pub crew_part : (s : State) (db : Database) → IsSeatRight s db → IsCrewRight s db
 crew_part s db right = right.0.0.0.0
 
 module _ (s : State) (db : Database) (above : IsReadTo seat s db) where

@@ -1,12 +1,12 @@
 -- The table `request`: what its records tell, and when it is right.
-use Rattle.std.proofs.Common.{◌≡◌, ◌⊎◌, inl, inr, refl, sym, ap, subst, ◌∙◌, arith, ℕ, pos, ℤ, ◌<◌, ◌≤◌, ◌^◌, true, false, List, [], ◌∷◌, ◌++◌, append_assoc, ◌↔◌, Bool, map, take, slice_get, ◌+◌, length, Option, Some, None, Result, Ok, Err, MatchResult, MatchOption, IsUtf8}
+use Rattle.std.proofs.Common.{◌≡◌, inl, inr, refl, sym, ap, subst, ◌∙◌, arith, ℕ, pos, ◌≤◌, true, List, [], ◌∷◌, ◌++◌, append_assoc, ◌↔◌, Bool, map, take, slice_get, ◌+◌, length, Option, Some, None, Result, Ok, Err, MatchResult, IsUtf8}
 use Rattle.std.specs.FinMap as fin
 use Rattle.std.specs.List.{list_all}
+use Rattle.std.specs.Prelude.{is_some}
 use Rattle.std.specs.Ordering.{eq_by_cmp}
 use Rattle.std.proofs.lemmas.Bool.{and_parts, and_from, cases_Bool}
 use Rattle.values.proofs.Names as names
 use Rattle.values.proofs.Names.{alike}
-use Rattle.roster.proofs.Records.{names_same}
 use Rattle.roster.specs.declared.state.ExceedanceId.{ExceedanceId}
 use Rattle.roster.specs.declared.state.PeriodId.{PeriodId}
 use Rattle.values.specs.Name.{name_cmp, rows_of}
@@ -16,6 +16,7 @@ use Rattle.sqlite_rules.specs.Lists.{Has}
 use Rattle.sqlite.specs.Effect.{Database}
 use Rattle.sqlite.specs.State.{HasCleanDisk, IsUnchanged}
 use Rattle.sqlite.specs.State as conn
+use Rattle.limits.specs.declared.section.Section.{Section}
 use Rattle.command.specs.Keys.{KeyParts, key_name}
 use Rattle.command.specs.declared.exceedance.Reply.{Reply}
 use Rattle.command.specs.declared.order.Order.{Order}
@@ -38,7 +39,7 @@ use Rattle.tables.specs.Rows.{begins_with}
 use Rattle.tables.specs.declared.request.RequestRecord.{RequestRecord}
 use Rattle.store.proofs.Mapping.{all_taken, nothing_mapped, next_mapped, mapped_at, mapped_place}
 use Rattle.store.proofs.Tests.{passes}
-use Rattle.store.proofs.Values.{text_is, number_is}
+use Rattle.store.proofs.Values.{ids_same, int_is, text_is, number_is}
 use Rattle.store.proofs.Telling.{unread, of_blame, clean_before}
 use Rattle.store.specs.Loading.{IsKey, IsRequest, name_of, IsRight, AreRight, AreHeld, IsDamaged, Says}
 use Rattle.store.specs.Reading.{AreWanting, RequestsRead, Saw, Blames, HasRows, IsUnreadable, IsReadTo, Mapped, AreOnce, TellsOf, HasStranger}
@@ -46,9 +47,6 @@ use Rattle.store.specs.declared.fault.LoadFault.{LoadFault}
 use Rattle.store.specs.declared.fault.LoadFault.TheVariants.{NotABook, Damaged, Version, Fault}
 use Rattle.store.specs.declared.fault.TableName.TheVariants as table_name
 use Rattle.store.specs.Rows.{RequestAt, ExceedanceAt, row_of_request, row_of_exceedance, request, exceedance}
-
-int_is : {a b : ℤ} → Int a ≡ Int b → a ≡ b
-int_is e = cc
 
 -- ---- Texts
 
@@ -59,7 +57,7 @@ ok_same e = cc
 pub not_kept : (text : List ℕ) (fault : CodecFault) → read_kept text ≡ Err fault → (order : Order) → IsCommand order → kept_text order ≡ text → ⊥
 not_kept text fault failed order is same = absurd (let f = sym failed ∙ ap read_kept (sym same) ∙ kept_back order is.0 is.1 in cc)
 
--- nor is one that its command is kept otherwise than as
+-- nor is one from which a command is read that is kept as another text
 pub kept_otherwise : (text : List ℕ) (command : Order) → read_kept text ≡ Ok command → (kept_text command ≡ text → ⊥) → (order : Order) → IsCommand order → kept_text order ≡ text → ⊥
 kept_otherwise text command read other order is same =
     let one : order ≡ command = ok_same (sym (kept_back order is.0 is.1) ∙ ap read_kept same ∙ read) in
@@ -197,11 +195,6 @@ module _ (s : State) (db : Database) (above : IsReadTo exceedance s db) where
 
 -- ---- That each exceedance has its request
 
-ids_same : (a b : ExceedanceId) → name_of a ≡ name_of b → a ≡ b
-ids_same a b e =
-    let parts = names_same a.key b.key a.crew b.crew a.section b.section e in
-    λ i. record { key = parts.0 i; crew = parts.1 i; section = parts.2 i }
-
 tied_itself : (q : List ℕ) → eq_by_cmp name_cmp q q ≡ true
 tied_itself q = names.itself q q refl
 
@@ -246,25 +239,61 @@ module _ (test : ExceedanceId → Bool) where
     λ each. all_pass [] items (λ id p found. each id p (fin.get-entries m (name_of id) ∙ ap (fin.find name_cmp (name_of id)) (sym listed) ∙ found)),
   )
 
+is_there : {V : Type 0} (o : Option V) → is_some o ≡ true → (v : V) × (o ≡ Some v)
+is_there None e = absurd (cc)
+is_there (Some v) e = (v, refl)
+
+-- each exceedance has its request where all that are listed have
+pub held_if : (s : State) (items : Listed) → rows_of name_of items ≡ fin.entries s.exceedances → (all : Bool) →
+    all ≡ list_all (λ (x : ExceedanceId × PeriodId). fin.contains_key s.requests (key_name x.0.key)) items → (all ≡ true) ↔ AreHeld s
+held_if s items listed all is =
+    let both = passes_all (λ id. fin.contains_key s.requests (key_name id.key)) items s.exceedances listed in (
+      λ yes id p there. is_there (fin.get s.requests (key_name id.key)) (both.0 (sym is ∙ yes) id p there),
+      λ held. is ∙ both.1 (λ id p there. ap is_some (held id p there).1),
+    )
+
+-- equal rows have equal keys
+exceedance_key : (a b : KeyParts) (x y : List ℕ) (m n : Section) (p q : PeriodId) → row_of_exceedance a x m p ≡ row_of_exceedance b y n q → a ≡ b
+exceedance_key a b x y m n p q e =
+    let number : a.number ≡ b.number = number_is (ap (λ (row : Row). column row 0) e) in
+    let part : a.part ≡ b.part = number_is (ap (λ (row : Row). column row 1) e) in
+    λ i. record { number = number i; part = part i }
+
+request_key : (a b : KeyParts) (r q : Request) → row_of_request a r ≡ row_of_request b q → a ≡ b
+request_key a b r q e =
+    let number : a.number ≡ b.number = number_is (ap (λ (row : Row). column row 0) e) in
+    let part : a.part ≡ b.part = number_is (ap (λ (row : Row). column row 1) e) in
+    λ i. record { number = number i; part = part i }
+
 module _ (s t u : State) (db : Database) (rows : List Row) (read : HasRows request db rows) (above : IsRight exceedance s db) (same : t ≡ record s { requests = t.requests })
     (map : Mapped key_name row_of_request IsRequest rows t.requests) (right : IsRight request u db) where
-  -- if it has in another state with these rows, it has in this one
-  held_here : AreHeld t
-  held_here id p there =
+  -- an exceedance of this state has the key of one of the other
+  in_other : (id : ExceedanceId) (p : PeriodId) → fin.get t.exceedances (name_of id) ≡ Some p →
+      (other : ExceedanceId) × (q : PeriodId) × (fin.get u.exceedances (name_of other) ≡ Some q) × (id.key ≡ other.key)
+  in_other id p there =
       let old : fin.get s.exceedances (name_of id) ≡ Some p = ap (λ (x : State). fin.get x.exceedances (name_of id)) (sym same) ∙ there in
       let at : ExceedanceAt s.exceedances = record { key = id.key; crew = id.crew; section = id.section; period = p; there = old } in
       let row = row_of_exceedance id.key id.crew id.section p in
-      let other = (right.0.1.1 row).0 ((above.1.1 row).1 (at, refl)) in
-      let number : id.key.number ≡ other.0.key.number = number_is {a = id.key.number} {b = other.0.key.number} (ap (λ (r : Row). column r 0) other.1) in
-      let part : id.key.part ≡ other.0.key.part = number_is {a = id.key.part} {b = other.0.key.part} (ap (λ (r : Row). column r 1) other.1) in
-      let same_key : id.key ≡ other.0.key = λ i. record { number = number i; part = part i } in
-      let held = right.2.1 (record { key = other.0.key; crew = other.0.crew; section = other.0.section }) other.0.period other.0.there in
-      let kept : RequestAt u.requests = record { key = other.0.key; kept = held.0; there = held.1 } in
-      let told = map.has (row_of_request other.0.key held.0) ((read.all (row_of_request other.0.key held.0)).0 ((right.1.1 (row_of_request other.0.key held.0)).1 (kept, refl))) in
-      let number' : other.0.key.number ≡ told.0.index.number = number_is {a = other.0.key.number} {b = told.0.index.number} (ap (λ (r : Row). column r 0) told.1) in
-      let part' : other.0.key.part ≡ told.0.index.part = number_is {a = other.0.key.part} {b = told.0.index.part} (ap (λ (r : Row). column r 1) told.1) in
-      let same_key' : other.0.key ≡ told.0.index = λ i. record { number = number' i; part = part' i } in
-      (told.0.value, ap (λ k. fin.get t.requests (key_name k)) (same_key ∙ same_key') ∙ told.0.there)
+      let it = (right.0.1.1 row).0 ((above.1.1 row).1 (at, refl)) in
+      let other : ExceedanceId = record { key = it.0.key; crew = it.0.crew; section = it.0.section } in
+      (other, it.0.period, it.0.there, exceedance_key id.key it.0.key id.crew it.0.crew id.section it.0.section p it.0.period it.1)
+
+  -- a key that is held in the other is held in this one
+  from_other : (key : KeyParts) (r : Request) → fin.get u.requests (key_name key) ≡ Some r → (q : Request) × (fin.get t.requests (key_name key) ≡ Some q)
+  from_other key r there =
+      let row = row_of_request key r in
+      let kept : RequestAt u.requests = record { key = key; kept = r; there = there } in
+      let told = map.has row ((read.all row).0 ((right.1.1 row).1 (kept, refl))) in
+      let same_key : key ≡ told.0.index = request_key key told.0.index r told.0.value told.1 in
+      (told.0.value, ap (λ (k : KeyParts). fin.get t.requests (key_name k)) same_key ∙ told.0.there)
+
+  -- so each exceedance has its request in this one, since it has in the other
+  held_here : AreHeld t
+  held_here id p there =
+      let other = in_other id p there in
+      let held = right.2.1 other.0 other.1 other.2 in
+      let here = from_other other.0.key held.0 held.1 in
+      (here.0, ap (λ (k : KeyParts). fin.get t.requests (key_name k)) other.3 ∙ here.1)
 
 -- ---- The call
 

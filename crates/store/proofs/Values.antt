@@ -1,5 +1,5 @@
 -- Values that are told apart by what the tables hold of them.
-use Rattle.std.proofs.Common.{◌≡◌, refl, ap, ℕ, pos, List, [], ◌∷◌, Option, Some, None}
+use Rattle.std.proofs.Common.{◌≡◌, refl, ap, ℕ, ℤ, pos, List, [], ◌∷◌, Option, Some, None}
 use Rattle.std.specs.Option.{option_map}
 use Rattle.sqlite_value.specs.declared.value.Value.TheVariants.{Int, Text}
 use Rattle.duty.specs.declared.segment.BlockTimes.{BlockTimes}
@@ -9,6 +9,8 @@ use Rattle.command.specs.declared.member.Member.{Member}
 use Rattle.command.specs.declared.member.Seat.{Seat}
 use Rattle.command.specs.declared.member.Seat.TheVariants.{Captain, FirstOfficer}
 use Rattle.roster.proofs.Records.{names_same}
+use Rattle.roster.specs.State.{exceedance_name}
+use Rattle.roster.specs.declared.state.ExceedanceId.{ExceedanceId}
 use Rattle.tables.specs.Records.{number_or_null}
 use Rattle.store.specs.Rows.{seat_number}
 
@@ -25,10 +27,18 @@ pub sections_same : (a b : Section) → section_number a ≡ section_number b �
 sections_same a b e =
     (names_same (record { number = 0; part = 0 }) (record { number = 0; part = 0 }) [] [] a b (ap (λ n. 0 ∷ 0 ∷ 0 ∷ n ∷ []) e)).2
 
+pub ids_same : (a b : ExceedanceId) → exceedance_name a.key a.crew a.section ≡ exceedance_name b.key b.crew b.section → a ≡ b
+ids_same a b e =
+    let parts = names_same a.key b.key a.crew b.crew a.section b.section e in
+    λ i. record { key = parts.0 i; crew = parts.1 i; section = parts.2 i }
+
 -- ---- Columns
 
 pub text_is : {a b : List ℕ} → Text a ≡ Text b → a ≡ b
 text_is e = cc
+
+pub int_is : {a b : ℤ} → Int a ≡ Int b → a ≡ b
+int_is e = cc
 
 pub number_is : {a b : ℕ} → Int (pos a) ≡ Int (pos b) → a ≡ b
 number_is e = cc

@@ -1,5 +1,5 @@
 -- What the functions that load a book say to one another. No public clause names these.
-use Rattle.std.specs.Prelude.{◌≡◌, ◌⊎◌, ◌↔◌, ⊤, true, false, pos, IsUtf8, ℕ, zero, suc, List, [], ◌∷◌, map, take, length, Option, None, Some, Result, MatchResult}
+use Rattle.std.specs.Prelude.{◌≡◌, ◌⊎◌, ◌↔◌, ◌+◌, ◌<◌, ⊤, true, false, pos, IsUtf8, ℕ, zero, suc, List, [], ◌∷◌, map, take, length, Option, None, Some, Result, MatchResult, slice_get}
 use Rattle.std.specs.FinMap as fin
 use Rattle.std.specs.List.{AllByRecursion}
 use Rattle.values.specs.Name.{name_cmp}
@@ -7,6 +7,7 @@ use Rattle.sqlite_value.specs.Order.{Row}
 use Rattle.sqlite_rules.specs.Lists.{Has}
 use Rattle.sqlite.specs.Effect.{Database, IsDatabase}
 use Rattle.sqlite.specs.State.{State, HasCleanDisk, IsUnchanged}
+use Rattle.duty.specs.Plans.{ActualTimes}
 use Rattle.command.specs.Keys.{key_name}
 use Rattle.command.specs.declared.member.Member.{Member}
 use Rattle.command.specs.declared.member.Seat.{Seat}
@@ -14,18 +15,21 @@ use Rattle.command.specs.declared.member.Seat.TheVariants.{Captain, FirstOfficer
 use Rattle.roster.specs.Pairings.{holder, is_flown, is_fully_crewed}
 use Rattle.roster.specs.Sound.{Crew, IsHolder}
 use Rattle.roster.specs.State as roster
+use Rattle.roster.specs.declared.state.ExceedanceId.{ExceedanceId}
+use Rattle.roster.specs.declared.state.PeriodId.{PeriodId}
 use Rattle.roster.specs.declared.state.Rostered.{Rostered}
 use Rattle.tables.specs.Calls.{LeavesNothing}
 use Rattle.tables.specs.Rows.{IsStored, rows_of, HasNoRecord, begins_with}
 use Rattle.tables.specs.Schema.{IsOfBook}
-use Rattle.tables.specs.Records.{book_row, crew_row, ground_row, request_row, seat_row}
+use Rattle.tables.specs.Records.{book_row, crew_row, ground_row, exceedance_row, request_row, seat_row}
 use Rattle.tables.specs.declared.book.BookRecord.{BookRecord}
 use Rattle.tables.specs.declared.crew.CrewRecord.{CrewRecord}
+use Rattle.tables.specs.declared.exceedance.ExceedanceRecord.{ExceedanceRecord}
 use Rattle.tables.specs.declared.ground.GroundRecord.{GroundRecord}
 use Rattle.tables.specs.declared.request.RequestRecord.{RequestRecord}
 use Rattle.tables.specs.declared.seat.SeatRecord.{SeatRecord}
-use Rattle.store.specs.Loading.{IsMember, IsGround, IsRequest, AreHeld, IsRight, IsNoBook, IsOfOtherVersion, Says}
-use Rattle.store.specs.Rows.{TableName, book, crew, pairing, period, segment, seat, ground_duty, exceedance, request, table, row_of_member, row_of_seat, row_of_ground, row_of_request, InSeat}
+use Rattle.store.specs.Loading.{IsMember, IsGround, IsExceedance, IsRequest, AreHeld, name_of, IsRight, IsNoBook, IsOfOtherVersion}
+use Rattle.store.specs.Rows.{TableName, book, crew, pairing, period, segment, seat, ground_duty, exceedance, request, table, row_of_member, row_of_seat, row_of_ground, row_of_exceedance, row_of_request, InSeat}
 use Rattle.store.specs.declared.fault.LoadFault.{LoadFault}
 use Rattle.store.specs.declared.fault.LoadFault.TheVariants.{NotABook, Damaged, Version, Fault}
 use Rattle.store.specs.declared.fault.TableName as name
@@ -109,6 +113,24 @@ seat_of zero = Some Captain
 seat_of (suc zero) = Some FirstOfficer
 seat_of (suc (suc n)) = None
 
+-- the period is there, and it has an actual
+pub record IsFlown (pairings : fin.FinMap name_cmp Rostered) (p : PeriodId) : Type 0 where
+  pub rostered : Rostered
+  pub of_pairing : fin.get pairings p.pairing ≡ Some rostered
+  pub place : ℕ
+  pub number : p.number ≡ place + 1
+  pub actual : ActualTimes
+  pub flown : slice_get rostered.actuals place ≡ Some (Some actual)
+
+-- an exceedance whose period has a number of eight bits, as each period of a pairing has
+pub record IsRecorded (members : Crew) (pairings : fin.FinMap name_cmp Rostered) (id : ExceedanceId) (p : PeriodId) : Type 0 where
+  pub is : IsExceedance members pairings id p
+  pub fits : p.number < 256
+
+-- its row
+abbrev pub row_of_recorded : ExceedanceId → PeriodId → Row
+row_of_recorded id p = row_of_exceedance id.key id.crew id.section p
+
 -- the members of so many first records are set in a roster
 pub record MembersRead (records : List CrewRecord) (count : ℕ) (old new : roster.State) : Type 0 where
   pub same : new ≡ record old { crew = new.crew }
@@ -118,6 +140,11 @@ pub record MembersRead (records : List CrewRecord) (count : ℕ) (old new : rost
 pub record GroundsRead (records : List GroundRecord) (count : ℕ) (old new : roster.State) : Type 0 where
   pub same : new ≡ record old { grounds = new.grounds }
   pub mapped : AreOnce row_of_ground (map ground_row records) → Mapped (λ id. id) row_of_ground (IsGround old.crew) (take count (map ground_row records)) new.grounds
+
+-- so are the exceedances
+pub record ExceedancesRead (records : List ExceedanceRecord) (count : ℕ) (old new : roster.State) : Type 0 where
+  pub same : new ≡ record old { exceedances = new.exceedances }
+  pub mapped : AreOnce row_of_recorded (map exceedance_row records) → Mapped name_of row_of_recorded (IsRecorded old.crew old.pairings) (take count (map exceedance_row records)) new.exceedances
 
 -- so are the requests
 pub record RequestsRead (records : List RequestRecord) (count : ℕ) (old new : roster.State) : Type 0 where

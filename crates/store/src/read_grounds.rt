@@ -69,11 +69,7 @@ fn ground_of(
 }
 
 /// Sets the ground duties that the records tell of.
-fn add_grounds(
-    alloc: Global,
-    roster: Roster,
-    records: &[GroundRecord],
-) -> Result<Roster, LoadFault>
+fn add_grounds(alloc: Global, roster: Roster, records: &[GroundRecord]) -> Result<Roster, LoadFault>
     requires { roster.grounds ≡ fin.empty }
     ensures { MatchResult result (GroundsRead records.now (length records.now) roster) (Blames table_name.Ground (HasStranger row_of_ground (IsGround roster.crew) (map ground_row records.now))) }
 {

@@ -141,11 +141,7 @@ fn are_held(roster: &Roster) -> bool
 
 /// Sets what the records tell of, where that holds the key of each exceedance.
 #[tactic(auto, using(crate::proofs::ReadRequests::read_stranger, crate::proofs::ReadRequests::not_all_held))]
-fn add_held(
-    alloc: Global,
-    roster: Roster,
-    records: &[RequestRecord],
-) -> Result<Roster, LoadFault>
+fn add_held(alloc: Global, roster: Roster, records: &[RequestRecord]) -> Result<Roster, LoadFault>
     requires { roster.requests ≡ fin.empty }
     ensures { MatchResult result (λ r. RequestsRead records.now (length records.now) roster r × AreHeld r) (Blames table_name.Request (AreWanting records.now roster)) }
 {
