@@ -27,3 +27,4 @@ pub mod ReadGrounds
 pub mod ReadRequests
 pub mod PlanKeys
 pub mod PlanLemmas
+pub mod PlanStates

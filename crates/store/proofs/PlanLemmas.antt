@@ -18,6 +18,7 @@ use Rattle.tables.specs.declared.period.PeriodRecord.{PeriodRecord}
 use Rattle.tables.specs.declared.segment.SegmentRecord.{SegmentRecord}
 use Rattle.store.proofs.FewPeriods.{few_periods}
 use Rattle.store.proofs.Lists.{same_list, some_same, one_value}
+use Rattle.store.proofs.SamePairings.{fdps_same}
 use Rattle.store.specs.PlanRows.{Periods, Segments, period_name, segment_name, HasNoGap, HasNoGaps, AreUngapped, EachBeside, AreTimes, block_pair, actual_pair}
 use Rattle.store.specs.PlanRows.{planned_segment, IsSegment, HasRowOf, AreSegments, HasNoSegments, IsActualOf, HasSegments, IsReadPeriod, HasPeriodRow, ArePeriodsRead, HasNoPeriods, IsTold}
 use Rattle.store.specs.Reading.{Blames}
@@ -120,7 +121,7 @@ times_once (Some a) (Some b) None u p q = absurd p
 times_once (Some a) (Some b) (Some x) None p q = absurd q
 times_once (Some a) (Some b) (Some x) (Some y) p q = ap Some (p.0 ∙ sym q.0)
 
-block_pairs_same : (t u : Option BlockTimes) → option_map block_pair t ≡ option_map block_pair u → t ≡ u
+pub block_pairs_same : (t u : Option BlockTimes) → option_map block_pair t ≡ option_map block_pair u → t ≡ u
 block_pairs_same None None e = refl
 block_pairs_same None (Some y) e = absurd (cc)
 block_pairs_same (Some x) None e = absurd (cc)
@@ -373,34 +374,26 @@ module _ (periods : Periods) (rows : Segments) (id : List ℕ) where
 
 -- ---- The pairing
 
-same_plan : (fdps : List Fdp) → ((i : ℕ) (fdp : Fdp) → slice_get fdps i ≡ Some fdp → fdp.planned_report ≡ fdp.report) → map as_planned fdps ≡ fdps
+pub same_plan : (fdps : List Fdp) → ((i : ℕ) (fdp : Fdp) → slice_get fdps i ≡ Some fdp → fdp.planned_report ≡ fdp.report) → map as_planned fdps ≡ fdps
 same_plan [] each = refl
 same_plan (f ∷ fdps) each =
     let first : f.planned_report ≡ f.report = each zero f refl in
     let same : as_planned f ≡ f = λ i. record { planned_report = sym first i; report = f.report; release = f.release; segments = f.segments } in
     ap₂ (λ x l. x ∷ l) same (same_plan fdps (λ i fdp e. each (suc i) fdp e))
 
-fdps_same : (a b : Fdp) → a.planned_report ≡ a.report → b.planned_report ≡ b.report → a.report ≡ b.report → a.release ≡ b.release → a.segments ≡ b.segments → a ≡ b
-fdps_same a b first second report release segments = λ i. record {
-  planned_report = (first ∙ report ∙ sym second) i;
-  report = report i;
-  release = release i;
-  segments = segments i;
-}
-
 module _ (periods : Periods) (rows : Segments) (id : List ℕ) where
   -- a period of a list, with its actual beside it
-  abbrev Beside : List (Option ActualTimes) → ℕ → PeriodRecord → Fdp → Type 0
+  abbrev pub Beside : List (Option ActualTimes) → ℕ → PeriodRecord → Fdp → Type 0
   Beside actuals i it fdp = (actual : Option ActualTimes) × (slice_get actuals i ≡ Some actual) × IsReadPeriod rows id (i + 1) it fdp actual
 
-  beside : (planned : List Fdp) (actuals : List (Option ActualTimes)) → length actuals ≡ length planned → EachBeside (HasPeriodRow periods rows id) planned actuals →
+  pub beside : (planned : List Fdp) (actuals : List (Option ActualTimes)) → length actuals ≡ length planned → EachBeside (HasPeriodRow periods rows id) planned actuals →
       (i : ℕ) (fdp : Fdp) → slice_get planned i ≡ Some fdp → (it : PeriodRecord) × (fin.get periods (period_name id (i + 1)) ≡ Some it) × Beside actuals i it fdp
   beside planned actuals count each i fdp e =
       let a = there_within actuals i (let n = slice_get_within planned i fdp e in omega (arith, n, count)) in
       let it = each i fdp a.0 e a.1 in
       (it.0, it.1, (a.0, a.1, it.2))
 
-  beside_once : (some others : List (Option ActualTimes)) (i : ℕ) (it : PeriodRecord) (x y : Fdp) → Beside some i it x → Beside others i it y → x ≡ y
+  pub beside_once : (some others : List (Option ActualTimes)) (i : ℕ) (it : PeriodRecord) (x y : Fdp) → Beside some i it x → Beside others i it y → x ≡ y
   beside_once some others i it x y p q =
       fdps_same x y p.2.planned q.2.planned (p.2.report ∙ sym q.2.report) (p.2.release ∙ sym q.2.release)
       (segments_kept rows id (i + 1) x y p.0 q.0 p.2.has_segments q.2.has_segments)
