@@ -33,3 +33,4 @@ pub mod ReadSeats
 pub mod SeatTable
 pub mod ReadBook
 pub mod Loads
+pub mod PlanStates
