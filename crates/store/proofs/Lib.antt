@@ -34,3 +34,4 @@ pub mod SeatTable
 pub mod ReadBook
 pub mod Loads
 pub mod PlanStates
+pub mod RightSound

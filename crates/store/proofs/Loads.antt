@@ -1,11 +1,21 @@
 -- Tables that are read one after the other.
-use Rattle.std.proofs.Common.{◌≡◌, refl, sym, subst, ◌∙◌, arith, Result, Ok, Err, MatchResult}
+use Rattle.std.proofs.Common.{◌≡◌, refl, sym, subst, ◌∙◌, arith, false, IsTrue, Result, Ok, Err, IfOk, MatchResult}
+use Rattle.sqlite_trees.specs.declared.store.Store.{Ghosts}
+use Rattle.sqlite_trees.specs.Tree.{Trees}
 use Rattle.sqlite.specs.Effect.{Database}
-use Rattle.sqlite.specs.State.{State, HasCleanDisk, IsUnchanged}
+use Rattle.sqlite.specs.Held.{Held, state}
+use Rattle.sqlite.specs.State.{State, HasCleanDisk, IsLive, IsUnchanged}
 use Rattle.sqlite.proofs.StateLemmas.{survives_then}
+use Rattle.roster.specs.State as roster
 use Rattle.tables.specs.Calls.{LeavesNothing}
 use Rattle.store.specs.Loading.{Says}
-use Rattle.store.specs.Reading.{Saw}
+use Rattle.store.specs.Kept.{IsBookOf}
+use Rattle.store.specs.Outcomes.{Leaves, HoldsNow, IsOutside, IsOverBook, one}
+use Rattle.store.specs.Reading.{IsReadTo, Saw}
+use Rattle.store.specs.Rows.{request}
+use Rattle.store.proofs.Ending.{of_trees}
+use Rattle.store.proofs.RightSound.{read_book_of}
+use Rattle.store.proofs.Telling.{clean_before}
 use Rattle.store.specs.declared.fault.LoadFault.{LoadFault}
 
 -- what a call comes to that reads some tables
@@ -28,25 +38,36 @@ unchanged_then a b c p q = (
 pub left_then : (a b c : State) → LeavesNothing a b → LeavesNothing b c → LeavesNothing a c
 left_then a b c p q = survives_then a b c _ _ _ (λ _ _ none. none) (λ _ _ none. none) p q
 
-module _ {A B : Type 0} (old mid : State) (Was : A → Type 0) (a : A) (told : HasCleanDisk mid → IsUnchanged old mid × Was a) (left : LeavesNothing old mid) where
-  -- what was told of the database is so when the next call begins
-  pub still : (Is : Database → Type 0) → (Was a → Is old.now) → HasCleanDisk mid → Is mid.now
-  still Is of clean = let it = told clean in subst Is (sym it.0.0.now_is) (of it.1)
+-- ---- A book that is read whole
 
-  pub reads_then : (Is : Database → B → Type 0) (new : State) (result : Result B LoadFault) → Reads Is mid new result → Reads Is old new result
-  reads_then Is new (Ok b) next = record {
-    told = λ clean.
-        let first = (told (omega (arith, clean, next.left.clean))).0 in
-        let second = next.told clean in
-        (unchanged_then old mid new first second.0, subst (λ db. Is db b) first.0.now_is second.1);
-    left = left_then old mid new left next.left;
-  }
-  reads_then Is new (Err fault) next = record {
-    told = λ clean. subst (Says fault) (told (omega (arith, clean, next.left.clean))).0.0.now_is (next.told clean);
-    left = left_then old mid new left next.left;
+module _ {S : Type 0} (g : Ghosts S) (old : State) (new : Held S) (r : roster.State) (told : HasCleanDisk (state g new) → IsUnchanged old (state g new) × IsReadTo request r old.now)
+    (live : IsLive (state g new)) (outside : IsOutside old) where
+  loaded_book : HasCleanDisk (state g new) → IsBookOf r (state g new).now
+  loaded_book clean =
+      let it = told clean in
+      read_book_of r (state g new).now (live it.0.0.is_open).0 (subst (IsReadTo request r) (sym it.0.0.now_is) it.1)
+
+  pub loaded_outside : LeavesNothing old (state g new) → IsOutside (state g new)
+  loaded_outside left clean = (told clean).0.0.mode ∙ outside (clean_before old (state g new) left clean)
+
+  -- it is what was committed last, and that is all that a crash leaves
+  pub loaded_leaves : LeavesNothing old (state g new) → ((state g new).in_transaction ≡ false → IsTrue (state g new).is_open → (state g new).now ≡ (state g new).committed) →
+      ((it : S) (trees : Trees) → IsTrue (g.view it).is_open → g.recovers it trees → trees ≡ (g.view it).committed) → Leaves (state g new) (one r)
+  loaded_leaves left settled law = record {
+    crash = λ clean trees may.
+        let opened = (told clean).0.0.is_open in
+        let same = settled (loaded_outside left clean) opened in
+        (r, refl, of_trees r (state g new).committed trees (law new.store trees opened may) (subst (IsBookOf r) same (loaded_book clean)));
   }
 
--- of more than is asked
-pub reads_less : {B : Type 0} (Is Less : Database → B → Type 0) (old new : State) (result : Result B LoadFault) → ((db : Database) (b : B) → Is db b → Less db b) → Reads Is old new result → Reads Less old new result
-reads_less Is Less old new (Ok b) of it = record { told = λ clean. let is = it.told clean in (is.0, of old.now b is.1); left = it.left }
-reads_less Is Less old new (Err fault) of it = record { told = it.told; left = it.left }
+  pub loaded_now : HoldsNow (state g new) r
+  loaded_now clean = ((told clean).0.0.is_open, loaded_book clean)
+
+  pub loaded_over : IsOverBook (state g new)
+  loaded_over clean _ = let book = loaded_book clean in (book.tables, book.stored)
+
+-- what is so of what was read
+pub on_read : {A : Type 0} (Is P : A → Type 0) (Refuses : LoadFault → Type 0) (old new : State) (result : Result A LoadFault) → Saw Is Refuses old new result →
+    ((a : A) → (HasCleanDisk new → IsUnchanged old new × Is a) → P a) → IfOk result P
+on_read Is P Refuses old new (Ok a) it so = so a it.told
+on_read Is P Refuses old new (Err fault) it so = tt

@@ -1,23 +1,29 @@
 ghost use Rattle.std.specs.Prelude.{◌≡◌, IfOk, IfErr, IsErrAnd, OnOk, OnErr, Err};
-ghost use Rattle.sqlite.specs.State.{HasCleanDisk};
+ghost use Rattle.sqlite.specs.State.{HasCleanDisk, IsUnchanged};
 ghost use Rattle.sqlite.specs.Held.{state};
+ghost use Rattle.roster.specs.Sound.{Sound};
 ghost use Rattle.roster.specs.State.{State, empty};
 ghost use Rattle.roster.specs.Steps.{after};
+ghost use Rattle.store.specs.Loading.{IsRight, Says};
 ghost use Rattle.store.specs.Making.{IsFree};
 ghost use Rattle.store.specs.Next.{IsNext};
 ghost use Rattle.store.specs.Outcomes.{Leaves, LeavesSome, AddsNothing, MayAdd, HoldsNow, IsOutside, IsOverBook, one, either};
+ghost use Rattle.store.specs.Reading.{IsReadTo, Saw};
+ghost use Rattle.store.specs.Rows.{request};
+ghost use Rattle.store.specs.SameRows.{HasInstants};
 
-use crate::fault::{CreateFault, StoreFault};
+use crate::fault::{CreateFault, LoadFault, StoreFault};
+use crate::loading::read_all;
 use crate::making::{is_free, make_tables};
 use crate::records::request_record;
 use crate::transaction::end;
 use crate::writing::write_change;
-use roster::Change;
+use roster::{Change, Roster};
 use sqlite::{Alter, Connection};
 use std::alloc::Global;
 use std::marker::Model;
 use tables::book::BookRecord;
-use tables::transaction::begin;
+use tables::transaction::{begin, rollback};
 use time117::Zone;
 use values::Text;
 
@@ -70,6 +76,31 @@ impl<S: Alter> Store<S> {
         }
     }
 
+    /// Reads the book that a crash or anybody left, and changes nothing. Refused is a database without a table `book` (40),
+    /// tables of another version (42), tables that aren't the rows of a sound roster, with the first that is at fault (41),
+    /// a store's fault (90), and want of memory (91); then the connection is handed back.
+    pub fn load(
+        alloc: Global,
+        mut conn: Connection<S>,
+    ) -> Result<(Store<S>, Roster), (LoadFault, Connection<S>)>
+        requires { IsOutside (state S.Store conn) }
+        ensures right { IfOk result (λ it. HasCleanDisk (state S.Store it.0) → IsRight request it.1 (state S.Store conn).now) }
+        ensures sound { IfOk result (λ it. HasCleanDisk (state S.Store it.0) → Sound it.1 × HasInstants it.1) }
+        ensures ok { IfOk result (λ it. Leaves (state S.Store it.0) (one it.1)) }
+        ensures now { IfOk result (λ it. HoldsNow (state S.Store it.0) it.1) }
+        ensures some { IfOk result (λ it. LeavesSome (state S.Store it.0)) }
+        ensures unchanged { IfOk result (λ it. HasCleanDisk (state S.Store it.0) → IsUnchanged (state S.Store conn) (state S.Store it.0)) }
+        ensures left { IfOk result (λ it. AddsNothing (state S.Store conn) (state S.Store it.0)) }
+        ensures refused { IfErr result (λ e. HasCleanDisk (state S.Store e.1) → Says e.0 (state S.Store conn).now) }
+        ensures kept { IfErr result (λ e. AddsNothing (state S.Store conn) (state S.Store e.1)) }
+        ensures outside { IfErr result (λ e. IsOutside (state S.Store e.1)) }
+    {
+        match read(alloc, &mut conn) {
+            Ok(roster) => Ok((Store { conn }, roster)),
+            Err(fault) => Err((fault, conn)),
+        }
+    }
+
     /// Writes a change that the step gave of the state that the tables hold, in one transaction. After want of memory (91)
     /// nothing is changed; after a store's fault (90) all of the change is kept, or nothing of it.
     pub fn commit(&mut self, alloc: Global, change: &Change) -> Result<(), StoreFault>
@@ -117,6 +148,27 @@ fn make<S: Alter>(alloc: Global, conn: &mut Connection<S>, zone: &Zone) -> Resul
     begin(conn)?;
     let done = make_tables(conn, &book);
     Ok(end(conn, done)?)
+}
+
+/// Reads a book, and leaves no transaction open.
+fn read<S: Alter>(alloc: Global, conn: &mut Connection<S>) -> Result<Roster, LoadFault>
+    requires { IsOutside (state S.Store conn.old) }
+    ensures saw { Saw (λ r. IsReadTo request r (state S.Store conn.old).now) (λ fault. Says fault (state S.Store conn.old).now) (state S.Store conn.old) (state S.Store conn.new) result }
+    ensures sound { IfOk result (λ r. HasCleanDisk (state S.Store conn.new) → Sound r × HasInstants r) }
+    ensures ok { IfOk result (λ r. Leaves (state S.Store conn.new) (one r)) }
+    ensures now { IfOk result (λ r. HoldsNow (state S.Store conn.new) r) }
+    ensures over { IfOk result (λ _. IsOverBook (state S.Store conn.new)) }
+    ensures some { LeavesSome (state S.Store conn.new) }
+    ensures left { AddsNothing (state S.Store conn.old) (state S.Store conn.new) }
+    ensures outside { IsOutside (state S.Store conn.new) }
+{
+    let read = read_all(alloc, conn);
+    let _live = conn.schema();
+    let _settled = conn.is_autocommit();
+    if read.is_err() {
+        let _undone = rollback(conn);
+    }
+    read
 }
 
 /// Writes a change, in one transaction.

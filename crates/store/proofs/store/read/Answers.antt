@@ -1,0 +1,44 @@
+use Rattle.std.proofs.Common.{ap, subst, not, ◌∙◌}
+use Rattle.sqlite.specs.Held.{state}
+use Rattle.sqlite.specs.State.{HasCleanDisk}
+use Rattle.roster.specs.Sound.{Sound}
+use Rattle.store.specs.Loading.{Says}
+use Rattle.store.specs.Outcomes.{HoldsNow, IsOverBook, Leaves, one}
+use Rattle.store.specs.Reading.{IsReadTo}
+use Rattle.store.specs.Rows.{request}
+use Rattle.store.specs.SameRows.{HasInstants}
+use Rattle.store.proofs.Loads.{on_read, loaded_leaves, loaded_now, loaded_over, loaded_outside}
+use Rattle.store.proofs.RightSound.{right_sound, right_instants}
+use Rattle.store.proofs.store.read.Goals as goal
+
+pub returns-else-is_err-clause-sound : goal.returns-else-is_err-clause-sound
+returns-else-is_err-clause-sound g c =
+    let old = state g.S.Store c.args.conn.now in
+    let new = state g.S.Store c.read_all-read.new.conn in
+    on_read (λ r. IsReadTo request r old.now) (λ r. HasCleanDisk new → Sound r × HasInstants r) (λ fault. Says fault old.now) old new c.read_all-read.result c.read_all-read.ensures.read
+    (λ r told clean. let right = (told clean).1.right in (right_sound r old.now right, right_instants r old.now right))
+
+pub returns-else-is_err-clause-ok : goal.returns-else-is_err-clause-ok
+returns-else-is_err-clause-ok g c =
+    let G = g.S.Store in
+    let old = state G c.args.conn.now in
+    let new = state G c.read_all-read.new.conn in
+    on_read (λ r. IsReadTo request r old.now) (λ r. Leaves new (one r)) (λ fault. Says fault old.now) old new c.read_all-read.result c.read_all-read.ensures.read
+    (λ r told. loaded_leaves G old c.read_all-read.new.conn r told c.schema-live.ensures.live c.requires c.read_all-read.ensures.read.left
+    (λ outside. c.is_autocommit-settled.ensures.settled (c.is_autocommit-settled.ensures.value ∙ ap not outside)) g.met.S.Store.settled)
+
+pub returns-else-is_err-clause-now : goal.returns-else-is_err-clause-now
+returns-else-is_err-clause-now g c =
+    let G = g.S.Store in
+    let old = state G c.args.conn.now in
+    let new = state G c.read_all-read.new.conn in
+    on_read (λ r. IsReadTo request r old.now) (λ r. HoldsNow new r) (λ fault. Says fault old.now) old new c.read_all-read.result c.read_all-read.ensures.read
+    (λ r told. loaded_now G old c.read_all-read.new.conn r told c.schema-live.ensures.live c.requires)
+
+pub returns-else-is_err-clause-over : goal.returns-else-is_err-clause-over
+returns-else-is_err-clause-over g c =
+    let G = g.S.Store in
+    let old = state G c.args.conn.now in
+    let new = state G c.read_all-read.new.conn in
+    on_read (λ r. IsReadTo request r old.now) (λ r. IsOverBook new) (λ fault. Says fault old.now) old new c.read_all-read.result c.read_all-read.ensures.read
+    (λ r told. loaded_over G old c.read_all-read.new.conn r told c.schema-live.ensures.live c.requires)
