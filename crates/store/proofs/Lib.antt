@@ -27,3 +27,7 @@ pub mod ReadGrounds
 pub mod ReadRequests
 pub mod PlanKeys
 pub mod PlanLemmas
+pub mod Entries
+pub mod Following
+pub mod ReadTables
+pub mod ReadIds

@@ -3,6 +3,7 @@ use Rattle.std.specs.Prelude.{◌≡◌, ◌⊎◌, ◌+◌, ◌<◌, ◌≤◌,
 use Rattle.std.specs.FinMap as fin
 use Rattle.std.specs.Option.{option_map}
 use Rattle.values.specs.Name.{name_cmp, text_then}
+use Rattle.sqlite_value.specs.Order.{Row}
 use Rattle.duty.specs.Pairings.{pairing_fault, actual_fault}
 use Rattle.duty.specs.Plans.{ActualTimes}
 use Rattle.duty.specs.declared.fdp.Fdp.{Fdp}
@@ -10,6 +11,7 @@ use Rattle.duty.specs.declared.segment.BlockTimes.{BlockTimes}
 use Rattle.duty.specs.declared.segment.Segment.{Segment}
 use Rattle.codec.specs.Instants.{is_instant, segment_has_instants}
 use Rattle.roster.specs.declared.state.Rostered.{Rostered}
+use Rattle.tables.specs.Records.{period_row, segment_row}
 use Rattle.tables.specs.declared.period.PeriodRecord.{PeriodRecord}
 use Rattle.tables.specs.declared.segment.SegmentRecord.{SegmentRecord}
 use Rattle.store.specs.Rows.{times_flown}
@@ -136,3 +138,19 @@ pub record IsTold (periods : Periods) (segments : Segments) (id : List ℕ) (r :
   pub each : EachBeside (HasPeriodRow periods segments id) r.plan.periods r.actuals
   pub all : (number : ℕ) (it : PeriodRecord) → fin.get periods (period_name id number) ≡ Some it →
       (i : ℕ) × (number ≡ i + 1) × (i < length r.plan.periods)
+
+-- ---- The rows of the tables
+
+-- each record stands under its key
+abbrev pub ArePeriodsKeyed : Periods → Type 0
+ArePeriodsKeyed periods = (key : List ℕ) (it : PeriodRecord) → fin.get periods key ≡ Some it → key ≡ period_name it.pairing it.number
+
+abbrev pub AreSegmentsKeyed : Segments → Type 0
+AreSegmentsKeyed segments = (key : List ℕ) (it : SegmentRecord) → fin.get segments key ≡ Some it → key ≡ segment_name it.pairing it.period it.number
+
+-- a row of a record that is there
+abbrev pub PeriodRows : Periods → Row → Type 0
+PeriodRows periods row = (it : PeriodRecord) × (fin.get periods (period_name it.pairing it.number) ≡ Some it) × (row ≡ period_row it)
+
+abbrev pub SegmentRows : Segments → Row → Type 0
+SegmentRows segments row = (it : SegmentRecord) × (fin.get segments (segment_name it.pairing it.period it.number) ≡ Some it) × (row ≡ segment_row it)

@@ -8,6 +8,7 @@ mod plan_rows;
 mod plans;
 mod read_crew;
 mod read_grounds;
+mod read_pairings;
 mod read_requests;
 mod records;
 mod store;
