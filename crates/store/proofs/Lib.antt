@@ -31,3 +31,4 @@ pub mod Entries
 pub mod Following
 pub mod ReadTables
 pub mod ReadIds
+pub mod ReadPeriods

@@ -9,6 +9,7 @@ mod plans;
 mod read_crew;
 mod read_grounds;
 mod read_pairings;
+mod read_periods;
 mod read_requests;
 mod records;
 mod store;
