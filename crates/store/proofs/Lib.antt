@@ -32,3 +32,4 @@ pub mod Following
 pub mod ReadTables
 pub mod ReadIds
 pub mod ReadPeriods
+pub mod ReadSegments

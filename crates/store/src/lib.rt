@@ -11,6 +11,7 @@ mod read_grounds;
 mod read_pairings;
 mod read_periods;
 mod read_requests;
+mod read_segments;
 mod records;
 mod store;
 mod transaction;
