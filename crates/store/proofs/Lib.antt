@@ -33,3 +33,4 @@ pub mod ReadTables
 pub mod ReadIds
 pub mod ReadPeriods
 pub mod ReadSegments
+pub mod PlanStates

@@ -2,9 +2,9 @@
 use Rattle.std.proofs.Common.{◌≡◌, ◌⊎◌, inl, inr, refl, sym, ap, ap₂, subst, ◌∙◌, arith, ℕ, zero, suc, ◌+◌, ◌-◌, ◌<◌, ◌≤◌, true, false, List, [], ◌∷◌, ◌++◌, length, map, Option, Some, None, slice_get, length-append, Result, Ok, Err}
 use Rattle.std.specs.FinMap as fin
 use Rattle.std.specs.Option.{option_map}
-use Rattle.std.proofs.lemmas.Bool.{and_parts, and_from}
+use Rattle.std.specs.Result.{MatchResult}
 use Rattle.std.proofs.lemmas.Bool.Decides.{leb_tells}
-use Rattle.std.proofs.lemmas.Option.{slice_get-map, slice_get_within, slice_get_cases}
+use Rattle.std.proofs.lemmas.Option.{slice_get_within, slice_get_cases}
 use Rattle.duty.specs.Pairings.{pairing_fault, actual_fault}
 use Rattle.duty.specs.Plans.{Plan, ActualTimes, as_planned, plan}
 use Rattle.duty.specs.Words.{checked}
@@ -18,6 +18,7 @@ use Rattle.tables.specs.declared.period.PeriodRecord.{PeriodRecord}
 use Rattle.tables.specs.declared.segment.SegmentRecord.{SegmentRecord}
 use Rattle.store.proofs.FewPeriods.{few_periods}
 use Rattle.store.proofs.Lists.{same_list, some_same, one_value}
+use Rattle.store.proofs.SamePairings.{fdps_same}
 use Rattle.store.specs.PlanRows.{Periods, Segments, period_name, segment_name, HasNoGap, HasNoGaps, AreUngapped, EachBeside, AreTimes, block_pair, actual_pair}
 use Rattle.store.specs.PlanRows.{planned_segment, IsSegment, HasRowOf, AreSegments, HasNoSegments, IsActualOf, HasSegments, IsReadPeriod, HasPeriodRow, ArePeriodsRead, HasNoPeriods, IsTold}
 use Rattle.store.specs.Reading.{Blames}
@@ -50,13 +51,13 @@ pub each_more : {A B : Type 0} (P : ℕ → A → B → Type 0) (xs : List A) (y
 each_more P xs ys x y count all last i a b ea eb =
     elim (last_or_before xs x i a ea) [
       | inl p ↦ elim (last_or_before ys y i b eb) [
-          | inl q ↦ all i a b p q
-          | inr q ↦ absurd (let n = slice_get_within xs i a p in let m = q.0 in omega (arith, n, m, count))
-        ]
+        | inl q ↦ all i a b p q
+        | inr q ↦ absurd (let n = slice_get_within xs i a p in let m = q.0 in omega (arith, n, m, count))
+      ]
       | inr p ↦ elim (last_or_before ys y i b eb) [
-          | inl q ↦ absurd (let n = slice_get_within ys i b q in let m = p.0 in omega (arith, n, m, count))
-          | inr q ↦ subst (λ k. P k a b) (sym p.0) (subst (λ c. P (length xs) c b) p.1 (subst (λ c. P (length xs) x c) q.1 last))
-        ]
+        | inl q ↦ absurd (let n = slice_get_within ys i b q in let m = p.0 in omega (arith, n, m, count))
+        | inr q ↦ subst (λ k. P k a b) (sym p.0) (subst (λ c. P (length xs) c b) p.1 (subst (λ c. P (length xs) x c) q.1 last))
+      ]
     ]
 
 pub there_within : {A : Type 0} (xs : List A) (i : ℕ) → i < length xs → (a : A) × (slice_get xs i ≡ Some a)
@@ -120,7 +121,7 @@ times_once (Some a) (Some b) None u p q = absurd p
 times_once (Some a) (Some b) (Some x) None p q = absurd q
 times_once (Some a) (Some b) (Some x) (Some y) p q = ap Some (p.0 ∙ sym q.0)
 
-block_pairs_same : (t u : Option BlockTimes) → option_map block_pair t ≡ option_map block_pair u → t ≡ u
+pub block_pairs_same : (t u : Option BlockTimes) → option_map block_pair t ≡ option_map block_pair u → t ≡ u
 block_pairs_same None None e = refl
 block_pairs_same None (Some y) e = absurd (cc)
 block_pairs_same (Some x) None e = absurd (cc)
@@ -213,7 +214,7 @@ period_told rows id number segments times it pair actual report release whole ar
 -- ---- What is refused of a period
 
 module _ (rows : Segments) (id : List ℕ) (number : ℕ) (it : PeriodRecord) where
-  abbrev NoPeriod : Type 0
+  abbrev pub NoPeriod : Type 0
   NoPeriod = (fdp : Fdp) (actual : Option ActualTimes) → IsReadPeriod rows id number it fdp actual → ⊥
 
   pub bad_report : is_instant it.report_at ≡ false → NoPeriod
@@ -251,14 +252,19 @@ blamed its Why Also so Version blame = blame
 blamed its Why Also so (Damaged other) blame = (blame.0, so blame.1)
 blamed its Why Also so (Fault fault) blame = blame
 
+-- a fault that a callee blames is blamed by its caller
+pub passed_on : {A : Type 0} (Is : A → Type 0) (its : name.TableName) (Why Also : Type 0) (result : Result A LoadFault) (fault : LoadFault) → result ≡ Err fault → (Why → Also) → Blames its Why fault → MatchResult result Is (Blames its Also)
+passed_on Is its Why Also result fault is so blame = subst (λ r. MatchResult r Is (Blames its Also)) (sym is) (blamed its Why Also so fault blame)
+
 module _ (rows : Segments) (id : List ℕ) (number : ℕ) where
-  pub segments_more : (planned : List Segment) (flown : List (Option BlockTimes)) (segment : Segment) (times : Option BlockTimes) (it : SegmentRecord) (place : ℕ) →
+  pub segments_more : (planned xs : List Segment) (flown ys : List (Option BlockTimes)) (segment : Segment) (times : Option BlockTimes) (it : SegmentRecord) (place : ℕ) →
       length planned ≡ place → length flown ≡ place → EachBeside (HasRowOf rows id number) planned flown → fin.get rows (segment_name id number (place + 1)) ≡ Some it → IsSegment it segment times →
-      (length (planned ++ segment ∷ []) ≡ place + 1) × (length (flown ++ times ∷ []) ≡ place + 1) × EachBeside (HasRowOf rows id number) (planned ++ segment ∷ []) (flown ++ times ∷ [])
-  segments_more planned flown segment times it place a b each there is = (
-    length-append planned (segment ∷ []) ∙ (let n = a in omega (arith, n)),
-    length-append flown (times ∷ []) ∙ (let n = b in omega (arith, n)),
-    each_more (HasRowOf rows id number) planned flown segment times (b ∙ sym a) each (it, ap (λ k. fin.get rows (segment_name id number (k + 1))) a ∙ there, is),
+      xs ≡ planned ++ segment ∷ [] → ys ≡ flown ++ times ∷ [] → (length xs ≡ place + 1) × (length ys ≡ place + 1) × EachBeside (HasRowOf rows id number) xs ys
+  segments_more planned xs flown ys segment times it place a b each there is more also = (
+    ap length more ∙ length-append planned (segment ∷ []) ∙ (let n = a in omega (arith, n)),
+    ap length also ∙ length-append flown (times ∷ []) ∙ (let n = b in omega (arith, n)),
+    subst (λ l. EachBeside (HasRowOf rows id number) l ys) (sym more) (subst (λ l. EachBeside (HasRowOf rows id number) (planned ++ segment ∷ []) l) (sym also)
+        (each_more (HasRowOf rows id number) planned flown segment times (b ∙ sym a) each (it, ap (λ k. fin.get rows (segment_name id number (k + 1))) a ∙ there, is))),
   )
 
   pub too_many_segments : (planned : List Segment) (flown : List (Option BlockTimes)) (place : ℕ) → 13 ≤ place → length planned ≡ place → length flown ≡ place → EachBeside (HasRowOf rows id number) planned flown → HasNoSegments rows id number
@@ -309,7 +315,7 @@ count_of_all : (all : List BlockTimes) → length (map Some all) ≡ length all
 count_of_all [] = refl
 count_of_all (x ∷ all) = let n = count_of_all all in omega (arith, n)
 
-abbrev drafted_actual : ℕ → ℕ → ℕ → List BlockTimes → ActualTimes
+abbrev pub drafted_actual : ℕ → ℕ → ℕ → List BlockTimes → ActualTimes
 drafted_actual number report release all = record { period = number; report = report; release = release; segments = all }
 
 pub is_actual : (number report release : ℕ) (flown : List (Option BlockTimes)) (all : List BlockTimes) (a : ActualTimes) → flown ≡ map Some all →
@@ -329,12 +335,12 @@ same_times [] (y ∷ ys) e n = absurd (omega (arith, n))
 same_times (x ∷ xs) [] e n = absurd (omega (arith, n))
 same_times (x ∷ xs) (y ∷ ys) e n = ap₂ (λ a l. a ∷ l) (some_same (e zero (Some x) refl)) (same_times xs ys (λ i t f. e (suc i) t f) (omega (arith, n)))
 
-pub refused_actual : (number report release : ℕ) (flown : List (Option BlockTimes)) (all : List BlockTimes) (fault : DutyFault) → flown ≡ map Some all →
-    checked (actual_fault (drafted_actual number report release all)) (drafted_actual number report release all) ≡ Err fault → (actual : Option ActualTimes) → IsActualOf number (Some (report, release)) flown actual → ⊥
-refused_actual number report release flown all fault are err None is = absurd (let e = is.times_are in cc)
-refused_actual number report release flown all fault are err (Some a) is =
+pub refused_actual : (number report release : ℕ) (given : Option (ℕ × ℕ)) (flown : List (Option BlockTimes)) (all : List BlockTimes) (fault : DutyFault) → given ≡ Some (report, release) → flown ≡ map Some all →
+    checked (actual_fault (drafted_actual number report release all)) (drafted_actual number report release all) ≡ Err fault → (actual : Option ActualTimes) → IsActualOf number given flown actual → ⊥
+refused_actual number report release given flown all fault there are err None is = absurd (let e = is.times_are ∙ there in cc)
+refused_actual number report release given flown all fault there are err (Some a) is =
     let w = is.whole a refl in
-    let pair : (a.report, a.release) ≡ (report, release) = some_same is.times_are in
+    let pair : actual_pair a ≡ (report, release) = some_same (is.times_are ∙ there) in
     let times : all ≡ a.segments = same_times all a.segments (λ i t e. is.each i t (ap (λ l. slice_get l i) are ∙ e)) (sym (count_of_all all) ∙ sym (ap length are) ∙ w.1) in
     let same : a ≡ drafted_actual number report release all = λ i. record { period = w.0 i; report = (pair i).0; release = (pair i).1; segments = sym times i } in
     refused_of (actual_fault (drafted_actual number report release all)) (drafted_actual number report release all) fault err (sym (ap actual_fault same) ∙ w.2)
@@ -342,13 +348,14 @@ refused_actual number report release flown all fault are err (Some a) is =
 -- ---- The periods of a pairing
 
 module _ (periods : Periods) (rows : Segments) (id : List ℕ) where
-  pub periods_more : (planned : List Fdp) (actuals : List (Option ActualTimes)) (fdp : Fdp) (actual : Option ActualTimes) (it : PeriodRecord) (place : ℕ) →
+  pub periods_more : (planned xs : List Fdp) (actuals ys : List (Option ActualTimes)) (fdp : Fdp) (actual : Option ActualTimes) (it : PeriodRecord) (place : ℕ) →
       length planned ≡ place → length actuals ≡ place → EachBeside (HasPeriodRow periods rows id) planned actuals → fin.get periods (period_name id (place + 1)) ≡ Some it → IsReadPeriod rows id (place + 1) it fdp actual →
-      (length (planned ++ fdp ∷ []) ≡ place + 1) × (length (actuals ++ actual ∷ []) ≡ place + 1) × EachBeside (HasPeriodRow periods rows id) (planned ++ fdp ∷ []) (actuals ++ actual ∷ [])
-  periods_more planned actuals fdp actual it place a b each there is = (
-    length-append planned (fdp ∷ []) ∙ (let n = a in omega (arith, n)),
-    length-append actuals (actual ∷ []) ∙ (let n = b in omega (arith, n)),
-    each_more (HasPeriodRow periods rows id) planned actuals fdp actual (b ∙ sym a) each (it, ap (λ k. fin.get periods (period_name id (k + 1))) a ∙ there, subst (λ k. IsReadPeriod rows id (k + 1) it fdp actual) (sym a) is),
+      xs ≡ planned ++ fdp ∷ [] → ys ≡ actuals ++ actual ∷ [] → (length xs ≡ place + 1) × (length ys ≡ place + 1) × EachBeside (HasPeriodRow periods rows id) xs ys
+  periods_more planned xs actuals ys fdp actual it place a b each there is more also = (
+    ap length more ∙ length-append planned (fdp ∷ []) ∙ (let n = a in omega (arith, n)),
+    ap length also ∙ length-append actuals (actual ∷ []) ∙ (let n = b in omega (arith, n)),
+    subst (λ l. EachBeside (HasPeriodRow periods rows id) l ys) (sym more) (subst (λ l. EachBeside (HasPeriodRow periods rows id) (planned ++ fdp ∷ []) l) (sym also)
+        (each_more (HasPeriodRow periods rows id) planned actuals fdp actual (b ∙ sym a) each (it, ap (λ k. fin.get periods (period_name id (k + 1))) a ∙ there, subst (λ k. IsReadPeriod rows id (k + 1) it fdp actual) (sym a) is))),
   )
 
   pub no_period : (place : ℕ) (it : PeriodRecord) → fin.get periods (period_name id (place + 1)) ≡ Some it → ((fdp : Fdp) (actual : Option ActualTimes) → IsReadPeriod rows id (place + 1) it fdp actual → ⊥) → HasNoPeriods periods rows id
@@ -367,34 +374,26 @@ module _ (periods : Periods) (rows : Segments) (id : List ℕ) where
 
 -- ---- The pairing
 
-same_plan : (fdps : List Fdp) → ((i : ℕ) (fdp : Fdp) → slice_get fdps i ≡ Some fdp → fdp.planned_report ≡ fdp.report) → map as_planned fdps ≡ fdps
+pub same_plan : (fdps : List Fdp) → ((i : ℕ) (fdp : Fdp) → slice_get fdps i ≡ Some fdp → fdp.planned_report ≡ fdp.report) → map as_planned fdps ≡ fdps
 same_plan [] each = refl
 same_plan (f ∷ fdps) each =
     let first : f.planned_report ≡ f.report = each zero f refl in
     let same : as_planned f ≡ f = λ i. record { planned_report = sym first i; report = f.report; release = f.release; segments = f.segments } in
     ap₂ (λ x l. x ∷ l) same (same_plan fdps (λ i fdp e. each (suc i) fdp e))
 
-fdps_same : (a b : Fdp) → a.planned_report ≡ a.report → b.planned_report ≡ b.report → a.report ≡ b.report → a.release ≡ b.release → a.segments ≡ b.segments → a ≡ b
-fdps_same a b first second report release segments = λ i. record {
-  planned_report = (first ∙ report ∙ sym second) i;
-  report = report i;
-  release = release i;
-  segments = segments i;
-}
-
 module _ (periods : Periods) (rows : Segments) (id : List ℕ) where
   -- a period of a list, with its actual beside it
-  abbrev Beside : List (Option ActualTimes) → ℕ → PeriodRecord → Fdp → Type 0
+  abbrev pub Beside : List (Option ActualTimes) → ℕ → PeriodRecord → Fdp → Type 0
   Beside actuals i it fdp = (actual : Option ActualTimes) × (slice_get actuals i ≡ Some actual) × IsReadPeriod rows id (i + 1) it fdp actual
 
-  beside : (planned : List Fdp) (actuals : List (Option ActualTimes)) → length actuals ≡ length planned → EachBeside (HasPeriodRow periods rows id) planned actuals →
+  pub beside : (planned : List Fdp) (actuals : List (Option ActualTimes)) → length actuals ≡ length planned → EachBeside (HasPeriodRow periods rows id) planned actuals →
       (i : ℕ) (fdp : Fdp) → slice_get planned i ≡ Some fdp → (it : PeriodRecord) × (fin.get periods (period_name id (i + 1)) ≡ Some it) × Beside actuals i it fdp
   beside planned actuals count each i fdp e =
       let a = there_within actuals i (let n = slice_get_within planned i fdp e in omega (arith, n, count)) in
       let it = each i fdp a.0 e a.1 in
       (it.0, it.1, (a.0, a.1, it.2))
 
-  beside_once : (some others : List (Option ActualTimes)) (i : ℕ) (it : PeriodRecord) (x y : Fdp) → Beside some i it x → Beside others i it y → x ≡ y
+  pub beside_once : (some others : List (Option ActualTimes)) (i : ℕ) (it : PeriodRecord) (x y : Fdp) → Beside some i it x → Beside others i it y → x ≡ y
   beside_once some others i it x y p q =
       fdps_same x y p.2.planned q.2.planned (p.2.report ∙ sym q.2.report) (p.2.release ∙ sym q.2.release)
       (segments_kept rows id (i + 1) x y p.0 q.0 p.2.has_segments q.2.has_segments)

@@ -1,29 +1,29 @@
 -- The pairings of a state are what its rows tell, and what rows tell has those rows.
-use Rattle.std.proofs.Common.{◌≡◌, ◌↔◌, inl, inr, refl, sym, ap, subst, ◌∙◌, arith, ℕ, zero, suc, ◌+◌, ◌<◌, Bool, true, List, [], ◌∷◌, length, map, Option, Some, None, slice_get}
+use Rattle.std.proofs.Common.{◌≡◌, ◌↔◌, refl, sym, ap, subst, ◌∙◌, arith, ℕ, zero, suc, ◌+◌, ◌<◌, Bool, true, ◌&&◌, List, [], ◌∷◌, length, Option, Some, None, slice_get}
 use Rattle.std.specs.FinMap as fin
 use Rattle.std.specs.List.{list_all}
 use Rattle.std.specs.Option.{option_map}
 use Rattle.std.proofs.lemmas.Bool.{and_parts, and_from}
-use Rattle.std.proofs.lemmas.Option.{slice_get-map, slice_get_within}
+use Rattle.std.proofs.lemmas.Option.{slice_get_within}
 use Rattle.sqlite_value.specs.Order.{Row, column}
-use Rattle.duty.specs.Plans.{ActualTimes, as_planned}
+use Rattle.duty.specs.Plans.{ActualTimes}
 use Rattle.duty.specs.declared.fdp.Fdp.{Fdp}
 use Rattle.duty.specs.declared.segment.BlockTimes.{BlockTimes}
 use Rattle.duty.specs.declared.segment.Segment.{Segment}
 use Rattle.codec.specs.Instants.{is_instant, times_have_instants, segment_has_instants, period_has_instants}
-use Rattle.roster.specs.Sound.{IsActual}
 use Rattle.roster.specs.State.{State}
 use Rattle.roster.specs.declared.state.Rostered.{Rostered}
 use Rattle.tables.specs.Records.{period_row, segment_row}
 use Rattle.tables.specs.declared.period.PeriodRecord.{PeriodRecord}
 use Rattle.tables.specs.declared.segment.SegmentRecord.{SegmentRecord}
 use Rattle.store.proofs.FewPeriods.{few_segments}
-use Rattle.store.proofs.Lists.{some_same, one_value}
+use Rattle.store.proofs.Lists.{same_list, some_same, one_value}
 use Rattle.store.proofs.PlanKeys.{period_names_same, segment_names_same}
-use Rattle.store.proofs.PlanLemmas.{there_within, same_plan}
+use Rattle.store.proofs.PlanLemmas.{there_within, same_plan, same_listed, times_once, block_pairs_same, Beside, beside, beside_once}
+use Rattle.store.proofs.SamePairings.{planned_report}
 use Rattle.store.proofs.Values.{numbers_same, text_is, number_is}
 use Rattle.store.specs.Loading.{IsPlanned, actual_has_instants}
-use Rattle.store.specs.PlanRows.{Periods, Segments, period_name, segment_name, AreTimes, block_pair, actual_pair, planned_segment, IsSegment, HasRowOf, HasPeriodRow, IsReadPeriod, HasSegments, IsTold}
+use Rattle.store.specs.PlanRows.{Periods, Segments, period_name, segment_name, AreTimes, block_pair, actual_pair, IsSegment, HasRowOf, HasPeriodRow, IsReadPeriod, HasSegments, IsTold}
 use Rattle.store.specs.PlanRows.{PeriodRows, SegmentRows, ArePeriodsKeyed, AreSegmentsKeyed}
 use Rattle.store.specs.Rows.{InPeriod, InSegment, At, PeriodOf, SegmentOf, row_of_period, row_of_segment, times_flown}
 
@@ -35,6 +35,13 @@ all_at test (y ∷ xs) e (suc i) x there = all_at test xs (and_parts (test y) (l
 all_from : {A : Type 0} (test : A → Bool) (xs : List A) → ((i : ℕ) (x : A) → slice_get xs i ≡ Some x → test x ≡ true) → list_all test xs ≡ true
 all_from test [] each = refl
 all_from test (y ∷ xs) each = and_from (test y) (list_all test xs) (each zero y refl) (all_from test xs (λ i x e. each (suc i) x e))
+
+-- the report, the release and the segments of a period with instants have them
+period_parts : (f : Fdp) → period_has_instants f ≡ true → (is_instant f.report ≡ true) × (is_instant f.release ≡ true) × (list_all segment_has_instants f.segments ≡ true)
+period_parts f e =
+    let first = and_parts (is_instant f.report && is_instant f.release) (list_all segment_has_instants f.segments) e in
+    let times = and_parts (is_instant f.report) (is_instant f.release) first.0 in
+    (times.0, times.1, first.1)
 
 -- ---- Times
 
@@ -95,12 +102,6 @@ block_instants (Some a) (Some b) t are = and_from _ _ (ap (λ p. is_instant p.0)
 
 -- ---- The rows of a state tell of each of its pairings
 
-planned_report : (periods : List Fdp) → map as_planned periods ≡ periods → (place : ℕ) (fdp : Fdp) → slice_get periods place ≡ Some fdp → fdp.planned_report ≡ fdp.report
-planned_report periods all place fdp here =
-    let is : slice_get (map as_planned periods) place ≡ Some (as_planned fdp) = slice_get-map as_planned periods place ∙ ap (option_map as_planned) here in
-    let same : fdp ≡ as_planned fdp = one_value here (ap (λ l. slice_get l place) (sym all) ∙ is) in
-    ap (λ (f : Fdp). f.planned_report) same
-
 module _ (s : State) (m : Periods) (n : Segments) (m_keyed : ArePeriodsKeyed m) (n_keyed : AreSegmentsKeyed n)
     (periods : (row : Row) → PeriodRows m row ↔ InPeriod s row) (segments : (row : Row) → SegmentRows n row ↔ InSegment s row)
     (id : List ℕ) (r : Rostered) (here : fin.get s.pairings id ≡ Some r) (is : IsPlanned id r) where
@@ -124,7 +125,7 @@ module _ (s : State) (m : Periods) (n : Segments) (m_keyed : ArePeriodsKeyed m) 
         let same_id : id ≡ it.pairing = text_is (at_column 0) in
         let same_period : place + 1 ≡ it.period = number_is (at_column 1) in
         let same_number : j + 1 ≡ it.number = number_is (at_column 2) in
-        let all = (and_parts _ _ (and_parts _ _ instants).1).1 in (
+        let all = (period_parts fdp instants).2 in (
           it,
           ap (fin.get n) (λ i. segment_name (same_id i) (same_period i) (same_number i)) ∙ row.1,
           record {
@@ -163,16 +164,15 @@ module _ (s : State) (m : Periods) (n : Segments) (m_keyed : ArePeriodsKeyed m) 
         let e = row.2 in
         let at_column = λ (k : ℕ). ap (λ (x : Row). column x k) e in
         let same_id : id ≡ it.pairing = text_is (at_column 0) in
-        let same_number : place + 1 ≡ it.number = number_is (at_column 1) in
-        (
+        let same_number : place + 1 ≡ it.number = number_is (at_column 1) in (
           it,
           ap (fin.get m) (λ i. period_name (same_id i) (same_number i)) ∙ row.1,
           record {
             planned = planned_report r.plan.periods is.planned place fdp a;
             report = number_is (at_column 2);
             release = number_is (at_column 3);
-            report_instant = (and_parts _ _ instants).0;
-            release_instant = (and_parts _ _ (and_parts _ _ instants).1).0;
+            report_instant = (period_parts fdp instants).0;
+            release_instant = (period_parts fdp instants).1;
             few = few_segments r.plan is.plan place fdp a;
             flown = actual_times_are it.act_report it.act_release actual (numbers_same _ _ (at_column 4)) (numbers_same _ _ (at_column 5)) (λ x f. (is.actuals place x (b ∙ ap Some f)).1);
             whole = λ x f. let ia = (is.actuals place x (b ∙ ap Some f)).0 in (ia.number, ap (λ (d : Fdp). length d.segments) (one_value a ia.planned) ∙ ia.count, ia.in_order);
@@ -237,7 +237,7 @@ module _ (m : Periods) (n : Segments) (m_keyed : ArePeriodsKeyed m) (n_keyed : A
       let name = n_keyed (segment_name id (p.place + 1) (g.place + 1)) row.0 row.1 in
       (row.0, ap (fin.get n) (sym name) ∙ row.1, segment_same p.place g.place g.segment (times_flown p.actual g.place) row.0 row.1 row.2)
 
-  period_there : (i : ℕ) → i < length r.plan.periods → PeriodOf r
+  abbrev period_there : (i : ℕ) → i < length r.plan.periods → PeriodOf r
   period_there i below =
       let fdp = there_within r.plan.periods i below in
       let actual = there_within r.actuals i (let c = told.places in omega (arith, below, c)) in
@@ -265,11 +265,14 @@ module _ (m : Periods) (n : Segments) (m_keyed : ArePeriodsKeyed m) (n_keyed : A
   flown_all : (place : ℕ) (fdp : Fdp) (a : ActualTimes) (it : PeriodRecord) → IsReadPeriod n id (place + 1) it fdp (Some a) → actual_has_instants a
   flown_all place fdp a it is =
       let count = (is.whole a refl).1 in
-      let both = actual_instants it.act_report it.act_release a is.flown in
-      (both.0, both.1, all_from times_have_instants a.segments (λ j t e.
-        let segment = there_within fdp.segments j (let k = slice_get_within a.segments j t e in omega (arith, k, count)) in
-        let row = is.has_segments.each j segment.0 segment.1 in
-        block_instants row.0.act_out row.0.act_in t (subst (λ u. AreTimes row.0.act_out row.0.act_in (option_map block_pair u)) e row.2.flown)))
+      let both = actual_instants it.act_report it.act_release a is.flown in (
+        both.0,
+        both.1,
+        all_from times_have_instants a.segments (λ j t e.
+            let segment = there_within fdp.segments j (let k = slice_get_within a.segments j t e in omega (arith, k, count)) in
+            let row = is.has_segments.each j segment.0 segment.1 in
+            block_instants row.0.act_out row.0.act_in t (subst (λ u. AreTimes row.0.act_out row.0.act_in (option_map block_pair u)) e row.2.flown)),
+      )
 
   pub told_planned : IsPlanned id r
   told_planned = record {
@@ -280,7 +283,7 @@ module _ (m : Periods) (n : Segments) (m_keyed : ArePeriodsKeyed m) (n_keyed : A
     instants = all_from period_has_instants r.plan.periods (λ i fdp e.
         let p = period_there i (slice_get_within r.plan.periods i fdp e) in
         let is = (told.each i fdp p.actual e p.flown).2 in
-        and_from _ _ is.report_instant (and_from _ _ is.release_instant (all_from segment_has_instants fdp.segments (λ j segment f. (is.has_segments.each j segment f).2.instants))));
+        and_from _ _ (and_from _ _ is.report_instant is.release_instant) (all_from segment_has_instants fdp.segments (λ j segment f. (is.has_segments.each j segment f).2.instants)));
     places = told.places;
     actuals = λ i a e.
         let fdp = there_within r.plan.periods i (let k = slice_get_within r.actuals i (Some a) e in let c = told.places in omega (arith, k, c)) in
@@ -288,3 +291,96 @@ module _ (m : Periods) (n : Segments) (m_keyed : ArePeriodsKeyed m) (n_keyed : A
         let w = row.2.whole a refl in
         (record { fdp = fdp.0; planned = fdp.1; number = w.0; count = w.1; in_order = w.2 }, flown_all i fdp.0 a row.0 row.2);
   }
+
+-- ---- Rows tell of one pairing
+
+module _ (n : Segments) (id : List ℕ) (number : ℕ) (fdp : Fdp) where
+  times_in : (actual flight : Option ActualTimes) → HasSegments n id number fdp actual → HasSegments n id number fdp flight → (i : ℕ) → i < length fdp.segments → times_flown actual i ≡ times_flown flight i
+  times_in actual flight has also i below =
+      let segment = there_within fdp.segments i below in
+      let row = has.each i segment.0 segment.1 in
+      let other = also.each i segment.0 segment.1 in
+      let alike : other.0 ≡ row.0 = one_value other.1 row.1 in
+      let flown = subst (λ v. IsSegment v segment.0 (times_flown flight i)) alike other.2 in
+      block_pairs_same (times_flown actual i) (times_flown flight i) (times_once row.0.act_out row.0.act_in _ _ row.2.flown flown.flown)
+
+  actual_once : (it : PeriodRecord) (actual flight : Option ActualTimes) → IsReadPeriod n id number it fdp actual → IsReadPeriod n id number it fdp flight → actual ≡ flight
+  actual_once it None None is also = refl
+  actual_once it None (Some b) is also = absurd (let e = times_once it.act_report it.act_release None (Some (actual_pair b)) is.flown also.flown in cc)
+  actual_once it (Some a) None is also = absurd (let e = times_once it.act_report it.act_release (Some (actual_pair a)) None is.flown also.flown in cc)
+  actual_once it (Some a) (Some b) is also =
+      let pair : actual_pair a ≡ actual_pair b = some_same (times_once it.act_report it.act_release (Some (actual_pair a)) (Some (actual_pair b)) is.flown also.flown) in
+      let w = is.whole a refl in
+      let v = also.whole b refl in
+      let segments : a.segments ≡ b.segments = same_list a.segments b.segments
+      (λ i t e. sym (times_in (Some a) (Some b) is.has_segments also.has_segments i (let k = slice_get_within a.segments i t e in let c = w.1 in omega (arith, k, c))) ∙ e)
+      (λ i t e. times_in (Some a) (Some b) is.has_segments also.has_segments i (let k = slice_get_within b.segments i t e in let c = v.1 in omega (arith, k, c)) ∙ e) in
+      let same : a ≡ b = λ i. record { period = (w.0 ∙ sym v.0) i; report = (pair i).0; release = (pair i).1; segments = segments i } in
+      ap Some same
+
+module _ (m : Periods) (n : Segments) (id : List ℕ) (r q : Rostered) (told : IsTold m n id r) (also : IsTold m n id q) where
+  periods_once : r.plan.periods ≡ q.plan.periods
+  periods_once = same_listed (λ k. fin.get m (period_name id k)) (Beside m n id r.actuals) (Beside m n id q.actuals) r.plan.periods q.plan.periods
+      (beside m n id r.plan.periods r.actuals told.places told.each, told.all) (beside m n id q.plan.periods q.actuals also.places also.each, also.all) (beside_once m n id r.actuals q.actuals)
+
+  actual_kept : (i : ℕ) (a : Option ActualTimes) → slice_get r.actuals i ≡ Some a → slice_get q.actuals i ≡ Some a
+  actual_kept i a e =
+      let fdp = there_within r.plan.periods i (let k = slice_get_within r.actuals i a e in let c = told.places in omega (arith, k, c)) in
+      let its : slice_get q.plan.periods i ≡ Some fdp.0 = ap (λ l. slice_get l i) (sym periods_once) ∙ fdp.1 in
+      let b = there_within q.actuals i (let k = slice_get_within q.plan.periods i fdp.0 its in let c = also.places in omega (arith, k, c)) in
+      let row = told.each i fdp.0 a fdp.1 e in
+      let other = also.each i fdp.0 b.0 its b.1 in
+      let alike : other.0 ≡ row.0 = one_value other.1 row.1 in
+      let same : a ≡ b.0 = actual_once n id (i + 1) fdp.0 row.0 a b.0 row.2 (subst (λ v. IsReadPeriod n id (i + 1) v fdp.0 b.0) alike other.2) in
+      b.1 ∙ ap Some (sym same)
+
+pub told_once : (m : Periods) (n : Segments) (id : List ℕ) (r q : Rostered) → IsTold m n id r → IsTold m n id q → (r.plan ≡ q.plan) × (r.actuals ≡ q.actuals)
+told_once m n id r q told also = (
+  λ i. record { id = (told.named ∙ sym also.named) i; periods = periods_once m n id r q told also i },
+  same_list r.actuals q.actuals (actual_kept m n id r q told also) (actual_kept m n id q r also told),
+)
+
+-- ---- A state of which the rows tell each pairing has just these rows
+
+module _ (s : State) (m : Periods) (n : Segments) (m_keyed : ArePeriodsKeyed m) (n_keyed : AreSegmentsKeyed n)
+    (told : (id : List ℕ) (r : Rostered) → fin.get s.pairings id ≡ Some r → IsTold m n id r)
+    (of_pairing : (it : PeriodRecord) → fin.get m (period_name it.pairing it.number) ≡ Some it → (r : Rostered) × (fin.get s.pairings it.pairing ≡ Some r))
+    (of_period : (it : SegmentRecord) → fin.get n (segment_name it.pairing it.period it.number) ≡ Some it → (p : PeriodRecord) × (fin.get m (period_name it.pairing it.period) ≡ Some p)) where
+  pub periods_are : (row : Row) → PeriodRows m row ↔ InPeriod s row
+  periods_are row = (
+    λ it.
+        let r = of_pairing it.0 it.1 in
+        let p = of_its_period m n m_keyed n_keyed it.0.pairing r.0 (told it.0.pairing r.0 r.1) it.0 it.1 in
+        (record { name = it.0.pairing; value = r.0; there = r.1 }, p.0, it.2 ∙ p.2),
+    λ is.
+        let it = its_period m n m_keyed n_keyed is.0.name is.0.value (told is.0.name is.0.value is.0.there) is.1 in
+        (it.0, it.1, is.2 ∙ it.2),
+  )
+
+  -- the pairing of a segment's period is there
+  pairing_there : (it : SegmentRecord) (p : PeriodRecord) → fin.get m (period_name it.pairing it.period) ≡ Some p → (r : Rostered) × (fin.get s.pairings it.pairing ≡ Some r)
+  pairing_there it p e =
+      let name = m_keyed (period_name it.pairing it.period) p e in
+      let r = of_pairing p (ap (fin.get m) (sym name) ∙ e) in
+      (r.0, ap (fin.get s.pairings) (period_names_same it.pairing p.pairing it.period p.number name).0 ∙ r.1)
+
+  segment_there : (it : SegmentRecord) → fin.get n (segment_name it.pairing it.period it.number) ≡ Some it → (p : PeriodRecord) → fin.get m (period_name it.pairing it.period) ≡ Some p →
+      (r : Rostered) → fin.get s.pairings it.pairing ≡ Some r → InSegment s (segment_row it)
+  segment_there it e p there r here =
+      let is = told it.pairing r here in
+      let same = (period_names_same it.pairing p.pairing it.period p.number (m_keyed (period_name it.pairing it.period) p there)).1 in
+      let period = of_its_period m n m_keyed n_keyed it.pairing r is p (ap (λ k. fin.get m (period_name it.pairing k)) (sym same) ∙ there) in
+      let number : period.0.place + 1 ≡ it.period = period.1 ∙ sym same in
+      let segment = of_its_segment m n m_keyed n_keyed it.pairing r is period.0 it (ap (λ k. fin.get n (segment_name it.pairing k it.number)) number ∙ e) in
+      (record { name = it.pairing; value = r; there = here }, period.0, segment.0, segment.1)
+
+  pub segments_are : (row : Row) → SegmentRows n row ↔ InSegment s row
+  segments_are row = (
+    λ it.
+        let p = of_period it.0 it.1 in
+        let r = pairing_there it.0 p.0 p.1 in
+        subst (InSegment s) (sym it.2) (segment_there it.0 it.1 p.0 p.1 r.0 r.1),
+    λ is.
+        let it = its_segment m n m_keyed n_keyed is.0.name is.0.value (told is.0.name is.0.value is.0.there) is.1 is.2 in
+        (it.0, it.1, is.3 ∙ it.2),
+  )

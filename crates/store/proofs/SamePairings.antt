@@ -106,14 +106,14 @@ module _ (s t : State) (id : List ℕ) (r q : Rostered) (here : fin.get s.pairin
 -- ---- The parts of a period
 
 -- a period of a plan reports as it is planned
-planned_report : (periods : List Fdp) → map as_planned periods ≡ periods → (place : ℕ) (fdp : Fdp) → slice_get periods place ≡ Some fdp →
+pub planned_report : (periods : List Fdp) → map as_planned periods ≡ periods → (place : ℕ) (fdp : Fdp) → slice_get periods place ≡ Some fdp →
     fdp.planned_report ≡ fdp.report
 planned_report periods all place fdp here =
     let is : slice_get (map as_planned periods) place ≡ Some (as_planned fdp) = slice_get-map as_planned periods place ∙ ap (option_map as_planned) here in
     let same : fdp ≡ as_planned fdp = one_value here (ap (λ l. slice_get l place) (sym all) ∙ is) in
     ap (λ (f : Fdp). f.planned_report) same
 
-fdps_same : (a b : Fdp) → a.planned_report ≡ a.report → b.planned_report ≡ b.report → a.report ≡ b.report → a.release ≡ b.release →
+pub fdps_same : (a b : Fdp) → a.planned_report ≡ a.report → b.planned_report ≡ b.report → a.report ≡ b.report → a.release ≡ b.release →
     a.segments ≡ b.segments → a ≡ b
 fdps_same a b first second report release segments = λ i. record {
   planned_report = (first ∙ report ∙ sym second) i;

@@ -1,22 +1,39 @@
-use Rattle.std.proofs.Common.{◌≡◌, refl, sym, ap, subst, ◌∙◌, ◌+◌, Some}
+use Rattle.std.proofs.Common.{rules, ◌≡◌, sym, ap, subst, ◌∙◌, ◌+◌, [], ◌∷◌, ◌++◌, Some, Err}
 use Rattle.std.specs.FinMap as fin
 use Rattle.std.specs.Option.{option_copied}
-use Rattle.store.specs.PlanRows.{period_name, IsReadPeriod}
-use Rattle.store.proofs.PlanLemmas.{periods_more}
+use Rattle.store.specs.PlanRows.{period_name, IsReadPeriod, ArePeriodsRead, HasNoPeriods}
+use Rattle.store.specs.declared.fault.TableName.TheVariants as table_name
+use Rattle.store.specs.declared.plans.ReadPeriods.{ReadPeriods}
+use Rattle.store.proofs.PlanLemmas.{NoPeriod, no_period, passed_on, periods_more}
 use Rattle.store.proofs.plans.periods_of.Goals as goal
 
 pub loop-place-preserved : goal.loop-place-preserved
 loop-place-preserved c =
+    let periods = c.args.rows.now.periods in
+    let rows = c.args.rows.now.segments in
+    let id = c.args.id.now in
+    let place = c.loop-place.place in
+    let row = c.in-Some.row.now in
+    let period = c.in_ok-period.period in
+    let actual = c.in_ok-period.actual in
     let inv = c.loop-place.invariant in
-    let e = c.in_ok-row.ensures in
-    let f = c.in-Some.is in
-    let there : fin.get c.args.rows.now.periods (period_name c.args.id.now (c.loop-place.place + 1)) ≡ Some c.in-Some.row.now =
-    sym e ∙ ap option_copied f in
-    let is = c.in_ok-period.ensures in
-    let s = c.in_ok-period.period-is in
-    let t = c.in_ok-period.actual-is in
-    let told : IsReadPeriod c.args.rows.now.segments c.args.id.now (c.loop-place.place + 1) c.in-Some.row.now c.in_ok-period.period c.in_ok-period.actual =
-    subst (λ x. IsReadPeriod c.args.rows.now.segments c.args.id.now (c.loop-place.place + 1) c.in-Some.row.now x c.in_ok-period.actual) (sym s)
-    (subst (λ y. IsReadPeriod c.args.rows.now.segments c.args.id.now (c.loop-place.place + 1) c.in-Some.row.now c.in_ok-period.field-0.planned y) (sym t) is) in
-    rw (c.in_ok-push.ensures.items, c.in_ok-push-2.ensures.items) (periods_more c.args.rows.now.periods c.args.rows.now.segments c.args.id.now c.loop-place.planned.items c.loop-place.actuals.items
-    c.in_ok-period.period c.in_ok-period.actual c.in-Some.row.now c.loop-place.place inv.0 inv.1 inv.2 there told)
+    let there : fin.get periods (period_name id (place + 1)) ≡ Some row = sym c.in_ok-row.ensures ∙ ap option_copied c.in-Some.is in
+    let told : IsReadPeriod rows id (place + 1) row period actual =
+    subst (λ p. IsReadPeriod rows id (place + 1) row p actual) c.in_ok-period.period-is
+    (subst (λ a. IsReadPeriod rows id (place + 1) row c.in_ok-period.field-0.planned a) c.in_ok-period.actual-is c.in_ok-period.ensures) in
+    let more : c.push.new.self.items ≡ c.loop-place.planned.items ++ period ∷ [] = search rules in
+    let also : c.push-in-loop-place.new.self.items ≡ c.loop-place.actuals.items ++ actual ∷ [] = search rules in
+    periods_more periods rows id c.loop-place.planned.items c.push.new.self.items c.loop-place.actuals.items c.push-in-loop-place.new.self.items period actual row place inv.0 inv.1 inv.2 there told more also
+
+pub returns-in_err-period : goal.returns-in_err-period
+returns-in_err-period c =
+    let periods = c.args.rows.now.periods in
+    let rows = c.args.rows.now.segments in
+    let id = c.args.id.now in
+    let place = c.loop-place.place in
+    let row = c.in-Some.row.now in
+    let there : fin.get periods (period_name id (place + 1)) ≡ Some row = sym c.in_ok-row.ensures ∙ ap option_copied c.in-Some.is in
+    let fault = c.in_err-period.field-0.0 in
+    let is : c.from_residual-in_err-period.result ≡ Err fault = search rules in
+    passed_on (λ (found : ReadPeriods). ArePeriodsRead periods rows id found.planned.items found.actuals.items) table_name.Segment (NoPeriod rows id (place + 1) row) (HasNoPeriods periods rows id)
+    c.from_residual-in_err-period.result fault is (no_period periods rows id place row there) c.in_err-period.ensures
