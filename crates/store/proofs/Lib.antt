@@ -33,5 +33,11 @@ pub mod ReadSeats
 pub mod SeatTable
 pub mod ReadBook
 pub mod Loads
+pub mod Entries
+pub mod Following
+pub mod ReadTables
+pub mod ReadIds
+pub mod ReadPeriods
+pub mod ReadSegments
 pub mod PlanStates
 pub mod RightSound

@@ -11,3 +11,4 @@ pub mod Next
 pub mod Writing
 pub mod Loading
 pub mod Reading
+pub mod Keyed

@@ -13,7 +13,7 @@ use crate::read_book::read_book;
 use crate::read_crew::read_crew;
 use crate::read_exceedances::read_exceedances;
 use crate::read_grounds::read_grounds;
-use crate::read_plans::read_pairings;
+use crate::read_pairings::read_pairings;
 use crate::read_requests::read_requests;
 use crate::read_seats::read_seats;
 use roster::Roster;
