@@ -34,3 +34,4 @@ pub mod ReadIds
 pub mod ReadPeriods
 pub mod ReadSegments
 pub mod PlanStates
+pub mod ReadPairings

@@ -1,5 +1,5 @@
 -- What is read of the tables `pairing`, `period` and `segment`. No public clause names these.
-use Rattle.std.specs.Prelude.{◌≡◌, ◌⊎◌, ◌+◌, ⊤, ℕ, true, List, map, take, Option, Some}
+use Rattle.std.specs.Prelude.{◌≡◌, ◌⊎◌, ◌+◌, ⊤, ℕ, true, List, map, take, Option, None, Some}
 use Rattle.std.specs.FinMap as fin
 use Rattle.values.specs.Name.{name_cmp}
 use Rattle.sqlite_value.specs.Order.{Row}
@@ -16,7 +16,7 @@ use Rattle.tables.specs.declared.pairing.PairingRecord.{PairingRecord}
 use Rattle.tables.specs.declared.period.PeriodRecord.{PeriodRecord}
 use Rattle.tables.specs.declared.segment.SegmentRecord.{SegmentRecord}
 use Rattle.store.specs.Loading.{ArePeriods, IsInstantIfAny}
-use Rattle.store.specs.PlanRows.{Periods, Segments, PeriodRows, SegmentRows, ArePeriodsKeyed, AreSegmentsKeyed, AreUngapped, HasNoGaps, period_name, segment_name}
+use Rattle.store.specs.PlanRows.{Periods, Segments, PeriodRows, SegmentRows, ArePeriodsKeyed, AreSegmentsKeyed, AreUngapped, HasNoGaps, IsTold, period_name, segment_name}
 use Rattle.store.specs.Reading.{AreOnce, HasStranger, Mapped}
 use Rattle.store.specs.Rows.{HasJust, row_of_pairing}
 use Rattle.store.specs.declared.plan_rows.PeriodKey.{PeriodKey}
@@ -159,3 +159,30 @@ pub record HasSegmentsOf (db : Database) (periods : Periods) (segments : Segment
   pub keyed : AreSegmentsKeyed segments
   pub of_periods : AreOfPeriods periods segments
   pub ungapped : HasNoGaps segments
+
+-- ---- Pairings
+
+-- no seat is held
+abbrev pub IsFree : Rostered → Type 0
+IsFree r = (r.captain ≡ None) × (r.first_officer ≡ None)
+
+abbrev pub AreFree : State → Type 0
+AreFree s = (id : List ℕ) (r : Rostered) → fin.get s.pairings id ≡ Some r → IsFree r
+
+-- the pairing of one of these ids, as the rows tell it
+pub record IsPairingOf (ids : Ids) (periods : Periods) (segments : Segments) (id : List ℕ) (r : Rostered) : Type 0 where
+  pub of_id : fin.contains_key ids id ≡ true
+  pub told : IsTold periods segments id r
+  pub free : IsFree r
+
+-- just the pairings of these ids are set in a roster
+pub record PairingsRead (ids : Ids) (periods : Periods) (segments : Segments) (old new : State) : Type 0 where
+  pub same : new ≡ record old { pairings = new.pairings }
+  pub known : (id : List ℕ) (r : Rostered) → fin.get new.pairings id ≡ Some r → IsPairingOf ids periods segments id r
+  pub all : (id : List ℕ) → fin.contains_key ids id ≡ true → fin.contains_key new.pairings id ≡ true
+
+-- of one of the ids the rows tell no pairing
+pub record HasUntold (ids : Ids) (periods : Periods) (segments : Segments) : Type 0 where
+  pub id : List ℕ
+  pub here : fin.contains_key ids id ≡ true
+  pub untold : (r : Rostered) → IsTold periods segments id r → ⊥

@@ -5,13 +5,20 @@ ghost use Rattle.std.specs.FinMap as fin;
 ghost use Rattle.sqlite.specs.Held.{state};
 ghost use Rattle.sqlite.specs.State.{HasCleanDisk};
 ghost use Rattle.tables.specs.Records.{pairing_row, IsPairingRow};
-ghost use Rattle.store.specs.Keyed.{AreIds, HasIds, IdsRead, IsId, row_of_id};
-ghost use Rattle.store.specs.Reading.{Saw, HasRows, IsUnreadable, Blames, HasStranger};
-ghost use Rattle.store.specs.Rows.{pairing};
+ghost use Rattle.store.specs.Keyed.{AreFree, AreIds, HasIds, HasUntold, IdsRead, IsId, PairingsRead, row_of_id};
+ghost use Rattle.store.specs.Loading.{Says};
+ghost use Rattle.store.specs.PlanRows.{AreUngapped, HasNoGaps};
+ghost use Rattle.store.specs.Reading.{Saw, HasRows, IsUnreadable, Blames, HasStranger, IsReadTo};
+ghost use Rattle.store.specs.Rows.{crew, pairing, segment};
 ghost use Rattle.store.specs.declared.fault.TableName.TheVariants as table_name;
 
 use crate::fault::{LoadFault, TableName};
+use crate::plan_rows::PlanRows;
+use crate::plans::pairing_of;
+use crate::read_periods::read_periods;
+use crate::read_segments::read_segments;
 use duty::PairingId;
+use roster::{Entry, Roster};
 use sqlite::{Alter, Connection};
 use std::alloc::Global;
 use tables::TableFault;
@@ -63,4 +70,40 @@ fn read_ids<S: Alter>(
 {
     let records = pairing_records(alloc, conn)?;
     ids_of(alloc, &records)
+}
+
+/// Sets the pairings of these ids, as the rows tell them.
+fn add_pairings(
+    alloc: Global,
+    roster: Roster,
+    ids: &Table<PairingId, ()>,
+    rows: &PlanRows,
+) -> Result<Roster, LoadFault>
+    requires none { roster.pairings ≡ fin.empty }
+    requires periods { AreUngapped rows.now.periods }
+    requires segments { HasNoGaps rows.now.segments }
+    ensures { MatchResult result (PairingsRead ids.now rows.now.periods rows.now.segments roster) (Blames table_name.Segment (HasUntold ids.now rows.now.periods rows.now.segments)) }
+{
+    let mut roster = roster;
+    for (id, _) in ids.iter() {
+        let pairing = pairing_of(alloc, rows, id)?;
+        roster.put(alloc, Entry::Pairing(pairing))?;
+    }
+    Ok(roster)
+}
+
+/// Reads the pairings, with their periods and segments, into a roster that has none. No seat of theirs is held.
+pub(crate) fn read_pairings<S: Alter>(
+    alloc: Global,
+    conn: &mut Connection<S>,
+    roster: Roster,
+) -> Result<Roster, LoadFault>
+    requires none { roster.pairings ≡ fin.empty }
+    requires above { HasCleanDisk (state S.Store conn.old) → IsReadTo crew roster (state S.Store conn.old).now }
+    ensures { Saw (λ r. IsReadTo segment r (state S.Store conn.old).now × (r ≡ record roster { pairings = r.pairings }) × AreFree r) (λ fault. Says fault (state S.Store conn.old).now) (state S.Store conn.old) (state S.Store conn.new) result }
+{
+    let ids = read_ids(alloc, conn)?;
+    let periods = read_periods(alloc, conn, &ids)?;
+    let segments = read_segments(alloc, conn, &periods)?;
+    add_pairings(alloc, roster, &ids, &PlanRows { periods, segments })
 }
