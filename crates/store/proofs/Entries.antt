@@ -1,5 +1,5 @@
 -- Going over the entries of a table, one after the other.
-use Rattle.std.proofs.Common.{◌≡◌, inl, inr, refl, sym, ap, subst, ◌∙◌, ℕ, List, [], ◌∷◌, ◌++◌, append_assoc, Option, Some}
+use Rattle.std.proofs.Common.{◌≡◌, inl, inr, refl, sym, ap, subst, ◌∙◌, ℕ, List, [], ◌∷◌, ◌++◌, append_assoc, Some}
 use Rattle.std.specs.FinMap as fin
 use Rattle.std.specs.List.{AllByRecursion}
 use Rattle.std.specs.Ordering.{eq_by_cmp}
@@ -14,6 +14,10 @@ all_more P (y ∷ xs) x all p = (all.0, all_more P xs x all.1 p)
 all_appended : {A : Type 0} (P : A → Type 0) (xs : List A) → AllByRecursion P xs → AllByRecursion P (xs ++ [])
 all_appended P [] all = tt
 all_appended P (x ∷ xs) all = (all.0, all_appended P xs all.1)
+
+all_still : {A : Type 0} (P Q : A → Type 0) → ((a : A) → P a → Q a) → (xs : List A) → AllByRecursion P xs → AllByRecursion Q xs
+all_still P Q f [] all = tt
+all_still P Q f (x ∷ xs) all = (f x all.0, all_still P Q f xs all.1)
 
 module _ {K V : Type 0} (name : K → List ℕ) where
   -- what stands in a list is found under its name
@@ -64,3 +68,11 @@ module _ {K V : Type 0} (name : K → List ℕ) where
           let it = found_passes (passed.done ++ []) (name k) v found (all_appended (λ e. P e.0) passed.done passed.each) in
           subst P (same it.0 k it.1) it.2
       all_passed same (x ∷ left) none passed k v there = absurd (cc)
+
+  -- what holds of the keys so far may be said otherwise
+  pub passed_more : (P Q : K → Type 0) (m : fin.FinMap name_cmp V) (left : List (K × V)) → ((k : K) → P k → Q k) → Passed P m left → Passed Q m left
+  passed_more P Q m left f passed = record {
+    done = passed.done;
+    whole = passed.whole;
+    each = all_still (λ e. P e.0) (λ e. Q e.0) (λ e p. f e.0 p) passed.done passed.each;
+  }

@@ -44,6 +44,13 @@ counted p e =
     let all = (no_first (unless (list_all are_shaped p.periods) (BadField field.Periods)) (count_fault p.periods ∷ times_fault p.periods ∷ chain_fault p.periods ∷ []) shaped).1 in
     (no_first (count_fault p.periods) (times_fault p.periods ∷ chain_fault p.periods ∷ []) all).0
 
+pub all_shaped : (p : Plan) → pairing_fault p ≡ None → list_all are_shaped p.periods ≡ true
+unfolding pairing_fault
+all_shaped p e =
+    let rest = (no_first (unless (is_id p.id) (BadField field.Pairing)) (unless (list_all are_shaped p.periods) (BadField field.Periods) ∷ count_fault p.periods ∷ times_fault p.periods ∷ chain_fault p.periods ∷ []) e).1 in
+    passes (list_all are_shaped p.periods) (BadField field.Periods)
+    (no_first (unless (list_all are_shaped p.periods) (BadField field.Periods)) (count_fault p.periods ∷ times_fault p.periods ∷ chain_fault p.periods ∷ []) rest).0
+
 abbrev is_short : Fdp → Bool
 is_short f = is_segment_count (length f.segments)
 

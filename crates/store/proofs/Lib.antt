@@ -41,3 +41,4 @@ pub mod ReadPeriods
 pub mod ReadSegments
 pub mod PlanStates
 pub mod RightSound
+pub mod ReadPairings

@@ -27,7 +27,7 @@ use Rattle.store.specs.PlanRows.{Periods, Segments, period_name, segment_name, A
 use Rattle.store.specs.PlanRows.{PeriodRows, SegmentRows, ArePeriodsKeyed, AreSegmentsKeyed}
 use Rattle.store.specs.Rows.{InPeriod, InSegment, At, PeriodOf, SegmentOf, row_of_period, row_of_segment, times_flown}
 
-all_at : {A : Type 0} (test : A → Bool) (xs : List A) → list_all test xs ≡ true → (i : ℕ) (x : A) → slice_get xs i ≡ Some x → test x ≡ true
+pub all_at : {A : Type 0} (test : A → Bool) (xs : List A) → list_all test xs ≡ true → (i : ℕ) (x : A) → slice_get xs i ≡ Some x → test x ≡ true
 all_at test [] e i x there = absurd (cc)
 all_at test (y ∷ xs) e zero x there = ap test (sym (some_same there)) ∙ (and_parts (test y) (list_all test xs) e).0
 all_at test (y ∷ xs) e (suc i) x there = all_at test xs (and_parts (test y) (list_all test xs) e).1 i x there

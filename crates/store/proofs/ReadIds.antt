@@ -1,5 +1,5 @@
 -- The table `pairing`: the ids that its records tell, and when it is right.
-use Rattle.std.proofs.Common.{◌≡◌, ◌⊎◌, inl, inr, refl, sym, ap, subst, ◌∙◌, ℕ, ◌+◌, true, false, List, [], ◌∷◌, map, take, length, Option, Some, None, slice_get}
+use Rattle.std.proofs.Common.{◌≡◌, inl, inr, refl, sym, ap, subst, ◌∙◌, ℕ, ◌+◌, true, false, List, map, take, length, Option, Some, None, slice_get}
 use Rattle.std.specs.FinMap as fin
 use Rattle.std.specs.Prelude.{is_some, ⊤}
 use Rattle.sqlite_value.specs.Order.{Row, column}
@@ -11,9 +11,9 @@ use Rattle.tables.specs.declared.pairing.PairingRecord.{PairingRecord}
 use Rattle.store.proofs.Ascii.{id_utf8}
 use Rattle.store.proofs.Mapping.{all_taken, nothing_mapped, next_mapped, mapped_at, mapped_place}
 use Rattle.store.proofs.Values.{text_is}
-use Rattle.store.specs.Keyed.{Ids, IdsRead, IsId, AreIds, HasIds, IdRows, row_of_id}
+use Rattle.store.specs.Keyed.{Ids, IdsRead, IsId, AreIds, HasIds, row_of_id}
 use Rattle.store.specs.Reading.{HasRows, HasStranger, IsUnreadable, Mapped}
-use Rattle.store.specs.Rows.{pairing, row_of_pairing}
+use Rattle.store.specs.Rows.{pairing}
 
 -- ---- Records in turn
 
@@ -63,6 +63,7 @@ module _ (db : Database) where
     has_ids ids all =
         let mapped = subst (λ l. Mapped (λ id. id) row_of_id IsId l ids) (all_taken pairing_row records) all.mapped in
         record {
+          stored = read.stored;
           there = read.there;
           rows = λ row. (
             λ h. let at = mapped.has row ((read.all row).0 h) in (at.0.index, is_there _ at.0.value at.0.there, at.1),

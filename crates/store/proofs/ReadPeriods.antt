@@ -1,5 +1,5 @@
 -- The table `period`: its records by their keys, and when it is right.
-use Rattle.std.proofs.Common.{◌≡◌, ◌⊎◌, inl, inr, refl, sym, ap, subst, ◌∙◌, arith, ℕ, pos, ◌<◌, ◌^◌, ◌+◌, true, false, List, [], ◌∷◌, map, take, length, Option, Some, None, slice_get}
+use Rattle.std.proofs.Common.{◌≡◌, inl, inr, refl, sym, ap, subst, ◌∙◌, arith, ℕ, pos, ◌<◌, ◌^◌, ◌+◌, true, false, List, [], ◌∷◌, map, take, length, Option, Some, None, slice_get}
 use Rattle.std.specs.FinMap as fin
 use Rattle.std.proofs.lemmas.Bool.Decides.{nat_tests}
 use Rattle.sqlite_value.specs.declared.value.Value.TheVariants.{Int, Text}
@@ -18,7 +18,7 @@ use Rattle.store.proofs.PlanKeys.{period_names_same}
 use Rattle.store.proofs.Tests.{passes}
 use Rattle.store.proofs.Values.{text_is, number_is, numbers_same}
 use Rattle.store.specs.Keyed.{Ids, HasIds, AtInstants, IsKeyedPeriod, PeriodsRead, ArePeriodsWhole, ArePeriodsWanting, IsPeriodTable, HasPeriods, name_of_period, row_of_keyed_period}
-use Rattle.store.specs.Loading.{IsInstantIfAny, IsPeriod, ArePeriods}
+use Rattle.store.specs.Loading.{IsInstantIfAny, ArePeriods}
 use Rattle.store.specs.PlanRows.{Periods, PeriodRows, ArePeriodsKeyed, AreUngapped, period_name}
 use Rattle.store.specs.Reading.{AreOnce, HasRows, HasStranger, IsUnreadable, Mapped, TellsOf, Under}
 use Rattle.store.specs.Rows.{period, row_of_pairing}
@@ -92,7 +92,7 @@ module _ (ids : Ids) (records : List PeriodRecord) (at : ℕ) (it : PeriodRecord
 
 -- ---- The table
 
-number_fits : (n : ℕ) → is_instant n ≡ true → n < 2 ^ 32
+pub number_fits : (n : ℕ) → is_instant n ≡ true → n < 2 ^ 32
 number_fits n e = grind (arith, nat_tests)
 
 number_fits_if_any : (o : Option ℕ) → IsInstantIfAny o → IsNumberIfAny o
@@ -224,7 +224,7 @@ module _ (db : Database) (ids : Ids) (above : HasIds db ids) where
           ]
 
       pub has_periods : AreUngapped m → HasPeriods db m
-      has_periods whole = record { right = (read.there, are_periods whole); rows = rows; keyed = keyed; ungapped = whole }
+      has_periods whole = record { stored = read.stored; right = (read.there, are_periods whole); rows = rows; keyed = keyed; ungapped = whole }
 
     pub has_whole : (m : Periods) → ArePeriodsWhole ids records (length records) m → HasPeriods db m
     has_whole m all = has_periods m all.0 all.1

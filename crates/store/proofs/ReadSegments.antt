@@ -1,5 +1,5 @@
 -- The table `segment`: its records by their keys, and when it fits as far as rows alone tell.
-use Rattle.std.proofs.Common.{◌≡◌, ◌⊎◌, inl, inr, refl, sym, ap, subst, ◌∙◌, ℕ, pos, ◌+◌, true, false, List, [], ◌∷◌, map, take, length, Option, Some, None, slice_get}
+use Rattle.std.proofs.Common.{◌≡◌, inl, inr, refl, sym, ap, subst, ◌∙◌, ℕ, pos, ◌+◌, true, false, List, [], ◌∷◌, map, take, length, Option, Some, None, slice_get}
 use Rattle.std.specs.FinMap as fin
 use Rattle.std.specs.Prelude.{is_some}
 use Rattle.sqlite_value.specs.declared.value.Value.TheVariants.{Int, Text}
@@ -16,7 +16,7 @@ use Rattle.store.proofs.Mapping.{all_taken, nothing_mapped, next_mapped, mapped_
 use Rattle.store.proofs.PlanKeys.{segment_names_same}
 use Rattle.store.proofs.Tests.{passes}
 use Rattle.store.proofs.Values.{text_is, number_is, numbers_same}
-use Rattle.store.specs.Keyed.{IsKeyedSegment, SegmentsRead, AreSegmentsWhole, AreSegmentsWanting, IsSegmentTable, IsSegmentOf, AreOfPeriods, HasPeriods, HasSegmentsOf, name_of_segment, row_of_keyed_segment}
+use Rattle.store.specs.Keyed.{IsKeyedSegment, SegmentsRead, AreSegmentsWhole, AreSegmentsWanting, IsSegmentTable, AreOfPeriods, HasPeriods, HasSegmentsOf, name_of_segment, row_of_keyed_segment}
 use Rattle.store.specs.PlanRows.{Periods, Segments, SegmentRows, AreSegmentsKeyed, HasNoGaps, period_name, segment_name}
 use Rattle.store.specs.Reading.{AreOnce, HasRows, HasStranger, IsUnreadable, Mapped, TellsOf, Under}
 use Rattle.store.specs.Rows.{segment}
@@ -198,7 +198,7 @@ module _ (db : Database) where
           ]
 
     pub has_whole : (m : Segments) → AreSegmentsWhole periods records (length records) m → HasSegmentsOf db periods m
-    has_whole m all = record { there = read.there; rows = rows m all.0; keyed = keyed m all.0; of_periods = of_periods m all.0; ungapped = all.1 }
+    has_whole m all = record { stored = read.stored; there = read.there; rows = rows m all.0; keyed = keyed m all.0; of_periods = of_periods m all.0; ungapped = all.1 }
 
     pub wanting : AreSegmentsWanting periods records (length records) → IsSegmentTable db → ⊥
     wanting (inl s) right = strange s right

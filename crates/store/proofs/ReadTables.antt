@@ -1,5 +1,5 @@
 -- Tables that are read one after the other, and what a refusal of one says.
-use Rattle.std.proofs.Common.{◌≡◌, subst, ◌∙◌, List, map, Result, Ok, Err, IfOk, MatchResult}
+use Rattle.std.proofs.Common.{◌≡◌, sym, subst, ◌∙◌, List, map, Result, Ok, Err, IfOk, MatchResult}
 use Rattle.sqlite_value.specs.Order.{Row}
 use Rattle.sqlite.proofs.StateLemmas.{survives_then}
 use Rattle.sqlite.specs.Effect.{Database}
@@ -87,3 +87,7 @@ then_saw Is Refuses IsNext RefusesNext a old mid new (Err fault) one two = recor
       subst (λ db. RefusesNext db fault) first.0.0.now_is (two.told clean);
   left = left_then old mid new one.left two.left;
 }
+
+-- what was told of the database before a read holds of it after
+pub seen_here : {A : Type 0} (Is : Database → A → Type 0) (Refuses : LoadFault → Type 0) (a : A) (old new : State) → Saw (Is old.now) Refuses old new (Ok a) → HasCleanDisk new → Is new.now a
+seen_here Is Refuses a old new saw clean = let it = saw.told clean in subst (λ db. Is db a) (sym it.0.0.now_is) it.1

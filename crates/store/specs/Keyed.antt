@@ -10,14 +10,14 @@ use Rattle.codec.specs.Instants.{is_instant}
 use Rattle.roster.specs.State.{State}
 use Rattle.roster.specs.declared.state.Rostered.{Rostered}
 use Rattle.tables.specs.Records.{IsNumber, IsSegmentRow, pairing_row, period_row, segment_row}
-use Rattle.tables.specs.Rows.{rows_of}
+use Rattle.tables.specs.Rows.{IsStored, rows_of}
 use Rattle.tables.specs.Schema.{IsOfBook, pairing_table, period_table, segment_table}
 use Rattle.tables.specs.declared.pairing.PairingRecord.{PairingRecord}
 use Rattle.tables.specs.declared.period.PeriodRecord.{PeriodRecord}
 use Rattle.tables.specs.declared.segment.SegmentRecord.{SegmentRecord}
 use Rattle.store.specs.Loading.{ArePeriods, IsInstantIfAny}
 use Rattle.store.specs.PlanRows.{Periods, Segments, PeriodRows, SegmentRows, ArePeriodsKeyed, AreSegmentsKeyed, AreUngapped, HasNoGaps, IsTold, period_name, segment_name}
-use Rattle.store.specs.Reading.{AreOnce, HasStranger, Mapped}
+use Rattle.store.specs.Reading.{AreOnce, HasStranger, IsFree, Mapped}
 use Rattle.store.specs.Rows.{HasJust, row_of_pairing}
 use Rattle.store.specs.declared.plan_rows.PeriodKey.{PeriodKey}
 use Rattle.store.specs.declared.plan_rows.SegmentKey.{SegmentKey}
@@ -55,6 +55,7 @@ IdRows ids row = (id : List ℕ) × (fin.contains_key ids id ≡ true) × (row �
 
 -- it is there with just the rows of these ids, each in its shape
 pub record HasIds (db : Database) (ids : Ids) : Type 0 where
+  pub stored : IsStored pairing_table db
   pub there : IsOfBook pairing_table db.schema
   pub rows : HasJust pairing_table db (IdRows ids)
   pub shaped : (id : List ℕ) → fin.contains_key ids id ≡ true → is_id id ≡ true
@@ -100,6 +101,7 @@ IsPeriodTable db = IsOfBook period_table db.schema × ArePeriods db
 
 -- it is and does, with just the rows of these periods, each under its key
 pub record HasPeriods (db : Database) (periods : Periods) : Type 0 where
+  pub stored : IsStored period_table db
   pub right : IsPeriodTable db
   pub rows : HasJust period_table db (PeriodRows periods)
   pub keyed : ArePeriodsKeyed periods
@@ -154,6 +156,7 @@ AreOfPeriods periods segments =
 
 -- it is and does, with just the rows of these segments, each under its key
 pub record HasSegmentsOf (db : Database) (periods : Periods) (segments : Segments) : Type 0 where
+  pub stored : IsStored segment_table db
   pub there : IsOfBook segment_table db.schema
   pub rows : HasJust segment_table db (SegmentRows segments)
   pub keyed : AreSegmentsKeyed segments
@@ -161,13 +164,6 @@ pub record HasSegmentsOf (db : Database) (periods : Periods) (segments : Segment
   pub ungapped : HasNoGaps segments
 
 -- ---- Pairings
-
--- no seat is held
-abbrev pub IsFree : Rostered → Type 0
-IsFree r = (r.captain ≡ None) × (r.first_officer ≡ None)
-
-abbrev pub AreFree : State → Type 0
-AreFree s = (id : List ℕ) (r : Rostered) → fin.get s.pairings id ≡ Some r → IsFree r
 
 -- the pairing of one of these ids, as the rows tell it
 pub record IsPairingOf (ids : Ids) (periods : Periods) (segments : Segments) (id : List ℕ) (r : Rostered) : Type 0 where

@@ -191,8 +191,11 @@ abbrev pub AreCrewed : roster.State → Type 0
 AreCrewed s = (id : List ℕ) (r : Rostered) → fin.get s.pairings id ≡ Some r → is_flown r ≡ true → is_fully_crewed r ≡ true
 
 -- no seat is held
+abbrev pub IsFree : Rostered → Type 0
+IsFree r = (r.captain ≡ None) × (r.first_officer ≡ None)
+
 abbrev pub AreFree : roster.State → Type 0
-AreFree s = (id : List ℕ) (r : Rostered) → fin.get s.pairings id ≡ Some r → (r.captain ≡ None) × (r.first_officer ≡ None)
+AreFree s = (id : List ℕ) (r : Rostered) → fin.get s.pairings id ≡ Some r → IsFree r
 
 -- some row is of no seat, or some flown pairing has a free one
 abbrev pub AreUnseated : List SeatRecord → roster.State → Type 0

@@ -1,14 +1,14 @@
 //! The table `pairing`, as it is loaded, with what the tables `period` and `segment` tell of each pairing.
 
-ghost use Rattle.std.specs.Prelude.{◌≡◌, length, map, MatchResult};
+ghost use Rattle.std.specs.Prelude.{◌≡◌, length, map, IfOk, MatchResult};
 ghost use Rattle.std.specs.FinMap as fin;
 ghost use Rattle.sqlite.specs.Held.{state};
 ghost use Rattle.sqlite.specs.State.{HasCleanDisk};
 ghost use Rattle.tables.specs.Records.{pairing_row, IsPairingRow};
-ghost use Rattle.store.specs.Keyed.{AreFree, AreIds, HasIds, HasUntold, IdsRead, IsId, PairingsRead, row_of_id};
+ghost use Rattle.store.specs.Keyed.{AreIds, HasIds, HasUntold, IdsRead, IsId, PairingsRead, row_of_id};
 ghost use Rattle.store.specs.Loading.{Says};
 ghost use Rattle.store.specs.PlanRows.{AreUngapped, HasNoGaps};
-ghost use Rattle.store.specs.Reading.{Saw, HasRows, IsUnreadable, Blames, HasStranger, IsReadTo};
+ghost use Rattle.store.specs.Reading.{AreFree, Saw, HasRows, IsUnreadable, Blames, HasStranger, IsReadTo};
 ghost use Rattle.store.specs.Rows.{crew, pairing, segment};
 ghost use Rattle.store.specs.declared.fault.TableName.TheVariants as table_name;
 
@@ -100,7 +100,9 @@ pub(crate) fn read_pairings<S: Alter>(
 ) -> Result<Roster, LoadFault>
     requires none { roster.pairings ≡ fin.empty }
     requires above { HasCleanDisk (state S.Store conn.old) → IsReadTo crew roster (state S.Store conn.old).now }
-    ensures { Saw (λ r. IsReadTo segment r (state S.Store conn.old).now × (r ≡ record roster { pairings = r.pairings }) × AreFree r) (λ fault. Says fault (state S.Store conn.old).now) (state S.Store conn.old) (state S.Store conn.new) result }
+    ensures read { Saw (λ r. IsReadTo segment r (state S.Store conn.old).now × (r ≡ record roster { pairings = r.pairings }) × AreFree r) (λ fault. Says fault (state S.Store conn.old).now) (state S.Store conn.old) (state S.Store conn.new) result }
+    ensures rest { IfOk result (λ r. r ≡ record roster { pairings = r.pairings }) }
+    ensures free { IfOk result AreFree }
 {
     let ids = read_ids(alloc, conn)?;
     let periods = read_periods(alloc, conn, &ids)?;

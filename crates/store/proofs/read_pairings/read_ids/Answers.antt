@@ -1,5 +1,4 @@
 use Rattle.std.proofs.Common.{rules, ◌≡◌, sym, subst, Result, Err, length, List, map}
-use Rattle.std.specs.FinMap as fin
 use Rattle.sqlite.specs.Held.{state}
 use Rattle.tables.specs.Records.{IsPairingRow, pairing_row}
 use Rattle.tables.specs.declared.pairing.PairingRecord.{PairingRecord}

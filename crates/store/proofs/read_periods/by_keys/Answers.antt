@@ -1,4 +1,4 @@
-use Rattle.std.proofs.Common.{rules, ◌≡◌, refl, sym, ap, subst, ◌∙◌, arith, length, ℕ}
+use Rattle.std.proofs.Common.{rules, refl, sym, ap, subst, ◌∙◌, arith, length, ℕ}
 use Rattle.std.specs.FinMap as fin
 use Rattle.std.proofs.lemmas.Option.{slice_get_read}
 use Rattle.store.specs.Keyed.{PeriodsRead, name_of_period}
