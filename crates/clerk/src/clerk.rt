@@ -80,6 +80,11 @@ impl<S: Alter> Clerk<S> {
         has_table(&self.conn, name)
     }
 
+    /// Whether the table of the records has their columns.
+    pub fn has_columns<R: Filed>(&self) -> Result<bool, TableFault> {
+        R::has_columns(self.alloc, &self.conn)
+    }
+
     /// Runs any SQL text.
     pub fn run(&mut self, sql: &str) -> Result<(), TableFault> {
         self.conn.execute(sql, &[])?;

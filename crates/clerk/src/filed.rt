@@ -6,19 +6,24 @@ ghost use Rattle.tables.specs.Calls.{HoldsBook};
 use sqlite::{Alter, Connection};
 use std::alloc::Global;
 use tables::TableFault;
-use tables::book::{BookRecord, insert_book, load_book};
-use tables::crew::{CrewRecord, insert_crew, load_crew};
-use tables::exceedance::{ExceedanceRecord, insert_exceedance, load_exceedances};
-use tables::ground::{GroundRecord, insert_ground, load_grounds};
-use tables::pairing::{PairingRecord, insert_pairing, load_pairings};
-use tables::period::{PeriodRecord, insert_period, load_periods};
-use tables::request::{RequestRecord, insert_request, load_requests};
-use tables::seat::{SeatRecord, insert_seat, load_seats};
-use tables::segment::{SegmentRecord, insert_segment, load_segments};
+use tables::book::{BookRecord, has_book_columns, insert_book, load_book};
+use tables::crew::{CrewRecord, has_crew_columns, insert_crew, load_crew};
+use tables::exceedance::{
+    ExceedanceRecord, has_exceedance_columns, insert_exceedance, load_exceedances,
+};
+use tables::ground::{GroundRecord, has_ground_columns, insert_ground, load_grounds};
+use tables::pairing::{PairingRecord, has_pairing_columns, insert_pairing, load_pairings};
+use tables::period::{PeriodRecord, has_period_columns, insert_period, load_periods};
+use tables::request::{RequestRecord, has_request_columns, insert_request, load_requests};
+use tables::seat::{SeatRecord, has_seat_columns, insert_seat, load_seats};
+use tables::segment::{SegmentRecord, has_segment_columns, insert_segment, load_segments};
 use values::Copied;
 
 /// A record of a table.
 pub trait Filed: Copied + Drop {
+    /// Whether the table of the records has their columns.
+    fn has_columns<S: Alter>(alloc: Global, conn: &Connection<S>) -> Result<bool, TableFault>;
+
     /// Adds the record to its table.
     fn insert<S: Alter>(&self, conn: &mut Connection<S>) -> Result<(), TableFault>
         requires { HoldsBook (state S.Store conn.old) };
@@ -40,6 +45,10 @@ fn if_any(alloc: Global, number: Option<u32>) -> Result<String, TableFault> {
 }
 
 impl Filed for BookRecord {
+    fn has_columns<S: Alter>(alloc: Global, conn: &Connection<S>) -> Result<bool, TableFault> {
+        has_book_columns(alloc, conn)
+    }
+
     fn insert<S: Alter>(&self, conn: &mut Connection<S>) -> Result<(), TableFault> {
         insert_book(conn, self)
     }
@@ -58,6 +67,10 @@ impl Filed for BookRecord {
 }
 
 impl Filed for CrewRecord {
+    fn has_columns<S: Alter>(alloc: Global, conn: &Connection<S>) -> Result<bool, TableFault> {
+        has_crew_columns(alloc, conn)
+    }
+
     fn insert<S: Alter>(&self, conn: &mut Connection<S>) -> Result<(), TableFault> {
         insert_crew(conn, self)
     }
@@ -77,6 +90,10 @@ impl Filed for CrewRecord {
 }
 
 impl Filed for PairingRecord {
+    fn has_columns<S: Alter>(alloc: Global, conn: &Connection<S>) -> Result<bool, TableFault> {
+        has_pairing_columns(alloc, conn)
+    }
+
     fn insert<S: Alter>(&self, conn: &mut Connection<S>) -> Result<(), TableFault> {
         insert_pairing(conn, self)
     }
@@ -94,6 +111,10 @@ impl Filed for PairingRecord {
 }
 
 impl Filed for PeriodRecord {
+    fn has_columns<S: Alter>(alloc: Global, conn: &Connection<S>) -> Result<bool, TableFault> {
+        has_period_columns(alloc, conn)
+    }
+
     fn insert<S: Alter>(&self, conn: &mut Connection<S>) -> Result<(), TableFault> {
         insert_period(conn, self)
     }
@@ -115,6 +136,10 @@ impl Filed for PeriodRecord {
 }
 
 impl Filed for SegmentRecord {
+    fn has_columns<S: Alter>(alloc: Global, conn: &Connection<S>) -> Result<bool, TableFault> {
+        has_segment_columns(alloc, conn)
+    }
+
     fn insert<S: Alter>(&self, conn: &mut Connection<S>) -> Result<(), TableFault> {
         insert_segment(conn, self)
     }
@@ -142,6 +167,10 @@ impl Filed for SegmentRecord {
 }
 
 impl Filed for SeatRecord {
+    fn has_columns<S: Alter>(alloc: Global, conn: &Connection<S>) -> Result<bool, TableFault> {
+        has_seat_columns(alloc, conn)
+    }
+
     fn insert<S: Alter>(&self, conn: &mut Connection<S>) -> Result<(), TableFault> {
         insert_seat(conn, self)
     }
@@ -161,6 +190,10 @@ impl Filed for SeatRecord {
 }
 
 impl Filed for GroundRecord {
+    fn has_columns<S: Alter>(alloc: Global, conn: &Connection<S>) -> Result<bool, TableFault> {
+        has_ground_columns(alloc, conn)
+    }
+
     fn insert<S: Alter>(&self, conn: &mut Connection<S>) -> Result<(), TableFault> {
         insert_ground(conn, self)
     }
@@ -179,6 +212,10 @@ impl Filed for GroundRecord {
 }
 
 impl Filed for ExceedanceRecord {
+    fn has_columns<S: Alter>(alloc: Global, conn: &Connection<S>) -> Result<bool, TableFault> {
+        has_exceedance_columns(alloc, conn)
+    }
+
     fn insert<S: Alter>(&self, conn: &mut Connection<S>) -> Result<(), TableFault> {
         insert_exceedance(conn, self)
     }
@@ -198,6 +235,10 @@ impl Filed for ExceedanceRecord {
 }
 
 impl Filed for RequestRecord {
+    fn has_columns<S: Alter>(alloc: Global, conn: &Connection<S>) -> Result<bool, TableFault> {
+        has_request_columns(alloc, conn)
+    }
+
     fn insert<S: Alter>(&self, conn: &mut Connection<S>) -> Result<(), TableFault> {
         insert_request(conn, self)
     }

@@ -5,6 +5,8 @@
 #[cfg(test)]
 mod changes;
 pub mod clerk;
+#[cfg(test)]
+mod columns;
 pub mod creating;
 #[cfg(test)]
 mod damage;

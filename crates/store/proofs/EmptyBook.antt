@@ -70,4 +70,4 @@ made_holds zone text begun last (Ok a) same fresh changed live clean is =
     let it = changed.done clean in
     let first : HasEmpty [] begun.now = record { there = tt; unreferenced = fresh (omega (arith, changed.left.clean)) } in
     let insert = subst (λ z. Inserts book_table (book_row (record { one = pos 1; version = pos 1; zone = z })) it.0.0 last.now) same it.0.2 in
-    empty_book zone it.0.0 last.now (it.0.1 first) insert (live it.1.is_open).0
+    empty_book zone it.0.0 last.now (it.0.1.0 first) insert (live it.1.is_open).0

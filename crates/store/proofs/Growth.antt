@@ -7,7 +7,8 @@ use Rattle.tables.specs.Calls.{Ran, MayLeave}
 use Rattle.tables.specs.Rows.{Makes, stored}
 use Rattle.tables.specs.Schema.{BookTable, IsTable, IsUnreferenced, table_found, book_tables}
 use Rattle.sqlite_schema.specs.declared.schema.Schema.{Schema}
-use Rattle.store.specs.Calls.{IsInside, Changed}
+use Rattle.store.specs.Calls.{IsInside, Changed, Then}
+use Rattle.store.specs.Kept.{KeepsPlain}
 use Rattle.store.specs.Making.{HasEmpty, Grows, IsFree, AreUnreferenced}
 use Rattle.store.proofs.Chaining.{one_call, still_inside, then_call}
 
@@ -30,6 +31,19 @@ grown made tables old new makes has = record {
   unreferenced = unreferenced_stay made old new makes book_tables has.unreferenced;
 }
 
+pub kept_then : (a b c : Database) → KeepsPlain a b → KeepsPlain b c → KeepsPlain a c
+kept_then a b c one two t there =
+    let first = one t there in
+    let second = two t first.0 in
+    (second.0, second.1 ∙ first.1)
+
+pub grown_on : (first second third : List BookTable) (old new : Database) → Then (Grows first second) (Grows second third) old new → Grows first third old new
+grown_on first second third old new it = (λ has. it.2.0 (it.1.0 has), kept_then old it.0 new it.1.1 it.2.1)
+
+-- a call that is done is done, whatever the faults that it could have
+pub as_told : {A E F : Type 0} {Is : Database → Database → Type 0} {a : A} (old new : State) → Changed {E = E} Is old new (Ok a) → Changed {E = F} Is old new (Ok a)
+as_told old new changed = record { done = changed.done; kept = changed.kept; left = changed.left }
+
 -- three in a row
 pub grown_thrice : {E : Type 0} (t u v : BookTable) (tables : List BookTable) (old one two new : State) (a b c : Unit {0}) → IsInside old →
     Ran (Makes t) old one (Ok a) → MayLeave (Makes t) old one → Ran (Makes u) one two (Ok b) → MayLeave (Makes u) one two → Ran (Makes v) two new (Ok c) → MayLeave (Makes v) two new →
@@ -44,7 +58,9 @@ grown_thrice {E = E} t u v tables old one two new a b c inside first first_left 
     record {
       done = λ clean.
           let it = whole.done clean in
-          ((λ has. grown v (u ∷ t ∷ tables) it.0.2.0 new.now it.0.2.2 (grown u (t ∷ tables) it.0.0 it.0.2.0 it.0.2.1 (grown t tables old.now it.0.0 it.0.1 has))), it.1);
+          let grows = λ (has : HasEmpty tables old.now).
+          grown v (u ∷ t ∷ tables) it.0.2.0 new.now it.0.2.2 (grown u (t ∷ tables) it.0.0 it.0.2.0 it.0.2.1 (grown t tables old.now it.0.0 it.0.1 has)) in
+          ((grows, kept_then old.now it.0.0 new.now it.0.1.keeps (kept_then it.0.0 it.0.2.0 new.now it.0.2.1.keeps it.0.2.2.keeps)), it.1);
       kept = whole.kept;
       left = whole.left;
     }

@@ -5,6 +5,7 @@ pub mod Ending
 pub mod FewPeriods
 pub mod Retiming
 pub mod Sets
+pub mod Sparing
 pub mod EffectSimple
 pub mod EffectPlans
 pub mod Effects

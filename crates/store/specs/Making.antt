@@ -5,6 +5,7 @@ use Rattle.sqlite_schema.specs.declared.schema.Schema.{Schema}
 use Rattle.sqlite.specs.Effect.{Database}
 use Rattle.tables.specs.Schema.{BookTable, IsTable, IsUnreferenced, table_found, book_tables, book_table, crew_table, pairing_table, period_table, segment_table, seat_table, ground_table, exceedance_table, request_table}
 use Rattle.tables.specs.Rows.{stored}
+use Rattle.store.specs.Kept.{KeepsPlain}
 
 -- no table has the name of one of the book, and no foreign key refers to one
 abbrev pub IsFree : Schema → Type 0
@@ -20,9 +21,9 @@ pub record HasEmpty (tables : List BookTable) (db : Database) : Type 0 where
   pub there : AllByRecursion (λ t. IsTable t db.schema × (stored t db ≡ [])) tables
   pub unreferenced : AreUnreferenced db.schema
 
--- the second tables are there where the first were
+-- the second tables are there where the first were, and others keep their rows
 abbrev pub Grows : List BookTable → List BookTable → Database → Database → Type 0
-Grows first second old new = HasEmpty first old → HasEmpty second new
+Grows first second old new = (HasEmpty first old → HasEmpty second new) × KeepsPlain old new
 
 -- the last made comes first
 abbrev pub first_tables : List BookTable

@@ -32,6 +32,14 @@ pub record MayAdd (old now : State) (s : roster.State) : Type 0 where
   pub honest : HasCleanDisk now → HasCleanDisk old
   pub crash : HasCleanDisk now → (trees : Trees) → now.may_leave trees → old.may_leave trees ⊎ Holds trees s
 
+-- a crash leaves only trees of which P holds
+pub record LeavesOnly (now : State) (P : Trees → Type 0) : Type 0 where
+  pub crash : HasCleanDisk now → (trees : Trees) → now.may_leave trees → P trees
+
+-- or what it could leave before
+pub record AddsOnly (old now : State) (P : Trees → Type 0) : Type 0 where
+  pub crash : HasCleanDisk now → (trees : Trees) → now.may_leave trees → old.may_leave trees ⊎ P trees
+
 -- no transaction is begun
 abbrev pub IsOutside : State → Type 0
 IsOutside s = HasCleanDisk s → s.in_transaction ≡ false

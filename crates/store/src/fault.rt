@@ -50,6 +50,11 @@ pub enum LoadFault {
 }
 
 impl fmt::Display for StoreFault {
+    ghost use Rattle.std.specs.Prelude.{Some};
+    ghost use Rattle.store.specs.Faults.{fault_text};
+
+    ghost output = { λ fault. Some (fault_text fault) };
+
     fn fmt<W: fmt::Write>(&self, f: &mut fmt::Formatter<W>) -> fmt::Result {
         f.write_str(match self {
             StoreFault::Store => "90 Store",
@@ -61,6 +66,11 @@ impl fmt::Display for StoreFault {
 impl std::error::Error for StoreFault {}
 
 impl fmt::Display for CreateFault {
+    ghost use Rattle.std.specs.Prelude.{Some};
+    ghost use Rattle.store.specs.Faults.{create_text};
+
+    ghost output = { λ fault. Some (create_text fault) };
+
     fn fmt<W: fmt::Write>(&self, f: &mut fmt::Formatter<W>) -> fmt::Result {
         match self {
             CreateFault::NotEmpty => f.write_str("43 NotEmpty"),

@@ -4,10 +4,11 @@ ghost use Rattle.sqlite.specs.Held.{state};
 ghost use Rattle.roster.specs.Sound.{Sound};
 ghost use Rattle.roster.specs.State.{State, empty};
 ghost use Rattle.roster.specs.Steps.{after};
+ghost use Rattle.store.specs.Kept.{KeepOthers, KeepPlain};
 ghost use Rattle.store.specs.Loading.{IsRight, Says};
 ghost use Rattle.store.specs.Making.{IsFree};
 ghost use Rattle.store.specs.Next.{IsNext};
-ghost use Rattle.store.specs.Outcomes.{Leaves, LeavesSome, AddsNothing, MayAdd, HoldsNow, IsOutside, IsOverBook, one, either};
+ghost use Rattle.store.specs.Outcomes.{Leaves, LeavesSome, LeavesOnly, AddsOnly, AddsNothing, MayAdd, HoldsNow, IsOutside, IsOverBook, one, either};
 ghost use Rattle.store.specs.Reading.{IsReadTo, Saw};
 ghost use Rattle.store.specs.Rows.{request};
 ghost use Rattle.store.specs.SameRows.{HasInstants};
@@ -68,6 +69,8 @@ impl<S: Alter> Store<S> {
         ensures not_empty { IfErr result (λ e. e.0 ≡ CreateFault.NotEmpty → (¬ IsFree (state S.Store conn).now.schema) × (e.1 ≡ conn)) }
         ensures memory { IfErr result (λ e. e.0 ≡ CreateFault.Fault StoreFault.Memory → AddsNothing (state S.Store conn) (state S.Store e.1)) }
         ensures store { IfErr result (λ e. MayAdd (state S.Store conn) (state S.Store e.1) (empty zone.now)) }
+        ensures alone { IfOk result (λ it. LeavesOnly (state S.Store it) (KeepPlain (state S.Store conn).now)) }
+        ensures others { IfErr result (λ e. AddsOnly (state S.Store conn) (state S.Store e.1) (KeepPlain (state S.Store conn).now)) }
         ensures outside { IfErr result (λ e. IsOutside (state S.Store e.1)) }
     {
         match make(alloc, &mut conn, zone) {
@@ -108,6 +111,8 @@ impl<S: Alter> Store<S> {
         ensures made { (s : State) → IsNext s change.now → Leaves (state S.Store self.old) (one s) → OnOk result (HoldsNow (state S.Store self.new) (after s change.now)) }
         ensures memory { (s : State) → Leaves (state S.Store self.old) (one s) → result ≡ Err StoreFault.Memory → Leaves (state S.Store self.new) (one s) }
         ensures store { (s : State) → IsNext s change.now → Leaves (state S.Store self.old) (one s) → result ≡ Err StoreFault.Store → Leaves (state S.Store self.new) (either s (after s change.now)) }
+        ensures alone { OnOk result (LeavesOnly (state S.Store self.new) (KeepOthers (state S.Store self.old).now)) }
+        ensures others { AddsOnly (state S.Store self.old) (state S.Store self.new) (KeepOthers (state S.Store self.old).now) }
         ensures some { LeavesSome (state S.Store self.new) }
         ensures honest { HasCleanDisk (state S.Store self.new) → HasCleanDisk (state S.Store self.old) }
     {
@@ -135,6 +140,8 @@ fn make<S: Alter>(alloc: Global, conn: &mut Connection<S>, zone: &Zone) -> Resul
     ensures not_empty { result ≡ Err CreateFault.NotEmpty → (¬ IsFree (state S.Store conn.old).now.schema) × (conn.new ≡ conn.old) }
     ensures memory { result ≡ Err (CreateFault.Fault StoreFault.Memory) → AddsNothing (state S.Store conn.old) (state S.Store conn.new) }
     ensures store { OnErr result (MayAdd (state S.Store conn.old) (state S.Store conn.new) (empty zone.now)) }
+    ensures alone { OnOk result (LeavesOnly (state S.Store conn.new) (KeepPlain (state S.Store conn.old).now)) }
+    ensures others { OnErr result (AddsOnly (state S.Store conn.old) (state S.Store conn.new) (KeepPlain (state S.Store conn.old).now)) }
     ensures outside { IsOutside (state S.Store conn.new) }
 {
     if !is_free(conn) {
@@ -183,6 +190,8 @@ fn write<S: Alter>(
     ensures made { (s : State) → IsNext s change.now → Leaves (state S.Store conn.old) (one s) → OnOk result (HoldsNow (state S.Store conn.new) (after s change.now)) }
     ensures memory { (s : State) → Leaves (state S.Store conn.old) (one s) → result ≡ Err StoreFault.Memory → Leaves (state S.Store conn.new) (one s) }
     ensures store { (s : State) → IsNext s change.now → Leaves (state S.Store conn.old) (one s) → result ≡ Err StoreFault.Store → Leaves (state S.Store conn.new) (either s (after s change.now)) }
+    ensures alone { OnOk result (LeavesOnly (state S.Store conn.new) (KeepOthers (state S.Store conn.old).now)) }
+    ensures others { AddsOnly (state S.Store conn.old) (state S.Store conn.new) (KeepOthers (state S.Store conn.old).now) }
     ensures some { LeavesSome (state S.Store conn.new) }
     ensures honest { HasCleanDisk (state S.Store conn.new) → HasCleanDisk (state S.Store conn.old) }
     ensures outside { IsOutside (state S.Store conn.new) }

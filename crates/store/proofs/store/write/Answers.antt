@@ -6,6 +6,8 @@ use Rattle.roster.specs.Steps.{after}
 use Rattle.store.specs.Outcomes.{Leaves, one}
 use Rattle.store.proofs.Committing.{begun_ready, begun_holds, written_holds, kept_leaves, either_leaves, ended_fit, undone_fit, none_done, over_at_end, unbegun_over, weaker}
 use Rattle.store.proofs.Ending.{on_ok, ended_leaves, ended_now}
+use Rattle.store.specs.Kept.{KeepOthers}
+use Rattle.store.proofs.Sparing.{adds_nothing, leaves_only, may_add, written_keeps}
 use Rattle.store.proofs.store.write.Goals as goal
 
 pub returns-in_err-begin-clause-memory : goal.returns-in_err-begin-clause-memory
@@ -106,3 +108,34 @@ returns-in_err-begin-clause-over g c =
     let settled = λ (clean : HasCleanDisk old). c.is_autocommit-settled.ensures.settled (c.is_autocommit-settled.ensures.value ∙ ap not (c.requires.outside clean)) in
     let before = λ (clean : HasCleanDisk new). let d : HasCleanDisk old = omega (arith, c.in_err-begin.ensures.crash.clean) in d in
     unbegun_over old new before c.requires.over settled (λ clean. (c.in_err-begin.ensures.gave clean).0)
+
+pub returns-in_err-begin-clause-others : goal.returns-in_err-begin-clause-others
+returns-in_err-begin-clause-others g c = adds_nothing (state g.S.Store c.args.conn.now) (state g.S.Store c.begin.new.conn) (KeepOthers (state g.S.Store c.args.conn.now).now) c.in_err-begin.ensures.crash
+
+pub returns-clause-others : goal.returns-clause-others
+returns-clause-others g c =
+    let G = g.S.Store in
+    let old = state G c.args.conn.now in
+    let begun = state G c.begin.new.conn in
+    let last = state G c.write_change-done.new.conn in
+    let new = state G c.end.new.conn in
+    let before = λ (clean : HasCleanDisk begun). let d : HasCleanDisk old = omega (arith, c.in_ok-begin.ensures.crash.clean) in d in
+    let ready = begun_ready old begun before c.requires.over c.in_ok-begin.ensures.gave in
+    let first = survives_then old begun last _ _ _ (λ _ _ none. none) (λ _ _ none. none) c.in_ok-begin.ensures.crash c.write_change-done.ensures.changed.left in
+    let whole = survives_then old last new _ _ _ (λ _ _ none. absurd none) (λ _ _ reached. reached) first c.end.ensures.crash in
+    let keeps = λ (clean : HasCleanDisk new) (is : IsOk c.write_change-done.result).
+    written_keeps c.args.change.now old begun last c.write_change-done.result c.write_change-done.ensures ready c.in_ok-begin.ensures.gave c.end.ensures.live (omega (arith, c.end.ensures.crash.clean)) is in
+    may_add old last new (IsOk c.write_change-done.result) (KeepOthers old.now) whole keeps
+
+pub returns-clause-alone : goal.returns-clause-alone
+returns-clause-alone g c =
+    let G = g.S.Store in
+    let old = state G c.args.conn.now in
+    let begun = state G c.begin.new.conn in
+    let last = state G c.write_change-done.new.conn in
+    let new = state G c.end.new.conn in
+    let before = λ (clean : HasCleanDisk begun). let d : HasCleanDisk old = omega (arith, c.in_ok-begin.ensures.crash.clean) in d in
+    let ready = begun_ready old begun before c.requires.over c.in_ok-begin.ensures.gave in
+    let keeps = λ (clean : HasCleanDisk new) (is : IsOk c.write_change-done.result).
+    written_keeps c.args.change.now old begun last c.write_change-done.result c.write_change-done.ensures ready c.in_ok-begin.ensures.gave c.end.ensures.live (omega (arith, c.end.ensures.crash.clean)) is in
+    on_ok c.end.result c.end.ensures.whole c.end.ensures.ok (λ is ended. leaves_only G last c.end.new.conn (KeepOthers old.now) ended (λ clean. keeps clean is) g.met.S.Store.settled)

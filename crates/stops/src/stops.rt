@@ -1,0 +1,82 @@
+//! Stops at each call of one of the two files.
+
+use crate::disk::{Left, Stopped, fused, restarted};
+use crate::run::{Reached, play, reopened};
+use crate::states::{LateFlight, ORDERS, states};
+use sqlite_disk::{Fuse, Memory};
+use std::alloc::Global;
+use std::test::Fail;
+
+/// The place of a run among the states.
+fn place(reached: Reached) -> usize {
+    match reached {
+        Reached::NoBook => 0,
+        Reached::Kept(orders) => 1 + usize::from(orders),
+    }
+}
+
+/// Whether files hold what a run that came so far may leave: after its end its last state, and before it the state that
+/// it came to, or the next.
+fn is_left(held: &str, states: &[String], reached: Reached, is_whole: bool) -> bool {
+    let place = place(reached);
+    let mut allowed = states.iter().skip(place).take(if is_whole { 1 } else { 2 });
+    allowed.any(|state| state.as_str() == held)
+}
+
+/// Stops a run of so many orders at each call from this one on, up to the first run that has no stop; how many calls
+/// that one makes.
+fn calls_of(
+    alloc: Global,
+    states: &[String],
+    (stopped, left): (Stopped, Left),
+    orders: u8,
+    first: u64,
+) -> Result<u64, Fail> {
+    let whole = Reached::Kept(orders);
+    for calls in first..first.saturating_add(1_000) {
+        let files = fused(alloc, stopped, calls);
+        let (reached, files) = play::<Fuse<Memory>, LateFlight>(alloc, files, orders);
+        let held = reopened(alloc, restarted(alloc, files, left))?;
+        if !is_left(held.as_str(), states, reached, reached == whole) {
+            return Err(Fail::from("what no stop may leave"));
+        }
+        if reached == whole {
+            return Ok(calls);
+        }
+    }
+    Err(Fail::from("no run came to its end"))
+}
+
+/// Stops a run at each call: of a book without orders, and then of each order. How many calls the longest run makes.
+fn stop(alloc: Global, stopped: Stopped, left: Left) -> Result<u64, Fail> {
+    let states = states(alloc)?;
+    let mut calls = 0;
+    for orders in 0..=ORDERS {
+        calls = calls_of(alloc, states.as_slice(), (stopped, left), orders, calls)?;
+    }
+    Ok(calls)
+}
+
+#[test]
+fn each_call_of_the_log(rt: HostRuntime) -> Result<(), Fail> {
+    assert!(rt; stop(rt.alloc(), Stopped::Log, Left::Written)? > 0);
+    Ok(())
+}
+
+#[test]
+fn each_call_of_the_database(rt: HostRuntime) -> Result<(), Fail> {
+    assert!(rt; stop(rt.alloc(), Stopped::Database, Left::Written)? > 0);
+    Ok(())
+}
+
+#[test]
+fn each_call_of_the_log_before_a_sync(rt: HostRuntime) -> Result<(), Fail> {
+    assert!(rt; stop(rt.alloc(), Stopped::Log, Left::Synced)? > 0);
+    Ok(())
+}
+
+#[test]
+fn each_call_of_the_database_before_a_sync(rt: HostRuntime) -> Result<(), Fail> {
+    assert!(rt; stop(rt.alloc(), Stopped::Database, Left::Synced)? > 0);
+    Ok(())
+}
