@@ -153,6 +153,11 @@ impl From<AllocError> for CreateFault {
 }
 
 impl fmt::Display for TableName {
+    ghost use Rattle.std.specs.Prelude.{Some};
+    ghost use Rattle.store.specs.Faults.{name_text};
+
+    ghost output = { λ name. Some (name_text name) };
+
     /// Writes the table's name, as `seat`.
     fn fmt<W: fmt::Write>(&self, f: &mut fmt::Formatter<W>) -> fmt::Result {
         f.write_str(match self {
@@ -170,6 +175,11 @@ impl fmt::Display for TableName {
 }
 
 impl fmt::Display for LoadFault {
+    ghost use Rattle.std.specs.Prelude.{Some};
+    ghost use Rattle.store.specs.Faults.{load_text};
+
+    ghost output = { λ fault. Some (load_text fault) };
+
     /// Writes the refusal, as `41 Damaged seat`.
     fn fmt<W: fmt::Write>(&self, f: &mut fmt::Formatter<W>) -> fmt::Result {
         match self {
