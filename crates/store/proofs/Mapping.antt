@@ -10,8 +10,8 @@ use Rattle.values.specs.Name.{name_cmp}
 use Rattle.values.proofs.Names.{alike, itself}
 use Rattle.sqlite_value.specs.Order.{Row}
 use Rattle.sqlite_rules.specs.Lists.{Has}
-use Rattle.store.specs.Reading.{Under, Mapped, AreOnce}
-use Rattle.store.proofs.Lists.{one_value, some_same}
+use Rattle.store.specs.Reading.{Mapped, AreOnce}
+use Rattle.store.proofs.Lists.{some_same}
 
 pub of_appended : (xs ys : List Row) (x : Row) → Has (xs ++ ys) x → Has xs x ⊎ Has ys x
 of_appended [] ys x h = inr h
@@ -82,9 +82,9 @@ module _ {I V : Type 0} (name : I → List ℕ) (same : (i j : I) → name i ≡
               | inr apart ↦ (record { index = at.0.index; value = at.0.value; there = get_grown (name at.0.index) ∙ ap (λ t. cond t (Some v) (fin.get m (name at.0.index))) apart ∙ at.0.there }, at.1)
             ]
         | inr now ↦ elim now [
-            | inl is_new ↦ (record { index = i; value = v; there = get_grown (name i) ∙ ap (λ t. cond t (Some v) (fin.get m (name i))) (itself (name i) (name i) refl) }, is_new)
-            | inr none ↦ absurd none
-          ]
+          | inl is_new ↦ (record { index = i; value = v; there = get_grown (name i) ∙ ap (λ t. cond t (Some v) (fin.get m (name i))) (itself (name i) (name i) refl) }, is_new)
+          | inr none ↦ absurd none
+        ]
       ];
       all = λ at. elim (cases_Bool (eq_by_cmp name_cmp (name at.index) (name i))) [
         | inl tied ↦

@@ -1,5 +1,5 @@
 -- The table `crew`: what its records tell, and when it is right.
-use Rattle.std.proofs.Common.{◌≡◌, ◌⊎◌, inl, inr, refl, sym, ap, subst, ◌∙◌, arith, ℕ, zero, suc, ◌<◌, ◌^◌, true, false, List, [], ◌∷◌, map, take, slice_get, ◌+◌, length, Option, Some, None, Result, Ok, Err, MatchResult, IsUtf8}
+use Rattle.std.proofs.Common.{◌≡◌, inl, inr, refl, sym, ap, subst, ◌∙◌, arith, ℕ, zero, suc, ◌<◌, ◌^◌, true, false, List, [], ◌∷◌, map, take, slice_get, ◌+◌, length, Option, Some, None, Result, Ok, Err, MatchResult, IsUtf8}
 use Rattle.std.specs.FinMap as fin
 use Rattle.sqlite_value.specs.declared.value.Value.TheVariants.{Text}
 use Rattle.sqlite_value.specs.Order.{Row, column}

@@ -1,5 +1,5 @@
 -- The table `seat`: what its records tell, and when it is right.
-use Rattle.std.proofs.Common.{◌≡◌, ◌⊎◌, ◌↔◌, inl, inr, refl, sym, ap, ap₂, subst, ◌∙◌, arith, ℕ, zero, suc, pos, true, false, not, Bool, ◌&&◌, ◌||◌, List, [], ◌∷◌, ◌++◌, map, take, cond, slice_get, ◌+◌, length, Option, Some, None, Result, Ok, Err, MatchResult, Contains}
+use Rattle.std.proofs.Common.{◌≡◌, ◌⊎◌, ◌↔◌, inl, inr, refl, sym, ap, subst, ◌∙◌, ℕ, true, false, not, Bool, ◌&&◌, ◌||◌, List, [], ◌∷◌, map, take, cond, slice_get, ◌+◌, length, Option, Some, None, Contains}
 use Rattle.std.specs.FinMap as fin
 use Rattle.std.specs.List.{list_all}
 use Rattle.std.specs.Option.{option_map}
@@ -9,12 +9,8 @@ use Rattle.std.proofs.lemmas.Bool.{and_parts, and_from, cases_Bool}
 use Rattle.values.proofs.Names as names
 use Rattle.values.proofs.Names.{alike, get-changed_at}
 use Rattle.values.specs.Name.{name_cmp, changed_at, rows_of}
-use Rattle.sqlite_value.specs.declared.value.Value.TheVariants.{Int, Text}
 use Rattle.sqlite_value.specs.Order.{Row, column}
 use Rattle.sqlite_rules.specs.Lists.{Has}
-use Rattle.sqlite.specs.Effect.{Database}
-use Rattle.sqlite.specs.State.{HasCleanDisk, IsUnchanged}
-use Rattle.sqlite.specs.State as conn
 use Rattle.command.specs.declared.member.Member.{Member}
 use Rattle.command.specs.declared.member.Seat.{Seat}
 use Rattle.command.specs.declared.member.Seat.TheVariants.{Captain, FirstOfficer}
@@ -23,19 +19,14 @@ use Rattle.roster.specs.Pairings.{holder, with_holder, is_flown, is_fully_crewed
 use Rattle.roster.specs.Sound.{Crew, IsHolder}
 use Rattle.roster.specs.State.{State}
 use Rattle.roster.specs.declared.state.Rostered.{Rostered}
-use Rattle.tables.proofs.KeyLemmas.{seat_once}
-use Rattle.tables.specs.Calls.{LeavesNothing}
-use Rattle.tables.specs.Records.{IsSeatRow, seat_row}
-use Rattle.tables.specs.Rows.{begins_with}
+use Rattle.tables.specs.Records.{seat_row}
 use Rattle.tables.specs.declared.seat.SeatRecord.{SeatRecord}
-use Rattle.store.proofs.Lists.{one_value, some_same, same_option}
-use Rattle.store.proofs.Mapping.{all_taken, mapped_at, mapped_place, of_appended, in_appended, of_taken, take_next, has_at}
+use Rattle.store.proofs.Lists.{one_value, some_same}
+use Rattle.store.proofs.Mapping.{mapped_at, mapped_place, of_appended, in_appended, of_taken, take_next, has_at}
 use Rattle.store.proofs.ReadCrew.{seat_known, number_known}
-use Rattle.store.proofs.SamePairings.{holder_told}
-use Rattle.store.proofs.Tests.{passes}
 use Rattle.store.proofs.Values.{text_is, number_is}
 use Rattle.store.specs.Reading.{seat_of, AreOnce, SeatIndex, SeatsRead, IsHeld, IsSamePlan, AreCrewed, AreFree, AreUnseated, Blames, row_of_held, TellsOf, HasStranger}
-use Rattle.store.specs.Rows.{InSeat, row_of_seat, seat_number}
+use Rattle.store.specs.Rows.{InSeat, row_of_seat}
 use Rattle.store.specs.declared.fault.LoadFault.{LoadFault}
 use Rattle.store.specs.declared.fault.LoadFault.TheVariants.{NotABook, Version, Damaged, Fault}
 use Rattle.store.specs.declared.fault.TableName.TheVariants as table_name
@@ -70,8 +61,7 @@ module _ (members : Crew) (pairings : fin.FinMap name_cmp Rostered) (it : SeatRe
   pub tells : (pairing who : List ℕ) (seat : Seat) → pairing ≡ it.pairing → who ≡ it.crew → seat_of it.seat ≡ Some seat → fin.contains_key pairings pairing ≡ true →
       (m : Member) × (fin.get members who ≡ Some m) × (m.seat ≡ seat) → Tells (Some (record { pairing = pairing; taken = record { seat = seat; crew = who } }))
   tells pairing who seat is_pairing is_crew is_seat known m =
-      let r = pairing_there (fin.get pairings pairing) known in
-      (
+      let r = pairing_there (fin.get pairings pairing) known in (
         record { pairing = pairing; seat = seat },
         who,
         (refl, refl, refl),
@@ -139,10 +129,10 @@ module _ (t : State) (at : SeatIndex) (who : List ℕ) (r : Rostered) (there : f
               let told : row ≡ row_of_held at x.1.crew = x.2 ∙ (λ i. row_of_seat (n i) (sym same i) x.1.crew) in
               subst (InSeat taken) (sym (told ∙ once at x.1.crew who (subst (Has rows) told row_here) new_here)) new_row
           | inr apart ↦ (
-              record { name = at.pairing; value = with r; there = here },
-              record { seat = x.1.seat; crew = x.1.crew; held = taken_beside at.seat x.1.seat (Some who) r apart ∙ ap (holder x.1.seat) (sym value) ∙ x.1.held },
-              x.2 ∙ ap (λ q. row_of_seat q x.1.seat x.1.crew) n,
-            )
+            record { name = at.pairing; value = with r; there = here },
+            record { seat = x.1.seat; crew = x.1.crew; held = taken_beside at.seat x.1.seat (Some who) r apart ∙ ap (holder x.1.seat) (sym value) ∙ x.1.held },
+            x.2 ∙ ap (λ q. row_of_seat q x.1.seat x.1.crew) n,
+          )
         ]
     | inr apart ↦ (record { name = x.0.name; value = x.0.value; there = elsewhere x.0.name apart ∙ x.0.there }, x.1, x.2)
   ]
@@ -159,10 +149,10 @@ module _ (t : State) (at : SeatIndex) (who : List ℕ) (r : Rostered) (there : f
               let crew : x.1.crew ≡ who = some_same (sym held ∙ ap (λ s. holder s (with r)) (sym same) ∙ taken_here at.seat (Some who) r) in
               inl (x.2 ∙ (λ i. row_of_seat (n i) (sym same i) (crew i)))
           | inr apart ↦ inr (
-              record { name = at.pairing; value = r; there = there },
-              record { seat = x.1.seat; crew = x.1.crew; held = sym (taken_beside at.seat x.1.seat (Some who) r apart) ∙ held },
-              x.2 ∙ ap (λ q. row_of_seat q x.1.seat x.1.crew) n,
-            )
+            record { name = at.pairing; value = r; there = there },
+            record { seat = x.1.seat; crew = x.1.crew; held = sym (taken_beside at.seat x.1.seat (Some who) r apart) ∙ held },
+            x.2 ∙ ap (λ q. row_of_seat q x.1.seat x.1.crew) n,
+          )
         ]
     | inr apart ↦ inr (record { name = x.0.name; value = x.0.value; there = sym (elsewhere x.0.name apart) ∙ x.0.there }, x.1, x.2)
   ]
@@ -250,9 +240,9 @@ module _ (records : List SeatRecord) (count : ℕ) (it : SeatRecord) (there : sl
           λ h. elim (of_appended (take count rows) (row_of_held at who ∷ []) row (subst (λ l. Has l row) next h)) [
             | inl was ↦ old_row t at who r found rows once new_here row (of_taken rows count row was) ((read.rows once row).0 was)
             | inr now ↦ elim now [
-                | inl e ↦ subst (InSeat (taken t at who r found)) (sym e) (new_row t at who r found)
-                | inr none ↦ absurd none
-              ]
+              | inl e ↦ subst (InSeat (taken t at who r found)) (sym e) (new_row t at who r found)
+              | inr none ↦ absurd none
+            ]
           ],
           λ x. subst (λ l. Has l row) (sym next) (in_appended (take count rows) (row_of_held at who ∷ []) row (elim (of_taken_row t at who r found row x) [
             | inl e ↦ inr (inl e)
@@ -294,8 +284,7 @@ module _ (test : Rostered → Bool) where
   pub passes_all : (items : List (List ℕ × Rostered)) (m : fin.FinMap name_cmp Rostered) → rows_of (λ (id : List ℕ). id) items ≡ fin.entries m →
       (list_all (λ e. test e.1) items ≡ true) ↔ ((id : List ℕ) (r : Rostered) → fin.get m id ≡ Some r → test r ≡ true)
   passes_all items m listed =
-      let same : items ≡ fin.entries m = sym (rows_same items) ∙ listed in
-      (
+      let same : items ≡ fin.entries m = sym (rows_same items) ∙ listed in (
         λ all id r there. all_in items all (id, r) (subst (λ l. Contains l (id, r)) (sym same) (in_rows m id r there)),
         λ each. in_all items (λ row c. each row.0 row.1 (from_rows m row.0 row.1 (subst (λ l. Contains l row) same c))),
       )
@@ -310,8 +299,7 @@ seated_if false crewed = (λ _ e. absurd (cc), λ _. refl)
 
 pub all_crewed : (items : List (List ℕ × Rostered)) (s : State) → rows_of (λ (id : List ℕ). id) items ≡ fin.entries s.pairings → (list_all (λ e. is_seated e.1) items ≡ true) ↔ AreCrewed s
 all_crewed items s listed =
-    let pass = passes_all is_seated items s.pairings listed in
-    (
+    let pass = passes_all is_seated items s.pairings listed in (
       λ all id r here. (seated_if (is_flown r) (is_fully_crewed r)).0 (pass.0 all id r here),
       λ crewed. pass.1 (λ id r here. (seated_if (is_flown r) (is_fully_crewed r)).1 (crewed id r here)),
     )

@@ -1,5 +1,5 @@
 -- A state whose rows are right is sound, and its tables are those of a book.
-use Rattle.std.proofs.Common.{◌≡◌, ◌⊎◌, inl, inr, refl, sym, ap, subst, ◌∙◌, arith, ℕ, ◌<◌, true, false, List, Some, None, nat_lt}
+use Rattle.std.proofs.Common.{◌≡◌, inl, inr, sym, ap, ◌∙◌, arith, ◌<◌, None, nat_lt}
 use Rattle.std.specs.FinMap as fin
 use Rattle.std.proofs.lemmas.Bool.{cases_Bool}
 use Rattle.std.proofs.lemmas.Bool.Decides.{nat_tests}
@@ -21,15 +21,15 @@ unfolding ground_fault
 begins_first g e = elim (cases_Bool (nat_lt g.begin g.end)) [
   | inl less ↦ (let l : g.begin < g.end = grind (arith, nat_tests) in l)
   | inr not_less ↦ absurd (elim (cases_Bool (is_id g.id)) [
-      | inl a ↦ elim (cases_Bool (is_id g.crew)) [
-          | inl b ↦ elim (cases_Bool (is_plain_text g.task)) [
-              | inl c ↦ (let f = rw (a, b, c, not_less) at e in cc)
-              | inr c ↦ (let f = rw (a, b, c) at e in cc)
-            ]
-          | inr b ↦ (let f = rw (a, b) at e in cc)
-        ]
-      | inr a ↦ (let f = rw a at e in cc)
-    ])
+    | inl a ↦ elim (cases_Bool (is_id g.crew)) [
+      | inl b ↦ elim (cases_Bool (is_plain_text g.task)) [
+        | inl c ↦ (let f = rw (a, b, c, not_less) at e in cc)
+        | inr c ↦ (let f = rw (a, b, c) at e in cc)
+      ]
+      | inr b ↦ (let f = rw (a, b) at e in cc)
+    ]
+    | inr a ↦ (let f = rw a at e in cc)
+  ])
 ]
 
 module _ (s : State) (db : Database) (right : IsRight request s db) where

@@ -226,8 +226,8 @@ same_plan s t id r q here there sr sq periods periods' segments segments' =
     record {
       plan = λ i. record { id = (sr.named ∙ sym sq.named) i; periods = plans i };
       actuals = same_list r.actuals q.actuals
-      (λ i v e. let o = beside r.actuals r.plan.periods sr.places i v e in (to i o.0 v o.1 e).flown)
-      (λ i v e. let o = beside q.actuals q.plan.periods sq.places i v e in (back i o.0 v o.1 e).flown);
+          (λ i v e. let o = beside r.actuals r.plan.periods sr.places i v e in (to i o.0 v o.1 e).flown)
+          (λ i v e. let o = beside q.actuals q.plan.periods sq.places i v e in (back i o.0 v o.1 e).flown);
     }
 
 of_sound : (s : State) (id : List ℕ) (r : Rostered) → SoundPairing s.crew id r → Planned id r

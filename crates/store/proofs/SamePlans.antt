@@ -1,16 +1,13 @@
 -- States whose tables are right down to the segments have the same pairings, but for who holds the seats.
-use Rattle.std.proofs.Common.{◌≡◌, refl, sym, ap, subst, ◌∙◌, ℕ, List, Some, slice_get}
+use Rattle.std.proofs.Common.{◌≡◌, refl, ap, ◌∙◌, ℕ, List, Some}
 use Rattle.std.specs.FinMap as fin
 use Rattle.sqlite_value.specs.Order.{Row, column}
-use Rattle.sqlite_rules.specs.Lists.{Has}
 use Rattle.sqlite.specs.Effect.{Database}
-use Rattle.duty.specs.Plans.{ActualTimes}
 use Rattle.roster.specs.State.{State}
 use Rattle.roster.specs.declared.state.Rostered.{Rostered}
-use Rattle.store.specs.Loading.{IsCrewRight, IsPlanned, IsSegmentRight}
+use Rattle.store.specs.Loading.{IsPlanned, IsSegmentRight}
 use Rattle.store.specs.Rows.{TableName, table, HasJust, pairing, period, segment, row_of_pairing}
 use Rattle.store.proofs.SamePairings.{Planned, SamePlan, same_plan}
-use Rattle.store.proofs.SameStates.{crew_told}
 use Rattle.store.proofs.Values.{text_is}
 
 -- what one has another has too, if both have just the rows of a table
@@ -38,5 +35,5 @@ module _ (s t : State) (db : Database) (a : IsSegmentRight s db) (b : IsSegmentR
         other = x.0.value;
         there = there;
         same = same_plan s t id r x.0.value here there (of_planned id r (a.3 id r here)) (of_planned id x.0.value (b.3 id x.0.value there))
-        (told period db _ _ a.1 b.1) (told period db _ _ b.1 a.1) (told segment db _ _ a.2.1 b.2.1) (told segment db _ _ b.2.1 a.2.1);
+            (told period db _ _ a.1 b.1) (told period db _ _ b.1 a.1) (told segment db _ _ a.2.1 b.2.1) (told segment db _ _ b.2.1 a.2.1);
       }

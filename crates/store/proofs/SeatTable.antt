@@ -1,5 +1,5 @@
 -- The table `seat`: what it is damaged by, and that it is right where its records are read.
-use Rattle.std.proofs.Common.{◌≡◌, ◌⊎◌, ◌↔◌, inl, inr, refl, sym, ap, ap₂, subst, ◌∙◌, arith, ℕ, pos, ◌<◌, ◌^◌, true, ◌&&◌, List, [], ◌∷◌, map, take, slice_get, length, Option, Some, None, Result, Ok, Err, MatchResult, is_some}
+use Rattle.std.proofs.Common.{◌≡◌, ◌↔◌, inl, inr, refl, sym, ap, ap₂, subst, ◌∙◌, ℕ, pos, true, ◌&&◌, List, [], ◌∷◌, map, slice_get, length, Option, Some, None, Result, Ok, Err, MatchResult, is_some}
 use Rattle.std.specs.FinMap as fin
 use Rattle.std.specs.List.{list_any}
 use Rattle.values.specs.Name.{name_cmp}
@@ -11,10 +11,9 @@ use Rattle.sqlite.specs.State.{HasCleanDisk, IsUnchanged}
 use Rattle.sqlite.specs.State as conn
 use Rattle.duty.specs.Plans.{ActualTimes, Plan}
 use Rattle.duty.specs.Shape.{is_id}
-use Rattle.command.specs.declared.member.Member.{Member}
 use Rattle.command.specs.declared.member.Seat.{Seat}
 use Rattle.command.specs.declared.member.Seat.TheVariants.{Captain, FirstOfficer}
-use Rattle.roster.specs.Pairings.{holder, is_flown, is_fully_crewed}
+use Rattle.roster.specs.Pairings.{holder, is_fully_crewed}
 use Rattle.roster.specs.Sound.{Crew, IsHolder}
 use Rattle.roster.specs.State.{State}
 use Rattle.roster.specs.declared.state.Rostered.{Rostered}
@@ -24,7 +23,7 @@ use Rattle.tables.specs.Records.{IsSeatRow, seat_row}
 use Rattle.tables.specs.Rows.{begins_with, rows_of}
 use Rattle.tables.specs.declared.seat.SeatRecord.{SeatRecord}
 use Rattle.store.proofs.Ascii.{id_utf8}
-use Rattle.store.proofs.Lists.{one_value, same_option}
+use Rattle.store.proofs.Lists.{same_option}
 use Rattle.store.proofs.Mapping.{all_taken}
 use Rattle.store.proofs.ReadCrew.{number_fits}
 use Rattle.store.proofs.SamePairings.{holder_told}
@@ -32,7 +31,7 @@ use Rattle.store.proofs.SamePlans.{beside, told}
 use Rattle.store.proofs.SameStates.{crew_told}
 use Rattle.store.proofs.Telling.{unread, of_blame, clean_before}
 use Rattle.store.proofs.Tests.{passes}
-use Rattle.store.specs.Loading.{IsPlanned, IsSegmentRight, IsSeatRight, AreRight, IsDamaged, Says}
+use Rattle.store.specs.Loading.{IsPlanned, IsSegmentRight, AreRight, IsDamaged, Says}
 use Rattle.store.specs.Reading.{AreOnce, SeatIndex, SeatsRead, IsHeld, IsSamePlan, AreCrewed, AreUnseated, row_of_held, Saw, Blames, HasRows, IsUnreadable, IsReadTo, HasStranger}
 use Rattle.store.specs.Rows.{table, crew, InPairing, InPeriod, InSegment, InSeat, seat_number, seat, segment}
 use Rattle.store.specs.declared.fault.LoadFault.{LoadFault}
@@ -70,8 +69,7 @@ module _ (s t : State) (others : HasOthers s.pairings t.pairings) where
   period_stays : (row : Row) → InPeriod s row → InPeriod t row
   period_stays row x =
       let o = others x.0.name x.0.value x.0.there in
-      let p = x.1 in
-      (
+      let p = x.1 in (
         record { name = x.0.name; value = o.other; there = o.there },
         record {
           place = p.place;
@@ -86,8 +84,7 @@ module _ (s t : State) (others : HasOthers s.pairings t.pairings) where
   segment_stays : (row : Row) → InSegment s row → InSegment t row
   segment_stays row x =
       let o = others x.0.name x.0.value x.0.there in
-      let p = x.1 in
-      (
+      let p = x.1 in (
         record { name = x.0.name; value = o.other; there = o.there },
         record {
           place = p.place;
@@ -130,8 +127,7 @@ module _ (s : State) (m : fin.FinMap name_cmp Rostered) (planned : (id : List �
   right_stays db right =
       let down_to_period = right.0 in
       let down_to_pairing = down_to_period.0 in
-      let pairings = down_to_pairing.1 in
-      (
+      let pairings = down_to_pairing.1 in (
         (
           (
             down_to_pairing.0,

@@ -1,18 +1,16 @@
 -- What a table tells when it is read whole.
-use Rattle.std.proofs.Common.{◌≡◌, ◌≢◌, ◌⊎◌, ◌↔◌, inl, inr, refl, sym, ap, subst, arith, List, [], ◌∷◌, filter, IsPermutation, Result, Ok, Err}
+use Rattle.std.proofs.Common.{◌≡◌, ◌↔◌, inl, inr, refl, sym, ap, subst, arith, List, [], ◌∷◌, filter, IsPermutation, Result, Ok, Err}
 use Rattle.std.proofs.lemmas.List.Sorted.{IsPermutation-sym}
 use Rattle.sqlite_value.specs.Order.{Row}
 use Rattle.sqlite_rules.specs.Lists.{Has}
 use Rattle.sqlite.specs.Effect.{Database, IsDatabase}
-use Rattle.sqlite.specs.State.{State, HasCleanDisk, IsLive, IsUnchanged}
+use Rattle.sqlite.specs.State.{State, HasCleanDisk, IsLive}
 use Rattle.tables.proofs.Answering.{has_permuted}
 use Rattle.tables.proofs.Stopping.{some_fault}
 use Rattle.tables.specs.Calls.{LeavesNothing, Loaded}
-use Rattle.tables.specs.Rows.{IsStored, rows_of, Finds, HasNoRecord, begins_with}
-use Rattle.tables.specs.Schema.{BookTable, IsTable, IsUnreferenced, IsOfBook}
-use Rattle.tables.specs.declared.table_fault.TableFault.{TableFault}
+use Rattle.tables.specs.Rows.{rows_of, Finds, begins_with}
+use Rattle.tables.specs.Schema.{BookTable, IsOfBook}
 use Rattle.tables.specs.declared.table_fault.TableFault.TheVariants as table_fault
-use Rattle.store.specs.Faults.{fault_of}
 use Rattle.store.specs.Loading.{IsDamaged, Says, named}
 use Rattle.store.specs.Reading.{Saw, HasRows, IsUnreadable, Blames}
 use Rattle.store.specs.Rows.{TableName, table}
@@ -51,13 +49,15 @@ module _ {A : Type 0} (it : TableName) (its : name.TableName) (IsRecord : Row �
   found old new a there loaded left live = record {
     told = λ clean.
         let is = loaded clean in
-        let unchanged = is.1 in
-        (unchanged, record {
-          database = subst IsDatabase unchanged.0.now_is (live unchanged.0.is_open).0;
-          there = there;
-          stored = is.0.1;
-          all = found_all (table it) old.now (rows a) is.0.0;
-        });
+        let unchanged = is.1 in (
+          unchanged,
+          record {
+            database = subst IsDatabase unchanged.0.now_is (live unchanged.0.is_open).0;
+            there = there;
+            stored = is.0.1;
+            all = found_all (table it) old.now (rows a) is.0.0;
+          },
+        );
     left = left;
   }
 

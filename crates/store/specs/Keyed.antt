@@ -1,5 +1,5 @@
 -- What is read of the tables `pairing`, `period` and `segment`. No public clause names these.
-use Rattle.std.specs.Prelude.{◌≡◌, ◌⊎◌, ◌+◌, ⊤, ℕ, true, List, map, take, Option, None, Some}
+use Rattle.std.specs.Prelude.{◌≡◌, ◌⊎◌, ◌+◌, ⊤, ℕ, true, List, map, take, Option, Some}
 use Rattle.std.specs.FinMap as fin
 use Rattle.values.specs.Name.{name_cmp}
 use Rattle.sqlite_value.specs.Order.{Row}

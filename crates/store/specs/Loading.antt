@@ -25,7 +25,7 @@ use Rattle.roster.specs.declared.state.PeriodId.{PeriodId}
 use Rattle.roster.specs.declared.state.Request.{Request}
 use Rattle.roster.specs.declared.state.Rostered.{Rostered}
 use Rattle.tables.specs.Records.{IsNumber, book_row, period_row, pairing_row}
-use Rattle.tables.specs.Schema.{BookTable, IsOfBook, book_table, pairing_table, period_table, table_found}
+use Rattle.tables.specs.Schema.{IsOfBook, book_table, pairing_table, period_table, table_found}
 use Rattle.tables.specs.Rows.{rows_of}
 use Rattle.tables.specs.declared.book.BookRecord.{BookRecord}
 use Rattle.tables.specs.declared.period.PeriodRecord.{PeriodRecord}

@@ -71,11 +71,7 @@ fn member_of(alloc: Global, row: &CrewRecord) -> Result<Option<Entry>, MemoryFau
 
 /// Sets the members that the records tell of.
 #[tactic(auto, using(crate::proofs::ReadCrew::none_read, crate::proofs::ReadCrew::stranger, crate::proofs::ReadCrew::one_read))]
-fn add_members(
-    alloc: Global,
-    roster: Roster,
-    records: &[CrewRecord],
-) -> Result<Roster, LoadFault>
+fn add_members(alloc: Global, roster: Roster, records: &[CrewRecord]) -> Result<Roster, LoadFault>
     requires { roster.crew ≡ fin.empty }
     ensures { MatchResult result (MembersRead records.now (length records.now) roster) (Blames table_name.Crew (HasStranger row_of_member IsMember (map crew_row records.now))) }
 {

@@ -109,11 +109,7 @@ fn held_seat_of(
 }
 
 /// Puts the members into the seats that the records tell of.
-fn take_seats(
-    alloc: Global,
-    roster: Roster,
-    records: &[SeatRecord],
-) -> Result<Roster, LoadFault>
+fn take_seats(alloc: Global, roster: Roster, records: &[SeatRecord]) -> Result<Roster, LoadFault>
     requires { AreFree roster }
     ensures { MatchResult result (SeatsRead records.now (length records.now) roster) (Blames table_name.Seat (HasStranger row_of_held (IsHeld roster.crew roster.pairings) (map seat_row records.now))) }
 {

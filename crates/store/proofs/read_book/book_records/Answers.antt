@@ -1,4 +1,4 @@
-use Rattle.std.proofs.Common.{rules, map, List, Vec, Global}
+use Rattle.std.proofs.Common.{rules, map, Vec, Global}
 use Rattle.sqlite.specs.Held.{state}
 use Rattle.tables.specs.Records.{book_row, IsBookRow}
 use Rattle.tables.specs.declared.book.BookRecord.{BookRecord}

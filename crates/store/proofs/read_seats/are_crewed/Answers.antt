@@ -17,5 +17,5 @@ loop-rostered-preserved c = (
   tt,
   tt,
   stands c.loop-rostered.rostered-iterator c.next.new.self c.in-Some.field-0-0.now c.in-Some.rostered.now (AreCrewed c.args.roster.now) c.in-Some.ensures.steps c.loop-rostered.invariant.2
-  (sym c.is_seated.ensures ∙ c.if-not-is_seated.false),
+      (sym c.is_seated.ensures ∙ c.if-not-is_seated.false),
 )

@@ -1,4 +1,4 @@
-use Rattle.std.proofs.Common.{rules, map, List, Vec, Global}
+use Rattle.std.proofs.Common.{rules, map, Vec, Global}
 use Rattle.sqlite.specs.Held.{state}
 use Rattle.tables.specs.Records.{seat_row, IsSeatRow}
 use Rattle.tables.specs.declared.seat.SeatRecord.{SeatRecord}

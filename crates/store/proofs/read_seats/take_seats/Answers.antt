@@ -1,4 +1,4 @@
-use Rattle.std.proofs.Common.{rules, ◌≡◌, refl, subst, arith, length, ℕ, Some, None}
+use Rattle.std.proofs.Common.{rules, refl, subst, arith, length, ℕ}
 use Rattle.std.proofs.lemmas.Option.{slice_get_read}
 use Rattle.store.specs.Reading.{SeatsRead}
 use Rattle.store.proofs.ReadSeats.{none_read, stranger, one_read}
@@ -8,8 +8,11 @@ pub loop-row-init : goal.loop-row-init
 loop-row-init c = none_read c.args.records.now c.args.roster c.requires
 
 pub returns-in_default : goal.returns-in_default
-returns-in_default c = (refl, stranger c.args.records.now c.loop-row.row-index c.row-item.result
-    (slice_get_read c.args.records.now (length c.args.records.now) c.loop-row.row-index c.row-item.result refl (omega arith) c.row-item.is) c.args.roster c.loop-row.roster c.loop-row.invariant (search rules))
+returns-in_default c = (
+  refl,
+  stranger c.args.records.now c.loop-row.row-index c.row-item.result
+      (slice_get_read c.args.records.now (length c.args.records.now) c.loop-row.row-index c.row-item.result refl (omega arith) c.row-item.is) c.args.roster c.loop-row.roster c.loop-row.invariant (search rules),
+)
 
 pub loop-row-preserved : goal.loop-row-preserved
 loop-row-preserved c =

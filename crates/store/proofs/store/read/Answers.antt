@@ -1,4 +1,4 @@
-use Rattle.std.proofs.Common.{ap, subst, not, ◌∙◌}
+use Rattle.std.proofs.Common.{ap, not, ◌∙◌}
 use Rattle.sqlite.specs.Held.{state}
 use Rattle.sqlite.specs.State.{HasCleanDisk}
 use Rattle.roster.specs.Sound.{Sound}
@@ -7,7 +7,7 @@ use Rattle.store.specs.Outcomes.{HoldsNow, IsOverBook, Leaves, one}
 use Rattle.store.specs.Reading.{IsReadTo}
 use Rattle.store.specs.Rows.{request}
 use Rattle.store.specs.SameRows.{HasInstants}
-use Rattle.store.proofs.Loads.{on_read, loaded_leaves, loaded_now, loaded_over, loaded_outside}
+use Rattle.store.proofs.Loads.{on_read, loaded_leaves, loaded_now, loaded_over}
 use Rattle.store.proofs.RightSound.{right_sound, right_instants}
 use Rattle.store.proofs.store.read.Goals as goal
 
