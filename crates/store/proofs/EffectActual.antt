@@ -30,15 +30,15 @@ use Rattle.tables.specs.Rows.{begins_with}
 use Rattle.tables.specs.declared.period.PeriodRecord.{PeriodRecord}
 use Rattle.tables.proofs.PeriodTexts.{with_period_times_is}
 use Rattle.store.specs.Calls.{IsFit, Then}
-use Rattle.store.specs.Rows.{TableName, pairing, period, segment, seat, exceedance, At, PeriodOf, SegmentOf, ExceedanceAt, In, InPairing, InPeriod, InSegment, InSeat, InExceedance, Rows, row_of_period, row_of_segment, row_of_exceedance, times_flown}
+use Rattle.loading.specs.Rows.{TableName, pairing, period, segment, seat, exceedance, At, PeriodOf, SegmentOf, ExceedanceAt, In, InPairing, InPeriod, InSegment, InSeat, InExceedance, Rows, row_of_period, row_of_segment, row_of_exceedance, times_flown}
 use Rattle.store.specs.Writing.{FliesPeriod, FliesSegments, RecordsAll}
 use Rattle.store.proofs.Growing.{SomeOf, placed, some_of, each_grows}
-use Rattle.store.proofs.Lists.{one_value, some_same}
+use Rattle.loading.proofs.Lists.{one_value, some_same}
 use Rattle.store.proofs.Retiming.{Flown, after, all_flown, flown_to, flown_from, after_past, after_here, hit_none, hit_one, hit_other}
 use Rattle.store.proofs.Sets as sets
 use Rattle.store.proofs.Tables.{fit_after, updates_keep}
-use Rattle.store.proofs.Tests.{found, passes, fails, others}
-use Rattle.store.proofs.Values.{text_is, number_is}
+use Rattle.loading.proofs.Tests.{found, passes, fails, others}
+use Rattle.loading.proofs.Values.{text_is, number_is}
 
 -- ---- Exceedances
 

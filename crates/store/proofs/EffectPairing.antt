@@ -17,14 +17,14 @@ use Rattle.roster.specs.State.{State}
 use Rattle.roster.specs.declared.state.Rostered.{Rostered}
 use Rattle.tables.specs.Rows.{begins_with}
 use Rattle.store.specs.Calls.{IsFit}
-use Rattle.store.specs.Rows.{TableName, book, crew, pairing, period, segment, seat, ground_duty, exceedance, request, table, At, PeriodOf, SegmentOf, In, InPairing, InPeriod, InSegment, InSeat, Rows, row_of_pairing, row_of_period, row_of_segment}
+use Rattle.loading.specs.Rows.{TableName, book, crew, pairing, period, segment, seat, ground_duty, exceedance, request, table, At, PeriodOf, SegmentOf, In, InPairing, InPeriod, InSegment, InSeat, Rows, row_of_pairing, row_of_period, row_of_segment}
 use Rattle.store.specs.Writing.{AddsPairing, RemovesPairing}
 use Rattle.store.proofs.Growing.{SomeOf, placed, some_of, each_grows}
-use Rattle.store.proofs.Lists.{one_value}
+use Rattle.loading.proofs.Lists.{one_value}
 use Rattle.store.proofs.Sets as sets
 use Rattle.store.proofs.Tables.{fit_after, inserts_keep, deletes_keep}
-use Rattle.store.proofs.Tests.{fails, others}
-use Rattle.store.proofs.Values.{text_is}
+use Rattle.loading.proofs.Tests.{fails, others}
+use Rattle.loading.proofs.Values.{text_is}
 
 from_zero : (n : ℕ) → 0 + n ≡ n
 from_zero n = omega arith
@@ -106,7 +106,7 @@ module _ (s : State) (plan : Plan) (free : fin.get s.pairings plan.id ≡ None) 
           let planned : slice_get plan.periods h.1.place ≡ Some h.1.fdp = ap (λ (r : Rostered). slice_get r.plan.periods h.1.place) new.1 ∙ h.1.planned in
           let flown : None ≡ h.1.actual = one_value (none_flown plan h.1.place h.1.fdp planned) (ap (λ (r : Rostered). slice_get r.actuals h.1.place) new.1 ∙ h.1.flown) in
           let is : row ≡ row_of_segment plan.id (0 + h.1.place) (0 + h.2.place) h.2.segment None =
-          h.3 ∙ (λ i. row_of_segment (new.0 i) (sym (from_zero h.1.place) i) (sym (from_zero h.2.place) i) h.2.segment (Rattle.store.specs.Rows.times_flown (sym flown i) h.2.place)) in
+          h.3 ∙ (λ i. row_of_segment (new.0 i) (sym (from_zero h.1.place) i) (sym (from_zero h.2.place) i) h.2.segment (Rattle.loading.specs.Rows.times_flown (sym flown i) h.2.place)) in
           inl (some_of (NewSegments plan.id) 0 plan.periods row h.1.place h.1.fdp planned
           (some_of (NewSegment plan.id (0 + h.1.place)) 0 h.1.fdp.segments row h.2.place h.2.segment h.2.planned is))
       | inr was ↦ inr (record { name = h.0.name; value = h.0.value; there = was.1 }, h.1, h.2, h.3)
@@ -179,7 +179,7 @@ module _ (s : State) (id : List ℕ) (uncrewed_there : (r : Rostered) → fin.ge
 
   is_left : (name : List ℕ) (row : Row) → column row 0 ≡ Text name → (name ≡ id → ⊥) → of_id row ≡ false
   is_left name row first other =
-      fails (Text id ∷ []) row (subst Rattle.store.proofs.Tests.IsPlain (sym first) tt, tt, tt) (λ c. other (text_is (sym first ∙ c.0)))
+      fails (Text id ∷ []) row (subst Rattle.loading.proofs.Tests.IsPlain (sym first) tt, tt, tt) (λ c. other (text_is (sym first ∙ c.0)))
 
   pairing_gone : (row : Row) → (InPairing s row × (of_id row ≡ false)) ↔ InPairing gone row
   pairing_gone row = (

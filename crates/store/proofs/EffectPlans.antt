@@ -5,7 +5,7 @@ use Rattle.values.specs.Name.{name_cmp}
 use Rattle.sqlite_value.specs.Order.{Row}
 use Rattle.roster.specs.State.{State}
 use Rattle.roster.specs.declared.state.Rostered.{Rostered}
-use Rattle.store.specs.Rows.{PeriodOf, InPairing, InPeriod, InSegment}
+use Rattle.loading.specs.Rows.{PeriodOf, InPairing, InPeriod, InSegment}
 
 abbrev pub Pairings : Type 0
 Pairings = fin.FinMap name_cmp Rostered

@@ -16,15 +16,15 @@ use Rattle.roster.specs.declared.change.SeatChange.{SeatChange}
 use Rattle.roster.specs.declared.state.Rostered.{Rostered}
 use Rattle.tables.specs.Rows.{Changes, begins_with, rows_of}
 use Rattle.store.specs.Calls.{Then, Each, IsFit}
-use Rattle.store.specs.Rows.{TableName, pairing, period, segment, seat, table, At, HeldSeat, In, InSeat, Rows, row_of_seat, seat_number}
+use Rattle.loading.specs.Rows.{TableName, pairing, period, segment, seat, table, At, HeldSeat, In, InSeat, Rows, row_of_seat, seat_number}
 use Rattle.store.specs.Writing.{FreesSeat, Seats, Reseats}
 use Rattle.store.proofs.EffectPlans.{Pairings, SamePlan, SamePlans, pairing_told, period_told, segment_told}
 use Rattle.store.proofs.Growing.{changed_twice}
-use Rattle.store.proofs.Lists.{one_value, some_same}
+use Rattle.loading.proofs.Lists.{one_value, some_same}
 use Rattle.store.proofs.Sets as sets
 use Rattle.store.proofs.Tables.{fit_after}
-use Rattle.store.proofs.Tests.{fails, others}
-use Rattle.store.proofs.Values.{text_is, number_is, seats_same}
+use Rattle.loading.proofs.Tests.{fails, others}
+use Rattle.loading.proofs.Values.{text_is, number_is, seats_same}
 
 -- ---- One pairing with another holder
 

@@ -12,10 +12,10 @@ use Rattle.roster.specs.State.{State}
 use Rattle.roster.specs.declared.state.Request.{Request}
 use Rattle.tables.specs.Rows.{Inserts, Deletes, begins_with}
 use Rattle.store.specs.Calls.{IsFit}
-use Rattle.store.specs.Rows.{TableName, crew, ground_duty, request, table, In, InCrew, InGround, InRequest, Rows, row_of_member, row_of_ground, row_of_request}
+use Rattle.loading.specs.Rows.{TableName, crew, ground_duty, request, table, In, InCrew, InGround, InRequest, Rows, row_of_member, row_of_ground, row_of_request}
 use Rattle.store.proofs.Sets as sets
-use Rattle.store.proofs.Tests.{fails, others}
-use Rattle.store.proofs.Values.{text_is}
+use Rattle.loading.proofs.Tests.{fails, others}
+use Rattle.loading.proofs.Values.{text_is}
 
 -- ---- A new member
 

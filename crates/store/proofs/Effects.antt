@@ -22,7 +22,7 @@ use Rattle.roster.specs.declared.change.SeatChange.{SeatChange}
 use Rattle.roster.specs.declared.state.Rostered.{Rostered}
 use Rattle.store.specs.Calls.{IsFit}
 use Rattle.store.specs.Next.{IsNext}
-use Rattle.store.specs.Rows.{ExceedanceAt, Rows}
+use Rattle.loading.specs.Rows.{ExceedanceAt, Rows}
 use Rattle.store.specs.Writing.{Writes, WritesOrder}
 use Rattle.store.proofs.EffectActual.{actual_flown}
 use Rattle.store.proofs.EffectPairing.{plan_added, pairing_removed}

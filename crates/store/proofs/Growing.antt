@@ -8,8 +8,8 @@ use Rattle.sqlite.specs.Effect.{Database}
 use Rattle.tables.specs.Schema.{BookTable, IsTable}
 use Rattle.tables.specs.Rows.{IsStored, Changes, rows_of, stored}
 use Rattle.store.specs.Calls.{Each, IsFit}
-use Rattle.store.specs.Rows.{TableName, table}
-use Rattle.store.proofs.Lists.{some_same}
+use Rattle.loading.specs.Rows.{TableName, table}
+use Rattle.loading.proofs.Lists.{some_same}
 use Rattle.store.proofs.Tables.{fit_after}
 
 all_both : {X : Type 0} (P Q R : X → Type 0) → ((x : X) → P x → Q x → R x) → (xs : List X) → AllByRecursion P xs → AllByRecursion Q xs → AllByRecursion R xs

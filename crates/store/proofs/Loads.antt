@@ -8,15 +8,15 @@ use Rattle.sqlite.specs.State.{State, HasCleanDisk, IsLive, IsUnchanged}
 use Rattle.sqlite.proofs.StateLemmas.{survives_then}
 use Rattle.roster.specs.State as roster
 use Rattle.tables.specs.Calls.{LeavesNothing}
-use Rattle.store.specs.Loading.{Says}
+use Rattle.loading.specs.Loading.{Says}
 use Rattle.store.specs.Kept.{IsBookOf}
 use Rattle.store.specs.Outcomes.{Leaves, HoldsNow, IsOutside, IsOverBook, one}
-use Rattle.store.specs.Reading.{IsReadTo, Saw}
-use Rattle.store.specs.Rows.{request}
+use Rattle.loading.specs.Reading.{IsReadTo, Saw}
+use Rattle.loading.specs.Rows.{request}
 use Rattle.store.proofs.Ending.{of_trees}
-use Rattle.store.proofs.RightSound.{read_book_of}
-use Rattle.store.proofs.Telling.{clean_before}
-use Rattle.store.specs.declared.fault.LoadFault.{LoadFault}
+use Rattle.store.proofs.ReadBooks.{read_book_of}
+use Rattle.loading.proofs.Telling.{clean_before}
+use Rattle.loading.specs.declared.fault.LoadFault.{LoadFault}
 
 -- what a call comes to that reads some tables
 abbrev pub Reads : {A : Type 0} → (Database → A → Type 0) → State → State → Result A LoadFault → Type 0

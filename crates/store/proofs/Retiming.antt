@@ -12,12 +12,12 @@ use Rattle.tables.specs.Rows.{Changes, begins_with, rows_of}
 use Rattle.tables.specs.declared.segment.SegmentRecord.{SegmentRecord}
 use Rattle.tables.proofs.SegmentTexts.{with_segment_times_is}
 use Rattle.store.specs.Calls.{Each, IsFit}
-use Rattle.store.specs.Rows.{table, segment, row_of_segment}
+use Rattle.loading.specs.Rows.{table, segment, row_of_segment}
 use Rattle.store.specs.Writing.{FliesSegment}
 use Rattle.store.proofs.Growing.{unchanged, changed_twice}
 use Rattle.store.proofs.Tables.{updates_keep}
-use Rattle.store.proofs.Tests.{passes, fails}
-use Rattle.store.proofs.Values.{text_is, number_is}
+use Rattle.loading.proofs.Tests.{passes, fails}
+use Rattle.loading.proofs.Values.{text_is, number_is}
 
 module _ (id : List ℕ) (number : ℕ) where
   abbrev pub test : ℕ → Row → Bool

@@ -25,7 +25,7 @@ use Rattle.store.specs.Calls.{Changed, Each, IsFit, IsReady, Then, Wrote}
 use Rattle.store.specs.Kept.{IsOther, KeepOthers, KeepPlain}
 use Rattle.store.specs.Making.{Grows, IsFree, all_tables}
 use Rattle.store.specs.Outcomes.{LeavesOnly, AddsOnly}
-use Rattle.store.specs.Rows.{TableName, table, crew, pairing, period, segment, seat, ground_duty, exceedance, request, row_of_member, row_of_pairing, row_of_period, row_of_segment, row_of_seat, row_of_ground, row_of_exceedance, row_of_request, seat_number}
+use Rattle.loading.specs.Rows.{TableName, table, crew, pairing, period, segment, seat, ground_duty, exceedance, request, row_of_member, row_of_pairing, row_of_period, row_of_segment, row_of_seat, row_of_ground, row_of_exceedance, row_of_request, seat_number}
 use Rattle.store.specs.Writing.{AddsPeriods, AddsSegmentOf, AddsSegmentsOf, AddsSegments, FreesSeat, Seats, Reseats, FliesPeriod, FliesSegment, FliesSegments, Records, RecordsAll, Writes, WritesOrder}
 use Rattle.store.proofs.Tables.{fit_after}
 

@@ -10,7 +10,7 @@ use Rattle.tables.specs.Schema.{BookTable, IsBook, IsTable, book_tables}
 use Rattle.tables.specs.Rows.{AreNumbered, IsStored, Changes, Inserts, Deletes, Updates, cells, rows_of, stored}
 use Rattle.store.specs.Calls.{IsFit}
 use Rattle.store.specs.Making.{HasEmpty, all_tables}
-use Rattle.store.specs.Rows.{TableName, book, crew, pairing, period, segment, seat, ground_duty, exceedance, request, table}
+use Rattle.loading.specs.Rows.{TableName, book, crew, pairing, period, segment, seat, ground_duty, exceedance, request, table}
 use Rattle.store.proofs.Chaining.{Keeps}
 
 -- ---- Names

@@ -5,7 +5,7 @@ use Rattle.sqlite.specs.State.{State, HasCleanDisk, Shows, KeepsCommit}
 use Rattle.tables.specs.Calls.{LeavesNothing}
 use Rattle.tables.specs.Schema.{IsBook}
 use Rattle.store.specs.Kept.{AreStored}
-use Rattle.store.specs.declared.fault.StoreFault.{StoreFault}
+use Rattle.loading.specs.declared.fault.StoreFault.{StoreFault}
 
 -- a transaction is begun
 abbrev pub IsInside : State → Type 0

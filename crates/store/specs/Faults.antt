@@ -1,41 +1,9 @@
--- Which fault of the store a fault of a table is, and how faults are printed.
-use Rattle.std.specs.Prelude.{ℕ, List, ◌++◌, codes}
-use Rattle.tables.specs.declared.table_fault.TableFault.{TableFault}
-use Rattle.tables.specs.declared.table_fault.TableFault.TheVariants as table
+-- How a refusal to make a book is printed.
+use Rattle.std.specs.Prelude.{ℕ, List, codes}
+use Rattle.loading.specs.Faults.{fault_text}
 use Rattle.store.specs.declared.fault.CreateFault.{CreateFault}
 use Rattle.store.specs.declared.fault.CreateFault.TheVariants.{NotEmpty, Fault}
-use Rattle.store.specs.declared.fault.LoadFault.{LoadFault}
-use Rattle.store.specs.declared.fault.LoadFault.TheVariants as load
-use Rattle.store.specs.declared.fault.StoreFault.{StoreFault}
-use Rattle.store.specs.declared.fault.StoreFault.TheVariants.{Store, Memory}
-use Rattle.store.specs.declared.fault.TableName.{TableName}
-use Rattle.store.specs.declared.fault.TableName.TheVariants as name
-
-abbrev pub fault_of : TableFault → StoreFault
-fault_of table.Memory = Memory
-fault_of _ = Store
-
-abbrev pub fault_text : StoreFault → List ℕ
-fault_text Store = codes "90 Store"
-fault_text Memory = codes "91 Memory"
 
 abbrev pub create_text : CreateFault → List ℕ
 create_text NotEmpty = codes "43 NotEmpty"
 create_text (Fault fault) = fault_text fault
-
-abbrev pub name_text : TableName → List ℕ
-name_text name.Book = codes "book"
-name_text name.Crew = codes "crew"
-name_text name.Pairing = codes "pairing"
-name_text name.Period = codes "period"
-name_text name.Segment = codes "segment"
-name_text name.Seat = codes "seat"
-name_text name.Ground = codes "ground"
-name_text name.Exceedance = codes "exceedance"
-name_text name.Request = codes "request"
-
-abbrev pub load_text : LoadFault → List ℕ
-load_text load.NotABook = codes "40 NotABook"
-load_text (load.Damaged it) = codes "41 Damaged " ++ name_text it
-load_text load.Version = codes "42 Version"
-load_text (load.Fault fault) = fault_text fault

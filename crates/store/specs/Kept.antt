@@ -8,7 +8,7 @@ use Rattle.sqlite.specs.Effect.{Database, IsDatabase}
 use Rattle.roster.specs.State.{State}
 use Rattle.tables.specs.Schema.{BookTable, IsBook, IsTable}
 use Rattle.tables.specs.Rows.{IsStored, stored}
-use Rattle.store.specs.Rows.{TableName, table, Rows}
+use Rattle.loading.specs.Rows.{TableName, table, Rows}
 
 -- each row of each table is stored under a number of its own
 abbrev pub AreStored : Database → Type 0

@@ -1,14 +1,7 @@
-pub mod Rows
-pub mod SameRows
+pub mod Faults
 pub mod Kept
 pub mod Outcomes
-pub mod PlanOrder
-pub mod PlanRows
-pub mod Faults
 pub mod Calls
 pub mod Making
 pub mod Next
 pub mod Writing
-pub mod Loading
-pub mod Reading
-pub mod Keyed

@@ -16,13 +16,9 @@ use Rattle.roster.specs.declared.state.PeriodId.{PeriodId}
 use Rattle.tables.specs.Records.{with_period_times, with_segment_times}
 use Rattle.tables.specs.Rows.{Inserts, Deletes, Updates, begins_with}
 use Rattle.store.specs.Calls.{Then, Each, Fitting}
-use Rattle.store.specs.Rows.{table, crew, pairing, period, segment, seat, ground_duty, exceedance, request, row_of_member, row_of_pairing, row_of_period, row_of_segment, row_of_seat, row_of_ground, row_of_exceedance, row_of_request, seat_number}
+use Rattle.loading.specs.Rows.{table, crew, pairing, period, segment, seat, ground_duty, exceedance, request, row_of_member, row_of_pairing, row_of_period, row_of_segment, row_of_seat, row_of_ground, row_of_exceedance, row_of_request, seat_number}
 
 -- ---- A pairing
-
--- each period has at most twelve segments
-abbrev pub HaveFewSegments : List Fdp → Type 0
-HaveFewSegments periods = (place : ℕ) (fdp : Fdp) → slice_get periods place ≡ Some fdp → length fdp.segments ≤ 12
 
 abbrev pub AddsPeriods : List ℕ → List Fdp → Database → Database → Type 0
 AddsPeriods id = Each (λ place fdp. Inserts (table period) (row_of_period id place fdp None)) 0

@@ -1,16 +1,7 @@
-use std::alloc::{AllocError, AllocFailed};
+use loading::StoreFault;
+use std::alloc::AllocError;
 use std::fmt;
 use tables::TableFault;
-use values::MemoryFault;
-
-/// Why a call on the tables of a book failed.
-#[derive(Clone, Copy, Debug, PartialEq, Eq)]
-pub enum StoreFault {
-    /// The store refused or failed for another reason than memory, or a commit failed for whatever reason: refusal 90.
-    Store,
-    /// No memory was left before the commit: refusal 91. Nothing is changed.
-    Memory,
-}
 
 /// Why no book was made.
 #[derive(Clone, Copy, Debug, PartialEq, Eq)]
@@ -20,50 +11,6 @@ pub enum CreateFault {
     /// A fault of the store (90) or want of memory (91).
     Fault(StoreFault),
 }
-
-/// A table of the book, in the order in which loading looks at them.
-#[derive(Clone, Copy, Debug, PartialEq, Eq)]
-pub enum TableName {
-    Book,
-    Crew,
-    Pairing,
-    Period,
-    Segment,
-    Seat,
-    Ground,
-    Exceedance,
-    Request,
-}
-
-/// Why a database was not loaded.
-#[derive(Clone, Copy, Debug, PartialEq, Eq)]
-pub enum LoadFault {
-    /// There is no table `book`: refusal 40.
-    NotABook,
-    /// This is the first table that isn't there as it is declared, has a row that is no value of its type, or doesn't fit
-    /// the tables above it: refusal 41.
-    Damaged(TableName),
-    /// The tables are of a version that this program doesn't know: refusal 42.
-    Version,
-    /// A fault of the store (90) or want of memory (91).
-    Fault(StoreFault),
-}
-
-impl fmt::Display for StoreFault {
-    ghost use Rattle.std.specs.Prelude.{Some};
-    ghost use Rattle.store.specs.Faults.{fault_text};
-
-    ghost output = { λ fault. Some (fault_text fault) };
-
-    fn fmt<W: fmt::Write>(&self, f: &mut fmt::Formatter<W>) -> fmt::Result {
-        f.write_str(match self {
-            StoreFault::Store => "90 Store",
-            StoreFault::Memory => "91 Memory",
-        })
-    }
-}
-
-impl std::error::Error for StoreFault {}
 
 impl fmt::Display for CreateFault {
     ghost use Rattle.std.specs.Prelude.{Some};
@@ -81,42 +28,6 @@ impl fmt::Display for CreateFault {
 
 impl std::error::Error for CreateFault {}
 
-impl From<TableFault> for StoreFault {
-    ghost use Rattle.std.specs.Prelude.{◌≡◌};
-    ghost use Rattle.store.specs.Faults.{fault_of};
-
-    ghost from_gives = { λ fault given. given ≡ fault_of fault };
-
-    fn from(fault: TableFault) -> StoreFault {
-        match fault {
-            TableFault::Memory => StoreFault::Memory,
-            TableFault::Store | TableFault::NotARecord => StoreFault::Store,
-        }
-    }
-}
-
-impl From<MemoryFault> for StoreFault {
-    ghost use Rattle.std.specs.Prelude.{◌≡◌};
-    ghost use Rattle.store.specs.declared.fault.StoreFault.TheVariants.{Memory};
-
-    ghost from_gives = { λ _ fault. fault ≡ Memory };
-
-    fn from(_fault: MemoryFault) -> StoreFault {
-        StoreFault::Memory
-    }
-}
-
-impl From<AllocError> for StoreFault {
-    ghost use Rattle.std.specs.Prelude.{◌≡◌};
-    ghost use Rattle.store.specs.declared.fault.StoreFault.TheVariants.{Memory};
-
-    ghost from_gives = { λ _ fault. fault ≡ Memory };
-
-    fn from(_error: AllocError) -> StoreFault {
-        StoreFault::Memory
-    }
-}
-
 impl From<StoreFault> for CreateFault {
     ghost use Rattle.std.specs.Prelude.{◌≡◌};
     ghost use Rattle.store.specs.declared.fault.CreateFault.TheVariants.{Fault};
@@ -130,7 +41,7 @@ impl From<StoreFault> for CreateFault {
 
 impl From<TableFault> for CreateFault {
     ghost use Rattle.std.specs.Prelude.{◌≡◌};
-    ghost use Rattle.store.specs.Faults.{fault_of};
+    ghost use Rattle.loading.specs.Faults.{fault_of};
     ghost use Rattle.store.specs.declared.fault.CreateFault.TheVariants.{Fault};
 
     ghost from_gives = { λ fault given. given ≡ Fault (fault_of fault) };
@@ -143,100 +54,11 @@ impl From<TableFault> for CreateFault {
 impl From<AllocError> for CreateFault {
     ghost use Rattle.std.specs.Prelude.{◌≡◌};
     ghost use Rattle.store.specs.declared.fault.CreateFault.TheVariants.{Fault};
-    ghost use Rattle.store.specs.declared.fault.StoreFault.TheVariants.{Memory};
+    ghost use Rattle.loading.specs.declared.fault.StoreFault.TheVariants.{Memory};
 
     ghost from_gives = { λ _ fault. fault ≡ Fault Memory };
 
     fn from(_error: AllocError) -> CreateFault {
         CreateFault::Fault(StoreFault::Memory)
-    }
-}
-
-impl fmt::Display for TableName {
-    ghost use Rattle.std.specs.Prelude.{Some};
-    ghost use Rattle.store.specs.Faults.{name_text};
-
-    ghost output = { λ name. Some (name_text name) };
-
-    /// Writes the table's name, as `seat`.
-    fn fmt<W: fmt::Write>(&self, f: &mut fmt::Formatter<W>) -> fmt::Result {
-        f.write_str(match self {
-            TableName::Book => "book",
-            TableName::Crew => "crew",
-            TableName::Pairing => "pairing",
-            TableName::Period => "period",
-            TableName::Segment => "segment",
-            TableName::Seat => "seat",
-            TableName::Ground => "ground",
-            TableName::Exceedance => "exceedance",
-            TableName::Request => "request",
-        })
-    }
-}
-
-impl fmt::Display for LoadFault {
-    ghost use Rattle.std.specs.Prelude.{Some};
-    ghost use Rattle.store.specs.Faults.{load_text};
-
-    ghost output = { λ fault. Some (load_text fault) };
-
-    /// Writes the refusal, as `41 Damaged seat`.
-    fn fmt<W: fmt::Write>(&self, f: &mut fmt::Formatter<W>) -> fmt::Result {
-        match self {
-            LoadFault::NotABook => f.write_str("40 NotABook"),
-            LoadFault::Damaged(table) => write!(f, "41 Damaged {table}"),
-            LoadFault::Version => f.write_str("42 Version"),
-            LoadFault::Fault(fault) => write!(f, "{fault}"),
-        }
-    }
-}
-
-impl std::error::Error for LoadFault {}
-
-impl From<TableFault> for LoadFault {
-    ghost use Rattle.std.specs.Prelude.{◌≡◌};
-    ghost use Rattle.store.specs.Faults.{fault_of};
-    ghost use Rattle.store.specs.declared.fault.LoadFault.TheVariants.{Fault};
-
-    ghost from_gives = { λ fault given. given ≡ Fault (fault_of fault) };
-
-    fn from(fault: TableFault) -> LoadFault {
-        LoadFault::Fault(StoreFault::from(fault))
-    }
-}
-
-impl From<MemoryFault> for LoadFault {
-    ghost use Rattle.std.specs.Prelude.{◌≡◌};
-    ghost use Rattle.store.specs.declared.fault.LoadFault.TheVariants.{Fault};
-    ghost use Rattle.store.specs.declared.fault.StoreFault.TheVariants.{Memory};
-
-    ghost from_gives = { λ _ fault. fault ≡ Fault Memory };
-
-    fn from(_fault: MemoryFault) -> LoadFault {
-        LoadFault::Fault(StoreFault::Memory)
-    }
-}
-
-impl From<AllocError> for LoadFault {
-    ghost use Rattle.std.specs.Prelude.{◌≡◌};
-    ghost use Rattle.store.specs.declared.fault.LoadFault.TheVariants.{Fault};
-    ghost use Rattle.store.specs.declared.fault.StoreFault.TheVariants.{Memory};
-
-    ghost from_gives = { λ _ fault. fault ≡ Fault Memory };
-
-    fn from(_error: AllocError) -> LoadFault {
-        LoadFault::Fault(StoreFault::Memory)
-    }
-}
-
-impl<T: Drop> From<AllocFailed<T>> for LoadFault {
-    ghost use Rattle.std.specs.Prelude.{◌≡◌};
-    ghost use Rattle.store.specs.declared.fault.LoadFault.TheVariants.{Fault};
-    ghost use Rattle.store.specs.declared.fault.StoreFault.TheVariants.{Memory};
-
-    ghost from_gives = { λ _ fault. fault ≡ Fault Memory };
-
-    fn from(_failed: AllocFailed<T>) -> LoadFault {
-        LoadFault::Fault(StoreFault::Memory)
     }
 }

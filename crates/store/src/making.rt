@@ -9,7 +9,7 @@ ghost use Rattle.tables.specs.Schema.{book_table, table_found, NoneRefersTo, cre
 ghost use Rattle.store.specs.Calls.{IsInside, Changed, Then};
 ghost use Rattle.store.specs.Making.{AreUnreferenced, Grows, IsFree, first_tables, second_tables, all_tables};
 
-use crate::fault::StoreFault;
+use loading::StoreFault;
 use sqlite::{Alter, Connection};
 use tables::book::{BookRecord, create_book, insert_book};
 use tables::book_schema::{has_table, is_unreferenced};

@@ -3,7 +3,7 @@
 ghost use Rattle.std.specs.Prelude.{◌≡◌, ◌+◌, ◌<◌, ◌^◌, IfOk, OnOk, None};
 ghost use Rattle.tables.specs.Records.{crew_row, pairing_row, period_row, segment_row, seat_row, ground_row, exceedance_row, request_row};
 ghost use Rattle.codec.specs.Laws.{IsCommand};
-ghost use Rattle.store.specs.Rows.{seat_number, row_of_member, row_of_pairing, row_of_period, row_of_segment, row_of_seat, row_of_ground, row_of_exceedance, row_of_request};
+ghost use Rattle.loading.specs.Rows.{seat_number, row_of_member, row_of_pairing, row_of_period, row_of_segment, row_of_seat, row_of_ground, row_of_exceedance, row_of_request};
 
 use codec::{canonical, reply_to_json};
 use command::{Command, Exceedance, Key, Member, Reply, Seat};

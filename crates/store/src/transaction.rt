@@ -6,7 +6,7 @@ ghost use Rattle.sqlite.specs.Held.{state};
 ghost use Rattle.tables.specs.Calls.{Committed};
 ghost use Rattle.store.specs.Outcomes.{IsOutside};
 
-use crate::fault::StoreFault;
+use loading::StoreFault;
 use sqlite::{Alter, Connection};
 use tables::transaction::{commit, rollback};
 

@@ -7,16 +7,17 @@ ghost use Rattle.sqlite_value.specs.declared.value.Value.TheVariants as value;
 ghost use Rattle.tables.specs.Records.{request_row};
 ghost use Rattle.tables.specs.Rows.{Inserts, Deletes, begins_with};
 ghost use Rattle.store.specs.Calls.{IsReady, Wrote};
-ghost use Rattle.store.specs.Rows.{table, crew, pairing, period, segment, ground_duty, request, row_of_member, row_of_pairing, row_of_period, row_of_segment, row_of_ground, row_of_request};
-ghost use Rattle.store.specs.Writing.{HaveFewSegments, AddsPeriods, AddsSegmentsOf, AddsSegments, AddsPairing, RemovesPairing, FreesSeat, TakesSeat, Reseats, ReseatsAll, FliesSegment, FliesSegments, FliesPeriod, Records, RecordsAll, Flies, WritesOrder, Writes};
+ghost use Rattle.loading.specs.Rows.{table, crew, pairing, period, segment, ground_duty, request, row_of_member, row_of_pairing, row_of_period, row_of_segment, row_of_ground, row_of_request};
+ghost use Rattle.loading.specs.PlanRows.{HaveFewSegments};
+ghost use Rattle.store.specs.Writing.{AddsPeriods, AddsSegmentsOf, AddsSegments, AddsPairing, RemovesPairing, FreesSeat, TakesSeat, Reseats, ReseatsAll, FliesSegment, FliesSegments, FliesPeriod, Records, RecordsAll, Flies, WritesOrder, Writes};
 
-use crate::fault::StoreFault;
 use crate::records::{
     crew_record, exceedance_record, ground_record, number_of_seat, pairing_record, period_record,
     seat_record, segment_record,
 };
 use command::{Exceedance, Key, Member, Order};
 use duty::{Actual, BlockTimes, CrewId, Fdp, Ground, GroundId, Pairing, PairingId, Segment};
+use loading::StoreFault;
 use roster::{Change, SeatChange};
 use sqlite::{Alter, Connection};
 use std::alloc::Global;

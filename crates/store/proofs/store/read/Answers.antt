@@ -2,13 +2,13 @@ use Rattle.std.proofs.Common.{ap, not, ◌∙◌}
 use Rattle.sqlite.specs.Held.{state}
 use Rattle.sqlite.specs.State.{HasCleanDisk}
 use Rattle.roster.specs.Sound.{Sound}
-use Rattle.store.specs.Loading.{Says}
+use Rattle.loading.specs.Loading.{Says}
 use Rattle.store.specs.Outcomes.{HoldsNow, IsOverBook, Leaves, one}
-use Rattle.store.specs.Reading.{IsReadTo}
-use Rattle.store.specs.Rows.{request}
-use Rattle.store.specs.SameRows.{HasInstants}
+use Rattle.loading.specs.Reading.{IsReadTo}
+use Rattle.loading.specs.Rows.{request}
+use Rattle.loading.specs.SameRows.{HasInstants}
 use Rattle.store.proofs.Loads.{on_read, loaded_leaves, loaded_now, loaded_over}
-use Rattle.store.proofs.RightSound.{right_sound, right_instants}
+use Rattle.loading.proofs.RightSound.{right_sound, right_instants}
 use Rattle.store.proofs.store.read.Goals as goal
 
 pub returns-else-is_err-clause-sound : goal.returns-else-is_err-clause-sound

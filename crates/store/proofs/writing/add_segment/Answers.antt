@@ -1,5 +1,5 @@
 use Rattle.sqlite.specs.Held.{state}
-use Rattle.store.specs.Rows.{segment}
+use Rattle.loading.specs.Rows.{segment}
 use Rattle.store.proofs.Chaining.{wrote_ok}
 use Rattle.store.proofs.Tables.{inserts_keep}
 use Rattle.store.proofs.writing.add_segment.Goals as goal

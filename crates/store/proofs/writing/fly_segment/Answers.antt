@@ -3,7 +3,7 @@ use Rattle.sqlite_value.specs.declared.value.Value.TheVariants.{Int, Text}
 use Rattle.sqlite.specs.Held.{state}
 use Rattle.tables.specs.Records.{with_segment_times}
 use Rattle.tables.specs.Rows.{begins_with}
-use Rattle.store.specs.Rows.{segment}
+use Rattle.loading.specs.Rows.{segment}
 use Rattle.store.proofs.Chaining.{wrote_ok}
 use Rattle.store.proofs.Tables.{updates_keep}
 use Rattle.store.proofs.writing.fly_segment.Goals as goal

@@ -2,7 +2,7 @@ use Rattle.std.proofs.Common.{[], ◌∷◌}
 use Rattle.sqlite_value.specs.declared.value.Value.TheVariants.{Text}
 use Rattle.sqlite.specs.Held.{state}
 use Rattle.tables.specs.Rows.{begins_with}
-use Rattle.store.specs.Rows.{segment}
+use Rattle.loading.specs.Rows.{segment}
 use Rattle.store.proofs.Chaining.{wrote_ok}
 use Rattle.store.proofs.Tables.{deletes_keep}
 use Rattle.store.proofs.writing.remove_segments.Goals as goal

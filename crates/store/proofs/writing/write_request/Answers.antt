@@ -1,6 +1,6 @@
 use Rattle.sqlite.specs.Held.{state}
 use Rattle.tables.specs.Records.{request_row}
-use Rattle.store.specs.Rows.{request}
+use Rattle.loading.specs.Rows.{request}
 use Rattle.store.proofs.Chaining.{wrote_ok}
 use Rattle.store.proofs.Tables.{inserts_keep}
 use Rattle.store.proofs.writing.write_request.Goals as goal

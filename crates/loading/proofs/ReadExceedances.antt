@@ -1,0 +1,309 @@
+-- The table `exceedance`: what its records tell, and when it is right.
+use Rattle.std.proofs.Common.{◌≡◌, inl, inr, refl, sym, ap, subst, ◌∙◌, arith, ℕ, pos, ◌<◌, ◌^◌, true, false, List, [], ◌∷◌, map, take, slice_get, ◌+◌, length, Option, Some, None, Result, Ok, Err, MatchResult}
+use Rattle.std.specs.FinMap as fin
+use Rattle.std.specs.Prelude.{is_some}
+use Rattle.std.proofs.lemmas.Option.{slice_get_within}
+use Rattle.values.specs.Name.{name_cmp}
+use Rattle.sqlite_value.specs.declared.value.Value.TheVariants.{Int, Text}
+use Rattle.sqlite_value.specs.Order.{Row, column}
+use Rattle.sqlite_rules.specs.Lists.{Has}
+use Rattle.sqlite.specs.Effect.{Database}
+use Rattle.sqlite.specs.State.{HasCleanDisk, IsUnchanged}
+use Rattle.sqlite.specs.State as conn
+use Rattle.limits.specs.SectionText.{section_number}
+use Rattle.limits.specs.declared.section.Section.{Section}
+use Rattle.limits.specs.declared.section.Section.TheVariants.{FlightTime, FlightDutyPeriod, FlightTime672Hours, FlightTime365Days, FlightDutyPeriods168Hours, FlightDutyPeriods672Hours, ThirtyHourRest, TenHourRest}
+use Rattle.command.specs.Keys.{KeyParts}
+use Rattle.command.specs.declared.member.Member.{Member}
+use Rattle.roster.specs.Entries.{put}
+use Rattle.roster.specs.Sound.{Crew, SoundPairing}
+use Rattle.roster.specs.State.{State, exceedance_name}
+use Rattle.roster.specs.declared.put.Entry.{Entry}
+use Rattle.roster.specs.declared.put.Entry.TheVariants as entry
+use Rattle.roster.specs.declared.state.ExceedanceId.{ExceedanceId}
+use Rattle.roster.specs.declared.state.PeriodId.{PeriodId}
+use Rattle.roster.specs.declared.state.Rostered.{Rostered}
+use Rattle.tables.proofs.KeyLemmas.{exceedance_once}
+use Rattle.tables.specs.Calls.{LeavesNothing}
+use Rattle.tables.specs.Records.{IsExceedanceRow, exceedance_row}
+use Rattle.tables.specs.Rows.{rows_of, begins_with}
+use Rattle.tables.specs.Schema.{BookTable, pairing_table, period_table, segment_table, seat_table, exceedance_table}
+use Rattle.tables.specs.declared.exceedance.ExceedanceRecord.{ExceedanceRecord}
+use Rattle.loading.proofs.Ascii.{id_utf8}
+use Rattle.loading.proofs.FewPeriods.{few_periods}
+use Rattle.loading.proofs.Mapping.{all_taken, nothing_mapped, next_mapped, mapped_at, mapped_place}
+use Rattle.loading.proofs.ReadGrounds.{crew_part, members_same}
+use Rattle.loading.proofs.SamePairings.{same_pairing}
+use Rattle.loading.proofs.Tests.{passes}
+use Rattle.loading.proofs.Values.{ids_same, int_is, text_is, number_is}
+use Rattle.loading.proofs.Telling.{unread, of_blame, clean_before}
+use Rattle.loading.specs.Loading.{IsKey, IsExceedance, ArePlanned, AreSeated, name_of, IsRight, IsSeatRight, AreRight, IsDamaged, Says}
+use Rattle.loading.specs.Reading.{ExceedancesRead, IsFlown, IsRecorded, row_of_recorded, Saw, Blames, HasRows, IsUnreadable, IsReadTo, Mapped, AreOnce, TellsOf, HasStranger}
+use Rattle.loading.specs.declared.fault.LoadFault.{LoadFault}
+use Rattle.loading.specs.declared.fault.TableName.TheVariants as table_name
+use Rattle.loading.specs.Rows.{HasJust, row_of_pairing, exceedance, ground_duty}
+
+-- ---- One record
+
+module _ (members : Crew) (pairings : fin.FinMap name_cmp Rostered) (it : ExceedanceRecord) where
+  abbrev Tells : Option Entry → Type 0
+  Tells = TellsOf (λ id p e. e ≡ entry.Exceedance id p) row_of_recorded (IsRecorded members pairings) (exceedance_row it)
+
+  pub no_key : ((key : KeyParts) → IsKey key → it.number ≡ pos key.number → it.part ≡ key.part → ⊥) → Tells None
+  no_key none id p e is = none id.key is.is.is_key (int_is (ap (λ (row : Row). column row 0) e)) (number_is (ap (λ (row : Row). column row 1) e))
+
+  pub no_section : ((section : Section) → it.section ≡ section_number section → ⊥) → Tells None
+  no_section none id p e is = none id.section (number_is (ap (λ (row : Row). column row 3) e))
+
+  pub no_number : (it.period < 256 → ⊥) → Tells None
+  no_number none id p e is = none (subst (λ n. n < 256) (sym (number_is (ap (λ (row : Row). column row 5) e))) is.fits)
+
+  pub no_member : fin.contains_key members it.crew ≡ false → Tells None
+  no_member none id p e is =
+      let there : fin.get members it.crew ≡ Some is.is.member = ap (fin.get members) (text_is (ap (λ (row : Row). column row 2) e)) ∙ is.is.of_member in
+      absurd (let f = sym none ∙ ap is_some there in cc)
+
+  abbrev pub told_period : PeriodId
+  told_period = record { pairing = it.pairing; number = it.period }
+
+  pub not_flown : (IsFlown pairings told_period → ⊥) → Tells None
+  not_flown none id p e is = none (record {
+    rostered = is.is.rostered;
+    of_pairing = ap (fin.get pairings) (text_is (ap (λ (row : Row). column row 4) e)) ∙ is.is.of_pairing;
+    place = is.is.place;
+    number = number_is (ap (λ (row : Row). column row 5) e) ∙ is.is.number;
+    actual = is.is.actual;
+    flown = is.is.flown;
+  })
+
+  member_there : (o : Option Member) → is_some o ≡ true → (m : Member) × (o ≡ Some m)
+  member_there None e = absurd (cc)
+  member_there (Some m) e = (m, refl)
+
+  pub tells : (key : KeyParts) (section : Section) → IsKey key × (it.number ≡ pos key.number) × (it.part ≡ key.part) → it.section ≡ section_number section → it.period < 256 →
+      fin.contains_key members it.crew ≡ true → IsFlown pairings told_period →
+      Tells (Some (entry.Exceedance (record { key = key; crew = it.crew; section = section }) told_period))
+  tells key section is_key is_section fits known flown =
+      let member = member_there (fin.get members it.crew) known in (
+        record { key = key; crew = it.crew; section = section },
+        told_period,
+        refl,
+        (λ i. exceedance_row (record it { number = is_key.1 i; part = is_key.2 i; section = is_section i })),
+        record {
+          is = record {
+            is_key = is_key.0;
+            member = member.0;
+            of_member = member.1;
+            rostered = flown.rostered;
+            of_pairing = flown.of_pairing;
+            place = flown.place;
+            number = flown.number;
+            actual = flown.actual;
+            flown = flown.flown;
+          };
+          fits = fits;
+        },
+      )
+
+-- ---- Records in turn
+
+pub none_read : (records : List ExceedanceRecord) (s : State) → s.exceedances ≡ fin.empty → ExceedancesRead records 0 s s
+none_read records s none = record {
+  same = refl;
+  mapped = λ once. subst (Mapped name_of row_of_recorded (IsRecorded s.crew s.pairings) (take 0 (map exceedance_row records))) (sym none)
+      (nothing_mapped name_of ids_same row_of_recorded (IsRecorded s.crew s.pairings));
+}
+
+module _ (records : List ExceedanceRecord) (at : ℕ) (it : ExceedanceRecord) (there : slice_get records at ≡ Some it) where
+  -- the members and pairings stay while the exceedances are set
+  as_begun : (s t : State) (e : Option Entry) → ExceedancesRead records at s t → Tells t.crew t.pairings it e → Tells s.crew s.pairings it e
+  as_begun s t e read = subst (λ (r : State). Tells r.crew r.pairings it e) read.same
+
+  pub stranger : (s t : State) → ExceedancesRead records at s t → Tells t.crew t.pairings it None → HasStranger row_of_recorded (IsRecorded s.crew s.pairings) (map exceedance_row records)
+  stranger s t read none = record { row = exceedance_row it; here = mapped_at exceedance_row records at it there; strange = as_begun s t None read none }
+
+  pub one_read : (s t u : State) (e : Entry) → Tells t.crew t.pairings it (Some e) → ExceedancesRead records at s t → u ≡ put t e → ExceedancesRead records (at + 1) s u
+  one_read s t u e told_now read made =
+      let told = as_begun s t (Some e) read told_now in
+      let id = told.0 in
+      let p = told.1 in
+      let is : u ≡ record t { exceedances = fin.insert t.exceedances (name_of id) p } = made ∙ ap (put t) told.2 in
+      let exceedances_are : u.exceedances ≡ fin.insert t.exceedances (name_of id) p = ap (λ (r : State). r.exceedances) is in
+      record {
+        same = is ∙ (λ i. record (read.same i) { exceedances = fin.insert t.exceedances (name_of id) p }) ∙ (λ i. record s { exceedances = sym exceedances_are i });
+        mapped = λ once. subst (λ m. Mapped name_of row_of_recorded (IsRecorded s.crew s.pairings) (take (at + 1) (map exceedance_row records)) m) (sym exceedances_are)
+            (next_mapped name_of ids_same row_of_recorded (IsRecorded s.crew s.pairings) t.exceedances id p (map exceedance_row records) at
+            (mapped_place exceedance_row records at it there ∙ ap Some told.3) (read.mapped once) told.4 once);
+      }
+
+-- ---- States with the same rows down to the seats have the same pairings
+
+-- a pairing that is planned and seated is sound
+sound : (s : State) → ArePlanned s → AreSeated s → (id : List ℕ) (r : Rostered) → fin.get s.pairings id ≡ Some r → SoundPairing s.crew id r
+sound s planned seated id r e =
+    let p = planned id r e in
+    let h = seated id r e in
+    record {
+      named = p.named;
+      plan = p.plan;
+      planned = p.planned;
+      captain = h.captain;
+      first_officer = h.first_officer;
+      places = p.places;
+      actuals = λ i a there. (p.actuals i a there).0;
+      crewed = h.crewed;
+    }
+
+-- a row of one is one of the other
+of_other : (it : BookTable) (db : Database) (Is Other : Row → Type 0) → HasJust it db Is → HasJust it db Other → (row : Row) → Other row → Is row
+of_other it db Is Other a b row other = (a row).0 ((b row).1 other)
+
+pub pairing_here : (s t : State) (db : Database) → IsSeatRight s db → IsSeatRight t db → (id : List ℕ) (r : Rostered) → fin.get t.pairings id ≡ Some r → fin.get s.pairings id ≡ Some r
+pairing_here s t db a b id r e =
+    let it = of_other pairing_table db _ _ a.0.0.0.1.1 b.0.0.0.1.1 (row_of_pairing id) (record { name = id; value = r; there = e }, refl) in
+    let same_id : id ≡ it.0.name = text_is (ap (λ (row : Row). column row 0) it.1) in
+    let there : fin.get s.pairings id ≡ Some it.0.value = ap (fin.get s.pairings) same_id ∙ it.0.there in
+    there ∙ ap Some (same_pairing s t id it.0.value r there e (sound s a.0.3 a.2 id it.0.value there) (sound t b.0.3 b.2 id r e)
+    (of_other period_table db _ _ b.0.1 a.0.1) (of_other period_table db _ _ a.0.1 b.0.1)
+    (of_other segment_table db _ _ b.0.2.1 a.0.2.1) (of_other segment_table db _ _ a.0.2.1 b.0.2.1)
+    (of_other seat_table db _ _ b.1.1 a.1.1) (of_other seat_table db _ _ a.1.1 b.1.1))
+
+-- so an exceedance of one is of the same member and period in the other
+known_here : (s t : State) (db : Database) → IsSeatRight s db → IsSeatRight t db → (id : ExceedanceId) (p : PeriodId) → IsExceedance t.crew t.pairings id p → IsExceedance s.crew s.pairings id p
+known_here s t db a b id p is = record {
+  is_key = is.is_key;
+  member = is.member;
+  of_member = members_same s t db (crew_part s db a) (crew_part t db b) id.crew is.member is.of_member;
+  rostered = is.rostered;
+  of_pairing = pairing_here s t db a b p.pairing is.rostered is.of_pairing;
+  place = is.place;
+  number = is.number;
+  actual = is.actual;
+  flown = is.flown;
+}
+
+-- the number of a period with an actual has eight bits, since a pairing has few periods
+period_fits : (s : State) → ArePlanned s → (id : ExceedanceId) (p : PeriodId) → IsExceedance s.crew s.pairings id p → p.number < 256
+period_fits s planned id p is =
+    let r = planned p.pairing is.rostered is.of_pairing in
+    let few = few_periods is.rostered.plan r.plan in
+    let within = slice_get_within is.rostered.actuals is.place (Some is.actual) is.flown in
+    omega (arith, few, within, r.places, is.number)
+
+-- ---- The table
+
+-- where it is right, each row is that of an exceedance
+recorded_in : (s : State) (db : Database) → IsRight exceedance s db → (row : Row) → Has (rows_of exceedance_table db) row →
+    (id : ExceedanceId) × (p : PeriodId) × (row ≡ row_of_recorded id p) × IsExceedance s.crew s.pairings id p
+recorded_in s db right row here =
+    let it = (right.1.1 row).0 here in
+    let at = it.0 in
+    let known = right.2 (exceedance_name at.key at.crew at.section) at.period at.there in
+    let same : record { key = at.key; crew = at.crew; section = at.section } ≡ known.0 = ids_same _ known.0 known.1 in
+    (known.0, at.period, it.1 ∙ ap (λ (id : ExceedanceId). row_of_recorded id at.period) same, known.2)
+
+section_fits : (section : Section) → section_number section < 2 ^ 32
+section_fits FlightTime = omega arith
+section_fits FlightDutyPeriod = omega arith
+section_fits FlightTime672Hours = omega arith
+section_fits FlightTime365Days = omega arith
+section_fits FlightDutyPeriods168Hours = omega arith
+section_fits FlightDutyPeriods672Hours = omega arith
+section_fits ThirtyHourRest = omega arith
+section_fits TenHourRest = omega arith
+
+not_unreadable : (db : Database) → IsUnreadable exceedance IsExceedanceRow db → AreRight exceedance db → ⊥
+not_unreadable db (inl none) right = none right.1.1.0
+not_unreadable db (inr x) right =
+    let it = recorded_in right.0 db right.1 x.0 x.1 in
+    let id = it.0 in
+    let p = it.1 in
+    let is = it.3 in
+    let down = right.1.0.0 in
+    let part = is.is_key.2 in
+    let fits = period_fits right.0 down.0.3 id p is in
+    x.3 (
+      record { number = pos id.key.number; part = id.key.part; crew = id.crew; section = section_number id.section; pairing = p.pairing; period = p.number },
+      omega (arith, part),
+      id_utf8 id.crew ((crew_part right.0 db down).2 id.crew is.member is.of_member).id_shape,
+      section_fits id.section,
+      id_utf8 p.pairing (down.0.0.0.2 p.pairing is.rostered is.of_pairing),
+      omega (arith, fits),
+      it.2,
+    )
+
+itself : (id : ExceedanceId) (p : PeriodId) → begins_with (Int (pos id.key.number) ∷ Int (pos id.key.part) ∷ Text id.crew ∷ Int (pos (section_number id.section)) ∷ []) (row_of_recorded id p) ≡ true
+itself id p = passes (Int (pos id.key.number) ∷ Int (pos id.key.part) ∷ Text id.crew ∷ Int (pos (section_number id.section)) ∷ []) (row_of_recorded id p) (refl, (refl, (refl, (refl, tt))))
+
+module _ (s : State) (db : Database) (above : IsReadTo ground_duty s db) where
+  damaged : (AreRight exceedance db → ⊥) → IsDamaged exceedance db
+  damaged wrong = record { book = above.book; version = above.version; above = (s, above.right); damaged = wrong }
+
+  pub unreadable : IsUnreadable exceedance IsExceedanceRow db → IsDamaged exceedance db
+  unreadable why = damaged (not_unreadable db why)
+
+  pub strange : (rows : List Row) → HasRows exceedance db rows → HasStranger row_of_recorded (IsRecorded s.crew s.pairings) rows → IsDamaged exceedance db
+  strange rows read stranger = damaged (λ right.
+      let it = recorded_in right.0 db right.1 stranger.row ((read.all stranger.row).1 stranger.here) in
+      let is = known_here s right.0 db above.right.0 right.1.0.0 it.0 it.1 it.3 in
+      stranger.strange it.0 it.1 it.2 (record { is = is; fits = period_fits s above.right.0.0.3 it.0 it.1 is }))
+
+  exceedances_once : (rows : List Row) → HasRows exceedance db rows → AreOnce row_of_recorded rows
+  exceedances_once rows read id p q first second =
+      exceedance_once db read.database read.there.0 read.stored (pos id.key.number) (pos id.key.part) id.crew (pos (section_number id.section)) (row_of_recorded id p) (row_of_recorded id q)
+      ((read.all (row_of_recorded id p)).1 first) ((read.all (row_of_recorded id q)).1 second) (itself id p) (itself id q)
+
+  pub right : (rows : List Row) (t : State) → HasRows exceedance db rows → t ≡ record s { exceedances = t.exceedances } →
+      (AreOnce row_of_recorded rows → Mapped name_of row_of_recorded (IsRecorded s.crew s.pairings) rows t.exceedances) → IsReadTo exceedance t db
+  right rows t read same mapped =
+      let map = mapped (exceedances_once rows read) in
+      record {
+        stored = (read.stored, above.stored);
+        book = above.book;
+        version = above.version;
+        right = (
+          subst (λ u. IsRight ground_duty u db) (sym same) above.right,
+          (
+            read.there,
+            λ row. (
+              λ h.
+                  let it = map.has row ((read.all row).0 h) in
+                  (record { key = it.0.index.key; crew = it.0.index.crew; section = it.0.index.section; period = it.0.value; there = it.0.there }, it.1),
+              λ it.
+                  let id : ExceedanceId = record { key = it.0.key; crew = it.0.crew; section = it.0.section } in
+                  (read.all row).1 (subst (Has rows) (sym it.1) (map.all (record { index = id; value = it.0.period; there = it.0.there }))),
+            ),
+          ),
+          λ name p e. let known = map.known name p e in (known.0, known.1, subst (λ (r : State). IsExceedance r.crew r.pairings known.0 p) (sym same) known.2.is),
+        );
+      }
+
+-- ---- The call
+
+module _ (s : State) (old new : conn.State) (above : HasCleanDisk old → IsReadTo ground_duty s old.now) where
+  abbrev pub Now : State → Type 0
+  Now r = IsReadTo exceedance r old.now × (r ≡ record s { exceedances = r.exceedances })
+
+  pub not_read : (fault : LoadFault) → (HasCleanDisk new → Blames table_name.Exceedance (IsUnreadable exceedance IsExceedanceRow old.now) fault) → LeavesNothing old new →
+      Saw Now (λ f. Says f old.now) old new (Err fault)
+  not_read fault told left = unread table_name.Exceedance _ Now old new fault (λ clean. unreadable s old.now (above clean)) told left
+
+  pub is_read : (records seen : List ExceedanceRecord) (result : Result State LoadFault) → seen ≡ records →
+      (HasCleanDisk new → IsUnchanged old new × HasRows exceedance old.now (map exceedance_row records)) → LeavesNothing old new →
+      MatchResult result (ExceedancesRead seen (length seen) s) (Blames table_name.Exceedance (HasStranger row_of_recorded (IsRecorded s.crew s.pairings) (map exceedance_row seen))) →
+      Saw Now (λ f. Says f old.now) old new result
+  is_read records seen (Ok r) same saw left done = record {
+    told = λ clean.
+        let it = saw clean in
+        let read = subst (λ l. ExceedancesRead l (length l) s r) same done in
+        let mapped = λ (once : AreOnce row_of_recorded (map exceedance_row records)).
+        subst (λ l. Mapped name_of row_of_recorded (IsRecorded s.crew s.pairings) l r.exceedances) (all_taken exceedance_row records) (read.mapped once) in
+        (it.0, (right s old.now (above (clean_before old new left clean)) (map exceedance_row records) r it.1 read.same mapped, read.same));
+    left = left;
+  }
+  is_read records seen (Err fault) same saw left blame = record {
+    told = λ clean.
+        let why = subst (λ l. Blames table_name.Exceedance (HasStranger row_of_recorded (IsRecorded s.crew s.pairings) (map exceedance_row l)) fault) same blame in
+        of_blame table_name.Exceedance _ old.now (strange s old.now (above (clean_before old new left clean)) (map exceedance_row records) (saw clean).1) fault why;
+    left = left;
+  }

@@ -1,0 +1,345 @@
+-- The table `request`: what its records tell, and when it is right.
+use Rattle.std.proofs.Common.{◌≡◌, inl, inr, refl, sym, ap, subst, ◌∙◌, arith, ℕ, pos, ◌≤◌, true, List, [], ◌∷◌, ◌++◌, append_assoc, ◌↔◌, Bool, map, take, slice_get, ◌+◌, length, Option, Some, None, Result, Ok, Err, MatchResult, IsUtf8}
+use Rattle.std.specs.FinMap as fin
+use Rattle.std.specs.List.{list_all}
+use Rattle.std.specs.Prelude.{is_some}
+use Rattle.std.specs.Ordering.{eq_by_cmp}
+use Rattle.std.proofs.lemmas.Bool.{and_parts, and_from, cases_Bool}
+use Rattle.values.proofs.Names as names
+use Rattle.values.proofs.Names.{alike}
+use Rattle.roster.specs.declared.state.ExceedanceId.{ExceedanceId}
+use Rattle.roster.specs.declared.state.PeriodId.{PeriodId}
+use Rattle.values.specs.Name.{name_cmp, rows_of}
+use Rattle.sqlite_value.specs.declared.value.Value.TheVariants.{Int}
+use Rattle.sqlite_value.specs.Order.{Row, column}
+use Rattle.sqlite_rules.specs.Lists.{Has}
+use Rattle.sqlite.specs.Effect.{Database}
+use Rattle.sqlite.specs.State.{HasCleanDisk, IsUnchanged}
+use Rattle.sqlite.specs.State as conn
+use Rattle.limits.specs.declared.section.Section.{Section}
+use Rattle.command.specs.Keys.{KeyParts, key_name}
+use Rattle.command.specs.declared.exceedance.Reply.{Reply}
+use Rattle.command.specs.declared.order.Order.{Order}
+use Rattle.codec.proofs.OrdersBack.{kept_back}
+use Rattle.codec.proofs.ReplyBack.{reply_back}
+use Rattle.codec.specs.CommandJson.{read_kept}
+use Rattle.codec.specs.KeptText.{kept_text}
+use Rattle.codec.specs.Laws.{IsCommand}
+use Rattle.codec.specs.ReplyText.{reply_text, read_reply}
+use Rattle.codec.specs.declared.fault.CodecFault.{CodecFault}
+use Rattle.roster.specs.Entries.{put}
+use Rattle.roster.specs.State.{State}
+use Rattle.roster.specs.declared.put.Entry.{Entry}
+use Rattle.roster.specs.declared.put.Entry.TheVariants as entry
+use Rattle.roster.specs.declared.state.Request.{Request}
+use Rattle.tables.proofs.KeyLemmas.{request_once}
+use Rattle.tables.specs.Calls.{LeavesNothing}
+use Rattle.tables.specs.Records.{IsRequestRow, request_row}
+use Rattle.tables.specs.Rows.{begins_with}
+use Rattle.tables.specs.declared.request.RequestRecord.{RequestRecord}
+use Rattle.loading.proofs.Mapping.{all_taken, nothing_mapped, next_mapped, mapped_at, mapped_place}
+use Rattle.loading.proofs.Tests.{passes}
+use Rattle.loading.proofs.Values.{ids_same, int_is, text_is, number_is}
+use Rattle.loading.proofs.Telling.{unread, of_blame, clean_before}
+use Rattle.loading.specs.Loading.{IsKey, IsRequest, name_of, IsRight, AreRight, AreHeld, IsDamaged, Says}
+use Rattle.loading.specs.Reading.{AreWanting, RequestsRead, Saw, Blames, HasRows, IsUnreadable, IsReadTo, Mapped, AreOnce, TellsOf, HasStranger}
+use Rattle.loading.specs.declared.fault.LoadFault.{LoadFault}
+use Rattle.loading.specs.declared.fault.LoadFault.TheVariants.{NotABook, Damaged, Version, Fault}
+use Rattle.loading.specs.declared.fault.TableName.TheVariants as table_name
+use Rattle.loading.specs.Rows.{RequestAt, ExceedanceAt, row_of_request, row_of_exceedance, request, exceedance}
+
+-- ---- Texts
+
+ok_same : {A E : Type 0} {a b : A} → ◌≡◌ {A = Result A E} (Ok a) (Ok b) → a ≡ b
+ok_same e = cc
+
+-- a text that isn't read is no command's
+pub not_kept : (text : List ℕ) (fault : CodecFault) → read_kept text ≡ Err fault → (order : Order) → IsCommand order → kept_text order ≡ text → ⊥
+not_kept text fault failed order is same = absurd (let f = sym failed ∙ ap read_kept (sym same) ∙ kept_back order is.0 is.1 in cc)
+
+-- nor is one from which a command is read that is kept as another text
+pub kept_otherwise : (text : List ℕ) (command : Order) → read_kept text ≡ Ok command → (kept_text command ≡ text → ⊥) → (order : Order) → IsCommand order → kept_text order ≡ text → ⊥
+kept_otherwise text command read other order is same =
+    let one : order ≡ command = ok_same (sym (kept_back order is.0 is.1) ∙ ap read_kept same ∙ read) in
+    other (ap kept_text (sym one) ∙ same)
+
+pub not_reply : (text : List ℕ) (fault : CodecFault) → read_reply text ≡ Err fault → (reply : Reply) → reply_text reply ≡ text → ⊥
+not_reply text fault failed reply same = absurd (let f = sym failed ∙ ap read_reply (sym same) ∙ reply_back reply in cc)
+
+pub told_otherwise : (text : List ℕ) (told : Reply) → read_reply text ≡ Ok told → (reply_text told ≡ text → ⊥) → (reply : Reply) → reply_text reply ≡ text → ⊥
+told_otherwise text told read other reply same =
+    let one : reply ≡ told = ok_same (sym (reply_back reply) ∙ ap read_reply same ∙ read) in
+    other (ap reply_text (sym one) ∙ same)
+
+-- ---- One record
+
+module _ (it : RequestRecord) where
+  abbrev Tells : Option Entry → Type 0
+  Tells = TellsOf (λ key kept e. e ≡ entry.Request key kept) row_of_request IsRequest (request_row it)
+
+  pub no_key : ((key : KeyParts) → IsKey key → it.number ≡ pos key.number → it.part ≡ key.part → ⊥) → Tells None
+  no_key none key r e is = none key is.is_key (int_is (ap (λ (row : Row). column row 0) e)) (number_is (ap (λ (row : Row). column row 1) e))
+
+  pub no_command : ((order : Order) → IsCommand order → kept_text order ≡ it.command → ⊥) → Tells None
+  no_command none key r e is = none r.command is.command (sym (text_is (ap (λ (row : Row). column row 2) e)))
+
+  pub no_reply : ((reply : Reply) → reply_text reply ≡ it.reply → ⊥) → Tells None
+  no_reply none key r e is = none r.reply (sym (text_is (ap (λ (row : Row). column row 3) e)))
+
+  pub tells : (key : KeyParts) (command : Order) (reply : Reply) → IsKey key × (it.number ≡ pos key.number) × (it.part ≡ key.part) →
+      IsCommand command × (kept_text command ≡ it.command) × IsUtf8 it.command → (reply_text reply ≡ it.reply) × IsUtf8 it.reply →
+      Tells (Some (entry.Request key (record { command = command; reply = reply })))
+  tells key command reply is_key is_command is_reply = (
+    key,
+    record { command = command; reply = reply },
+    refl,
+    (λ i. request_row (record { number = is_key.1 i; part = is_key.2 i; command = sym is_command.1 i; reply = sym is_reply.0 i })),
+    record {
+      is_key = is_key.0;
+      command = is_command.0;
+      utf8 = (subst IsUtf8 (sym is_command.1) is_command.2, subst IsUtf8 (sym is_reply.0) is_reply.1);
+    },
+  )
+
+keys_same : (a b : KeyParts) → key_name a ≡ key_name b → a ≡ b
+keys_same a b e =
+    let number : a.number ≡ b.number = cc in
+    let part : a.part ≡ b.part = cc in
+    λ i. record { number = number i; part = part i }
+
+-- ---- Records in turn
+
+pub none_read : (records : List RequestRecord) (s : State) → s.requests ≡ fin.empty → RequestsRead records 0 s s
+none_read records s none = record { same = refl; mapped = λ once. subst (Mapped key_name row_of_request IsRequest (take 0 (map request_row records))) (sym none) (nothing_mapped key_name keys_same row_of_request IsRequest) }
+
+module _ (records : List RequestRecord) (at : ℕ) (it : RequestRecord) (there : slice_get records at ≡ Some it) where
+  pub stranger : Tells it None → HasStranger row_of_request IsRequest (map request_row records)
+  stranger none = record { row = request_row it; here = mapped_at request_row records at it there; strange = none }
+
+  pub one_read : (s t u : State) (e : Entry) → Tells it (Some e) → RequestsRead records at s t → u ≡ put t e → RequestsRead records (at + 1) s u
+  one_read s t u e told read made =
+      let key = told.0 in
+      let r = told.1 in
+      let is : u ≡ record t { requests = fin.insert t.requests (key_name key) r } = made ∙ ap (put t) told.2 in
+      let requests_are : u.requests ≡ fin.insert t.requests (key_name key) r = ap (λ (x : State). x.requests) is in
+      record {
+        same = is ∙ (λ i. record (read.same i) { requests = fin.insert t.requests (key_name key) r }) ∙ (λ i. record s { requests = sym requests_are i });
+        mapped = λ once. subst (λ c. Mapped key_name row_of_request IsRequest (take (at + 1) (map request_row records)) c) (sym requests_are)
+            (next_mapped key_name keys_same row_of_request IsRequest t.requests key r (map request_row records) at
+            (mapped_place request_row records at it there ∙ ap Some told.3) (read.mapped once) told.4 once);
+      }
+
+-- ---- The table
+
+-- where it is right, it is there, and each row is the record of a command and its reply
+not_unreadable : (db : Database) → IsUnreadable request IsRequestRow db → AreRight request db → ⊥
+not_unreadable db (inl none) right = none right.1.1.0
+not_unreadable db (inr x) right =
+    let it = (right.1.1.1 x.0).0 x.1 in
+    let at = it.0 in
+    let known = right.1.2.0 (key_name at.key) at.kept at.there in
+    let is = known.2 in
+    let same : at.key ≡ known.0 = keys_same at.key known.0 known.1 in
+    let part : at.key.part ≤ 10_000 = subst (λ k. k.part ≤ 10_000) (sym same) is.is_key.2 in
+    x.3 (
+      record { number = pos at.key.number; part = at.key.part; command = kept_text at.kept.command; reply = reply_text at.kept.reply },
+      omega (arith, part),
+      is.utf8.0,
+      is.utf8.1,
+      it.1,
+    )
+
+itself : (key : KeyParts) (r : Request) → begins_with (Int (pos key.number) ∷ Int (pos key.part) ∷ []) (row_of_request key r) ≡ true
+itself key r = passes (Int (pos key.number) ∷ Int (pos key.part) ∷ []) (row_of_request key r) (refl, (refl, tt))
+
+module _ (s : State) (db : Database) (above : IsReadTo exceedance s db) where
+  damaged : (AreRight request db → ⊥) → IsDamaged request db
+  damaged wrong = record { book = above.book; version = above.version; above = (s, above.right); damaged = wrong }
+
+  pub unreadable : IsUnreadable request IsRequestRow db → IsDamaged request db
+  unreadable why = damaged (not_unreadable db why)
+
+  pub strange : (rows : List Row) → HasRows request db rows → HasStranger row_of_request IsRequest rows → IsDamaged request db
+  strange rows read stranger = damaged (λ right.
+      let it = (right.1.1.1 stranger.row).0 ((read.all stranger.row).1 stranger.here) in
+      let at = it.0 in
+      let known = right.1.2.0 (key_name at.key) at.kept at.there in
+      stranger.strange at.key at.kept it.1 (subst (λ k. IsRequest k at.kept) (sym (keys_same at.key known.0 known.1)) known.2))
+
+  requests_once : (rows : List Row) → HasRows request db rows → AreOnce row_of_request rows
+  requests_once rows read key m n first second =
+      request_once db read.database read.there.0 read.stored (pos key.number) (pos key.part) (row_of_request key m) (row_of_request key n)
+      ((read.all (row_of_request key m)).1 first) ((read.all (row_of_request key n)).1 second) (itself key m) (itself key n)
+
+  -- all but that each key of an exceedance is held
+  pub kept_requests : (rows : List Row) (t : State) → HasRows request db rows → t ≡ record s { requests = t.requests } →
+      (AreOnce row_of_request rows → Mapped key_name row_of_request IsRequest rows t.requests) → AreHeld t → IsReadTo request t db
+  kept_requests rows t read same mapped held =
+      let map = mapped (requests_once rows read) in
+      record {
+        stored = (read.stored, above.stored);
+        book = above.book;
+        version = above.version;
+        right = (
+          subst (λ u. IsRight exceedance u db) (sym same) above.right,
+          (
+            read.there,
+            λ row. (
+              λ h. let it = map.has row ((read.all row).0 h) in (record { key = it.0.index; kept = it.0.value; there = it.0.there }, it.1),
+              λ it. (read.all row).1 (subst (Has rows) (sym it.1) (map.all (record { index = it.0.key; value = it.0.kept; there = it.0.there }))),
+            ),
+          ),
+          (map.known, held),
+        );
+      }
+
+-- ---- That each exceedance has its request
+
+tied_itself : (q : List ℕ) → eq_by_cmp name_cmp q q ≡ true
+tied_itself q = names.itself q q refl
+
+abbrev Listed : Type 0
+Listed = List (ExceedanceId × PeriodId)
+
+module _ (test : ExceedanceId → Bool) where
+  -- what is found under a name passes where all do
+  found_passes : (items : Listed) (q : List ℕ) (p : PeriodId) → fin.find name_cmp q (rows_of name_of items) ≡ Some p → list_all (λ e. test e.0) items ≡ true →
+      (id : ExceedanceId) × (name_of id ≡ q) × (test id ≡ true)
+  found_passes [] q p e all = absurd (cc)
+  found_passes (x ∷ xs) q p e all =
+      let parts = and_parts (test x.0) (list_all (λ y. test y.0) xs) all in
+      elim (cases_Bool (eq_by_cmp name_cmp q (name_of x.0))) [
+        | inl tied ↦ (x.0, sym (alike q (name_of x.0) tied), parts.0)
+        | inr apart ↦ found_passes xs q p (rw apart at e) parts.1
+      ]
+
+  -- and what stands in a list is found under its name
+  found_itself : (before items : Listed) (x : ExceedanceId × PeriodId) → (p : PeriodId) × (fin.find name_cmp (name_of x.0) (rows_of name_of (before ++ x ∷ items)) ≡ Some p)
+  found_itself [] items x = (x.1, rw (tied_itself (name_of x.0)) refl)
+  found_itself (y ∷ before) items x = elim (cases_Bool (eq_by_cmp name_cmp (name_of x.0) (name_of y.0))) [
+    | inl tied ↦ (y.1, rw tied refl)
+    | inr apart ↦ let later = found_itself before items x in (later.0, rw apart later.1)
+  ]
+
+  all_pass : (before items : Listed) → ((id : ExceedanceId) (p : PeriodId) → fin.find name_cmp (name_of id) (rows_of name_of (before ++ items)) ≡ Some p → test id ≡ true) →
+      list_all (λ e. test e.0) items ≡ true
+  all_pass before [] each = refl
+  all_pass before (x ∷ items) each =
+      let here = found_itself before items x in
+      and_from _ _ (each x.0 here.0 here.1)
+      (all_pass (before ++ x ∷ []) items (λ id p e. each id p (subst (λ l. fin.find name_cmp (name_of id) (rows_of name_of l) ≡ Some p) (append_assoc before (x ∷ []) items) e)))
+
+  pub passes_all : (items : Listed) (m : fin.FinMap name_cmp PeriodId) → rows_of name_of items ≡ fin.entries m →
+      (list_all (λ e. test e.0) items ≡ true) ↔ ((id : ExceedanceId) (p : PeriodId) → fin.get m (name_of id) ≡ Some p → test id ≡ true)
+  passes_all items m listed = (
+    λ all id p there.
+        let found : fin.find name_cmp (name_of id) (rows_of name_of items) ≡ Some p = ap (fin.find name_cmp (name_of id)) listed ∙ sym (fin.get-entries m (name_of id)) ∙ there in
+        let it = found_passes items (name_of id) p found all in
+        subst (λ x. test x ≡ true) (ids_same it.0 id it.1) it.2,
+    λ each. all_pass [] items (λ id p found. each id p (fin.get-entries m (name_of id) ∙ ap (fin.find name_cmp (name_of id)) (sym listed) ∙ found)),
+  )
+
+is_there : {V : Type 0} (o : Option V) → is_some o ≡ true → (v : V) × (o ≡ Some v)
+is_there None e = absurd (cc)
+is_there (Some v) e = (v, refl)
+
+-- each exceedance has its request where all that are listed have
+pub held_if : (s : State) (items : Listed) → rows_of name_of items ≡ fin.entries s.exceedances → (all : Bool) →
+    all ≡ list_all (λ (x : ExceedanceId × PeriodId). fin.contains_key s.requests (key_name x.0.key)) items → (all ≡ true) ↔ AreHeld s
+held_if s items listed all is =
+    let both = passes_all (λ id. fin.contains_key s.requests (key_name id.key)) items s.exceedances listed in (
+      λ yes id p there. is_there (fin.get s.requests (key_name id.key)) (both.0 (sym is ∙ yes) id p there),
+      λ held. is ∙ both.1 (λ id p there. ap is_some (held id p there).1),
+    )
+
+-- equal rows have equal keys
+exceedance_key : (a b : KeyParts) (x y : List ℕ) (m n : Section) (p q : PeriodId) → row_of_exceedance a x m p ≡ row_of_exceedance b y n q → a ≡ b
+exceedance_key a b x y m n p q e =
+    let number : a.number ≡ b.number = number_is (ap (λ (row : Row). column row 0) e) in
+    let part : a.part ≡ b.part = number_is (ap (λ (row : Row). column row 1) e) in
+    λ i. record { number = number i; part = part i }
+
+request_key : (a b : KeyParts) (r q : Request) → row_of_request a r ≡ row_of_request b q → a ≡ b
+request_key a b r q e =
+    let number : a.number ≡ b.number = number_is (ap (λ (row : Row). column row 0) e) in
+    let part : a.part ≡ b.part = number_is (ap (λ (row : Row). column row 1) e) in
+    λ i. record { number = number i; part = part i }
+
+module _ (s t u : State) (db : Database) (rows : List Row) (read : HasRows request db rows) (above : IsRight exceedance s db) (same : t ≡ record s { requests = t.requests })
+    (map : Mapped key_name row_of_request IsRequest rows t.requests) (right : IsRight request u db) where
+  -- an exceedance of this state has the key of one of the other
+  in_other : (id : ExceedanceId) (p : PeriodId) → fin.get t.exceedances (name_of id) ≡ Some p →
+      (other : ExceedanceId) × (q : PeriodId) × (fin.get u.exceedances (name_of other) ≡ Some q) × (id.key ≡ other.key)
+  in_other id p there =
+      let old : fin.get s.exceedances (name_of id) ≡ Some p = ap (λ (x : State). fin.get x.exceedances (name_of id)) (sym same) ∙ there in
+      let at : ExceedanceAt s.exceedances = record { key = id.key; crew = id.crew; section = id.section; period = p; there = old } in
+      let row = row_of_exceedance id.key id.crew id.section p in
+      let it = (right.0.1.1 row).0 ((above.1.1 row).1 (at, refl)) in
+      let other : ExceedanceId = record { key = it.0.key; crew = it.0.crew; section = it.0.section } in
+      (other, it.0.period, it.0.there, exceedance_key id.key it.0.key id.crew it.0.crew id.section it.0.section p it.0.period it.1)
+
+  -- a key that is held in the other is held in this one
+  from_other : (key : KeyParts) (r : Request) → fin.get u.requests (key_name key) ≡ Some r → (q : Request) × (fin.get t.requests (key_name key) ≡ Some q)
+  from_other key r there =
+      let row = row_of_request key r in
+      let kept : RequestAt u.requests = record { key = key; kept = r; there = there } in
+      let told = map.has row ((read.all row).0 ((right.1.1 row).1 (kept, refl))) in
+      let same_key : key ≡ told.0.index = request_key key told.0.index r told.0.value told.1 in
+      (told.0.value, ap (λ (k : KeyParts). fin.get t.requests (key_name k)) same_key ∙ told.0.there)
+
+  -- so each exceedance has its request in this one, since it has in the other
+  held_here : AreHeld t
+  held_here id p there =
+      let other = in_other id p there in
+      let held = right.2.1 other.0 other.1 other.2 in
+      let here = from_other other.0.key held.0 held.1 in
+      (here.0, ap (λ (k : KeyParts). fin.get t.requests (key_name k)) other.3 ∙ here.1)
+
+-- ---- The call
+
+pub read_stranger : (records : List RequestRecord) (s : State) (fault : LoadFault) → Blames table_name.Request (HasStranger row_of_request IsRequest (map request_row records)) fault →
+    Blames table_name.Request (AreWanting records s) fault
+read_stranger records s NotABook blame = blame
+read_stranger records s Version blame = blame
+read_stranger records s (Damaged other) blame = (blame.0, inl blame.1)
+read_stranger records s (Fault fault) blame = tt
+
+pub not_all_held : (records : List RequestRecord) (s r : State) → RequestsRead records (length records) s r → (AreHeld r → ⊥) → AreWanting records s
+not_all_held records s r read none = inr (r, read, none)
+
+module _ (s : State) (old new : conn.State) (above : HasCleanDisk old → IsReadTo exceedance s old.now) where
+  abbrev pub Now : State → Type 0
+  Now r = IsReadTo request r old.now
+
+  pub not_read : (fault : LoadFault) → (HasCleanDisk new → Blames table_name.Request (IsUnreadable request IsRequestRow old.now) fault) → LeavesNothing old new →
+      Saw Now (λ f. Says f old.now) old new (Err fault)
+  not_read fault told left = unread table_name.Request _ Now old new fault (λ clean. unreadable s old.now (above clean)) told left
+
+  all_mapped : (records : List RequestRecord) (r : State) → RequestsRead records (length records) s r → AreOnce row_of_request (map request_row records) →
+      Mapped key_name row_of_request IsRequest (map request_row records) r.requests
+  all_mapped records r read once = subst (λ l. Mapped key_name row_of_request IsRequest l r.requests) (all_taken request_row records) (read.mapped once)
+
+  -- some row is wrong, or some exceedance has no request in any state with these rows
+  wanting : (records : List RequestRecord) → IsReadTo exceedance s old.now → HasRows request old.now (map request_row records) → AreWanting records s → IsDamaged request old.now
+  wanting records up read (inl stranger) = strange s old.now up (map request_row records) read stranger
+  wanting records up read (inr it) = damaged s old.now up (λ right.
+      it.2 (held_here s it.0 right.0 old.now (map request_row records) read up.right it.1.same
+      (all_mapped records it.0 it.1 (requests_once s old.now up (map request_row records) read)) right.1))
+
+  pub is_read : (records seen : List RequestRecord) (result : Result State LoadFault) → seen ≡ records →
+      (HasCleanDisk new → IsUnchanged old new × HasRows request old.now (map request_row records)) → LeavesNothing old new →
+      MatchResult result (λ r. RequestsRead seen (length seen) s r × AreHeld r) (Blames table_name.Request (AreWanting seen s)) →
+      Saw Now (λ f. Says f old.now) old new result
+  is_read records seen (Ok r) same saw left done = record {
+    told = λ clean.
+        let it = saw clean in
+        let read = subst (λ l. RequestsRead l (length l) s r) same done.0 in
+        (it.0, kept_requests s old.now (above (clean_before old new left clean)) (map request_row records) r it.1 read.same (all_mapped records r read) done.1);
+    left = left;
+  }
+  is_read records seen (Err fault) same saw left blame = record {
+    told = λ clean.
+        let why = subst (λ l. Blames table_name.Request (AreWanting l s) fault) same blame in
+        of_blame table_name.Request _ old.now (wanting records (above (clean_before old new left clean)) (saw clean).1) fault why;
+    left = left;
+  }

@@ -1,0 +1,93 @@
+-- Tables that are read one after the other, and what a refusal of one says.
+use Rattle.std.proofs.Common.{◌≡◌, sym, subst, ◌∙◌, List, map, Result, Ok, Err, IfOk, MatchResult}
+use Rattle.sqlite_value.specs.Order.{Row}
+use Rattle.sqlite.proofs.StateLemmas.{survives_then}
+use Rattle.sqlite.specs.Effect.{Database}
+use Rattle.sqlite.specs.State.{State, HasCleanDisk, IsUnchanged}
+use Rattle.tables.specs.Calls.{LeavesNothing}
+use Rattle.loading.proofs.Telling.{clean_before}
+use Rattle.loading.specs.Reading.{Saw, HasRows, IsUnreadable, Blames}
+use Rattle.loading.specs.Rows.{TableName}
+use Rattle.loading.specs.declared.fault.LoadFault.{LoadFault}
+use Rattle.loading.specs.declared.fault.LoadFault.TheVariants.{NotABook, Version, Damaged, Fault}
+use Rattle.loading.specs.declared.fault.TableName as name
+
+-- a fault of a table, for a reason that is one for more
+pub blames_for : (its : name.TableName) (Why More : Type 0) → (Why → More) → (fault : LoadFault) → Blames its Why fault → Blames its More fault
+blames_for its Why More f NotABook blame = absurd blame
+blames_for its Why More f Version blame = absurd blame
+blames_for its Why More f (Damaged other) blame = (blame.0, f blame.1)
+blames_for its Why More f (Fault fault) blame = tt
+
+-- what holds of whatever is read
+pub if_read : {A : Type 0} (Is Also : A → Type 0) (Refuses : LoadFault → Type 0) → ((a : A) → Is a → Also a) → (result : Result A LoadFault) → MatchResult result Is Refuses → IfOk result Also
+if_read Is Also Refuses f (Ok a) is = f a is
+if_read Is Also Refuses f (Err fault) is = tt
+
+-- ---- A table whose records are read, and then looked at
+
+module _ {R A : Type 0} (it : TableName) (its : name.TableName) (IsRecord : Row → Type 0) (row : R → Row) (IsRight : Type 0) (Tells : A → Type 0)
+    (old new : State) (left : LeavesNothing old new) where
+  pub not_read : (fault : LoadFault) → (HasCleanDisk old → IsUnreadable it IsRecord old.now → IsRight → ⊥) →
+      (HasCleanDisk new → Blames its (IsUnreadable it IsRecord old.now) fault) → Saw Tells (Blames its (IsRight → ⊥)) old new (Err fault)
+  not_read fault unreadable told = record {
+    told = λ clean. blames_for its (IsUnreadable it IsRecord old.now) (IsRight → ⊥) (unreadable (clean_before old new left clean)) fault (told clean);
+    left = left;
+  }
+
+  module _ (records seen : List R) (same : seen ≡ records) (Found : List R → A → Type 0) (Wanting : List R → Type 0)
+      (saw : HasCleanDisk new → IsUnchanged old new × HasRows it old.now (map row records))
+      (right : HasCleanDisk old → HasRows it old.now (map row records) → (a : A) → Found records a → Tells a)
+      (wrong : HasCleanDisk old → HasRows it old.now (map row records) → Wanting records → IsRight → ⊥) where
+    pub is_read : (result : Result A LoadFault) → MatchResult result (Found seen) (Blames its (Wanting seen)) → Saw Tells (Blames its (IsRight → ⊥)) old new result
+    is_read (Ok a) done = record {
+      told = λ clean.
+          let both = saw clean in
+          (both.0, right (clean_before old new left clean) both.1 a (subst (λ l. Found l a) same done));
+      left = left;
+    }
+    is_read (Err fault) blame = record {
+      told = λ clean.
+          blames_for its (Wanting records) (IsRight → ⊥) (wrong (clean_before old new left clean) (saw clean).1) fault
+          (subst (λ l. Blames its (Wanting l) fault) same blame);
+      left = left;
+    }
+
+-- ---- One read after the other
+
+unchanged_then : (a b c : State) → IsUnchanged a b → IsUnchanged b c → IsUnchanged a c
+unchanged_then a b c one two = (
+  record {
+    was_open = one.0.was_open;
+    is_open = two.0.is_open;
+    now_is = two.0.now_is ∙ one.0.now_is;
+    committed_is = two.0.committed_is ∙ one.0.committed_is;
+    mode = two.0.mode ∙ one.0.mode;
+  },
+  record { changes = two.1.changes ∙ one.1.changes; last_rowid = two.1.last_rowid ∙ one.1.last_rowid },
+  two.2 ∙ one.2,
+)
+
+left_then : (a b c : State) → LeavesNothing a b → LeavesNothing b c → LeavesNothing a c
+left_then a b c one two = survives_then a b c _ _ _ (λ _ _ none. none) (λ _ _ none. none) one two
+
+pub then_saw : {A B : Type 0} (Is : A → Type 0) (Refuses : LoadFault → Type 0) (IsNext : Database → B → Type 0) (RefusesNext : Database → LoadFault → Type 0)
+    (a : A) (old mid new : State) (result : Result B LoadFault) → Saw Is Refuses old mid (Ok a) → Saw (IsNext mid.now) (RefusesNext mid.now) mid new result →
+    Saw (IsNext old.now) (RefusesNext old.now) old new result
+then_saw Is Refuses IsNext RefusesNext a old mid new (Ok b) one two = record {
+  told = λ clean.
+      let first = one.told (clean_before mid new two.left clean) in
+      let second = two.told clean in
+      (unchanged_then old mid new first.0 second.0, subst (λ db. IsNext db b) first.0.0.now_is second.1);
+  left = left_then old mid new one.left two.left;
+}
+then_saw Is Refuses IsNext RefusesNext a old mid new (Err fault) one two = record {
+  told = λ clean.
+      let first = one.told (clean_before mid new two.left clean) in
+      subst (λ db. RefusesNext db fault) first.0.0.now_is (two.told clean);
+  left = left_then old mid new one.left two.left;
+}
+
+-- what was told of the database before a read holds of it after
+pub seen_here : {A : Type 0} (Is : Database → A → Type 0) (Refuses : LoadFault → Type 0) (a : A) (old new : State) → Saw (Is old.now) Refuses old new (Ok a) → HasCleanDisk new → Is new.now a
+seen_here Is Refuses a old new saw clean = let it = saw.told clean in subst (λ db. Is db a) (sym it.0.0.now_is) it.1

@@ -1,0 +1,117 @@
+-- Sound states with the same rows are equal.
+use Rattle.std.proofs.Common.{◌≡◌, refl, sym, ap, ◌∙◌, ℕ, List, [], ◌∷◌, Some, Ok, Result}
+use Rattle.std.specs.FinMap as fin
+use Rattle.sqlite_value.specs.Order.{Row, column}
+use Rattle.limits.specs.SectionText.{section_number}
+use Rattle.command.specs.Keys.{key_name}
+use Rattle.command.specs.declared.exceedance.Reply.{Reply}
+use Rattle.roster.specs.Sound.{Sound}
+use Rattle.roster.specs.State.{State, exceedance_name}
+use Rattle.codec.specs.KeptText.{kept_text}
+use Rattle.codec.specs.ReplyText.{reply_text, read_reply}
+use Rattle.codec.proofs.OrdersBack.{kept_differ}
+use Rattle.codec.proofs.ReplyBack.{reply_back}
+use Rattle.loading.specs.Rows.{book, crew, pairing, period, segment, seat, ground_duty, exceedance, request, InBook, InCrew, InGround, InExceedance, InRequest, row_of_member, row_of_pairing, row_of_ground, row_of_exceedance, row_of_request, seat_number}
+use Rattle.loading.specs.SameRows.{HasInstants, SameRows, RowsSayAll, HoldsOneState}
+use Rattle.loading.proofs.Lists.{Answers, same_map}
+use Rattle.loading.proofs.SamePairings.{same_pairing}
+use Rattle.loading.proofs.Values.{members_same, sections_same, text_is, number_is}
+
+zones_same : (s t : State) → ((row : Row) → InBook s row → InBook t row) → s.zone ≡ t.zone
+zones_same s t told = text_is (ap (λ (row : Row). column row 2) (told _ refl))
+
+pub crew_told : (s t : State) → ((row : Row) → InCrew s row → InCrew t row) → (id : List ℕ) → Answers (fin.get s.crew id) (fin.get t.crew id)
+crew_told s t told id m e =
+    let it = told (row_of_member id m) (record { name = id; value = m; there = e }, refl) in
+    let same = it.1 in
+    let at_column = λ (k : ℕ). ap (λ (row : Row). column row k) same in
+    let same_id : id ≡ it.0.name = text_is (at_column 0) in
+    let seat : seat_number it.0.value.seat ≡ seat_number m.seat = number_is (sym (at_column 1)) in
+    let name : it.0.value.name ≡ m.name = text_is (sym (at_column 2)) in
+    ap (fin.get t.crew) same_id ∙ it.0.there ∙ ap Some (members_same it.0.value m seat name)
+
+grounds_told : (s t : State) → Sound s → Sound t → ((row : Row) → InGround s row → InGround t row) → (id : List ℕ) → Answers (fin.get s.grounds id) (fin.get t.grounds id)
+grounds_told s t ss st told id g e =
+    let it = told (row_of_ground id g) (record { name = id; value = g; there = e }, refl) in
+    let same = it.1 in
+    let at_column = λ (k : ℕ). ap (λ (row : Row). column row k) same in
+    let same_id : id ≡ it.0.name = text_is (at_column 0) in
+    let here = (ss.grounds id g e).named in
+    let there = (st.grounds it.0.name it.0.value it.0.there).named in
+    let crew : it.0.value.crew ≡ g.crew = text_is (sym (at_column 1)) in
+    let task : it.0.value.task ≡ g.task = text_is (sym (at_column 2)) in
+    let begin : it.0.value.begin ≡ g.begin = number_is (sym (at_column 3)) in
+    let end : it.0.value.end ≡ g.end = number_is (sym (at_column 4)) in
+    let plan : it.0.value ≡ g = λ i. record {
+      id = (there ∙ sym same_id ∙ sym here) i;
+      crew = crew i;
+      begin = begin i;
+      end = end i;
+      task = task i;
+    } in
+    ap (fin.get t.grounds) same_id ∙ it.0.there ∙ ap Some plan
+
+exceedances_told : (s t : State) → Sound s → ((row : Row) → InExceedance s row → InExceedance t row) → (name : List ℕ) → Answers (fin.get s.exceedances name) (fin.get t.exceedances name)
+exceedances_told s t ss told name p e =
+    let x = ss.exceedances name p e in
+    let it = told (row_of_exceedance x.key x.crew x.section p)
+    (record { key = x.key; crew = x.crew; section = x.section; period = p; there = ap (fin.get s.exceedances) (sym x.known_by) ∙ e }, refl) in
+    let same = it.1 in
+    let at_column = λ (k : ℕ). ap (λ (row : Row). column row k) same in
+    let number : x.key.number ≡ it.0.key.number = number_is (at_column 0) in
+    let part : x.key.part ≡ it.0.key.part = number_is (at_column 1) in
+    let crew : x.crew ≡ it.0.crew = text_is (at_column 2) in
+    let section_is : section_number x.section ≡ section_number it.0.section = number_is (at_column 3) in
+    let pairing : it.0.period.pairing ≡ p.pairing = text_is (sym (at_column 4)) in
+    let period_is : it.0.period.number ≡ p.number = number_is (sym (at_column 5)) in
+    let key : x.key ≡ it.0.key = λ i. record { number = number i; part = part i } in
+    let section = sections_same x.section it.0.section section_is in
+    let named : name ≡ exceedance_name it.0.key it.0.crew it.0.section = x.known_by ∙ (λ i. exceedance_name (key i) (crew i) (section i)) in
+    let period : it.0.period ≡ p = λ i. record { pairing = pairing i; number = period_is i } in
+    ap (fin.get t.exceedances) named ∙ it.0.there ∙ ap Some period
+
+replies_same : (a b : Reply) → reply_text a ≡ reply_text b → a ≡ b
+replies_same a b e = let same : ◌≡◌ {A = Result Reply _} (Ok a) (Ok b) = sym (reply_back a) ∙ ap read_reply e ∙ reply_back b in cc
+
+requests_told : (s t : State) → Sound s → Sound t → HasInstants s → HasInstants t → ((row : Row) → InRequest s row → InRequest t row) → (name : List ℕ) → Answers (fin.get s.requests name) (fin.get t.requests name)
+requests_told s t ss st is it_is told name r e =
+    let x = ss.requests name r e in
+    let it = told (row_of_request x.key r) (record { key = x.key; kept = r; there = ap (fin.get s.requests) (sym x.known_by) ∙ e }, refl) in
+    let same = it.1 in
+    let at_column = λ (k : ℕ). ap (λ (row : Row). column row k) same in
+    let number : x.key.number ≡ it.0.key.number = number_is (at_column 0) in
+    let part : x.key.part ≡ it.0.key.part = number_is (at_column 1) in
+    let command_text : kept_text it.0.kept.command ≡ kept_text r.command = text_is (sym (at_column 2)) in
+    let reply_is : reply_text it.0.kept.reply ≡ reply_text r.reply = text_is (sym (at_column 3)) in
+    let named : name ≡ key_name it.0.key = x.known_by ∙ (λ i. number i ∷ part i ∷ []) in
+    let y = st.requests (key_name it.0.key) it.0.kept it.0.there in
+    let command = kept_differ it.0.kept.command r.command (y.made, it_is _ it.0.kept it.0.there) (x.made, is name r e) command_text in
+    let kept : it.0.kept ≡ r = λ i. record { command = command i; reply = replies_same it.0.kept.reply r.reply reply_is i } in
+    ap (fin.get t.requests) named ∙ it.0.there ∙ ap Some kept
+
+pairings_told : (s t : State) → Sound s → Sound t → SameRows s t → (id : List ℕ) → Answers (fin.get s.pairings id) (fin.get t.pairings id)
+pairings_told s t ss st same id r e =
+    let it = (same pairing (row_of_pairing id)).0 (record { name = id; value = r; there = e }, refl) in
+    let is = it.1 in
+    let same_id : id ≡ it.0.name = text_is (ap (λ (row : Row). column row 0) is) in
+    let there : fin.get t.pairings id ≡ Some it.0.value = ap (fin.get t.pairings) same_id ∙ it.0.there in
+    there ∙ ap Some (sym (same_pairing s t id r it.0.value e there (ss.pairings id r e) (st.pairings id it.0.value there)
+    (λ row. (same period row).0) (λ row. (same period row).1) (λ row. (same segment row).0) (λ row. (same segment row).1)
+    (λ row. (same seat row).0) (λ row. (same seat row).1)))
+
+turned : (s t : State) → SameRows s t → SameRows t s
+turned s t same name row = ((same name row).1, (same name row).0)
+
+pub rows_say_all : RowsSayAll
+rows_say_all s t ss st is it same = λ i. record {
+  zone = zones_same s t (λ row. (same book row).0) i;
+  crew = same_map s.crew t.crew (crew_told s t (λ row. (same crew row).0)) (crew_told t s (λ row. (same crew row).1)) i;
+  pairings = same_map s.pairings t.pairings (pairings_told s t ss st same) (pairings_told t s st ss (turned s t same)) i;
+  grounds = same_map s.grounds t.grounds (grounds_told s t ss st (λ row. (same ground_duty row).0)) (grounds_told t s st ss (λ row. (same ground_duty row).1)) i;
+  exceedances = same_map s.exceedances t.exceedances (exceedances_told s t ss (λ row. (same exceedance row).0)) (exceedances_told t s st (λ row. (same exceedance row).1)) i;
+  requests = same_map s.requests t.requests (requests_told s t ss st is it (λ row. (same request row).0)) (requests_told t s st ss it is (λ row. (same request row).1)) i;
+}
+
+pub database_holds_one_state : HoldsOneState
+database_holds_one_state s t db ss st is it p q = rows_say_all s t ss st is it (λ name row.
+    (λ x. (q name row).0 ((p name row).1 x), λ x. (p name row).0 ((q name row).1 x)))

@@ -1,0 +1,12 @@
+use Rattle.std.proofs.Common.{rules, map, Vec, Global}
+use Rattle.sqlite.specs.Held.{state}
+use Rattle.tables.specs.Records.{book_row, IsBookRow}
+use Rattle.tables.specs.declared.book.BookRecord.{BookRecord}
+use Rattle.loading.specs.Rows.{book}
+use Rattle.loading.specs.declared.fault.TableName.TheVariants as table_name
+use Rattle.loading.proofs.Telling.{found}
+use Rattle.loading.proofs.read_book.book_records.Goals as goal
+
+pub returns-in-Ok : goal.returns-in-Ok
+returns-in-Ok g c = found book table_name.Book IsBookRow (λ (v : Vec BookRecord Global). map book_row v.items) (state g.S.Store c.args.conn.now) (state g.S.Store c.load_book-loaded.new.conn) c.in-Ok.records
+    (c.in_ok-is_book_there.ensures.there.0 (search rules), c.is_unreferenced.ensures.0 (search rules)) c.in-Ok.ensures.loaded c.load_book-loaded.ensures.crash c.schema-live.ensures.live

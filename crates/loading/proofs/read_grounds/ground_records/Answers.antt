@@ -1,0 +1,12 @@
+use Rattle.std.proofs.Common.{rules, map, Vec, Global}
+use Rattle.sqlite.specs.Held.{state}
+use Rattle.tables.specs.Records.{ground_row, IsGroundRow}
+use Rattle.tables.specs.declared.ground.GroundRecord.{GroundRecord}
+use Rattle.loading.specs.Rows.{ground_duty}
+use Rattle.loading.specs.declared.fault.TableName.TheVariants as table_name
+use Rattle.loading.proofs.Telling.{found}
+use Rattle.loading.proofs.read_grounds.ground_records.Goals as goal
+
+pub returns-in-Ok : goal.returns-in-Ok
+returns-in-Ok g c = found ground_duty table_name.Ground IsGroundRow (λ (v : Vec GroundRecord Global). map ground_row v.items) (state g.S.Store c.args.conn.now) (state g.S.Store c.load_grounds-loaded.new.conn) c.in-Ok.records
+    (c.in_ok-is_ground_there.ensures.there.0 (search rules), c.is_unreferenced.ensures.0 (search rules)) c.in-Ok.ensures.loaded c.load_grounds-loaded.ensures.crash c.schema-live.ensures.live

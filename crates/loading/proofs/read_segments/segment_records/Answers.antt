@@ -1,0 +1,12 @@
+use Rattle.std.proofs.Common.{rules, map, Vec, Global}
+use Rattle.sqlite.specs.Held.{state}
+use Rattle.tables.specs.Records.{segment_row, IsSegmentRow}
+use Rattle.tables.specs.declared.segment.SegmentRecord.{SegmentRecord}
+use Rattle.loading.specs.Rows.{segment}
+use Rattle.loading.specs.declared.fault.TableName.TheVariants as table_name
+use Rattle.loading.proofs.Telling.{found}
+use Rattle.loading.proofs.read_segments.segment_records.Goals as goal
+
+pub returns-in-Ok : goal.returns-in-Ok
+returns-in-Ok g c = found segment table_name.Segment IsSegmentRow (λ (v : Vec SegmentRecord Global). map segment_row v.items) (state g.S.Store c.args.conn.now) (state g.S.Store c.load_segments-loaded.new.conn) c.in-Ok.records
+    (c.in_ok-is_segment_there.ensures.there.0 (search rules), c.is_unreferenced.ensures.0 (search rules)) c.in-Ok.ensures.loaded c.load_segments-loaded.ensures.crash c.schema-live.ensures.live

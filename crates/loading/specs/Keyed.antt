@@ -1,0 +1,184 @@
+-- What is read of the tables `pairing`, `period` and `segment`. No public clause names these.
+use Rattle.std.specs.Prelude.{◌≡◌, ◌⊎◌, ◌+◌, ⊤, ℕ, true, List, map, take, Option, Some}
+use Rattle.std.specs.FinMap as fin
+use Rattle.values.specs.Name.{name_cmp}
+use Rattle.sqlite_value.specs.Order.{Row}
+use Rattle.sqlite_rules.specs.Lists.{Has}
+use Rattle.sqlite.specs.Effect.{Database}
+use Rattle.duty.specs.Shape.{is_id}
+use Rattle.codec.specs.Instants.{is_instant}
+use Rattle.roster.specs.State.{State}
+use Rattle.roster.specs.declared.state.Rostered.{Rostered}
+use Rattle.tables.specs.Records.{IsNumber, IsSegmentRow, pairing_row, period_row, segment_row}
+use Rattle.tables.specs.Rows.{IsStored, rows_of}
+use Rattle.tables.specs.Schema.{IsOfBook, pairing_table, period_table, segment_table}
+use Rattle.tables.specs.declared.pairing.PairingRecord.{PairingRecord}
+use Rattle.tables.specs.declared.period.PeriodRecord.{PeriodRecord}
+use Rattle.tables.specs.declared.segment.SegmentRecord.{SegmentRecord}
+use Rattle.loading.specs.Loading.{ArePeriods, IsInstantIfAny}
+use Rattle.loading.specs.PlanRows.{Periods, Segments, PeriodRows, SegmentRows, ArePeriodsKeyed, AreSegmentsKeyed, AreUngapped, HasNoGaps, IsTold, period_name, segment_name}
+use Rattle.loading.specs.Reading.{AreOnce, HasStranger, IsFree, Mapped}
+use Rattle.loading.specs.Rows.{HasJust, row_of_pairing}
+use Rattle.loading.specs.declared.plan_rows.PeriodKey.{PeriodKey}
+use Rattle.loading.specs.declared.plan_rows.SegmentKey.{SegmentKey}
+
+-- a number is 1, or that of something and one more
+abbrev pub Follows : {V : Type 0} → (ℕ → Option V) → ℕ → Type 0
+Follows {V} get number = (number ≡ 1) ⊎ ((before : ℕ) × (other : V) × (before + 1 ≡ number) × (get before ≡ Some other))
+
+-- ---- The ids of pairings
+
+abbrev pub Ids : Type 0
+Ids = fin.FinMap name_cmp ⊤
+
+abbrev pub row_of_id : List ℕ → ⊤ → Row
+row_of_id id _ = row_of_pairing id
+
+abbrev pub IsId : List ℕ → ⊤ → Type 0
+IsId id _ = is_id id ≡ true
+
+-- the ids of so many first records
+pub record IdsRead (records : List PairingRecord) (count : ℕ) (ids : Ids) : Type 0 where
+  pub mapped : Mapped (λ id. id) row_of_id IsId (take count (map pairing_row records)) ids
+
+-- the row of an id in its shape
+abbrev pub IsIdRow : Row → Type 0
+IsIdRow row = (id : List ℕ) × (row ≡ row_of_pairing id) × (is_id id ≡ true)
+
+-- the table `pairing` is there, and has such rows alone
+abbrev pub AreIds : Database → Type 0
+AreIds db = IsOfBook pairing_table db.schema × ((row : Row) → Has (rows_of pairing_table db) row → IsIdRow row)
+
+-- the row of one of these ids
+abbrev pub IdRows : Ids → Row → Type 0
+IdRows ids row = (id : List ℕ) × (fin.contains_key ids id ≡ true) × (row ≡ row_of_pairing id)
+
+-- it is there with just the rows of these ids, each in its shape
+pub record HasIds (db : Database) (ids : Ids) : Type 0 where
+  pub stored : IsStored pairing_table db
+  pub there : IsOfBook pairing_table db.schema
+  pub rows : HasJust pairing_table db (IdRows ids)
+  pub shaped : (id : List ℕ) → fin.contains_key ids id ≡ true → is_id id ≡ true
+
+-- ---- Periods by their keys
+
+abbrev pub name_of_period : PeriodKey → List ℕ
+name_of_period key = period_name key.pairing key.number
+
+-- the row of a record under a key
+abbrev pub row_of_keyed_period : PeriodKey → PeriodRecord → Row
+row_of_keyed_period key it = period_row (record it { pairing = key.pairing; number = key.number })
+
+-- its times are instants
+abbrev pub AtInstants : PeriodRecord → Type 0
+AtInstants it = (is_instant it.report_at ≡ true) × (is_instant it.release_at ≡ true) × IsInstantIfAny it.act_report × IsInstantIfAny it.act_release
+
+-- the record of a period under its key, at instants and of one of these pairings
+pub record IsKeyedPeriod (ids : Ids) (key : PeriodKey) (it : PeriodRecord) : Type 0 where
+  pub pairing : it.pairing ≡ key.pairing
+  pub number : it.number ≡ key.number
+  pub fits : IsNumber it.number
+  pub instants : AtInstants it
+  pub of_pairing : fin.contains_key ids it.pairing ≡ true
+
+-- so many first records by their keys
+pub record PeriodsRead (ids : Ids) (records : List PeriodRecord) (count : ℕ) (periods : Periods) : Type 0 where
+  pub mapped : AreOnce row_of_keyed_period (map period_row records) → Mapped name_of_period row_of_keyed_period (IsKeyedPeriod ids) (take count (map period_row records)) periods
+
+-- all of them, numbered without a gap
+abbrev pub ArePeriodsWhole : Ids → List PeriodRecord → ℕ → Periods → Type 0
+ArePeriodsWhole ids records count periods = PeriodsRead ids records count periods × AreUngapped periods
+
+-- some record has no such key, or they leave a gap
+abbrev pub ArePeriodsWanting : Ids → List PeriodRecord → ℕ → Type 0
+ArePeriodsWanting ids records count =
+    HasStranger row_of_keyed_period (IsKeyedPeriod ids) (map period_row records)
+    ⊎ ((periods : Periods) × PeriodsRead ids records count periods × (AreUngapped periods → ⊥))
+
+-- the table `period` is there and fits the one above
+abbrev pub IsPeriodTable : Database → Type 0
+IsPeriodTable db = IsOfBook period_table db.schema × ArePeriods db
+
+-- it is and does, with just the rows of these periods, each under its key
+pub record HasPeriods (db : Database) (periods : Periods) : Type 0 where
+  pub stored : IsStored period_table db
+  pub right : IsPeriodTable db
+  pub rows : HasJust period_table db (PeriodRows periods)
+  pub keyed : ArePeriodsKeyed periods
+  pub ungapped : AreUngapped periods
+
+-- ---- Segments by their keys
+
+abbrev pub name_of_segment : SegmentKey → List ℕ
+name_of_segment key = segment_name key.pairing key.period key.number
+
+abbrev pub row_of_keyed_segment : SegmentKey → SegmentRecord → Row
+row_of_keyed_segment key it = segment_row (record it { pairing = key.pairing; period = key.period; number = key.number })
+
+-- the record of a segment under its key, of one of these periods
+pub record IsKeyedSegment (periods : Periods) (key : SegmentKey) (it : SegmentRecord) : Type 0 where
+  pub pairing : it.pairing ≡ key.pairing
+  pub period : it.period ≡ key.period
+  pub number : it.number ≡ key.number
+  pub of_period : fin.contains_key periods (period_name it.pairing it.period) ≡ true
+
+-- so many first records by their keys
+pub record SegmentsRead (periods : Periods) (records : List SegmentRecord) (count : ℕ) (segments : Segments) : Type 0 where
+  pub mapped : AreOnce row_of_keyed_segment (map segment_row records) → Mapped name_of_segment row_of_keyed_segment (IsKeyedSegment periods) (take count (map segment_row records)) segments
+
+-- all of them, numbered without a gap
+abbrev pub AreSegmentsWhole : Periods → List SegmentRecord → ℕ → Segments → Type 0
+AreSegmentsWhole periods records count segments = SegmentsRead periods records count segments × HasNoGaps segments
+
+-- some record has no such key, or they leave a gap
+abbrev pub AreSegmentsWanting : Periods → List SegmentRecord → ℕ → Type 0
+AreSegmentsWanting periods records count =
+    HasStranger row_of_keyed_segment (IsKeyedSegment periods) (map segment_row records)
+    ⊎ ((segments : Segments) × SegmentsRead periods records count segments × (HasNoGaps segments → ⊥))
+
+-- a segment is of a period that is there, and its number is 1 or that of another segment of the period and one more
+pub record IsSegmentOf (db : Database) (row : Row) : Type 0 where
+  pub it : SegmentRecord
+  pub is : row ≡ segment_row it
+  pub of_period : (period : PeriodRecord) × Has (rows_of period_table db) (period_row period) × (period.pairing ≡ it.pairing) × (period.number ≡ it.period)
+  pub no_gap : (it.number ≡ 1) ⊎ ((before : SegmentRecord) × Has (rows_of segment_table db) (segment_row before)
+      × (before.pairing ≡ it.pairing) × (before.period ≡ it.period) × (before.number + 1 ≡ it.number))
+
+-- the table `segment` is there, its rows are records, and it fits those above as far as rows alone tell
+abbrev pub IsSegmentTable : Database → Type 0
+IsSegmentTable db = IsOfBook segment_table db.schema
+    × ((row : Row) → Has (rows_of segment_table db) row → IsSegmentRow row) × ((row : Row) → Has (rows_of segment_table db) row → IsSegmentOf db row)
+
+-- each segment is of one of these periods
+abbrev pub AreOfPeriods : Periods → Segments → Type 0
+AreOfPeriods periods segments =
+    (key : List ℕ) (it : SegmentRecord) → fin.get segments key ≡ Some it → fin.contains_key periods (period_name it.pairing it.period) ≡ true
+
+-- it is and does, with just the rows of these segments, each under its key
+pub record HasSegmentsOf (db : Database) (periods : Periods) (segments : Segments) : Type 0 where
+  pub stored : IsStored segment_table db
+  pub there : IsOfBook segment_table db.schema
+  pub rows : HasJust segment_table db (SegmentRows segments)
+  pub keyed : AreSegmentsKeyed segments
+  pub of_periods : AreOfPeriods periods segments
+  pub ungapped : HasNoGaps segments
+
+-- ---- Pairings
+
+-- the pairing of one of these ids, as the rows tell it
+pub record IsPairingOf (ids : Ids) (periods : Periods) (segments : Segments) (id : List ℕ) (r : Rostered) : Type 0 where
+  pub of_id : fin.contains_key ids id ≡ true
+  pub told : IsTold periods segments id r
+  pub free : IsFree r
+
+-- just the pairings of these ids are set in a roster
+pub record PairingsRead (ids : Ids) (periods : Periods) (segments : Segments) (old new : State) : Type 0 where
+  pub same : new ≡ record old { pairings = new.pairings }
+  pub known : (id : List ℕ) (r : Rostered) → fin.get new.pairings id ≡ Some r → IsPairingOf ids periods segments id r
+  pub all : (id : List ℕ) → fin.contains_key ids id ≡ true → fin.contains_key new.pairings id ≡ true
+
+-- of one of the ids the rows tell no pairing
+pub record HasUntold (ids : Ids) (periods : Periods) (segments : Segments) : Type 0 where
+  pub id : List ℕ
+  pub here : fin.contains_key ids id ≡ true
+  pub untold : (r : Rostered) → IsTold periods segments id r → ⊥

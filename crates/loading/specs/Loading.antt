@@ -1,0 +1,246 @@
+-- Which databases are books. Each table has to be there, with rows of its type, and to fit the tables above it.
+use Rattle.std.specs.Prelude.{◌≡◌, ◌⊎◌, ◌+◌, ◌≤◌, ⊤, ℕ, pos, true, IsUtf8, List, map, length, Option, None, Some, slice_get}
+use Rattle.std.specs.FinMap as fin
+use Rattle.std.specs.List.{list_all}
+use Rattle.values.specs.Name.{name_cmp}
+use Rattle.sqlite_value.specs.Order.{Row}
+use Rattle.sqlite_rules.specs.Lists.{Has}
+use Rattle.sqlite.specs.Effect.{Database}
+use Rattle.time117.specs.Local.{is_zone_text}
+use Rattle.duty.specs.Pairings.{pairing_fault, ground_fault}
+use Rattle.duty.specs.Plans.{ActualTimes, GroundPlan, as_planned}
+use Rattle.duty.specs.Shape.{is_id, is_plain_text}
+use Rattle.command.specs.Keys.{KeyParts, key_name}
+use Rattle.command.specs.declared.member.Member.{Member}
+use Rattle.command.specs.declared.member.Seat.TheVariants.{Captain, FirstOfficer}
+use Rattle.codec.specs.Instants.{is_instant, period_has_instants, times_have_instants}
+use Rattle.codec.specs.KeptText.{kept_text}
+use Rattle.codec.specs.Laws.{IsCommand}
+use Rattle.codec.specs.ReplyText.{reply_text}
+use Rattle.roster.specs.Pairings.{is_flown, is_fully_crewed}
+use Rattle.roster.specs.Sound.{Crew, IsHolder, IsActual}
+use Rattle.roster.specs.State.{State, exceedance_name}
+use Rattle.roster.specs.declared.state.ExceedanceId.{ExceedanceId}
+use Rattle.roster.specs.declared.state.PeriodId.{PeriodId}
+use Rattle.roster.specs.declared.state.Request.{Request}
+use Rattle.roster.specs.declared.state.Rostered.{Rostered}
+use Rattle.tables.specs.Records.{IsNumber, book_row, period_row, pairing_row}
+use Rattle.tables.specs.Schema.{IsOfBook, book_table, pairing_table, period_table, table_found}
+use Rattle.tables.specs.Rows.{rows_of}
+use Rattle.tables.specs.declared.book.BookRecord.{BookRecord}
+use Rattle.tables.specs.declared.period.PeriodRecord.{PeriodRecord}
+use Rattle.loading.specs.declared.fault.LoadFault.{LoadFault}
+use Rattle.loading.specs.declared.fault.LoadFault.TheVariants.{NotABook, Damaged, Version, Fault}
+use Rattle.loading.specs.declared.fault.TableName as name
+use Rattle.loading.specs.declared.fault.TableName.TheVariants as table_name
+use Rattle.loading.specs.Rows.{TableName, book, crew, pairing, period, segment, seat, ground_duty, exceedance, request, table, In, InPeriod, HasJust}
+
+-- ---- What the values of a table are
+
+-- the id and the name of a member have their shapes
+pub record IsMember (id : List ℕ) (m : Member) : Type 0 where
+  pub id_shape : is_id id ≡ true
+  pub name_shape : is_plain_text m.name ≡ true
+  pub utf8 : IsUtf8 m.name
+
+abbrev pub AreMembers : State → Type 0
+AreMembers s = (id : List ℕ) (m : Member) → fin.get s.crew id ≡ Some m → IsMember id m
+
+-- so has the id of each pairing
+abbrev pub AreNamed : State → Type 0
+AreNamed s = (id : List ℕ) (r : Rostered) → fin.get s.pairings id ≡ Some r → is_id id ≡ true
+
+abbrev pub IsInstantIfAny : Option ℕ → Type 0
+IsInstantIfAny None = ⊤
+IsInstantIfAny (Some minute) = is_instant minute ≡ true
+
+-- a period is of a pairing that is there, and its number is 1 or that of another period of the pairing and one more
+pub record IsPeriod (db : Database) (row : Row) : Type 0 where
+  pub it : PeriodRecord
+  pub is : row ≡ period_row it
+  pub fits : IsNumber it.number
+  pub report : is_instant it.report_at ≡ true
+  pub release : is_instant it.release_at ≡ true
+  pub act_report : IsInstantIfAny it.act_report
+  pub act_release : IsInstantIfAny it.act_release
+  pub of_pairing : Has (rows_of pairing_table db) (pairing_row (record { id = it.pairing }))
+  pub no_gap : (it.number ≡ 1) ⊎ ((before : PeriodRecord) × Has (rows_of period_table db) (period_row before) × (before.pairing ≡ it.pairing) × (before.number + 1 ≡ it.number))
+
+abbrev pub ArePeriods : Database → Type 0
+ArePeriods db = (row : Row) → Has (rows_of period_table db) row → IsPeriod db row
+
+-- what its type sees to: its times are instants
+abbrev pub actual_has_instants : ActualTimes → Type 0
+actual_has_instants a = (is_instant a.report ≡ true) × (is_instant a.release ≡ true) × (list_all times_have_instants a.segments ≡ true)
+
+-- a pairing is one that `Pairing::new` makes, and each actual is of a period, whole and in order
+pub record IsPlanned (id : List ℕ) (r : Rostered) : Type 0 where
+  pub named : r.plan.id ≡ id
+  pub plan : pairing_fault r.plan ≡ None
+  pub planned : map as_planned r.plan.periods ≡ r.plan.periods
+  pub instants : list_all period_has_instants r.plan.periods ≡ true
+  pub places : length r.actuals ≡ length r.plan.periods
+  pub actuals : (i : ℕ) (a : ActualTimes) → slice_get r.actuals i ≡ Some (Some a) → IsActual r.plan i a × actual_has_instants a
+
+abbrev pub ArePlanned : State → Type 0
+ArePlanned s = (id : List ℕ) (r : Rostered) → fin.get s.pairings id ≡ Some r → IsPlanned id r
+
+-- a holder is a member of the seat's kind, and a flown pairing has both
+pub record IsSeated (members : Crew) (r : Rostered) : Type 0 where
+  pub captain : IsHolder members Captain r.captain
+  pub first_officer : IsHolder members FirstOfficer r.first_officer
+  pub crewed : is_flown r ≡ true → is_fully_crewed r ≡ true
+
+abbrev pub AreSeated : State → Type 0
+AreSeated s = (id : List ℕ) (r : Rostered) → fin.get s.pairings id ≡ Some r → IsSeated s.crew r
+
+-- a ground duty is one that `Ground::new` makes, of a member
+pub record IsGround (members : Crew) (id : List ℕ) (g : GroundPlan) : Type 0 where
+  pub named : g.id ≡ id
+  pub made : ground_fault g ≡ None
+  pub begin : is_instant g.begin ≡ true
+  pub end : is_instant g.end ≡ true
+  pub utf8 : IsUtf8 g.task
+  pub member : Member
+  pub of_member : fin.get members g.crew ≡ Some member
+
+abbrev pub AreGrounds : State → Type 0
+AreGrounds s = (id : List ℕ) (g : GroundPlan) → fin.get s.grounds id ≡ Some g → IsGround s.crew id g
+
+abbrev pub IsKey : KeyParts → Type 0
+IsKey key = (1 ≤ key.number) × (key.number ≤ 9_223_372_036_854_775_807) × (key.part ≤ 10_000)
+
+-- an exceedance is of a member, and of a period with an actual
+pub record IsExceedance (members : Crew) (pairings : fin.FinMap name_cmp Rostered) (id : ExceedanceId) (p : PeriodId) : Type 0 where
+  pub is_key : IsKey id.key
+  pub member : Member
+  pub of_member : fin.get members id.crew ≡ Some member
+  pub rostered : Rostered
+  pub of_pairing : fin.get pairings p.pairing ≡ Some rostered
+  pub place : ℕ
+  pub number : p.number ≡ place + 1
+  pub actual : ActualTimes
+  pub flown : slice_get rostered.actuals place ≡ Some (Some actual)
+
+abbrev pub name_of : ExceedanceId → List ℕ
+name_of id = exceedance_name id.key id.crew id.section
+
+abbrev pub AreExceedances : State → Type 0
+AreExceedances s = (name : List ℕ) (p : PeriodId) → fin.get s.exceedances name ≡ Some p → (id : ExceedanceId) × (name ≡ name_of id) × IsExceedance s.crew s.pairings id p
+
+-- what is kept is a command, and it and its reply are texts
+pub record IsRequest (key : KeyParts) (r : Request) : Type 0 where
+  pub is_key : IsKey key
+  pub command : IsCommand r.command
+  pub utf8 : IsUtf8 (kept_text r.command) × IsUtf8 (reply_text r.reply)
+
+-- each key that an exceedance names is held
+abbrev pub AreHeld : State → Type 0
+AreHeld s = (id : ExceedanceId) (p : PeriodId) → fin.get s.exceedances (name_of id) ≡ Some p → (r : Request) × (fin.get s.requests (key_name id.key) ≡ Some r)
+
+abbrev pub AreRequests : State → Type 0
+AreRequests s = ((name : List ℕ) (r : Request) → fin.get s.requests name ≡ Some r → (key : KeyParts) × (name ≡ key_name key) × IsRequest key r) × AreHeld s
+
+-- ---- The tables in turn
+
+-- the table is there as its text declares it, with just the rows of the state
+abbrev pub Kept : TableName → State → Database → Type 0
+Kept name s db = IsOfBook (table name) db.schema × HasJust (table name) db (In s name)
+
+-- Down to each table in turn: those above are right, and so is it, with the rows of this state.
+abbrev pub IsBookRight : State → Database → Type 0
+IsBookRight s db = Kept book s db × (is_zone_text s.zone ≡ true)
+
+abbrev pub IsCrewRight : State → Database → Type 0
+IsCrewRight s db = IsBookRight s db × Kept crew s db × AreMembers s
+
+abbrev pub IsPairingRight : State → Database → Type 0
+IsPairingRight s db = IsCrewRight s db × Kept pairing s db × AreNamed s
+
+-- a period isn't yet compared with the state's: until the segments are there nothing tells whether its actual is whole
+abbrev pub IsPeriodRight : State → Database → Type 0
+IsPeriodRight s db = IsPairingRight s db × IsOfBook period_table db.schema × ArePeriods db
+
+abbrev pub IsSegmentRight : State → Database → Type 0
+IsSegmentRight s db = IsPeriodRight s db × HasJust period_table db (InPeriod s) × Kept segment s db × ArePlanned s
+
+abbrev pub IsSeatRight : State → Database → Type 0
+IsSeatRight s db = IsSegmentRight s db × Kept seat s db × AreSeated s
+
+abbrev pub IsGroundRight : State → Database → Type 0
+IsGroundRight s db = IsSeatRight s db × Kept ground_duty s db × AreGrounds s
+
+abbrev pub IsExceedanceRight : State → Database → Type 0
+IsExceedanceRight s db = IsGroundRight s db × Kept exceedance s db × AreExceedances s
+
+abbrev pub IsRequestRight : State → Database → Type 0
+IsRequestRight s db = IsExceedanceRight s db × Kept request s db × AreRequests s
+
+abbrev pub IsRight : TableName → State → Database → Type 0
+IsRight book = IsBookRight
+IsRight crew = IsCrewRight
+IsRight pairing = IsPairingRight
+IsRight period = IsPeriodRight
+IsRight segment = IsSegmentRight
+IsRight seat = IsSeatRight
+IsRight ground_duty = IsGroundRight
+IsRight exceedance = IsExceedanceRight
+IsRight request = IsRequestRight
+
+-- some state has the rows of the tables down to this one
+abbrev pub AreRight : TableName → Database → Type 0
+AreRight name db = (s : State) × IsRight name s db
+
+-- the tables above one
+abbrev pub AreRightAbove : TableName → Database → Type 0
+AreRightAbove book db = ⊤
+AreRightAbove crew db = AreRight book db
+AreRightAbove pairing db = AreRight crew db
+AreRightAbove period db = AreRight pairing db
+AreRightAbove segment db = AreRight period db
+AreRightAbove seat db = AreRight segment db
+AreRightAbove ground_duty db = AreRight seat db
+AreRightAbove exceedance db = AreRight ground_duty db
+AreRightAbove request db = AreRight exceedance db
+
+-- ---- What is refused
+
+-- there is no table `book` (40)
+abbrev pub IsNoBook : Database → Type 0
+IsNoBook db = table_found db.schema book_table.name ≡ None
+
+-- the book's one row has another version (42)
+pub record IsOfOtherVersion (db : Database) : Type 0 where
+  pub there : IsOfBook book_table db.schema
+  pub it : BookRecord
+  pub utf8 : IsUtf8 it.zone
+  pub one_row : HasJust book_table db (λ row. row ≡ book_row it)
+  pub other : ¬ (it.version ≡ pos 1)
+
+-- this table is the first that isn't right (41)
+pub record IsDamaged (name : TableName) (db : Database) : Type 0 where
+  pub book : ¬ IsNoBook db
+  pub version : ¬ IsOfOtherVersion db
+  pub above : AreRightAbove name db
+  pub damaged : ¬ AreRight name db
+
+-- ---- Refusals
+
+-- the table of a name
+abbrev pub named : name.TableName → TableName
+named table_name.Book = book
+named table_name.Crew = crew
+named table_name.Pairing = pairing
+named table_name.Period = period
+named table_name.Segment = segment
+named table_name.Seat = seat
+named table_name.Ground = ground_duty
+named table_name.Exceedance = exceedance
+named table_name.Request = request
+
+-- what a refusal says of the database: a fault of the store (90) and want of memory (91) say nothing
+abbrev pub Says : LoadFault → Database → Type 0
+Says NotABook db = IsNoBook db
+Says Version db = IsOfOtherVersion db
+Says (Damaged it) db = IsDamaged (named it) db
+Says (Fault fault) db = ⊤

@@ -1,0 +1,23 @@
+-- The keys of periods and of segments are in the order of their names.
+use Rattle.std.specs.Prelude.{◌≡◌, ℕ, [], ◌∷◌}
+use Rattle.std.proofs.Common.{ap, ◌∙◌}
+use Rattle.std.specs.Ordering.{nat_cmp, ordering_then}
+use Rattle.values.specs.Name.{name_cmp}
+use Rattle.values.proofs.Names.{number_order, text_order}
+use Rattle.loading.specs.PlanRows.{period_name, segment_name}
+use Rattle.loading.specs.contracts.plan_rows.PeriodKeyOrd.TheImpl.{ghosts as periods}
+use Rattle.loading.specs.contracts.plan_rows.SegmentKeyOrd.TheImpl.{ghosts as segments}
+use Rattle.loading.specs.declared.plan_rows.PeriodKey.{PeriodKey}
+use Rattle.loading.specs.declared.plan_rows.SegmentKey.{SegmentKey}
+
+two_numbers : (a b c d : ℕ) → ordering_then (nat_cmp a c) (nat_cmp b d) ≡ name_cmp (a ∷ b ∷ []) (c ∷ d ∷ [])
+two_numbers a b c d = ap (ordering_then (nat_cmp a c)) (number_order b d)
+
+pub periods_order : (a b : PeriodKey) → periods.cmp a b ≡ name_cmp (period_name a.pairing a.number) (period_name b.pairing b.number)
+periods_order a b =
+    ap (ordering_then (name_cmp a.pairing b.pairing)) (number_order a.number b.number) ∙ text_order a.pairing b.pairing (a.number ∷ []) (b.number ∷ [])
+
+pub segments_order : (a b : SegmentKey) → segments.cmp a b ≡ name_cmp (segment_name a.pairing a.period a.number) (segment_name b.pairing b.period b.number)
+segments_order a b =
+    ap (ordering_then (name_cmp a.pairing b.pairing)) (two_numbers a.period a.number b.period b.number)
+    ∙ text_order a.pairing b.pairing (a.period ∷ a.number ∷ []) (b.period ∷ b.number ∷ [])

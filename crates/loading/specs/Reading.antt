@@ -1,0 +1,230 @@
+-- What the functions that load a book say to one another. No public clause names these.
+use Rattle.std.specs.Prelude.{◌≡◌, ◌⊎◌, ◌↔◌, ◌+◌, ◌<◌, ⊤, true, false, pos, IsUtf8, ℕ, zero, suc, List, [], ◌∷◌, map, take, length, Option, None, Some, Result, MatchResult, slice_get}
+use Rattle.std.specs.FinMap as fin
+use Rattle.std.specs.List.{AllByRecursion}
+use Rattle.values.specs.Name.{name_cmp}
+use Rattle.sqlite_value.specs.Order.{Row}
+use Rattle.sqlite_rules.specs.Lists.{Has}
+use Rattle.sqlite.specs.Effect.{Database, IsDatabase}
+use Rattle.sqlite.specs.State.{State, HasCleanDisk, IsUnchanged}
+use Rattle.duty.specs.Plans.{ActualTimes}
+use Rattle.command.specs.Keys.{key_name}
+use Rattle.command.specs.declared.member.Member.{Member}
+use Rattle.command.specs.declared.member.Seat.{Seat}
+use Rattle.command.specs.declared.member.Seat.TheVariants.{Captain, FirstOfficer}
+use Rattle.roster.specs.Pairings.{holder, is_flown, is_fully_crewed}
+use Rattle.roster.specs.Sound.{Crew, IsHolder}
+use Rattle.roster.specs.State as roster
+use Rattle.roster.specs.declared.state.ExceedanceId.{ExceedanceId}
+use Rattle.roster.specs.declared.state.PeriodId.{PeriodId}
+use Rattle.roster.specs.declared.state.Rostered.{Rostered}
+use Rattle.tables.specs.Calls.{LeavesNothing}
+use Rattle.tables.specs.Rows.{IsStored, rows_of, HasNoRecord, begins_with}
+use Rattle.tables.specs.Schema.{IsOfBook}
+use Rattle.tables.specs.Records.{book_row, crew_row, ground_row, exceedance_row, request_row, seat_row}
+use Rattle.tables.specs.declared.book.BookRecord.{BookRecord}
+use Rattle.tables.specs.declared.crew.CrewRecord.{CrewRecord}
+use Rattle.tables.specs.declared.exceedance.ExceedanceRecord.{ExceedanceRecord}
+use Rattle.tables.specs.declared.ground.GroundRecord.{GroundRecord}
+use Rattle.tables.specs.declared.request.RequestRecord.{RequestRecord}
+use Rattle.tables.specs.declared.seat.SeatRecord.{SeatRecord}
+use Rattle.loading.specs.Loading.{IsMember, IsGround, IsExceedance, IsRequest, AreHeld, name_of, IsRight, IsNoBook, IsOfOtherVersion}
+use Rattle.loading.specs.Rows.{TableName, book, crew, pairing, period, segment, seat, ground_duty, exceedance, request, table, row_of_member, row_of_seat, row_of_ground, row_of_exceedance, row_of_request, InSeat}
+use Rattle.loading.specs.declared.fault.LoadFault.{LoadFault}
+use Rattle.loading.specs.declared.fault.LoadFault.TheVariants.{NotABook, Damaged, Version, Fault}
+use Rattle.loading.specs.declared.fault.TableName as name
+use Rattle.loading.specs.declared.fault.TableName.TheVariants as its
+use Rattle.time117.specs.Local.{is_zone_text}
+
+-- what a call comes to that reads the database: what its answer tells, or why it was refused
+pub record Saw {A : Type 0} (Is : A → Type 0) (Refuses : LoadFault → Type 0) (old new : State) (result : Result A LoadFault) : Type 0 where
+  pub told : HasCleanDisk new → MatchResult result (λ a. IsUnchanged old new × Is a) Refuses
+  pub left : LeavesNothing old new
+
+-- the table is there, each row of it under a number of its own, and these are its rows
+pub record HasRows (it : TableName) (db : Database) (rows : List Row) : Type 0 where
+  pub database : IsDatabase db
+  pub there : IsOfBook (table it) db.schema
+  pub stored : IsStored (table it) db
+  pub all : (row : Row) → Has (rows_of (table it) db) row ↔ Has rows row
+
+-- the table isn't there, or some row of it is no record
+abbrev pub IsUnreadable : TableName → (Row → Type 0) → Database → Type 0
+IsUnreadable it IsRecord db = (¬ IsOfBook (table it) db.schema) ⊎ HasNoRecord (table it) (begins_with []) IsRecord db
+
+-- a fault of this table alone, of which a fact holds, or one of the store
+abbrev pub Blames : name.TableName → Type 0 → LoadFault → Type 0
+Blames it Why NotABook = ⊥
+Blames it Why Version = ⊥
+Blames it Why (Damaged other) = (other ≡ it) × Why
+Blames it Why (Fault fault) = ⊤
+
+-- the tables down to one, the last first
+abbrev pub down_to : TableName → List TableName
+down_to book = book ∷ []
+down_to crew = crew ∷ book ∷ []
+down_to pairing = pairing ∷ crew ∷ book ∷ []
+down_to period = period ∷ pairing ∷ crew ∷ book ∷ []
+down_to segment = segment ∷ period ∷ pairing ∷ crew ∷ book ∷ []
+down_to seat = seat ∷ segment ∷ period ∷ pairing ∷ crew ∷ book ∷ []
+down_to ground_duty = ground_duty ∷ seat ∷ segment ∷ period ∷ pairing ∷ crew ∷ book ∷ []
+down_to exceedance = exceedance ∷ ground_duty ∷ seat ∷ segment ∷ period ∷ pairing ∷ crew ∷ book ∷ []
+down_to request = request ∷ exceedance ∷ ground_duty ∷ seat ∷ segment ∷ period ∷ pairing ∷ crew ∷ book ∷ []
+
+-- the book is of this version, and its tables down to one are right, with each row under a number of its own
+pub record IsReadTo (it : TableName) (s : roster.State) (db : Database) : Type 0 where
+  pub stored : AllByRecursion (λ name. IsStored (table name) db) (down_to it)
+  pub book : ¬ IsNoBook db
+  pub version : ¬ IsOfOtherVersion db
+  pub right : IsRight it s db
+
+-- ---- A map read from rows
+
+-- what a map has under an index, by the index's name
+pub record Under {I V : Type 0} (name : I → List ℕ) (m : fin.FinMap name_cmp V) : Type 0 where
+  pub index : I
+  pub value : V
+  pub there : fin.get m (name index) ≡ Some value
+
+-- these are just the rows of what the map has, of each of which a fact holds
+pub record Mapped {I V : Type 0} (name : I → List ℕ) (row_of : I → V → Row) (Is : I → V → Type 0) (rows : List Row) (m : fin.FinMap name_cmp V) : Type 0 where
+  pub has : (row : Row) → Has rows row → (at : Under name m) × (row ≡ row_of at.index at.value)
+  pub all : (at : Under name m) → Has rows (row_of at.index at.value)
+  pub known : (key : List ℕ) (v : V) → fin.get m key ≡ Some v → (i : I) × (key ≡ name i) × Is i v
+
+-- two rows of one index are the same
+abbrev pub AreOnce : {I V : Type 0} → (I → V → Row) → List Row → Type 0
+AreOnce {I} {V} row_of rows = (i : I) (v w : V) → Has rows (row_of i v) → Has rows (row_of i w) → row_of i v ≡ row_of i w
+
+-- what a row tells: a value under an index, or that it is of none
+abbrev pub TellsOf : {I V X : Type 0} → (I → V → X → Type 0) → (I → V → Row) → (I → V → Type 0) → Row → Option X → Type 0
+TellsOf {I} {V} Gives row_of Is row None = (i : I) (v : V) → row ≡ row_of i v → Is i v → ⊥
+TellsOf {I} {V} Gives row_of Is row (Some x) = (i : I) × (v : V) × Gives i v x × (row ≡ row_of i v) × Is i v
+
+-- some row is of none
+pub record HasStranger {I V : Type 0} (row_of : I → V → Row) (Is : I → V → Type 0) (rows : List Row) : Type 0 where
+  pub row : Row
+  pub here : Has rows row
+  pub strange : (i : I) (v : V) → row ≡ row_of i v → Is i v → ⊥
+
+-- the seat of a number
+abbrev pub seat_of : ℕ → Option Seat
+seat_of zero = Some Captain
+seat_of (suc zero) = Some FirstOfficer
+seat_of (suc (suc n)) = None
+
+-- the period is there, and it has an actual
+pub record IsFlown (pairings : fin.FinMap name_cmp Rostered) (p : PeriodId) : Type 0 where
+  pub rostered : Rostered
+  pub of_pairing : fin.get pairings p.pairing ≡ Some rostered
+  pub place : ℕ
+  pub number : p.number ≡ place + 1
+  pub actual : ActualTimes
+  pub flown : slice_get rostered.actuals place ≡ Some (Some actual)
+
+-- an exceedance whose period has a number of eight bits, as each period of a pairing has
+pub record IsRecorded (members : Crew) (pairings : fin.FinMap name_cmp Rostered) (id : ExceedanceId) (p : PeriodId) : Type 0 where
+  pub is : IsExceedance members pairings id p
+  pub fits : p.number < 256
+
+-- its row
+abbrev pub row_of_recorded : ExceedanceId → PeriodId → Row
+row_of_recorded id p = row_of_exceedance id.key id.crew id.section p
+
+-- the members of so many first records are set in a roster
+pub record MembersRead (records : List CrewRecord) (count : ℕ) (old new : roster.State) : Type 0 where
+  pub same : new ≡ record old { crew = new.crew }
+  pub mapped : AreOnce row_of_member (map crew_row records) → Mapped (λ id. id) row_of_member IsMember (take count (map crew_row records)) new.crew
+
+-- so are the ground duties
+pub record GroundsRead (records : List GroundRecord) (count : ℕ) (old new : roster.State) : Type 0 where
+  pub same : new ≡ record old { grounds = new.grounds }
+  pub mapped : AreOnce row_of_ground (map ground_row records) → Mapped (λ id. id) row_of_ground (IsGround old.crew) (take count (map ground_row records)) new.grounds
+
+-- so are the exceedances
+pub record ExceedancesRead (records : List ExceedanceRecord) (count : ℕ) (old new : roster.State) : Type 0 where
+  pub same : new ≡ record old { exceedances = new.exceedances }
+  pub mapped : AreOnce row_of_recorded (map exceedance_row records) → Mapped name_of row_of_recorded (IsRecorded old.crew old.pairings) (take count (map exceedance_row records)) new.exceedances
+
+-- so are the requests
+pub record RequestsRead (records : List RequestRecord) (count : ℕ) (old new : roster.State) : Type 0 where
+  pub same : new ≡ record old { requests = new.requests }
+  pub mapped : AreOnce row_of_request (map request_row records) → Mapped key_name row_of_request IsRequest (take count (map request_row records)) new.requests
+
+-- some row is no request's, or some exceedance has a key that isn't held
+abbrev pub AreWanting : List RequestRecord → roster.State → Type 0
+AreWanting records s = HasStranger row_of_request IsRequest (map request_row records) ⊎ ((r : roster.State) × RequestsRead records (length records) s r × (AreHeld r → ⊥))
+
+-- ---- The holders of seats
+
+-- what a seat is known by
+pub record SeatIndex : Type 0 where
+  pub pairing : List ℕ
+  pub seat : Seat
+
+abbrev pub row_of_held : SeatIndex → List ℕ → Row
+row_of_held at who = row_of_seat at.pairing at.seat who
+
+-- the pairing is there, and the holder is a member of the seat's kind
+pub record IsHeld (members : Crew) (pairings : fin.FinMap name_cmp Rostered) (at : SeatIndex) (who : List ℕ) : Type 0 where
+  pub rostered : Rostered
+  pub of_pairing : fin.get pairings at.pairing ≡ Some rostered
+  pub member : Member
+  pub of_member : fin.get members who ≡ Some member
+  pub of_kind : member.seat ≡ at.seat
+
+-- two pairings alike, but for who holds their seats; or none
+abbrev pub IsSamePlan : Option Rostered → Option Rostered → Type 0
+IsSamePlan None None = ⊤
+IsSamePlan (Some r) (Some q) = (q.plan ≡ r.plan) × (q.actuals ≡ r.actuals)
+IsSamePlan _ _ = ⊥
+
+-- the seats of so many first records are taken in a roster
+pub record SeatsRead (records : List SeatRecord) (count : ℕ) (old new : roster.State) : Type 0 where
+  pub same : new ≡ record old { pairings = new.pairings }
+  pub planned : (id : List ℕ) → IsSamePlan (fin.get old.pairings id) (fin.get new.pairings id)
+  pub rows : AreOnce row_of_held (map seat_row records) → (row : Row) → Has (take count (map seat_row records)) row ↔ InSeat new row
+  pub known : (id : List ℕ) (r : Rostered) (seat : Seat) → fin.get new.pairings id ≡ Some r → IsHolder old.crew seat (holder seat r)
+
+-- both seats of each flown pairing are held
+abbrev pub AreCrewed : roster.State → Type 0
+AreCrewed s = (id : List ℕ) (r : Rostered) → fin.get s.pairings id ≡ Some r → is_flown r ≡ true → is_fully_crewed r ≡ true
+
+-- no seat is held
+abbrev pub IsFree : Rostered → Type 0
+IsFree r = (r.captain ≡ None) × (r.first_officer ≡ None)
+
+abbrev pub AreFree : roster.State → Type 0
+AreFree s = (id : List ℕ) (r : Rostered) → fin.get s.pairings id ≡ Some r → IsFree r
+
+-- some row is of no seat, or some flown pairing has a free one
+abbrev pub AreUnseated : List SeatRecord → roster.State → Type 0
+AreUnseated records s = HasStranger row_of_held (IsHeld s.crew s.pairings) (map seat_row records)
+    ⊎ ((r : roster.State) × SeatsRead records (length records) s r × (AreCrewed r → ⊥))
+
+-- ---- The book's own row
+
+-- all rows are that of this record
+pub record IsOnly (records : List BookRecord) (it : BookRecord) : Type 0 where
+  pub all : (row : Row) → Has (map book_row records) row ↔ (row ≡ book_row it)
+
+-- the row of a book with this zone, as this version writes it
+abbrev pub book_of : List ℕ → BookRecord
+book_of zone = record { one = pos 1; version = pos 1; zone = zone }
+
+-- there are not just rows of one record, or that one is of this version and not of a book
+abbrev pub IsNoBookRow : List BookRecord → Type 0
+IsNoBookRow records = (it : BookRecord) → IsOnly records it → (it.version ≡ pos 1) × (it.one ≡ pos 1 → is_zone_text it.zone ≡ false)
+
+-- why the records are refused: the one of them is of another version, or there is no row of a book
+abbrev pub BlamesBook : List BookRecord → LoadFault → Type 0
+BlamesBook records NotABook = ⊥
+BlamesBook records Version = (it : BookRecord) × IsOnly records it × IsUtf8 it.zone × ¬ (it.version ≡ pos 1)
+BlamesBook records (Damaged other) = (other ≡ its.Book) × IsNoBookRow records
+BlamesBook records (Fault fault) = ⊤
+
+-- ---- A roster of plans
+
+-- nothing but members and pairings is known
+abbrev pub HasNoDuties : roster.State → Type 0
+HasNoDuties s = (s.grounds ≡ fin.empty) × (s.exceedances ≡ fin.empty) × (s.requests ≡ fin.empty)

@@ -1,0 +1,21 @@
+//! What the tables of a book mean, and a roster read from them.
+#![tactic(auto)]
+
+mod fault;
+mod laws;
+mod plan_rows;
+mod plans;
+mod read_all;
+mod read_book;
+mod read_crew;
+mod read_exceedances;
+mod read_grounds;
+mod read_pairings;
+mod read_periods;
+mod read_requests;
+mod read_seats;
+mod read_segments;
+
+pub use fault::{LoadFault, StoreFault, TableName};
+pub use laws::{database_holds_one_state, rows_say_all};
+pub use read_all::read_all;

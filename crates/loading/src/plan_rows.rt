@@ -1,0 +1,88 @@
+//! The rows of the tables `period` and `segment`, by their keys.
+
+ghost use Rattle.std.specs.Prelude.{◌≡◌, IfOk};
+ghost use Rattle.std.specs.FinMap as fin;
+ghost use Rattle.std.specs.Option.{option_copied};
+ghost use Rattle.loading.specs.PlanRows.{period_name, segment_name};
+
+use duty::PairingId;
+use std::alloc::Global;
+use tables::period::PeriodRecord;
+use tables::segment::SegmentRecord;
+use values::{Copied, MemoryFault, Named, Table};
+
+/// What a row of `period` is known by: the pairing, and the period's number in it from 1.
+#[derive(PartialEq, Eq, PartialOrd, Ord, Drop)]
+pub(crate) struct PeriodKey {
+    pub(crate) pairing: PairingId,
+    pub(crate) number: u32,
+}
+
+/// What a row of `segment` is known by: the pairing, the number of the period, and the segment's in that from 1.
+#[derive(PartialEq, Eq, PartialOrd, Ord, Drop)]
+pub(crate) struct SegmentKey {
+    pub(crate) pairing: PairingId,
+    pub(crate) period: u32,
+    pub(crate) number: u32,
+}
+
+impl Named for PeriodKey {
+    ghost use Rattle.loading.specs.PlanRows.{period_name};
+    ghost use Rattle.loading.specs.PlanOrder.{periods_order};
+
+    ghost name = { λ key. period_name key.pairing key.number };
+
+    ghost same_order = { periods_order };
+}
+
+impl Named for SegmentKey {
+    ghost use Rattle.loading.specs.PlanRows.{segment_name};
+    ghost use Rattle.loading.specs.PlanOrder.{segments_order};
+
+    ghost name = { λ key. segment_name key.pairing key.period key.number };
+
+    ghost same_order = { segments_order };
+}
+
+/// The rows of both tables.
+#[derive(Drop)]
+pub(crate) struct PlanRows {
+    pub(crate) periods: Table<PeriodKey, PeriodRecord>,
+    pub(crate) segments: Table<SegmentKey, SegmentRecord>,
+}
+
+impl PlanRows {
+    /// The row of a period, if there is one.
+    pub(crate) fn period(
+        &self,
+        alloc: Global,
+        pairing: &PairingId,
+        number: u32,
+    ) -> Result<Option<&PeriodRecord>, MemoryFault>
+        ensures { IfOk result (λ found. option_copied found ≡ fin.get self.now.periods (period_name pairing.now number)) }
+    {
+        let key = PeriodKey {
+            pairing: pairing.copy(alloc)?,
+            number,
+        };
+        Ok(self.periods.get(&key))
+    }
+
+    /// The row of a segment, if there is one.
+    pub(crate) fn segment(
+        &self,
+        alloc: Global,
+        pairing: &PairingId,
+        period: u32,
+        number: u32,
+    ) -> Result<Option<&SegmentRecord>, MemoryFault>
+        ensures { IfOk result (λ found. option_copied found ≡ fin.get self.now.segments (segment_name pairing.now period number)) }
+    {
+        let key = SegmentKey {
+            pairing: pairing.copy(alloc)?,
+            period,
+            number,
+        };
+        Ok(self.segments.get(&key))
+    }
+}

@@ -1,0 +1,75 @@
+//! A book, read table by table in the order of the formats.
+
+ghost use Rattle.std.specs.Prelude.{◌≡◌, IfOk};
+ghost use Rattle.std.specs.FinMap as fin;
+ghost use Rattle.sqlite.specs.Held.{state};
+ghost use Rattle.sqlite.specs.State.{HasCleanDisk};
+ghost use Rattle.loading.specs.Loading.{Says};
+ghost use Rattle.loading.specs.Reading.{AreFree, HasNoDuties, IsReadTo, Saw};
+ghost use Rattle.loading.specs.Rows.{ground_duty, request, segment};
+
+use crate::fault::LoadFault;
+use crate::read_book::read_book;
+use crate::read_crew::read_crew;
+use crate::read_exceedances::read_exceedances;
+use crate::read_grounds::read_grounds;
+use crate::read_pairings::read_pairings;
+use crate::read_requests::read_requests;
+use crate::read_seats::read_seats;
+use roster::Roster;
+use sqlite::{Alter, Connection};
+use std::alloc::Global;
+
+/// Reads the book's row, the members, and the pairings with their periods and segments.
+fn read_plans<S: Alter>(alloc: Global, conn: &mut Connection<S>) -> Result<Roster, LoadFault>
+    ensures read { Saw (λ r. IsReadTo segment r (state S.Store conn.old).now) (λ fault. Says fault (state S.Store conn.old).now) (state S.Store conn.old) (state S.Store conn.new) result }
+    ensures free { IfOk result AreFree }
+    ensures rest { IfOk result HasNoDuties }
+{
+    let roster = read_book(alloc, conn)?;
+    let roster = read_crew(alloc, conn, roster)?;
+    read_pairings(alloc, conn, roster)
+}
+
+/// Reads who holds the seats, and the ground duties, into a roster of plans.
+fn read_duties<S: Alter>(
+    alloc: Global,
+    conn: &mut Connection<S>,
+    roster: Roster,
+) -> Result<Roster, LoadFault>
+    requires free { AreFree roster }
+    requires none { HasNoDuties roster }
+    requires above { HasCleanDisk (state S.Store conn.old) → IsReadTo segment roster (state S.Store conn.old).now }
+    ensures read { Saw (λ r. IsReadTo ground_duty r (state S.Store conn.old).now) (λ fault. Says fault (state S.Store conn.old).now) (state S.Store conn.old) (state S.Store conn.new) result }
+    ensures rest { IfOk result (λ r. (r.exceedances ≡ fin.empty) × (r.requests ≡ fin.empty)) }
+{
+    let roster = read_seats(alloc, conn, roster)?;
+    read_grounds(alloc, conn, roster)
+}
+
+/// Reads the exceedances and the requests into a roster of duties.
+fn read_records<S: Alter>(
+    alloc: Global,
+    conn: &mut Connection<S>,
+    roster: Roster,
+) -> Result<Roster, LoadFault>
+    requires none { (roster.exceedances ≡ fin.empty) × (roster.requests ≡ fin.empty) }
+    requires above { HasCleanDisk (state S.Store conn.old) → IsReadTo ground_duty roster (state S.Store conn.old).now }
+    ensures read { Saw (λ r. IsReadTo request r (state S.Store conn.old).now) (λ fault. Says fault (state S.Store conn.old).now) (state S.Store conn.old) (state S.Store conn.new) result }
+{
+    let roster = read_exceedances(alloc, conn, roster)?;
+    read_requests(alloc, conn, roster)
+}
+
+/// Reads a whole book, table by table, and changes nothing. Refused is a database without a table `book` (40), tables of
+/// another version (42), the first table that is at fault (41), a store's fault (90), and want of memory (91).
+pub fn read_all<S: Alter>(
+    alloc: Global,
+    conn: &mut Connection<S>,
+) -> Result<Roster, LoadFault>
+    ensures read { Saw (λ r. IsReadTo request r (state S.Store conn.old).now) (λ fault. Says fault (state S.Store conn.old).now) (state S.Store conn.old) (state S.Store conn.new) result }
+{
+    let roster = read_plans(alloc, conn)?;
+    let roster = read_duties(alloc, conn, roster)?;
+    read_records(alloc, conn, roster)
+}

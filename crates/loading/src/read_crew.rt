@@ -1,0 +1,102 @@
+//! The table `crew`, as it is loaded.
+
+ghost use Rattle.std.specs.Prelude.{◌≡◌, length, map, IfOk, MatchResult};
+ghost use Rattle.std.specs.FinMap as fin;
+ghost use Rattle.sqlite.specs.Held.{state};
+ghost use Rattle.sqlite.specs.State.{HasCleanDisk};
+ghost use Rattle.sqlite_rules.specs.Lists.{Has};
+ghost use Rattle.tables.specs.Records.{crew_row, IsCrewRow};
+ghost use Rattle.loading.specs.Loading.{IsMember, Says};
+ghost use Rattle.loading.specs.Reading.{seat_of, MembersRead, Saw, HasRows, IsUnreadable, Blames, IsReadTo, TellsOf, HasStranger};
+ghost use Rattle.loading.specs.Rows.{row_of_member, crew, book};
+ghost use Rattle.loading.specs.declared.fault.TableName.TheVariants as table_name;
+
+use crate::fault::{LoadFault, TableName};
+use command::{Member, Seat};
+use duty::{CrewId, is_plain_text};
+use roster::{Entry, Roster};
+use sqlite::{Alter, Connection};
+use std::alloc::Global;
+use tables::TableFault;
+use tables::book_schema::is_unreferenced;
+use tables::crew::{CrewRecord, is_crew_there, load_crew};
+use values::{Copied, MemoryFault, Text};
+
+/// The records of the table.
+#[tactic(auto, using(crate::proofs::Telling::found, crate::proofs::Telling::not_there, crate::proofs::Telling::no_record, crate::proofs::Telling::failed))]
+fn crew_records<S: Alter>(
+    alloc: Global,
+    conn: &mut Connection<S>,
+) -> Result<Vec<CrewRecord>, LoadFault>
+    ensures { Saw (λ found. HasRows crew (state S.Store conn.old).now (map crew_row found.items)) (Blames table_name.Crew (IsUnreadable crew IsCrewRow (state S.Store conn.old).now)) (state S.Store conn.old) (state S.Store conn.new) result }
+{
+    if !is_crew_there(alloc, conn)? || !is_unreferenced(conn, "crew") {
+        return Err(LoadFault::Damaged(TableName::Crew));
+    }
+    let loaded = load_crew(alloc, conn);
+    let _live = conn.schema();
+    match loaded {
+        Ok(records) => Ok(records),
+        Err(TableFault::NotARecord) => Err(LoadFault::Damaged(TableName::Crew)),
+        Err(fault) => Err(LoadFault::from(fault)),
+    }
+}
+
+/// The seat of a number in the tables.
+pub(crate) fn seat_of_number(number: u32) -> Option<Seat>
+    ensures { result ≡ seat_of number }
+{
+    match number {
+        0 => Some(Seat::Captain),
+        1 => Some(Seat::FirstOfficer),
+        _ => None,
+    }
+}
+
+/// The member that a record tells of, if it tells of one.
+#[tactic(auto, using(crate::proofs::ReadCrew::no_seat, crate::proofs::ReadCrew::bad_id, crate::proofs::ReadCrew::bad_name, crate::proofs::ReadCrew::tells))]
+fn member_of(alloc: Global, row: &CrewRecord) -> Result<Option<Entry>, MemoryFault>
+    ensures { IfOk result (TellsOf (λ id member entry. entry ≡ Entry.Member id member) row_of_member IsMember (crew_row row.now)) }
+{
+    let Some(seat) = seat_of_number(row.seat) else {
+        return Ok(None);
+    };
+    let id = CrewId::new(row.id.copy(alloc)?);
+    let name = Text::new(String::from_str(alloc, row.name.as_str())?);
+    if !id.has_shape() || !is_plain_text(&name) {
+        return Ok(None);
+    }
+    Ok(Some(Entry::Member(id, Member { seat, name })))
+}
+
+/// Sets the members that the records tell of.
+#[tactic(auto, using(crate::proofs::ReadCrew::none_read, crate::proofs::ReadCrew::stranger, crate::proofs::ReadCrew::one_read))]
+fn add_members(alloc: Global, roster: Roster, records: &[CrewRecord]) -> Result<Roster, LoadFault>
+    requires { roster.crew ≡ fin.empty }
+    ensures { MatchResult result (MembersRead records.now (length records.now) roster) (Blames table_name.Crew (HasStranger row_of_member IsMember (map crew_row records.now))) }
+{
+    let mut roster = roster;
+    for row in records {
+        let Some(entry) = member_of(alloc, row)? else {
+            return Err(LoadFault::Damaged(TableName::Crew));
+        };
+        roster.put(alloc, entry)?;
+    }
+    Ok(roster)
+}
+
+/// Reads the members into a roster that has none.
+#[tactic(auto, using(crate::proofs::ReadCrew::not_read, crate::proofs::ReadCrew::is_read))]
+pub(crate) fn read_crew<S: Alter>(
+    alloc: Global,
+    conn: &mut Connection<S>,
+    roster: Roster,
+) -> Result<Roster, LoadFault>
+    requires none { roster.crew ≡ fin.empty }
+    requires above { HasCleanDisk (state S.Store conn.old) → IsReadTo book roster (state S.Store conn.old).now }
+    ensures read { Saw (λ r. IsReadTo crew r (state S.Store conn.old).now × (r ≡ record roster { crew = r.crew })) (λ fault. Says fault (state S.Store conn.old).now) (state S.Store conn.old) (state S.Store conn.new) result }
+    ensures rest { IfOk result (λ r. r ≡ record roster { crew = r.crew }) }
+{
+    let records = crew_records(alloc, conn)?;
+    add_members(alloc, roster, &records)
+}

@@ -1,5 +1,0 @@
-use Rattle.store.specs.Reading.{MembersRead}
-use Rattle.store.proofs.read_crew.add_members.Given as goal
-
-abbrev pub invariant-loop-row : goal.invariant-loop-row
-invariant-loop-row l = MembersRead l.records l.row-index l.fn.roster l.roster

@@ -1,5 +1,0 @@
-use Rattle.store.specs.Reading.{ExceedancesRead}
-use Rattle.store.proofs.read_exceedances.add_exceedances.Given as goal
-
-abbrev pub invariant-loop-row : goal.invariant-loop-row
-invariant-loop-row l = ExceedancesRead l.records l.row-index l.fn.roster l.roster

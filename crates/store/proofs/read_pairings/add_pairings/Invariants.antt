@@ -1,5 +1,0 @@
-use Rattle.store.proofs.ReadPairings.{Adding}
-use Rattle.store.proofs.read_pairings.add_pairings.Given as goal
-
-abbrev pub invariant-loop-id : goal.invariant-loop-id
-invariant-loop-id l = Adding l.ids l.rows.periods l.rows.segments l.fn.roster l.roster l.id-iterator

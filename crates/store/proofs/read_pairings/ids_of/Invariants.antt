@@ -1,5 +1,0 @@
-use Rattle.store.specs.Keyed.{IdsRead}
-use Rattle.store.proofs.read_pairings.ids_of.Given as goal
-
-abbrev pub invariant-loop-row : goal.invariant-loop-row
-invariant-loop-row l = IdsRead l.records l.row-index l.ids

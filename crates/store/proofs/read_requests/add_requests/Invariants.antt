@@ -1,5 +1,0 @@
-use Rattle.store.specs.Reading.{RequestsRead}
-use Rattle.store.proofs.read_requests.add_requests.Given as goal
-
-abbrev pub invariant-loop-row : goal.invariant-loop-row
-invariant-loop-row l = RequestsRead l.records l.row-index l.fn.roster l.roster

@@ -1,6 +1,0 @@
-use Rattle.std.proofs.Common.{rules, refl}
-use Rattle.store.proofs.ReadSeats.{not_all_crewed}
-use Rattle.store.proofs.read_seats.seat_all.Goals as goal
-
-pub returns-then-not-are_crewed : goal.returns-then-not-are_crewed
-returns-then-not-are_crewed c = (refl, not_all_crewed c.args.records.now c.args.roster c.in_ok-roster.roster c.in_ok-roster.ensures (search rules))
