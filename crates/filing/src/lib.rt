@@ -10,8 +10,7 @@ mod long_pairing;
 pub mod office;
 #[cfg(test)]
 mod rows;
-#[cfg(test)]
-mod story;
+pub mod story;
 pub mod telling;
 
 pub use fault::Unfiled;

@@ -77,6 +77,17 @@ fn empty(alloc: Global) -> Result<Roster, Unfiled> {
 }
 
 impl<S: Alter + Drop> Office<S> {
+    /// An office over a book whose tables hold this roster.
+    pub fn of(alloc: Global, store: Store<S>, roster: Roster) -> Office<S> {
+        Office {
+            alloc,
+            store,
+            roster,
+            kept: 0,
+            stopped: None,
+        }
+    }
+
     /// An empty book, in a database that has none.
     pub fn open(alloc: Global, conn: Connection<S>) -> Result<Office<S>, (Unfiled, Connection<S>)> {
         match empty(alloc) {
@@ -91,13 +102,7 @@ impl<S: Alter + Drop> Office<S> {
         roster: Roster,
     ) -> Result<Office<S>, (Unfiled, Connection<S>)> {
         match create(alloc, conn, &roster.zone) {
-            Ok(store) => Ok(Office {
-                alloc,
-                store,
-                roster,
-                kept: 0,
-                stopped: None,
-            }),
+            Ok(store) => Ok(Office::of(alloc, store, roster)),
             Err((fault, conn)) => Err((Unfiled::NoBook(fault), conn)),
         }
     }
@@ -121,6 +126,11 @@ impl<S: Alter + Drop> Office<S> {
     /// How many orders were kept.
     pub fn kept(&self) -> u8 {
         self.kept
+    }
+
+    /// The roster, with all that was kept.
+    pub fn roster(&self) -> &Roster {
+        &self.roster
     }
 
     /// The database.

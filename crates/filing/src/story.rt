@@ -9,11 +9,12 @@ use samples::{
     Unmade, add_crew, add_ground, add_pairing, assign, cancel_ground, cancel_pairing, fly, june,
     release, swap,
 };
+use sqlite::MemStore;
 use std::alloc::Global;
 
 /// Two captains, a first officer and two pairings; the captains hold one each, exchange them, and one gives the other's
 /// back, which is cancelled. Then a ground duty, a pairing flown 11 hours late, and the ground duty cancelled.
-fn order(alloc: Global, number: u64) -> Result<Order, Unmade> {
+pub fn order(alloc: Global, number: u64) -> Result<Order, Unmade> {
     match number {
         1 => add_crew(alloc, "C1", Seat::Captain, "Ada Ray"),
         2 => add_crew(alloc, "C2", Seat::Captain, "Bo Lind"),
@@ -83,13 +84,18 @@ const REQUESTS: [&str; 14] = [
         |{\"exceedances\":[],\"result\":\"accepted\"}",
 ];
 
-/// The rows of a book after its first orders, as lines.
-pub fn after(alloc: Global, orders: u8) -> Result<String, Unfiled> {
+/// The office after its first orders.
+pub fn kept(alloc: Global, orders: u8) -> Result<Office<MemStore>, Unfiled> {
     let mut office = Office::in_memory(alloc)?;
     for number in 1..=u64::from(orders) {
         office.settle(Key::new(number, 0), order(alloc, number));
     }
-    office.told()
+    Ok(office)
+}
+
+/// The rows of a book after its first orders, as lines.
+pub fn after(alloc: Global, orders: u8) -> Result<String, Unfiled> {
+    kept(alloc, orders)?.told()
 }
 
 /// These rows and those of the first requests, as lines.

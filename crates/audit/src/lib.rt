@@ -1,0 +1,20 @@
+//! An audit of loading: books made by plain SQL, each with one damage, and books that a crew office kept.
+#![tactic(auto)]
+
+pub mod book;
+#[cfg(test)]
+mod columns;
+#[cfg(test)]
+mod duties;
+#[cfg(test)]
+mod kept;
+pub mod loading;
+#[cfg(test)]
+mod members;
+#[cfg(test)]
+mod order;
+#[cfg(test)]
+mod plans;
+#[cfg(test)]
+mod records;
+pub mod retelling;
