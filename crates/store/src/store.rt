@@ -1,6 +1,7 @@
 ghost use Rattle.std.specs.Prelude.{◌≡◌, IfOk, IfErr, IsErrAnd, OnOk, OnErr, Err};
 ghost use Rattle.sqlite.specs.State.{HasCleanDisk, IsUnchanged};
 ghost use Rattle.sqlite.specs.Held.{state};
+ghost use Rattle.codec.specs.Laws.{IsCommand};
 ghost use Rattle.roster.specs.Sound.{Sound};
 ghost use Rattle.roster.specs.State.{State, empty};
 ghost use Rattle.roster.specs.Steps.{after};
@@ -113,6 +114,7 @@ impl<S: Alter> Store<S> {
         ensures store { (s : State) → IsNext s change.now → Leaves (state S.Store self.old) (one s) → result ≡ Err StoreFault.Store → Leaves (state S.Store self.new) (either s (after s change.now)) }
         ensures alone { OnOk result (LeavesOnly (state S.Store self.new) (KeepOthers (state S.Store self.old).now)) }
         ensures others { AddsOnly (state S.Store self.old) (state S.Store self.new) (KeepOthers (state S.Store self.old).now) }
+        ensures command { OnOk result (IsCommand change.now.command) }
         ensures some { LeavesSome (state S.Store self.new) }
         ensures honest { HasCleanDisk (state S.Store self.new) → HasCleanDisk (state S.Store self.old) }
     {
@@ -192,6 +194,7 @@ fn write<S: Alter>(
     ensures store { (s : State) → IsNext s change.now → Leaves (state S.Store conn.old) (one s) → result ≡ Err StoreFault.Store → Leaves (state S.Store conn.new) (either s (after s change.now)) }
     ensures alone { OnOk result (LeavesOnly (state S.Store conn.new) (KeepOthers (state S.Store conn.old).now)) }
     ensures others { AddsOnly (state S.Store conn.old) (state S.Store conn.new) (KeepOthers (state S.Store conn.old).now) }
+    ensures command { OnOk result (IsCommand change.now.command) }
     ensures some { LeavesSome (state S.Store conn.new) }
     ensures honest { HasCleanDisk (state S.Store conn.new) → HasCleanDisk (state S.Store conn.old) }
     ensures outside { IsOutside (state S.Store conn.new) }
