@@ -5,7 +5,7 @@ mod fault;
 mod laws;
 mod plan_rows;
 mod plans;
-mod read_all;
+
 mod read_book;
 mod read_crew;
 mod read_exceedances;
@@ -15,7 +15,8 @@ mod read_periods;
 mod read_requests;
 mod read_seats;
 mod read_segments;
+mod whole;
 
 pub use fault::{LoadFault, StoreFault, TableName};
 pub use laws::{database_holds_one_state, rows_say_all};
-pub use read_all::read_all;
+pub use whole::read_all;
