@@ -5,7 +5,6 @@ mod fault;
 mod laws;
 mod plan_rows;
 mod plans;
-
 mod read_book;
 mod read_crew;
 mod read_exceedances;
