@@ -1,6 +1,6 @@
 //! Tables that are missing, or are there with other columns.
 
-use crate::loading::{of_book, of_database};
+use crate::answers::{of_book, of_database};
 use std::test::Fail;
 
 #[test]

@@ -1,6 +1,6 @@
 //! Books that a crew office made and kept its orders in.
 
-use crate::loading::load;
+use crate::answers::load;
 use crate::retelling::retold;
 use command::{Command, Key, Order, Seat};
 use filing::Unfiled;
@@ -93,7 +93,10 @@ fn a_loaded_book_goes_on(rt: HostRuntime) -> Result<(), Fail> {
     let alloc = rt.alloc();
     let rows = after(alloc, ALL)?;
     for orders in 0..=ALL {
-        assert!(rt; goes_on(alloc, orders, rows.as_str())?, "after {orders} orders");
+        assert!(rt;
+            goes_on(alloc, orders, rows.as_str())?,
+            "after {orders} orders"
+        );
     }
     Ok(())
 }

@@ -1,6 +1,7 @@
 //! An audit of loading: books made by plain SQL, each with one damage, and books that a crew office kept.
 #![tactic(auto)]
 
+pub mod answers;
 pub mod book;
 #[cfg(test)]
 mod columns;
@@ -8,7 +9,6 @@ mod columns;
 mod duties;
 #[cfg(test)]
 mod kept;
-pub mod loading;
 #[cfg(test)]
 mod members;
 #[cfg(test)]

@@ -1,6 +1,6 @@
 //! Damaged tables `book` and `crew`.
 
-use crate::loading::of_book;
+use crate::answers::of_book;
 use std::test::Fail;
 
 #[test]

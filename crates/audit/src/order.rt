@@ -1,7 +1,7 @@
 //! Books with two damages, of which the first table is named, and what is no damage.
 
+use crate::answers::{answer, load, of_book};
 use crate::book::book;
-use crate::loading::{answer, load, of_book};
 use crate::retelling::retold;
 use filing::Unfiled;
 use filing::telling::told;

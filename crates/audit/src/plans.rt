@@ -1,6 +1,6 @@
 //! Damaged tables `pairing`, `period` and `segment`.
 
-use crate::loading::of_book;
+use crate::answers::of_book;
 use filing::Unfiled;
 use std::alloc::Global;
 use std::test::Fail;

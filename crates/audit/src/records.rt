@@ -1,6 +1,6 @@
 //! Damaged tables `exceedance` and `request`.
 
-use crate::loading::of_book;
+use crate::answers::of_book;
 use std::test::Fail;
 
 #[test]
