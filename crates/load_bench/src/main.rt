@@ -4,7 +4,6 @@
 #![tactic(auto)]
 
 mod book;
-mod rows;
 
 use crate::book::{Counts, fill};
 use anyhow::{Context, Result, bail};
@@ -23,10 +22,7 @@ struct Found {
 }
 
 /// Makes an empty book where there is none; whether there was none.
-fn create<S: Alter + Drop>(
-    alloc: Global,
-    conn: Connection<S>,
-) -> Result<(Connection<S>, bool)> {
+fn create<S: Alter + Drop>(alloc: Global, conn: Connection<S>) -> Result<(Connection<S>, bool)> {
     if !conn.is_autocommit() {
         bail!("a transaction is open");
     }
@@ -78,7 +74,7 @@ fn run<S: Alter + Drop>(
 ) -> Result<Found> {
     let (mut conn, is_new) = create(alloc, conn)?;
     if is_new {
-        fill(alloc, &mut conn, counts)?;
+        fill(&mut conn, counts)?;
     }
     load_times(alloc, conn, times)
 }
