@@ -1,4 +1,4 @@
--- What the functions that load a book say to one another. No public clause names these.
+-- What the functions that load a book say to one another. Of these the public clause of `read_all` names `Saw` and `IsReadTo`.
 use Rattle.std.specs.Prelude.{◌≡◌, ◌⊎◌, ◌↔◌, ◌+◌, ◌<◌, ⊤, true, false, pos, IsUtf8, ℕ, zero, suc, List, [], ◌∷◌, map, take, length, Option, None, Some, Result, MatchResult, slice_get}
 use Rattle.std.specs.FinMap as fin
 use Rattle.std.specs.List.{AllByRecursion}

@@ -63,10 +63,7 @@ fn read_records<S: Alter>(
 
 /// Reads a whole book, table by table, and changes nothing. Refused is a database without a table `book` (40), tables of
 /// another version (42), the first table that is at fault (41), a store's fault (90), and want of memory (91).
-pub fn read_all<S: Alter>(
-    alloc: Global,
-    conn: &mut Connection<S>,
-) -> Result<Roster, LoadFault>
+pub fn read_all<S: Alter>(alloc: Global, conn: &mut Connection<S>) -> Result<Roster, LoadFault>
     ensures read { Saw (λ r. IsReadTo request r (state S.Store conn.old).now) (λ fault. Says fault (state S.Store conn.old).now) (state S.Store conn.old) (state S.Store conn.new) result }
 {
     let roster = read_plans(alloc, conn)?;
