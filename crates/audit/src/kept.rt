@@ -58,11 +58,11 @@ fn goes_on(alloc: Global, orders: u8, rows: &str) -> Result<bool, Unfiled> {
 fn verdict(
     alloc: Global,
     roster: &Roster,
-    number: u64,
+    key: Key,
     order: Result<Order, Unmade>,
 ) -> Result<&'static str, Unfiled> {
     let command = Command::new(order?)?;
-    match roster.step(alloc, Key::new(number, 0), &command)? {
+    match roster.step(alloc, key, &command)? {
         Verdict::Accept(..) => Ok("accepted"),
         Verdict::Repeat(_) => Ok("repeated"),
         Verdict::Refuse(_) => Ok("refused"),
@@ -70,13 +70,9 @@ fn verdict(
 }
 
 /// What the book of all orders, once loaded, answers to an order under a key, by its kind.
-fn answer(
-    alloc: Global,
-    number: u64,
-    order: Result<Order, Unmade>,
-) -> Result<&'static str, Unfiled> {
+fn answer(alloc: Global, key: Key, order: Result<Order, Unmade>) -> Result<&'static str, Unfiled> {
     let office = loaded(alloc, ALL)?;
-    verdict(alloc, office.roster(), number, order)
+    verdict(alloc, office.roster(), key, order)
 }
 
 #[test]
@@ -105,7 +101,7 @@ fn a_loaded_book_goes_on(rt: HostRuntime) -> Result<(), Fail> {
 fn a_loaded_book_knows_its_keys(rt: HostRuntime) -> Result<(), Fail> {
     let alloc = rt.alloc();
     for number in 1..=u64::from(ALL) {
-        let again = answer(alloc, number, order(alloc, number))?;
+        let again = answer(alloc, Key::new(number, 0), order(alloc, number))?;
         assert_eq!(rt; again, "repeated", "order {number}");
     }
     Ok(())
@@ -115,7 +111,7 @@ fn a_loaded_book_knows_its_keys(rt: HostRuntime) -> Result<(), Fail> {
 fn a_loaded_book_refuses_another_order_under_a_key(rt: HostRuntime) -> Result<(), Fail> {
     let alloc = rt.alloc();
     let other = add_crew(alloc, "C3", Seat::Captain, "Cy Moe");
-    assert_eq!(rt; answer(alloc, 1, other)?, "refused");
+    assert_eq!(rt; answer(alloc, Key::new(1, 0), other)?, "refused");
     Ok(())
 }
 
@@ -123,6 +119,6 @@ fn a_loaded_book_refuses_another_order_under_a_key(rt: HostRuntime) -> Result<()
 fn a_loaded_book_accepts_an_order_under_a_free_key(rt: HostRuntime) -> Result<(), Fail> {
     let alloc = rt.alloc();
     let next = add_crew(alloc, "C3", Seat::Captain, "Cy Moe");
-    assert_eq!(rt; answer(alloc, 15, next)?, "accepted");
+    assert_eq!(rt; answer(alloc, Key::new(15, 0), next)?, "accepted");
     Ok(())
 }
