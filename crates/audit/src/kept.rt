@@ -72,7 +72,9 @@ fn verdict(
 /// What the book of all orders, once loaded, answers to an order under a key, by its kind.
 fn answer(alloc: Global, key: Key, order: Result<Order, Unmade>) -> Result<&'static str, Unfiled> {
     let office = loaded(alloc, ALL)?;
-    verdict(alloc, office.roster(), key, order)
+    let answer = verdict(alloc, office.roster(), key, order)?;
+    drop(office.closed()?);
+    Ok(answer)
 }
 
 #[test]
