@@ -1,0 +1,104 @@
+-- From what one command did to what is told of it.
+use Rattle.std.proofs.Common.{◌≡◌, inl, inr, refl, sym, ap, subst, ◌∙◌, ◌||◌, Bool, true, false, IsTrue, Result, Ok, Err, OnOk, IfOk}
+use Rattle.sqlite.specs.State as conn
+use Rattle.sqlite.specs.State.{HasCleanDisk}
+use Rattle.codec.specs.Laws.{IsCommand}
+use Rattle.roster.specs.State.{State}
+use Rattle.roster.specs.Steps.{after}
+use Rattle.roster.specs.declared.change.Change.{Change}
+use Rattle.loading.specs.declared.fault.StoreFault.{StoreFault}
+use Rattle.loading.specs.declared.fault.StoreFault.TheVariants.{Store, Memory}
+use Rattle.store.specs.Next.{IsNext}
+use Rattle.store.specs.Outcomes.{AddsNothing, HoldsNow, Leaves, LeavesSome, either, one}
+use Rattle.book.specs.Asking.{Did, Done}
+use Rattle.book.specs.Kept.{IsKept, Keeps, is_store_fault}
+use Rattle.book.proofs.States.{kept_after, shown_before, keeps_as, shows_as, either_as, same_state, one_of_either}
+
+-- ---- A change
+
+-- nothing was done
+pub did_nothing : {A : Type 0} (now : conn.State) (was wanted : State) → Keeps now was → Did {A = A} now now was was wanted (Err Memory)
+did_nothing now was wanted keeps = record { clean = λ clean. clean; some = keeps.some; done = (refl, keeps) }
+
+-- it was answered with the same state
+pub did_answer : {A : Type 0} (now : conn.State) (was wanted : State) (a : A) → Keeps now was → wanted ≡ was → Did now now was was wanted (Ok a)
+did_answer now was wanted a keeps same = record { clean = λ clean. clean; some = keeps.some; done = (sym same, keeps, λ shown. shown) }
+
+module _ (old new : conn.State) (was : State) (change : Change) (keeps : Keeps old was) (next : HasCleanDisk old → IsNext was change) (clean : HasCleanDisk new → HasCleanDisk old) (some : LeavesSome new) where
+  -- it was kept
+  pub did_keep : {A : Type 0} (roster : State) (a : A) → roster ≡ after was change → IsCommand change.command →
+      (IsNext was change → Leaves old (one was) → Leaves new (one (after was change))) →
+      (IsNext was change → Leaves old (one was) → HoldsNow new (after was change)) → Did old new was roster (after was change) (Ok a)
+  did_keep roster a is command ok made =
+      let kept : Keeps new (after was change) = record {
+        kept = λ c. let n = next (clean c) in kept_after was n.key n.order change n.reply command (keeps.kept (clean c)) n.accepted;
+        leaves = record { crash = λ c trees may. (ok (next (clean c)) keeps.leaves).crash c trees may };
+        some = some;
+      } in
+      let shown : HoldsNow new (after was change) = λ c. made (next (clean c)) keeps.leaves c in
+      record {
+        clean = clean;
+        some = some;
+        done = (is, subst (λ (x : State). Keeps new x) (sym is) kept, λ _. subst (λ (x : State). HoldsNow new x) (sym is) shown);
+      }
+
+  -- it was not, or nobody knows
+  pub did_fail : {A B : Type 0} (fault : StoreFault) →
+      (Leaves old (one was) → ◌≡◌ {A = Result B StoreFault} (Err fault) (Err Memory) → Leaves new (one was)) →
+      (IsNext was change → Leaves old (one was) → ◌≡◌ {A = Result B StoreFault} (Err fault) (Err Store) → Leaves new (either was (after was change))) → Did {A = A} old new was was (after was change) (Err fault)
+  did_fail Memory memory store = record {
+    clean = clean;
+    some = some;
+    done = (refl, record { kept = λ c. keeps.kept (clean c); leaves = memory keeps.leaves refl; some = some });
+  }
+  did_fail Store memory store = record {
+    clean = clean;
+    some = some;
+    done = record { crash = λ c trees may. (store (next (clean c)) keeps.leaves refl).crash c trees may };
+  }
+
+-- the same, where the state that was wanted has another name
+pub did_as : {A : Type 0} (old new : conn.State) (was roster wanted other : State) (result : Result A StoreFault) → wanted ≡ other → Did old new was roster wanted result → Did old new was roster other result
+did_as old new was roster wanted other result same did = subst (λ (x : State). Did old new was roster x result) same did
+
+-- and the answer is another
+pub did_with : {A B : Type 0} (old new : conn.State) (was roster wanted : State) (a : A) (b : B) → Did old new was roster wanted (Ok a) → Did old new was roster wanted (Ok b)
+did_with old new was roster wanted a b did = record { clean = did.clean; some = did.some; done = did.done }
+
+pub did_with_fault : {A B : Type 0} (old new : conn.State) (was other wanted : State) (fault : StoreFault) → Did {A = A} old new was other wanted (Err fault) → Did {A = B} old new was other wanted (Err fault)
+did_with_fault old new was other wanted Memory did = record { clean = did.clean; some = did.some; done = did.done }
+did_with_fault old new was other wanted Store did = record { clean = did.clean; some = did.some; done = did.done }
+
+-- ---- What is told
+
+-- a book that hasn't failed is at its roster
+roster_kept : {A : Type 0} (old new : conn.State) (was roster wanted : State) (result : Result A StoreFault) → Done old new was roster wanted result → is_store_fault result ≡ false → Keeps new roster
+roster_kept old new was roster wanted (Ok a) done is = done.1
+roster_kept old new was roster wanted (Err Memory) done is = done.1
+roster_kept old new was roster wanted (Err Store) done is = absurd (cc)
+
+pub closes : {A : Type 0} (old new : conn.State) (was roster wanted : State) (result : Result A StoreFault) → Did old new was roster wanted result → LeavesSome new × (is_store_fault result ≡ false → Keeps new roster)
+closes old new was roster wanted result did = (did.some, roster_kept old new was roster wanted result did.done)
+
+module _ (old new : conn.State) (was : State) (of : State → State) (held : Keeps old was) (s : State) (keeps : Keeps old s) (clean : HasCleanDisk new → HasCleanDisk old) where
+  pub told_ok : {A : Type 0} (roster : State) (result : Result A StoreFault) → Done old new was roster (of was) result → OnOk result (Keeps new (of s))
+  told_ok roster (Ok a) done = keeps_as old new s was held keeps clean of roster done.1 done.0
+  told_ok roster (Err fault) done = tt
+
+  pub told_tables : {A : Type 0} (roster : State) (result : Result A StoreFault) → Done old new was roster (of was) result → HoldsNow old s → OnOk result (HoldsNow new (of s))
+  told_tables roster (Ok a) done shown = shows_as old new s was held keeps clean of roster (done.2 (shown_before old s was keeps held shown)) done.0
+  told_tables roster (Err fault) done shown = tt
+
+  pub told_memory : {A : Type 0} (roster : State) (result : Result A StoreFault) → Done old new was roster (of was) result → result ≡ Err Memory → Keeps new s
+  told_memory roster (Ok a) done is = absurd (cc)
+  told_memory roster (Err Memory) done is = keeps_as old new s was held keeps clean (λ x. x) roster done.1 done.0
+  told_memory roster (Err Store) done is = absurd (cc)
+
+  pub told_store : {A : Type 0} (roster : State) (result : Result A StoreFault) → Done old new was roster (of was) result → result ≡ Err Store → Leaves new (either s (of s))
+  told_store roster (Ok a) done is = absurd (cc)
+  told_store roster (Err Memory) done is = absurd (cc)
+  told_store roster (Err Store) done is = either_as old new s was held keeps clean of done
+
+  pub told_reply : {A B : Type 0} (result : Result A StoreFault) (answer : A → B) (reply : State → B) → IfOk result (λ a. answer a ≡ reply was) → HasCleanDisk new → IfOk result (λ a. answer a ≡ reply s)
+  told_reply (Ok a) answer reply is c = is ∙ ap reply (same_state old was s held keeps (clean c))
+  told_reply (Err fault) answer reply is c = tt

@@ -1,0 +1,4 @@
+pub mod States
+pub mod Asked
+pub mod Runs
+pub mod SessionLemmas

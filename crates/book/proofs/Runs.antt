@@ -1,0 +1,48 @@
+-- Commands in turn, up to one more.
+use Rattle.std.proofs.Common.{◌≡◌, ◌<◌, ℕ, zero, suc, ◌+◌, List, [], ◌∷◌, ◌++◌, Result, length, take, get_or, refl, ap, subst, sym, ◌∙◌, add-one, arith, inl, inr}
+use Rattle.sqlite.specs.State as conn
+use Rattle.sqlite.specs.State.{HasCleanDisk}
+use Rattle.command.specs.declared.exceedance.Reply.{Reply}
+use Rattle.command.specs.declared.refusal.Refusal.{Refusal}
+use Rattle.roster.specs.Folds.{Asked, Fold, Replies, answer_of, next}
+use Rattle.roster.specs.Honest.{Honest}
+use Rattle.roster.specs.Sound.{Sound}
+use Rattle.roster.specs.State.{State}
+use Rattle.roster.specs.Steps.{step_of}
+use Rattle.store.specs.Outcomes.{Leaves, either, one}
+
+fold_suc : (s : State) (l : List Asked) (i : ℕ) (a : Asked) → i < length l → Fold s (take (suc i) l) ≡ next (Fold s (take i l)) (get_or l i a)
+fold_suc s [] i a h = absurd (omega arith)
+fold_suc s (x ∷ l) zero a h = refl
+fold_suc s (x ∷ l) (suc i) a h = fold_suc (next s x) l i a (omega arith)
+
+-- what one of them is answered
+abbrev pub answer_in : State → Asked → Result Reply Refusal
+answer_in s a = answer_of (step_of s a.0 a.1)
+
+replies_suc : (s : State) (l : List Asked) (i : ℕ) (a : Asked) → i < length l → take (suc i) (Replies s l) ≡ take i (Replies s l) ++ answer_in (Fold s (take i l)) (get_or l i a) ∷ []
+replies_suc s [] i a h = absurd (omega arith)
+replies_suc s ((key, order) ∷ l) zero a h = refl
+replies_suc s ((key, order) ∷ l) (suc i) a h = ap (λ t. answer_of (step_of s key order) ∷ t) (replies_suc (next s (key, order)) l i a (omega arith))
+
+pub fold_more : (s : State) (l : List Asked) (i : ℕ) (a : Asked) → i < length l → Fold s (take (i + 1) l) ≡ next (Fold s (take i l)) (get_or l i a)
+fold_more s l i a h = subst (λ n. Fold s (take n l) ≡ next (Fold s (take i l)) (get_or l i a)) (sym (add-one i)) (fold_suc s l i a h)
+
+pub replies_more : (s : State) (l : List Asked) (i : ℕ) (a : Asked) → i < length l → take (i + 1) (Replies s l) ≡ take i (Replies s l) ++ answer_in (Fold s (take i l)) (get_or l i a) ∷ []
+replies_more s l i a h = subst (λ n. take n (Replies s l) ≡ take i (Replies s l) ++ answer_in (Fold s (take i l)) (get_or l i a) ∷ []) (sym (add-one i)) (replies_suc s l i a h)
+
+-- ---- What is left is honest
+
+pub one_honest : (now : conn.State) (s : State) → Leaves now (one s) → Honest s → Leaves now Honest
+one_honest now s leaves honest = record {
+  crash = λ clean trees may. let it = leaves.crash clean trees may in (it.0, subst Honest (sym it.1) honest, it.2);
+}
+
+either_one : (s t r : State) → either s t r → Honest s → Honest t → Honest r
+either_one s t r (inl is) first second = subst Honest (sym is) first
+either_one s t r (inr is) first second = subst Honest (sym is) second
+
+pub either_honest : (now : conn.State) (s t : State) → Leaves now (either s t) → Honest s → Honest t → Leaves now Honest
+either_honest now s t leaves first second = record {
+  crash = λ clean trees may. let it = leaves.crash clean trees may in (it.0, either_one s t it.0 it.1 first second, it.2);
+}

@@ -1,0 +1,156 @@
+-- A state that tables may mean stays one after each command, and is the only one that they mean.
+use Rattle.std.proofs.Common.{◌≡◌, ◌⊎◌, inl, inr, refl, sym, ap, subst, ◌∙◌, ℕ, Bool, IsTrue, true, false, cond, List, Option, Some, None}
+use Rattle.std.specs.FinMap as fin
+use Rattle.std.specs.Ordering.{eq_by_cmp}
+use Rattle.std.proofs.Math.Logic.{∥∥₁_elim}
+use Rattle.std.specs.Coded.{Coded-set}
+use Rattle.std.proofs.lemmas.Bool.{cases_Bool}
+use Rattle.values.specs.Name.{name_cmp}
+use Rattle.sqlite_schema.specs.declared.schema.Schema.{Schema}
+use Rattle.sqlite_trees.specs.Objects.{catalog_tree}
+use Rattle.sqlite_trees.specs.Tree.{Trees}
+use Rattle.sqlite_catalog.proofs.ReadLemmas.{lists_once}
+use Rattle.sqlite.specs.State as conn
+use Rattle.sqlite.specs.State.{HasCleanDisk}
+use Rattle.command.specs.Keys.{KeyParts, key_name}
+use Rattle.command.specs.Orders.{IsMade}
+use Rattle.command.specs.declared.exceedance.Reply.{Reply}
+use Rattle.command.specs.declared.order.Order.{Order}
+use Rattle.command.specs.declared.refusal.Refusal.{Refusal}
+use Rattle.codec.specs.Instants.{order_has_instants}
+use Rattle.codec.specs.Laws.{IsCommand}
+use Rattle.roster.proofs.Accepted.{accepted}
+use Rattle.roster.proofs.KeepsHonest.{keeps_honest}
+use Rattle.roster.proofs.MadeByCommands.{starts_sound}
+use Rattle.roster.proofs.Requests.{get-after}
+use Rattle.roster.proofs.Sound.{keeps_sound}
+use Rattle.roster.specs.Folds.{left_by, next}
+use Rattle.roster.specs.Honest.{Honest}
+use Rattle.roster.specs.Sound.{Sound}
+use Rattle.roster.specs.State.{State, empty}
+use Rattle.roster.specs.Steps.{after, step_of}
+use Rattle.roster.specs.declared.change.Change.{Change}
+use Rattle.roster.specs.contracts.state.Roster as roster_type
+use Rattle.roster.specs.declared.change.Verdict.{Verdict}
+use Rattle.roster.specs.declared.change.Verdict.TheVariants.{Accept, Refuse, Repeat}
+use Rattle.roster.specs.declared.state.Request.{Request}
+use Rattle.loading.specs.SameRows.{HasInstants}
+use Rattle.loading.proofs.SameStates.{database_holds_one_state}
+use Rattle.store.specs.Kept.{IsBookOf, Holds}
+use Rattle.store.specs.Next.{IsNext}
+use Rattle.store.specs.Outcomes.{AddsNothing, HoldsNow, Leaves, LeavesSome, either, one}
+use Rattle.book.specs.Kept.{IsKept, Keeps}
+
+some_same : {A : Type 0} {a b : A} → Some a ≡ Some b → a ≡ b
+some_same e = cc
+
+pub kept_after : (s : State) (key : KeyParts) (order : Order) (change : Change) (reply : Reply) → IsCommand change.command → IsKept s → step_of s key order ≡ Accept change reply → IsKept (after s change)
+kept_after s key order change reply is kept step =
+    let command : change.command ≡ order = ap (λ (c : Change). c.command) (accepted s key order change reply step).is in
+    let request : Request = record { command = change.command; reply = change.reply } in
+    record {
+      sound = keeps_sound s key order change reply (subst IsMade command is.0) kept.sound step;
+      instants = λ name r here.
+          let told : cond (eq_by_cmp name_cmp name (key_name change.key)) (Some request) (fin.get s.requests name) ≡ Some r = sym (get-after s change name) ∙ here in
+          elim (cases_Bool (eq_by_cmp name_cmp name (key_name change.key))) [
+            | inl tied ↦
+                let e : Some request ≡ Some r = ap (λ b. cond b (Some request) (fin.get s.requests name)) (sym tied) ∙ told in
+                subst (λ (q : Request). order_has_instants q.command ≡ true) (some_same e) is.1
+            | inr apart ↦ kept.instants name r (ap (λ b. cond b (Some request) (fin.get s.requests name)) (sym apart) ∙ told)
+          ];
+    }
+
+-- trees hold one such state at most
+pub one_held : (trees : Trees) (s t : State) → Holds trees s → Holds trees t → IsKept s → IsKept t → s ≡ t
+one_held trees s t p q a b =
+    let same : p.0 ≡ q.0 = lists_once (trees catalog_tree) p.0 q.0 p.1.database.lists q.1.database.lists in
+    let first : IsBookOf s (record { schema = q.0; trees = trees }) = subst (λ (schema : Schema). IsBookOf s (record { schema = schema; trees = trees })) same p.1 in
+    database_holds_one_state s t (record { schema = q.0; trees = trees }) a.sound b.sound a.instants b.instants first.rows q.1.rows
+
+pub one_state : (s t : State) → IsProp (s ≡ t)
+one_state s t = Coded-set (roster_type.the_row).coded s t
+
+-- a crash leaves one such state at most and nothing else
+pub same_state : (now : conn.State) (s t : State) → Keeps now s → Keeps now t → HasCleanDisk now → s ≡ t
+same_state now s t a b clean = ∥∥₁_elim (a.some clean) (one_state s t) (λ left.
+    let x = a.leaves.crash clean left.0 left.1 in
+    let y = b.leaves.crash clean left.0 left.1 in
+    one_held left.0 s t (subst (Holds left.0) x.1 x.2) (subst (Holds left.0) y.1 y.2) (a.kept clean) (b.kept clean))
+
+-- what was so of a crash stays so where it leaves nothing else
+pub still_leaves : (old new : conn.State) (P : State → Type 0) → AddsNothing old new → Leaves old P → Leaves new P
+still_leaves old new P left leaves = record { crash = λ clean trees may. leaves.crash (left.honest clean) trees (left.crash clean trees may) }
+
+pub still_keeps : (old new : conn.State) (s : State) → AddsNothing old new → LeavesSome new → Keeps old s → Keeps new s
+still_keeps old new s left some keeps = record {
+  kept = λ clean. keeps.kept (left.honest clean);
+  leaves = still_leaves old new (one s) left keeps.leaves;
+  some = some;
+}
+
+-- what was loaded
+pub loaded : (now : conn.State) (s : State) → (HasCleanDisk now → Sound s × HasInstants s) → Leaves now (one s) → LeavesSome now → Keeps now s
+loaded now s sound leaves some = record {
+  kept = λ clean. record { sound = (sound clean).0; instants = (sound clean).1 };
+  leaves = leaves;
+  some = some;
+}
+
+-- what was made
+begun_instants : (zone : List ℕ) → HasInstants (empty zone)
+begun_instants zone name r here = let none : None ≡ Some r = sym (fin.get-empty {X = Request} name_cmp name) ∙ here in cc
+
+pub begun : (now : conn.State) (zone : List ℕ) → Leaves now (one (empty zone)) → LeavesSome now → Keeps now (empty zone)
+begun now zone leaves some = record {
+  kept = λ _. record { sound = (starts_sound zone).0; instants = begun_instants zone };
+  leaves = leaves;
+  some = some;
+}
+
+pub one_of_either : (now : conn.State) (s t : State) → Leaves now (one s) → Leaves now (either s t)
+one_of_either now s t leaves = record { crash = λ clean trees may. let it = leaves.crash clean trees may in (it.0, inl it.1, it.2) }
+
+-- ---- A command
+
+module _ (s : State) (key : KeyParts) (order : Order) where
+  pub next_repeated : (reply : Reply) → Repeat reply ≡ step_of s key order → next s (key, order) ≡ s
+  next_repeated reply is = ap (left_by s) (sym is)
+
+  pub next_refused : (refusal : Refusal) → Refuse refusal ≡ step_of s key order → next s (key, order) ≡ s
+  next_refused refusal is = ap (left_by s) (sym is)
+
+  pub next_accepted : (change : Change) (reply : Reply) → Accept change reply ≡ step_of s key order → next s (key, order) ≡ after s change
+  next_accepted change reply is = ap (left_by s) (sym is)
+
+-- an honest state stays honest
+honest_after : (s : State) (key : KeyParts) (order : Order) (v : Verdict) → step_of s key order ≡ v → IsMade order → Sound s → Honest s → Sound (left_by s v) × Honest (left_by s v)
+honest_after s key order (Repeat reply) is made sound honest = (sound, honest)
+honest_after s key order (Accept change reply) is made sound honest =
+    (keeps_sound s key order change reply made sound is, keeps_honest s key order change reply made sound honest is)
+honest_after s key order (Refuse refusal) is made sound honest = (sound, honest)
+
+pub honest_next : (s : State) (key : KeyParts) (order : Order) → IsMade order → Sound s → Honest s → Sound (next s (key, order)) × Honest (next s (key, order))
+honest_next s key order made sound honest = honest_after s key order (step_of s key order) refl made sound honest
+
+-- ---- What is told of the state that a crash could leave
+
+-- the tables at hand mean it too
+pub shown_before : (old : conn.State) (s r : State) → Keeps old s → Keeps old r → HoldsNow old s → HoldsNow old r
+shown_before old s r keeps held shown clean = let it = shown clean in (it.0, subst (λ (x : State). IsBookOf x old.now) (same_state old s r keeps held clean) it.1)
+
+module _ (old new : conn.State) (s r : State) (held : Keeps old r) (keeps : Keeps old s) (honest : HasCleanDisk new → HasCleanDisk old) where
+  same : HasCleanDisk new → r ≡ s
+  same clean = same_state old r s held keeps (honest clean)
+
+  pub keeps_as : (of : State → State) (t : State) → Keeps new t → t ≡ of r → Keeps new (of s)
+  keeps_as of t now is = record {
+    kept = λ clean. subst IsKept (is ∙ ap of (same clean)) (now.kept clean);
+    leaves = record { crash = λ clean trees may. let it = now.leaves.crash clean trees may in (it.0, it.1 ∙ is ∙ ap of (same clean), it.2) };
+    some = now.some;
+  }
+
+  pub shows_as : (of : State → State) (t : State) → HoldsNow new t → t ≡ of r → HoldsNow new (of s)
+  shows_as of t shown is clean = let it = shown clean in (it.0, subst (λ (x : State). IsBookOf x new.now) (is ∙ ap of (same clean)) it.1)
+
+  pub either_as : (of : State → State) → Leaves new (either r (of r)) → Leaves new (either s (of s))
+  either_as of now = record { crash = λ clean trees may. subst (λ (x : State). (t : State) × either x (of x) t × Holds trees t) (same clean) (now.crash clean trees may) }

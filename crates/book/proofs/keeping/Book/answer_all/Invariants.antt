@@ -1,0 +1,23 @@
+use Rattle.std.proofs.Common.{◌≡◌, ◌≤◌, false, length, map, take}
+use Rattle.std.specs.Vec.{vec_capacity}
+use Rattle.sqlite.specs.Held.{state}
+use Rattle.roster.specs.Folds.{Fold, Replies}
+use Rattle.roster.specs.Honest.{Honest}
+use Rattle.roster.specs.Sound.{Sound}
+use Rattle.roster.specs.State.{State}
+use Rattle.store.specs.Outcomes.{LeavesSome}
+use Rattle.book.specs.Kept.{HasTables, IsAt, IsClean, result_of}
+use Rattle.book.proofs.keeping.Book.answer_all.Given as goal
+
+abbrev pub invariant-loop-key : goal.invariant-loop-key
+invariant-loop-key g l = record {
+  count : length l.answers.items ≡ l.key-index;
+  room : length l.commands ≤ vec_capacity l.answers;
+  unfailed : l.self.failed ≡ false;
+  clean : IsClean g.S.Store l.self → IsClean g.S.Store l.initial.self;
+  some : LeavesSome (state g.S.Store l.self.held);
+  replies : (s : State) → IsAt g.S.Store l.initial.self s → IsClean g.S.Store l.self → map result_of l.answers.items ≡ take l.key-index (Replies s l.commands);
+  outcome : (s : State) → IsAt g.S.Store l.initial.self s → IsAt g.S.Store l.self (Fold s (take l.key-index l.commands));
+  tables : (s : State) → IsAt g.S.Store l.initial.self s → HasTables g.S.Store l.initial.self s → HasTables g.S.Store l.self (Fold s (take l.key-index l.commands));
+  honest : (s : State) → Sound s → Honest s → Sound (Fold s (take l.key-index l.commands)) × Honest (Fold s (take l.key-index l.commands));
+}

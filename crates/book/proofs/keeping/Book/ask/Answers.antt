@@ -1,0 +1,58 @@
+use Rattle.std.proofs.Common.{◌≡◌, ◌∙◌, Err, sym}
+use Rattle.sqlite.specs.Held.{state}
+use Rattle.roster.specs.Folds.{Stopped, answer_of, next}
+use Rattle.roster.specs.State.{State}
+use Rattle.roster.specs.Steps.{step_of}
+use Rattle.book.specs.Kept.{result_of}
+use Rattle.book.proofs.States.{honest_next, one_of_either}
+use Rattle.book.proofs.Asked.{closes, told_ok, told_tables, told_memory, told_store, told_reply}
+use Rattle.book.proofs.SessionLemmas.{adds_one}
+use Rattle.book.proofs.keeping.Book.ask.Goals as goal
+
+pub invariant_of-self : goal.invariant_of-self
+invariant_of-self g c =
+    let all =
+    closes (state g.S.Store c.self.inside.store) (state g.S.Store c.answer-answer.new.store) c.self.inside.roster c.answer-answer.new.roster (next c.self.inside.roster (c.args.key, c.args.command.now)) c.answer-answer.result c.answer-answer.ensures.did in
+    (all.0, λ is. all.1 (sym c.is_of_store-self-inside.ensures ∙ is))
+
+pub returns-clause-answered : goal.returns-clause-answered
+returns-clause-answered g c = rw (← c.self.view_is) (λ s at.
+    told_ok (state g.S.Store c.self.inside.store) (state g.S.Store c.answer-answer.new.store) c.self.inside.roster (λ (x : State). next x (c.args.key, c.args.command.now)) (c.self.invariant.1 c.if-self.false) s at
+    c.answer-answer.ensures.did.clean c.answer-answer.new.roster c.answer-answer.result c.answer-answer.ensures.did.done)
+
+pub returns-clause-tables : goal.returns-clause-tables
+returns-clause-tables g c = rw (← c.self.view_is) (λ s at.
+    told_tables (state g.S.Store c.self.inside.store) (state g.S.Store c.answer-answer.new.store) c.self.inside.roster (λ (x : State). next x (c.args.key, c.args.command.now)) (c.self.invariant.1 c.if-self.false) s at
+    c.answer-answer.ensures.did.clean c.answer-answer.new.roster c.answer-answer.result c.answer-answer.ensures.did.done)
+
+pub returns-clause-memory : goal.returns-clause-memory
+returns-clause-memory g c = rw (← c.self.view_is) (λ s at.
+    told_memory (state g.S.Store c.self.inside.store) (state g.S.Store c.answer-answer.new.store) c.self.inside.roster (λ (x : State). next x (c.args.key, c.args.command.now)) (c.self.invariant.1 c.if-self.false) s at
+    c.answer-answer.ensures.did.clean c.answer-answer.new.roster c.answer-answer.result c.answer-answer.ensures.did.done)
+
+pub returns-clause-store : goal.returns-clause-store
+returns-clause-store g c = rw (← c.self.view_is) (λ s at.
+    told_store (state g.S.Store c.self.inside.store) (state g.S.Store c.answer-answer.new.store) c.self.inside.roster (λ (x : State). next x (c.args.key, c.args.command.now)) (c.self.invariant.1 c.if-self.false) s at
+    c.answer-answer.ensures.did.clean c.answer-answer.new.roster c.answer-answer.result c.answer-answer.ensures.did.done)
+
+pub returns-clause-reply : goal.returns-clause-reply
+returns-clause-reply g c = rw (← c.self.view_is) (λ s at clean.
+    told_reply (state g.S.Store c.self.inside.store) (state g.S.Store c.answer-answer.new.store) c.self.inside.roster (λ (x : State). next x (c.args.key, c.args.command.now)) (c.self.invariant.1 c.if-self.false) s at
+    c.answer-answer.ensures.did.clean c.answer-answer.result result_of (λ (x : State). answer_of (step_of x c.args.key c.args.command.now)) c.answer-answer.ensures.reply clean)
+
+pub returns-clause-honest : goal.returns-clause-honest
+returns-clause-honest g c s sound honest = honest_next s c.args.key c.args.command.now c.order-made.ensures.made sound honest
+
+pub returns-then-self-clause-honest : goal.returns-then-self-clause-honest
+returns-then-self-clause-honest g c s sound honest = honest_next s c.args.key c.args.command.now c.order-made.ensures.made sound honest
+
+pub returns-then-self-clause-store : goal.returns-then-self-clause-store
+returns-then-self-clause-store g c s at is = one_of_either (state g.S.Store c.args.self.now.held) s (next s (c.args.key, c.args.command.now)) at.leaves
+
+pub returns-clause-sessions : goal.returns-clause-sessions
+returns-clause-sessions g c s before at =
+    adds_one _ s before (c.args.key, c.args.command.now) c.answer-answer.result (returns-clause-answered g c (Stopped s before) at) (returns-clause-memory g c (Stopped s before) at) (returns-clause-store g c (Stopped s before) at)
+
+pub returns-then-self-clause-sessions : goal.returns-then-self-clause-sessions
+returns-then-self-clause-sessions g c s before at =
+    adds_one _ s before (c.args.key, c.args.command.now) _ tt (λ is. absurd (cc)) (returns-then-self-clause-store g c (Stopped s before) at)

@@ -1,0 +1,7 @@
+use Rattle.roster.specs.Folds.{Stopped}
+use Rattle.book.proofs.SessionLemmas.{adds_session}
+use Rattle.book.proofs.keeping.Book.run.Goals as goal
+
+pub returns-clause-sessions : goal.returns-clause-sessions
+returns-clause-sessions g c s before at =
+    adds_session _ s before _ _ c.answer_all.ensures.count _ c.answer_all.ensures.whole (c.answer_all.ensures.outcome (Stopped s before) at)

@@ -1,0 +1,84 @@
+-- What contracts see of a book, and what a crash leaves of it.
+use Rattle.std.specs.Prelude.{◌≡◌, ℕ, ◌+◌, take, Bool, true, false, List, Result, Ok, Err, Option, Some, None, refl}
+use Rattle.std.specs.Coded.{Coded, code_by, coded×, coded_bool}
+use Rattle.sqlite_trees.specs.declared.store.Store.{Ghosts}
+use Rattle.sqlite.specs.State as conn
+use Rattle.sqlite.specs.State.{HasCleanDisk}
+use Rattle.sqlite.specs.Held.{Held, held_code, state}
+use Rattle.command.specs.declared.exceedance.Reply.{Reply}
+use Rattle.command.specs.declared.refusal.Refusal.{Refusal}
+use Rattle.roster.specs.Folds.{Asked, Fold}
+use Rattle.roster.specs.Sound.{Sound}
+use Rattle.roster.specs.State.{State}
+use Rattle.loading.specs.Loading.{IsRight}
+use Rattle.loading.specs.Rows.{request}
+use Rattle.loading.specs.SameRows.{HasInstants}
+use Rattle.loading.specs.declared.fault.StoreFault.{StoreFault}
+use Rattle.loading.specs.declared.fault.StoreFault.TheVariants.{Store, Memory}
+use Rattle.store.specs.Outcomes.{Leaves, LeavesSome, HoldsNow, one, either}
+use Rattle.book.specs.declared.answer.Answer.{Answer}
+use Rattle.book.specs.declared.answer.Answer.TheVariants.{Accepted, Refused}
+
+-- what its store holds, and whether it has answered a store's fault
+pub record Kept (S : Type 0) : Type 0 where
+  pub held : Held S
+  pub failed : Bool
+
+abbrev pub kept_code : {S : Type 0} → Coded S → Coded (Kept S)
+kept_code {S} store = code_by (Held S × Bool) (coded× (held_code store) coded_bool) (λ k. (k.held, k.failed)) (λ p. record { held = p.0; failed = p.1 }) (λ _. refl)
+
+module _ {S : Type 0} (g : Ghosts S) (book : Kept S) where
+  -- the disk has returned what was written
+  abbrev pub IsClean : Type 0
+  IsClean = HasCleanDisk (state g book.held)
+
+  -- its tables are there, and mean this state
+  abbrev pub HasTables : State → Type 0
+  HasTables s = HoldsNow (state g book.held) s
+
+-- a state that tables may mean: it is sound, and its kept commands have the instants of their type
+pub record IsKept (s : State) : Type 0 where
+  pub sound : Sound s
+  pub instants : HasInstants s
+
+-- a crash leaves this state, which tables may mean, and nothing else
+pub record Keeps (now : conn.State) (s : State) : Type 0 where
+  pub kept : HasCleanDisk now → IsKept s
+  pub leaves : Leaves now (one s)
+  pub some : LeavesSome now
+
+module _ {S : Type 0} (g : Ghosts S) (book : Kept S) where
+  -- a crash leaves this state
+  abbrev pub IsAt : State → Type 0
+  IsAt s = Keeps (state g book.held) s
+
+  -- or one of these two
+  abbrev pub IsInDoubt : State → State → Type 0
+  IsInDoubt s t = Leaves (state g book.held) (either s t)
+
+-- the tables that were found mean a state; they still do, and a crash leaves it and nothing else
+pub record Means (found now : conn.State) : Type 0 where
+  pub it : State
+  pub right : HasCleanDisk now → IsRight request it found.now
+  pub shown : HoldsNow now it
+  pub keeps : Keeps now it
+
+-- ---- Answers
+
+abbrev pub result_of : Answer → Result Reply Refusal
+result_of (Accepted reply) = Ok reply
+result_of (Refused refusal) = Err refusal
+
+abbrev pub is_store_fault : {A : Type 0} → Result A StoreFault → Bool
+is_store_fault (Err Store) = true
+is_store_fault _ = false
+
+abbrev pub is_some_store_fault : Option StoreFault → Bool
+is_some_store_fault (Some Store) = true
+is_some_store_fault _ = false
+
+-- what is left of a list of commands of which so many were answered
+abbrev pub Ends : conn.State → State → List Asked → ℕ → Option StoreFault → Type 0
+Ends now s l n None = Keeps now (Fold s l)
+Ends now s l n (Some Memory) = Keeps now (Fold s (take n l))
+Ends now s l n (Some Store) = Leaves now (either (Fold s (take n l)) (Fold s (take (n + 1) l)))

@@ -1,0 +1,4 @@
+pub mod Kept
+pub mod Asking
+pub mod Found
+pub mod Sessions

@@ -1,0 +1,92 @@
+//! A book in a file.
+
+ghost use Rattle.std.specs.Prelude.{◌≡◌, ◌≢◌, false, IfOk};
+ghost use Rattle.sqlite_wal.specs.Files.{image_at};
+ghost use Rattle.sqlite.specs.Files.{IsOpened, file_state, over_files};
+ghost use Rattle.sqlite.specs.Start.{FindsIn};
+ghost use Rattle.sqlite.specs.State.{HasCleanDisk};
+ghost use Rattle.store.specs.Outcomes.{IsOutside};
+ghost use Rattle.book.specs.Kept.{IsClean};
+ghost use Rattle.book.specs.Found.{MeansWhatIsIn};
+
+use crate::keeping::Book;
+use sqlite::{Connection, Error, ErrorCode, FileFrom, FileStore, Start, Wary};
+use std::fs::exists;
+use store::{CreateFault, LoadFault, StoreFault};
+use time117::Zone;
+
+/// A book in the files of a path: the database, and its log beside it. Of a write that a crash tears nothing is supposed.
+pub type FileBook = Book<FileStore<FileFrom<Wary>>>;
+
+impl<S: Start> Book<FileStore<FileFrom<S>>> {
+    /// Opens the file of a path and takes up the book in it, as [`Book::adopt`] does. A file that isn't there is no book (40),
+    /// and isn't made; one that `sqlite` doesn't open is 90, or 91 where it finds no memory. `start` stands for what the files
+    /// hold.
+    pub fn open_from(
+        rt: &HostRuntime,
+        path: &str,
+        start: S,
+    ) -> Result<Book<FileStore<FileFrom<S>>>, LoadFault>
+        ensures fresh { IfOk result (λ b. b.failed ≡ false) }
+        ensures means { IfOk result (λ b. IsClean over_files b → MeansWhatIsIn (image_at S.Start) (file_state b.held)) }
+    {
+        if matches!(exists(rt, path), Ok(false)) {
+            return Err(LoadFault::NotABook);
+        }
+        let conn = connect(rt, path, start).map_err(LoadFault::Fault)?;
+        match Book::adopt(rt.alloc(), conn) {
+            Ok(book) => Ok(book),
+            Err((fault, _conn)) => Err(fault),
+        }
+    }
+}
+
+impl FileBook {
+    /// The same, of the file that is there.
+    pub fn open(rt: &HostRuntime, path: &str) -> Result<FileBook, LoadFault>
+        ensures fresh { IfOk result (λ b. b.failed ≡ false) }
+    {
+        Book::open_from(rt, path, Wary)
+    }
+}
+
+/// Makes an empty book of a zone in a new or empty file, as [`Book::create`] does, and closes it. A file that `sqlite` doesn't
+/// open is 90, or 91 where it finds no memory.
+pub fn create_file(rt: &HostRuntime, path: &str, zone: Zone) -> Result<(), CreateFault> {
+    let conn = connect(rt, path, Wary)?;
+    match Book::create(rt.alloc(), conn, zone) {
+        Ok(book) => {
+            // What is committed stands in the log, whether or not it is copied into the database now.
+            let _ = book.into_connection().close();
+            Ok(())
+        }
+        Err((fault, _conn)) => Err(fault),
+    }
+}
+
+/// A connection to the files of a path, which are made where they are not there.
+fn connect<S: Start>(
+    rt: &HostRuntime,
+    path: &str,
+    start: S,
+) -> Result<Connection<FileStore<FileFrom<S>>>, StoreFault>
+    ensures opened { IfOk result (λ c. HasCleanDisk (file_state c) → IsOpened c) }
+    ensures found { IfOk result (λ c. HasCleanDisk (file_state c) → FindsIn (image_at S.Start) (file_state c)) }
+    ensures outside { IfOk result (λ c. IsOutside (file_state c)) }
+{
+    match Connection::open_from(rt, path, false, start) {
+        Ok(conn) => Ok(conn),
+        Err((error, _left)) => Err(fault_of(error)),
+    }
+}
+
+/// What a refused opening is: 91 for want of memory, and else 90.
+fn fault_of(error: Error) -> StoreFault
+    ensures memory { error ≡ Error.SqliteFailure ErrorCode.OutOfMemory → result ≡ StoreFault.Memory }
+    ensures store { error ≢ Error.SqliteFailure ErrorCode.OutOfMemory → result ≡ StoreFault.Store }
+{
+    match error {
+        Error::SqliteFailure(ErrorCode::OutOfMemory) => StoreFault::Memory,
+        _ => StoreFault::Store,
+    }
+}

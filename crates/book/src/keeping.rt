@@ -1,0 +1,291 @@
+ghost use Rattle.std.specs.Prelude.{◌≡◌, ◌≤◌, ◌⊎◌, ◌||◌, false, [], ◌∷◌, Err, IfErr, IfOk, IsErrAnd, IsTrue, List, None, OnOk, Some, length, map, take};
+ghost use Rattle.std.specs.FinMap as fin;
+ghost use Rattle.sqlite.specs.Held.{state};
+ghost use Rattle.sqlite.specs.State.{HasCleanDisk, IsUnchanged};
+ghost use Rattle.command.specs.Keys.{key_name};
+ghost use Rattle.roster.specs.Folds.{Fold, Replies, Session, Stopped, answer_of, next};
+ghost use Rattle.roster.specs.Honest.{Honest};
+ghost use Rattle.roster.specs.Sound.{Sound};
+ghost use Rattle.roster.specs.State.{State, empty};
+ghost use Rattle.roster.specs.Steps.{after, step_of};
+ghost use Rattle.loading.specs.Loading.{Says};
+ghost use Rattle.store.specs.Next.{IsNext};
+ghost use Rattle.store.specs.Kept.{KeepPlain};
+ghost use Rattle.store.specs.Making.{IsFree};
+ghost use Rattle.store.specs.Outcomes.{AddsNothing, AddsOnly, IsOutside, Leaves, LeavesOnly, LeavesSome, MayAdd};
+ghost use Rattle.book.specs.Asking.{Did};
+ghost use Rattle.book.specs.Sessions.{IsAfter, count_of, fault_of};
+ghost use Rattle.book.specs.Kept.{Ends, HasTables, IsAt, IsClean, IsInDoubt, Keeps, Means, is_store_fault, is_some_store_fault, result_of};
+
+use crate::answer::{Answer, Run};
+use command::{Command, Key};
+use roster::{Change, Roster, Verdict};
+use sqlite::{Alter, Connection};
+use std::alloc::Global;
+use std::marker::Model;
+use store::{CreateFault, LoadFault, Store, StoreFault};
+use time117::Zone;
+use values::{Copied, MemoryFault};
+
+/// A book: it judges each command by what its tables mean, and keeps what it accepts. Contracts see what its store holds,
+/// and whether it has answered a fault of the store.
+pub struct Book<S: Alter> {
+    store: Store<S>,
+    roster: Roster,
+    failed: bool,
+}
+
+impl<S: Alter + Drop> Drop for Book<S> {
+    fn drop(self) {
+        let Book {
+            store: _,
+            roster: _,
+            failed: _,
+        } = self;
+    }
+}
+
+impl<S: Alter> Model for Book<S> {
+    ghost use Rattle.std.specs.Prelude.{◌≡◌, false};
+    ghost use Rattle.sqlite.specs.Held.{state};
+    ghost use Rattle.store.specs.Outcomes.{LeavesSome};
+    ghost use Rattle.book.specs.Kept.{Kept, Keeps, kept_code};
+
+    ghost Value = { Kept S };
+
+    ghost coded = { kept_code S.code };
+
+    ghost view = { λ b. record { held = b.store; failed = b.failed } };
+
+    ghost invariant = { λ b. LeavesSome (state S.Store b.store) × (b.failed ≡ false → Keeps (state S.Store b.store) b.roster) };
+}
+
+impl<S: Alter> Book<S> {
+    /// Makes an empty book of a zone. Refused is what [`Store::create`] refuses (43, 90, 91); then the connection is handed
+    /// back.
+    pub fn create(
+        alloc: Global,
+        conn: Connection<S>,
+        zone: Zone,
+    ) -> Result<Book<S>, (CreateFault, Connection<S>)>
+        requires { IsOutside (state S.Store conn) }
+        ensures fresh { IfOk result (λ b. b.failed ≡ false) }
+        ensures made { IfOk result (λ b. IsAt S.Store b (empty zone)) }
+        ensures tables { IfOk result (λ b. HasTables S.Store b (empty zone)) }
+        ensures refused { (¬ IsFree (state S.Store conn).now.schema) → IsErrAnd result (λ e. e.0 ≡ CreateFault.NotEmpty) }
+        ensures not_empty { IfErr result (λ e. e.0 ≡ CreateFault.NotEmpty → (¬ IsFree (state S.Store conn).now.schema) × (e.1 ≡ conn)) }
+        ensures memory { IfErr result (λ e. e.0 ≡ CreateFault.Fault StoreFault.Memory → AddsNothing (state S.Store conn) (state S.Store e.1)) }
+        ensures store { IfErr result (λ e. MayAdd (state S.Store conn) (state S.Store e.1) (empty zone)) }
+        ensures alone { IfOk result (λ b. LeavesOnly (state S.Store b.held) (KeepPlain (state S.Store conn).now)) }
+        ensures others { IfErr result (λ e. AddsOnly (state S.Store conn) (state S.Store e.1) (KeepPlain (state S.Store conn).now)) }
+        ensures outside { IfErr result (λ e. IsOutside (state S.Store e.1)) }
+    {
+        let Ok(roster) = Roster::empty(alloc, zone) else {
+            return Err((CreateFault::Fault(StoreFault::Memory), conn));
+        };
+        match Store::create(alloc, conn, &roster.zone) {
+            Ok(store) => Ok(Book::over(store, roster)),
+            Err(refused) => Err(refused),
+        }
+    }
+
+    /// Takes up the book that a crash or anybody left, and changes nothing. Refused is what [`Store::load`] refuses (40, 41,
+    /// 42, 90, 91); then the connection is handed back.
+    pub fn adopt(alloc: Global, conn: Connection<S>) -> Result<Book<S>, (LoadFault, Connection<S>)>
+        requires { IsOutside (state S.Store conn) }
+        ensures fresh { IfOk result (λ b. b.failed ≡ false) }
+        ensures means { IfOk result (λ b. Means (state S.Store conn) (state S.Store b.held)) }
+        ensures same { (s : State) → Keeps (state S.Store conn) s → IfOk result (λ b. IsAt S.Store b s) }
+        ensures unchanged { IfOk result (λ b. IsClean S.Store b → IsUnchanged (state S.Store conn) (state S.Store b.held)) }
+        ensures left { IfOk result (λ b. AddsNothing (state S.Store conn) (state S.Store b.held)) }
+        ensures refused { IfErr result (λ e. HasCleanDisk (state S.Store e.1) → Says e.0 (state S.Store conn).now) }
+        ensures kept { IfErr result (λ e. AddsNothing (state S.Store conn) (state S.Store e.1)) }
+        ensures outside { IfErr result (λ e. IsOutside (state S.Store e.1)) }
+    {
+        match Store::load(alloc, conn) {
+            Ok((store, roster)) => Ok(Book::over(store, roster)),
+            Err(refused) => Err(refused),
+        }
+    }
+
+    /// A book that has not failed, over a store whose tables mean this roster.
+    fn over(store: Store<S>, roster: Roster) -> Book<S>
+        requires { Keeps (state S.Store store) roster }
+        ensures held { result.held ≡ store }
+        ensures fresh { result.failed ≡ false }
+    {
+        Book {
+            store,
+            roster,
+            failed: false,
+        }
+    }
+
+    /// Whether it has answered a fault of the store (90).
+    pub fn failed(&self) -> bool
+        ensures { result ≡ self.now.failed }
+    {
+        self.failed
+    }
+
+    /// The connection, with nothing changed.
+    pub fn into_connection(self) -> Connection<S>
+        ensures same { result ≡ self.held }
+        ensures outside { IsOutside (state S.Store result) }
+    {
+        let Book {
+            store,
+            roster: _,
+            failed: _,
+        } = self;
+        store.into_connection()
+    }
+
+    /// Answers a command. After want of memory (91) nothing is changed; after a fault of the store (90) it is kept or not,
+    /// and each later call answers 90.
+    pub fn ask(&mut self, alloc: Global, key: Key, command: &Command) -> Result<Answer, StoreFault>
+        ensures failed { self.new.failed ≡ (self.old.failed || is_store_fault result) }
+        ensures shut { IsTrue self.old.failed → (result ≡ Err StoreFault.Store) × (self.new ≡ self.old) }
+        ensures clean { IsClean S.Store self.new → IsClean S.Store self.old }
+        ensures some { LeavesSome (state S.Store self.new.held) }
+        ensures reply { (s : State) → IsAt S.Store self.old s → IsClean S.Store self.new → IfOk result (λ a. result_of a ≡ answer_of (step_of s key command.now)) }
+        ensures answered { (s : State) → IsAt S.Store self.old s → OnOk result (IsAt S.Store self.new (next s (key, command.now))) }
+        ensures tables { (s : State) → IsAt S.Store self.old s → HasTables S.Store self.old s → OnOk result (HasTables S.Store self.new (next s (key, command.now))) }
+        ensures memory { (s : State) → IsAt S.Store self.old s → result ≡ Err StoreFault.Memory → IsAt S.Store self.new s }
+        ensures store { (s : State) → IsAt S.Store self.old s → result ≡ Err StoreFault.Store → IsInDoubt S.Store self.new s (next s (key, command.now)) }
+        ensures sessions { (s : State) (before : List Session) → IsAt S.Store self.old (Stopped s before) → Leaves (state S.Store self.new.held) (IsAfter s before ((key, command.now) ∷ []) (count_of result) (fault_of result)) }
+        ensures honest { (s : State) → Sound s → Honest s → Sound (next s (key, command.now)) × Honest (next s (key, command.now)) }
+    {
+        let _made = command.order();
+        if self.failed {
+            return Err(StoreFault::Store);
+        }
+        let answer = answer(alloc, &mut self.store, &mut self.roster, key, command);
+        self.failed = is_of_store(&answer);
+        answer
+    }
+
+    /// Answers commands in turn, up to the first fault. Room for all answers is made before the first.
+    pub fn run(&mut self, alloc: Global, commands: &[(Key, Command)]) -> Run
+        ensures failed { self.new.failed ≡ (self.old.failed || is_some_store_fault result.fault) }
+        ensures shut { IsTrue self.old.failed → (result.fault ≡ Some StoreFault.Store) × (result.answers.items ≡ []) × (self.new ≡ self.old) }
+        ensures clean { IsClean S.Store self.new → IsClean S.Store self.old }
+        ensures some { LeavesSome (state S.Store self.new.held) }
+        ensures count { length result.answers.items ≤ length commands.now }
+        ensures whole { result.fault ≡ None → length result.answers.items ≡ length commands.now }
+        ensures replies { (s : State) → IsAt S.Store self.old s → IsClean S.Store self.new → map result_of result.answers.items ≡ take (length result.answers.items) (Replies s commands.now) }
+        ensures outcome { (s : State) → IsAt S.Store self.old s → Ends (state S.Store self.new.held) s commands.now (length result.answers.items) result.fault }
+        ensures tables { (s : State) → IsAt S.Store self.old s → HasTables S.Store self.old s → result.fault ≡ None → HasTables S.Store self.new (Fold s commands.now) }
+        ensures honest { (s : State) → IsAt S.Store self.old s → Honest s → Leaves (state S.Store self.new.held) Honest }
+        ensures sessions { (s : State) (before : List Session) → IsAt S.Store self.old (Stopped s before) → Leaves (state S.Store self.new.held) (IsAfter s before commands.now (length result.answers.items) result.fault) }
+    {
+        self.answer_all(alloc, commands)
+    }
+
+    /// The same as [`Book::run`], with no word on sessions.
+    fn answer_all(&mut self, alloc: Global, commands: &[(Key, Command)]) -> Run
+        ensures failed { self.new.failed ≡ (self.old.failed || is_some_store_fault result.fault) }
+        ensures shut { IsTrue self.old.failed → (result.fault ≡ Some StoreFault.Store) × (result.answers.items ≡ []) × (self.new ≡ self.old) }
+        ensures clean { IsClean S.Store self.new → IsClean S.Store self.old }
+        ensures some { LeavesSome (state S.Store self.new.held) }
+        ensures count { length result.answers.items ≤ length commands.now }
+        ensures whole { result.fault ≡ None → length result.answers.items ≡ length commands.now }
+        ensures replies { (s : State) → IsAt S.Store self.old s → IsClean S.Store self.new → map result_of result.answers.items ≡ take (length result.answers.items) (Replies s commands.now) }
+        ensures outcome { (s : State) → IsAt S.Store self.old s → Ends (state S.Store self.new.held) s commands.now (length result.answers.items) result.fault }
+        ensures tables { (s : State) → IsAt S.Store self.old s → HasTables S.Store self.old s → result.fault ≡ None → HasTables S.Store self.new (Fold s commands.now) }
+        ensures honest { (s : State) → IsAt S.Store self.old s → Honest s → Leaves (state S.Store self.new.held) Honest }
+    {
+        if self.failed {
+            return stopped(Vec::new(alloc), StoreFault::Store);
+        }
+        let Ok(mut answers) = Vec::with_capacity(alloc, commands.len()) else {
+            return stopped(Vec::new(alloc), StoreFault::Memory);
+        };
+        for (key, command) in commands {
+            match self.ask(alloc, *key, command) {
+                Ok(answer) => {
+                    let _ = answers.push(answer);
+                }
+                Err(fault) => return stopped(answers, fault),
+            }
+        }
+        Run {
+            answers,
+            fault: None,
+        }
+    }
+}
+
+fn stopped(answers: Vec<Answer>, fault: StoreFault) -> Run
+    ensures answers { result.answers ≡ answers }
+    ensures fault { result.fault ≡ Some fault }
+{
+    Run {
+        answers,
+        fault: Some(fault),
+    }
+}
+
+/// Whether an answer is a fault of the store.
+fn is_of_store(answer: &Result<Answer, StoreFault>) -> bool
+    ensures { result ≡ is_store_fault answer.now }
+{
+    matches!(answer, Err(StoreFault::Store))
+}
+
+/// Answers a command by a roster, and keeps in the store what is accepted. Whatever needs memory is made before the commit.
+fn answer<S: Alter>(
+    alloc: Global,
+    store: &mut Store<S>,
+    roster: &mut Roster,
+    key: Key,
+    command: &Command,
+) -> Result<Answer, StoreFault>
+    requires { Keeps (state S.Store store.old) roster.old }
+    ensures did { Did (state S.Store store.old) (state S.Store store.new) roster.old roster.new (next roster.old (key, command.now)) result }
+    ensures reply { IfOk result (λ a. result_of a ≡ answer_of (step_of roster.old key command.now)) }
+{
+    match roster.step(alloc, key, command) {
+        Ok(Verdict::Repeat(reply)) => Ok(Answer::Accepted(reply)),
+        Ok(Verdict::Refuse(refusal)) => Ok(Answer::Refused(refusal)),
+        Ok(Verdict::Accept(change, reply)) => match keep(alloc, store, roster, &change) {
+            Ok(()) => Ok(Answer::Accepted(reply)),
+            Err(fault) => Err(fault),
+        },
+        Err(_) => Err(StoreFault::Memory),
+    }
+}
+
+/// Makes an accepted change, in the store and then in the roster.
+fn keep<S: Alter>(
+    alloc: Global,
+    store: &mut Store<S>,
+    roster: &mut Roster,
+    change: &Change,
+) -> Result<(), StoreFault>
+    requires keeps { Keeps (state S.Store store.old) roster.old }
+    requires next { HasCleanDisk (state S.Store store.old) → IsNext roster.old change.now }
+    requires free { fin.get roster.old.requests (key_name change.now.key) ≡ None }
+    ensures { Did (state S.Store store.old) (state S.Store store.new) roster.old roster.new (after roster.old change.now) result }
+{
+    let Ok(changed) = changed(alloc, roster, change) else {
+        return Err(StoreFault::Memory);
+    };
+    match store.commit(alloc, change) {
+        Ok(()) => {
+            *roster = changed;
+            Ok(())
+        }
+        Err(fault) => Err(fault),
+    }
+}
+
+/// The roster with a change.
+fn changed(alloc: Global, roster: &Roster, change: &Change) -> Result<Roster, MemoryFault>
+    requires { fin.get roster.now.requests (key_name change.now.key) ≡ None }
+    ensures { IfOk result (λ it. it ≡ after roster.now change.now) }
+{
+    let mut changed = roster.copy(alloc)?;
+    changed.apply(alloc, change)?;
+    Ok(changed)
+}
