@@ -1,4 +1,5 @@
 pub mod States
 pub mod Asked
+pub mod Opened
 pub mod Runs
 pub mod SessionLemmas

@@ -100,12 +100,20 @@ loaded now s sound leaves some = record {
 begun_instants : (zone : List ℕ) → HasInstants (empty zone)
 begun_instants zone name r here = let none : None ≡ Some r = sym (fin.get-empty {X = Request} name_cmp name) ∙ here in cc
 
-pub begun : (now : conn.State) (zone : List ℕ) → Leaves now (one (empty zone)) → LeavesSome now → Keeps now (empty zone)
-begun now zone leaves some = record {
+begun_empty : (now : conn.State) (zone : List ℕ) → Leaves now (one (empty zone)) → LeavesSome now → Keeps now (empty zone)
+begun_empty now zone leaves some = record {
   kept = λ _. record { sound = (starts_sound zone).0; instants = begun_instants zone };
   leaves = leaves;
   some = some;
 }
+
+pub begun : (now : conn.State) (zone : List ℕ) (roster : State) → roster ≡ empty zone → Leaves now (one (empty roster.zone)) → LeavesSome now → Keeps now roster
+begun now zone roster is leaves some =
+    let same : roster.zone ≡ zone = ap (λ (s : State). s.zone) is in
+    subst (λ (s : State). Keeps now s) (sym is) (begun_empty now zone (subst (λ (z : List ℕ). Leaves now (one (empty z))) same leaves) some)
+
+pub begun_at : (now : conn.State) (zone : List ℕ) (roster : State) → roster ≡ empty zone → Leaves now (one (empty roster.zone)) → LeavesSome now → Keeps now (empty zone)
+begun_at now zone roster is leaves some = subst (λ (s : State). Keeps now s) is (begun now zone roster is leaves some)
 
 pub one_of_either : (now : conn.State) (s t : State) → Leaves now (one s) → Leaves now (either s t)
 one_of_either now s t leaves = record { crash = λ clean trees may. let it = leaves.crash clean trees may in (it.0, inl it.1, it.2) }

@@ -1,11 +1,18 @@
 -- What is found in the files of a book.
 use Rattle.sqlite_wal.specs.Recovery.{Image}
-use Rattle.sqlite.specs.Start.{FindsIn}
+use Rattle.sqlite_trees.specs.Tree.{Trees}
+use Rattle.sqlite.specs.Files.{AreFoundIn}
 use Rattle.sqlite.specs.State as conn
-use Rattle.book.specs.Kept.{Means}
+use Rattle.roster.specs.State.{State}
+use Rattle.store.specs.Kept.{Holds}
+use Rattle.store.specs.Outcomes.{HoldsNow}
+use Rattle.book.specs.Kept.{Keeps}
 
--- the files hold tables that mean a state, and so do those that are shown now
+-- the files hold tables that mean a state; those that are shown mean it too, and a crash leaves it and nothing else
 pub record MeansWhatIsIn (image : Image) (now : conn.State) : Type 0 where
-  pub found : conn.State
-  pub in_files : FindsIn image found
-  pub means : Means found now
+  pub it : State
+  pub trees : Trees
+  pub in_files : AreFoundIn image trees
+  pub held : Holds trees it
+  pub shown : HoldsNow now it
+  pub keeps : Keeps now it

@@ -3,14 +3,16 @@
 ghost use Rattle.std.specs.Prelude.{◌≡◌, ◌≢◌, false, IfOk};
 ghost use Rattle.sqlite_wal.specs.Files.{image_at};
 ghost use Rattle.sqlite.specs.Files.{IsOpened, file_state, over_files};
+ghost use Rattle.sqlite.specs.Held.{state};
 ghost use Rattle.sqlite.specs.Start.{FindsIn};
-ghost use Rattle.sqlite.specs.State.{HasCleanDisk};
-ghost use Rattle.store.specs.Outcomes.{IsOutside};
-ghost use Rattle.book.specs.Kept.{IsClean};
+ghost use Rattle.sqlite.specs.State.{HasCleanDisk, IsUnchanged};
+ghost use Rattle.store.specs.Outcomes.{AddsNothing, IsOutside};
+ghost use Rattle.book.specs.Kept.{IsClean, Means};
 ghost use Rattle.book.specs.Found.{MeansWhatIsIn};
 
 use crate::keeping::Book;
-use sqlite::{Connection, Error, ErrorCode, FileFrom, FileStore, Start, Wary};
+use sqlite::{Alter, Connection, Error, ErrorCode, FileFrom, FileStore, Start, Wary};
+use std::alloc::Global;
 use std::fs::exists;
 use store::{CreateFault, LoadFault, StoreFault};
 use time117::Zone;
@@ -33,10 +35,9 @@ impl<S: Start> Book<FileStore<FileFrom<S>>> {
         if matches!(exists(rt, path), Ok(false)) {
             return Err(LoadFault::NotABook);
         }
-        let conn = connect(rt, path, start).map_err(LoadFault::Fault)?;
-        match Book::adopt(rt.alloc(), conn) {
-            Ok(book) => Ok(book),
-            Err((fault, _conn)) => Err(fault),
+        match connect(rt, path, start) {
+            Ok(conn) => adopted(rt.alloc(), conn),
+            Err(fault) => Err(LoadFault::Fault(fault)),
         }
     }
 }
@@ -60,6 +61,20 @@ pub fn create_file(rt: &HostRuntime, path: &str, zone: Zone) -> Result<(), Creat
             let _ = book.into_connection().close();
             Ok(())
         }
+        Err((fault, _conn)) => Err(fault),
+    }
+}
+
+/// The book that a connection has.
+fn adopted<S: Alter + Drop>(alloc: Global, conn: Connection<S>) -> Result<Book<S>, LoadFault>
+    requires { IsOutside (state S.Store conn) }
+    ensures fresh { IfOk result (λ b. b.failed ≡ false) }
+    ensures means { IfOk result (λ b. Means (state S.Store conn) (state S.Store b.held)) }
+    ensures unchanged { IfOk result (λ b. IsClean S.Store b → IsUnchanged (state S.Store conn) (state S.Store b.held)) }
+    ensures left { IfOk result (λ b. AddsNothing (state S.Store conn) (state S.Store b.held)) }
+{
+    match Book::adopt(alloc, conn) {
+        Ok(book) => Ok(book),
         Err((fault, _conn)) => Err(fault),
     }
 }

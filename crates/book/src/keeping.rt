@@ -103,7 +103,11 @@ impl<S: Alter> Book<S> {
         ensures outside { IfErr result (λ e. IsOutside (state S.Store e.1)) }
     {
         match Store::load(alloc, conn) {
-            Ok((store, roster)) => Ok(Book::over(store, roster)),
+            Ok((store, roster)) => Ok(Book {
+                store,
+                roster,
+                failed: false,
+            }),
             Err(refused) => Err(refused),
         }
     }

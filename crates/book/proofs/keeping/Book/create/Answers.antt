@@ -1,8 +1,9 @@
-use Rattle.book.proofs.States.{begun}
+use Rattle.std.proofs.Common.{rules}
+use Rattle.book.proofs.States.{begun, begun_at}
 use Rattle.book.proofs.keeping.Book.create.Goals as goal
 
-pub invariant_of-result : goal.invariant_of-result
-invariant_of-result g c = (c.in-Ok.ensures.some, λ _. begun _ _ c.in-Ok.ensures.ok c.in-Ok.ensures.some)
+pub over-requires : goal.over-requires
+over-requires g c = begun _ c.args.zone c.in-Ok.roster (search rules) c.in-Ok-create.ensures.ok c.in-Ok-create.ensures.some
 
-pub returns-in-Ok-clause-made : goal.returns-in-Ok-clause-made
-returns-in-Ok-clause-made g c = begun _ _ c.in-Ok.ensures.ok c.in-Ok.ensures.some
+pub returns-in-Ok-create-clause-made : goal.returns-in-Ok-create-clause-made
+returns-in-Ok-create-clause-made g c = rw c.over.ensures.held (begun_at _ c.args.zone c.in-Ok.roster (search rules) c.in-Ok-create.ensures.ok c.in-Ok-create.ensures.some)
