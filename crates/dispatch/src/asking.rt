@@ -11,15 +11,15 @@ use time117::Zone;
 
 /// What requests were answered, the last of them last, and the database afterwards.
 #[derive(Drop)]
-pub struct Asked<S: Alter> {
+pub struct Answered<S: Alter> {
     pub answers: Vec<String>,
     pub conn: Connection<S>,
 }
 
-impl<S: Alter + Drop> Asked<S> {
+impl<S: Alter + Drop> Answered<S> {
     /// The last answer, with the database.
     pub fn last(self) -> Result<(String, Connection<S>), Unanswered> {
-        let Asked { mut answers, conn } = self;
+        let Answered { mut answers, conn } = self;
         match answers.pop() {
             Some(answer) => Ok((answer, conn)),
             None => Err(Unanswered::Unmade),
@@ -100,9 +100,9 @@ pub fn asked<S: Alter + Drop>(
     alloc: Global,
     mut book: Book<S>,
     list: &[(Key, Command)],
-) -> Result<Asked<S>, Unanswered> {
+) -> Result<Answered<S>, Unanswered> {
     let answers = ask_all(alloc, &mut book, list)?;
-    Ok(Asked {
+    Ok(Answered {
         answers,
         conn: book.into_connection(),
     })
@@ -113,9 +113,9 @@ pub fn ran<S: Alter + Drop>(
     alloc: Global,
     mut book: Book<S>,
     list: &[(Key, Command)],
-) -> Result<Asked<S>, Unanswered> {
+) -> Result<Answered<S>, Unanswered> {
     let answers = run_all(alloc, &mut book, list)?;
-    Ok(Asked {
+    Ok(Answered {
         answers,
         conn: book.into_connection(),
     })

@@ -1,6 +1,6 @@
 //! Requests under keys that are held, or that a refusal has left free.
 
-use crate::asking::{Asked, asked, in_memory, ran};
+use crate::asking::{Answered, asked, in_memory, ran};
 use crate::fault::Unanswered;
 use crate::requests::Requests;
 use command::{Key, Seat};
@@ -49,7 +49,7 @@ const KEPT: &str = "request 20|0|{\"crew\":\"C1\",\"do\":\"assign\",\"pairing\":
 fn a_request_that_is_repeated_acts_once(rt: HostRuntime) -> Result<(), Fail> {
     let alloc = rt.alloc();
     let list = assigned_again(alloc).list()?;
-    let Asked { answers, mut conn } = asked(alloc, in_memory(alloc)?, &list)?;
+    let Answered { answers, mut conn } = asked(alloc, in_memory(alloc)?, &list)?;
     assert!(rt; are_accepted(&answers));
     assert_eq!(rt; kept(alloc, &mut conn)?.as_str(), KEPT);
     Ok(())
@@ -59,7 +59,7 @@ fn a_request_that_is_repeated_acts_once(rt: HostRuntime) -> Result<(), Fail> {
 fn a_request_that_is_repeated_in_a_run_acts_once(rt: HostRuntime) -> Result<(), Fail> {
     let alloc = rt.alloc();
     let list = assigned_again(alloc).list()?;
-    let Asked { answers, mut conn } = ran(alloc, in_memory(alloc)?, &list)?;
+    let Answered { answers, mut conn } = ran(alloc, in_memory(alloc)?, &list)?;
     assert!(rt; are_accepted(&answers));
     assert_eq!(rt; kept(alloc, &mut conn)?.as_str(), KEPT);
     Ok(())

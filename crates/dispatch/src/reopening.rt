@@ -1,6 +1,6 @@
 //! A book that is closed and taken up again.
 
-use crate::asking::{Asked, asked, in_memory, take_up};
+use crate::asking::{Answered, asked, in_memory, take_up};
 use crate::fault::Unanswered;
 use crate::requests::Requests;
 use command::{Key, Seat};
@@ -33,7 +33,7 @@ fn released(alloc: Global) -> Requests {
 
 /// The database of a book that was asked these.
 fn closed(alloc: Global, requests: Requests) -> Result<Connection<MemStore>, Unanswered> {
-    let Asked { answers, conn } = asked(alloc, in_memory(alloc)?, &requests.list()?)?;
+    let Answered { answers, conn } = asked(alloc, in_memory(alloc)?, &requests.list()?)?;
     drop(answers);
     Ok(conn)
 }
@@ -55,7 +55,7 @@ fn a_request_that_is_repeated_after_reopening_acts_once(rt: HostRuntime) -> Resu
     let alloc = rt.alloc();
     let book = take_up(alloc, closed(alloc, assigned(alloc))?)?;
     let list = released(alloc).list()?;
-    let Asked { answers, mut conn } = asked(alloc, book, &list)?;
+    let Answered { answers, mut conn } = asked(alloc, book, &list)?;
     assert_eq!(rt; answers.len(), 4);
     let whole = told(alloc, &mut closed(alloc, released(alloc))?)?;
     assert_eq!(rt; told(alloc, &mut conn)?.as_str(), whole.as_str());

@@ -10,7 +10,7 @@ use std::alloc::Global;
 fn refused(alloc: Global, refusal: &Refusal) -> Result<String, Unanswered> {
     let mut text = format!(in alloc; "{refusal}")?;
     if let Refusal::Limits(broken) = refusal {
-        for Exceedance { crew, section } in broken {
+        for Exceedance { crew, section } in broken.as_slice() {
             let more = format!(in alloc; " {} {section}", crew.as_str())?;
             text.push_str(more.as_str())?;
         }
