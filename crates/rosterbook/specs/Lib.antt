@@ -2,6 +2,7 @@ pub mod Arguments
 pub mod CommandLine
 pub mod FaultText
 pub mod FlightDuty
+pub mod Making
 pub mod Plain
 pub mod Program
 pub mod Refusal

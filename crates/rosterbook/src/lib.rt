@@ -3,8 +3,12 @@
 
 mod actions;
 mod command_line;
+mod duty_command;
 mod fault;
 mod flight_duty;
+mod init_command;
+mod lines;
+mod making;
 mod program;
 mod refusal;
 mod status;
