@@ -4,7 +4,8 @@ use crate::shut::Shut;
 use clap::Error;
 use clap::error::ErrorKind;
 use rosterbook::{Action, action, tell_refusal};
-use std::alloc::AllocError;
+use std::alloc::{AllocError, Global};
+use std::process::Abort;
 
 const ZONE: &str = "EST5EDT,M3.2.0,M11.1.0";
 
@@ -76,29 +77,40 @@ fn refuses_as_clap_does(rt: HostRuntime) {
     }
 }
 
+/// The help that the words call for has each of the names, and fits 80 columns.
+fn check_help(rt: &impl Abort, alloc: Global, words: &[&str], names: &[&str]) {
+    let error = action(alloc, words).expect_err(rt, "help");
+    assert_eq!(rt; error.kind(), ErrorKind::DisplayHelp);
+    let text = error.to_string(alloc).expect(rt, "memory");
+    for name in names {
+        assert!(rt; text.contains(*name), "{name}");
+    }
+    for line in text.lines() {
+        assert!(rt; line.len() <= 80, "{line}");
+    }
+}
+
 #[test]
 fn help_names_each_argument_in_80_columns(rt: HostRuntime) {
+    let alloc = rt.alloc();
     let of_all = [
         "duty", "init", "FILE", "ZONE", "REPORT", "TIME", ZONE, REPORT,
     ];
     let of_duty = ["duty", "ZONE", "REPORT", "TIME", ZONE, REPORT, "UTC"];
     let of_init = ["init", "FILE", "ZONE", ZONE, "UTC", "new or empty"];
-    let helps = [
-        (["--help"].as_slice(), of_all.as_slice()),
-        (["duty", "--help"].as_slice(), of_duty.as_slice()),
-        (["init", "--help"].as_slice(), of_init.as_slice()),
-    ];
-    for (words, names) in helps {
-        let error = action(rt.alloc(), words).expect_err(&rt, "help");
-        assert_eq!(rt; error.kind(), ErrorKind::DisplayHelp);
-        let text = error.to_string(rt.alloc()).expect(&rt, "memory");
-        for name in names {
-            assert!(rt; text.contains(*name), "{name}");
-        }
-        for line in text.lines() {
-            assert!(rt; line.len() <= 80, "{line}");
-        }
-    }
+    check_help(&rt, alloc, ["--help"].as_slice(), of_all.as_slice());
+    check_help(
+        &rt,
+        alloc,
+        ["duty", "--help"].as_slice(),
+        of_duty.as_slice(),
+    );
+    check_help(
+        &rt,
+        alloc,
+        ["init", "--help"].as_slice(),
+        of_init.as_slice(),
+    );
 }
 
 #[test]
