@@ -26,6 +26,33 @@ case_of() {
     rm -f "$got_err"
 }
 
+# holds NAME COMMAND..: the command succeeds.
+holds() {
+    local name=$1
+    shift
+    if "$@"; then
+        passed=$((passed + 1))
+    else
+        failed=$((failed + 1))
+        echo "tests/program.sh: $name: no" >&2
+    fi
+}
+
+# full_disk NAME WORDS..: standard output can't be kept.
+full_disk() {
+    local name=$1 got
+    shift
+    got=$(./rosterbook "$@" 2>&1 >/dev/full </dev/null)
+    holds "$name: $got" [ "$? $got" = "3 refused 92 Channel" ]
+}
+
+room=$(mktemp -d) || exit 2
+trap 'rm -rf "$room"' EXIT
+book=$room/roster.db
+text=$room/text
+: >"$room/empty"
+seq 1000 >"$text"
+
 ./rosterbook --version >/dev/null || failed=$((failed + 1))
 # shellcheck disable=SC2086
 {
@@ -37,12 +64,27 @@ case_of() {
     case_of no_words 2 '' '*Usage: rosterbook <COMMAND>*'
     case_of help 0 '*REPORT*UTC instant*Example:*' '' duty --help
     case_of not_utf_8 2 '' 'error: an argument is not UTF-8' duty $'\xff'
+    full_disk full_disk $duty 2025-06-11T05:59Z
 }
-# shellcheck disable=SC2086
-if full=$(./rosterbook $duty 2025-06-11T05:59Z 2>&1 >/dev/full); [ "$? $full" = "3 refused 92 Channel" ]; then
-    passed=$((passed + 1))
-else
-    failed=$((failed + 1))
-    echo "tests/program.sh: full_disk: $full" >&2
+
+case_of init 0 ready '' init "$book" "$zone"
+case_of init_again 3 '' 'refused 43 NotEmpty' init "$book" UTC0
+case_of init_of_an_empty_file 0 ready '' init "$room/empty" UTC0
+case_of init_without_a_zone 1 '' 'refused T4 ZoneText' init "$room/unmade" America/New_York
+case_of init_of_one_word 2 '' 'error:*<ZONE>*' init "$room/unmade"
+case_of init_of_three_words 2 '' "error: unexpected argument 'x'*" init "$room/unmade" "$zone" x
+case_of init_in_no_folder 3 '' 'refused 90 Store' init "$room/unmade/roster.db" "$zone"
+case_of init_of_a_folder 3 '' 'refused 90 Store' init "$room" "$zone"
+case_of init_of_a_device 3 '' 'refused 90 Store' init /dev/full "$zone"
+case_of init_of_memory 3 '' 'refused 90 Store' init :memory: "$zone"
+case_of init_of_a_text 3 '' 'refused 90 Store' init "$text" "$zone"
+case_of init_help 0 '*FILE*ZONE*Example:*' '' init --help
+holds unmade [ ! -e "$room/unmade" ]
+holds text_kept [ "$(seq 1000)" = "$(cat "$text")" ]
+# A book is made before that is told.
+full_disk init_on_a_full_disk init "$room/untold" "$zone"
+case_of init_after_a_full_disk 3 '' 'refused 43 NotEmpty' init "$room/untold" "$zone"
+if command -v sqlite3 >/dev/null; then
+    holds zone_kept [ "$(sqlite3 "$book" 'SELECT one, version, zone FROM book' 2>&1)" = "1|1|$zone" ]
 fi
 echo "$passed $failed"

@@ -4,7 +4,8 @@ use crate::shut::Shut;
 use clap::Error;
 use clap::error::ErrorKind;
 use rosterbook::{Action, action, tell_refusal};
-use std::alloc::AllocError;
+use std::alloc::{AllocError, Global};
+use std::process::Abort;
 
 const ZONE: &str = "EST5EDT,M3.2.0,M11.1.0";
 
@@ -20,9 +21,22 @@ fn reads_duty(rt: HostRuntime) {
         zone,
         report,
         times,
-    } = read;
+    } = read
+    else {
+        panic!(rt; "another action");
+    };
     assert!(rt; zone.as_str() == ZONE && report.as_str() == REPORT);
     assert!(rt; times.len() == 2 && times[0].as_str() == out && times[1].as_str() == back);
+}
+
+#[test]
+fn reads_init(rt: HostRuntime) {
+    let words = ["init", "roster.db", ZONE];
+    let read = action(rt.alloc(), words.as_slice()).expect(&rt, "an action");
+    let Action::Init { file, zone } = read else {
+        panic!(rt; "another action");
+    };
+    assert!(rt; file.as_str() == "roster.db" && zone.as_str() == ZONE);
 }
 
 #[test]
@@ -41,6 +55,19 @@ fn refuses_as_clap_does(rt: HostRuntime) {
             ["duty", ZONE, REPORT, "--late"].as_slice(),
             ErrorKind::UnknownArgument,
         ),
+        (["init"].as_slice(), ErrorKind::MissingRequiredArgument),
+        (
+            ["init", "roster.db"].as_slice(),
+            ErrorKind::MissingRequiredArgument,
+        ),
+        (
+            ["init", "roster.db", ZONE, "roster.db"].as_slice(),
+            ErrorKind::UnknownArgument,
+        ),
+        (
+            ["init", "roster.db", "--new"].as_slice(),
+            ErrorKind::UnknownArgument,
+        ),
         (["rest"].as_slice(), ErrorKind::InvalidSubcommand),
         (["--version"].as_slice(), ErrorKind::DisplayVersion),
     ];
@@ -50,29 +77,55 @@ fn refuses_as_clap_does(rt: HostRuntime) {
     }
 }
 
+/// The help that the words call for has each of the names, and fits 80 columns.
+fn check_help(rt: &impl Abort, alloc: Global, words: &[&str], names: &[&str]) {
+    let error = action(alloc, words).expect_err(rt, "help");
+    assert_eq!(rt; error.kind(), ErrorKind::DisplayHelp);
+    let text = error.to_string(alloc).expect(rt, "memory");
+    for name in names {
+        assert!(rt; text.contains(*name), "{name}");
+    }
+    for line in text.lines() {
+        assert!(rt; line.len() <= 80, "{line}");
+    }
+}
+
 #[test]
 fn help_names_each_argument_in_80_columns(rt: HostRuntime) {
-    for words in [["--help"].as_slice(), ["duty", "--help"].as_slice()] {
-        let error = action(rt.alloc(), words).expect_err(&rt, "help");
-        assert_eq!(rt; error.kind(), ErrorKind::DisplayHelp);
-        let text = error.to_string(rt.alloc()).expect(&rt, "memory");
-        for name in ["duty", "ZONE", "REPORT", "TIME", ZONE, REPORT, "UTC"] {
-            assert!(rt; text.contains(name), "{name}");
-        }
-        for line in text.lines() {
-            assert!(rt; line.len() <= 80, "{line}");
-        }
-    }
+    let alloc = rt.alloc();
+    let of_all = [
+        "duty", "init", "FILE", "ZONE", "REPORT", "TIME", ZONE, REPORT,
+    ];
+    let of_duty = ["duty", "ZONE", "REPORT", "TIME", ZONE, REPORT, "UTC"];
+    let of_init = ["init", "FILE", "ZONE", ZONE, "UTC", "new or empty"];
+    check_help(&rt, alloc, ["--help"].as_slice(), of_all.as_slice());
+    check_help(
+        &rt,
+        alloc,
+        ["duty", "--help"].as_slice(),
+        of_duty.as_slice(),
+    );
+    check_help(
+        &rt,
+        alloc,
+        ["init", "--help"].as_slice(),
+        of_init.as_slice(),
+    );
 }
 
 #[test]
 fn tells_why_a_line_is_refused(rt: HostRuntime) {
     let help = action(rt.alloc(), ["--help"].as_slice()).expect_err(&rt, "help");
     let mistake = action(rt.alloc(), ["rest"].as_slice()).expect_err(&rt, "a mistake");
+    let missing = action(rt.alloc(), ["init", "x"].as_slice()).expect_err(&rt, "a mistake");
+    let words = ["init", "x", ZONE, "x"];
+    let too_many = action(rt.alloc(), words.as_slice()).expect_err(&rt, "a mistake");
     let memory = Error::from(AllocError);
     let cases = [
         (&help, 0, "The roster book", ""),
         (&mistake, 2, "", "error: unrecognized subcommand 'rest'"),
+        (&missing, 2, "", "error: the following required arguments"),
+        (&too_many, 2, "", "error: unexpected argument 'x'"),
         (&memory, 3, "", "refused 91 Memory\n"),
     ];
     for (error, status, on_out, on_err) in cases {

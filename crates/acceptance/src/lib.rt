@@ -4,6 +4,8 @@
 #[cfg(test)]
 mod command_line;
 #[cfg(test)]
+mod making;
+#[cfg(test)]
 mod shut;
 #[cfg(test)]
 mod verdicts;

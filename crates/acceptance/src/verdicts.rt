@@ -106,28 +106,30 @@ fn words(alloc: Global, text: &str) -> Result<Vec<String>, AllocError> {
 
 /// What the program answers to `duty` with these words: exit status, standard output, standard error.
 fn answer(
-    alloc: Global,
+    rt: &HostRuntime,
     zone: &str,
     report: &str,
     times: &str,
 ) -> Result<(u8, Vec<u8>, Vec<u8>), AllocError> {
+    let alloc = rt.alloc();
     let action = Action::Duty {
         zone: String::from_str(alloc, zone)?,
         report: String::from_str(alloc, report)?,
         times: words(alloc, times)?,
     };
     let (mut out, mut err) = (Vec::new(alloc), Vec::new(alloc));
-    let status = perform(alloc, &action, &mut io::empty(), &mut out, &mut err);
+    let status = perform(rt, &action, &mut io::empty(), &mut out, &mut err);
     Ok((status, out, err))
 }
 
-fn check(rt: &impl Abort, alloc: Global, rows: &[Row]) -> Result<(), Fail> {
+fn check(rt: &impl Abort, host: &HostRuntime, rows: &[Row]) -> Result<(), Fail> {
+    let alloc = host.alloc();
     for &(report, times, line) in rows {
         let is_within = line.ends_with(" within");
         let (text, within) = duty_line(alloc, EASTERN, report, &words(alloc, times)?)?;
         assert_eq!(rt; text.as_str(), line);
         assert_eq!(rt; within, is_within, "{line}");
-        let (status, out, err) = answer(alloc, EASTERN, report, times)?;
+        let (status, out, err) = answer(host, EASTERN, report, times)?;
         assert_eq!(rt; status, if is_within { 0 } else { 1 }, "{line}");
         assert_eq!(rt; out.as_slice(), format!(in alloc; "{line}\n")?.as_bytes());
         assert!(rt; err.is_empty(), "{line}");
@@ -137,22 +139,22 @@ fn check(rt: &impl Abort, alloc: Global, rows: &[Row]) -> Result<(), Fail> {
 
 #[test]
 fn table_b_changes_at_noon(rt: HostRuntime) -> Result<(), Fail> {
-    check(&rt, rt.alloc(), &BOTH_SIDES_OF_NOON)
+    check(&rt, &rt, &BOTH_SIDES_OF_NOON)
 }
 
 #[test]
 fn the_seventh_column_serves_for_more_segments(rt: HostRuntime) -> Result<(), Fail> {
-    check(&rt, rt.alloc(), &SEVEN_AND_MORE_SEGMENTS)
+    check(&rt, &rt, &SEVEN_AND_MORE_SEGMENTS)
 }
 
 #[test]
 fn table_a_gives_eight_hours_before_five(rt: HostRuntime) -> Result<(), Fail> {
-    check(&rt, rt.alloc(), &EARLY_REPORT)
+    check(&rt, &rt, &EARLY_REPORT)
 }
 
 #[test]
 fn report_in_summer_time_uses_local_minutes(rt: HostRuntime) -> Result<(), Fail> {
-    check(&rt, rt.alloc(), &CHANGES_OF_SUMMER_TIME)
+    check(&rt, &rt, &CHANGES_OF_SUMMER_TIME)
 }
 
 #[test]
@@ -207,7 +209,7 @@ fn faults_come_in_their_order(rt: HostRuntime) -> Result<(), Fail> {
     for (zone, report, times, fault, line) in cases {
         let refused = duty_line(alloc, zone, report, &words(alloc, times)?);
         assert!(rt; matches!(&refused, Err(found) if *found == fault), "{line}");
-        let (status, out, err) = answer(alloc, zone, report, times)?;
+        let (status, out, err) = answer(&rt, zone, report, times)?;
         assert_eq!(rt; status, 1, "{line}");
         assert!(rt; out.is_empty(), "{line}");
         assert_eq!(rt; err.as_slice(), line.as_bytes());
@@ -226,13 +228,13 @@ fn a_writer_that_fails_is_a_refusal(rt: HostRuntime) -> Result<(), Fail> {
     };
     let mut err = Vec::new(alloc);
     assert_eq!(rt;
-        perform(alloc, &action, &mut io::empty(), &mut Shut, &mut err),
+        perform(&rt, &action, &mut io::empty(), &mut Shut, &mut err),
         3
     );
     assert_eq!(rt; err.as_slice(), b"refused 92 Channel\n".as_slice());
     let mut err = Vec::new(alloc);
     assert_eq!(rt;
-        perform(alloc, &action, &mut io::empty(), &mut Full, &mut err),
+        perform(&rt, &action, &mut io::empty(), &mut Full, &mut err),
         3
     );
     assert_eq!(rt; err.as_slice(), b"refused 92 Channel\n".as_slice());
@@ -243,7 +245,7 @@ fn a_writer_that_fails_is_a_refusal(rt: HostRuntime) -> Result<(), Fail> {
     };
     let mut out = Vec::new(alloc);
     assert_eq!(rt;
-        perform(alloc, &refused, &mut io::empty(), &mut out, &mut Shut),
+        perform(&rt, &refused, &mut io::empty(), &mut out, &mut Shut),
         3
     );
     assert!(rt; out.is_empty());

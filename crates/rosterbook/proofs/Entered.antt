@@ -1,6 +1,6 @@
 -- A line that met no fault names a subcommand, which has its required arguments.
 use Rattle.std.proofs.Common.{◌≡◌, ◌∙◌, ◌&&◌, Bool, cond, true, false, not, refl, sym, subst, ap}
-use Rattle.std.proofs.Common.{List, [], ◌∷◌, Option, Some, None, is_some, true≢false, codes}
+use Rattle.std.proofs.Common.{inl, inr, List, [], ◌∷◌, Option, Some, None, is_some, true≢false, codes}
 use Rattle.std.specs.Prelude.{find, option_map, IsSomeAnd}
 use Rattle.std.specs.Option.{option_map_or}
 use Rattle.std.specs.List.{list_all}
@@ -17,7 +17,7 @@ use Rattle.clap.specs.Faults.{is_simple_and_free, level_fault, settle_fault, wal
 use Rattle.rosterbook.proofs.WalkKeeps.{none_of}
 use Rattle.rosterbook.proofs.Filled.{Filled, takes_one, NoneMissing, check_none, checks_passed}
 use Rattle.rosterbook.proofs.Filled.{first_there, given_all, given_first, rows_filled, was_given}
-use Rattle.rosterbook.specs.CommandLine.{command_line, duty}
+use Rattle.rosterbook.specs.CommandLine.{command_line, duty, init}
 use Rattle.rosterbook.specs.Arguments.{HasArguments}
 
 -- each subcommand gives Q of what it found of words at which it met no fault
@@ -84,31 +84,60 @@ IsMet met = HasArguments (Some met)
 abbrev pub as_built : App → Shape → Shape
 as_built app sub = built_leaf (inherited (on_top with_leaf_noted (on_top marked_built app)).top sub)
 
-abbrev duty_rules : List Rule
-duty_rules = (as_built command_line duty.top).rules
+abbrev rules_of : App → List Rule
+rules_of sub = (as_built command_line sub.top).rules
 
-duty_gives : (s : Shape) → s.name ≡ codes "duty" → s.rules ≡ duty_rules → s.subcommand_negates_reqs ≡ false
+-- each argument that was found of a line without a fault has a value, and no required one is missing
+rows_there : (s : Shape) (rules : List Rule) → s.rules ≡ rules → list_all takes_one rules ≡ true
+    → s.subcommand_negates_reqs ≡ false → (words : List Text)
+    → level_fault s [] nothing_held words false [] ≡ []
+    → Filled (rows_after s.rules [] words) × NoneMissing rules (rows_after s.rules [] words)
+rows_there s rules is takes negates words none = (
+  rows_filled s words (ap (list_all takes_one) is ∙ takes) none,
+  subst (λ (rs : List Rule). NoneMissing rs (rows_after s.rules [] words)) is (checks_passed s words negates none),
+)
+
+duty_gives : (s : Shape) → s.name ≡ codes "duty" → s.rules ≡ rules_of duty → s.subcommand_negates_reqs ≡ false
     → (words : List Text)
     → level_fault s [] nothing_held words false [] ≡ [] → IsMet (rows_at s words)
 duty_gives s name rules negates words none =
     let rows = rows_after s.rules [] words in
-    let filled : Filled rows = rows_filled s words (ap (list_all takes_one) rules) none in
-    let there : NoneMissing duty_rules rows =
-    subst (λ (rs : List Rule). NoneMissing rs rows) rules (checks_passed s words negates none) in
+    let found = rows_there s (rules_of duty) rules refl negates words none in
+    let there : NoneMissing (rules_of duty) rows = found.1 in
     let p = first_there _ _ there in
     let q = first_there _ _ p.1 in
-    let r = first_there _ _ q.1 in (
+    let r = first_there _ _ q.1 in
+    inl (
       name,
       record {
-        zone = given_first (codes "zone") rows filled (was_given _ p.0);
-        report = given_first (codes "report") rows filled (was_given _ q.0);
+        zone = given_first (codes "zone") rows found.0 (was_given _ p.0);
+        report = given_first (codes "report") rows found.0 (was_given _ q.0);
         times = given_all (codes "time") rows (was_given _ r.0);
       },
     )
 
+init_gives : (s : Shape) → s.name ≡ codes "init" → s.rules ≡ rules_of init → s.subcommand_negates_reqs ≡ false
+    → (words : List Text)
+    → level_fault s [] nothing_held words false [] ≡ [] → IsMet (rows_at s words)
+init_gives s name rules negates words none =
+    let rows = rows_after s.rules [] words in
+    let found = rows_there s (rules_of init) rules refl negates words none in
+    let there : NoneMissing (rules_of init) rows = found.1 in
+    let p = first_there _ _ there in
+    let q = first_there _ _ p.1 in
+    inr (
+      name,
+      record {
+        file = given_first (codes "file") rows found.0 (was_given _ p.0);
+        zone = given_first (codes "zone") rows found.0 (was_given _ q.0);
+      },
+    )
+
 is_met : (words : List Text) → fault_of command_line words ≡ [] → IsSomeAnd (subcommand_of command_line words) IsMet
-is_met words none = line_gives IsMet (built command_line) words
-    (duty_gives (as_built command_line duty.top) refl refl refl, tt) refl none
+is_met words none = line_gives IsMet (built command_line) words (
+  duty_gives (as_built command_line duty.top) refl refl refl,
+  (init_gives (as_built command_line init.top) refl refl refl, tt),
+) refl none
 
 is_there : (met : Option (Text × List Row)) → IsSomeAnd met IsMet → HasArguments met
 is_there None h = absurd h

@@ -3,6 +3,9 @@ pub mod DutyRead
 pub mod Entered
 pub mod Filled
 pub mod Getters
+pub mod InitRead
+pub mod PlainLine
+pub mod PlainWords
 pub mod ReadLemmas
 pub mod RefusalLemmas
 pub mod SegmentLemmas

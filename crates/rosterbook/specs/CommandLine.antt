@@ -7,7 +7,7 @@ use Rattle.clap.specs.declared.builder.action.ArgAction.TheVariants.{Append}
 use Rattle.clap.specs.declared.builder.command.Command.{Command}
 use Rattle.clap.specs.declared.builder.command.Command.TheViews.{out-Command}
 use Rattle.rosterbook.specs.declared.actions.Action.{Action}
-use Rattle.rosterbook.specs.declared.actions.Action.TheVariants.{Duty}
+use Rattle.rosterbook.specs.declared.actions.Action.TheVariants.{Duty, Init}
 
 -- an argument by its place that must be there, with a name in help
 abbrev pub wanted : Text → Rule
@@ -22,6 +22,10 @@ abbrev pub duty : App
 duty = with_rule (with_rule (with_rule (new_app (codes "duty"))
     (wanted (codes "zone"))) (wanted (codes "report"))) (wanted_each (codes "time"))
 
+-- `init FILE ZONE`
+abbrev pub init : App
+init = with_rule (with_rule (new_app (codes "init")) (wanted (codes "file"))) (wanted (codes "zone"))
+
 -- the program without its subcommands: one is wanted, and where there is no word help is shown
 abbrev pub bare : App
 bare = on_top (λ s. record s {
@@ -34,7 +38,7 @@ bare = on_top (λ s. record s {
 
 -- the program's command line
 abbrev pub command_line : App
-command_line = with_subcommand bare duty.top
+command_line = with_subcommand (with_subcommand bare duty.top) init.top
 
 -- the command is built as `app` says
 abbrev pub IsCommand : App → Command → Type 0
@@ -46,7 +50,13 @@ MeetsDuty zone report times met = (met.0 ≡ codes "duty")
     × (first_of (codes "zone") met.1 ≡ Some zone) × (first_of (codes "report") met.1 ≡ Some report)
     × (all_of (codes "time") met.1 ≡ Some times)
 
+-- `init` was met, with these arguments
+abbrev pub MeetsInit : Text → Text → Text × List Row → Type 0
+MeetsInit file zone met = (met.0 ≡ codes "init")
+    × (first_of (codes "file") met.1 ≡ Some file) × (first_of (codes "zone") met.1 ≡ Some zone)
+
 -- the action is the subcommand that was met, with the arguments that were found for it
 abbrev pub States : Action → Text × List Row → Type 0
 States (Duty zone report times) met =
     MeetsDuty (string_bytes zone) (string_bytes report) (map string_bytes times.items) met
+States (Init file zone) met = MeetsInit (string_bytes file) (string_bytes zone) met

@@ -1,8 +1,8 @@
--- The words of a plain line of `duty`.
+-- The words of a plain line of each subcommand.
 use Rattle.std.specs.Prelude.{◌≡◌, ◌==◌, Bool, true, not, List, [], ◌∷◌, map, codes, string_bytes}
 use Rattle.clap.specs.Walk.{Text}
 use Rattle.rosterbook.specs.declared.actions.Action.{Action}
-use Rattle.rosterbook.specs.declared.actions.Action.TheVariants.{Duty}
+use Rattle.rosterbook.specs.declared.actions.Action.TheVariants.{Duty, Init}
 
 -- a word that begins with no hyphen (45)
 abbrev pub is_plain : Text → Bool
@@ -17,3 +17,13 @@ duty_words zone report time times = codes "duty" ∷ zone ∷ report ∷ time �
 abbrev pub IsDuty : Text → Text → List Text → Action → Type 0
 IsDuty zone report times (Duty z r ts) =
     (string_bytes z ≡ zone) × (string_bytes r ≡ report) × (map string_bytes ts.items ≡ times)
+IsDuty zone report times (Init f z) = ⊥
+
+-- `init FILE ZONE`
+abbrev pub init_words : Text → Text → List Text
+init_words file zone = codes "init" ∷ file ∷ zone ∷ []
+
+-- the action is `init` with exactly these arguments
+abbrev pub IsInit : Text → Text → Action → Type 0
+IsInit file zone (Init f z) = (string_bytes f ≡ file) × (string_bytes z ≡ zone)
+IsInit file zone (Duty z r ts) = ⊥

@@ -1,12 +1,15 @@
 -- What the program answers: its exit status, and what it writes to standard output and standard error.
 use Rattle.std.specs.Prelude.{◌≡◌, ℕ, Bool, true, false, List, [], ◌∷◌, ◌++◌, codes, map, string_bytes, Option, Result, Ok, Err}
 use Rattle.std.specs.Io.KnownBytes.{Appends}
+use Rattle.time117.specs.Local.{is_zone_text}
 use Rattle.rosterbook.specs.FaultText.{fault_text}
+use Rattle.store.specs.Faults.{create_text}
+use Rattle.store.specs.declared.fault.CreateFault.{CreateFault}
 use Rattle.rosterbook.specs.Verdict.{Line, line_of}
 use Rattle.rosterbook.specs.declared.actions.Action.{Action}
-use Rattle.rosterbook.specs.declared.actions.Action.TheVariants.{Duty}
+use Rattle.rosterbook.specs.declared.actions.Action.TheVariants.{Duty, Init}
 use Rattle.rosterbook.specs.declared.fault.LineFault.{LineFault}
-use Rattle.rosterbook.specs.declared.fault.LineFault.TheVariants.{Memory}
+use Rattle.rosterbook.specs.declared.fault.LineFault.TheVariants.{Zone, Memory}
 use Rattle.rosterbook.specs.declared.status.Status.{Status}
 use Rattle.rosterbook.specs.declared.status.Status.TheVariants.{Done, Refused, Usage, Failed}
 
@@ -29,8 +32,11 @@ abbrev pub verdict_status : Bool → Status
 verdict_status true = Done
 verdict_status false = Refused
 
+abbrev pub refused : List ℕ → List ℕ
+refused fault = codes "refused " ++ fault ++ line_end
+
 abbrev pub refusal_line : LineFault → List ℕ
-refusal_line fault = codes "refused " ++ fault_text fault ++ line_end
+refusal_line fault = refused (fault_text fault)
 
 abbrev pub duty_answer : Result Line LineFault → Answer
 duty_answer (Ok line) = record { status = verdict_status line.1; out = line.0 ++ line_end; err = [] }
@@ -40,9 +46,23 @@ duty_answer (Err fault) = record { status = Refused; out = []; err = refusal_lin
 abbrev pub memory_answer : Answer
 memory_answer = record { status = Failed; out = []; err = refusal_line Memory }
 
+-- a book was made
+abbrev pub ready : Answer
+ready = record { status = Done; out = codes "ready" ++ line_end; err = [] }
+
+-- no book was made
+abbrev pub unmade : CreateFault → Answer
+unmade fault = record { status = Failed; out = []; err = refused (create_text fault) }
+
+-- whether the text is a zone's
+abbrev pub init_answer : Bool → Answer
+init_answer true = ready
+init_answer false = record { status = Refused; out = []; err = refusal_line Zone }
+
 abbrev pub answer_of : Action → Answer
 answer_of (Duty zone report times) =
     duty_answer (line_of (string_bytes zone) (string_bytes report) (map string_bytes times.items))
+answer_of (Init file zone) = init_answer (is_zone_text (string_bytes zone))
 
 -- the bytes that a writer holds, where they are known
 abbrev pub Held : Type 0

@@ -2,7 +2,7 @@
 use Rattle.std.specs.Prelude.{ℕ, Bool, true, false, List, [], ◌∷◌, ◌++◌, length, map, codes, nat_lt, not, ◌&&◌, if◌then◌else◌, Result, Ok, Err}
 use Rattle.std.specs.Fmt.{decimal}
 use Rattle.time117.specs.Instant.{read_instant}
-use Rattle.time117.specs.Local.{is_zone_text, local_minute}
+use Rattle.time117.specs.Local.{is_zone_text}
 use Rattle.time117.specs.declared.minute.TimeFault.{TimeFault}
 use Rattle.duty.specs.DutiesInForce.{fdp_times}
 use Rattle.duty.specs.FdpTimes.{FdpTimes}

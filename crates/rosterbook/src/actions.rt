@@ -12,4 +12,11 @@ pub enum Action {
         /// Block-out and block-in of each segment in turn.
         times: Vec<String>,
     },
+    /// `init FILE ZONE`: make a book in a file.
+    Init {
+        /// The path of the file, which is new or has no book.
+        file: String,
+        /// The POSIX time zone rule of the acclimated crew.
+        zone: String,
+    },
 }

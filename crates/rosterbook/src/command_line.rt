@@ -1,14 +1,14 @@
 //! The words after the program's name, read by `clap`.
 ghost use Rattle.std.specs.Prelude.{◌≡◌, ◌∷◌, IfOk, IsSomeAnd, List, MatchResult, Some, codes};
-ghost use Rattle.std.specs.Prelude.{false, is_some, map, string_bytes, true};
+ghost use Rattle.std.specs.Prelude.{[], false, is_some, map, string_bytes, true};
 ghost use Rattle.std.specs.List.{list_all};
 ghost use Rattle.clap.specs.Walk.{Text, texts};
 ghost use Rattle.clap.specs.Words.{FailsBy, all_of, fault_of, first_of, found_of, kind_of, rows_of};
 ghost use Rattle.clap.specs.Words.{rule_of, subcommand_of, subcommand_rows_of};
 ghost use Rattle.clap.specs.declared.error.kind.ErrorKind.TheVariants.{OutOfMemory};
-ghost use Rattle.rosterbook.specs.Arguments.{HasArguments, HasDuty};
-ghost use Rattle.rosterbook.specs.CommandLine.{IsCommand, States, bare, command_line, duty, wanted};
-ghost use Rattle.rosterbook.specs.Plain.{IsDuty, duty_words, is_plain};
+ghost use Rattle.rosterbook.specs.Arguments.{HasArguments, HasDuty, HasInit};
+ghost use Rattle.rosterbook.specs.CommandLine.{IsCommand, States, bare, command_line, duty, init, wanted};
+ghost use Rattle.rosterbook.specs.Plain.{IsDuty, IsInit, duty_words, init_words, is_plain};
 
 use crate::actions::Action;
 use clap::{Arg, ArgAction, ArgMatches, Command, Error};
@@ -16,6 +16,7 @@ use std::alloc::{AllocError, Global};
 
 const ARGUMENTS: &str = "\
 Arguments of the commands:
+  FILE    file of the book
   ZONE    time zone of the crew, a POSIX rule such as EST5EDT,M3.2.0,M11.1.0
   REPORT  report, a UTC instant such as 2025-06-10T15:59Z
   TIME    block-out and block-in in turn, UTC instants such as 2025-06-10T16:30Z
@@ -29,6 +30,15 @@ Example:
 
 Exit status: 0 within the limits, 1 exceeds one or refused, 2 a mistake in
 the command line, 3 no memory or a failed output";
+
+const INIT_EXAMPLE: &str = "\
+Example:
+  rosterbook init roster.db EST5EDT,M3.2.0,M11.1.0
+
+Exit status: 0 done, 1 the zone is refused, 2 a mistake in the command line,
+3 the file has a book already, or the file, memory or the output fails";
+
+const FILE_HELP: &str = "File of the book, new or empty";
 
 const ZONE_HELP: &str = "\
 Time zone of the acclimated crew, a POSIX rule, which gives the
@@ -52,6 +62,10 @@ pub fn action(alloc: Global, words: &[&str]) -> Result<Action, Error>
         → list_all is_plain (zone ∷ report ∷ time ∷ times) ≡ true
         → MatchResult result (IsDuty zone report (time ∷ times))
         (λ e. kind_of e ≡ OutOfMemory) }
+    ensures init { (file zone : Text)
+        → texts words.now ≡ init_words file zone
+        → list_all is_plain (file ∷ zone ∷ []) ≡ true
+        → MatchResult result (IsInit file zone) (λ e. kind_of e ≡ OutOfMemory) }
 {
     read(alloc, words)
 }
@@ -69,7 +83,9 @@ fn read(alloc: Global, words: &[&str]) -> Result<Action, Error>
 fn command<'a>(alloc: Global) -> Result<Command<'a>, AllocError>
     ensures { IfOk result (IsCommand command_line) }
 {
-    bare_command(alloc)?.subcommand(duty_command(alloc)?)
+    bare_command(alloc)?
+        .subcommand(duty_command(alloc)?)?
+        .subcommand(init_command(alloc)?)
 }
 
 /// The program without its subcommands.
@@ -104,6 +120,19 @@ fn duty_command<'a>(alloc: Global) -> Result<Command<'a>, AllocError>
         .arg(times)
 }
 
+/// The subcommand `init`.
+fn init_command<'a>(alloc: Global) -> Result<Command<'a>, AllocError>
+    ensures { IfOk result (IsCommand init) }
+{
+    let file = positional(alloc, "file", "FILE").help(FILE_HELP);
+    let zone = positional(alloc, "zone", "ZONE").help(ZONE_HELP);
+    Command::new(alloc, "init")
+        .about("Make a book in a new or empty file")
+        .after_help(INIT_EXAMPLE)
+        .arg(file)?
+        .arg(zone)
+}
+
 /// An argument by its place that must be there.
 fn positional<'a>(alloc: Global, id: &'a str, value_name: &'a str) -> Arg<'a>
     ensures rule { rule_of result ≡ wanted id.entry.now }
@@ -120,6 +149,7 @@ fn action_of(alloc: Global, matches: &ArgMatches<'_>) -> Result<Action, AllocErr
     let (name, arguments) = matches.subcommand().unwrap();
     match name {
         "duty" => duty_of(alloc, arguments),
+        "init" => init_of(alloc, arguments),
         _ => unreachable!(),
     }
 }
@@ -134,6 +164,16 @@ fn duty_of(alloc: Global, matches: &ArgMatches<'_>) -> Result<Action, AllocError
         report: text_of(alloc, matches, "report")?,
         times: texts_of(alloc, matches, "time")?,
     })
+}
+
+/// The arguments of `init`.
+fn init_of(alloc: Global, matches: &ArgMatches<'_>) -> Result<Action, AllocError>
+    requires { HasInit (rows_of (found_of matches.now)) }
+    ensures { IfOk result (λ a. States a (codes "init", rows_of (found_of matches.now))) }
+{
+    let file = text_of(alloc, matches, "file")?;
+    let zone = text_of(alloc, matches, "zone")?;
+    Ok(Action::Init { file, zone })
 }
 
 /// The first value of an argument that has one.

@@ -7,8 +7,8 @@ use std::fmt;
 use time117::{TimeFault, ZoneFault};
 use values::MemoryFault;
 
-/// Why `duty_line` gives no line. It is printed as the program prints a refusal: its number, its name, and the flight
-/// duty period where there is one.
+/// Why `duty_line` gives no line; of a zone also why `init` makes no book. It is printed as the program prints a refusal:
+/// its number, its name, and the flight duty period where there is one.
 #[derive(Clone, Copy, Debug, PartialEq, Eq)]
 pub enum LineFault {
     /// The zone is not 1 to 64 bytes of ASCII that read as a POSIX time zone rule.

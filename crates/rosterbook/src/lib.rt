@@ -3,8 +3,11 @@
 
 mod actions;
 mod command_line;
+mod duty_command;
 mod fault;
 mod flight_duty;
+mod init_command;
+mod lines;
 mod program;
 mod refusal;
 mod status;

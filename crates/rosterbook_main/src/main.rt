@@ -4,7 +4,6 @@
 use rosterbook::{Status, action, perform, tell_refusal};
 use std::io::{ErrorKind, Read, Write};
 use std::process::ExitCode;
-use std::rt::Env;
 use std::{env, io};
 
 fn main(rt: HostRuntime) -> ExitCode {
@@ -18,7 +17,7 @@ fn main(rt: HostRuntime) -> ExitCode {
 
 /// Answers the command line. An error says why its words could not be read.
 fn answer<R: Read, O: Write, E: Write>(
-    rt: &(impl Env + AllocGlobal),
+    rt: &HostRuntime,
     reader: &mut R,
     out: &mut O,
     err: &mut E,
@@ -27,7 +26,7 @@ fn answer<R: Read, O: Write, E: Write>(
     let arguments: Vec<String> = env::args(rt)?.skip(1).collect(alloc)?;
     let words: Vec<&str> = arguments.iter().map(|word| word.as_str()).collect(alloc)?;
     match action(alloc, &words) {
-        Ok(action) => Ok(perform(alloc, &action, reader, out, err)),
+        Ok(action) => Ok(perform(rt, &action, reader, out, err)),
         Err(error) => Ok(tell_refusal(&error, out, err)),
     }
 }

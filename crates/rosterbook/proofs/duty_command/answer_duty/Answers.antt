@@ -1,5 +1,5 @@
 use Rattle.rosterbook.proofs.RefusalLemmas.{gives-refusal}
-use Rattle.rosterbook.proofs.program.answer_duty.Goals as goal
+use Rattle.rosterbook.proofs.duty_command.answer_duty.Goals as goal
 
 pub returns-in_ok-refuse-in-Err : goal.returns-in_ok-refuse-in-Err
 returns-in_ok-refuse-in-Err g c =
