@@ -45,6 +45,15 @@ said() {
     echo "status $?"
 }
 
+# made_within KIB FILE: on a disk that takes no more of a file than so many KiB.
+made_within() {
+    (
+        trap '' XFSZ
+        ulimit -f "$1"
+        said ./rosterbook init "$2" "$zone"
+    )
+}
+
 accepted='{"exceedances":[],"result":"accepted"}'
 rows="1|1|$zone
 N1000000|0|Ada Ray
@@ -68,4 +77,8 @@ case_of "asked after a VACUUM" $'2 asked, 2 accepted\nstatus 0' "$(said "$progra
 case_of "rows after a VACUUM" "$rows" "$(all_rows)"
 case_of "a file that is not there" "Error: 40 NotABook" "$("$program" "$room/none" members 2 2>&1)"
 case_of "and is not made" "" "$(ls "$room/none" 2>/dev/null)"
+for kib in 0 4 80; do
+    case_of "made on a disk of $kib KiB" $'refused 90 Store\nstatus 3' "$(made_within "$kib" "$room/full$kib")"
+    case_of "made once there is room after $kib KiB" $'ready\nstatus 0' "$(said ./rosterbook init "$room/full$kib" "$zone")"
+done
 echo "$passed $failed"
