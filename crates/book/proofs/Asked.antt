@@ -1,5 +1,5 @@
 -- From what one command did to what is told of it.
-use Rattle.std.proofs.Common.{◌≡◌, inl, inr, refl, sym, ap, subst, ◌∙◌, ◌||◌, Bool, true, false, IsTrue, Result, Ok, Err, OnOk, IfOk}
+use Rattle.std.proofs.Common.{◌≡◌, refl, sym, ap, subst, ◌∙◌, false, Result, Ok, Err, OnOk, IfOk}
 use Rattle.sqlite.specs.State as conn
 use Rattle.sqlite.specs.State.{HasCleanDisk}
 use Rattle.codec.specs.Laws.{IsCommand}
@@ -9,10 +9,10 @@ use Rattle.roster.specs.declared.change.Change.{Change}
 use Rattle.loading.specs.declared.fault.StoreFault.{StoreFault}
 use Rattle.loading.specs.declared.fault.StoreFault.TheVariants.{Store, Memory}
 use Rattle.store.specs.Next.{IsNext}
-use Rattle.store.specs.Outcomes.{AddsNothing, HoldsNow, Leaves, LeavesSome, either, one}
+use Rattle.store.specs.Outcomes.{HoldsNow, Leaves, LeavesSome, either, one}
 use Rattle.book.specs.Asking.{Did, Done}
-use Rattle.book.specs.Kept.{IsKept, Keeps, is_store_fault}
-use Rattle.book.proofs.States.{kept_after, shown_before, keeps_as, shows_as, either_as, same_state, one_of_either}
+use Rattle.book.specs.Kept.{Keeps, is_store_fault}
+use Rattle.book.proofs.States.{kept_after, shown_before, keeps_as, shows_as, either_as, same_state}
 
 -- ---- A change
 

@@ -1,12 +1,11 @@
 -- Commands in turn, up to one more.
-use Rattle.std.proofs.Common.{◌≡◌, ◌<◌, ℕ, zero, suc, ◌+◌, List, [], ◌∷◌, ◌++◌, Result, length, take, get_or, refl, ap, subst, sym, ◌∙◌, add-one, arith, inl, inr}
+use Rattle.std.proofs.Common.{◌≡◌, ◌<◌, ℕ, zero, suc, ◌+◌, List, [], ◌∷◌, ◌++◌, Result, length, take, get_or, refl, ap, subst, sym, add-one, arith, inl, inr}
 use Rattle.sqlite.specs.State as conn
 use Rattle.sqlite.specs.State.{HasCleanDisk}
 use Rattle.command.specs.declared.exceedance.Reply.{Reply}
 use Rattle.command.specs.declared.refusal.Refusal.{Refusal}
 use Rattle.roster.specs.Folds.{Asked, Fold, Replies, answer_of, next}
 use Rattle.roster.specs.Honest.{Honest}
-use Rattle.roster.specs.Sound.{Sound}
 use Rattle.roster.specs.State.{State}
 use Rattle.roster.specs.Steps.{step_of}
 use Rattle.store.specs.Outcomes.{Leaves, either, one}

@@ -7,9 +7,9 @@ use Rattle.roster.specs.Folds.{Asked, Fold, Session, Stopped, next}
 use Rattle.roster.specs.State.{State}
 use Rattle.loading.specs.declared.fault.StoreFault.{StoreFault}
 use Rattle.loading.specs.declared.fault.StoreFault.TheVariants.{Store, Memory}
-use Rattle.store.specs.Outcomes.{Leaves, either, one}
+use Rattle.store.specs.Outcomes.{Leaves, either}
 use Rattle.book.specs.Kept.{Ends, Keeps}
-use Rattle.book.specs.Sessions.{IsAfter, count_of, fault_of, taken_up}
+use Rattle.book.specs.Sessions.{IsAfter, count_of, fault_of}
 
 stopped_append : (s : State) (l : List Session) (x : Session) → Stopped s (l ++ x ∷ []) ≡ Fold (Stopped s l) (take x.done x.asked)
 stopped_append s [] x = refl

@@ -1,5 +1,5 @@
 -- A state that tables may mean stays one after each command, and is the only one that they mean.
-use Rattle.std.proofs.Common.{◌≡◌, ◌⊎◌, inl, inr, refl, sym, ap, subst, ◌∙◌, ℕ, Bool, IsTrue, true, false, cond, List, Option, Some, None}
+use Rattle.std.proofs.Common.{◌≡◌, inl, inr, refl, sym, ap, subst, ◌∙◌, ℕ, true, cond, List, Some, None}
 use Rattle.std.specs.FinMap as fin
 use Rattle.std.specs.Ordering.{eq_by_cmp}
 use Rattle.std.proofs.Math.Logic.{∥∥₁_elim}
@@ -37,7 +37,6 @@ use Rattle.roster.specs.declared.state.Request.{Request}
 use Rattle.loading.specs.SameRows.{HasInstants}
 use Rattle.loading.proofs.SameStates.{database_holds_one_state}
 use Rattle.store.specs.Kept.{IsBookOf, Holds}
-use Rattle.store.specs.Next.{IsNext}
 use Rattle.store.specs.Outcomes.{AddsNothing, HoldsNow, Leaves, LeavesSome, either, one}
 use Rattle.book.specs.Kept.{IsKept, Keeps}
 

@@ -1,5 +1,5 @@
 -- What contracts see of a book, and what a crash leaves of it.
-use Rattle.std.specs.Prelude.{◌≡◌, ℕ, ◌+◌, take, Bool, true, false, List, Result, Ok, Err, Option, Some, None, refl}
+use Rattle.std.specs.Prelude.{ℕ, ◌+◌, take, Bool, true, false, List, Result, Ok, Err, Option, Some, None, refl}
 use Rattle.std.specs.Coded.{Coded, code_by, coded×, coded_bool}
 use Rattle.sqlite_trees.specs.declared.store.Store.{Ghosts}
 use Rattle.sqlite.specs.State as conn

@@ -1,8 +1,8 @@
-use Rattle.std.proofs.Common.{◌≡◌, sym, ap, rules, ◌∙◌}
+use Rattle.std.proofs.Common.{sym}
 use Rattle.sqlite.specs.Held.{state}
 use Rattle.roster.specs.Folds.{next}
 use Rattle.roster.specs.Steps.{after}
-use Rattle.book.proofs.Asked.{did_nothing, did_answer, did_as, did_with, did_with_fault}
+use Rattle.book.proofs.Asked.{did_answer, did_as, did_with}
 use Rattle.book.proofs.States.{next_repeated, next_refused, next_accepted}
 use Rattle.book.proofs.keeping.answer.Goals as goal
 

@@ -1,4 +1,4 @@
-use Rattle.std.proofs.Common.{◌≡◌, refl, ◌++◌, ◌∷◌, ◌||◌, ◌+◌, [], true, false, Err, Some, None, sym, ap, subst, ◌∙◌, length, map, take, arith, rules, is_ok, length-append}
+use Rattle.std.proofs.Common.{◌≡◌, refl, ◌++◌, ◌∷◌, ◌||◌, ◌+◌, [], true, false, Err, Some, sym, ap, ◌∙◌, length, map, take, arith, rules, is_ok, length-append}
 use Rattle.std.proofs.lemmas.List.{map-append}
 use Rattle.sqlite.specs.Held.{state}
 use Rattle.roster.specs.Folds.{Fold, Replies, next}
@@ -6,7 +6,7 @@ use Rattle.roster.specs.Honest.{Honest}
 use Rattle.loading.specs.declared.fault.StoreFault.{StoreFault}
 use Rattle.loading.specs.declared.fault.StoreFault.TheVariants.{Store, Memory}
 use Rattle.store.specs.Outcomes.{Leaves}
-use Rattle.book.specs.Kept.{Ends, Keeps, HasTables, IsAt, result_of}
+use Rattle.book.specs.Kept.{Ends, result_of}
 use Rattle.book.proofs.States.{one_of_either}
 use Rattle.book.proofs.Runs.{answer_in, fold_more, replies_more, one_honest, either_honest}
 use Rattle.book.proofs.keeping.Book.answer_all.Goals as goal

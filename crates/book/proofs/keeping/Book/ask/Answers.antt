@@ -1,4 +1,4 @@
-use Rattle.std.proofs.Common.{◌≡◌, ◌∙◌, Err, sym}
+use Rattle.std.proofs.Common.{◌∙◌, sym}
 use Rattle.sqlite.specs.Held.{state}
 use Rattle.roster.specs.Folds.{Stopped, answer_of, next}
 use Rattle.roster.specs.State.{State}
