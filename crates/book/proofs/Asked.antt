@@ -1,5 +1,5 @@
 -- From what one command did to what is told of it.
-use Rattle.std.proofs.Common.{◌≡◌, refl, sym, ap, subst, ◌∙◌, false, Result, Ok, Err, OnOk, IfOk}
+use Rattle.std.proofs.Common.{◌≡◌, refl, sym, ap, subst, ◌∙◌, false, Result, Ok, Err, OnOk, OnErr, IfOk}
 use Rattle.sqlite.specs.State as conn
 use Rattle.sqlite.specs.State.{HasCleanDisk}
 use Rattle.codec.specs.Laws.{IsCommand}
@@ -9,16 +9,16 @@ use Rattle.roster.specs.declared.change.Change.{Change}
 use Rattle.loading.specs.declared.fault.StoreFault.{StoreFault}
 use Rattle.loading.specs.declared.fault.StoreFault.TheVariants.{Store, Memory}
 use Rattle.store.specs.Next.{IsNext}
-use Rattle.store.specs.Outcomes.{HoldsNow, Leaves, LeavesSome, either, one}
+use Rattle.store.specs.Outcomes.{HoldsNow, Leaves, LeavesSome, StillShows, either, one}
 use Rattle.book.specs.Asking.{Did, Done}
-use Rattle.book.specs.Kept.{Keeps, is_store_fault}
-use Rattle.book.proofs.States.{kept_after, shown_before, keeps_as, shows_as, either_as, same_state}
+use Rattle.book.specs.Kept.{Keeps, StillHolds, either_kept, is_store_fault}
+use Rattle.book.proofs.States.{both_kept, kept_after, shows_still, shown_still, shown_before, keeps_as, shows_as, either_as, still_as, same_state}
 
 -- ---- A change
 
 -- nothing was done
 pub did_nothing : {A : Type 0} (now : conn.State) (was wanted : State) → Keeps now was → Did {A = A} now now was was wanted (Err Memory)
-did_nothing now was wanted keeps = record { clean = λ clean. clean; some = keeps.some; done = (refl, keeps) }
+did_nothing now was wanted keeps = record { clean = λ clean. clean; some = keeps.some; done = (refl, keeps, shows_still now was) }
 
 -- it was answered with the same state
 pub did_answer : {A : Type 0} (now : conn.State) (was wanted : State) (a : A) → Keeps now was → wanted ≡ was → Did now now was was wanted (Ok a)
@@ -45,16 +45,31 @@ module _ (old new : conn.State) (was : State) (change : Change) (keeps : Keeps o
   -- it was not, or nobody knows
   pub did_fail : {A B : Type 0} (fault : StoreFault) →
       (Leaves old (one was) → ◌≡◌ {A = Result B StoreFault} (Err fault) (Err Memory) → Leaves new (one was)) →
-      (IsNext was change → Leaves old (one was) → ◌≡◌ {A = Result B StoreFault} (Err fault) (Err Store) → Leaves new (either was (after was change))) → Did {A = A} old new was was (after was change) (Err fault)
-  did_fail Memory memory store = record {
+      (IsNext was change → Leaves old (one was) → ◌≡◌ {A = Result B StoreFault} (Err fault) (Err Store) → Leaves new (either was (after was change))) →
+      (◌≡◌ {A = Result B StoreFault} (Err fault) (Err Store) → IsCommand change.command) → StillShows old new → Did {A = A} old new was was (after was change) (Err fault)
+  did_fail Memory memory store command shown = record {
     clean = clean;
     some = some;
-    done = (refl, record { kept = λ c. keeps.kept (clean c); leaves = memory keeps.leaves refl; some = some });
+    done = (
+      refl,
+      record { kept = λ c. keeps.kept (clean c); leaves = memory keeps.leaves refl; some = some },
+      shown_still old new was clean shown,
+    );
   }
-  did_fail Store memory store = record {
+  did_fail Store memory store command shown = record {
     clean = clean;
     some = some;
-    done = record { crash = λ c trees may. (store (next (clean c)) keeps.leaves refl).crash c trees may };
+    done = (
+      record {
+        crash = λ c trees may.
+            let it = (store (next (clean c)) keeps.leaves refl).crash c trees may in
+            let n = next (clean c) in
+            let first = keeps.kept (clean c) in
+            let second = kept_after was n.key n.order change n.reply (command refl) first n.accepted in
+            (it.0, (it.1, both_kept was (after was change) it.0 it.1 first second), it.2);
+      },
+      shown_still old new was clean shown,
+    );
   }
 
 -- the same, where the state that was wanted has another name
@@ -94,10 +109,15 @@ module _ (old new : conn.State) (was : State) (of : State → State) (held : Kee
   told_memory roster (Err Memory) done is = keeps_as old new s was held keeps clean (λ x. x) roster done.1 done.0
   told_memory roster (Err Store) done is = absurd (cc)
 
-  pub told_store : {A : Type 0} (roster : State) (result : Result A StoreFault) → Done old new was roster (of was) result → result ≡ Err Store → Leaves new (either s (of s))
+  pub told_store : {A : Type 0} (roster : State) (result : Result A StoreFault) → Done old new was roster (of was) result → result ≡ Err Store → Leaves new (either_kept s (of s))
   told_store roster (Ok a) done is = absurd (cc)
   told_store roster (Err Memory) done is = absurd (cc)
-  told_store roster (Err Store) done is = either_as old new s was held keeps clean of done
+  told_store roster (Err Store) done is = either_as old new s was held keeps clean of done.0
+
+  pub told_shown : {A : Type 0} (roster : State) (result : Result A StoreFault) → Done old new was roster (of was) result → HoldsNow old s → OnErr result (StillHolds new s)
+  told_shown roster (Ok a) done shown = tt
+  told_shown roster (Err Memory) done shown = still_as old new s was held keeps clean (done.2 (shown_before old s was keeps held shown))
+  told_shown roster (Err Store) done shown = still_as old new s was held keeps clean (done.1 (shown_before old s was keeps held shown))
 
   pub told_reply : {A B : Type 0} (result : Result A StoreFault) (answer : A → B) (reply : State → B) → IfOk result (λ a. answer a ≡ reply was) → HasCleanDisk new → IfOk result (λ a. answer a ≡ reply s)
   told_reply (Ok a) answer reply is c = is ∙ ap reply (same_state old was s held keeps (clean c))

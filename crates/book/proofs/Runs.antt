@@ -1,5 +1,5 @@
 -- Commands in turn, up to one more.
-use Rattle.std.proofs.Common.{◌≡◌, ◌<◌, ℕ, zero, suc, ◌+◌, List, [], ◌∷◌, ◌++◌, Result, length, take, get_or, refl, ap, subst, sym, add-one, arith, inl, inr}
+use Rattle.std.proofs.Common.{◌≡◌, ◌<◌, ℕ, zero, suc, ◌+◌, List, [], ◌∷◌, ◌++◌, Result, length, take, get_or, refl, ap, subst, sym, add-one, arith, inl, inr, Ok, Err, OnOk}
 use Rattle.sqlite.specs.State as conn
 use Rattle.sqlite.specs.State.{HasCleanDisk}
 use Rattle.command.specs.declared.exceedance.Reply.{Reply}
@@ -8,7 +8,10 @@ use Rattle.roster.specs.Folds.{Asked, Fold, Replies, answer_of, next}
 use Rattle.roster.specs.Honest.{Honest}
 use Rattle.roster.specs.State.{State}
 use Rattle.roster.specs.Steps.{step_of}
+use Rattle.loading.specs.declared.fault.StoreFault.{StoreFault}
+use Rattle.loading.specs.declared.fault.StoreFault.TheVariants.{Store, Memory}
 use Rattle.store.specs.Outcomes.{Leaves, either, one}
+use Rattle.book.specs.Kept.{Keeps, either_kept}
 
 fold_suc : (s : State) (l : List Asked) (i : ℕ) (a : Asked) → i < length l → Fold s (take (suc i) l) ≡ next (Fold s (take i l)) (get_or l i a)
 fold_suc s [] i a h = absurd (omega arith)
@@ -41,7 +44,14 @@ either_one : (s t r : State) → either s t r → Honest s → Honest t → Hone
 either_one s t r (inl is) first second = subst Honest (sym is) first
 either_one s t r (inr is) first second = subst Honest (sym is) second
 
-pub either_honest : (now : conn.State) (s t : State) → Leaves now (either s t) → Honest s → Honest t → Leaves now Honest
+pub either_honest : (now : conn.State) (s t : State) → Leaves now (either_kept s t) → Honest s → Honest t → Leaves now Honest
 either_honest now s t leaves first second = record {
-  crash = λ clean trees may. let it = leaves.crash clean trees may in (it.0, either_one s t it.0 it.1 first second, it.2);
+  crash = λ clean trees may. let it = leaves.crash clean trees may in (it.0, either_one s t it.0 it.1.0 first second, it.2);
 }
+
+-- whatever became of one command
+pub honest_left : {A : Type 0} (now : conn.State) (s t : State) (result : Result A StoreFault) → OnOk result (Keeps now t) → (result ≡ Err Memory → Keeps now s) → (result ≡ Err Store → Leaves now (either_kept s t)) →
+    Honest s → Honest t → Leaves now Honest
+honest_left now s t (Ok a) answered memory store first second = one_honest now t answered.leaves second
+honest_left now s t (Err Memory) answered memory store first second = one_honest now s (memory refl).leaves first
+honest_left now s t (Err Store) answered memory store first second = either_honest now s t (store refl) first second

@@ -1,5 +1,5 @@
 -- The session that a call adds.
-use Rattle.std.proofs.Common.{◌≡◌, ◌≤◌, ◌<◌, ◌⊎◌, inl, inr, refl, sym, ap, ◌∙◌, arith, ℕ, zero, suc, ◌+◌, List, [], ◌∷◌, ◌++◌, length, take, Option, Some, None, Result, Ok, Err, OnOk}
+use Rattle.std.proofs.Common.{◌≡◌, ◌≤◌, ◌<◌, ◌⊎◌, inl, inr, refl, sym, ap, subst, ◌∙◌, arith, ℕ, zero, suc, ◌+◌, List, [], ◌∷◌, ◌++◌, length, take, Option, Some, None, Result, Ok, Err, OnOk}
 use Rattle.std.proofs.lemmas.List.{length-take-le}
 use Rattle.std.proofs.lemmas.Bool.{cases_lt}
 use Rattle.sqlite.specs.State as conn
@@ -8,7 +8,7 @@ use Rattle.roster.specs.State.{State}
 use Rattle.loading.specs.declared.fault.StoreFault.{StoreFault}
 use Rattle.loading.specs.declared.fault.StoreFault.TheVariants.{Store, Memory}
 use Rattle.store.specs.Outcomes.{Leaves, either}
-use Rattle.book.specs.Kept.{Ends, Keeps}
+use Rattle.book.specs.Kept.{Ends, IsKept, Keeps, either_kept}
 use Rattle.book.specs.Sessions.{IsAfter, count_of, fault_of}
 
 stopped_append : (s : State) (l : List Session) (x : Session) → Stopped s (l ++ x ∷ []) ≡ Fold (Stopped s l) (take x.done x.asked)
@@ -32,7 +32,7 @@ take_past [] (suc n) h = refl
 take_past (x ∷ xs) zero h = absurd (omega arith)
 take_past (x ∷ xs) (suc n) h = ap (λ t. x ∷ t) (take_past xs n (omega arith))
 
-module _ (s : State) (before : List Session) (l : List Asked) (n : ℕ) (t : State) (count : n ≤ length l) where
+module _ (s : State) (before : List Session) (l : List Asked) (n : ℕ) (t : State) (count : n ≤ length l) (kept : IsKept t) where
   -- all were answered
   all_done : n ≡ length l → t ≡ Fold (Stopped s before) l → IsAfter s before l n None t
   all_done whole is =
@@ -44,7 +44,7 @@ module _ (s : State) (before : List Session) (l : List Asked) (n : ℕ) (t : Sta
         answered_done = omega (arith, whole);
         asked_first = omega arith;
       } in
-      record { session = x; asked = refl; answered = refl; left = is ∙ ap (Fold (Stopped s before)) (sym (take_whole l)) ∙ sym (stopped_append s before x) }
+      record { session = x; asked = refl; answered = refl; kept = kept; left = is ∙ ap (Fold (Stopped s before)) (sym (take_whole l)) ∙ sym (stopped_append s before x) }
 
   -- one met want of memory
   some_done : t ≡ Fold (Stopped s before) (take n l) → IsAfter s before l n (Some Memory) t
@@ -58,7 +58,7 @@ module _ (s : State) (before : List Session) (l : List Asked) (n : ℕ) (t : Sta
         answered_done = omega arith;
         asked_first = omega (arith, counted);
       } in
-      record { session = x; asked = refl; answered = refl; left = is ∙ ap (Fold (Stopped s before)) (sym (take_within l n n (omega arith))) ∙ sym (stopped_append s before x) }
+      record { session = x; asked = refl; answered = refl; kept = kept; left = is ∙ ap (Fold (Stopped s before)) (sym (take_within l n n (omega arith))) ∙ sym (stopped_append s before x) }
 
   -- one is in doubt
   doubt : (n < length l) ⊎ (length l ≤ n) → (n ≡ length (take (n + 1) l)) ⊎ (n + 1 ≡ length (take (n + 1) l))
@@ -80,7 +80,7 @@ module _ (s : State) (before : List Session) (l : List Asked) (n : ℕ) (t : Sta
         answered_done = omega arith;
         asked_first = reaches last;
       } in
-      record { session = x; asked = refl; answered = refl; left = is ∙ ap (Fold (Stopped s before)) (sym (take_within l n (n + 1) (omega arith))) ∙ sym (stopped_append s before x) }
+      record { session = x; asked = refl; answered = refl; kept = kept; left = is ∙ ap (Fold (Stopped s before)) (sym (take_within l n (n + 1) (omega arith))) ∙ sym (stopped_append s before x) }
 
   done : t ≡ Fold (Stopped s before) (take (n + 1) l) → IsAfter s before l n (Some Store) t
   done is =
@@ -93,7 +93,7 @@ module _ (s : State) (before : List Session) (l : List Asked) (n : ℕ) (t : Sta
         answered_done = reaches last;
         asked_first = omega arith;
       } in
-      record { session = x; asked = refl; answered = refl; left = is ∙ ap (Fold (Stopped s before)) (sym (take_whole (take (n + 1) l))) ∙ sym (stopped_append s before x) }
+      record { session = x; asked = refl; answered = refl; kept = kept; left = is ∙ ap (Fold (Stopped s before)) (sym (take_whole (take (n + 1) l))) ∙ sym (stopped_append s before x) }
 
   done_or_not : either (Fold (Stopped s before) (take n l)) (Fold (Stopped s before) (take (n + 1) l)) t → IsAfter s before l n (Some Store) t
   done_or_not (inl is) = undone is
@@ -104,23 +104,23 @@ module _ (now : conn.State) (s : State) (before : List Session) (l : List Asked)
   adds_session None whole ends = record {
     crash = λ clean trees may.
         let it = ends.leaves.crash clean trees may in
-        (it.0, all_done s before l n it.0 count (whole refl) it.1, it.2);
+        (it.0, all_done s before l n it.0 count (subst IsKept (sym it.1) (ends.kept clean)) (whole refl) it.1, it.2);
   }
   adds_session (Some Memory) whole ends = record {
     crash = λ clean trees may.
         let it = ends.leaves.crash clean trees may in
-        (it.0, some_done s before l n it.0 count it.1, it.2);
+        (it.0, some_done s before l n it.0 count (subst IsKept (sym it.1) (ends.kept clean)) it.1, it.2);
   }
   adds_session (Some Store) whole ends = record {
     crash = λ clean trees may.
         let it = ends.crash clean trees may in
-        (it.0, done_or_not s before l n it.0 count it.1, it.2);
+        (it.0, done_or_not s before l n it.0 count it.1.1 it.1.0, it.2);
   }
 
 -- ---- One command
 
 module _ (now : conn.State) (s : State) (a : Asked) where
-  one_ends : {A : Type 0} (result : Result A StoreFault) → OnOk result (Keeps now (next s a)) → (result ≡ Err Memory → Keeps now s) → (result ≡ Err Store → Leaves now (either s (next s a))) →
+  one_ends : {A : Type 0} (result : Result A StoreFault) → OnOk result (Keeps now (next s a)) → (result ≡ Err Memory → Keeps now s) → (result ≡ Err Store → Leaves now (either_kept s (next s a))) →
       Ends now s (a ∷ []) (count_of result) (fault_of result)
   one_ends (Ok x) answered memory store = answered
   one_ends (Err Memory) answered memory store = memory refl
@@ -135,7 +135,7 @@ one_whole a (Ok x) is = refl
 one_whole a (Err fault) is = absurd (cc)
 
 pub adds_one : {A : Type 0} (now : conn.State) (s : State) (before : List Session) (a : Asked) (result : Result A StoreFault) →
-    OnOk result (Keeps now (next (Stopped s before) a)) → (result ≡ Err Memory → Keeps now (Stopped s before)) → (result ≡ Err Store → Leaves now (either (Stopped s before) (next (Stopped s before) a))) →
+    OnOk result (Keeps now (next (Stopped s before) a)) → (result ≡ Err Memory → Keeps now (Stopped s before)) → (result ≡ Err Store → Leaves now (either_kept (Stopped s before) (next (Stopped s before) a))) →
     Leaves now (IsAfter s before (a ∷ []) (count_of result) (fault_of result))
 adds_one now s before a result answered memory store =
     adds_session now s before (a ∷ []) (count_of result) (one_counts a result) (fault_of result) (one_whole a result) (one_ends now (Stopped s before) a result answered memory store)

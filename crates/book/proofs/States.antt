@@ -12,6 +12,7 @@ use Rattle.sqlite_trees.specs.Tree.{Trees}
 use Rattle.sqlite_catalog.proofs.ReadLemmas.{lists_once}
 use Rattle.sqlite.specs.State as conn
 use Rattle.sqlite.specs.State.{HasCleanDisk}
+use Rattle.sqlite.specs.Effect.{Database}
 use Rattle.command.specs.Keys.{KeyParts, key_name}
 use Rattle.command.specs.Orders.{IsMade}
 use Rattle.command.specs.declared.exceedance.Reply.{Reply}
@@ -37,8 +38,8 @@ use Rattle.roster.specs.declared.state.Request.{Request}
 use Rattle.loading.specs.SameRows.{HasInstants}
 use Rattle.loading.proofs.SameStates.{database_holds_one_state}
 use Rattle.store.specs.Kept.{IsBookOf, Holds}
-use Rattle.store.specs.Outcomes.{AddsNothing, HoldsNow, Leaves, LeavesSome, either, one}
-use Rattle.book.specs.Kept.{IsKept, Keeps}
+use Rattle.store.specs.Outcomes.{AddsNothing, HoldsNow, Leaves, LeavesSome, StillShows, either, one}
+use Rattle.book.specs.Kept.{IsKept, Keeps, StillHolds, either_kept}
 
 some_same : {A : Type 0} {a b : A} → Some a ≡ Some b → a ≡ b
 some_same e = cc
@@ -114,8 +115,23 @@ begun now zone roster is leaves some =
 pub begun_at : (now : conn.State) (zone : List ℕ) (roster : State) → roster ≡ empty zone → Leaves now (one (empty roster.zone)) → LeavesSome now → Keeps now (empty zone)
 begun_at now zone roster is leaves some = subst (λ (s : State). Keeps now s) is (begun now zone roster is leaves some)
 
-pub one_of_either : (now : conn.State) (s t : State) → Leaves now (one s) → Leaves now (either s t)
-one_of_either now s t leaves = record { crash = λ clean trees may. let it = leaves.crash clean trees may in (it.0, inl it.1, it.2) }
+pub one_of_either : (now : conn.State) (s t : State) → Keeps now s → Leaves now (either_kept s t)
+one_of_either now s t keeps = record {
+  crash = λ clean trees may. let it = keeps.leaves.crash clean trees may in (it.0, (inl it.1, subst IsKept (sym it.1) (keeps.kept clean)), it.2);
+}
+
+pub both_kept : (s t r : State) → either s t r → IsKept s → IsKept t → IsKept r
+both_kept s t r (inl is) first second = subst IsKept (sym is) first
+both_kept s t r (inr is) first second = subst IsKept (sym is) second
+
+-- what is shown of a state that is held stays so while nothing changes
+pub shows_still : (now : conn.State) (s : State) → HoldsNow now s → StillHolds now s
+shows_still now s shown clean opened = (shown clean).1
+
+pub shown_still : (old new : conn.State) (s : State) → (HasCleanDisk new → HasCleanDisk old) → StillShows old new → HoldsNow old s → StillHolds new s
+shown_still old new s honest still shown clean opened =
+    let it = still clean opened in
+    subst (λ (db : Database). IsBookOf s db) (sym it.1) (shown (honest clean)).1
 
 -- ---- A command
 
@@ -159,5 +175,8 @@ module _ (old new : conn.State) (s r : State) (held : Keeps old r) (keeps : Keep
   pub shows_as : (of : State → State) (t : State) → HoldsNow new t → t ≡ of r → HoldsNow new (of s)
   shows_as of t shown is clean = let it = shown clean in (it.0, subst (λ (x : State). IsBookOf x new.now) (is ∙ ap of (same clean)) it.1)
 
-  pub either_as : (of : State → State) → Leaves new (either r (of r)) → Leaves new (either s (of s))
-  either_as of now = record { crash = λ clean trees may. subst (λ (x : State). (t : State) × either x (of x) t × Holds trees t) (same clean) (now.crash clean trees may) }
+  pub either_as : (of : State → State) → Leaves new (either_kept r (of r)) → Leaves new (either_kept s (of s))
+  either_as of now = record { crash = λ clean trees may. subst (λ (x : State). (t : State) × either_kept x (of x) t × Holds trees t) (same clean) (now.crash clean trees may) }
+
+  pub still_as : StillHolds new r → StillHolds new s
+  still_as shown clean opened = subst (λ (x : State). IsBookOf x new.now) (same clean) (shown clean opened)

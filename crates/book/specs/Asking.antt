@@ -5,14 +5,14 @@ use Rattle.sqlite.specs.State.{HasCleanDisk}
 use Rattle.roster.specs.State.{State}
 use Rattle.loading.specs.declared.fault.StoreFault.{StoreFault}
 use Rattle.loading.specs.declared.fault.StoreFault.TheVariants.{Store, Memory}
-use Rattle.store.specs.Outcomes.{Leaves, LeavesSome, HoldsNow, either}
-use Rattle.book.specs.Kept.{Keeps}
+use Rattle.store.specs.Outcomes.{Leaves, LeavesSome, HoldsNow}
+use Rattle.book.specs.Kept.{Keeps, StillHolds, either_kept}
 
 -- the roster became this state and so did the tables, neither changed, or the tables are of one of the two
 abbrev pub Done : {A : Type 0} → conn.State → conn.State → State → State → State → Result A StoreFault → Type 0
 Done old new was roster wanted (Ok a) = (roster ≡ wanted) × Keeps new roster × (HoldsNow old was → HoldsNow new roster)
-Done old new was roster wanted (Err Memory) = (roster ≡ was) × Keeps new roster
-Done old new was roster wanted (Err Store) = Leaves new (either was wanted)
+Done old new was roster wanted (Err Memory) = (roster ≡ was) × Keeps new roster × (HoldsNow old was → StillHolds new was)
+Done old new was roster wanted (Err Store) = Leaves new (either_kept was wanted) × (HoldsNow old was → StillHolds new was)
 
 pub record Did {A : Type 0} (old new : conn.State) (was roster wanted : State) (result : Result A StoreFault) : Type 0 where
   pub clean : HasCleanDisk new → HasCleanDisk old

@@ -1,5 +1,5 @@
 -- What contracts see of a book, and what a crash leaves of it.
-use Rattle.std.specs.Prelude.{ℕ, ◌+◌, take, Bool, true, false, List, Result, Ok, Err, Option, Some, None, refl}
+use Rattle.std.specs.Prelude.{ℕ, ◌+◌, take, Bool, true, false, List, Result, Ok, Err, Option, Some, None, refl, IsTrue}
 use Rattle.std.specs.Coded.{Coded, code_by, coded×, coded_bool}
 use Rattle.sqlite_trees.specs.declared.store.Store.{Ghosts}
 use Rattle.sqlite.specs.State as conn
@@ -15,6 +15,7 @@ use Rattle.loading.specs.Rows.{request}
 use Rattle.loading.specs.SameRows.{HasInstants}
 use Rattle.loading.specs.declared.fault.StoreFault.{StoreFault}
 use Rattle.loading.specs.declared.fault.StoreFault.TheVariants.{Store, Memory}
+use Rattle.store.specs.Kept.{IsBookOf}
 use Rattle.store.specs.Outcomes.{Leaves, LeavesSome, HoldsNow, one, either}
 use Rattle.book.specs.declared.answer.Answer.{Answer}
 use Rattle.book.specs.declared.answer.Answer.TheVariants.{Accepted, Refused}
@@ -41,6 +42,14 @@ pub record IsKept (s : State) : Type 0 where
   pub sound : Sound s
   pub instants : HasInstants s
 
+-- one of these two, as a state that tables may mean
+abbrev pub either_kept : State → State → State → Type 0
+either_kept s t = λ r. either s t r × IsKept r
+
+-- while it is open, it has the tables of a book in this state
+abbrev pub StillHolds : conn.State → State → Type 0
+StillHolds now s = HasCleanDisk now → IsTrue now.is_open → IsBookOf s now.now
+
 -- a crash leaves this state, which tables may mean, and nothing else
 pub record Keeps (now : conn.State) (s : State) : Type 0 where
   pub kept : HasCleanDisk now → IsKept s
@@ -52,9 +61,13 @@ module _ {S : Type 0} (g : Ghosts S) (book : Kept S) where
   abbrev pub IsAt : State → Type 0
   IsAt s = Keeps (state g book.held) s
 
-  -- or one of these two
+  -- or one of these two, which tables may mean
   abbrev pub IsInDoubt : State → State → Type 0
-  IsInDoubt s t = Leaves (state g book.held) (either s t)
+  IsInDoubt s t = Leaves (state g book.held) (either_kept s t)
+
+  -- as long as it is open, its tables mean this state
+  abbrev pub StillHasTables : State → Type 0
+  StillHasTables s = StillHolds (state g book.held) s
 
 -- the tables that were found mean a state; they still do, and a crash leaves it and nothing else
 pub record Means (found now : conn.State) : Type 0 where
@@ -81,4 +94,4 @@ is_some_store_fault _ = false
 abbrev pub Ends : conn.State → State → List Asked → ℕ → Option StoreFault → Type 0
 Ends now s l n None = Keeps now (Fold s l)
 Ends now s l n (Some Memory) = Keeps now (Fold s (take n l))
-Ends now s l n (Some Store) = Leaves now (either (Fold s (take n l)) (Fold s (take (n + 1) l)))
+Ends now s l n (Some Store) = Leaves now (either_kept (Fold s (take n l)) (Fold s (take (n + 1) l)))

@@ -1,4 +1,4 @@
-ghost use Rattle.std.specs.Prelude.{◌≡◌, ◌≤◌, ◌⊎◌, ◌||◌, false, [], ◌∷◌, Err, IfErr, IfOk, IsErrAnd, IsTrue, List, None, OnOk, Some, length, map, take};
+ghost use Rattle.std.specs.Prelude.{◌≡◌, ◌<◌, ◌≤◌, ◌⊎◌, ◌||◌, false, [], ◌∷◌, Err, IfErr, IfOk, IsErrAnd, IsSome, IsTrue, List, None, OnErr, OnOk, Some, length, map, take};
 ghost use Rattle.std.specs.FinMap as fin;
 ghost use Rattle.sqlite.specs.Held.{state};
 ghost use Rattle.sqlite.specs.State.{HasCleanDisk, IsUnchanged};
@@ -15,7 +15,7 @@ ghost use Rattle.store.specs.Making.{IsFree};
 ghost use Rattle.store.specs.Outcomes.{AddsNothing, AddsOnly, IsOutside, Leaves, LeavesOnly, LeavesSome, MayAdd};
 ghost use Rattle.book.specs.Asking.{Did};
 ghost use Rattle.book.specs.Sessions.{IsAfter, count_of, fault_of};
-ghost use Rattle.book.specs.Kept.{Ends, HasTables, IsAt, IsClean, IsInDoubt, Keeps, Means, is_store_fault, is_some_store_fault, result_of};
+ghost use Rattle.book.specs.Kept.{Ends, HasTables, IsAt, IsClean, IsInDoubt, Keeps, Means, StillHasTables, is_store_fault, is_some_store_fault, result_of};
 
 use crate::answer::{Answer, Run};
 use command::{Command, Key};
@@ -79,6 +79,7 @@ impl<S: Alter> Book<S> {
         ensures alone { IfOk result (λ b. LeavesOnly (state S.Store b.held) (KeepPlain (state S.Store conn).now)) }
         ensures others { IfErr result (λ e. AddsOnly (state S.Store conn) (state S.Store e.1) (KeepPlain (state S.Store conn).now)) }
         ensures outside { IfErr result (λ e. IsOutside (state S.Store e.1)) }
+        ensures some_left { IfErr result (λ e. LeavesSome (state S.Store e.1)) }
     {
         let Ok(roster) = Roster::empty(alloc, zone) else {
             return Err((CreateFault::Fault(StoreFault::Memory), conn));
@@ -101,6 +102,7 @@ impl<S: Alter> Book<S> {
         ensures refused { IfErr result (λ e. HasCleanDisk (state S.Store e.1) → Says e.0 (state S.Store conn).now) }
         ensures kept { IfErr result (λ e. AddsNothing (state S.Store conn) (state S.Store e.1)) }
         ensures outside { IfErr result (λ e. IsOutside (state S.Store e.1)) }
+        ensures again { (s : State) → Keeps (state S.Store conn) s → IfErr result (λ e. Keeps (state S.Store e.1) s) }
     {
         match Store::load(alloc, conn) {
             Ok((store, roster)) => Ok(Book {
@@ -158,8 +160,10 @@ impl<S: Alter> Book<S> {
         ensures memory { (s : State) → IsAt S.Store self.old s → result ≡ Err StoreFault.Memory → IsAt S.Store self.new s }
         ensures store { (s : State) → IsAt S.Store self.old s → result ≡ Err StoreFault.Store → IsInDoubt S.Store self.new s (next s (key, command.now)) }
         ensures sessions { (s : State) (before : List Session) → IsAt S.Store self.old (Stopped s before) → Leaves (state S.Store self.new.held) (IsAfter s before ((key, command.now) ∷ []) (count_of result) (fault_of result)) }
-        ensures honest { (s : State) → Sound s → Honest s → Sound (next s (key, command.now)) × Honest (next s (key, command.now)) }
+        ensures shown { (s : State) → IsAt S.Store self.old s → HasTables S.Store self.old s → OnErr result (StillHasTables S.Store self.new s) }
+        ensures honest { (s : State) → IsAt S.Store self.old s → Honest s → Leaves (state S.Store self.new.held) Honest }
     {
+        // It has no fault, which what is honest afterwards rests on.
         let _made = command.order();
         if self.failed {
             return Err(StoreFault::Store);
@@ -180,6 +184,8 @@ impl<S: Alter> Book<S> {
         ensures replies { (s : State) → IsAt S.Store self.old s → IsClean S.Store self.new → map result_of result.answers.items ≡ take (length result.answers.items) (Replies s commands.now) }
         ensures outcome { (s : State) → IsAt S.Store self.old s → Ends (state S.Store self.new.held) s commands.now (length result.answers.items) result.fault }
         ensures tables { (s : State) → IsAt S.Store self.old s → HasTables S.Store self.old s → result.fault ≡ None → HasTables S.Store self.new (Fold s commands.now) }
+        ensures shown { (s : State) → IsAt S.Store self.old s → HasTables S.Store self.old s → IsSome result.fault → StillHasTables S.Store self.new (Fold s (take (length result.answers.items) commands.now)) }
+        ensures stopped { IsSome result.fault → (result.answers.items ≡ []) ⊎ (length result.answers.items < length commands.now) }
         ensures honest { (s : State) → IsAt S.Store self.old s → Honest s → Leaves (state S.Store self.new.held) Honest }
         ensures sessions { (s : State) (before : List Session) → IsAt S.Store self.old (Stopped s before) → Leaves (state S.Store self.new.held) (IsAfter s before commands.now (length result.answers.items) result.fault) }
     {
@@ -197,6 +203,8 @@ impl<S: Alter> Book<S> {
         ensures replies { (s : State) → IsAt S.Store self.old s → IsClean S.Store self.new → map result_of result.answers.items ≡ take (length result.answers.items) (Replies s commands.now) }
         ensures outcome { (s : State) → IsAt S.Store self.old s → Ends (state S.Store self.new.held) s commands.now (length result.answers.items) result.fault }
         ensures tables { (s : State) → IsAt S.Store self.old s → HasTables S.Store self.old s → result.fault ≡ None → HasTables S.Store self.new (Fold s commands.now) }
+        ensures shown { (s : State) → IsAt S.Store self.old s → HasTables S.Store self.old s → IsSome result.fault → StillHasTables S.Store self.new (Fold s (take (length result.answers.items) commands.now)) }
+        ensures stopped { IsSome result.fault → (result.answers.items ≡ []) ⊎ (length result.answers.items < length commands.now) }
         ensures honest { (s : State) → IsAt S.Store self.old s → Honest s → Leaves (state S.Store self.new.held) Honest }
     {
         if self.failed {
@@ -206,6 +214,8 @@ impl<S: Alter> Book<S> {
             return stopped(Vec::new(alloc), StoreFault::Memory);
         };
         for (key, command) in commands {
+            // As in `ask`.
+            let _made = command.order();
             match self.ask(alloc, *key, command) {
                 Ok(answer) => {
                     let _ = answers.push(answer);

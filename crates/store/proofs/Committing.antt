@@ -15,7 +15,7 @@ use Rattle.tables.specs.Calls.{Begun, Committed, Leaves as NotMade}
 use Rattle.store.specs.Calls.{IsFit, IsReady, Wrote}
 use Rattle.store.specs.Kept.{IsBookOf}
 use Rattle.store.specs.Next.{IsNext}
-use Rattle.store.specs.Outcomes.{Leaves, IsOverBook, one, either}
+use Rattle.store.specs.Outcomes.{Leaves, IsOverBook, one, either, StillShows}
 use Rattle.store.specs.Writing.{Writes}
 use Rattle.store.proofs.Chaining.{keeps_then}
 use Rattle.store.proofs.Effects.{written}
@@ -85,33 +85,50 @@ either_leaves old last new s t Done survives holds leaves = record {
 
 -- ---- The tables stay those of a book
 
-pub unbegun_over : (old new : State) → (HasCleanDisk new → HasCleanDisk old) → IsOverBook old → (HasCleanDisk old → IsTrue old.is_open → old.now ≡ old.committed) → (HasCleanDisk new → NotMade old new) → IsOverBook new
-unbegun_over old new before over settled left clean opened = elim (left clean) [
-  | inl same ↦ subst IsFit (sym same.0.now_is) (over (before clean) same.0.was_open)
+pub unbegun_shows : (old new : State) → (HasCleanDisk new → HasCleanDisk old) → (HasCleanDisk old → IsTrue old.is_open → old.now ≡ old.committed) → (HasCleanDisk new → NotMade old new) → StillShows old new
+unbegun_shows old new before settled left clean opened = elim (left clean) [
+  | inl same ↦ (same.0.was_open, same.0.now_is)
   | inr back ↦
       let was = back.was_open opened in
-      subst IsFit (settled (before clean) was ∙ sym (back.undone opened).0) (over (before clean) was)
+      (was, (back.undone opened).0 ∙ sym (settled (before clean) was))
 ]
+
+still_fit : (old new : State) → (HasCleanDisk new → HasCleanDisk old) → IsOverBook old → StillShows old new → IsOverBook new
+still_fit old new before over still clean opened = let it = still clean opened in subst IsFit (sym it.1) (over (before clean) it.0)
+
+pub unbegun_over : (old new : State) → (HasCleanDisk new → HasCleanDisk old) → IsOverBook old → (HasCleanDisk old → IsTrue old.is_open → old.now ≡ old.committed) → (HasCleanDisk new → NotMade old new) → IsOverBook new
+unbegun_over old new before over settled left = still_fit old new before over (unbegun_shows old new before settled left)
 
 pub ended_fit : {A E : Type 0} {Is : Database → Database → Type 0} (begun last new : State) (r : Result A E) → Wrote Is begun last r → IsOk r → (HasCleanDisk new → HasCleanDisk last) →
     (HasCleanDisk new → Committed last new) → IsOverBook new
 ended_fit begun last new (Err e) wrote is before ended clean opened = absurd (cc)
 ended_fit begun last new (Ok a) wrote is before ended clean opened = subst IsFit (sym (ended clean).1.now_is) (wrote.ready.fit (before clean))
 
-pub undone_fit : {A E : Type 0} {Is : Database → Database → Type 0} (old begun last new : State) (r : Result A E) → Wrote Is begun last r →
-    (HasCleanDisk new → HasCleanDisk last) → (HasCleanDisk begun → HasCleanDisk old) → IsOverBook old → (HasCleanDisk old → IsTrue old.is_open → old.now ≡ old.committed) → (HasCleanDisk begun → Begun old begun) →
-    (HasCleanDisk new → KeepsCommit last new) → (HasCleanDisk new → IsTrue new.is_open → new.now ≡ new.committed) → IsOverBook new
-undone_fit old begun last new r wrote before earlier over settled begins kept after_all clean opened =
+pub undone_shows : {A E : Type 0} {Is : Database → Database → Type 0} (old begun last new : State) (r : Result A E) → Wrote Is begun last r →
+    (HasCleanDisk new → HasCleanDisk last) → (HasCleanDisk begun → HasCleanDisk old) → (HasCleanDisk old → IsTrue old.is_open → old.now ≡ old.committed) → (HasCleanDisk begun → Begun old begun) →
+    (HasCleanDisk new → KeepsCommit last new) → (HasCleanDisk new → IsTrue new.is_open → new.now ≡ new.committed) → StillShows old new
+undone_shows old begun last new r wrote before earlier settled begins kept after_all clean opened =
     let late = before clean in
     let mid : HasCleanDisk begun = omega (arith, wrote.changed.left.clean) in
     let is = (begins mid).0 in
     let both = keeps_then begun last new (wrote.changed.kept late) (kept clean) in
-    let same : new.now ≡ old.now = after_all clean opened ∙ both.committed opened ∙ is.committed_is ∙ sym (settled (earlier mid) is.was_open) in
-    subst IsFit (sym same) (over (earlier mid) is.was_open)
+    let was = is.was_open in
+    (was, after_all clean opened ∙ both.committed opened ∙ is.committed_is ∙ sym (settled (earlier mid) was))
+
+pub undone_fit : {A E : Type 0} {Is : Database → Database → Type 0} (old begun last new : State) (r : Result A E) → Wrote Is begun last r →
+    (HasCleanDisk new → HasCleanDisk last) → (HasCleanDisk begun → HasCleanDisk old) → IsOverBook old → (HasCleanDisk old → IsTrue old.is_open → old.now ≡ old.committed) → (HasCleanDisk begun → Begun old begun) →
+    (HasCleanDisk new → KeepsCommit last new) → (HasCleanDisk new → IsTrue new.is_open → new.now ≡ new.committed) → IsOverBook new
+undone_fit old begun last new r wrote before earlier over settled begins kept after_all =
+    still_fit old new (λ clean. let late = before clean in let mid : HasCleanDisk begun = omega (arith, wrote.changed.left.clean) in earlier mid) over
+    (undone_shows old begun last new r wrote before earlier settled begins kept after_all)
 
 pub over_at_end : {A E D : Type 0} (new : State) {P Q R : Type 0} (r : Result A E) → OnOk r P → (D → OnOk r Q) → (D → OnErr r R) → (P → (D → Q) → IsOverBook new) → ((D → R) → IsOverBook new) → IsOverBook new
 over_at_end new (Ok a) p q e f g = f p q
 over_at_end new (Err x) p q e f g = g e
+
+pub on_err_of : {A E D P Q : Type 0} (r : Result A E) → (D → OnErr r P) → ((D → P) → Q) → OnErr r Q
+on_err_of (Ok a) kept f = tt
+on_err_of (Err e) kept f = f kept
 
 pub none_done : {A E : Type 0} (r : Result A E) → IsErr r → IsOk r → ⊥
 none_done (Ok a) failed is = absurd (cc)

@@ -51,3 +51,7 @@ IsOverBook s = HasCleanDisk s → IsTrue s.is_open → IsBook s.now.schema × Ar
 -- it is open, and has the tables of a book in this state
 abbrev pub HoldsNow : State → roster.State → Type 0
 HoldsNow now s = HasCleanDisk now → IsTrue now.is_open × IsBookOf s now.now
+
+-- while it is open, it shows the database that it showed before
+abbrev pub StillShows : State → State → Type 0
+StillShows old now = HasCleanDisk now → IsTrue now.is_open → IsTrue old.is_open × (now.now ≡ old.now)

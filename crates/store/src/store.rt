@@ -9,7 +9,7 @@ ghost use Rattle.store.specs.Kept.{KeepOthers, KeepPlain};
 ghost use Rattle.loading.specs.Loading.{IsRight, Says};
 ghost use Rattle.store.specs.Making.{IsFree};
 ghost use Rattle.store.specs.Next.{IsNext};
-ghost use Rattle.store.specs.Outcomes.{Leaves, LeavesSome, LeavesOnly, AddsOnly, AddsNothing, MayAdd, HoldsNow, IsOutside, IsOverBook, one, either};
+ghost use Rattle.store.specs.Outcomes.{Leaves, LeavesSome, LeavesOnly, AddsOnly, AddsNothing, MayAdd, HoldsNow, IsOutside, IsOverBook, StillShows, one, either};
 ghost use Rattle.loading.specs.Reading.{IsReadTo, Saw};
 ghost use Rattle.loading.specs.Rows.{request};
 ghost use Rattle.loading.specs.SameRows.{HasInstants};
@@ -73,6 +73,7 @@ impl<S: Alter> Store<S> {
         ensures alone { IfOk result (λ it. LeavesOnly (state S.Store it) (KeepPlain (state S.Store conn).now)) }
         ensures others { IfErr result (λ e. AddsOnly (state S.Store conn) (state S.Store e.1) (KeepPlain (state S.Store conn).now)) }
         ensures outside { IfErr result (λ e. IsOutside (state S.Store e.1)) }
+        ensures some_left { IfErr result (λ e. LeavesSome (state S.Store e.1)) }
     {
         match make(alloc, &mut conn, zone) {
             Ok(()) => Ok(Store { conn }),
@@ -98,6 +99,7 @@ impl<S: Alter> Store<S> {
         ensures refused { IfErr result (λ e. HasCleanDisk (state S.Store e.1) → Says e.0 (state S.Store conn).now) }
         ensures kept { IfErr result (λ e. AddsNothing (state S.Store conn) (state S.Store e.1)) }
         ensures outside { IfErr result (λ e. IsOutside (state S.Store e.1)) }
+        ensures some_left { IfErr result (λ e. LeavesSome (state S.Store e.1)) }
     {
         match read(alloc, &mut conn) {
             Ok(roster) => Ok((Store { conn }, roster)),
@@ -115,6 +117,8 @@ impl<S: Alter> Store<S> {
         ensures alone { OnOk result (LeavesOnly (state S.Store self.new) (KeepOthers (state S.Store self.old).now)) }
         ensures others { AddsOnly (state S.Store self.old) (state S.Store self.new) (KeepOthers (state S.Store self.old).now) }
         ensures command { OnOk result (IsCommand change.now.command) }
+        ensures in_doubt { result ≡ Err StoreFault.Store → IsCommand change.now.command }
+        ensures shown { OnErr result (StillShows (state S.Store self.old) (state S.Store self.new)) }
         ensures some { LeavesSome (state S.Store self.new) }
         ensures honest { HasCleanDisk (state S.Store self.new) → HasCleanDisk (state S.Store self.old) }
     {
@@ -195,6 +199,8 @@ fn write<S: Alter>(
     ensures alone { OnOk result (LeavesOnly (state S.Store conn.new) (KeepOthers (state S.Store conn.old).now)) }
     ensures others { AddsOnly (state S.Store conn.old) (state S.Store conn.new) (KeepOthers (state S.Store conn.old).now) }
     ensures command { OnOk result (IsCommand change.now.command) }
+    ensures in_doubt { result ≡ Err StoreFault.Store → IsCommand change.now.command }
+    ensures shown { OnErr result (StillShows (state S.Store conn.old) (state S.Store conn.new)) }
     ensures some { LeavesSome (state S.Store conn.new) }
     ensures honest { HasCleanDisk (state S.Store conn.new) → HasCleanDisk (state S.Store conn.old) }
     ensures outside { IsOutside (state S.Store conn.new) }

@@ -2,7 +2,7 @@ use Rattle.std.proofs.Common.{sym}
 use Rattle.sqlite.specs.Held.{state}
 use Rattle.roster.specs.Folds.{next}
 use Rattle.roster.specs.Steps.{after}
-use Rattle.book.proofs.Asked.{did_answer, did_as, did_with}
+use Rattle.book.proofs.Asked.{did_answer, did_as, did_with, did_with_fault}
 use Rattle.book.proofs.States.{next_repeated, next_refused, next_accepted}
 use Rattle.book.proofs.keeping.answer.Goals as goal
 
@@ -27,3 +27,10 @@ returns-in-Ok-clause-did g c =
     let same = next_accepted c.args.roster.now c.args.key c.args.command.now _ _ verdict in
     did_as (state g.S.Store c.args.store.now) (state g.S.Store c.keep.new.store) c.args.roster.now c.keep.new.roster (after c.args.roster.now c.in-Ok-Accept.change) (next c.args.roster.now (c.args.key, c.args.command.now)) _ (sym same)
     (did_with (state g.S.Store c.args.store.now) (state g.S.Store c.keep.new.store) c.args.roster.now c.keep.new.roster (after c.args.roster.now c.in-Ok-Accept.change) _ _ c.in-Ok.ensures)
+
+pub returns-in-Ok-Accept-clause-did : goal.returns-in-Ok-Accept-clause-did
+returns-in-Ok-Accept-clause-did g c =
+    let verdict = rw c.in-Ok-Accept.field-0-is at c.in-Ok-Accept.ensures.verdict in
+    let same = next_accepted c.args.roster.now c.args.key c.args.command.now _ _ verdict in
+    did_as (state g.S.Store c.args.store.now) (state g.S.Store c.keep.new.store) c.args.roster.now c.keep.new.roster (after c.args.roster.now c.in-Ok-Accept.change) (next c.args.roster.now (c.args.key, c.args.command.now)) _ (sym same)
+    (did_with_fault (state g.S.Store c.args.store.now) (state g.S.Store c.keep.new.store) c.args.roster.now c.keep.new.roster (after c.args.roster.now c.in-Ok-Accept.change) c.in-Err-keep.fault c.in-Err-keep.ensures)

@@ -11,4 +11,4 @@ returns-in-Ok-commit g c =
 pub returns-in-Err : goal.returns-in-Err
 returns-in-Err g c =
     did_fail (state g.S.Store c.args.store.now) (state g.S.Store c.commit.new.self) c.args.roster.now c.args.change.now c.requires.keeps c.requires.next c.commit.ensures.honest c.commit.ensures.some c.in-Err.fault
-    (c.in-Err.ensures.memory c.args.roster.now) (c.in-Err.ensures.store c.args.roster.now)
+    (c.in-Err.ensures.memory c.args.roster.now) (c.in-Err.ensures.store c.args.roster.now) c.in-Err.ensures.in_doubt c.in-Err.ensures.shown

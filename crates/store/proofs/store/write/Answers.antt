@@ -4,8 +4,8 @@ use Rattle.sqlite.specs.State.{HasCleanDisk}
 use Rattle.sqlite.proofs.StateLemmas.{survives_then, survives_weaker}
 use Rattle.roster.specs.Steps.{after}
 use Rattle.store.specs.Outcomes.{Leaves, one}
-use Rattle.store.proofs.Committing.{begun_ready, begun_holds, written_holds, kept_leaves, either_leaves, ended_fit, undone_fit, none_done, over_at_end, unbegun_over, weaker}
-use Rattle.store.proofs.Ending.{on_ok, ended_leaves, ended_now}
+use Rattle.store.proofs.Committing.{begun_ready, begun_holds, written_holds, kept_leaves, either_leaves, ended_fit, undone_fit, none_done, over_at_end, unbegun_over, unbegun_shows, undone_shows, on_err_of, weaker}
+use Rattle.store.proofs.Ending.{on_ok, on_err, ended_leaves, ended_now}
 use Rattle.store.specs.Kept.{KeepOthers}
 use Rattle.store.proofs.Sparing.{adds_nothing, leaves_only, may_add, written_keeps}
 use Rattle.store.proofs.store.write.Goals as goal
@@ -139,3 +139,24 @@ returns-clause-alone g c =
     let keeps = λ (clean : HasCleanDisk new) (is : IsOk c.write_change-done.result).
     written_keeps c.args.change.now old begun last c.write_change-done.result c.write_change-done.ensures ready c.in_ok-begin.ensures.gave c.end.ensures.live (omega (arith, c.end.ensures.crash.clean)) is in
     on_ok c.end.result c.end.ensures.whole c.end.ensures.ok (λ is ended. leaves_only G last c.end.new.conn (KeepOthers old.now) ended (λ clean. keeps clean is) g.met.S.Store.settled)
+
+pub returns-in_err-begin-clause-shown : goal.returns-in_err-begin-clause-shown
+returns-in_err-begin-clause-shown g c =
+    let old = state g.S.Store c.args.conn.now in
+    let new = state g.S.Store c.begin.new.conn in
+    let settled = λ (clean : HasCleanDisk old). c.is_autocommit-settled.ensures.settled (c.is_autocommit-settled.ensures.value ∙ ap not (c.requires.outside clean)) in
+    let before = λ (clean : HasCleanDisk new). let d : HasCleanDisk old = omega (arith, c.in_err-begin.ensures.crash.clean) in d in
+    on_err _ (unbegun_shows old new before settled (λ clean. (c.in_err-begin.ensures.gave clean).0))
+
+pub returns-clause-shown : goal.returns-clause-shown
+returns-clause-shown g c =
+    let G = g.S.Store in
+    let old = state G c.args.conn.now in
+    let begun = state G c.begin.new.conn in
+    let last = state G c.write_change-done.new.conn in
+    let new = state G c.end.new.conn in
+    let settled = λ (clean : HasCleanDisk old). c.is_autocommit-settled.ensures.settled (c.is_autocommit-settled.ensures.value ∙ ap not (c.requires.outside clean)) in
+    let before = λ (clean : HasCleanDisk begun). let d : HasCleanDisk old = omega (arith, c.in_ok-begin.ensures.crash.clean) in d in
+    let late = λ (clean : HasCleanDisk new). let d : HasCleanDisk last = omega (arith, c.end.ensures.crash.clean) in d in
+    on_err_of c.end.result c.end.ensures.kept
+    (λ kept. undone_shows old begun last new c.write_change-done.result c.write_change-done.ensures late before settled c.in_ok-begin.ensures.gave kept c.end.ensures.settled)

@@ -12,5 +12,8 @@ returns-in-Ok-clause-means g c = record {
   keeps = loaded _ _ c.in-Ok.ensures.sound c.in-Ok.ensures.ok c.in-Ok.ensures.some;
 }
 
+pub returns-in-Err-clause-again : goal.returns-in-Err-clause-again
+returns-in-Err-clause-again g c s keeps = still_keeps _ _ s c.in-Err.ensures.kept c.in-Err.ensures.some_left keeps
+
 pub returns-in-Ok-clause-same : goal.returns-in-Ok-clause-same
 returns-in-Ok-clause-same g c s keeps = still_keeps _ _ s c.in-Ok.ensures.left c.in-Ok.ensures.some keeps

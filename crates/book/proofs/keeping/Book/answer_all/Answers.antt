@@ -1,4 +1,4 @@
-use Rattle.std.proofs.Common.{◌≡◌, refl, ◌++◌, ◌∷◌, ◌||◌, ◌+◌, [], true, false, Err, Some, sym, ap, ◌∙◌, length, map, take, arith, rules, is_ok, length-append}
+use Rattle.std.proofs.Common.{◌≡◌, refl, ◌++◌, ◌∷◌, ◌||◌, ◌+◌, [], true, false, Err, Some, sym, ap, ◌∙◌, length, map, take, inr, arith, rules, is_ok, length-append}
 use Rattle.std.proofs.lemmas.List.{map-append}
 use Rattle.sqlite.specs.Held.{state}
 use Rattle.roster.specs.Folds.{Fold, Replies, next}
@@ -7,7 +7,7 @@ use Rattle.loading.specs.declared.fault.StoreFault.{StoreFault}
 use Rattle.loading.specs.declared.fault.StoreFault.TheVariants.{Store, Memory}
 use Rattle.store.specs.Outcomes.{Leaves}
 use Rattle.book.specs.Kept.{Ends, result_of}
-use Rattle.book.proofs.States.{one_of_either}
+use Rattle.book.proofs.States.{honest_next, one_of_either, shows_still}
 use Rattle.book.proofs.Runs.{answer_in, fold_more, replies_more, one_honest, either_honest}
 use Rattle.book.proofs.keeping.Book.answer_all.Goals as goal
 
@@ -25,6 +25,21 @@ returns-in-Err-clause-outcome g c s at =
     let count : length c.stopped-in-Err.result.answers.items ≡ i = rw c.stopped-in-Err.ensures.answers c.loop-key.invariant.count in
     rw (count, c.stopped-in-Err.ensures.fault) (go c.in-Err.fault c.in-Err.is)
 
+pub returns-in-Err-clause-shown : goal.returns-in-Err-clause-shown
+returns-in-Err-clause-shown g c s at has _ =
+    let count : length c.stopped-in-Err.result.answers.items ≡ c.loop-key.key-index = rw c.stopped-in-Err.ensures.answers c.loop-key.invariant.count in
+    rw count (c.in-Err.ensures.shown _ (c.loop-key.invariant.outcome s at) (c.loop-key.invariant.tables s at has))
+
+pub returns-in-Err-clause-stopped : goal.returns-in-Err-clause-stopped
+returns-in-Err-clause-stopped g c _ =
+    let count : length c.stopped-in-Err.result.answers.items ≡ c.loop-key.key-index = rw c.stopped-in-Err.ensures.answers c.loop-key.invariant.count in
+    inr (rw count c.loop-key-test.true)
+
+pub returns-then-self-clause-shown : goal.returns-then-self-clause-shown
+returns-then-self-clause-shown g c s at has _ =
+    let none : length c.stopped.result.answers.items ≡ 0 = rw (c.stopped.ensures.answers, c.new.ensures.items) refl in
+    rw none (shows_still (state g.S.Store c.args.self.now.held) s has)
+
 pub returns-in-Err-clause-honest : goal.returns-in-Err-clause-honest
 returns-in-Err-clause-honest g c s at honest =
     let xs = c.args.commands.now in
@@ -36,7 +51,7 @@ returns-in-Err-clause-honest g c s at honest =
       | Store ↦ λ is. record {
         crash = λ clean trees may.
             let first = c.loop-key.invariant.honest s (at.kept (c.loop-key.invariant.clean (c.ask.ensures.clean clean))).sound honest in
-            (either_honest now so_far (next so_far c.loop-key-item.result) (c.ask.ensures.store so_far before is) first.1 (c.ask.ensures.honest so_far first.0 first.1).1).crash clean trees may;
+            (either_honest now so_far (next so_far c.loop-key-item.result) (c.ask.ensures.store so_far before is) first.1 (honest_next so_far c.loop-key-item.result.0 c.loop-key-item.result.1 c.order-made.ensures.made first.0 first.1).1).crash clean trees may;
       }
       | Memory ↦ λ is. record {
         crash = λ clean trees may.
@@ -81,13 +96,13 @@ loop-key-preserved g c =
           let so_far = Fold s (take i xs) in
           let before = was.honest s sound honest in
           let more : Fold s (take (i + 1) xs) ≡ next so_far a = rw c.loop-key-item.is (fold_more s xs i a c.loop-key-test.true) in
-          rw more (c.ask.ensures.honest so_far before.0 before.1);
+          rw more (honest_next so_far a.0 a.1 c.order-made.ensures.made before.0 before.1);
     }
 
 pub returns-then-self-clause-outcome : goal.returns-then-self-clause-outcome
 returns-then-self-clause-outcome g c s at =
     let none : length c.stopped.result.answers.items ≡ 0 = rw (c.stopped.ensures.answers, c.new.ensures.items) refl in
-    rw (none, c.stopped.ensures.fault) (one_of_either (state g.S.Store c.args.self.now.held) s (Fold s (take 1 c.args.commands.now)) at.leaves)
+    rw (none, c.stopped.ensures.fault) (one_of_either (state g.S.Store c.args.self.now.held) s (Fold s (take 1 c.args.commands.now)) at)
 
 pub returns-then-self-clause-honest : goal.returns-then-self-clause-honest
 returns-then-self-clause-honest g c s at honest = one_honest _ s at.leaves honest

@@ -4,8 +4,9 @@ use Rattle.roster.specs.Folds.{Stopped, answer_of, next}
 use Rattle.roster.specs.State.{State}
 use Rattle.roster.specs.Steps.{step_of}
 use Rattle.book.specs.Kept.{result_of}
-use Rattle.book.proofs.States.{honest_next, one_of_either}
-use Rattle.book.proofs.Asked.{closes, told_ok, told_tables, told_memory, told_store, told_reply}
+use Rattle.book.proofs.Runs.{honest_left, one_honest}
+use Rattle.book.proofs.States.{honest_next, one_of_either, shows_still}
+use Rattle.book.proofs.Asked.{closes, told_ok, told_tables, told_memory, told_store, told_shown, told_reply}
 use Rattle.book.proofs.SessionLemmas.{adds_one}
 use Rattle.book.proofs.keeping.Book.ask.Goals as goal
 
@@ -40,14 +41,39 @@ returns-clause-reply g c = rw (← c.self.view_is) (λ s at clean.
     told_reply (state g.S.Store c.self.inside.store) (state g.S.Store c.answer-answer.new.store) c.self.inside.roster (λ (x : State). next x (c.args.key, c.args.command.now)) (c.self.invariant.1 c.if-self.false) s at
     c.answer-answer.ensures.did.clean c.answer-answer.result result_of (λ (x : State). answer_of (step_of x c.args.key c.args.command.now)) c.answer-answer.ensures.reply clean)
 
+pub returns-clause-shown : goal.returns-clause-shown
+returns-clause-shown g c = rw (← c.self.view_is) (λ s at.
+    told_shown (state g.S.Store c.self.inside.store) (state g.S.Store c.answer-answer.new.store) c.self.inside.roster (λ (x : State). next x (c.args.key, c.args.command.now)) (c.self.invariant.1 c.if-self.false) s at
+    c.answer-answer.ensures.did.clean c.answer-answer.new.roster c.answer-answer.result c.answer-answer.ensures.did.done)
+
+pub returns-then-self-clause-shown : goal.returns-then-self-clause-shown
+returns-then-self-clause-shown g c s at shown = shows_still (state g.S.Store c.args.self.now.held) s shown
+
 pub returns-clause-honest : goal.returns-clause-honest
-returns-clause-honest g c s sound honest = honest_next s c.args.key c.args.command.now c.order-made.ensures.made sound honest
+returns-clause-honest g c = rw (← c.self.view_is) (λ s at honest.
+    let old = state g.S.Store c.self.inside.store in
+    let new = state g.S.Store c.answer-answer.new.store in
+    let was = c.self.inside.roster in
+    let of = λ (x : State). next x (c.args.key, c.args.command.now) in
+    let held = c.self.invariant.1 c.if-self.false in
+    let did = c.answer-answer.ensures.did in
+    let roster = c.answer-answer.new.roster in
+    let result = c.answer-answer.result in
+    record {
+      crash = λ clean trees may.
+          let after = honest_next s c.args.key c.args.command.now c.order-made.ensures.made (at.kept (did.clean clean)).sound honest in
+          let left = honest_left new s (of s) result
+          (told_ok old new was of held s at did.clean roster result did.done)
+          (told_memory old new was of held s at did.clean roster result did.done)
+          (told_store old new was of held s at did.clean roster result did.done) honest after.1 in
+          left.crash clean trees may;
+    })
 
 pub returns-then-self-clause-honest : goal.returns-then-self-clause-honest
-returns-then-self-clause-honest g c s sound honest = honest_next s c.args.key c.args.command.now c.order-made.ensures.made sound honest
+returns-then-self-clause-honest g c s at honest = one_honest _ s at.leaves honest
 
 pub returns-then-self-clause-store : goal.returns-then-self-clause-store
-returns-then-self-clause-store g c s at is = one_of_either (state g.S.Store c.args.self.now.held) s (next s (c.args.key, c.args.command.now)) at.leaves
+returns-then-self-clause-store g c s at is = one_of_either (state g.S.Store c.args.self.now.held) s (next s (c.args.key, c.args.command.now)) at
 
 pub returns-clause-sessions : goal.returns-clause-sessions
 returns-clause-sessions g c s before at =
