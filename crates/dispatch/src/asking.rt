@@ -1,6 +1,7 @@
 //! Requests that a book answers, one by one or all in one run.
 
 use crate::fault::Unanswered;
+use crate::requests::Requests;
 use crate::told::{all_told, told};
 use book::{Book, Run};
 use command::{Command, Key};
@@ -119,4 +120,11 @@ pub fn ran<S: Alter + Drop>(
         answers,
         conn: book.into_connection(),
     })
+}
+
+/// What the last of these requests is answered in an empty book, and the rows that are then in its tables.
+pub fn rows_after(alloc: Global, requests: Requests) -> Result<(String, String), Unanswered> {
+    let (answer, mut conn) = asked(alloc, in_memory(alloc)?, &requests.list()?)?.last()?;
+    let rows = filing::telling::told(alloc, &mut conn)?;
+    Ok((answer, rows))
 }

@@ -1,10 +1,10 @@
 //! Requests under keys that are held, or that a refusal has left free.
 
-use crate::asking::{Answered, asked, in_memory, ran};
+use crate::asking::{Answered, asked, in_memory, ran, rows_after};
 use crate::fault::Unanswered;
 use crate::requests::Requests;
 use command::{Key, Seat};
-use filing::telling::{found, told};
+use filing::telling::found;
 use samples::{cancel_pairing, june, release};
 use sqlite::{Connection, MemStore};
 use std::alloc::Global;
@@ -107,12 +107,6 @@ fn accepted(alloc: Global) -> Requests {
     let mut requests = refused(alloc);
     requests.seat(Key::new(20, 0), "P1", "C1");
     requests
-}
-
-fn rows_after(alloc: Global, requests: Requests) -> Result<(String, String), Unanswered> {
-    let (answer, mut conn) = asked(alloc, in_memory(alloc)?, &requests.list()?)?.last()?;
-    let rows = told(alloc, &mut conn)?;
-    Ok((answer, rows))
 }
 
 #[test]

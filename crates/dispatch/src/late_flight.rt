@@ -1,10 +1,10 @@
 //! A pairing flown late, and a swap that leaves too little rest.
 
-use crate::asking::{asked, in_memory, ran};
+use crate::asking::{asked, in_memory, ran, rows_after};
 use crate::fault::Unanswered;
 use crate::requests::Requests;
 use command::{Key, Order, Seat};
-use filing::telling::{found, told};
+use filing::telling::found;
 use samples::{Unmade, fly, june, release, swap};
 use std::alloc::Global;
 use std::test::Fail;
@@ -144,12 +144,6 @@ fn swapped(alloc: Global) -> Requests {
     let mut requests = two_captains(alloc);
     requests.ask(Key::new(20, 0), swap(alloc, ("P15A", "C1"), ("P15B", "C2")));
     requests
-}
-
-fn rows_after(alloc: Global, requests: Requests) -> Result<(String, String), Unanswered> {
-    let (answer, mut conn) = asked(alloc, in_memory(alloc)?, &requests.list()?)?.last()?;
-    let rows = told(alloc, &mut conn)?;
-    Ok((answer, rows))
 }
 
 #[test]

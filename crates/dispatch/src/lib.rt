@@ -8,6 +8,8 @@ mod keys;
 #[cfg(test)]
 mod late_flight;
 #[cfg(test)]
+mod refusals;
+#[cfg(test)]
 mod reopening;
 pub mod requests;
 pub mod told;
