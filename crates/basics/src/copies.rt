@@ -1,0 +1,21 @@
+//! Whether values are copied.
+
+use std::alloc::Global;
+use values::Copied;
+
+/// Whether a copy is made, and is equal.
+pub fn is_copied<T: Copied + PartialEq>(alloc: Global, value: &T) -> bool {
+    match value.copy(alloc) {
+        Ok(copy) => copy == *value,
+        Err(_) => false,
+    }
+}
+
+/// `copied`, if a copy is made and is equal.
+pub fn copied<T: Copied + PartialEq>(alloc: Global, value: &T) -> &'static str {
+    if is_copied(alloc, value) {
+        "copied"
+    } else {
+        "not copied"
+    }
+}

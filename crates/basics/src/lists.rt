@@ -1,0 +1,88 @@
+//! Texts, lists and what may be missing.
+
+use crate::copies::is_copied;
+use samples::{Unmade, text};
+use std::alloc::Global;
+use std::cmp::Ordering;
+use std::test::Fail;
+use values::{Copied, Items, Text};
+
+/// A copy of a text.
+fn copied(alloc: Global, of: &str) -> Result<Text, Unmade> {
+    Ok(text(alloc, of)?.copy(alloc)?)
+}
+
+#[test]
+fn a_copy_of_a_text_is_equal(rt: HostRuntime) -> Result<(), Fail> {
+    for of in ["", "BOS", "Zoë Ray"] {
+        assert!(rt; is_copied(rt.alloc(), &text(rt.alloc(), of)?));
+        assert_eq!(rt; copied(rt.alloc(), of)?.as_str(), of);
+    }
+    Ok(())
+}
+
+/// Whether the texts stand in that order, by each way to compare them.
+fn are_ordered(first: &Text, second: &Text, order: Ordering) -> bool {
+    first.cmp(second) == order
+        && first.partial_cmp(second) == Some(order)
+        && (first == second) == (order == Ordering::Equal)
+}
+
+#[test]
+fn texts_are_ordered_by_their_bytes(rt: HostRuntime) -> Result<(), Fail> {
+    let cases = [
+        ("C1", "C2", Ordering::Less),
+        ("C1", "C10", Ordering::Less),
+        ("C9", "C10", Ordering::Greater),
+        ("-", "A", Ordering::Less),
+        ("", "A", Ordering::Less),
+        ("C1", "C1", Ordering::Equal),
+    ];
+    for (first, second, order) in cases {
+        let a = text(rt.alloc(), first)?;
+        let b = text(rt.alloc(), second)?;
+        assert!(rt; are_ordered(&a, &b, order), "{first} beside {second}");
+    }
+    Ok(())
+}
+
+fn texts(alloc: Global, of: &[&str]) -> Result<Items<Text>, Unmade> {
+    let mut items = Vec::new(alloc);
+    for each in of {
+        items.push(text(alloc, each)?)?;
+    }
+    Ok(Items::new(items))
+}
+
+/// Whether a list of these texts differs from the other one.
+fn differs(alloc: Global, of: &[&str], other: &Items<Text>) -> Result<bool, Unmade> {
+    Ok(texts(alloc, of)? != *other)
+}
+
+/// The copy's texts, each before a comma.
+fn copied_items(alloc: Global, items: &Items<Text>) -> Result<String, Unmade> {
+    let mut joined = String::new(alloc);
+    for item in items.copy(alloc)?.as_slice() {
+        joined.push_str(item.as_str())?;
+        joined.push_str(",")?;
+    }
+    Ok(joined)
+}
+
+#[test]
+fn a_copy_of_items_is_equal(rt: HostRuntime) -> Result<(), Fail> {
+    let original = texts(rt.alloc(), &["RB1", "RB2"])?;
+    assert!(rt; is_copied(rt.alloc(), &original));
+    assert_eq!(rt; copied_items(rt.alloc(), &original)?.as_str(), "RB1,RB2,");
+    assert!(rt; differs(rt.alloc(), &["RB1"], &original)?);
+    assert!(rt; differs(rt.alloc(), &["RB1", "RB3"], &original)?);
+    Ok(())
+}
+
+#[test]
+fn a_copy_of_an_option_is_equal(rt: HostRuntime) -> Result<(), Fail> {
+    let none: Option<Text> = None;
+    assert!(rt; is_copied(rt.alloc(), &Some(text(rt.alloc(), "C1")?)));
+    assert!(rt; is_copied(rt.alloc(), &none));
+    Ok(())
+}
