@@ -7,8 +7,6 @@ mod key;
 mod member;
 mod order;
 mod refusal;
-#[cfg(test)]
-mod tests;
 
 pub use exceedance::{Exceedance, Reply};
 pub use key::Key;

@@ -5,12 +5,8 @@ mod limit;
 mod rest_limits;
 mod section;
 mod sections;
-#[cfg(test)]
-mod slow_count;
 mod table_limits;
 mod tables;
-#[cfg(test)]
-mod tests;
 mod window_limits;
 mod window_rule;
 mod year_limit;

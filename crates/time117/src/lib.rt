@@ -6,6 +6,3 @@ mod zone;
 
 pub use minute::{Minute, TimeFault};
 pub use zone::{Zone, ZoneFault};
-
-#[cfg(test)]
-mod tests;

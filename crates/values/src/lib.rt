@@ -9,8 +9,6 @@ mod items;
 mod memory_fault;
 mod named;
 mod table;
-#[cfg(test)]
-mod tests;
 mod text;
 
 pub use copied::Copied;
