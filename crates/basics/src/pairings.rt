@@ -215,7 +215,7 @@ fn fault_of_none(alloc: Global, id: &str) -> Result<String, Unmade> {
     outcome(alloc, Pairing::new(pairing_id(alloc, id)?, Vec::new(alloc)))
 }
 
-/// Each has the faults of those below it too.
+/// Each but the last has faults that come later too.
 fn tell_of_order(alloc: Global, told: &mut String) -> Result<(), Unmade> {
     let empty = "0 |  | 39";
     let shape = "0 | rb1 BOS 10 IAD 20, RB1 JFK 30 BOS 40 | 39";

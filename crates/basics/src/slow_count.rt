@@ -337,7 +337,7 @@ fn by_definition(
     ])
 }
 
-/// Which sections the crate's judgement finds broken, in order.
+/// Which sections the judgement finds broken, in order.
 fn by_judgement(history: &History, new: &History) -> [bool; 8] {
     let found = judge(history, new);
     SECTIONS.map(|section: Section| found.has(section))

@@ -1,201 +1,174 @@
-//! A crew desk: it hands orders to a roster, and has what is accepted made.
-ghost use Rattle.std.specs.Prelude.{◌≤◌};
+//! A crew desk: it has a roster answer requests, line by line, and writes down what it is told.
 
-use command::{Command, Key, Order, Refusal, Reply, Seat};
-use limits::Section;
+use crate::lines::command;
+use crate::seen::{or_unmade, seen};
+use crate::told::{answer, exceedances, seats};
+use command::{Command, Key};
 use roster::{Roster, Verdict};
-use samples::{EASTERN, Unmade, add_crew, add_pairing, assign, over, pairing_id, reply};
+use samples::{EASTERN, Unmade};
 use std::alloc::Global;
-use time117::{Minute, Zone};
-use values::MemoryFault;
+use time117::Zone;
 
-/// What the desk is told.
-#[derive(PartialEq, Eq, Drop)]
-pub enum Answer {
-    /// The command was accepted before, with this reply.
-    Repeated(Reply),
-    Accepted(Reply),
-    Refused(Refusal),
-}
+/// The members of each desk's roster.
+const MEMBERS: &str = "
+    hire C1 captain: Ada Ray
+    hire C2 captain: Bo Lind
+    hire F1 first-officer: Zoë Roy
+";
 
-impl Answer {
-    /// Accepted, with these exceedances recorded.
-    pub fn recorded(alloc: Global, broken: &[(&str, Section)]) -> Result<Answer, Unmade> {
-        Ok(Answer::Accepted(reply(alloc, broken)?))
-    }
-
-    /// Accepted, with nothing recorded.
-    pub fn accepted(alloc: Global) -> Result<Answer, Unmade> {
-        Answer::recorded(alloc, &[])
-    }
-
-    /// Accepted before, with these exceedances recorded then.
-    pub fn repeated(alloc: Global, broken: &[(&str, Section)]) -> Result<Answer, Unmade> {
-        Ok(Answer::Repeated(reply(alloc, broken)?))
-    }
-
-    /// Refused for the one limit that a member breaks.
-    pub fn over(alloc: Global, who: &str, section: Section) -> Result<Answer, Unmade> {
-        Ok(Answer::Refused(over(alloc, who, section)?))
-    }
-}
-
-impl From<Verdict> for Answer {
-    fn from(verdict: Verdict) -> Answer {
-        match verdict {
-            Verdict::Repeat(reply) => Answer::Repeated(reply),
-            Verdict::Accept(_change, reply) => Answer::Accepted(reply),
-            Verdict::Refuse(refusal) => Answer::Refused(refusal),
-        }
-    }
-}
-
-/// A roster, and whether all orders that had to be accepted were. Once one was not, no answer is the one that is asked
-/// for, so that a test says at its end what went wrong on its way.
+/// A roster, and what was written down of it, a line for each.
 #[derive(Drop)]
-pub struct Desk {
-    alloc: Global,
-    pub roster: Roster,
-    has_failed: bool,
+struct Desk {
+    roster: Roster,
+    told: String,
 }
 
-/// The verdict on a command under a key; what is accepted is made.
-fn judged(
+/// What is told of a verdict. What is accepted is made, where its key is free.
+fn made(alloc: Global, roster: &mut Roster, verdict: &Verdict) -> Result<String, Unmade> {
+    if let Verdict::Accept(change, _reply) = verdict {
+        if roster.requests.get(&change.key).is_some() {
+            return Err(Unmade);
+        }
+        roster.apply(alloc, change)?;
+    }
+    answer(alloc, verdict)
+}
+
+fn judged(alloc: Global, roster: &Roster, key: Key, command: &Command) -> Result<Verdict, Unmade> {
+    or_unmade(roster.step(alloc, key, command))
+}
+
+fn answered(
     alloc: Global,
     roster: &mut Roster,
     key: Key,
     command: &Command,
-) -> Result<Verdict, MemoryFault> {
-    let verdict = roster.step(alloc, key, command)?;
-    if let Verdict::Accept(change, _reply) = &verdict {
-        roster.apply(alloc, change)?;
-    }
-    Ok(verdict)
-}
-
-/// Whether both were made and are the same.
-fn is_same(one: &Result<Answer, Unmade>, other: &Result<Answer, Unmade>) -> bool {
-    match (one, other) {
-        (Ok(one), Ok(other)) => one == other,
-        _ => false,
-    }
-}
-
-impl Desk {
-    /// A roster of the captains C1 and C2 and the first officer F1.
-    pub fn open(alloc: Global) -> Result<Desk, Unmade> {
-        let mut desk = Desk {
-            alloc,
-            roster: Roster::empty(alloc, Zone::read(alloc, EASTERN)?)?,
-            has_failed: false,
-        };
-        desk.settle(add_crew(alloc, "C1", Seat::Captain, "Ada Ray"));
-        desk.settle(add_crew(alloc, "C2", Seat::Captain, "Bo Lind"));
-        desk.settle(add_crew(alloc, "F1", Seat::FirstOfficer, "Zoë Roy"));
-        Ok(desk)
-    }
-
-    /// The answer to an order under a number.
-    fn ask(&mut self, number: u32, order: Result<Order, Unmade>) -> Result<Answer, Unmade>
-        requires { 1 ≤ number }
-    {
-        let command = Command::new(order?)?;
-        let key = Key::new(u64::from(number), 0);
-        Ok(Answer::from(judged(self.alloc, &mut self.roster, key, &command)?))
-    }
-
-    /// Whether the answer to an order under a number is this one.
-    pub fn says(
-        &mut self,
-        number: u32,
-        order: Result<Order, Unmade>,
-        answer: Result<Answer, Unmade>,
-    ) -> bool
-        requires { 1 ≤ number }
-    {
-        is_same(&self.ask(number, order), &answer) && !self.has_failed
-    }
-
-    /// A number that no request has yet.
-    fn next_number(&self) -> u32
-        ensures { 1 ≤ result }
-    {
-        1_000 + self.roster.requests.len().min(1_000) as u32
-    }
-
-    /// Whether the answer to an order under a number of its own is this one.
-    pub fn tells(&mut self, order: Result<Order, Unmade>, answer: Result<Answer, Unmade>) -> bool {
-        let number = self.next_number();
-        self.says(number, order, answer)
-    }
-
-    /// Whether an order is accepted, and breaks no limit.
-    pub fn accepts(&mut self, order: Result<Order, Unmade>) -> bool {
-        let answer = Answer::accepted(self.alloc);
-        self.tells(order, answer)
-    }
-
-    /// Whether an order is refused so.
-    pub fn refuses(&mut self, order: Result<Order, Unmade>, refusal: Refusal) -> bool {
-        self.tells(order, Ok(Answer::Refused(refusal)))
-    }
-
-    /// Whether an order is refused for the one limit that a member breaks.
-    pub fn forbids(&mut self, order: Result<Order, Unmade>, who: &str, section: Section) -> bool {
-        let answer = Answer::over(self.alloc, who, section);
-        self.tells(order, answer)
-    }
-
-    /// Has an order accepted that breaks no limit.
-    pub fn settle(&mut self, order: Result<Order, Unmade>) {
-        if !self.accepts(order) {
-            self.has_failed = true;
-        }
-    }
-
-    /// Has an order under a number answered so.
-    pub fn settle_as(
-        &mut self,
-        number: u32,
-        order: Result<Order, Unmade>,
-        answer: Result<Answer, Unmade>,
+) -> Result<String, Unmade> {
+    let verdict = judged(alloc, roster, key, command);
+    seen(
+        alloc,
+        verdict,
+        |alloc, verdict| made(alloc, roster, verdict),
     )
-        requires { 1 ≤ number }
-    {
-        if !self.says(number, order, answer) {
-            self.has_failed = true;
-        }
-    }
+}
 
-    /// Adds a pairing of one period that nobody holds.
-    pub fn plan(&mut self, id: &str, day: Minute, written: &str) {
-        let order = add_pairing(self.alloc, id, day, written);
-        self.settle(order);
+/// The key of a request by its number, which is at least 1.
+fn key(number: u32) -> Result<Key, Unmade> {
+    if number == 0 {
+        return Err(Unmade);
     }
+    Ok(Key::new(u64::from(number), 0))
+}
 
-    /// Has a member hold a pairing.
-    pub fn seat(&mut self, who: &str, id: &str) {
-        let order = assign(self.alloc, id, who);
-        self.settle(order);
-    }
+fn asked(alloc: Global, roster: &mut Roster, number: u32, line: &str) -> Result<String, Unmade> {
+    let key = key(number)?;
+    seen(alloc, command(alloc, line), |alloc, command| {
+        answered(alloc, roster, key, command)
+    })
+}
 
-    /// Has a member hold a new pairing of one period.
-    pub fn hold(&mut self, who: &str, id: &str, day: Minute, written: &str) {
-        self.plan(id, day, written);
-        self.seat(who, id);
+/// The answer, under a number that no request has yet, unless the request is accepted and breaks no limit.
+fn settled(alloc: Global, roster: &mut Roster, line: &str) -> Result<String, Unmade> {
+    let number = 1_000 + roster.requests.len().min(1_000) as u32;
+    let told = asked(alloc, roster, number, line)?;
+    if told.as_str() == "accepted\n" {
+        Ok(String::new(alloc))
+    } else {
+        Ok(told)
     }
+}
 
-    /// Whether the pairing is there and the member, or nobody, holds the seat.
-    pub fn is_held(&self, id: &str, seat: Seat, by: Option<&str>) -> bool {
-        let Ok(id) = pairing_id(self.alloc, id) else {
-            return false;
-        };
-        let Some(rostered) = self.roster.pairings.get(&id) else {
-            return false;
-        };
-        match (rostered.holder(seat), by) {
-            (Some(holder), Some(who)) => holder.as_str() == who,
-            (holder, who) => holder.is_none() && who.is_none(),
-        }
+/// The number that a line begins with, and what stands after it.
+fn numbered(line: &str) -> Option<(u32, &str)> {
+    let (number, rest) = line.split_once(' ')?;
+    match number.parse::<u32>() {
+        Ok(number) => Some((number, rest)),
+        Err(_) => None,
     }
+}
+
+/// What is written down of a request.
+fn requested(alloc: Global, roster: &mut Roster, line: &str) -> Result<String, Unmade> {
+    match numbered(line) {
+        Some((number, rest)) => asked(alloc, roster, number, rest),
+        None => settled(alloc, roster, line),
+    }
+}
+
+/// What is written down of a line.
+fn written(alloc: Global, roster: &mut Roster, line: &str) -> Result<String, Unmade> {
+    match line {
+        "" => Ok(String::new(alloc)),
+        "seats" => seats(alloc, &roster.pairings),
+        "exceedances" => exceedances(alloc, &roster.exceedances),
+        _ => requested(alloc, roster, line),
+    }
+}
+
+/// Takes a line.
+fn take_line(alloc: Global, desk: &mut Desk, line: &str) -> Result<(), Unmade> {
+    let told = written(alloc, &mut desk.roster, line.trim_ascii())?;
+    desk.told.push_str(told.as_str())?;
+    Ok(())
+}
+
+/// Takes the lines of a page in turn.
+fn take(alloc: Global, desk: &mut Desk, page: &str) -> Result<(), Unmade> {
+    for line in page.split('\n') {
+        take_line(alloc, desk, line)?;
+    }
+    Ok(())
+}
+
+/// Takes the members, and then these pages in turn.
+fn take_all(alloc: Global, desk: &mut Desk, pages: &[&str]) -> Result<(), Unmade> {
+    take(alloc, desk, MEMBERS)?;
+    for page in pages {
+        take(alloc, desk, page)?;
+    }
+    Ok(())
+}
+
+fn empty(alloc: Global) -> Result<Roster, Unmade> {
+    let zone = Zone::read(alloc, EASTERN)?;
+    or_unmade(Roster::empty(alloc, zone))
+}
+
+fn open(alloc: Global) -> Result<Desk, Unmade> {
+    Ok(Desk {
+        roster: empty(alloc)?,
+        told: String::new(alloc),
+    })
+}
+
+fn done(alloc: Global, pages: &[&str]) -> Result<Desk, Unmade> {
+    let mut desk = open(alloc)?;
+    take_all(alloc, &mut desk, pages)?;
+    Ok(desk)
+}
+
+/// What a desk writes down that takes these pages in turn, on a roster of the captains C1 and C2 and the first officer F1.
+///
+/// Each line of a page is a request, as `lines` says. A request with its number before it has its answer written down;
+/// one without has to be accepted and break no limit, and its answer is written down only if it isn't or does. The line
+/// `seats` has all seats written down, and `exceedances` the exceedances that are kept.
+pub fn told(alloc: Global, pages: &[&str]) -> Result<String, Unmade> {
+    let Desk { roster, told } = done(alloc, pages)?;
+    drop(roster);
+    Ok(told)
+}
+
+/// A value, where what is told is what is wanted.
+fn so_told<T: Drop>(value: T, told: String, wanted: &str) -> Result<T, Unmade> {
+    if told.as_str() == wanted {
+        Ok(value)
+    } else {
+        Err(Unmade)
+    }
+}
+
+/// The roster that is left where these pages are answered so.
+pub fn left(alloc: Global, pages: &[&str], answers: &str) -> Result<Roster, Unmade> {
+    let Desk { roster, told } = done(alloc, pages)?;
+    so_told(roster, told, answers)
 }

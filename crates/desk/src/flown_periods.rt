@@ -1,187 +1,145 @@
 //! Periods flown at other times than planned: what is recorded, and what is refused afterwards.
-ghost use Rattle.std.specs.Prelude.{◌≤◌};
 
-use crate::desk::{Answer, Desk};
-use command::{Key, Order, Refusal};
-use limits::Section;
-use roster::{ExceedanceId, PeriodId};
-use samples::{Unmade, assign, cancel_pairing, crew_id, fly, june, pairing_id, release, swap};
-use std::alloc::Global;
+use crate::desk::told;
+use crate::seen::assert_told;
 use std::test::Fail;
 
-const TWO_FLIGHTS: &str = "12:00 | 13:00-15:00, 21:00-+1 00:00 | +1 00:00";
-
-/// C1 flies on 6, 7 and 8 June, P13A together with F1, and P13B ten hours after it.
-fn a_full_week(alloc: Global) -> Result<Desk, Unmade> {
-    let mut desk = Desk::open(alloc)?;
-    desk.hold("C1", "P06", june(6), TWO_FLIGHTS);
-    desk.hold("C1", "P07", june(7), TWO_FLIGHTS);
-    desk.hold(
-        "C1",
-        "P08",
-        june(8),
-        "12:00 | 13:00-15:00, 21:00-+1 00:30 | +1 00:30",
-    );
-    desk.hold("C1", "P13A", june(10), "11:00 | 12:00-20:00 | 20:30");
-    desk.seat("F1", "P13A");
-    desk.hold("C1", "P13B", june(11), "06:30 | 07:30-10:30 | 11:00");
-    Ok(desk)
-}
-
-/// P13A, flown eleven hours late.
-fn late(alloc: Global) -> Result<Order, Unmade> {
-    fly(
-        alloc,
-        "P13A",
-        1,
-        june(10),
-        "11:00 | 23:00-+1 07:00 | +1 07:30",
-    )
-}
-
-/// What C1 and F1 break by it. C1's week holds 3,600 minutes of flight duty, and so is within its limit.
-const BROKEN: [(&str, Section); 3] = [
-    ("C1", Section::FlightDutyPeriod),
-    ("C1", Section::TenHourRest),
-    ("F1", Section::FlightDutyPeriod),
-];
-
-fn recorded(alloc: Global) -> Result<Answer, Unmade> {
-    Answer::recorded(alloc, BROKEN.as_slice())
-}
-
-/// P13A was flown late, as request 113 says.
-fn a_late_period(alloc: Global) -> Result<Desk, Unmade> {
-    let mut desk = a_full_week(alloc)?;
-    desk.settle_as(113, late(alloc), recorded(alloc));
-    Ok(desk)
-}
-
-/// Whether the exceedances are kept under a number, of the first period of P13A.
-fn are_kept(alloc: Global, desk: &Desk, number: u32) -> Result<bool, Unmade>
-    requires { 1 ≤ number }
-{
-    let key = Key::new(u64::from(number), 0);
-    let period = PeriodId {
-        pairing: pairing_id(alloc, "P13A")?,
-        number: 1,
-    };
-    for (who, section) in BROKEN {
-        let crew = crew_id(alloc, who)?;
-        let id = ExceedanceId { key, crew, section };
-        if desk.roster.exceedances.get(&id) != Some(&period) {
-            return Ok(false);
-        }
-    }
-    Ok(true)
-}
+/// C1 flies on 6, 7 and 8 June, P13A together with F1, and P13B ten hours after it. P13A is flown eleven hours late, as
+/// request 113 says. C1's week holds 3,600 minutes of flight duty, and so is within its limit.
+const A_LATE_PERIOD: &str = "
+    plan P06 6: 12:00 | 13:00-15:00, 21:00-+1 00:00 | +1 00:00
+    assign P06 C1
+    plan P07 7: 12:00 | 13:00-15:00, 21:00-+1 00:00 | +1 00:00
+    assign P07 C1
+    plan P08 8: 12:00 | 13:00-15:00, 21:00-+1 00:30 | +1 00:30
+    assign P08 C1
+    plan P13A 10: 11:00 | 12:00-20:00 | 20:30
+    assign P13A C1
+    assign P13A F1
+    plan P13B 11: 06:30 | 07:30-10:30 | 11:00
+    assign P13B C1
+    113 fly P13A 1 10: 11:00 | 23:00-+1 07:00 | +1 07:30
+";
 
 #[test]
 fn a_late_period_is_recorded(rt: HostRuntime) -> Result<(), Fail> {
-    let alloc = rt.alloc();
-    let mut desk = a_full_week(alloc)?;
-    assert!(rt; desk.says(113, late(alloc), recorded(alloc)));
-    assert!(rt; desk.roster.exceedances.len() == 3);
-    assert!(rt; are_kept(alloc, &desk, 113)?);
-    Ok(())
+    assert_told(
+        &rt,
+        told(rt.alloc(), &[A_LATE_PERIOD, "exceedances"]),
+        "accepted C1 117.13(a) C1 117.25(e) F1 117.13(a)\n\
+        exceedances | 113 0 C1 117.13(a) P13A 1 | 113 0 C1 117.25(e) P13A 1 | 113 0 F1 117.13(a) P13A 1\n",
+    )
 }
+
+const ASKED_AGAIN: &str = "
+    113 fly P13A 1 10: 11:00 | 23:00-+1 07:00 | +1 07:30
+    exceedances
+";
 
 #[test]
 fn a_late_period_asked_again_is_recorded_once(rt: HostRuntime) -> Result<(), Fail> {
-    let alloc = rt.alloc();
-    let mut desk = a_late_period(alloc)?;
-    let repeated = Answer::repeated(alloc, BROKEN.as_slice());
-    assert!(rt; desk.says(113, late(alloc), repeated));
-    assert!(rt; desk.roster.exceedances.len() == 3);
-    Ok(())
+    assert_told(
+        &rt,
+        told(rt.alloc(), &[A_LATE_PERIOD, ASKED_AGAIN]),
+        "accepted C1 117.13(a) C1 117.25(e) F1 117.13(a)\n\
+        repeated C1 117.13(a) C1 117.25(e) F1 117.13(a)\n\
+        exceedances | 113 0 C1 117.13(a) P13A 1 | 113 0 C1 117.25(e) P13A 1 | 113 0 F1 117.13(a) P13A 1\n",
+    )
 }
+
+const ASKED_UNDER_ANOTHER_NUMBER: &str = "
+    114 fly P13A 1 10: 11:00 | 23:00-+1 07:00 | +1 07:30
+    exceedances
+";
 
 #[test]
 fn a_late_period_is_recorded_under_each_number(rt: HostRuntime) -> Result<(), Fail> {
-    let alloc = rt.alloc();
-    let mut desk = a_late_period(alloc)?;
-    assert!(rt; desk.says(114, late(alloc), recorded(alloc)));
-    assert!(rt; desk.roster.exceedances.len() == 6);
-    assert!(rt; are_kept(alloc, &desk, 113)? && are_kept(alloc, &desk, 114)?);
-    Ok(())
+    assert_told(
+        &rt,
+        told(rt.alloc(), &[A_LATE_PERIOD, ASKED_UNDER_ANOTHER_NUMBER]),
+        "accepted C1 117.13(a) C1 117.25(e) F1 117.13(a)\n\
+        accepted C1 117.13(a) C1 117.25(e) F1 117.13(a)\n\
+        exceedances | 113 0 C1 117.13(a) P13A 1 | 113 0 C1 117.25(e) P13A 1 | 113 0 F1 117.13(a) P13A 1 \
+        | 114 0 C1 117.13(a) P13A 1 | 114 0 C1 117.25(e) P13A 1 | 114 0 F1 117.13(a) P13A 1\n",
+    )
 }
+
+const GIVEN_AWAY: &str = "
+    plan P20 20: 12:00 | 13:00-15:00, 21:00-+1 00:00 | +1 00:00
+    assign P20 C2
+    1 release P13A C1
+    2 swap P13A C1 P20 C2
+    3 swap P20 C2 P13A C1
+";
 
 #[test]
 fn the_seats_of_a_flown_pairing_stay(rt: HostRuntime) -> Result<(), Fail> {
-    let alloc = rt.alloc();
-    let mut desk = a_late_period(alloc)?;
-    desk.hold("C2", "P20", june(20), TWO_FLIGHTS);
-    assert!(rt; desk.refuses(release(alloc, "P13A", "C1"), Refusal::Flown));
-    assert!(rt; desk.refuses(swap(alloc, ("P13A", "C1"), ("P20", "C2")), Refusal::Flown));
-    assert!(rt; desk.refuses(swap(alloc, ("P20", "C2"), ("P13A", "C1")), Refusal::Flown));
-    Ok(())
+    assert_told(
+        &rt,
+        told(rt.alloc(), &[A_LATE_PERIOD, GIVEN_AWAY]),
+        "accepted C1 117.13(a) C1 117.25(e) F1 117.13(a)\n10 Flown\n10 Flown\n10 Flown\n",
+    )
 }
 
-/// C1 flies 3,600 minutes from 2 to 8 June, the last hour of them PL, together with F1.
-fn a_week_at_its_limit(alloc: Global) -> Result<Desk, Unmade> {
-    let mut desk = Desk::open(alloc)?;
-    for (id, day) in [("P2", 2), ("P3", 3), ("P4", 4), ("P6", 6)] {
-        desk.hold("C1", id, june(day), TWO_FLIGHTS);
-    }
-    desk.hold(
-        "C1",
-        "P7",
-        june(7),
-        "12:00 | 13:00-15:00, 21:00-23:00 | 23:00",
-    );
-    desk.hold("C1", "PL", june(8), "11:00 | 11:10-12:00 | 12:00");
-    desk.seat("F1", "PL");
-    Ok(desk)
-}
+/// C1 flies 3,600 minutes from 2 to 8 June, the last hour of them PL, together with F1. PL is flown long, as request 60
+/// says: C1's week is then over its limit.
+const A_LONG_PERIOD: &str = "
+    plan P2 2: 12:00 | 13:00-15:00, 21:00-+1 00:00 | +1 00:00
+    assign P2 C1
+    plan P3 3: 12:00 | 13:00-15:00, 21:00-+1 00:00 | +1 00:00
+    assign P3 C1
+    plan P4 4: 12:00 | 13:00-15:00, 21:00-+1 00:00 | +1 00:00
+    assign P4 C1
+    plan P6 6: 12:00 | 13:00-15:00, 21:00-+1 00:00 | +1 00:00
+    assign P6 C1
+    plan P7 7: 12:00 | 13:00-15:00, 21:00-23:00 | 23:00
+    assign P7 C1
+    plan PL 8: 11:00 | 11:10-12:00 | 12:00
+    assign PL C1
+    assign PL F1
+    60 fly PL 1 8: 11:00 | 11:10-18:50 | 19:00
+";
 
-fn long(alloc: Global, period: u8) -> Result<Order, Unmade>
-    requires low { 1 ≤ period }
-    requires high { period ≤ 10 }
-{
-    fly(alloc, "PL", period, june(8), "11:00 | 11:10-18:50 | 19:00")
-}
-
-/// C1's week is then over its limit.
-fn over_the_week(alloc: Global) -> Result<Answer, Unmade> {
-    Answer::recorded(alloc, &[("C1", Section::FlightDutyPeriods168Hours)])
-}
-
-/// PL was flown long, as request 60 says.
-fn a_long_period(alloc: Global) -> Result<Desk, Unmade> {
-    let mut desk = a_week_at_its_limit(alloc)?;
-    desk.settle_as(60, long(alloc, 1), over_the_week(alloc));
-    Ok(desk)
-}
+const A_PERIOD_BEFORE: &str = "
+    plan P1 1: 12:00 | 12:10-13:00 | 13:00
+    1 assign P1 C1
+";
 
 #[test]
 fn a_longer_period_fills_the_week_before_it(rt: HostRuntime) -> Result<(), Fail> {
-    let alloc = rt.alloc();
-    let mut desk = a_week_at_its_limit(alloc)?;
-    assert!(rt; desk.says(60, long(alloc, 1), over_the_week(alloc)));
-    desk.plan("P1", june(1), "12:00 | 12:10-13:00 | 13:00");
-    let week = Section::FlightDutyPeriods168Hours;
-    assert!(rt; desk.forbids(assign(alloc, "P1", "C1"), "C1", week));
-    Ok(())
+    assert_told(
+        &rt,
+        told(rt.alloc(), &[A_LONG_PERIOD, A_PERIOD_BEFORE]),
+        "accepted C1 117.23(c)(1)\n12 Limits C1 117.23(c)(1)\n",
+    )
 }
+
+const TAKEN_BACK: &str = "
+    1 cancel PL
+    2 release PL F1
+    3 fly PL 2 8: 11:00 | 11:10-18:50 | 19:00
+";
 
 #[test]
 fn a_flown_pairing_is_neither_cancelled_nor_released(rt: HostRuntime) -> Result<(), Fail> {
-    let alloc = rt.alloc();
-    let mut desk = a_long_period(alloc)?;
-    assert!(rt; desk.refuses(cancel_pairing(alloc, "PL"), Refusal::PairingCrewed));
-    assert!(rt; desk.refuses(release(alloc, "PL", "F1"), Refusal::Flown));
-    assert!(rt; desk.refuses(long(alloc, 2), Refusal::NoSuchDuty));
-    Ok(())
+    assert_told(
+        &rt,
+        told(rt.alloc(), &[A_LONG_PERIOD, TAKEN_BACK]),
+        "accepted C1 117.23(c)(1)\n9 PairingCrewed\n10 Flown\n13 NoSuchDuty\n",
+    )
 }
+
+/// What was recorded stays.
+const FLOWN_AS_PLANNED: &str = "
+    61 fly PL 1 8: 11:00 | 11:10-12:00 | 12:00
+    exceedances
+";
 
 #[test]
 fn an_actual_takes_the_place_of_an_earlier_one(rt: HostRuntime) -> Result<(), Fail> {
-    let alloc = rt.alloc();
-    let mut desk = a_long_period(alloc)?;
-    assert!(rt; desk.accepts(fly(alloc, "PL", 1, june(8), "11:00 | 11:10-12:00 | 12:00")));
-    assert!(rt;
-        desk.roster.exceedances.len() == 1,
-        "what was recorded stays"
-    );
-    Ok(())
+    assert_told(
+        &rt,
+        told(rt.alloc(), &[A_LONG_PERIOD, FLOWN_AS_PLANNED]),
+        "accepted C1 117.23(c)(1)\naccepted\nexceedances | 60 0 C1 117.23(c)(1) PL 1\n",
+    )
 }

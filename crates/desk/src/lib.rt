@@ -12,4 +12,10 @@ mod flown_periods;
 #[cfg(test)]
 mod judgement;
 #[cfg(test)]
+mod lines;
+#[cfg(test)]
 mod requests;
+#[cfg(test)]
+mod seen;
+#[cfg(test)]
+mod told;
