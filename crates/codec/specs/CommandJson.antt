@@ -1,7 +1,8 @@
 -- What the members of a command are read as, and which of them are refused. Members are looked for in the order in which
 -- they stand here; the first that is missing or isn't read is refused by its name, and after them what the whole is refused
 -- for.
-use Rattle.std.specs.Prelude.{◌≡◌, ℕ, List, Option, Some, None, is_some, ok_or, option_and_then, Result, Ok, Err, if◌then◌else◌}
+use Rattle.std.specs.Prelude.{◌≡◌, ℕ, List, Option, Some, None, is_some, ok_or, option_and_then, Result, Ok, Err, if◌then◌else◌, ◌&&◌, nat_le, length}
+use Rattle.std.specs.Str.{is_utf8}
 use Rattle.serde_json.specs.Data.{Data}
 use Rattle.serde_json.specs.Find.{as_str, as_object}
 use Rattle.serde_json.specs.Read.{read}
@@ -11,11 +12,11 @@ use Rattle.command.specs.Orders.{order_fault}
 use Rattle.command.specs.declared.order.Order.{Order}
 use Rattle.command.specs.declared.order.Order.TheVariants as order
 use Rattle.codec.specs.Fields.{field_name}
-use Rattle.codec.specs.Parts.{part_of, read_list, read_time, read_times, read_seat, read_verb, read_period, read_period_number}
+use Rattle.codec.specs.Parts.{part_of, read_list, read_time, read_number, read_times, read_seat, read_verb, read_period, read_period_number}
 use Rattle.codec.specs.declared.fault.CodecFault.{CodecFault}
 use Rattle.codec.specs.declared.fault.CodecFault.TheVariants.{BadJson, Duty}
 use Rattle.codec.specs.declared.field.JsonField.{JsonField}
-use Rattle.codec.specs.declared.field.JsonField.TheVariants.{Body, Do, Crew, Seat, Name, Pairing, Periods, OtherPairing, OtherCrew, Ground, Begin, End, Task, Period, Report, Release, Segments}
+use Rattle.codec.specs.declared.field.JsonField.TheVariants.{Body, Number, Do, Crew, Seat, Name, Pairing, Periods, OtherPairing, OtherCrew, Ground, Begin, End, Task, Period, Report, Release, Segments}
 use Rattle.codec.specs.declared.verb.Verb.{Verb}
 use Rattle.codec.specs.declared.verb.Verb.TheVariants as verb
 
@@ -85,3 +86,14 @@ read_object text = ok_or (option_and_then (λ d. if is_some (as_object d) then S
 -- the command of a kept text
 abbrev pub read_kept : List ℕ → Result Order CodecFault
 read_kept text = and_then (read_object text) read_order
+
+-- the object of a request's body, which is UTF-8 of at most 1,048,576 bytes
+abbrev pub read_body : List ℕ → Result Data CodecFault
+read_body body = if nat_le (length body) 1_048_576 && is_utf8 body then read_object body else Err (BadJson Body)
+
+-- the command of a request's body, under its number, which is looked at first
+abbrev pub read_request : List ℕ → Result (ℕ × Order) CodecFault
+read_request body =
+    and_then (read_body body) (λ d.
+    and_then (field_of read_number Number d) (λ number.
+    and_then (read_order d) (λ asked. Ok (number, asked))))

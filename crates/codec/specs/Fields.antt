@@ -2,12 +2,13 @@
 use Rattle.std.specs.Prelude.{ℕ, List, [], ◌∷◌, Option, codes, find}
 use Rattle.std.specs.Str.{bytes_eq}
 use Rattle.codec.specs.declared.field.JsonField.{JsonField}
-use Rattle.codec.specs.declared.field.JsonField.TheVariants.{Body, Do, Crew, Seat, Name, Pairing, Periods, OtherPairing, OtherCrew, Ground, Begin, End, Task, Period, Report, Release, Segments}
+use Rattle.codec.specs.declared.field.JsonField.TheVariants.{Body, Number, Do, Crew, Seat, Name, Pairing, Periods, OtherPairing, OtherCrew, Ground, Begin, End, Task, Period, Report, Release, Segments}
 use Rattle.codec.specs.declared.verb.Verb.{Verb}
 use Rattle.codec.specs.declared.verb.Verb.TheVariants as verb
 
 abbrev pub field_name : JsonField → List ℕ
 field_name Body = codes "body"
+field_name Number = codes "number"
 field_name Do = codes "do"
 field_name Crew = codes "crew"
 field_name Seat = codes "seat"

@@ -6,4 +6,5 @@ pub mod KeptText
 pub mod Parts
 pub mod CommandJson
 pub mod ReplyText
+pub mod RefusalText
 pub mod Laws

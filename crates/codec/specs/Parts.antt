@@ -39,6 +39,14 @@ abbrev pub read_period_number : Data → Option ℕ
 read_period_number d =
     with_part (option_and_then as_u64 (as_number d)) (λ number. if is_within 1 10 number then Some number else None)
 
+-- The number of a request. Of a number as serde_json reads it `as_u64` is what is written in digits alone and is under 2^64:
+-- one with a point or an exponent, as 1.0 and 1e0, is a float whatever its value, and so are -0 and a whole number that 64
+-- bits don't hold, as one of forty digits; any other with a sign is a negative number. None of these is read here.
+abbrev pub read_number : Data → Option ℕ
+read_number d =
+    with_part (option_and_then as_u64 (as_number d)) (λ number.
+    if is_within 1 9_223_372_036_854_775_807 number then Some number else None)
+
 abbrev pub read_seat : Data → Option Seat
 read_seat d = option_and_then (worded seat_text (Captain ∷ FirstOfficer ∷ [])) (as_str d)
 

@@ -7,6 +7,7 @@ use std::fmt;
 #[derive(Clone, Copy, Debug, PartialEq, Eq)]
 pub enum JsonField {
     Body,
+    Number,
     Do,
     Crew,
     Seat,
@@ -32,6 +33,7 @@ impl JsonField {
     {
         match self {
             JsonField::Body => "body",
+            JsonField::Number => "number",
             JsonField::Do => "do",
             JsonField::Crew => "crew",
             JsonField::Seat => "seat",

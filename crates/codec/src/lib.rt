@@ -10,11 +10,13 @@ mod kept_text;
 pub mod laws;
 mod part;
 mod parts;
+mod refusal_text;
 mod reply_text;
 mod verb;
 
-pub use command_json::read_canonical;
+pub use command_json::{command_of_json, read_canonical};
 pub use fault::CodecFault;
 pub use field::JsonField;
 pub use kept_text::canonical;
+pub use refusal_text::{fault_to_json, refusal_to_json};
 pub use reply_text::{read_reply, reply_to_json};

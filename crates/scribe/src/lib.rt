@@ -1,4 +1,4 @@
-//! Worked rows of kept texts, written out by hand.
+//! Worked rows of kept texts, requests and refusals, written out by hand.
 #![tactic(auto)]
 
 #[cfg(test)]
@@ -6,4 +6,8 @@ mod faults;
 #[cfg(test)]
 mod kept;
 #[cfg(test)]
+mod refusals;
+#[cfg(test)]
 mod replies;
+#[cfg(test)]
+mod requests;

@@ -1,0 +1,59 @@
+-- Refusals as JSON: number and name, and what is told with them; the members in byte order of their names.
+use Rattle.std.specs.Prelude.{ℕ, List, [], ◌∷◌, map, codes}
+use Rattle.serde_json.specs.Data.{Data, number, unsigned, string}
+use Rattle.serde_json.specs.Written.{compact_text}
+use Rattle.duty.specs.FaultText.{field_text}
+use Rattle.duty.specs.declared.fault.DutyFault.{DutyFault}
+use Rattle.duty.specs.declared.fault.DutyFault.TheVariants as duty
+use Rattle.command.specs.Texts.{refusal_number, refusal_name}
+use Rattle.command.specs.declared.exceedance.Exceedance.{Exceedance}
+use Rattle.command.specs.declared.refusal.Refusal.{Refusal}
+use Rattle.command.specs.declared.refusal.Refusal.TheVariants.{Limits, SegmentCount}
+use Rattle.codec.specs.Fields.{field_name}
+use Rattle.codec.specs.ReplyText.{exceedance_json}
+use Rattle.codec.specs.Values.{object_of, array_of}
+use Rattle.codec.specs.declared.fault.CodecFault.{CodecFault}
+use Rattle.codec.specs.declared.fault.CodecFault.TheVariants.{BadJson, Duty, Memory}
+
+-- the members that come last
+abbrev pub refused : ℕ → List (List ℕ × Data)
+refused n = (codes "refusal", number (unsigned n)) ∷ (codes "result", string (codes "refused")) ∷ []
+
+abbrev pub plain_refusal : ℕ → List ℕ → Data
+plain_refusal n name = object_of ((codes "name", string name) ∷ refused n)
+
+abbrev pub period_refusal : ℕ → List ℕ → ℕ → Data
+period_refusal n name period = object_of ((codes "name", string name) ∷ (codes "period", number (unsigned period)) ∷ refused n)
+
+abbrev pub field_refusal : ℕ → List ℕ → List ℕ → Data
+field_refusal n name field = object_of ((codes "field", string field) ∷ (codes "name", string name) ∷ refused n)
+
+abbrev pub limits_refusal : ℕ → List ℕ → List Exceedance → Data
+limits_refusal n name broken =
+    object_of ((codes "limits", array_of (map exceedance_json broken)) ∷ (codes "name", string name) ∷ refused n)
+
+-- a refusal of the book
+abbrev pub refusal_json : Refusal → Data
+refusal_json (Limits broken) = limits_refusal (refusal_number (Limits broken)) (refusal_name (Limits broken)) broken
+refusal_json (SegmentCount period) =
+    period_refusal (refusal_number (SegmentCount period)) (refusal_name (SegmentCount period)) period
+refusal_json refusal = plain_refusal (refusal_number refusal) (refusal_name refusal)
+
+unfoldable pub refusal_text : Refusal → List ℕ
+refusal_text refusal = compact_text (refusal_json refusal)
+
+abbrev pub duty_fault_json : DutyFault → Data
+duty_fault_json (duty.BadTimes period) = period_refusal 16 (codes "BadTimes") period
+duty_fault_json (duty.BadChain period) = period_refusal 17 (codes "BadChain") period
+duty_fault_json (duty.BadField field) = field_refusal 18 (codes "BadField") (field_text field)
+duty_fault_json (duty.SegmentCount period) = period_refusal 19 (codes "SegmentCount") period
+duty_fault_json duty.Memory = plain_refusal 91 (codes "Memory")
+
+-- why a request isn't read
+abbrev pub fault_json : CodecFault → Data
+fault_json (BadJson field) = field_refusal 31 (codes "BadJson") (field_name field)
+fault_json (Duty fault) = duty_fault_json fault
+fault_json Memory = plain_refusal 91 (codes "Memory")
+
+unfoldable pub fault_reply : CodecFault → List ℕ
+fault_reply fault = compact_text (fault_json fault)
