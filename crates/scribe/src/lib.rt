@@ -7,3 +7,5 @@ mod faults;
 mod kept;
 #[cfg(test)]
 mod replies;
+#[cfg(test)]
+mod schedules;
