@@ -1,4 +1,4 @@
-//! Worked rows of kept texts, requests and refusals, written out by hand.
+//! Worked rows of kept texts, requests, refusals and schedules, written out by hand.
 #![tactic(auto)]
 
 #[cfg(test)]
@@ -11,3 +11,5 @@ mod refusals;
 mod replies;
 #[cfg(test)]
 mod requests;
+#[cfg(test)]
+mod schedules;

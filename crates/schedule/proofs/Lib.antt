@@ -1,0 +1,5 @@
+pub mod Text
+pub mod Marks
+pub mod Rows
+pub mod Grouped
+pub mod Loop

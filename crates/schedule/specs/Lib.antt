@@ -1,0 +1,5 @@
+pub mod Records
+pub mod Places
+pub mod Schedule
+pub mod Grouping
+pub mod Texts

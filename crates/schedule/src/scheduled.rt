@@ -1,0 +1,19 @@
+use duty::{PairingId, Segment};
+use time117::Minute;
+
+/// Where a segment stands in a schedule.
+#[derive(Drop)]
+pub struct Place {
+    pub pairing: PairingId,
+    /// The number of the period in its pairing, from 1.
+    pub period: usize,
+    pub report: Minute,
+    pub release: Minute,
+}
+
+/// What a record of a schedule tells.
+#[derive(Drop)]
+pub struct ScheduledSegment {
+    pub place: Place,
+    pub segment: Segment,
+}
