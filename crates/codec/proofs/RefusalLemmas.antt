@@ -9,7 +9,7 @@ use Rattle.command.specs.declared.refusal.Refusal.TheVariants.{NumberUsed, NoSuc
 use Rattle.codec.specs.RefusalText.{refusal_json, fault_json}
 use Rattle.codec.specs.ReplyText.{exceedance_json}
 use Rattle.codec.specs.declared.fault.CodecFault.{CodecFault}
-use Rattle.codec.specs.declared.fault.CodecFault.TheVariants.{BadJson, Duty, Memory}
+use Rattle.codec.specs.declared.fault.CodecFault.TheVariants.{BadJson, BadCsv, Duty, Memory}
 
 exceedances_no_float : (es : List Exceedance) → items_have_float (items_of (map exceedance_json es)) ≡ false
 exceedances_no_float [] = refl
@@ -35,6 +35,7 @@ refusal_no_float (SegmentCount period) = refl
 
 pub fault_no_float : (f : CodecFault) → has_float (fault_json f) ≡ false
 fault_no_float (BadJson field) = refl
+fault_no_float (BadCsv line) = refl
 fault_no_float (Duty (duty.BadTimes period)) = refl
 fault_no_float (Duty (duty.BadChain period)) = refl
 fault_no_float (Duty (duty.BadField field)) = refl

@@ -8,3 +8,4 @@ pub mod CommandJson
 pub mod ReplyText
 pub mod RefusalText
 pub mod Laws
+pub mod Schedules

@@ -13,7 +13,7 @@ use Rattle.codec.specs.Fields.{field_name}
 use Rattle.codec.specs.ReplyText.{exceedance_json}
 use Rattle.codec.specs.Values.{object_of, array_of}
 use Rattle.codec.specs.declared.fault.CodecFault.{CodecFault}
-use Rattle.codec.specs.declared.fault.CodecFault.TheVariants.{BadJson, Duty, Memory}
+use Rattle.codec.specs.declared.fault.CodecFault.TheVariants.{BadJson, BadCsv, Duty, Memory}
 
 -- the members that come last
 abbrev pub refused : ℕ → List (List ℕ × Data)
@@ -27,6 +27,9 @@ period_refusal n name period = object_of ((codes "name", string name) ∷ (codes
 
 abbrev pub field_refusal : ℕ → List ℕ → List ℕ → Data
 field_refusal n name field = object_of ((codes "field", string field) ∷ (codes "name", string name) ∷ refused n)
+
+abbrev pub line_refusal : ℕ → List ℕ → ℕ → Data
+line_refusal n name line = object_of ((codes "line", number (unsigned line)) ∷ (codes "name", string name) ∷ refused n)
 
 abbrev pub limits_refusal : ℕ → List ℕ → List Exceedance → Data
 limits_refusal n name broken =
@@ -52,6 +55,7 @@ duty_fault_json duty.Memory = plain_refusal 91 (codes "Memory")
 -- why a request isn't read
 abbrev pub fault_json : CodecFault → Data
 fault_json (BadJson field) = field_refusal 31 (codes "BadJson") (field_name field)
+fault_json (BadCsv line) = line_refusal 30 (codes "BadCsv") line
 fault_json (Duty fault) = duty_fault_json fault
 fault_json Memory = plain_refusal 91 (codes "Memory")
 

@@ -1,16 +1,19 @@
 use crate::field::JsonField;
 use duty::DutyFault;
+use schedule::ScheduleFault;
 use std::alloc::AllocError;
 use std::error::Error;
 use std::fmt;
 use values::MemoryFault;
 
-/// Why a text isn't read as a command or a reply.
+/// Why a text isn't read as a command, a reply or a schedule.
 #[derive(Clone, Copy, Debug, PartialEq, Eq)]
 pub enum CodecFault {
     /// The text is no object of JSON, or this member is missing, of the wrong kind, out of its range or not one of its
     /// words, or holds such a part.
     BadJson(JsonField),
+    /// A schedule is refused at this record, the header being record 1; 0 for a schedule of too many bytes.
+    BadCsv(usize),
     /// The members are no command.
     Duty(DutyFault),
     /// There was no memory.
@@ -26,6 +29,7 @@ impl fmt::Display for CodecFault {
     fn fmt<W: fmt::Write>(&self, f: &mut fmt::Formatter<W>) -> fmt::Result {
         match self {
             CodecFault::BadJson(field) => write!(f, "31 BadJson {field}"),
+            CodecFault::BadCsv(line) => write!(f, "30 BadCsv {line}"),
             CodecFault::Duty(fault) => write!(f, "{fault}"),
             CodecFault::Memory => write!(f, "91 Memory"),
         }
@@ -64,5 +68,19 @@ impl From<DutyFault> for CodecFault {
 
     fn from(fault: DutyFault) -> CodecFault {
         CodecFault::Duty(fault)
+    }
+}
+
+impl From<ScheduleFault> for CodecFault {
+    ghost use Rattle.std.specs.Prelude.{◌≡◌};
+    ghost use Rattle.codec.specs.Schedules.{of_schedule};
+
+    ghost from_gives = { λ schedule fault. fault ≡ of_schedule schedule };
+
+    fn from(fault: ScheduleFault) -> CodecFault {
+        match fault {
+            ScheduleFault::Record(line) => CodecFault::BadCsv(line),
+            ScheduleFault::Memory => CodecFault::Memory,
+        }
     }
 }

@@ -115,7 +115,19 @@ impl Model for RequestNumber {
 }
 
 impl RequestNumber {
-    ghost use Rattle.std.specs.Prelude.{◌≤◌};
+    ghost use Rattle.std.specs.Prelude.{◌≤◌, Some, None, if◌then◌else◌};
+    ghost use Rattle.duty.specs.Shape.{is_within};
+
+    /// The number, where it is from 1 to 9,223,372,036,854,775,807.
+    pub fn new(number: u64) -> Option<RequestNumber>
+        ensures { result ≡ (if is_within 1 9_223_372_036_854_775_807 number then Some number else None) }
+    {
+        if (1..=9_223_372_036_854_775_807).contains(&number) {
+            Some(RequestNumber { number })
+        } else {
+            None
+        }
+    }
 
     /// From 1 to 9,223,372,036,854,775,807.
     pub fn get(self) -> u64
@@ -134,10 +146,7 @@ impl Part for RequestNumber {
 
     fn of_json(_alloc: Global, value: &Value) -> Result<RequestNumber, Unread> {
         let number = value.as_u64().ok_or(Unread::Refused)?;
-        if !(1..=9_223_372_036_854_775_807).contains(&number) {
-            return Err(Unread::Refused);
-        }
-        Ok(RequestNumber { number })
+        RequestNumber::new(number).ok_or(Unread::Refused)
     }
 }
 

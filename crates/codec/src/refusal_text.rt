@@ -21,7 +21,8 @@ pub fn refusal_to_json(alloc: Global, refusal: &Refusal) -> Result<String, Memor
     Ok(value.to_string(alloc)?)
 }
 
-/// Why a text isn't read, in JSON: 16, 17 and 19 with their `period`, 18 and 31 with their `field`; want of memory as
+/// Why a text isn't read, in JSON: 16, 17 and 19 with their `period`, 18 and 31 with their `field`, 30 with its
+/// `line`; want of memory as
 /// `{"name":"Memory","refusal":91,"result":"refused"}`.
 #[tactic(auto, unfolding(crate::specs::RefusalText::fault_reply), using(crate::proofs::RefusalLemmas::fault_no_float))]
 pub fn fault_to_json(alloc: Global, fault: CodecFault) -> Result<String, MemoryFault>
@@ -47,6 +48,7 @@ fn fault_value(alloc: Global, fault: CodecFault) -> Result<Value, MemoryFault>
 {
     match fault {
         CodecFault::BadJson(field) => field_refusal(alloc, 31, "BadJson", field.name()),
+        CodecFault::BadCsv(line) => line_refusal(alloc, 30, "BadCsv", line),
         CodecFault::Duty(fault) => duty_fault_value(alloc, fault),
         CodecFault::Memory => plain_refusal(alloc, 91, "Memory"),
     }
@@ -93,6 +95,18 @@ fn field_refusal(alloc: Global, number: u8, name: &str, field: &str) -> Result<V
         "refusal": number,
         "name": name,
         "field": field
+    })?;
+    Ok(value)
+}
+
+fn line_refusal(alloc: Global, number: u8, name: &str, line: usize) -> Result<Value, MemoryFault>
+    ensures { IfOk result (λ value. view value ≡ spec.line_refusal number name.now line) }
+{
+    let value = json!(in alloc; {
+        "result": "refused",
+        "refusal": number,
+        "name": name,
+        "line": line
     })?;
     Ok(value)
 }

@@ -1,9 +1,8 @@
 //! What a schedule is read as: the kept text of the command that adds each of its pairings, a line each, or its fault.
 
-use codec::canonical;
+use codec::{canonical, schedule_of_csv};
 use command::{Command, Order};
 use duty::Pairing;
-use schedule::schedule_of_csv;
 use std::alloc::Global;
 use std::test::Fail;
 use values::MemoryFault;
