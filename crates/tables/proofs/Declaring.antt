@@ -5,7 +5,7 @@ use Rattle.std.proofs.lemmas.Slice.Eq.{bytes_eq-Decides}
 use Rattle.std.specs.List.{AllByRecursion, list_all}
 use Rattle.sqlite_schema.specs.declared.schema.Table.{Table}
 use Rattle.sqlite_schema.specs.declared.schema.Schema.{Schema}
-use Rattle.tables.specs.Schema.{BookTable, IsTable, HasColumns, NoneRefersTo, table_of, table_found}
+use Rattle.tables.specs.Schema.{BookTable, IsTable, IsOfBook, IsBook, HasColumns, NoneRefersTo, table_of, table_found, book_table, crew_table, pairing_table, period_table, segment_table, seat_table, ground_table, exceedance_table, request_table}
 use Rattle.sqlite_schema.specs.declared.schema.Reference.{Reference}
 use Rattle.sqlite_schema.specs.Names.{same_name}
 use Rattle.tables.specs.Declarations.{IsSimple, IsLike, HaveNoDefault, StandsAs, is_own_tree, is_not_parent}
@@ -107,3 +107,30 @@ none_refers schema name result is =
     let it = all_mean (λ (t : Table). list_all (λ ref. not (same_name name ref.parent)) t.references) (λ (t : Table). AllByRecursion (λ ref. same_name name ref.parent ≡ false) t.references)
     (λ t. all_mean (λ (ref : Reference). not (same_name name ref.parent)) (λ (ref : Reference). same_name name ref.parent ≡ false) (λ ref. test_not (same_name name ref.parent)) t.references) schema.tables in
     (λ h. it.0 (sym is ∙ h), λ h. is ∙ it.1 h)
+
+-- ---- the nine tables of a book, by threes
+
+abbrev pub Three : BookTable → BookTable → BookTable → Schema → Type 0
+Three a b c schema = IsOfBook a schema × IsOfBook b schema × IsOfBook c schema
+
+-- each three is there
+pub whole_book : (schema : Schema) (first second third : Bool) → IsTrue first ↔ Three book_table crew_table pairing_table schema → IsTrue second ↔ Three period_table segment_table seat_table schema
+    → IsTrue third ↔ Three ground_table exceedance_table request_table schema → first ≡ true → second ≡ true → IsTrue third ↔ IsBook schema
+whole_book schema first second third begins goes_on ends f s = (
+  λ t.
+      let a = begins.0 f in
+      let b = goes_on.0 s in
+      let c = ends.0 t in
+      (a.0, (a.1, (a.2, (b.0, (b.1, (b.2, (c.0, (c.1, (c.2, tt))))))))),
+  λ all. let h = all.1.1.1.1.1.1 in ends.1 (h.0, h.1.0, h.1.1.0),
+)
+
+-- a part is not there
+part_lacks : {Part Whole : Type 0} (part value : Bool) → IsTrue part ↔ Part → (Whole → Part) → value ≡ part → value ≡ false → IsTrue value ↔ Whole
+part_lacks part value is of same off = (λ yes. absurd (let e = sym yes ∙ off in cc), λ all. absurd (let e = sym (is.1 (of all)) ∙ sym same ∙ off in cc))
+
+pub lacks_first : (schema : Schema) (first value : Bool) → IsTrue first ↔ Three book_table crew_table pairing_table schema → value ≡ first → value ≡ false → IsTrue value ↔ IsBook schema
+lacks_first schema first value begins = part_lacks first value begins (λ all. (all.0, all.1.0, all.1.1.0))
+
+pub lacks_second : (schema : Schema) (second value : Bool) → IsTrue second ↔ Three period_table segment_table seat_table schema → value ≡ second → value ≡ false → IsTrue value ↔ IsBook schema
+lacks_second schema second value goes_on = part_lacks second value goes_on (λ all. let h = all.1.1.1 in (h.0, h.1.0, h.1.1.0))

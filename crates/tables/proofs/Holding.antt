@@ -22,7 +22,7 @@ use Rattle.sqlite.specs.State.{State, Survives, CommitsBy, HasCleanDisk}
 use Rattle.sqlite.proofs.StateLemmas.{survives_weaker}
 use Rattle.tables.specs.Schema.{BookTable, IsTable, table_of}
 use Rattle.tables.specs.Rows.{cells, stored, same_at, Inserts, IsStored, HasKeyOf}
-use Rattle.tables.specs.Calls.{Ran, MayLeave, RefusesHeld}
+use Rattle.tables.specs.Calls.{Ran, MayLeave, RefusesHeld, Faults}
 use Rattle.tables.specs.Texts.{Performs}
 use Rattle.tables.specs.declared.table_fault.TableFault.{TableFault}
 use Rattle.tables.proofs.Known.{place, stored_is}
@@ -30,7 +30,7 @@ use Rattle.tables.proofs.Compiling.{IsRead}
 use Rattle.tables.proofs.Answering.{compared}
 use Rattle.tables.proofs.Inserting.{plain_mode, inserted, new_row}
 use Rattle.tables.proofs.KeyLemmas.{one_row}
-use Rattle.tables.proofs.Statements.{Writer, table_writer, ran_by, left_by}
+use Rattle.tables.proofs.Statements.{Writer, Stopper, table_writer, ran_by, left_by, faults_by}
 
 abbrev pub InsertsFree : BookTable → Row → Database → Database → Type 0
 InsertsFree kept x old new = Inserts kept x old new × (IsStored kept old → ¬ HasKeyOf kept x old)
@@ -91,3 +91,23 @@ module _ {text : List ℕ} {params : Row} {kept : BookTable} {x : Row} {B : Type
 
   pub inserts_left_by : MayLeave (Inserts kept x) old new
   inserts_left_by = survives_weaker old new _ _ (λ _ db h. (h.0, h.1, h.2.0, h.3)) (left_by old new owed writer survives)
+
+-- the same where the parameters are given as other values that are found to be these
+pub record Inserted {A : Type 0} (kept : BookTable) (x : Row) (TooBig Why : Type 0) (old new : State) (result : Result A TableFault) : Type 0 where
+  pub ran : Ran (Inserts kept x) old new result
+  pub held : RefusesHeld kept x old new result
+  pub fault : Faults TooBig Why old new result
+  pub crash : MayLeave (Inserts kept x) old new
+
+pub inserted_by : {A : Type 0} {text : List ℕ} {given params : Row} {kept : BookTable} {x : Row} {TooBig Why B : Type 0} (old new : State) → given ≡ params → (HasCleanDisk old → B)
+    → (B → Writer text params (InsertsFree kept x) old) → (B → Stopper text params TooBig Why old) → Survives old new (CommitsBy text given old) → (result : Result A TableFault) → (HasCleanDisk new → Performs text given old new result)
+    → Inserted kept x TooBig Why old new result
+inserted_by {text} old new is owed writer stopper survives result performs =
+    let kept_up = subst (λ ps. Survives old new (CommitsBy text ps old)) is survives in
+    let does = λ (clean : HasCleanDisk new). subst (λ ps. Performs text ps old new result) is (performs clean) in
+    record {
+      ran = inserts_by old new owed writer kept_up result does;
+      held = refuses_by old new owed writer kept_up result does;
+      fault = faults_by old new owed stopper kept_up result does;
+      crash = inserts_left_by old new owed writer kept_up;
+    }

@@ -1,5 +1,11 @@
 -- What reading the rows of an answer leaves.
-use Rattle.std.proofs.Common.{inl, inr, ◌≡◌, ◌≤◌, ℕ, List, Result, Ok, Err, IfErr, IsTrue, arith, sym, subst, ◌∙◌}
+use Rattle.std.proofs.Common.{inl, inr, ◌⊎◌, ◌≡◌, ◌≤◌, ◌<◌, ◌^◌, pos, ℕ, nat_lt, true, List, Option, None, Some, Result, Ok, Err, IfOk, IfErr, IsTrue, arith, sym, ap, subst, ◌∙◌}
+use Rattle.std.specs.Result.{IsErrAnd}
+use Rattle.std.proofs.lemmas.Bool.Decides.{nat_tests}
+use Rattle.sqlite_value.specs.declared.value.Value.{Value}
+use Rattle.sqlite_value.specs.declared.value.Value.TheVariants.{Null, Int}
+use Rattle.tables.specs.Records.{IsNumberIfAny, number_or_null}
+use Rattle.tables.specs.declared.table_fault.TableFault.{TableFault}
 use Rattle.std.proofs.lemmas.Bool.{both_ways}
 use Rattle.sqlite_value.specs.Order.{Row}
 use Rattle.sqlite_trees.specs.declared.error.StoreError.{StoreError}
@@ -89,3 +95,22 @@ begins_back first now sql params rows same h =
       subst (λ (d : Database). IsSourceOf (reads_listing d.schema sql) d h.3) is h.4,
       h.5,
     )
+
+-- ---- a column that can't be read
+
+pub below : (k n : ℕ) {long : ℕ} → long ≡ n → nat_lt k n ≡ true → k < long
+below k n is h = subst (λ m. k < m) (sym is) (grind (arith, nat_tests))
+
+pub err_says : {A : Type 0} (P : A → Type 0) (result : Result A TableFault) (fault : TableFault) → IsErrAnd result (λ e. e ≡ fault) → IfOk result P
+err_says P (Ok x) fault told = absurd told
+err_says P (Err e) fault told = tt
+
+-- a fault that is passed on
+pub err_told : {A B : Type 0} (result : Result A TableFault) (fault other : TableFault) → IsErrAnd result (λ e. e ≡ fault) → result ≡ Err other → ◌≡◌ {A = Result B TableFault} (Err fault) (Err other)
+err_told (Ok x) fault other told is = absurd told
+err_told {A} {B} (Err e) fault other told is = let same : e ≡ other = cc in ap Err (sym told ∙ same)
+
+-- a number that may be missing is read where it is one of a record
+pub number_readable : (o : Option ℕ) (v : Value) → IsNumberIfAny o → v ≡ number_or_null o → (v ≡ Null) ⊎ (n : ℕ) × (v ≡ Int (pos n)) × (n < 2 ^ 32)
+number_readable None v small is = inl is
+number_readable (Some n) v small is = inr (n, is, small)

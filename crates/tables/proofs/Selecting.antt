@@ -210,15 +210,23 @@ module _ {text : List ℕ} {kept : BookTable} {count : ℕ} {B : Type 0} (old ne
       let reads = ordered (owed (omega (arith, survives.clean))) in
       unread_as text [] old new (HasStepLimit old) _ (λ _. ⊥) fault (reads.stops new) (λ h. h) (λ _ none. absurd none) (err clean) (λ e. reads.invalid IsRecord (damaged clean (ap Err e)))
 
+-- the same of rows that a test picks, where the parameters are given as values that are found to be these
 module _ {text : List ℕ} {params : Row} {kept : BookTable} {test : Row → Bool} {B : Type 0} (old new : State) (owed : HasCleanDisk old → B) (reader : B → Reader text params kept test old) {X : Trees → Type 0}
     (survives : Survives old new X) where
-  pub read_by : {A : Type 0} (IsRecord : Row → Type 0) (rows : A → List Row) (result : Result A TableFault)
+  read_as : {A : Type 0} (IsRecord : Row → Type 0) (rows : A → List Row) (result : Result A TableFault)
       → (HasCleanDisk new → IfOk result (λ all. Shown text params old new (rows all))) → (HasCleanDisk new → OnOk result (IsUnchanged old new)) → (HasCleanDisk new → IfErr result (Unread (λ _. ⊥) text params old new))
       → (HasCleanDisk new → result ≡ Err NotARecord → HasInvalid IsRecord text params old) → Read kept test IsRecord rows old new result
-  read_by IsRecord rows (Ok all) shown same err damaged clean = ((reader (owed (omega (arith, survives.clean)))).found new (rows all) (shown clean), same clean)
-  read_by IsRecord rows (Err fault) shown same err damaged clean =
+  read_as IsRecord rows (Ok all) shown same err damaged clean = ((reader (owed (omega (arith, survives.clean)))).found new (rows all) (shown clean), same clean)
+  read_as IsRecord rows (Err fault) shown same err damaged clean =
       let reads = reader (owed (omega (arith, survives.clean))) in
       unread_as text params old new (HasStepLimit old) _ (λ _. ⊥) fault (reads.stops new) (λ h. h) (λ _ none. absurd none) (err clean) (λ e. reads.invalid IsRecord (damaged clean (ap Err e)))
+
+  pub read_by : {given : Row} → given ≡ params → {A : Type 0} (IsRecord : Row → Type 0) (rows : A → List Row) (result : Result A TableFault)
+      → (HasCleanDisk new → IfOk result (λ all. Shown text given old new (rows all))) → (HasCleanDisk new → OnOk result (IsUnchanged old new)) → (HasCleanDisk new → IfErr result (Unread (λ _. ⊥) text given old new))
+      → (HasCleanDisk new → result ≡ Err NotARecord → HasInvalid IsRecord text given old) → Read kept test IsRecord rows old new result
+  read_by is IsRecord rows result shown same err damaged =
+      read_as IsRecord rows result (λ clean. subst (λ ps. IfOk result (λ all. Shown text ps old new (rows all))) is (shown clean)) same (λ clean. subst (λ ps. IfErr result (Unread (λ _. ⊥) text ps old new)) is (err clean))
+      (λ clean e. subst (λ ps. HasInvalid IsRecord text ps old) is (damaged clean e))
 
 -- ---- a row from its columns
 

@@ -102,15 +102,6 @@ module _ {text : List ℕ} {params : Row} {TooBig Why : Type 0} {B : Type 0} (ol
       let h = performs clean in
       subst (Stops TooBig Why old new) (sym h.1) ((stopper (owed (omega (arith, survives.clean)))).stops new h.0 h.2)
 
-module _ {text : List ℕ} {params : Row} {TooBig Why : Type 0} {B C : Type 0} (old new : State) (owed : HasCleanDisk old → B) (also : HasCleanDisk old → C) (stopper : B → C → Stopper text params TooBig Why old)
-    (survives : Survives old new (CommitsBy text params old)) where
-  pub faults_by_both : {A : Type 0} (result : Result A TableFault) → (HasCleanDisk new → Performs text params old new result) → Faults TooBig Why old new result
-  faults_by_both = faults_by old new (λ clean. (owed clean, also clean)) (λ (both : B × C). stopper both.0 both.1) survives
-
-module _ {text : List ℕ} {params : Row} {TooBig Why : Type 0} (old new : State) (stopper : Stopper text params TooBig Why old) (survives : Survives old new (CommitsBy text params old)) where
-  pub faults_at : {A : Type 0} (result : Result A TableFault) → (HasCleanDisk new → Performs text params old new result) → Faults TooBig Why old new result
-  faults_at = faults_by {B = Unit {0}} old new (λ _. tt) (λ _. stopper) survives
-
 -- ---- from the clauses of `run` to those of a function
 
 module _ {text : List ℕ} {params : Row} {Is : Database → Database → Type 0} {B : Type 0} (old new : State) (owed : HasCleanDisk old → B) (writer : B → Writer text params Is old)
@@ -121,18 +112,29 @@ module _ {text : List ℕ} {params : Row} {Is : Database → Database → Type 0
   pub left_by : MayLeave Is old new
   left_by = later old new _ _ survives (λ clean. (writer (owed (omega (arith, survives.clean)))).left new survives)
 
--- the same where two facts are owed, and where none is
-module _ {text : List ℕ} {params : Row} {Is : Database → Database → Type 0} {B C : Type 0} (old new : State) (owed : HasCleanDisk old → B) (also : HasCleanDisk old → C) (writer : B → C → Writer text params Is old)
-    (survives : Survives old new (CommitsBy text params old)) where
-  pub ran_by_both : {A : Type 0} (result : Result A TableFault) → (HasCleanDisk new → Performs text params old new result) → Ran Is old new result
-  ran_by_both = ran_by old new (λ clean. (owed clean, also clean)) (λ (both : B × C). writer both.0 both.1) survives
+-- all three clauses, where the parameters are given as values that are found to be these
+pub record Written {A : Type 0} (Is : Database → Database → Type 0) (TooBig Why : Type 0) (old new : State) (result : Result A TableFault) : Type 0 where
+  pub ran : Ran Is old new result
+  pub fault : Faults TooBig Why old new result
+  pub crash : MayLeave Is old new
 
-  pub left_by_both : MayLeave Is old new
-  left_by_both = left_by old new (λ clean. (owed clean, also clean)) (λ (both : B × C). writer both.0 both.1) survives
+module _ {text : List ℕ} {given params : Row} {Is : Database → Database → Type 0} {TooBig Why : Type 0} (old new : State) (is : given ≡ params) where
+  pub written_by : {B : Type 0} → (HasCleanDisk old → B) → (B → Writer text params Is old) → (B → Stopper text params TooBig Why old) → Survives old new (CommitsBy text given old)
+      → {A : Type 0} (result : Result A TableFault) → (HasCleanDisk new → Performs text given old new result) → Written Is TooBig Why old new result
+  written_by owed writer stopper survives result performs =
+      let same = subst (λ ps. Survives old new (CommitsBy text ps old)) is survives in
+      let does = λ (clean : HasCleanDisk new). subst (λ ps. Performs text ps old new result) is (performs clean) in
+      record {
+        ran = ran_by old new owed writer same result does;
+        fault = faults_by old new owed stopper same result does;
+        crash = left_by old new owed writer same;
+      }
 
-module _ {text : List ℕ} {params : Row} {Is : Database → Database → Type 0} (old new : State) (writer : Writer text params Is old) (survives : Survives old new (CommitsBy text params old)) where
-  pub ran_at : {A : Type 0} (result : Result A TableFault) → (HasCleanDisk new → Performs text params old new result) → Ran Is old new result
-  ran_at = ran_by {B = Unit {0}} old new (λ _. tt) (λ _. writer) survives
+  -- the same where two facts are owed, and where none is
+  pub written_by_both : {B C : Type 0} → (HasCleanDisk old → B) → (HasCleanDisk old → C) → (B → C → Writer text params Is old) → (B → C → Stopper text params TooBig Why old) → Survives old new (CommitsBy text given old)
+      → {A : Type 0} (result : Result A TableFault) → (HasCleanDisk new → Performs text given old new result) → Written Is TooBig Why old new result
+  written_by_both {B} {C} owed also writer stopper = written_by (λ clean. (owed clean, also clean)) (λ (both : B × C). writer both.0 both.1) (λ (both : B × C). stopper both.0 both.1)
 
-  pub left_at : MayLeave Is old new
-  left_at = left_by {B = Unit {0}} old new (λ _. tt) (λ _. writer) survives
+  pub written_at : Writer text params Is old → Stopper text params TooBig Why old → Survives old new (CommitsBy text given old)
+      → {A : Type 0} (result : Result A TableFault) → (HasCleanDisk new → Performs text given old new result) → Written Is TooBig Why old new result
+  written_at writer stopper = written_by {B = Unit {0}} (λ _. tt) (λ _. writer) (λ _. stopper)

@@ -1,25 +1,19 @@
+use Rattle.std.proofs.Common.{◌∷◌, ◌∙◌, ap, ap₂, refl}
+use Rattle.sqlite_value.specs.declared.value.Value.TheVariants.{Text}
+use Rattle.sqlite.specs.Values.{bound_value}
 use Rattle.sqlite.specs.Held.{state}
-use Rattle.tables.proofs.Statements.{faults_by}
-use Rattle.tables.proofs.Holding.{inserts_by, refuses_by, inserts_left_by}
+use Rattle.tables.proofs.Holding.{inserted_by}
 use Rattle.tables.proofs.BookTexts.{insert_book, insert_book_stops}
 use Rattle.tables.proofs.book.insert_book.Goals as goal
 
-pub returns-clause-ran : goal.returns-clause-ran
-returns-clause-ran g c =
-    let given = rw (c.params-to_sql.ensures, c.params-to_sql-2.ensures, c.params-to_sql-3.ensures, c.as_str.ensures) at c.run.ensures in
-    inserts_by _ _ c.requires (insert_book c.args.book.now (state g.S.Store c.args.conn.now)) given.survives c.run.result given.runs
-
-pub returns-clause-held : goal.returns-clause-held
-returns-clause-held g c =
-    let given = rw (c.params-to_sql.ensures, c.params-to_sql-2.ensures, c.params-to_sql-3.ensures, c.as_str.ensures) at c.run.ensures in
-    refuses_by _ _ c.requires (insert_book c.args.book.now (state g.S.Store c.args.conn.now)) given.survives c.run.result given.runs
-
-pub returns-clause-crash : goal.returns-clause-crash
-returns-clause-crash g c =
-    let given = rw (c.params-to_sql.ensures, c.params-to_sql-2.ensures, c.params-to_sql-3.ensures, c.as_str.ensures) at c.run.ensures in
-    inserts_left_by _ _ c.requires (insert_book c.args.book.now (state g.S.Store c.args.conn.now)) given.survives
-
-pub returns-clause-fault : goal.returns-clause-fault
-returns-clause-fault g c =
-    let given = rw (c.params-to_sql.ensures, c.params-to_sql-2.ensures, c.params-to_sql-3.ensures, c.as_str.ensures) at c.run.ensures in
-    faults_by _ _ c.requires (insert_book_stops c.args.book.now (state g.S.Store c.args.conn.now) given.live) given.survives c.run.result given.runs
+pub returns : goal.returns
+returns g c =
+    let given = c.run.ensures in
+    let it = c.args.book.now in
+    let old = state g.S.Store c.args.conn.now in
+    let done = inserted_by old _
+    (ap₂ ◌∷◌ (ap bound_value c.params-to_sql.ensures)
+    (ap₂ ◌∷◌ (ap bound_value c.params-to_sql-2.ensures)
+    (ap₂ ◌∷◌ (ap bound_value c.params-to_sql-3.ensures ∙ ap Text c.as_str.ensures) refl)))
+    c.requires (insert_book it old) (λ there. insert_book_stops it old given.live there) given.survives c.run.result given.runs in
+    record { ran = done.ran; held = done.held; fault = done.fault; crash = done.crash }

@@ -1,4 +1,5 @@
-use Rattle.std.proofs.Common.{map}
+use Rattle.std.proofs.Common.{◌∷◌, map, ap, ap₂, refl}
+use Rattle.sqlite.specs.Values.{bound_value}
 use Rattle.sqlite.specs.Held.{state}
 use Rattle.tables.specs.Records.{ground_row, IsGroundRow}
 use Rattle.tables.proofs.Selecting.{read_by}
@@ -10,5 +11,5 @@ read_all-requires g c clean = (ground_by_id c.args.id.now (state g.S.Store c.arg
 
 pub returns-clause-read : goal.returns-clause-read
 returns-clause-read g c =
-    let given = rw (c.params-to_sql.ensures) at c.read_all.ensures in
-    read_by _ _ c.requires (ground_by_id c.args.id.now (state g.S.Store c.args.conn.now)) given.crash IsGroundRow (λ all. map ground_row all.items) c.read_all.result given.shown given.same given.stops given.damaged
+    let given = c.read_all.ensures in
+    read_by _ _ c.requires (ground_by_id c.args.id.now (state g.S.Store c.args.conn.now)) given.crash (ap₂ ◌∷◌ (ap bound_value c.params-to_sql.ensures) refl) IsGroundRow (λ all. map ground_row all.items) c.read_all.result given.shown given.same given.stops given.damaged

@@ -1,4 +1,6 @@
-use Rattle.std.proofs.Common.{map}
+use Rattle.std.proofs.Common.{◌∷◌, ◌∙◌, map, ap, ap₂, refl}
+use Rattle.sqlite_value.specs.declared.value.Value.TheVariants.{Int}
+use Rattle.sqlite.specs.Values.{bound_value}
 use Rattle.std.specs.Int.{w64}
 use Rattle.std.proofs.lemmas.Int.{to_z-of_z}
 use Rattle.sqlite.specs.Held.{state}
@@ -12,5 +14,5 @@ read_all-requires g c clean = (request_by_key c.args.number c.args.part (state g
 
 pub returns-clause-read : goal.returns-clause-read
 returns-clause-read g c =
-    let given = rw (c.params-to_sql.ensures, c.params-to_sql-2.ensures, to_z-of_z w64 c.args.number c.ranges.number) at c.read_all.ensures in
-    read_by _ _ c.requires (request_by_key c.args.number c.args.part (state g.S.Store c.args.conn.now)) given.crash IsRequestRow (λ all. map request_row all.items) c.read_all.result given.shown given.same given.stops given.damaged
+    let given = c.read_all.ensures in
+    read_by _ _ c.requires (request_by_key c.args.number c.args.part (state g.S.Store c.args.conn.now)) given.crash (ap₂ ◌∷◌ (ap bound_value c.params-to_sql.ensures ∙ ap Int (to_z-of_z w64 c.args.number c.ranges.number)) (ap₂ ◌∷◌ (ap bound_value c.params-to_sql-2.ensures) refl)) IsRequestRow (λ all. map request_row all.items) c.read_all.result given.shown given.same given.stops given.damaged
