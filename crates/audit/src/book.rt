@@ -50,17 +50,22 @@ const ROWS: &str = "\
             {\"in\":\"2025-06-11T07:00Z\",\"out\":\"2025-06-10T23:00Z\"}]}', \
             '{\"exceedances\":[{\"crew\":\"C1\",\"section\":\"117.13(a)\"}],\"result\":\"accepted\"}')";
 
-/// A database in memory after these statements.
-pub fn database(alloc: Global, statements: &str) -> Result<Connection<MemStore>, Unfiled> {
+/// Runs pages of statements.
+pub fn run(conn: &mut Connection<MemStore>, pages: &[&str]) -> Result<(), Unfiled> {
+    for statements in pages {
+        conn.execute_batch(statements)?;
+    }
+    Ok(())
+}
+
+/// A database in memory after these pages of statements.
+pub fn database(alloc: Global, pages: &[&str]) -> Result<Connection<MemStore>, Unfiled> {
     let mut conn = Connection::open_in_memory(alloc)?;
-    conn.execute_batch(statements)?;
+    run(&mut conn, pages)?;
     Ok(conn)
 }
 
 /// The sound book after these statements.
 pub fn book(alloc: Global, statements: &str) -> Result<Connection<MemStore>, Unfiled> {
-    let mut conn = database(alloc, TABLES)?;
-    conn.execute_batch(ROWS)?;
-    conn.execute_batch(statements)?;
-    Ok(conn)
+    database(alloc, &[TABLES, ROWS, statements])
 }

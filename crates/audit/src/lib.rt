@@ -1,8 +1,10 @@
 //! An audit of loading: books made by plain SQL, each with one damage, and books that a crew office kept.
 #![tactic(auto)]
 
-pub mod answers;
-pub mod book;
+#[cfg(test)]
+mod answers;
+#[cfg(test)]
+mod book;
 #[cfg(test)]
 mod columns;
 #[cfg(test)]
@@ -17,4 +19,5 @@ mod order;
 mod plans;
 #[cfg(test)]
 mod records;
-pub mod retelling;
+#[cfg(test)]
+mod retelling;

@@ -1,97 +1,106 @@
 //! Books with two damages, of which the first table is named, and what is no damage.
 
-use crate::answers::{answer, load, of_book};
-use crate::book::book;
+use crate::answers::{answer, assert_answer, assert_answers, assert_each, load};
+use crate::book::{book, run};
 use crate::retelling::retold;
 use filing::Unfiled;
 use filing::telling::told;
+use sqlite::{Connection, MemStore};
 use std::alloc::Global;
+use std::process::Abort;
 use std::test::Fail;
 
 #[test]
 fn the_first_table_is_named(rt: HostRuntime) -> Result<(), Fail> {
-    for (statements, wanted) in [
-        (
-            "UPDATE crew SET seat = 2; UPDATE book SET zone = 'nowhere'",
-            "41 Damaged book",
-        ),
-        (
-            "INSERT INTO pairing (id) VALUES ('p3'); UPDATE crew SET seat = 2",
-            "41 Damaged crew",
-        ),
-        (
-            "UPDATE period SET number = 7 WHERE pairing = 'P1'; INSERT INTO pairing (id) VALUES ('p3')",
-            "41 Damaged pairing",
-        ),
-        (
-            "UPDATE segment SET period = 7 WHERE pairing = 'P1'; UPDATE period SET number = 7 WHERE pairing = 'P1'",
-            "41 Damaged period",
-        ),
-        (
-            "DELETE FROM seat; DELETE FROM segment",
-            "41 Damaged segment",
-        ),
-        (
-            "UPDATE ground SET crew = 'C9'; DELETE FROM seat",
-            "41 Damaged seat",
-        ),
-        (
-            "UPDATE exceedance SET section = 9; UPDATE ground SET crew = 'C9'",
-            "41 Damaged ground",
-        ),
-        (
-            "DELETE FROM request; UPDATE exceedance SET section = 9",
-            "41 Damaged exceedance",
-        ),
-        (
-            "DROP TABLE request; DROP TABLE segment; DELETE FROM pairing",
-            "41 Damaged period",
-        ),
-        (
-            "DROP TABLE crew; DROP TABLE request; UPDATE book SET one = 3",
-            "41 Damaged book",
-        ),
-    ] {
-        let answer = of_book(rt.alloc(), statements)?;
-        assert_eq!(rt; answer.as_str(), wanted, "{statements}");
-    }
-    Ok(())
+    assert_answers(
+        &rt,
+        rt.alloc(),
+        &[
+            (
+                "UPDATE crew SET seat = 2; UPDATE book SET zone = 'nowhere'",
+                "41 Damaged book",
+            ),
+            (
+                "INSERT INTO pairing (id) VALUES ('p3'); UPDATE crew SET seat = 2",
+                "41 Damaged crew",
+            ),
+            (
+                "UPDATE period SET number = 7 WHERE pairing = 'P1'; INSERT INTO pairing (id) VALUES ('p3')",
+                "41 Damaged pairing",
+            ),
+            (
+                "UPDATE segment SET period = 7 WHERE pairing = 'P1'; UPDATE period SET number = 7 WHERE pairing = 'P1'",
+                "41 Damaged period",
+            ),
+            (
+                "DELETE FROM seat; DELETE FROM segment",
+                "41 Damaged segment",
+            ),
+            (
+                "UPDATE ground SET crew = 'C9'; DELETE FROM seat",
+                "41 Damaged seat",
+            ),
+            (
+                "UPDATE exceedance SET section = 9; UPDATE ground SET crew = 'C9'",
+                "41 Damaged ground",
+            ),
+            (
+                "DELETE FROM request; UPDATE exceedance SET section = 9",
+                "41 Damaged exceedance",
+            ),
+            (
+                "DROP TABLE request; DROP TABLE segment; DELETE FROM pairing",
+                "41 Damaged period",
+            ),
+            (
+                "DROP TABLE crew; DROP TABLE request; UPDATE book SET one = 3",
+                "41 Damaged book",
+            ),
+        ],
+    )
 }
 
 #[test]
 fn a_sound_book_is_loaded(rt: HostRuntime) -> Result<(), Fail> {
-    for statements in [
-        "",
-        "CREATE TABLE t (x INTEGER) STRICT; INSERT INTO t (x) VALUES (7)",
-        "DELETE FROM ground",
-        "DELETE FROM exceedance",
-        "DELETE FROM request WHERE number = 6",
-        "DELETE FROM seat WHERE pairing = 'P2'",
-        "UPDATE ground SET begin_at = 0, end_at = 52595999",
-        "UPDATE exceedance SET part = 10000; UPDATE request SET part = 10000",
-        "DELETE FROM exceedance; UPDATE period SET act_report = NULL, act_release = NULL; UPDATE segment SET act_out = NULL, act_in = NULL; DELETE FROM seat",
-        "DELETE FROM crew; DELETE FROM pairing; DELETE FROM period; DELETE FROM segment; DELETE FROM seat; DELETE FROM ground; DELETE FROM exceedance",
-    ] {
-        let answer = of_book(rt.alloc(), statements)?;
-        assert_eq!(rt; answer.as_str(), "loaded", "{statements}");
-    }
-    Ok(())
+    assert_each(
+        &rt,
+        rt.alloc(),
+        "loaded",
+        &[
+            "",
+            "CREATE TABLE t (x INTEGER) STRICT; INSERT INTO t (x) VALUES (7)",
+            "DELETE FROM ground",
+            "DELETE FROM exceedance",
+            "DELETE FROM request WHERE number = 6",
+            "DELETE FROM seat WHERE pairing = 'P2'",
+            "UPDATE ground SET begin_at = 0, end_at = 52595999",
+            "UPDATE exceedance SET part = 10000; UPDATE request SET part = 10000",
+            "DELETE FROM exceedance; UPDATE period SET act_report = NULL, act_release = NULL; UPDATE segment SET act_out = NULL, act_in = NULL; DELETE FROM seat",
+            "DELETE FROM crew; DELETE FROM pairing; DELETE FROM period; DELETE FROM segment; DELETE FROM seat; DELETE FROM ground; DELETE FROM exceedance",
+        ],
+    )
 }
 
-/// What the tables hold, and what the roster is that is loaded of them.
-fn both(alloc: Global, statements: &str) -> Result<(String, String), Unfiled> {
-    let mut conn = book(alloc, statements)?;
-    let rows = told(alloc, &mut conn)?;
+/// What the roster is that is loaded, as the rows that it should be kept in, or the refusal.
+fn roster_of(alloc: Global, conn: Connection<MemStore>) -> Result<String, Unfiled> {
     match load(alloc, conn) {
         Ok((store, roster)) => {
             drop(store);
-            Ok((rows, retold(alloc, &roster)?))
+            retold(alloc, &roster)
         }
         Err((fault, conn)) => {
             drop(conn);
-            Ok((rows, format!(in alloc; "{fault}")?))
+            Ok(format!(in alloc; "{fault}")?)
         }
     }
+}
+
+/// Ends the test unless the roster that is loaded after these statements is what the tables hold.
+fn assert_retold(rt: &impl Abort, alloc: Global, statements: &str) -> Result<(), Fail> {
+    let mut conn = book(alloc, statements)?;
+    let rows = told(alloc, &mut conn);
+    let roster = roster_of(alloc, conn);
+    assert_answer(rt, roster, rows?.as_str(), statements)
 }
 
 #[test]
@@ -107,25 +116,30 @@ fn a_roster_is_what_the_rows_say(rt: HostRuntime) -> Result<(), Fail> {
         "UPDATE exceedance SET section = 8",
         "UPDATE book SET zone = 'UTC0'; DELETE FROM ground",
     ] {
-        let (rows, roster) = both(rt.alloc(), statements)?;
-        assert_eq!(rt; roster.as_str(), rows.as_str(), "{statements}");
+        assert_retold(&rt, rt.alloc(), statements)?;
     }
     Ok(())
 }
 
+/// Ends the test unless this is answered after these statements, and the tables hold then what they held before.
+fn assert_kept(rt: &impl Abort, alloc: Global, statements: &str, wanted: &str) -> Result<(), Fail> {
+    let mut conn = book(alloc, statements)?;
+    let before = told(alloc, &mut conn);
+    let (answer, mut conn) = answer(alloc, conn);
+    let after = told(alloc, &mut conn);
+    drop(conn);
+    assert_answer(rt, answer, wanted, statements)?;
+    assert_answer(rt, after, before?.as_str(), statements)
+}
+
 #[test]
 fn a_refused_database_keeps_its_rows(rt: HostRuntime) -> Result<(), Fail> {
-    let alloc = rt.alloc();
     for (statements, wanted) in [
         ("UPDATE book SET version = 7", "42 Version"),
         ("DELETE FROM seat", "41 Damaged seat"),
         ("DELETE FROM request", "41 Damaged request"),
     ] {
-        let mut conn = book(alloc, statements)?;
-        let before = told(alloc, &mut conn)?;
-        let (answer, mut conn) = answer(alloc, conn)?;
-        assert_eq!(rt; answer.as_str(), wanted);
-        assert_eq!(rt; told(alloc, &mut conn)?.as_str(), before.as_str());
+        assert_kept(&rt, rt.alloc(), statements, wanted)?;
     }
     Ok(())
 }
@@ -133,12 +147,13 @@ fn a_refused_database_keeps_its_rows(rt: HostRuntime) -> Result<(), Fail> {
 #[test]
 fn a_refused_database_is_mended(rt: HostRuntime) -> Result<(), Fail> {
     let alloc = rt.alloc();
-    let conn = book(alloc, "DELETE FROM seat WHERE pairing = 'P1' AND seat = 1")?;
-    let (first, mut conn) = answer(alloc, conn)?;
-    assert_eq!(rt; first.as_str(), "41 Damaged seat");
-    conn.execute_batch("INSERT INTO seat (pairing, seat, crew) VALUES ('P1', 1, 'F1')")?;
-    let (second, conn) = answer(alloc, conn)?;
-    assert_eq!(rt; second.as_str(), "loaded");
+    let damage = "DELETE FROM seat WHERE pairing = 'P1' AND seat = 1";
+    let mending = "INSERT INTO seat (pairing, seat, crew) VALUES ('P1', 1, 'F1')";
+    let (first, mut conn) = answer(alloc, book(alloc, damage)?);
+    let mended = run(&mut conn, &[mending]);
+    let (second, conn) = answer(alloc, conn);
     drop(conn);
-    Ok(())
+    assert_answer(&rt, first, "41 Damaged seat", damage)?;
+    mended?;
+    assert_answer(&rt, second, "loaded", mending)
 }

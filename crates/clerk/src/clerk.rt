@@ -1,249 +1,301 @@
+//! A clerk at a database: it answers requests, line by line. It looks whether the database is a book before each call on
+//! the tables.
+
+ghost use Rattle.sqlite.specs.Held.{state};
+ghost use Rattle.tables.specs.Calls.{HoldsBook};
+
+use crate::columns::with_columns;
 use crate::creating::create;
-use crate::filed::Filed;
+use crate::filed::add;
 use crate::looking::look;
+use crate::records::{book, exceedance, ground, member, pairing, period, request, seat, segment};
+use crate::sample::write_sample;
+use crate::told::{in_turn, sorted};
 use sqlite::{Alter, Connection};
 use std::alloc::Global;
+use std::process::Abort;
+use std::test::Fail;
 use tables::TableFault;
+use tables::book::load_book;
 use tables::book_schema::{has_table, is_book, is_empty};
-use tables::crew::crew_by_id;
-use tables::exceedance::exceedances;
-use tables::ground::{delete_ground, ground_by_id, grounds_by_crew};
-use tables::pairing::{delete_pairing, pairing_by_id};
-use tables::period::{delete_periods, periods_of, update_period};
-use tables::request::request_by_key;
-use tables::seat::{delete_seat, seats_by_crew, seats_of};
-use tables::segment::{delete_segments, segments_of, update_segment};
+use tables::crew::{crew_by_id, load_crew};
+use tables::exceedance::{exceedances, load_exceedances};
+use tables::ground::{delete_ground, ground_by_id, grounds_by_crew, load_grounds};
+use tables::pairing::{load_pairings, pairing_by_id};
+use tables::period::{load_periods, periods_of};
+use tables::request::{load_requests, request_by_key};
+use tables::seat::{delete_seat, load_seats, seats_by_crew, seats_of};
+use tables::segment::{load_segments, segments_of};
 use tables::transaction::{begin, commit, rollback};
 
-/// A clerk at a database. What is found is told as lines in the order of the alphabet, but for `exceedances`.
-#[derive(Drop)]
-pub struct Clerk<S: Alter> {
+/// Why a line has no answer: it can't be read, or there is no memory. A test then fails.
+const UNANSWERED: TableFault = TableFault::Memory;
+
+/// The word at a place of a line, counted from 0; none is empty.
+fn word(line: &str, at: usize) -> &str {
+    line.split(' ').nth(at).unwrap_or("")
+}
+
+fn number(word: &str) -> Result<u32, TableFault> {
+    word.parse::<u32>().map_err(|_| UNANSWERED)
+}
+
+/// The number of a request.
+fn long_number(word: &str) -> Result<i64, TableFault> {
+    word.parse::<i64>().map_err(|_| UNANSWERED)
+}
+
+/// Adds a record of the book, a member, a pairing, a period or a segment.
+fn add_plan<S: Alter>(
     alloc: Global,
-    conn: Connection<S>,
-}
-
-fn lines_of<R: Filed>(alloc: Global, found: &[R]) -> Result<Vec<String>, TableFault> {
-    let mut lines = Vec::new(alloc);
-    for record in found {
-        lines.push(record.line(alloc)?)?;
-    }
-    Ok(lines)
-}
-
-/// Records as lines, as they come.
-fn told<R: Filed>(alloc: Global, found: &[R]) -> Result<String, TableFault> {
-    let lines = lines_of(alloc, found)?;
-    joined(alloc, lines.as_slice())
-}
-
-/// Records as lines in the order of the alphabet.
-fn sorted<R: Filed>(alloc: Global, found: &[R]) -> Result<String, TableFault> {
-    let mut lines = lines_of(alloc, found)?;
-    lines.sort()?;
-    joined(alloc, lines.as_slice())
-}
-
-fn joined(alloc: Global, lines: &[String]) -> Result<String, TableFault> {
-    let mut all = String::new(alloc);
-    for (at, line) in lines.iter().enumerate() {
-        if at > 0 {
-            all.push_str("\n")?;
+    conn: &mut Connection<S>,
+    head: &str,
+    name: &str,
+) -> Result<(), TableFault> {
+    let (id, second) = (word(head, 2), word(head, 3));
+    match word(head, 1) {
+        "book" => add(alloc, conn, book(alloc, id)),
+        "member" => add(alloc, conn, member(alloc, id, number(second)?, name)),
+        "pairing" => add(alloc, conn, pairing(alloc, id)),
+        "period" => add(alloc, conn, period(alloc, id, number(second)?)),
+        "segment" => {
+            let (of, place) = (number(second)?, number(word(head, 4))?);
+            add(alloc, conn, segment(alloc, id, of, place))
         }
-        all.push_str(line.as_str())?;
+        _ => Err(UNANSWERED),
     }
-    Ok(all)
 }
 
-impl<S: Alter> Clerk<S> {
-    pub fn new(alloc: Global, conn: Connection<S>) -> Clerk<S> {
-        Clerk { alloc, conn }
+/// Adds a record of any kind.
+fn add_line<S: Alter>(
+    alloc: Global,
+    conn: &mut Connection<S>,
+    line: &str,
+) -> Result<(), TableFault> {
+    let (head, name) = line.split_once(": ").unwrap_or((line, ""));
+    let (first, second, third) = (word(head, 2), word(head, 3), word(head, 4));
+    match word(head, 1) {
+        "seat" => add(alloc, conn, seat(alloc, first, number(second)?, third)),
+        "ground" => add(alloc, conn, ground(alloc, first, second)),
+        "exceedance" => {
+            let (key, section) = (long_number(first)?, number(third)?);
+            add(alloc, conn, exceedance(alloc, key, second, section))
+        }
+        "request" => {
+            let (key, part) = (long_number(first)?, number(second)?);
+            add(alloc, conn, request(alloc, key, part))
+        }
+        _ => add_plan(alloc, conn, head, name),
     }
+}
 
-    pub fn into_connection(self) -> Connection<S> {
-        self.conn
+/// Takes out a seat or a ground duty.
+fn take_out<S: Alter>(
+    alloc: Global,
+    conn: &mut Connection<S>,
+    line: &str,
+) -> Result<(), TableFault> {
+    look(alloc, conn)?;
+    match word(line, 1) {
+        "seat" => delete_seat(conn, word(line, 2), number(word(line, 3))?),
+        "ground" => delete_ground(conn, word(line, 2)),
+        _ => Err(UNANSWERED),
     }
+}
 
-    /// Makes the nine tables in an empty database.
-    pub fn create(&mut self) -> Result<(), TableFault> {
-        create(&mut self.conn)
-    }
+/// Runs any SQL text.
+fn run<S: Alter>(conn: &mut Connection<S>, sql: &str) -> Result<(), TableFault> {
+    conn.execute(sql, &[])?;
+    Ok(())
+}
 
-    pub fn is_empty(&self) -> bool {
-        is_empty(&self.conn)
+fn act<S: Alter>(alloc: Global, conn: &mut Connection<S>, line: &str) -> Result<(), TableFault> {
+    match word(line, 0) {
+        "create" => create(conn),
+        "sample" => write_sample(alloc, conn),
+        "begin" => begin(conn),
+        "commit" => commit(conn),
+        "rollback" => rollback(conn),
+        "add" => add_line(alloc, conn, line),
+        "delete" => take_out(alloc, conn, line),
+        "sql" => run(conn, line.strip_prefix("sql ").unwrap_or("")),
+        _ => Err(UNANSWERED),
     }
+}
 
-    pub fn is_book(&self) -> Result<bool, TableFault> {
-        is_book(self.alloc, &self.conn)
+/// All records of a table.
+fn all<S: Alter>(
+    alloc: Global,
+    conn: &mut Connection<S>,
+    table: &str,
+) -> Result<String, TableFault> {
+    look(alloc, conn)?;
+    match table {
+        "book" => sorted(alloc, load_book(alloc, conn)),
+        "crew" => sorted(alloc, load_crew(alloc, conn)),
+        "pairing" => sorted(alloc, load_pairings(alloc, conn)),
+        "period" => sorted(alloc, load_periods(alloc, conn)),
+        "segment" => sorted(alloc, load_segments(alloc, conn)),
+        "seat" => sorted(alloc, load_seats(alloc, conn)),
+        "ground" => sorted(alloc, load_grounds(alloc, conn)),
+        "exceedance" => sorted(alloc, load_exceedances(alloc, conn)),
+        "request" => sorted(alloc, load_requests(alloc, conn)),
+        _ => Err(UNANSWERED),
     }
+}
 
-    pub fn has_table(&self, name: &str) -> bool {
-        has_table(&self.conn, name)
+/// The records of an id.
+fn find<S: Alter>(
+    alloc: Global,
+    conn: &mut Connection<S>,
+    kind: &str,
+    id: &str,
+) -> Result<String, TableFault> {
+    look(alloc, conn)?;
+    match kind {
+        "member" => sorted(alloc, crew_by_id(alloc, conn, id)),
+        "pairing" => sorted(alloc, pairing_by_id(alloc, conn, id)),
+        "periods-of" => sorted(alloc, periods_of(alloc, conn, id)),
+        "segments-of" => sorted(alloc, segments_of(alloc, conn, id)),
+        "seats-of" => sorted(alloc, seats_of(alloc, conn, id)),
+        "seats-by" => sorted(alloc, seats_by_crew(alloc, conn, id)),
+        "ground" => sorted(alloc, ground_by_id(alloc, conn, id)),
+        "grounds-by" => sorted(alloc, grounds_by_crew(alloc, conn, id)),
+        _ => Err(UNANSWERED),
     }
+}
 
-    /// Whether the table of the records has their columns.
-    pub fn has_columns<R: Filed>(&self) -> Result<bool, TableFault> {
-        R::has_columns(self.alloc, &self.conn)
-    }
+/// The request of a key.
+fn find_request<S: Alter>(
+    alloc: Global,
+    conn: &mut Connection<S>,
+    key: &str,
+    part: &str,
+) -> Result<String, TableFault> {
+    let (key, part) = (long_number(key)?, number(part)?);
+    look(alloc, conn)?;
+    sorted(alloc, request_by_key(alloc, conn, key, part))
+}
 
-    /// Runs any SQL text.
-    pub fn run(&mut self, sql: &str) -> Result<(), TableFault> {
-        self.conn.execute(sql, &[])?;
-        Ok(())
-    }
+/// All exceedances, in the order of the table's function.
+fn find_exceedances<S: Alter>(
+    alloc: Global,
+    conn: &mut Connection<S>,
+) -> Result<String, TableFault> {
+    look(alloc, conn)?;
+    in_turn(alloc, exceedances(alloc, conn))
+}
 
-    pub fn begin(&mut self) -> Result<(), TableFault> {
-        begin(&mut self.conn)
-    }
+fn yes(alloc: Global, holds: bool) -> Result<String, TableFault> {
+    Ok(String::from_str(alloc, if holds { "yes" } else { "no" })?)
+}
 
-    pub fn commit(&mut self) -> Result<(), TableFault> {
-        commit(&mut self.conn)
+fn is<S: Alter>(alloc: Global, conn: &Connection<S>, what: &str) -> Result<String, TableFault> {
+    match what {
+        "empty" => yes(alloc, is_empty(conn)),
+        "book" => yes(alloc, is_book(alloc, conn)?),
+        _ => Err(UNANSWERED),
     }
+}
 
-    pub fn rollback(&mut self) -> Result<(), TableFault> {
-        rollback(&mut self.conn)
-    }
+fn done(alloc: Global, outcome: Result<(), TableFault>) -> Result<String, TableFault> {
+    outcome?;
+    Ok(String::from_str(alloc, "done")?)
+}
 
-    /// Adds a copy of a record to its table.
-    pub fn add<R: Filed>(&mut self, record: Result<R, TableFault>) -> Result<(), TableFault> {
-        let copy = record?.copy(self.alloc).map_err(|_| TableFault::Memory)?;
-        look(self.alloc, &self.conn)?;
-        copy.insert(&mut self.conn)
+fn found<S: Alter>(
+    alloc: Global,
+    conn: &mut Connection<S>,
+    line: &str,
+) -> Result<String, TableFault> {
+    let (first, second) = (word(line, 1), word(line, 2));
+    match word(line, 0) {
+        "is" => is(alloc, conn, first),
+        "has" => yes(alloc, has_table(conn, first)),
+        "columns" => with_columns(alloc, conn),
+        "all" => all(alloc, conn, first),
+        "find" => find(alloc, conn, first, second),
+        "find-request" => find_request(alloc, conn, first, second),
+        "find-exceedances" => find_exceedances(alloc, conn),
+        _ => done(alloc, act(alloc, conn, line)),
     }
+}
 
-    /// All records of a table.
-    pub fn all<R: Filed>(&mut self) -> Result<String, TableFault> {
-        look(self.alloc, &self.conn)?;
-        sorted(self.alloc, R::load(self.alloc, &mut self.conn)?.as_slice())
+/// A fault as text, if it is an answer.
+fn refusal(alloc: Global, fault: TableFault) -> Result<String, TableFault> {
+    if fault == UNANSWERED {
+        return Err(fault);
     }
+    Ok(format!(in alloc; "{fault}")?)
+}
 
-    pub fn crew_by_id(&mut self, id: &str) -> Result<String, TableFault> {
-        look(self.alloc, &self.conn)?;
-        sorted(
-            self.alloc,
-            crew_by_id(self.alloc, &mut self.conn, id)?.as_slice(),
-        )
+/// The answer to a line.
+fn answer<S: Alter>(
+    alloc: Global,
+    conn: &mut Connection<S>,
+    line: &str,
+) -> Result<String, TableFault> {
+    match found(alloc, conn, line) {
+        Ok(answer) => Ok(answer),
+        Err(fault) => refusal(alloc, fault),
     }
+}
 
-    pub fn pairing_by_id(&mut self, id: &str) -> Result<String, TableFault> {
-        look(self.alloc, &self.conn)?;
-        sorted(
-            self.alloc,
-            pairing_by_id(self.alloc, &mut self.conn, id)?.as_slice(),
-        )
+/// Ends the test unless a database answers each line with what stands beside it.
+fn assert_in_turn<S: Alter>(
+    rt: &impl Abort,
+    alloc: Global,
+    conn: &mut Connection<S>,
+    lines: &[(&str, &str)],
+) -> Result<(), Fail> {
+    for (line, wanted) in lines {
+        let answer = answer(alloc, conn, line)?;
+        assert_eq!(rt; answer.as_str(), *wanted, "{line}");
     }
+    Ok(())
+}
 
-    pub fn periods_of(&mut self, pairing: &str) -> Result<String, TableFault> {
-        look(self.alloc, &self.conn)?;
-        sorted(
-            self.alloc,
-            periods_of(self.alloc, &mut self.conn, pairing)?.as_slice(),
-        )
-    }
-
-    pub fn segments_of(&mut self, pairing: &str) -> Result<String, TableFault> {
-        look(self.alloc, &self.conn)?;
-        sorted(
-            self.alloc,
-            segments_of(self.alloc, &mut self.conn, pairing)?.as_slice(),
-        )
-    }
-
-    pub fn seats_of(&mut self, pairing: &str) -> Result<String, TableFault> {
-        look(self.alloc, &self.conn)?;
-        sorted(
-            self.alloc,
-            seats_of(self.alloc, &mut self.conn, pairing)?.as_slice(),
-        )
-    }
-
-    pub fn seats_by_crew(&mut self, crew: &str) -> Result<String, TableFault> {
-        look(self.alloc, &self.conn)?;
-        sorted(
-            self.alloc,
-            seats_by_crew(self.alloc, &mut self.conn, crew)?.as_slice(),
-        )
-    }
-
-    pub fn ground_by_id(&mut self, id: &str) -> Result<String, TableFault> {
-        look(self.alloc, &self.conn)?;
-        sorted(
-            self.alloc,
-            ground_by_id(self.alloc, &mut self.conn, id)?.as_slice(),
-        )
-    }
-
-    pub fn grounds_by_crew(&mut self, crew: &str) -> Result<String, TableFault> {
-        look(self.alloc, &self.conn)?;
-        sorted(
-            self.alloc,
-            grounds_by_crew(self.alloc, &mut self.conn, crew)?.as_slice(),
-        )
-    }
-
-    pub fn request_by_key(&mut self, number: i64, part: u32) -> Result<String, TableFault> {
-        look(self.alloc, &self.conn)?;
-        sorted(
-            self.alloc,
-            request_by_key(self.alloc, &mut self.conn, number, part)?.as_slice(),
-        )
-    }
-
-    /// All exceedances, in the order of the table's function.
-    pub fn exceedances(&mut self) -> Result<String, TableFault> {
-        look(self.alloc, &self.conn)?;
-        told(
-            self.alloc,
-            exceedances(self.alloc, &mut self.conn)?.as_slice(),
-        )
-    }
-
-    pub fn delete_pairing(&mut self, id: &str) -> Result<(), TableFault> {
-        look(self.alloc, &self.conn)?;
-        delete_pairing(&mut self.conn, id)
-    }
-
-    pub fn delete_periods(&mut self, pairing: &str) -> Result<(), TableFault> {
-        look(self.alloc, &self.conn)?;
-        delete_periods(&mut self.conn, pairing)
-    }
-
-    pub fn delete_segments(&mut self, pairing: &str) -> Result<(), TableFault> {
-        look(self.alloc, &self.conn)?;
-        delete_segments(&mut self.conn, pairing)
-    }
-
-    pub fn delete_seat(&mut self, pairing: &str, seat: u32) -> Result<(), TableFault> {
-        look(self.alloc, &self.conn)?;
-        delete_seat(&mut self.conn, pairing, seat)
-    }
-
-    pub fn delete_ground(&mut self, id: &str) -> Result<(), TableFault> {
-        look(self.alloc, &self.conn)?;
-        delete_ground(&mut self.conn, id)
-    }
-
-    /// Gives a period its actual report and release.
-    pub fn update_period(
-        &mut self,
-        pairing: &str,
-        number: u32,
-        report: u32,
-        release: u32,
-    ) -> Result<(), TableFault> {
-        look(self.alloc, &self.conn)?;
-        update_period(&mut self.conn, pairing, number, report, release)
-    }
-
-    /// Gives a segment of a period its actual block-out and block-in.
-    pub fn update_segment(
-        &mut self,
-        pairing: &str,
-        period: u32,
-        number: u32,
-        block_out: u32,
-        block_in: u32,
-    ) -> Result<(), TableFault> {
-        look(self.alloc, &self.conn)?;
-        update_segment(&mut self.conn, pairing, period, number, block_out, block_in)
-    }
+/// Ends the test unless an empty database in memory answers each line in turn with what stands beside it.
+///
+/// A line is one of these, and what is done is answered by `done`, or else by its fault:
+///
+///     create
+///     sample
+///     begin
+///     commit
+///     rollback
+///     sql DROP TABLE request
+///     add book UTC0
+///     add member C1 0: Ada Ray
+///     add pairing P1
+///     add period P1 1
+///     add segment P1 1 1
+///     add seat P1 0 C1
+///     add ground G1 C1
+///     add exceedance 13 C1 2
+///     add request 1 0
+///     delete seat P1 0
+///     delete ground G1
+///
+/// or one of these questions. `is` and `has` are answered by yes or no, the others by what is found, or `none`: `columns` by
+/// the tables that have their columns, the rest by rows, in the order of the alphabet but for `find-exceedances`.
+///
+///     is empty
+///     is book
+///     has crew
+///     columns
+///     all crew
+///     find member C1
+///     find pairing P1
+///     find periods-of P1
+///     find segments-of P1
+///     find seats-of P1
+///     find seats-by C1
+///     find ground G1
+///     find grounds-by C1
+///     find-request 1 0
+///     find-exceedances
+pub fn assert_answers(rt: &impl Abort, alloc: Global, lines: &[(&str, &str)]) -> Result<(), Fail> {
+    let mut conn = Connection::open_in_memory(alloc)?;
+    assert_in_turn(rt, alloc, &mut conn, lines)
 }

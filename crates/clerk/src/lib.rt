@@ -4,7 +4,8 @@
 
 #[cfg(test)]
 mod changes;
-pub mod clerk;
+#[cfg(test)]
+mod clerk;
 #[cfg(test)]
 mod columns;
 pub mod creating;
@@ -16,3 +17,5 @@ mod finds;
 pub mod looking;
 pub mod records;
 pub mod sample;
+#[cfg(test)]
+mod told;

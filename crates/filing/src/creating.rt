@@ -1,5 +1,6 @@
 //! A book made in a database that has other tables, or those of a book.
 
+use crate::asserting::{assert_found, assert_told};
 use crate::fault::Unfiled;
 use crate::office::{Office, create};
 use crate::telling::{found, told};
@@ -7,6 +8,7 @@ use command::{Key, Seat};
 use samples::add_crew;
 use sqlite::{Connection, MemStore};
 use std::alloc::Global;
+use std::process::Abort;
 use std::test::Fail;
 use store::{CreateFault, StoreFault};
 use time117::Zone;
@@ -42,29 +44,51 @@ fn database(alloc: Global, statements: &str) -> Result<Connection<MemStore>, Unf
     Ok(conn)
 }
 
-/// What a book of another zone is refused for, and the database that is handed back.
-fn refused(
+/// What the making of a book comes to, and the database after it.
+fn make(
     alloc: Global,
     conn: Connection<MemStore>,
-) -> Result<(CreateFault, Connection<MemStore>), Unfiled> {
-    let zone = Zone::read(alloc, "UTC0").map_err(|_| Unfiled::Unmade)?;
-    match create(alloc, conn, &zone) {
-        Ok(store) => {
-            drop(store.into_connection());
-            Err(Unfiled::Unmade)
-        }
-        Err(refused) => Ok(refused),
+    zone: &Zone,
+) -> (Result<(), CreateFault>, Connection<MemStore>) {
+    match create(alloc, conn, zone) {
+        Ok(store) => (Ok(()), store.into_connection()),
+        Err((fault, conn)) => (Err(fault), conn),
     }
+}
+
+/// A refusal as text, or `made`.
+fn text(alloc: Global, outcome: Result<(), CreateFault>) -> Result<String, Unfiled> {
+    match outcome {
+        Ok(()) => Ok(String::from_str(alloc, "made")?),
+        Err(fault) => Ok(format!(in alloc; "{fault}")?),
+    }
+}
+
+/// What a database answers to the making of a book of this zone, and the database after it.
+fn answer(
+    alloc: Global,
+    conn: Connection<MemStore>,
+    zone: &Zone,
+) -> (Result<String, Unfiled>, Connection<MemStore>) {
+    let (outcome, conn) = make(alloc, conn, zone);
+    (text(alloc, outcome), conn)
+}
+
+/// Another zone than that of the office.
+fn utc(alloc: Global) -> Result<Zone, Unfiled> {
+    Zone::read(alloc, "UTC0").map_err(|_| Unfiled::Unmade)
 }
 
 #[test]
 fn a_second_book_is_refused(rt: HostRuntime) -> Result<(), Fail> {
     let alloc = rt.alloc();
-    let conn = one_member(alloc, Connection::open_in_memory(alloc)?)?;
-    let (fault, mut conn) = refused(alloc, conn)?;
-    assert!(rt; fault == CreateFault::NotEmpty);
-    assert_eq!(rt; told(alloc, &mut conn)?.as_str(), ONE_MEMBER);
-    Ok(())
+    let zone = utc(alloc)?;
+    let book = one_member(alloc, Connection::open_in_memory(alloc)?)?;
+    let (answer, mut conn) = answer(alloc, book, &zone);
+    let rows = told(alloc, &mut conn);
+    drop(conn);
+    assert_told(&rt, answer, "43 NotEmpty")?;
+    assert_told(&rt, rows, ONE_MEMBER)
 }
 
 #[test]
@@ -72,39 +96,47 @@ fn a_book_is_made_beside_other_tables(rt: HostRuntime) -> Result<(), Fail> {
     let alloc = rt.alloc();
     let others = "CREATE TABLE t (x INTEGER) STRICT; INSERT INTO t (x) VALUES (7), (8)";
     let mut conn = one_member(alloc, database(alloc, others)?)?;
-    assert_eq!(rt; told(alloc, &mut conn)?.as_str(), ONE_MEMBER);
-    let kept = found(alloc, &mut conn, "t", "SELECT x FROM t")?;
-    assert_eq!(rt; kept.as_str(), "t 7\nt 8\n");
-    Ok(())
+    let rows = told(alloc, &mut conn);
+    let kept = found(alloc, &mut conn, "t", "SELECT x FROM t");
+    drop(conn);
+    assert_told(&rt, rows, ONE_MEMBER)?;
+    assert_told(&rt, kept, "t 7\nt 8\n")
+}
+
+/// Ends the test unless a database of these statements refuses a book, and each SELECT then finds the rows beside it.
+fn assert_not_empty(
+    rt: &impl Abort,
+    alloc: Global,
+    statements: &str,
+    selects: &[(&str, &str)],
+) -> Result<(), Fail> {
+    let zone = utc(alloc)?;
+    let (answer, mut conn) = answer(alloc, database(alloc, statements)?, &zone);
+    assert_told(rt, answer, "43 NotEmpty")?;
+    assert_found(rt, alloc, &mut conn, selects)
 }
 
 #[test]
 fn a_table_of_a_books_name_is_kept(rt: HostRuntime) -> Result<(), Fail> {
-    let alloc = rt.alloc();
-    let others = "CREATE TABLE Request (x INTEGER) STRICT; INSERT INTO request (x) VALUES (7)";
-    let (fault, mut conn) = refused(alloc, database(alloc, others)?)?;
-    assert!(rt; fault == CreateFault::NotEmpty);
-    let kept = found(alloc, &mut conn, "request", "SELECT x FROM request")?;
-    assert_eq!(rt; kept.as_str(), "request 7\n");
-    let tables = found(
-        alloc,
-        &mut conn,
-        "tables",
-        "SELECT count(*) FROM sqlite_schema",
-    )?;
-    assert_eq!(rt; tables.as_str(), "tables 1\n");
-    Ok(())
+    assert_not_empty(
+        &rt,
+        rt.alloc(),
+        "CREATE TABLE Request (x INTEGER) STRICT; INSERT INTO request (x) VALUES (7)",
+        &[
+            ("SELECT x FROM request", "row 7\n"),
+            ("SELECT count(*) FROM sqlite_schema", "row 1\n"),
+        ],
+    )
 }
 
 #[test]
 fn a_foreign_key_to_a_books_name_is_kept(rt: HostRuntime) -> Result<(), Fail> {
-    let alloc = rt.alloc();
-    let others = "CREATE TABLE t (x INTEGER REFERENCES crew) STRICT";
-    let (fault, mut conn) = refused(alloc, database(alloc, others)?)?;
-    assert!(rt; fault == CreateFault::NotEmpty);
-    let tables = found(alloc, &mut conn, "tables", "SELECT name FROM sqlite_schema")?;
-    assert_eq!(rt; tables.as_str(), "tables t\n");
-    Ok(())
+    assert_not_empty(
+        &rt,
+        rt.alloc(),
+        "CREATE TABLE t (x INTEGER REFERENCES crew) STRICT",
+        &[("SELECT name FROM sqlite_schema", "row t\n")],
+    )
 }
 
 #[test]
@@ -114,7 +146,7 @@ fn faults_are_told(rt: HostRuntime) -> Result<(), Fail> {
         (CreateFault::Fault(StoreFault::Store), "90 Store"),
         (CreateFault::Fault(StoreFault::Memory), "91 Memory"),
     ] {
-        assert_eq!(rt; format!(in rt.alloc(); "{fault}")?.as_str(), told);
+        assert_told(&rt, text(rt.alloc(), Err(fault)), told)?;
     }
     Ok(())
 }

@@ -1,8 +1,8 @@
 //! A pairing of the greatest number of periods, each of the greatest number of segments.
 
+use crate::asserting::assert_found;
 use crate::fault::Unfiled;
 use crate::office::Office;
-use crate::telling::found;
 use command::{Key, Order};
 use duty::Pairing;
 use samples::{Unmade, fdp, june, pairing_id};
@@ -33,32 +33,30 @@ fn after_ten_days(alloc: Global) -> Result<Connection<MemStore>, Unfiled> {
 fn a_long_pairing_has_all_its_rows(rt: HostRuntime) -> Result<(), Fail> {
     let alloc = rt.alloc();
     let mut conn = after_ten_days(alloc)?;
-    for (select, rows) in [
-        ("SELECT id FROM pairing", "row P1\n"),
-        ("SELECT count(*) FROM period", "row 10\n"),
-        ("SELECT count(*) FROM segment", "row 120\n"),
-        (
-            "SELECT pairing, number, report_at, release_at, act_report, act_release FROM period WHERE number < 2 OR number > 9",
-            "row P1|10|13380480|13381230||\nrow P1|1|13367520|13368270||\n",
-        ),
-        (
-            "SELECT * FROM segment WHERE period = 1 AND number = 1",
-            "row P1|1|1|RB1|BOS|IAD|13367530|13367580||\n",
-        ),
-        (
-            "SELECT * FROM segment WHERE period = 7 AND number = 5",
-            "row P1|7|5|RB5|BOS|IAD|13376410|13376460||\n",
-        ),
-        (
-            "SELECT * FROM segment WHERE period = 10 AND number = 12",
-            "row P1|10|12|RB12|IAD|BOS|13381150|13381200||\n",
-        ),
-    ] {
-        assert_eq!(rt;
-            found(alloc, &mut conn, "row", select)?.as_str(),
-            rows,
-            "{select}"
-        );
-    }
-    Ok(())
+    assert_found(
+        &rt,
+        alloc,
+        &mut conn,
+        &[
+            ("SELECT id FROM pairing", "row P1\n"),
+            ("SELECT count(*) FROM period", "row 10\n"),
+            ("SELECT count(*) FROM segment", "row 120\n"),
+            (
+                "SELECT pairing, number, report_at, release_at, act_report, act_release FROM period WHERE number < 2 OR number > 9",
+                "row P1|10|13380480|13381230||\nrow P1|1|13367520|13368270||\n",
+            ),
+            (
+                "SELECT * FROM segment WHERE period = 1 AND number = 1",
+                "row P1|1|1|RB1|BOS|IAD|13367530|13367580||\n",
+            ),
+            (
+                "SELECT * FROM segment WHERE period = 7 AND number = 5",
+                "row P1|7|5|RB5|BOS|IAD|13376410|13376460||\n",
+            ),
+            (
+                "SELECT * FROM segment WHERE period = 10 AND number = 12",
+                "row P1|10|12|RB12|IAD|BOS|13381150|13381200||\n",
+            ),
+        ],
+    )
 }
