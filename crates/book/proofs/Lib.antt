@@ -3,3 +3,4 @@ pub mod Asked
 pub mod Opened
 pub mod Runs
 pub mod SessionLemmas
+pub mod Parts

@@ -1,4 +1,6 @@
 pub mod Kept
 pub mod Asking
+pub mod Answered
 pub mod Found
+pub mod Importing
 pub mod Sessions

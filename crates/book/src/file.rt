@@ -49,6 +49,11 @@ impl FileBook {
     {
         Book::open_from(rt, path, Wary)
     }
+
+    /// Closes the files. What is committed stands in the log, whether or not it is copied into the database now.
+    pub fn close(self) {
+        let _ = self.into_connection().close();
+    }
 }
 
 /// Makes an empty book of a zone in a new or empty file, as [`Book::create`] does, and closes it. A file that `sqlite` doesn't
@@ -57,8 +62,7 @@ pub fn create_file(rt: &HostRuntime, path: &str, zone: Zone) -> Result<(), Creat
     let conn = connect(rt, path, Wary)?;
     match Book::create(rt.alloc(), conn, zone) {
         Ok(book) => {
-            // What is committed stands in the log, whether or not it is copied into the database now.
-            let _ = book.into_connection().close();
+            book.close();
             Ok(())
         }
         Err((fault, _conn)) => Err(fault),

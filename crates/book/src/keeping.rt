@@ -13,12 +13,14 @@ ghost use Rattle.store.specs.Next.{IsNext};
 ghost use Rattle.store.specs.Kept.{KeepPlain};
 ghost use Rattle.store.specs.Making.{IsFree};
 ghost use Rattle.store.specs.Outcomes.{AddsNothing, AddsOnly, IsOutside, Leaves, LeavesOnly, LeavesSome, MayAdd};
+ghost use Rattle.book.specs.Answered.{IsAnswered};
 ghost use Rattle.book.specs.Asking.{Did};
 ghost use Rattle.book.specs.Sessions.{IsAfter, count_of, fault_of};
 ghost use Rattle.book.specs.Kept.{Ends, HasTables, IsAt, IsClean, IsInDoubt, Keeps, Means, StillHasTables, is_store_fault, is_some_store_fault, result_of};
 
 use crate::answer::{Answer, Run};
-use command::{Command, Key};
+use command::{Command, Key, Order};
+use duty::Pairing;
 use roster::{Change, Roster, Verdict};
 use sqlite::{Alter, Connection};
 use std::alloc::Global;
@@ -173,6 +175,24 @@ impl<S: Alter> Book<S> {
         answer
     }
 
+    /// Asks for a pairing to be added, as [`Book::ask`] does.
+    pub(crate) fn add(
+        &mut self,
+        alloc: Global,
+        key: Key,
+        pairing: &Pairing,
+    ) -> Result<Answer, StoreFault>
+        ensures { IsAnswered S.Store self.old self.new (key, Order.AddPairing pairing.now) result }
+    {
+        if self.failed {
+            return Err(StoreFault::Store);
+        }
+        let Ok(command) = adding(alloc, pairing) else {
+            return Err(StoreFault::Memory);
+        };
+        self.ask(alloc, key, &command)
+    }
+
     /// Answers commands in turn, up to the first fault. Room for all answers is made before the first.
     pub fn run(&mut self, alloc: Global, commands: &[(Key, Command)]) -> Run
         ensures failed { self.new.failed ≡ (self.old.failed || is_some_store_fault result.fault) }
@@ -227,6 +247,19 @@ impl<S: Alter> Book<S> {
             answers,
             fault: None,
         }
+    }
+}
+
+/// The command that adds a pairing.
+#[tactic(auto, unfolding(command::specs::Orders::order_fault))]
+fn adding(alloc: Global, pairing: &Pairing) -> Result<Command, MemoryFault>
+    ensures { IfOk result (λ command. command ≡ Order.AddPairing pairing.now) }
+{
+    // It has no fault, and so the command has none.
+    let _sound = pairing.periods();
+    match Command::new(Order::AddPairing(pairing.copy(alloc)?)) {
+        Ok(command) => Ok(command),
+        Err(_fault) => unreachable!(),
     }
 }
 

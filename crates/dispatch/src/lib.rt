@@ -4,6 +4,8 @@
 pub mod asking;
 mod fault;
 #[cfg(test)]
+mod imports;
+#[cfg(test)]
 mod keys;
 #[cfg(test)]
 mod late_flight;

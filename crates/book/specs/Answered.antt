@@ -1,0 +1,29 @@
+-- What one command does to a book: each fact as the clause of that name of `Book::ask`.
+use Rattle.std.specs.Prelude.{◌≡◌, ◌||◌, List, [], ◌∷◌, Result, Err, IfOk, IsTrue, OnErr, OnOk}
+use Rattle.sqlite_trees.specs.declared.store.Store.{Ghosts}
+use Rattle.sqlite.specs.Held.{state}
+use Rattle.roster.specs.Folds.{Asked, Session, Stopped, answer_of, next}
+use Rattle.roster.specs.Honest.{Honest}
+use Rattle.roster.specs.State.{State}
+use Rattle.roster.specs.Steps.{step_of}
+use Rattle.loading.specs.declared.fault.StoreFault.{StoreFault}
+use Rattle.loading.specs.declared.fault.StoreFault.TheVariants.{Store, Memory}
+use Rattle.store.specs.Outcomes.{Leaves, LeavesSome}
+use Rattle.book.specs.Kept.{HasTables, IsAt, IsClean, IsInDoubt, Kept, StillHasTables, is_store_fault, result_of}
+use Rattle.book.specs.Sessions.{IsAfter, count_of, fault_of}
+use Rattle.book.specs.declared.answer.Answer.{Answer}
+
+-- the book was asked a command under its key, and gave this result
+pub record IsAnswered {S : Type 0} (g : Ghosts S) (old new : Kept S) (asked : Asked) (result : Result Answer StoreFault) : Type 0 where
+  pub failed : new.failed ≡ (old.failed || is_store_fault result)
+  pub shut : IsTrue old.failed → (result ≡ Err Store) × (new ≡ old)
+  pub clean : IsClean g new → IsClean g old
+  pub some : LeavesSome (state g new.held)
+  pub reply : (s : State) → IsAt g old s → IsClean g new → IfOk result (λ a. result_of a ≡ answer_of (step_of s asked.0 asked.1))
+  pub answered : (s : State) → IsAt g old s → OnOk result (IsAt g new (next s asked))
+  pub tables : (s : State) → IsAt g old s → HasTables g old s → OnOk result (HasTables g new (next s asked))
+  pub memory : (s : State) → IsAt g old s → result ≡ Err Memory → IsAt g new s
+  pub store : (s : State) → IsAt g old s → result ≡ Err Store → IsInDoubt g new s (next s asked)
+  pub sessions : (s : State) (before : List Session) → IsAt g old (Stopped s before) → Leaves (state g new.held) (IsAfter s before (asked ∷ []) (count_of result) (fault_of result))
+  pub shown : (s : State) → IsAt g old s → HasTables g old s → OnErr result (StillHasTables g new s)
+  pub honest : (s : State) → IsAt g old s → Honest s → Leaves (state g new.held) Honest
