@@ -1,7 +1,7 @@
 -- A plain line of `duty` meets no fault, and gives its words as the arguments.
 use Rattle.std.proofs.Common.{◌≡◌, ◌∙◌, ◌++◌, true, false}
-use Rattle.std.proofs.Common.{refl, sym, subst, ap, ℕ, List, [], ◌∷◌, Some}
-use Rattle.std.proofs.Common.{arith, codes, append_assoc, slice_index}
+use Rattle.std.proofs.Common.{refl, sym, subst, ap, List, [], ◌∷◌, Some}
+use Rattle.std.proofs.Common.{codes, append_assoc}
 use Rattle.std.specs.Prelude.{IfOk, IsSomeAnd, MatchResult, Result, fold}
 use Rattle.std.specs.List.{list_all}
 use Rattle.clap.proofs.FaultLemmas.{past}
@@ -16,12 +16,13 @@ use Rattle.clap.specs.Faults.{turn_fault, walk_fault}
 use Rattle.clap.specs.declared.error.Error.{Error}
 use Rattle.clap.specs.declared.error.kind.ErrorKind.TheVariants.{OutOfMemory}
 use Rattle.rosterbook.proofs.Entered.{as_built}
-use Rattle.rosterbook.proofs.PlainLine.{line_passes, line_read, line_stated, same_text, same_texts, stopped_at, top}
+use Rattle.rosterbook.proofs.PlainLine.{line_passes, line_read, line_stated, one_name, same_text, same_texts}
+use Rattle.rosterbook.proofs.PlainLine.{stopped_at, top}
 use Rattle.rosterbook.proofs.PlainWords.{at, plain_fault, plain_walked, row}
 use Rattle.rosterbook.specs.CommandLine.{MeetsDuty, States, command_line, duty}
 use Rattle.rosterbook.specs.Plain.{IsDuty, duty_words, is_plain}
 use Rattle.rosterbook.specs.declared.actions.Action.{Action}
-use Rattle.rosterbook.specs.declared.actions.Action.TheVariants.{Duty, Init}
+use Rattle.rosterbook.specs.declared.actions.Action.TheVariants.{Duty, Init, Do, Import}
 
 abbrev leaf : Shape
 leaf = as_built command_line duty.top
@@ -208,15 +209,15 @@ module _ (zone report time : Text) (times : List Text)
   duty_passes = line_passes (codes "duty") leaf arguments duty_met refl refl refl leaf_passes
 
   pub duty_stated : subcommand_of command_line (duty_words zone report time times) ≡ Some (rows_at leaf arguments)
-  duty_stated = line_stated (codes "duty") leaf arguments duty_met refl refl refl leaf_passes
+  duty_stated = line_stated (codes "duty") leaf arguments duty_met refl refl refl
 
 same_duty : (a : Action) (zone report : Text) (times : List Text) (met : Text × List Row) → States a met
     → MeetsDuty zone report times met → IsDuty zone report times a
 same_duty (Duty z r ts) zone report times met h k =
     (same_text _ _ _ h.1 k.1, same_text _ _ _ h.2 k.2, same_texts _ _ _ h.3 k.3)
-same_duty (Init f z) zone report times met h k =
-    let bad : ◌≡◌ {A = ℕ} 100 105 = ap (λ t. slice_index t 0) (sym k.0 ∙ h.0) in
-    absurd (omega arith)
+same_duty (Init f z) zone report times met h k = absurd (one_name _ _ _ k.0 h.0 refl)
+same_duty (Do f) zone report times met h k = absurd (one_name _ _ _ k.0 h.0 refl)
+same_duty (Import f n) zone report times met h k = absurd (one_name _ _ _ k.0 h.0 refl)
 
 -- what reads a line as `clap` does reads a plain line of `duty`
 pub duty_read : (read : Result Action Error) (words : List Text)

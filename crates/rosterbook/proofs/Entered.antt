@@ -17,7 +17,8 @@ use Rattle.clap.specs.Faults.{is_simple_and_free, level_fault, settle_fault, wal
 use Rattle.rosterbook.proofs.WalkKeeps.{none_of}
 use Rattle.rosterbook.proofs.Filled.{Filled, takes_one, NoneMissing, check_none, checks_passed}
 use Rattle.rosterbook.proofs.Filled.{first_there, given_all, given_first, rows_filled, was_given}
-use Rattle.rosterbook.specs.CommandLine.{command_line, duty, init}
+use Rattle.rosterbook.proofs.NumberRead.{is_checked, number_there, rows_read}
+use Rattle.rosterbook.specs.CommandLine.{command_line, do_one, duty, import, init}
 use Rattle.rosterbook.specs.Arguments.{HasArguments}
 
 -- each subcommand gives Q of what it found of words at which it met no fault
@@ -125,18 +126,52 @@ init_gives s name rules negates words none =
     let there : NoneMissing (rules_of init) rows = found.1 in
     let p = first_there _ _ there in
     let q = first_there _ _ p.1 in
-    inr (
+    inr (inl (
       name,
       record {
         file = given_first (codes "file") rows found.0 (was_given _ p.0);
         zone = given_first (codes "zone") rows found.0 (was_given _ q.0);
       },
-    )
+    ))
+
+do_gives : (s : Shape) → s.name ≡ codes "do" → s.rules ≡ rules_of do_one → s.subcommand_negates_reqs ≡ false
+    → (words : List Text)
+    → level_fault s [] nothing_held words false [] ≡ [] → IsMet (rows_at s words)
+do_gives s name rules negates words none =
+    let rows = rows_after s.rules [] words in
+    let found = rows_there s (rules_of do_one) rules refl negates words none in
+    let there : NoneMissing (rules_of do_one) rows = found.1 in
+    let p = first_there _ _ there in
+    inr (inr (inl (name, record { file = given_first (codes "file") rows found.0 (was_given _ p.0) })))
+
+import_gives : (s : Shape) → s.name ≡ codes "import" → s.rules ≡ rules_of import → s.subcommand_negates_reqs ≡ false
+    → (words : List Text)
+    → level_fault s [] nothing_held words false [] ≡ [] → IsMet (rows_at s words)
+import_gives s name rules negates words none =
+    let rows = rows_after s.rules [] words in
+    let found = rows_there s (rules_of import) rules refl negates words none in
+    let there : NoneMissing (rules_of import) rows = found.1 in
+    let p = first_there _ _ there in
+    let q = first_there _ _ p.1 in
+    let checked = rows_read s words (ap (list_all is_checked) rules) none in
+    inr (inr (inr (
+      name,
+      record {
+        file = given_first (codes "file") rows found.0 (was_given _ p.0);
+        number = number_there rows checked found.0 (was_given _ q.0);
+      },
+    )))
 
 is_met : (words : List Text) → fault_of command_line words ≡ [] → IsSomeAnd (subcommand_of command_line words) IsMet
 is_met words none = line_gives IsMet (built command_line) words (
   duty_gives (as_built command_line duty.top) refl refl refl,
-  (init_gives (as_built command_line init.top) refl refl refl, tt),
+  (
+    init_gives (as_built command_line init.top) refl refl refl,
+    (
+      do_gives (as_built command_line do_one.top) refl refl refl,
+      (import_gives (as_built command_line import.top) refl refl refl, tt),
+    ),
+  ),
 ) refl none
 
 is_there : (met : Option (Text × List Row)) → IsSomeAnd met IsMet → HasArguments met

@@ -43,34 +43,34 @@ has_more : (xs ys : List Text) → has_value xs ≡ true → has_value (xs ++ ys
 has_more [] ys e = absurd (true≢false (sym e))
 has_more (x ∷ xs) ys e = refl
 
-all_more : (p : Row → Bool) (xs ys : List Row) → list_all p xs ≡ true → list_all p ys ≡ true
+pub all_more : {X : Type 0} (p : X → Bool) (xs ys : List X) → list_all p xs ≡ true → list_all p ys ≡ true
     → list_all p (xs ++ ys) ≡ true
 all_more p [] ys e f = f
 all_more p (x ∷ xs) ys e f =
     let q = both (p x) _ e in
     rw (q.0, all_more p xs ys q.1 f) refl
 
-row_changed : (p : Row → Bool) (id : Text) (change : Row → List Row) (missing rows : List Row)
-    → ((r : Row) → p r ≡ true → list_all p (change r) ≡ true)
+pub row_changed : (p : Row → Bool) (id : Text) (change : Row → List Row) (missing rows : List Row)
+    → ((r : Row) → bytes_eq r.id id ≡ true → p r ≡ true → list_all p (change r) ≡ true)
     → list_all p missing ≡ true → list_all p rows ≡ true → list_all p (at_row id change missing rows) ≡ true
 row_changed p id change missing [] changed absent e = absent
 row_changed p id change missing (r ∷ rs) changed absent e =
-    go (bytes_eq r.id id) (row_changed p id change missing rs changed absent (both (p r) _ e).1)
+    go (bytes_eq r.id id) refl (row_changed p id change missing rs changed absent (both (p r) _ e).1)
   where
-    go : (b : Bool) → list_all p (at_row id change missing rs) ≡ true
+    go : (b : Bool) → bytes_eq r.id id ≡ b → list_all p (at_row id change missing rs) ≡ true
         → list_all p (cond b (change r ++ rs) (r ∷ at_row id change missing rs)) ≡ true
-    go true later = all_more p (change r) rs (changed r (both (p r) _ e).0) (both (p r) _ e).1
-    go false later = rw ((both (p r) _ e).0, later) refl
+    go true same later = all_more p (change r) rs (changed r same (both (p r) _ e).0) (both (p r) _ e).1
+    go false other later = rw ((both (p r) _ e).0, later) refl
 
 values_added : (id : Text) (how : Reading) (source : ValueSource) (values : List Text) (rows : List Row)
     → has_value values ≡ true → Filled rows
     → Filled (with_values id how source values rows)
 values_added id how source values rows some e =
     row_changed is_filled id (more_values source values) _ rows
-    (λ r h. rw (has_more r.values values h) refl) (rw some refl) e
+    (λ r same h. rw (has_more r.values values h) refl) (rw some refl) e
 
 row_removed : (id : Text) (rows : List Row) → Filled rows → Filled (without id rows)
-row_removed id rows e = row_changed is_filled id (λ _. []) [] rows (λ r h. refl) refl e
+row_removed id rows e = row_changed is_filled id (λ _. []) [] rows (λ r same h. refl) refl e
 
 used_with : (x : ArgAction) (id : Text) (how : Reading) (values : List Text) (rows : List Row)
     → has_value values ≡ true → Filled rows → Filled (used_as x id how values rows)

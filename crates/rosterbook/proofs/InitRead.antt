@@ -1,7 +1,7 @@
 -- A plain line of `init` meets no fault, and gives its words as the arguments.
 use Rattle.std.proofs.Common.{◌≡◌, ◌∙◌, true, false}
-use Rattle.std.proofs.Common.{refl, sym, subst, ap, ℕ, List, [], ◌∷◌, Some}
-use Rattle.std.proofs.Common.{arith, codes, slice_index}
+use Rattle.std.proofs.Common.{refl, sym, subst, ap, List, [], ◌∷◌, Some}
+use Rattle.std.proofs.Common.{codes}
 use Rattle.std.specs.Prelude.{IfOk, IsSomeAnd, MatchResult, Result, fold}
 use Rattle.std.specs.List.{list_all}
 use Rattle.clap.proofs.FaultLemmas.{past}
@@ -16,12 +16,12 @@ use Rattle.clap.specs.Faults.{turn_fault, walk_fault}
 use Rattle.clap.specs.declared.error.Error.{Error}
 use Rattle.clap.specs.declared.error.kind.ErrorKind.TheVariants.{OutOfMemory}
 use Rattle.rosterbook.proofs.Entered.{as_built}
-use Rattle.rosterbook.proofs.PlainLine.{line_passes, line_read, line_stated, same_text, stopped_at, top}
+use Rattle.rosterbook.proofs.PlainLine.{line_passes, line_read, line_stated, one_name, same_text, stopped_at, top}
 use Rattle.rosterbook.proofs.PlainWords.{at, plain_fault, plain_walked, row}
 use Rattle.rosterbook.specs.CommandLine.{MeetsInit, States, command_line, init}
 use Rattle.rosterbook.specs.Plain.{IsInit, init_words, is_plain}
 use Rattle.rosterbook.specs.declared.actions.Action.{Action}
-use Rattle.rosterbook.specs.declared.actions.Action.TheVariants.{Duty, Init}
+use Rattle.rosterbook.specs.declared.actions.Action.TheVariants.{Duty, Init, Do, Import}
 
 abbrev leaf : Shape
 leaf = as_built command_line init.top
@@ -102,14 +102,14 @@ module _ (file zone : Text) (plain : list_all is_plain (file ∷ zone ∷ []) �
   init_passes = line_passes (codes "init") leaf arguments init_met refl refl refl leaf_passes
 
   pub init_stated : subcommand_of command_line (init_words file zone) ≡ Some (rows_at leaf arguments)
-  init_stated = line_stated (codes "init") leaf arguments init_met refl refl refl leaf_passes
+  init_stated = line_stated (codes "init") leaf arguments init_met refl refl refl
 
 same_init : (a : Action) (file zone : Text) (met : Text × List Row) → States a met → MeetsInit file zone met
     → IsInit file zone a
 same_init (Init f z) file zone met h k = (same_text _ _ _ h.1 k.1, same_text _ _ _ h.2 k.2)
-same_init (Duty z r ts) file zone met h k =
-    let bad : ◌≡◌ {A = ℕ} 105 100 = ap (λ t. slice_index t 0) (sym k.0 ∙ h.0) in
-    absurd (omega arith)
+same_init (Duty z r ts) file zone met h k = absurd (one_name _ _ _ k.0 h.0 refl)
+same_init (Do f) file zone met h k = absurd (one_name _ _ _ k.0 h.0 refl)
+same_init (Import f n) file zone met h k = absurd (one_name _ _ _ k.0 h.0 refl)
 
 -- what reads a line as `clap` does reads a plain line of `init`
 pub init_read : (read : Result Action Error) (words : List Text)

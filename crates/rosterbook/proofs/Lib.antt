@@ -1,11 +1,17 @@
+pub mod Answering
 pub mod Commands
+pub mod DoRead
 pub mod DutyRead
 pub mod Entered
 pub mod Filled
 pub mod Getters
+pub mod ImportRead
 pub mod InitRead
+pub mod NumberRead
 pub mod PlainLine
 pub mod PlainWords
+pub mod PartsAdded
+pub mod Reading
 pub mod ReadLemmas
 pub mod RefusalLemmas
 pub mod SegmentLemmas

@@ -8,7 +8,7 @@ use Rattle.rosterbook.specs.declared.fault.LineFault.TheVariants.{Zone, Time, Se
 use Rattle.rosterbook.specs.declared.status.Status.{Status}
 use Rattle.rosterbook.specs.declared.status.Status.TheVariants.{Refused, Failed}
 
-appends_nothing : (held : Held) → Appends held held []
+pub appends_nothing : (held : Held) → Appends held held []
 appends_nothing None = tt
 appends_nothing (Some bytes) = sym (append-nil bytes)
 

@@ -1,13 +1,15 @@
 -- What the program answers: its exit status, and what it writes to standard output and standard error.
-use Rattle.std.specs.Prelude.{◌≡◌, ℕ, Bool, true, false, List, [], ◌∷◌, ◌++◌, codes, map, string_bytes, Option, Result, Ok, Err}
+use Rattle.std.specs.Prelude.{◌≡◌, ℕ, Bool, true, false, List, [], ◌++◌, codes, map, string_bytes, Result, Ok, Err}
 use Rattle.std.specs.Io.KnownBytes.{Appends}
 use Rattle.time117.specs.Local.{is_zone_text}
+use Rattle.rosterbook.specs.Asking.{Answered, IsImportTold, IsTold}
 use Rattle.rosterbook.specs.FaultText.{fault_text}
+pub use Rattle.rosterbook.specs.Streams.{Held, line_end, refused}
 use Rattle.store.specs.Faults.{create_text}
 use Rattle.store.specs.declared.fault.CreateFault.{CreateFault}
 use Rattle.rosterbook.specs.Verdict.{Line, line_of}
 use Rattle.rosterbook.specs.declared.actions.Action.{Action}
-use Rattle.rosterbook.specs.declared.actions.Action.TheVariants.{Duty, Init}
+use Rattle.rosterbook.specs.declared.actions.Action.TheVariants.{Duty, Init, Do, Import}
 use Rattle.rosterbook.specs.declared.fault.LineFault.{LineFault}
 use Rattle.rosterbook.specs.declared.fault.LineFault.TheVariants.{Zone, Memory}
 use Rattle.rosterbook.specs.declared.status.Status.{Status}
@@ -24,16 +26,10 @@ pub record Answer : Type 0 where
   pub out : List ℕ
   pub err : List ℕ
 
-abbrev pub line_end : List ℕ
-line_end = 10 ∷ []
-
 -- a flight duty period that exceeds a table ends the program as a refusal does
 abbrev pub verdict_status : Bool → Status
 verdict_status true = Done
 verdict_status false = Refused
-
-abbrev pub refused : List ℕ → List ℕ
-refused fault = codes "refused " ++ fault ++ line_end
 
 abbrev pub refusal_line : LineFault → List ℕ
 refusal_line fault = refused (fault_text fault)
@@ -59,22 +55,23 @@ abbrev pub init_answer : Bool → Answer
 init_answer true = ready
 init_answer false = record { status = Refused; out = []; err = refusal_line Zone }
 
-abbrev pub answer_of : Action → Answer
-answer_of (Duty zone report times) =
-    duty_answer (line_of (string_bytes zone) (string_bytes report) (map string_bytes times.items))
-answer_of (Init file zone) = init_answer (is_zone_text (string_bytes zone))
-
--- the bytes that a writer holds, where they are known
-abbrev pub Held : Type 0
-Held = Option (List ℕ)
-
 -- the answer was given whole: its status, and its bytes at the end of what the two writers held
 pub record Gives (answer : Answer) (status : Status) (out out' err err' : Held) : Type 0 where
   pub ends : status ≡ answer.status
   pub prints : Appends out out' answer.out
   pub complains : Appends err err' answer.err
 
--- the action was answered whole, with this exit status
-abbrev pub IsAnswered : Action → ℕ → Held → Held → Held → Held → Type 0
-IsAnswered action code out out' err err' =
-    (status : Status) × (code ≡ exit_status status) × Gives (answer_of action) status out out' err err'
+-- the action was answered whole, by what a reader has
+abbrev pub Answers : Action → Status → Held → Held → Held → Held → Held → Type 0
+Answers (Duty zone report times) status held out out' err err' =
+    Gives (duty_answer (line_of (string_bytes zone) (string_bytes report) (map string_bytes times.items))) status out out' err err'
+Answers (Init file zone) status held out out' err err' =
+    Gives (init_answer (is_zone_text (string_bytes zone))) status out out' err err'
+Answers (Do file) status held out out' err err' =
+    (input : List ℕ) × (answer : Answered) × IsTold held out out' status input answer × (err' ≡ err)
+Answers (Import file number) status held out out' err err' = IsImportTold held out out' err err' status
+
+-- the same, with this exit status
+abbrev pub IsAnswered : Action → ℕ → Held → Held → Held → Held → Held → Type 0
+IsAnswered action code held out out' err err' =
+    (status : Status) × (code ≡ exit_status status) × Answers action status held out out' err err'

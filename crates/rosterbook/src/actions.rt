@@ -1,5 +1,7 @@
 //! What the program is asked to do.
 
+use codec::RequestNumber;
+
 /// What a command line asks for.
 #[derive(Debug, PartialEq, Eq, Drop)]
 pub enum Action {
@@ -18,5 +20,17 @@ pub enum Action {
         file: String,
         /// The POSIX time zone rule of the acclimated crew.
         zone: String,
+    },
+    /// `do FILE`: answer one command, which is JSON on standard input.
+    Do {
+        /// The path of the book's file.
+        file: String,
+    },
+    /// `import FILE NUMBER`: add the pairings of a schedule, which is CSV on standard input.
+    Import {
+        /// The path of the book's file.
+        file: String,
+        /// The number of the request that the pairings are parts of.
+        number: RequestNumber,
     },
 }

@@ -1,23 +1,27 @@
 //! The words after the program's name, read by `clap`.
-ghost use Rattle.std.specs.Prelude.{◌≡◌, ◌∷◌, IfOk, IsSomeAnd, List, MatchResult, Some, codes};
-ghost use Rattle.std.specs.Prelude.{[], false, is_some, map, string_bytes, true};
+ghost use Rattle.std.specs.Prelude.{◌≡◌, ◌∷◌, ℕ, IfOk, IsErrAnd, IsSomeAnd, List, MatchResult, None, Some, codes};
+ghost use Rattle.std.specs.Prelude.{[], false, is_some, map, option_and_then, string_bytes, true};
 ghost use Rattle.std.specs.List.{list_all};
 ghost use Rattle.clap.specs.Walk.{Text, texts};
-ghost use Rattle.clap.specs.Words.{FailsBy, all_of, fault_of, first_of, found_of, kind_of, rows_of};
+ghost use Rattle.clap.specs.Words.{FailsBy, HasKind, all_of, fault_of, first_of, found_of, kind_of, rows_of};
 ghost use Rattle.clap.specs.Words.{rule_of, subcommand_of, subcommand_rows_of};
-ghost use Rattle.clap.specs.declared.error.kind.ErrorKind.TheVariants.{OutOfMemory};
-ghost use Rattle.rosterbook.specs.Arguments.{HasArguments, HasDuty, HasInit};
-ghost use Rattle.rosterbook.specs.CommandLine.{IsCommand, States, bare, command_line, duty, init, wanted};
-ghost use Rattle.rosterbook.specs.Plain.{IsDuty, IsInit, duty_words, init_words, is_plain};
+ghost use Rattle.clap.specs.declared.error.kind.ErrorKind.TheVariants.{OutOfMemory, ValueValidation};
+ghost use Rattle.rosterbook.specs.Arguments.{HasArguments, HasDo, HasDuty, HasImport, HasInit, HasNumber};
+ghost use Rattle.rosterbook.specs.CommandLine.{IsCommand, States, bare, command_line, do_one, duty, import, init};
+ghost use Rattle.rosterbook.specs.CommandLine.{request_number, wanted};
+ghost use Rattle.rosterbook.specs.Plain.{IsDo, IsDuty, IsImport, IsInit, do_words, duty_words, import_words};
+ghost use Rattle.rosterbook.specs.Plain.{init_words, is_plain};
 
 use crate::actions::Action;
-use clap::{Arg, ArgAction, ArgMatches, Command, Error};
+use clap::{Arg, ArgAction, ArgMatches, Command, Error, value_parser};
+use codec::RequestNumber;
 use std::alloc::{AllocError, Global};
 
 const ARGUMENTS: &str = "\
 Arguments of the commands:
   FILE    file of the book
   ZONE    time zone of the crew, a POSIX rule such as EST5EDT,M3.2.0,M11.1.0
+  NUMBER  number of the request, 1 to 9223372036854775807
   REPORT  report, a UTC instant such as 2025-06-10T15:59Z
   TIME    block-out and block-in in turn, UTC instants such as 2025-06-10T16:30Z
 
@@ -38,7 +42,34 @@ Example:
 Exit status: 0 done, 1 the zone is refused, 2 a mistake in the command line,
 3 the file has a book already, or the file, memory or the output fails";
 
-const FILE_HELP: &str = "File of the book, new or empty";
+const DO_EXAMPLE: &str = "\
+Example:
+  echo '{\"number\":1,\"do\":\"add-crew\",\"crew\":\"C1\",\"seat\":\"captain\",
+    \"name\":\"Ada Ray\"}' | rosterbook do roster.db
+
+The same command under the same number is answered as it was and acts once.
+
+Exit status: 0 accepted, 1 refused, 2 a mistake in the command line, 3 there is
+no book in the file, or the file, memory, the input or the output fails";
+
+const IMPORT_EXAMPLE: &str = "\
+Example:
+  rosterbook import roster.db 500 < schedule.csv
+
+The pairings are the parts 1, 2, .. of the request NUMBER. An import that was
+stopped is handed in again, whole and under its number: each part acts once.
+
+Exit status: 0 all accepted, 1 the schedule or a part is refused, 2 a mistake
+in the command line, 3 there is no book in the file, or the file, memory, the
+input or the output fails";
+
+const NEW_FILE_HELP: &str = "File of the book, new or empty";
+
+const FILE_HELP: &str = "File of the book";
+
+const NUMBER_HELP: &str = "\
+Number of the request whose parts the pairings are,
+a whole number from 1 to 9223372036854775807";
 
 const ZONE_HELP: &str = "\
 Time zone of the acclimated crew, a POSIX rule, which gives the
@@ -66,6 +97,16 @@ pub fn action(alloc: Global, words: &[&str]) -> Result<Action, Error>
         → texts words.now ≡ init_words file zone
         → list_all is_plain (file ∷ zone ∷ []) ≡ true
         → MatchResult result (IsInit file zone) (λ e. kind_of e ≡ OutOfMemory) }
+    ensures do_one { (file : Text) → texts words.now ≡ do_words file → is_plain file ≡ true
+        → MatchResult result (IsDo file) (λ e. kind_of e ≡ OutOfMemory) }
+    ensures import { (file number : Text) (n : ℕ)
+        → texts words.now ≡ import_words file number
+        → list_all is_plain (file ∷ number ∷ []) ≡ true → request_number number ≡ Some n
+        → MatchResult result (IsImport file n) (λ e. kind_of e ≡ OutOfMemory) }
+    ensures import_number { (file number : Text)
+        → texts words.now ≡ import_words file number
+        → list_all is_plain (file ∷ number ∷ []) ≡ true → request_number number ≡ None
+        → IsErrAnd result (HasKind (ValueValidation ∷ [])) }
 {
     read(alloc, words)
 }
@@ -85,7 +126,9 @@ fn command<'a>(alloc: Global) -> Result<Command<'a>, AllocError>
 {
     bare_command(alloc)?
         .subcommand(duty_command(alloc)?)?
-        .subcommand(init_command(alloc)?)
+        .subcommand(init_command(alloc)?)?
+        .subcommand(do_command(alloc)?)?
+        .subcommand(import_command(alloc)?)
 }
 
 /// The program without its subcommands.
@@ -124,13 +167,39 @@ fn duty_command<'a>(alloc: Global) -> Result<Command<'a>, AllocError>
 fn init_command<'a>(alloc: Global) -> Result<Command<'a>, AllocError>
     ensures { IfOk result (IsCommand init) }
 {
-    let file = positional(alloc, "file", "FILE").help(FILE_HELP);
+    let file = positional(alloc, "file", "FILE").help(NEW_FILE_HELP);
     let zone = positional(alloc, "zone", "ZONE").help(ZONE_HELP);
     Command::new(alloc, "init")
         .about("Make a book in a new or empty file")
         .after_help(INIT_EXAMPLE)
         .arg(file)?
         .arg(zone)
+}
+
+/// The subcommand `do`.
+fn do_command<'a>(alloc: Global) -> Result<Command<'a>, AllocError>
+    ensures { IfOk result (IsCommand do_one) }
+{
+    let file = positional(alloc, "file", "FILE").help(FILE_HELP);
+    Command::new(alloc, "do")
+        .about("Answer one command, which is JSON on standard input")
+        .after_help(DO_EXAMPLE)
+        .arg(file)
+}
+
+/// The subcommand `import`.
+fn import_command<'a>(alloc: Global) -> Result<Command<'a>, AllocError>
+    ensures { IfOk result (IsCommand import) }
+{
+    let file = positional(alloc, "file", "FILE").help(FILE_HELP);
+    let number = positional(alloc, "number", "NUMBER")
+        .help(NUMBER_HELP)
+        .value_parser(value_parser!(u64).range(1..=i64::MAX));
+    Command::new(alloc, "import")
+        .about("Add the pairings of a schedule, which is CSV on standard input")
+        .after_help(IMPORT_EXAMPLE)
+        .arg(file)?
+        .arg(number)
 }
 
 /// An argument by its place that must be there.
@@ -150,6 +219,8 @@ fn action_of(alloc: Global, matches: &ArgMatches<'_>) -> Result<Action, AllocErr
     match name {
         "duty" => duty_of(alloc, arguments),
         "init" => init_of(alloc, arguments),
+        "do" => do_of(alloc, arguments),
+        "import" => import_of(alloc, arguments),
         _ => unreachable!(),
     }
 }
@@ -174,6 +245,34 @@ fn init_of(alloc: Global, matches: &ArgMatches<'_>) -> Result<Action, AllocError
     let file = text_of(alloc, matches, "file")?;
     let zone = text_of(alloc, matches, "zone")?;
     Ok(Action::Init { file, zone })
+}
+
+/// The arguments of `do`.
+fn do_of(alloc: Global, matches: &ArgMatches<'_>) -> Result<Action, AllocError>
+    requires { HasDo (rows_of (found_of matches.now)) }
+    ensures { IfOk result (λ a. States a (codes "do", rows_of (found_of matches.now))) }
+{
+    let file = text_of(alloc, matches, "file")?;
+    Ok(Action::Do { file })
+}
+
+/// The arguments of `import`.
+fn import_of(alloc: Global, matches: &ArgMatches<'_>) -> Result<Action, AllocError>
+    requires { HasImport (rows_of (found_of matches.now)) }
+    ensures { IfOk result (λ a. States a (codes "import", rows_of (found_of matches.now))) }
+{
+    let file = text_of(alloc, matches, "file")?;
+    let number = number_of(matches, "number");
+    Ok(Action::Import { file, number })
+}
+
+/// The value of an argument that is a request's number.
+fn number_of(matches: &ArgMatches<'_>, id: &str) -> RequestNumber
+    requires { HasNumber id.now (rows_of (found_of matches.now)) }
+    ensures { option_and_then request_number (first_of id.now (rows_of (found_of matches.now))) ≡ Some result }
+{
+    let number = matches.get_one::<u64>(id).unwrap();
+    RequestNumber::new(number).unwrap()
 }
 
 /// The first value of an argument that has one.

@@ -3,21 +3,27 @@
 
 mod actions;
 mod command_line;
+mod do_command;
 mod duty_command;
 mod fault;
 mod flight_duty;
+mod import_command;
 mod init_command;
 mod lines;
 mod program;
 mod refusal;
 mod status;
+mod stop;
 mod texts;
 mod verdict;
 
 pub use actions::Action;
 pub use command_line::action;
+pub use do_command::ask_json;
 pub use fault::LineFault;
+pub use import_command::import_csv;
 pub use program::perform;
 pub use refusal::tell_refusal;
 pub use status::Status;
+pub use stop::Stop;
 pub use verdict::duty_line;

@@ -1,11 +1,24 @@
-//! Lines of standard output and standard error.
-ghost use Rattle.std.specs.Prelude.{◌++◌, IfSome, OnOk};
+//! Standard input, and the lines of standard output and standard error.
+ghost use Rattle.std.specs.Prelude.{◌++◌, IfOk, IfSome, OnOk};
 ghost use Rattle.std.specs.Io.KnownBytes.{Appends};
-ghost use Rattle.rosterbook.specs.Program as spec;
+ghost use Rattle.rosterbook.specs.Streams as spec;
 
+use std::alloc::Global;
 use std::fmt::Display;
 use std::io;
-use std::io::Write;
+use std::io::{Read, Write};
+
+/// One byte more than a request's body or a schedule may have.
+const MOST: u64 = 1_048_577;
+
+/// What a reader gives, and no more than is needed to find it too long.
+pub(crate) fn read_input<R: Read>(alloc: Global, reader: &mut R) -> io::Result<Vec<u8>>
+    ensures { IfOk result (λ input. spec.Reads (R.remaining reader.old) input.items) }
+{
+    let mut bytes = Vec::new(alloc);
+    reader.take(MOST).read_to_end(&mut bytes)?;
+    Ok(bytes)
+}
 
 /// Writes a line at once.
 pub(crate) fn write_line<W: Write>(writer: &mut W, line: &str) -> io::Result<()>

@@ -3,45 +3,64 @@ ghost use Rattle.rosterbook.specs.Program as spec;
 ghost use Rattle.rosterbook.specs.Program.{exit_status};
 
 use crate::actions::Action;
+use crate::do_command::answer_do;
 use crate::duty_command::answer_duty;
+use crate::import_command::answer_import;
 use crate::init_command::answer_init;
+use crate::lines::refuse;
 use crate::status::Status;
-use std::io;
+use crate::stop::Stop;
 use std::io::{Read, Write};
 
-/// Does what a command line asks for: writes to `out` and `err` what the program writes to standard output and standard
-/// error, and answers how the program ends. That is `Failed`, after the line of a refusal on `err`, where memory is
-/// refused (91), a reader or a writer fails (92), or `init` makes no book (43, 90).
+/// Does what a command line asks for: reads from `reader`, writes to `out` and `err` what the program writes to standard
+/// output and standard error, and answers how the program ends. That is `Failed`, after the line of a refusal on `err`, where
+/// no book is made (43) or taken up (40, 41, 42), the store fails (90), memory is refused (91), or a reader or a writer fails
+/// (92).
 pub fn perform<R: Read, O: Write, E: Write>(
     rt: &HostRuntime,
     action: &Action,
-    _reader: &mut R,
+    reader: &mut R,
     out: &mut O,
     err: &mut E,
 ) -> u8
-    ensures { result ≢ exit_status Status.Failed → spec.IsAnswered action.now result (O.contents out.old) (O.contents out.new) (E.contents err.old) (E.contents err.new) }
+    ensures { result ≢ exit_status Status.Failed → spec.IsAnswered action.now result (R.remaining reader.old) (O.contents out.old) (O.contents out.new) (E.contents err.old) (E.contents err.new) }
 {
-    let done = match action {
+    let done = answer(rt, action, reader, out, err);
+    status_after(done, err) as u8
+}
+
+/// The same, up to what stops it.
+fn answer<R: Read, O: Write, E: Write>(
+    rt: &HostRuntime,
+    action: &Action,
+    reader: &mut R,
+    out: &mut O,
+    err: &mut E,
+) -> Result<Status, Stop>
+    ensures { IfOk result (λ status. status ≢ Status.Failed → spec.Answers action.now status (R.remaining reader.old) (O.contents out.old) (O.contents out.new) (E.contents err.old) (E.contents err.new)) }
+{
+    match action {
         Action::Duty {
             zone,
             report,
             times,
-        } => answer_duty(rt.alloc(), zone, report, times, out, err),
-        Action::Init { file, zone } => answer_init(rt, file, zone, out, err),
-    };
-    status_after(done, err) as u8
+        } => Ok(answer_duty(rt.alloc(), zone, report, times, out, err)?),
+        Action::Init { file, zone } => Ok(answer_init(rt, file, zone, out, err)?),
+        Action::Do { file } => answer_do(rt, file, reader, out),
+        Action::Import { file, number } => answer_import(rt, file, *number, reader, out, err),
+    }
 }
 
-/// The status of what was done; after a channel's error `Failed`, and `err` is told. Where that fails too, the status
+/// The status of what was done. After what stopped it that is `Failed`, and `err` is told; where that fails too, the status
 /// alone tells it.
-pub(crate) fn status_after<E: Write>(done: io::Result<Status>, err: &mut E) -> Status
+pub(crate) fn status_after<E: Write>(done: Result<Status, Stop>, err: &mut E) -> Status
     ensures failed { IsErr done → result ≡ Status.Failed }
     ensures done { IfOk done (λ status. (status ≡ result) × (err.new ≡ err.old)) }
 {
     match done {
         Ok(status) => status,
-        Err(_) => {
-            let _ = writeln!(err, "refused 92 Channel");
+        Err(stop) => {
+            let _ = refuse(err, &stop);
             Status::Failed
         }
     }

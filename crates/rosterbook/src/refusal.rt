@@ -7,9 +7,9 @@ ghost use Rattle.rosterbook.specs.Refusal.{status_of};
 
 use crate::program::status_after;
 use crate::status::Status;
+use crate::stop::Stop;
 use clap::Error;
 use clap::error::ErrorKind;
-use std::io;
 use std::io::Write;
 
 /// Writes why `clap` refused a command line, and gives the exit status. Help and the version go to
@@ -25,8 +25,12 @@ pub fn tell_refusal<O: Write, E: Write>(error: &Error, out: &mut O, err: &mut E)
     status_after(done, err) as u8
 }
 
-/// The same; an error is a writer's.
-fn write_refusal<O: Write, E: Write>(error: &Error, out: &mut O, err: &mut E) -> io::Result<Status>
+/// The same, up to what stops it.
+fn write_refusal<O: Write, E: Write>(
+    error: &Error,
+    out: &mut O,
+    err: &mut E,
+) -> Result<Status, Stop>
     ensures status { IfOk result (λ s. s ≡ status_of (kind_of error.now)) }
     ensures out { status_of (kind_of error.now) ≢ Status.Done → out.new ≡ out.old }
     ensures err { status_of (kind_of error.now) ≡ Status.Done → err.new ≡ err.old }

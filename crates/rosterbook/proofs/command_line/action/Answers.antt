@@ -1,5 +1,7 @@
 use Rattle.clap.specs.Walk.{texts}
+use Rattle.rosterbook.proofs.DoRead.{do_read}
 use Rattle.rosterbook.proofs.DutyRead.{duty_read}
+use Rattle.rosterbook.proofs.ImportRead.{import_read, import_refused}
 use Rattle.rosterbook.proofs.InitRead.{init_read}
 use Rattle.rosterbook.proofs.command_line.action.Goals as goal
 
@@ -8,3 +10,12 @@ returns-clause-duty c = duty_read c.read.result (texts c.args.words.now) c.read.
 
 pub returns-clause-init : goal.returns-clause-init
 returns-clause-init c = init_read c.read.result (texts c.args.words.now) c.read.ensures.ok c.read.ensures.refused
+
+pub returns-clause-do_one : goal.returns-clause-do_one
+returns-clause-do_one c = do_read c.read.result (texts c.args.words.now) c.read.ensures.ok c.read.ensures.refused
+
+pub returns-clause-import : goal.returns-clause-import
+returns-clause-import c = import_read c.read.result (texts c.args.words.now) c.read.ensures.ok c.read.ensures.refused
+
+pub returns-clause-import_number : goal.returns-clause-import_number
+returns-clause-import_number c = import_refused c.read.result (texts c.args.words.now) c.read.ensures.refused

@@ -1,0 +1,77 @@
+-- What a request and a schedule are told, from what was read of them.
+use Rattle.std.proofs.Common.{◌≡◌, ◌⊎◌, inl, inr, ℕ, List, [], ◌∷◌, refl, sym, ap, subst, Ok, Err}
+use Rattle.std.specs.Io.KnownBytes.{Appends}
+use Rattle.sqlite_trees.specs.declared.store.Store.{Ghosts}
+use Rattle.duty.specs.Plans.{Plan}
+use Rattle.command.specs.Keys.{KeyParts}
+use Rattle.command.specs.declared.order.Order.{Order}
+use Rattle.command.specs.declared.refusal.Refusal.TheVariants.{NumberUsed}
+use Rattle.schedule.specs.Schedule.{IsAtFault, IsSchedule}
+use Rattle.roster.specs.Folds.{answer_of, next}
+use Rattle.roster.specs.State.{State}
+use Rattle.roster.specs.Steps.{step_of}
+use Rattle.codec.specs.RefusalText as json
+use Rattle.codec.specs.Texts.{fault_text}
+use Rattle.codec.specs.declared.fault.CodecFault.{CodecFault}
+use Rattle.codec.specs.declared.fault.CodecFault.TheVariants.{BadCsv}
+use Rattle.book.specs.Kept.{IsAt, IsClean, Kept}
+use Rattle.rosterbook.specs.Asking.{Answered, Answers, AreAdded, AreTold, IsImported, IsImportTold, IsNoSchedule, Request, answer_json, left_by, status_of, told_json}
+use Rattle.rosterbook.specs.Streams.{Held, Reads, refused}
+use Rattle.rosterbook.specs.declared.status.Status.{Status}
+use Rattle.rosterbook.specs.declared.status.Status.TheVariants.{Refused}
+
+-- ---- `do`
+
+module _ {S : Type 0} (g : Ghosts S) (old new : Kept S) (status : Status) (line : List ℕ) where
+  abbrev IsRequestTold : Request → Type 0
+  IsRequestTold request = (answer : Answered)
+      × ((status, line) ≡ told_json request answer)
+      × ((s : State) → IsAt g old s → IsClean g new → Answers s request answer)
+      × ((s : State) → IsAt g old s → IsAt g new (left_by s request))
+
+  pub request_answered : (request : Request) (number : ℕ) (order : Order) (key : KeyParts) (answer : Answered) →
+      request ≡ Ok (number, order) → key ≡ record { number = number; part = 0 } → status ≡ status_of answer → line ≡ answer_json answer →
+      ((s : State) → IsAt g old s → IsClean g new → answer ≡ answer_of (step_of s key order)) →
+      ((s : State) → IsAt g old s → IsAt g new (next s (key, order))) → IsRequestTold request
+  request_answered request number order key answer is under ends says reply left =
+      let under_key : KeyParts = record { number = number; part = 0 } in
+      subst IsRequestTold (sym is) (
+        answer,
+        rw (ends, says) refl,
+        (λ s at clean. ap (λ a. a ∷ []) (rw under at (reply s at clean))),
+        (λ s at. rw under at (left s at)),
+      )
+
+pub request_unread : {S : Type 0} (g : Ghosts S) (book : Kept S) (status : Status) (line : List ℕ) (request : Request) (fault : CodecFault) →
+    request ≡ Err fault → status ≡ Refused → line ≡ json.fault_reply fault →
+    (answer : Answered)
+    × ((status, line) ≡ told_json request answer)
+    × ((s : State) → IsAt g book s → IsClean g book → Answers s request answer)
+    × ((s : State) → IsAt g book s → IsAt g book (left_by s request))
+request_unread g book status line request fault is ends says = rw is (Err NumberUsed, rw (ends, says) refl, (λ s at clean. tt), (λ s at. at))
+
+-- ---- `import`
+
+pub schedule_added : {S : Type 0} (g : Ghosts S) (old new : Kept S) (number : ℕ) (held out out' err : Held) (status : Status) (text : List ℕ) (plans : List Plan) →
+    Reads held text → IsSchedule text plans → AreAdded g old new number plans status out out' → IsImported g old new number held out out' err err status
+schedule_added g old new number held out out' err status text plans read is added = record { text = text; read = read; done = inr (plans, is, added, refl) }
+
+pub schedule_refused : {S : Type 0} (g : Ghosts S) (book : Kept S) (number : ℕ) (held out err err' : Held) (text : List ℕ) (fault : CodecFault) (line : ℕ) →
+    Reads held text → fault ≡ BadCsv line → IsAtFault text line → Appends err err' (refused (fault_text fault)) → IsImported g book book number held out out err err' Refused
+schedule_refused g book number held out err err' text fault line read is at_fault told = record {
+  text = text;
+  read = read;
+  done = inl (record { line = line; at_fault = at_fault; ends = refl; prints = refl; complains = subst (λ f. Appends err err' (refused (fault_text f))) is told }, refl);
+}
+
+pub imported_told : {S : Type 0} (g : Ghosts S) (old new : Kept S) (number : ℕ) (held out out' err err' : Held) (status : Status) →
+    IsImported g old new number held out out' err err' status → IsImportTold held out out' err err' status
+imported_told g old new number held out out' err err' status it = record {
+  text = it.text;
+  read = it.read;
+  told = go it.done;
+} where
+  go : (IsNoSchedule it.text status out out' err err' × (new ≡ old)) ⊎ ((plans : List Plan) × IsSchedule it.text plans × AreAdded g old new number plans status out out' × (err' ≡ err)) →
+      IsNoSchedule it.text status out out' err err' ⊎ ((plans : List Plan) × (answers : List Answered) × IsSchedule it.text plans × AreTold plans answers status out out' × (err' ≡ err))
+  go (inl none) = inl none.0
+  go (inr added) = inr (added.0, added.2.answers, added.1, added.2.told, added.3)

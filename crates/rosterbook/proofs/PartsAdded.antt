@@ -1,0 +1,115 @@
+-- The parts of an import that were told so far, up to one more.
+use Rattle.std.proofs.Common.{◌≡◌, ◌<◌, ℕ, suc, ◌+◌, append-nil, List, [], ◌∷◌, ◌++◌, length, take, get_or, slice_get, refl, ap, sym, subst, ◌∙◌, arith, Option, Some, None, Ok, length-append, IsSomeAnd, MatchOption}
+use Rattle.std.proofs.lemmas.List.{append_assoc, length-map, take_all}
+use Rattle.std.proofs.lemmas.List.FromFn.{length-enumerate_from}
+use Rattle.std.proofs.lemmas.List.Sums.{fold-append}
+use Rattle.std.proofs.lemmas.Option.{get_or_from_slice_get}
+use Rattle.std.specs.Io.KnownBytes.{Appends}
+use Rattle.std.specs.List.{enumerate_from}
+use Rattle.sqlite_trees.specs.declared.store.Store.{Ghosts}
+use Rattle.duty.specs.Plans.{Plan}
+use Rattle.roster.specs.Folds.{Asked, Fold, Replies, import, next}
+use Rattle.roster.specs.State.{State}
+use Rattle.book.specs.Answered.{IsAnswered}
+use Rattle.book.specs.Kept.{IsAt, IsClean, Kept, result_of}
+use Rattle.book.specs.declared.answer.Answer.{Answer}
+use Rattle.book.proofs.Runs.{answer_in, fold_more, replies_more}
+use Rattle.rosterbook.specs.Asking.{Answered, AreAdded, part_line, part_lines, status_of_all, status_with}
+use Rattle.rosterbook.specs.Streams.{Held}
+use Rattle.rosterbook.specs.declared.status.Status.{Status}
+use Rattle.rosterbook.specs.declared.status.Status.TheVariants.{Done}
+use Rattle.rosterbook.proofs.RefusalLemmas.{appends_nothing}
+
+-- ---- What was written
+
+appends_both : (held held' held'' : Held) (xs ys : List ℕ) → Appends held held' xs → Appends held' held'' ys → Appends held held'' (xs ++ ys)
+appends_both None held' held'' xs ys first second = tt
+appends_both (Some a) None held'' xs ys first second = absurd first
+appends_both (Some a) (Some b) None xs ys first second = absurd second
+appends_both (Some a) (Some b) (Some c) xs ys first second = second ∙ ap (λ t. t ++ ys) first ∙ append_assoc a xs ys
+
+lines_more : (part : ℕ) (answers : List Answered) (answer : Answered) → part_lines part (answers ++ answer ∷ []) ≡ part_lines part answers ++ part_line (part + length answers) answer
+lines_more part [] answer =
+    let same : part ≡ part + 0 = omega arith in
+    append-nil (part_line part answer) ∙ ap (λ n. part_line n answer) same
+lines_more part (x ∷ answers) answer =
+    let same : part + 1 + length answers ≡ part + suc (length answers) = omega arith in
+    ap (λ t. part_line part x ++ t) (lines_more (part + 1) answers answer)
+    ∙ sym (append_assoc (part_line part x) (part_lines (part + 1) answers) (part_line (part + 1 + length answers) answer))
+    ∙ ap (λ n. part_line part x ++ part_lines (part + 1) answers ++ part_line n answer) same
+
+-- ---- The list that an import is
+
+pub length-import : (number : ℕ) (plans : List Plan) → length (import number plans) ≡ length plans
+length-import number plans = length-map (enumerate_from 1 plans) _ ∙ length-enumerate_from 1 plans
+
+length-replies : (s : State) (l : List Asked) → length (Replies s l) ≡ length l
+length-replies s [] = refl
+length-replies s (a ∷ l) = ap suc (length-replies (next s a) l)
+
+-- what is said of the command at a place, where there is an answer
+pub asked_at : {A B : Type 0} (o : Option A) (result : Option B) (Q : A → B → Type 0) (answer : B) → result ≡ Some answer → MatchOption o (result ≡ None) (λ a. IsSomeAnd result (Q a)) → (a : A) × (o ≡ Some a) × Q a answer
+asked_at None result Q answer is none = absurd (cc)
+asked_at (Some a) result Q answer is said = (a, refl, rw is at said)
+
+-- ---- The parts so far
+
+-- so many of them were asked, and told their answers
+pub record AreSoFar {S : Type 0} (g : Ghosts S) (old now : Kept S) (asked : List Asked) (count : ℕ) (status : Status) (out out' : Held) : Type 0 where
+  pub answers : List Answered
+  pub each : length answers ≡ count
+  pub printed : Appends out out' (part_lines 1 answers)
+  pub ends : status ≡ status_of_all answers
+  pub clean : IsClean g now → IsClean g old
+  pub answered : (s : State) → IsAt g old s → IsClean g now → answers ≡ take count (Replies s asked)
+  pub left : (s : State) → IsAt g old s → IsAt g now (Fold s (take count asked))
+
+pub none_yet : {S : Type 0} (g : Ghosts S) (book : Kept S) (asked : List Asked) (out : Held) → AreSoFar g book book asked 0 Done out out
+none_yet g book asked out = record {
+  answers = [];
+  each = refl;
+  printed = appends_nothing out;
+  ends = refl;
+  clean = λ clean. clean;
+  answered = λ s at clean. refl;
+  left = λ s at. at;
+}
+
+module _ {S : Type 0} (g : Ghosts S) (old now new : Kept S) (asked : List Asked) (count : ℕ) (status : Status) (out out' out'' : Held) where
+  pub one_more : (a : Asked) (answer : Answer) → count < length asked → slice_get asked count ≡ Some a →
+      AreSoFar g old now asked count status out out' → IsAnswered g now new a (Ok answer) →
+      Appends out' out'' (part_line (count + 1) (result_of answer)) →
+      AreSoFar g old new asked (count + 1) (status_with status (result_of answer)) out out''
+  one_more a answer within at_count was answered told =
+      let is_a : get_or asked count a ≡ a = get_or_from_slice_get asked count a a at_count in
+      let one_past : count + 1 ≡ 1 + length was.answers = omega (arith, was.each) in
+      let line : part_line (count + 1) (result_of answer) ≡ part_line (1 + length was.answers) (result_of answer) = ap (λ n. part_line n (result_of answer)) one_past in
+      record {
+        answers = was.answers ++ result_of answer ∷ [];
+        each = length-append was.answers _ ∙ ap (λ n. n + 1) was.each;
+        printed = subst (Appends out out'') (ap (λ t. part_lines 1 was.answers ++ t) line ∙ sym (lines_more 1 was.answers (result_of answer))) (appends_both out out' out'' _ _ was.printed told);
+        ends = ap (λ s. status_with s (result_of answer)) was.ends ∙ sym (fold-append status_with Done was.answers (result_of answer ∷ []));
+        clean = λ clean. was.clean (answered.clean clean);
+        answered = λ s at clean.
+            let so_far = Fold s (take count asked) in
+            let reply : result_of answer ≡ answer_in so_far a = answered.reply so_far (was.left s at) clean in
+            let more : take (count + 1) (Replies s asked) ≡ take count (Replies s asked) ++ answer_in so_far a ∷ [] = rw is_a at (replies_more s asked count a within) in
+            ap (λ t. t ++ result_of answer ∷ []) (was.answered s at (answered.clean clean)) ∙ ap (λ r. take count (Replies s asked) ++ r ∷ []) reply ∙ sym more;
+        left = λ s at.
+            let so_far = Fold s (take count asked) in
+            let more : Fold s (take (count + 1) asked) ≡ next so_far a = rw is_a at (fold_more s asked count a within) in
+            rw more (answered.answered so_far (was.left s at));
+      }
+
+pub all_added : {S : Type 0} (g : Ghosts S) (old new : Kept S) (number : ℕ) (plans : List Plan) (status : Status) (out out' : Held) →
+    AreSoFar g old new (import number plans) (length plans) status out out' → AreAdded g old new number plans status out out'
+all_added g old new number plans status out out' all =
+    let l = import number plans in
+    let none_left : take (length plans) l ≡ l = rw (sym (length-import number plans)) (take_all (length l) l (omega arith)) in
+    let none_unsaid : (s : State) → take (length plans) (Replies s l) ≡ Replies s l = λ s. take_all (length plans) (Replies s l) (omega (arith, length-replies s l, length-import number plans)) in
+    record {
+      answers = all.answers;
+      told = record { each = all.each; printed = all.printed; ends = all.ends };
+      answered = λ s at clean. all.answered s at clean ∙ none_unsaid s;
+      left = λ s at. rw none_left at (all.left s at);
+    }

@@ -1,0 +1,126 @@
+-- What `do` and `import` make of what a reader has, and of a book.
+use Rattle.std.specs.Prelude.{◌≡◌, ◌⊎◌, ⊤, ℕ, ◌+◌, List, [], ◌∷◌, ◌++◌, length, codes, Result, Ok, Err}
+use Rattle.std.specs.Fmt.{decimal}
+use Rattle.std.specs.List.{fold}
+use Rattle.std.specs.Io.KnownBytes.{Appends}
+use Rattle.sqlite_trees.specs.declared.store.Store.{Ghosts}
+use Rattle.duty.specs.Plans.{Plan}
+use Rattle.command.specs.Texts.{refusal_text}
+use Rattle.command.specs.declared.exceedance.Reply.{Reply}
+use Rattle.command.specs.declared.order.Order.{Order}
+use Rattle.command.specs.declared.refusal.Refusal.{Refusal}
+use Rattle.schedule.specs.Schedule.{IsAtFault, IsSchedule}
+use Rattle.roster.specs.Folds.{Asked, Fold, Replies, import, next}
+use Rattle.roster.specs.State.{State}
+use Rattle.codec.specs.CommandJson.{read_request}
+use Rattle.codec.specs.RefusalText as json
+use Rattle.codec.specs.ReplyText.{reply_text}
+use Rattle.codec.specs.declared.fault.CodecFault.{CodecFault}
+use Rattle.book.specs.Kept.{IsAt, IsClean, Kept}
+use Rattle.rosterbook.specs.Streams.{Held, Prints, Reads, line_end, refused}
+use Rattle.rosterbook.specs.declared.status.Status.{Status}
+use Rattle.rosterbook.specs.declared.status.Status.TheVariants.{Done, Refused}
+
+-- what the book answers a command, or a part of an import
+abbrev pub Answered : Type 0
+Answered = Result Reply Refusal
+
+abbrev pub status_of : Answered → Status
+status_of (Ok reply) = Done
+status_of (Err refusal) = Refused
+
+-- ---- `do`
+
+-- a request as `codec` reads it
+abbrev pub Request : Type 0
+Request = Result (ℕ × Order) CodecFault
+
+abbrev pub answer_json : Answered → List ℕ
+answer_json (Ok reply) = reply_text reply
+answer_json (Err refusal) = json.refusal_text refusal
+
+-- one that is not read is told so, and another its answer
+abbrev pub told_json : Request → Answered → Status × List ℕ
+told_json (Ok asked) answer = (status_of answer, answer_json answer)
+told_json (Err fault) answer = (Refused, json.fault_reply fault)
+
+-- a request was read, and told what it was answered
+pub record IsTold (held out out' : Held) (status : Status) (input : List ℕ) (answer : Answered) : Type 0 where
+  pub read : Reads held input
+  pub printed : Prints (told_json (read_request input) answer) status out out'
+
+-- the command of a request, under part 0 of its number
+abbrev pub asked_as : ℕ × Order → Asked
+asked_as (number, order) = (record { number = number; part = 0 }, order)
+
+-- the book's answer in a state
+abbrev pub Answers : State → Request → Answered → Type 0
+Answers s (Ok asked) answer = answer ∷ [] ≡ Replies s (asked_as asked ∷ [])
+Answers s (Err fault) answer = ⊤
+
+abbrev pub left_by : State → Request → State
+left_by s (Ok asked) = next s (asked_as asked)
+left_by s (Err fault) = s
+
+-- the answer was the book's, where its state is known
+pub record IsAsked {S : Type 0} (g : Ghosts S) (old new : Kept S) (held out out' : Held) (status : Status) : Type 0 where
+  pub input : List ℕ
+  pub answer : Answered
+  pub told : IsTold held out out' status input answer
+  pub answered : (s : State) → IsAt g old s → IsClean g new → Answers s (read_request input) answer
+  pub left : (s : State) → IsAt g old s → IsAt g new (left_by s (read_request input))
+
+-- ---- `import`
+
+-- the line of a part
+abbrev pub part_line : ℕ → Answered → List ℕ
+part_line part (Ok reply) = decimal part ++ codes " accepted" ++ line_end
+part_line part (Err refusal) = decimal part ++ codes " refused " ++ refusal_text refusal ++ line_end
+
+-- the lines of parts, from this one on
+abbrev pub part_lines : ℕ → List Answered → List ℕ
+part_lines part [] = []
+part_lines part (answer ∷ answers) = part_line part answer ++ part_lines (part + 1) answers
+
+-- refused if any part was
+abbrev pub status_with : Status → Answered → Status
+status_with status (Ok reply) = status
+status_with status (Err refusal) = Refused
+
+abbrev pub status_of_all : List Answered → Status
+status_of_all answers = fold status_with Done answers
+
+-- each of these pairings was told what it was answered
+pub record AreTold (plans : List Plan) (answers : List Answered) (status : Status) (out out' : Held) : Type 0 where
+  pub each : length answers ≡ length plans
+  pub printed : Appends out out' (part_lines 1 answers)
+  pub ends : status ≡ status_of_all answers
+
+-- the answers were the book's, where its state is known
+pub record AreAdded {S : Type 0} (g : Ghosts S) (old new : Kept S) (number : ℕ) (plans : List Plan) (status : Status) (out out' : Held) : Type 0 where
+  pub answers : List Answered
+  pub told : AreTold plans answers status out out'
+  pub answered : (s : State) → IsAt g old s → IsClean g new → answers ≡ Replies s (import number plans)
+  pub left : (s : State) → IsAt g old s → IsAt g new (Fold s (import number plans))
+
+-- the text is no schedule, which was told with the record at fault
+pub record IsNoSchedule (text : List ℕ) (status : Status) (out out' err err' : Held) : Type 0 where
+  pub line : ℕ
+  pub at_fault : IsAtFault text line
+  pub ends : status ≡ Refused
+  pub prints : out' ≡ out
+  pub complains : Appends err err' (refused (codes "30 BadCsv " ++ decimal line))
+
+-- a schedule was read, and its pairings were told their answers; or it was none
+pub record IsImportTold (held out out' err err' : Held) (status : Status) : Type 0 where
+  pub text : List ℕ
+  pub read : Reads held text
+  pub told : IsNoSchedule text status out out' err err'
+      ⊎ ((plans : List Plan) × (answers : List Answered) × IsSchedule text plans × AreTold plans answers status out out' × (err' ≡ err))
+
+-- the same of a book
+pub record IsImported {S : Type 0} (g : Ghosts S) (old new : Kept S) (number : ℕ) (held out out' err err' : Held) (status : Status) : Type 0 where
+  pub text : List ℕ
+  pub read : Reads held text
+  pub done : (IsNoSchedule text status out out' err err' × (new ≡ old))
+      ⊎ ((plans : List Plan) × IsSchedule text plans × AreAdded g old new number plans status out out' × (err' ≡ err))

@@ -1,0 +1,24 @@
+-- What the program reads and writes, where it is known.
+use Rattle.std.specs.Prelude.{◌≡◌, ⊤, ℕ, List, [], ◌∷◌, ◌++◌, take, codes, Option, Some, None}
+use Rattle.std.specs.Io.KnownBytes.{Appends}
+use Rattle.rosterbook.specs.declared.status.Status.{Status}
+
+-- the bytes that a writer holds, or that a reader has, where they are known
+abbrev pub Held : Type 0
+Held = Option (List ℕ)
+
+-- what is read of the bytes that a reader has: at most one more than a request or a schedule may have
+abbrev pub Reads : Held → List ℕ → Type 0
+Reads None input = ⊤
+Reads (Some bytes) input = input ≡ take 1_048_577 bytes
+
+abbrev pub line_end : List ℕ
+line_end = 10 ∷ []
+
+-- the line of a refusal
+abbrev pub refused : List ℕ → List ℕ
+refused fault = codes "refused " ++ fault ++ line_end
+
+-- a line was written, and the program ends so
+abbrev pub Prints : Status × List ℕ → Status → Held → Held → Type 0
+Prints told status out out' = (status ≡ told.0) × Appends out out' (told.1 ++ line_end)

@@ -1,0 +1,97 @@
+//! `rosterbook do`.
+ghost use Rattle.std.specs.Prelude.{◌≡◌, ℕ, List, IfOk, string_bytes};
+ghost use Rattle.roster.specs.State.{State};
+ghost use Rattle.book.specs.Kept.{IsAt, IsClean, result_of};
+ghost use Rattle.codec.specs.CommandJson.{read_request};
+ghost use Rattle.rosterbook.specs.Asking as spec;
+
+use crate::lines::{read_input, write_line};
+use crate::status::Status;
+use crate::stop::Stop;
+use book::{Answer, Book, BookFault, FileBook};
+use codec::{CodecFault, command_of_json, fault_to_json, refusal_to_json, reply_to_json};
+use command::Key;
+use sqlite::Alter;
+use std::alloc::Global;
+use std::io::{Read, Write};
+use values::MemoryFault;
+
+/// A line in JSON, and how the program ends after it.
+#[derive(Drop)]
+pub(crate) struct Told {
+    line: String,
+    status: Status,
+}
+
+/// Answers `rosterbook do`: opens the book, and then reads a command and asks it.
+pub(crate) fn answer_do<R: Read, O: Write>(
+    rt: &HostRuntime,
+    file: &str,
+    reader: &mut R,
+    out: &mut O,
+) -> Result<Status, Stop>
+    ensures { IfOk result (λ status. (input : List ℕ) × (answer : spec.Answered) × spec.IsTold (R.remaining reader.old) (O.contents out.old) (O.contents out.new) status input answer) }
+{
+    let mut book = FileBook::open(rt, file)?;
+    let done = ask_json(rt.alloc(), &mut book, reader, out);
+    book.close();
+    done
+}
+
+/// Asks a book the command that a reader gives in JSON, and writes the line of its answer, or why it isn't read. Where the
+/// answer finds no memory (91) or isn't written (92), the command may be kept; asked again under its number, it is answered
+/// as it was.
+pub fn ask_json<S: Alter, R: Read, O: Write>(
+    alloc: Global,
+    book: &mut Book<S>,
+    reader: &mut R,
+    out: &mut O,
+) -> Result<Status, Stop>
+    ensures { IfOk result (λ status. spec.IsAsked S.Store book.old book.new (R.remaining reader.old) (O.contents out.old) (O.contents out.new) status) }
+{
+    let body = read_input(alloc, reader)?;
+    let told = ask_body(alloc, book, &body)?;
+    write_line(out, &told.line)?;
+    Ok(told.status)
+}
+
+/// What a book answers the body of a request.
+fn ask_body<S: Alter>(alloc: Global, book: &mut Book<S>, body: &[u8]) -> Result<Told, BookFault>
+    ensures { IfOk result (λ told. (answer : spec.Answered)
+        × ((told.status, string_bytes told.line) ≡ spec.told_json (read_request body.now) answer)
+        × ((s : State) → IsAt S.Store book.old s → IsClean S.Store book.new → spec.Answers s (read_request body.now) answer)
+        × ((s : State) → IsAt S.Store book.old s → IsAt S.Store book.new (spec.left_by s (read_request body.now)))) }
+{
+    match command_of_json(alloc, body) {
+        Ok((number, command)) => {
+            let answer = book.ask(alloc, Key::new(number, 0), &command)?;
+            Ok(line_of(alloc, &answer)?)
+        }
+        Err(CodecFault::Memory) => Err(BookFault::Memory),
+        Err(fault) => Ok(refused(fault_to_json(alloc, fault)?)),
+    }
+}
+
+/// What a book's answer is told as.
+fn line_of(alloc: Global, answer: &Answer) -> Result<Told, MemoryFault>
+    ensures status { IfOk result (λ told. told.status ≡ spec.status_of (result_of answer.now)) }
+    ensures line { IfOk result (λ told. string_bytes told.line ≡ spec.answer_json (result_of answer.now)) }
+{
+    match answer {
+        Answer::Accepted(reply) => Ok(Told {
+            line: reply_to_json(alloc, reply)?,
+            status: Status::Done,
+        }),
+        Answer::Refused(refusal) => Ok(refused(refusal_to_json(alloc, refusal)?)),
+    }
+}
+
+fn refused(line: String) -> Told
+    ensures status { result.status ≡ Status.Refused }
+    ensures line { result.line ≡ line }
+{
+    Told {
+        line,
+        status: Status::Refused,
+    }
+}

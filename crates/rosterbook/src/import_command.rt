@@ -1,0 +1,102 @@
+//! `rosterbook import`.
+ghost use Rattle.std.specs.Prelude.{◌≡◌, ◌≤◌, IfOk, OnOk, length};
+ghost use Rattle.std.specs.Io.KnownBytes.{Appends};
+ghost use Rattle.book.specs.Kept.{result_of};
+ghost use Rattle.rosterbook.specs.Asking as spec;
+
+use crate::lines::{read_input, refuse};
+use crate::status::Status;
+use crate::stop::Stop;
+use book::{Answer, Book, BookFault, FileBook, Import};
+use codec::{CodecFault, RequestNumber, schedule_of_csv};
+use duty::Pairing;
+use sqlite::Alter;
+use std::alloc::Global;
+use std::io;
+use std::io::{Read, Write};
+
+/// Answers `rosterbook import`: opens the book, and then reads a schedule and adds its pairings.
+pub(crate) fn answer_import<R: Read, O: Write, E: Write>(
+    rt: &HostRuntime,
+    file: &str,
+    number: RequestNumber,
+    reader: &mut R,
+    out: &mut O,
+    err: &mut E,
+) -> Result<Status, Stop>
+    ensures { IfOk result (spec.IsImportTold (R.remaining reader.old) (O.contents out.old) (O.contents out.new) (E.contents err.old) (E.contents err.new)) }
+{
+    let mut book = FileBook::open(rt, file)?;
+    let done = import_csv(rt.alloc(), &mut book, number, reader, out, err);
+    book.close();
+    done
+}
+
+/// Adds the pairings of the schedule that a reader gives in CSV to a book, under the parts of a number, and writes a line for
+/// each as it is answered. What stops it leaves the parts that were answered.
+pub fn import_csv<S: Alter, R: Read, O: Write, E: Write>(
+    alloc: Global,
+    book: &mut Book<S>,
+    number: RequestNumber,
+    reader: &mut R,
+    out: &mut O,
+    err: &mut E,
+) -> Result<Status, Stop>
+    ensures { IfOk result (spec.IsImported S.Store book.old book.new number (R.remaining reader.old) (O.contents out.old) (O.contents out.new) (E.contents err.old) (E.contents err.new)) }
+{
+    let text = read_input(alloc, reader)?;
+    match schedule_of_csv(alloc, &text) {
+        Ok(pairings) => add_all(alloc, book, number, pairings, out),
+        Err(CodecFault::Memory) => Err(Stop::Book(BookFault::Memory)),
+        Err(fault) => {
+            refuse(err, &fault)?;
+            Ok(Status::Refused)
+        }
+    }
+}
+
+/// Adds pairings to a book.
+fn add_all<S: Alter, O: Write>(
+    alloc: Global,
+    book: &mut Book<S>,
+    number: RequestNumber,
+    pairings: Vec<Pairing>,
+    out: &mut O,
+) -> Result<Status, Stop>
+    requires { length pairings.items ≤ 10_000 }
+    ensures { IfOk result (λ status. spec.AreAdded S.Store book.old book.new number pairings.items status (O.contents out.old) (O.contents out.new)) }
+{
+    let parts = pairings.len();
+    let mut import = Book::<S>::import(number.get(), pairings);
+    let mut status = Status::Done;
+    for index in 0..parts {
+        let Some(answer) = import.next(alloc, book) else {
+            break;
+        };
+        let answer = answer?;
+        tell_part(out, index + 1, &answer)?;
+        status = status_with(status, &answer);
+    }
+    Ok(status)
+}
+
+/// Writes the line of a part at once.
+fn tell_part<O: Write>(out: &mut O, part: usize, answer: &Answer) -> io::Result<()>
+    ensures { OnOk result (Appends (O.contents out.old) (O.contents out.new) (spec.part_line part (result_of answer.now))) }
+{
+    match answer {
+        Answer::Accepted(_) => writeln!(out, "{part} accepted")?,
+        Answer::Refused(refusal) => writeln!(out, "{part} refused {refusal}")?,
+    }
+    out.flush()
+}
+
+/// How the program ends after a part more: as refused after any that is refused.
+fn status_with(status: Status, answer: &Answer) -> Status
+    ensures { result ≡ spec.status_with status (result_of answer.now) }
+{
+    match answer {
+        Answer::Accepted(_) => status,
+        Answer::Refused(_) => Status::Refused,
+    }
+}

@@ -1,0 +1,76 @@
+use book::{BookFault, LoadFault};
+use std::error::Error;
+use std::{fmt, io};
+use values::MemoryFault;
+
+/// Why the program stops before its end. It is printed as the program prints a refusal: its number, its name, and the table
+/// where there is one.
+#[derive(Clone, Copy, Debug, PartialEq, Eq)]
+pub enum Stop {
+    /// The book is not taken up.
+    Load(LoadFault),
+    /// The store or memory fails.
+    Book(BookFault),
+    /// A reader or a writer fails.
+    Channel,
+}
+
+impl fmt::Display for Stop {
+    ghost use Rattle.std.specs.Prelude.{Some};
+    ghost use Rattle.rosterbook.specs.FaultText.{stop_text};
+
+    ghost output = { λ stop. Some (stop_text stop) };
+
+    fn fmt<W: fmt::Write>(&self, f: &mut fmt::Formatter<W>) -> fmt::Result {
+        match self {
+            Stop::Load(fault) => write!(f, "{fault}"),
+            Stop::Book(fault) => write!(f, "{fault}"),
+            Stop::Channel => f.write_str("92 Channel"),
+        }
+    }
+}
+
+impl Error for Stop {}
+
+impl From<LoadFault> for Stop {
+    ghost use Rattle.std.specs.Prelude.{◌≡◌};
+    ghost use Rattle.rosterbook.specs.declared.stop.Stop.TheVariants.{Load};
+
+    ghost from_gives = { λ fault stop. stop ≡ Load fault };
+
+    fn from(fault: LoadFault) -> Stop {
+        Stop::Load(fault)
+    }
+}
+
+impl From<BookFault> for Stop {
+    ghost use Rattle.std.specs.Prelude.{◌≡◌};
+    ghost use Rattle.rosterbook.specs.declared.stop.Stop.TheVariants.{Book};
+
+    ghost from_gives = { λ fault stop. stop ≡ Book fault };
+
+    fn from(fault: BookFault) -> Stop {
+        Stop::Book(fault)
+    }
+}
+
+impl From<MemoryFault> for Stop {
+    ghost use Rattle.std.specs.Prelude.{◌≡◌};
+    ghost use Rattle.loading.specs.declared.fault.StoreFault.TheVariants.{Memory};
+    ghost use Rattle.rosterbook.specs.declared.stop.Stop.TheVariants.{Book};
+
+    ghost from_gives = { λ _ stop. stop ≡ Book Memory };
+
+    fn from(_fault: MemoryFault) -> Stop {
+        Stop::Book(BookFault::Memory)
+    }
+}
+
+impl From<io::Error> for Stop {
+    fn from(error: io::Error) -> Stop {
+        match error.kind() {
+            io::ErrorKind::OutOfMemory => Stop::Book(BookFault::Memory),
+            _ => Stop::Channel,
+        }
+    }
+}
