@@ -4,8 +4,8 @@
 # statements, in as many transactions, on a copy of the same file. Each commit is on the disk before the next begins.
 set -eu
 top=$(cd "$(dirname "$(readlink -f "${BASH_SOURCE[0]}")")/.." && pwd)
-(cd "$top/crates/load_bench" && rt run >/dev/null 2>&1)
-(cd "$top/crates/book_bench" && rt run >/dev/null 2>&1)
+(cd "$top/crates/bench" && rt run >/dev/null 2>&1)
+bench=$top/crates/bench/out/bench
 room=$(mktemp -d)
 trap 'rm -rf "$room"' EXIT
 asks=${1:-1000}
@@ -18,13 +18,13 @@ timed() {
     echo
 }
 
-"$top/crates/load_bench/out/load_bench" "$room/book" 10000 50000 0 >/dev/null
+"$bench" load "$room/book" 10000 50000 0 >/dev/null
 sqlite3 "$room/book" 'PRAGMA wal_checkpoint(TRUNCATE)' >/dev/null
 printf '%-28s %s bytes\n' 'the file' "$(stat -c %s "$room/book")"
 for words in "members 0" "members $asks" "seats $asks"; do
     cp "$room/book" "$room/asked"
     # shellcheck disable=SC2086
-    timed "$words" "$top/crates/book_bench/out/book_bench" "$room/asked" $words
+    timed "$words" "$bench" book "$room/asked" $words
     rm -f "$room/asked"*
 done
 

@@ -13,7 +13,7 @@ fi
 
 passed=0
 failed=0
-program=crates/book_bench/out/book_bench
+program=crates/bench/out/bench
 room=$(mktemp -d) || exit 2
 trap 'rm -rf "$room"' EXIT
 file=$room/crew.book
@@ -29,14 +29,14 @@ case_of() {
     fi
 }
 
-# Whether a source is newer than the program that asks a book.
+# Whether a source is newer than the program.
 is_stale() {
-    [ ! -x "$program" ] || [ -n "$(find crates.txt crates/{values,time117,duty,limits,command,roster,codec,tables,loading,store,book,samples,book_bench} \
+    [ ! -x "$program" ] || [ -n "$(find crates.txt crates/{values,time117,duty,limits,schedule,command,roster,codec,tables,loading,store,book,samples,clerk,bench} \
         -name out -prune -o -type f \( -name '*.rt' -o -name '*.antt' -o -name crates.txt \) -newer "$program" -print -quit)" ]
 }
 
 if is_stale; then
-    (cd crates/book_bench && rt run && touch out/book_bench) >"$room/log" 2>&1 || tail -n 20 "$room/log" >&2
+    (cd crates/bench && rt run && touch out/bench) >"$room/log" 2>&1 || tail -n 20 "$room/log" >&2
 fi
 
 # What the program answers on either channel, and its exit status.
@@ -68,14 +68,14 @@ all_rows() {
 
 case_of made $'ready\nstatus 0' "$(said ./rosterbook init "$file" "$zone")"
 case_of "made again" $'refused 43 NotEmpty\nstatus 3' "$(said ./rosterbook init "$file" "$zone")"
-case_of asked $'2 asked, 2 accepted\nstatus 0' "$(said "$program" "$file" members 2)"
+case_of asked $'2 asked, 2 accepted\nstatus 0' "$(said "$program" book "$file" members 2)"
 case_of "rows that are kept" "$rows" "$(all_rows)"
-case_of "asked again" $'2 asked, 2 accepted\nstatus 0' "$(said "$program" "$file" members 2)"
+case_of "asked again" $'2 asked, 2 accepted\nstatus 0' "$(said "$program" book "$file" members 2)"
 case_of "rows that are kept once" "$rows" "$(all_rows)"
 case_of whole ok "$(sqlite3 "$file" 'VACUUM; PRAGMA integrity_check' 2>&1)"
-case_of "asked after a VACUUM" $'2 asked, 2 accepted\nstatus 0' "$(said "$program" "$file" members 2)"
+case_of "asked after a VACUUM" $'2 asked, 2 accepted\nstatus 0' "$(said "$program" book "$file" members 2)"
 case_of "rows after a VACUUM" "$rows" "$(all_rows)"
-case_of "a file that is not there" "Error: 40 NotABook" "$("$program" "$room/none" members 2 2>&1)"
+case_of "a file that is not there" "Error: 40 NotABook" "$("$program" book "$room/none" members 2 2>&1)"
 case_of "and is not made" "" "$(ls "$room/none" 2>/dev/null)"
 for kib in 0 4 80; do
     case_of "made on a disk of $kib KiB" $'refused 90 Store\nstatus 3' "$(made_within "$kib" "$room/full$kib")"

@@ -1,5 +1,5 @@
 #!/usr/bin/env bash
-# Has the program `tables_bench` write a small book to a file, and reads each of its tables with the stock shell `sqlite3`. Says on
+# Has the program `bench` write a small book to a file, and reads each of its tables with the stock shell `sqlite3`. Says on
 # standard error what differs; the last line of standard output is the number of cases that passed, and of those that failed.
 # Where there is no `sqlite3`, nothing is tried.
 set -u
@@ -13,7 +13,7 @@ fi
 
 passed=0
 failed=0
-program=crates/tables_bench/out/tables_bench
+program=crates/bench/out/bench
 room=$(mktemp -d) || exit 2
 trap 'rm -rf "$room"' EXIT
 file=$room/sample.book
@@ -35,15 +35,15 @@ table() {
 
 # Whether a source is newer than the program.
 is_stale() {
-    [ ! -x "$program" ] || [ -n "$(find crates.txt crates/{values,tables,clerk,tables_bench} -name out -prune -o -type f \
-        \( -name '*.rt' -o -name '*.antt' -o -name crates.txt \) -newer "$program" -print -quit)" ]
+    [ ! -x "$program" ] || [ -n "$(find crates.txt crates/{values,time117,duty,limits,schedule,command,roster,codec,tables,loading,store,book,samples,clerk,bench} \
+        -name out -prune -o -type f \( -name '*.rt' -o -name '*.antt' -o -name crates.txt \) -newer "$program" -print -quit)" ]
 }
 
 if is_stale; then
-    (cd crates/tables_bench && rt run && touch out/tables_bench) >"$room/log" 2>&1 || tail -n 20 "$room/log" >&2
+    (cd crates/bench && rt run && touch out/bench) >"$room/log" 2>&1 || tail -n 20 "$room/log" >&2
 fi
 
-case_of written "wrote a book of nine tables" "$("$program" sample "$file" 2>&1)"
+case_of written "wrote a book of nine tables" "$("$program" tables sample "$file" 2>&1)"
 case_of whole ok "$(sqlite3 "$file" "PRAGMA integrity_check" 2>&1)"
 case_of tables "book crew pairing period segment seat ground exceedance request" \
     "$(sqlite3 -newline ' ' "$file" "SELECT name FROM sqlite_schema WHERE type = 'table' ORDER BY rowid" 2>&1 | sed 's/ $//')"
@@ -56,5 +56,5 @@ table seat $'P1|0|C1\nP1|1|F1'
 table ground "G1|C1|Simulator|720|780"
 table exceedance "9223372036854775807|0|C1|2|P1|1"
 table request '1|0|{"do":"cancel-ground","ground":"G1"}|{"exceedances":[],"result":"accepted"}'
-case_of "written twice" 1 "$("$program" sample "$file" >/dev/null 2>&1; echo $?)"
+case_of "written twice" 1 "$("$program" tables sample "$file" >/dev/null 2>&1; echo $?)"
 echo "$passed $failed"

@@ -1,18 +1,13 @@
-//! Loads a book of many pairings and requests, to be timed from outside (bench/load.sh). Its words: a file, or `memory`;
-//! how many pairings the book has, up to 100,000, and how many requests, up to 1,000,000, which are made where there is no
-//! book yet; and how many times it is loaded. `memory`, 1200, 6000 and 1 if left out.
-#![tactic(auto)]
+//! Loads a book of many pairings and requests (bench/load.sh). The words: a file, or `memory`; how many pairings the book
+//! has, up to 100,000, and how many requests, up to 1,000,000, which are made where there is no book yet; and how many times
+//! it is loaded. `memory`, 1200, 6000 and 1 if left out.
 
-mod book;
-
-use crate::book::{Counts, fill};
-use anyhow::{Context, Result, bail};
-use samples::EASTERN;
+use crate::long_book::{Counts, fill};
+use crate::shared::{eastern, number};
+use anyhow::{Result, bail};
 use sqlite::{Alter, Connection};
 use std::alloc::Global;
-use std::env;
 use store::Store;
-use time117::Zone;
 
 /// What a load found.
 #[derive(Clone, Copy)]
@@ -26,7 +21,7 @@ fn create<S: Alter + Drop>(alloc: Global, conn: Connection<S>) -> Result<(Connec
     if !conn.is_autocommit() {
         bail!("a transaction is open");
     }
-    let zone = Zone::read(alloc, EASTERN).ok().context("a zone")?;
+    let zone = eastern(alloc)?;
     match Store::create(alloc, conn, &zone) {
         Ok(store) => Ok((store.into_connection(), true)),
         Err((_fault, conn)) => Ok((conn, false)),
@@ -66,7 +61,7 @@ fn load_times<S: Alter + Drop>(
     Ok(last)
 }
 
-fn run<S: Alter + Drop>(
+fn make_and_load<S: Alter + Drop>(
     alloc: Global,
     conn: Connection<S>,
     counts: &Counts,
@@ -79,27 +74,18 @@ fn run<S: Alter + Drop>(
     load_times(alloc, conn, times)
 }
 
-/// The number that a word gives, or `default` where the word is left out.
-fn number(words: &[String], place: usize, default: u32) -> Result<u32> {
-    match words.get(place) {
-        Some(word) => word.as_str().parse::<u32>().context("a number"),
-        None => Ok(default),
-    }
-}
-
-fn main(rt: HostRuntime) -> Result<()> {
+pub(crate) fn run(rt: &HostRuntime, words: &[String]) -> Result<()> {
     let alloc = rt.alloc();
-    let words: Vec<String> = env::args(&rt)?.skip(1).collect(alloc)?;
     let counts = Counts {
-        pairings: number(&words, 1, 1_200)?.min(100_000),
-        requests: number(&words, 2, 6_000)?.min(1_000_000),
+        pairings: number(words, 1, 1_200)?.min(100_000),
+        requests: number(words, 2, 6_000)?.min(1_000_000),
     };
-    let times = number(&words, 3, 1)?;
+    let times = number(words, 3, 1)?;
     let found = match words.get(0) {
         Some(file) if file.as_str() != "memory" => {
-            run(alloc, Connection::open(&rt, file.as_str())?, &counts, times)?
+            make_and_load(alloc, Connection::open(rt, file.as_str())?, &counts, times)?
         }
-        _ => run(alloc, Connection::open_in_memory(alloc)?, &counts, times)?,
+        _ => make_and_load(alloc, Connection::open_in_memory(alloc)?, &counts, times)?,
     };
     let Counts { pairings, requests } = counts;
     println!(rt;

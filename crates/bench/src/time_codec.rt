@@ -1,14 +1,13 @@
-//! Writes and reads the kept text of a pairing of 10 periods of 12 segments each, to be timed from outside
-//! (bench/codec.sh). Its words: how many times it is written, at least once, and how many times read; 1 and 1 if left out.
-#![tactic(auto)]
+//! Writes and reads the kept text of a pairing of 10 periods of 12 segments each (bench/codec.sh). The words: how many times
+//! it is written, at least once, and how many times read; 1 and 1 if left out.
 
+use crate::shared::number;
 use anyhow::{Context, Result};
 use codec::{canonical, read_canonical};
 use command::{Command, Order};
 use duty::Pairing;
 use samples::{day_of_2025, fdp, pairing_id};
 use std::alloc::Global;
-use std::env;
 
 /// A period of twelve flights of half an hour.
 const TWELVE_FLIGHTS: &str =
@@ -68,19 +67,10 @@ fn time(alloc: Global, writes: u32, reads: u32) -> Result<(usize, u32)> {
     Ok((text.len(), read(alloc, text.as_str(), &command, reads)))
 }
 
-fn main(rt: HostRuntime) -> Result<()> {
-    let words: Vec<String> = env::args(&rt)?.skip(1).collect(rt.alloc())?;
-    let writes = number(&words, 0)?;
-    let reads = number(&words, 1)?;
+pub(crate) fn run(rt: &HostRuntime, words: &[String]) -> Result<()> {
+    let writes = number(words, 0, 1)?;
+    let reads = number(words, 1, 1)?;
     let (length, same) = time(rt.alloc(), writes, reads)?;
     println!(rt; "written {writes} times in {length} bytes, read {same} times of {reads}")?;
     Ok(())
-}
-
-/// The number that a word gives, or 1 where the word is left out.
-fn number(words: &[String], place: usize) -> Result<u32> {
-    match words.get(place) {
-        Some(word) => word.as_str().parse::<u32>().context("a number"),
-        None => Ok(1),
-    }
 }

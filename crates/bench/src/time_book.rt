@@ -1,17 +1,14 @@
-//! Asks a book, to be timed from outside (bench/book.sh) and to write a book that others read (tests/book.sh). Its words: the
-//! file of a book, or `memory` for a new one; what is asked, `members` for new members, or `seats` for captains who give
-//! their seats back and take them again, in a book that `load_bench` made; and how many times. `memory`, `members` and 3 if
-//! left out.
-#![tactic(auto)]
+//! Asks a book (bench/book.sh), also to write one that others read (tests/book.sh). The words: the file of a book, or `memory`
+//! for a new one; what is asked, `members` for new members, or `seats` for captains who give their seats back and take them
+//! again, in a book of `long_book`; and how many times. `memory`, `members` and 3 if left out.
 
+use crate::shared::{eastern, number};
 use anyhow::{Context, Result, bail};
 use book::{Answer, Book};
 use command::{Command, Key, Order, Seat};
-use samples::{EASTERN, Unmade, add_crew, assign, release};
+use samples::{Unmade, add_crew, assign, release};
 use sqlite::{Alter, Connection, MemStore};
 use std::alloc::Global;
-use std::env;
-use time117::Zone;
 
 /// Which command is asked.
 #[derive(Clone, Copy)]
@@ -20,7 +17,7 @@ enum Asked {
     Seats,
 }
 
-/// The number of the first request, above those of `load_bench`.
+/// The number of the first request, above those of `long_book`.
 const FIRST: u64 = 2_000_001;
 
 /// Whether a book accepts an order under a number.
@@ -46,7 +43,7 @@ fn member(alloc: Global, number: u32) -> Result<Order, Unmade> {
     add_crew(alloc, id.as_str(), seat, "Ada Ray")
 }
 
-/// The captain of a pairing of `load_bench` gives the seat back at an even number, and takes it again at the next.
+/// The captain of a pairing of `long_book` gives the seat back at an even number, and takes it again at the next.
 fn seat(alloc: Global, number: u32) -> Result<Order, Unmade> {
     let pairing = u64::from(number / 2);
     let id = format!(in alloc; "P{}", 1_000_000 + pairing)?;
@@ -78,7 +75,7 @@ fn ask<S: Alter>(alloc: Global, book: &mut Book<S>, asked: Asked, count: u32) ->
 
 /// An empty book in memory.
 fn in_memory(alloc: Global) -> Result<Book<MemStore>> {
-    let zone = Zone::read(alloc, EASTERN).ok().context("a zone")?;
+    let zone = eastern(alloc)?;
     let conn = Connection::open_in_memory(alloc)?;
     if !conn.is_autocommit() {
         bail!("a transaction is open");
@@ -106,20 +103,12 @@ fn asked_by(words: &[String]) -> Result<Asked> {
     }
 }
 
-fn count_by(words: &[String]) -> Result<u32> {
-    match words.get(2) {
-        Some(word) => word.as_str().parse::<u32>().context("a number"),
-        None => Ok(3),
-    }
-}
-
-fn main(rt: HostRuntime) -> Result<()> {
+pub(crate) fn run(rt: &HostRuntime, words: &[String]) -> Result<()> {
     let alloc = rt.alloc();
-    let words: Vec<String> = env::args(&rt)?.skip(1).collect(alloc)?;
-    let asked = asked_by(&words)?;
-    let count = count_by(&words)?;
+    let asked = asked_by(words)?;
+    let count = number(words, 2, 3)?;
     let accepted = match words.get(0) {
-        Some(file) if file.as_str() != "memory" => ask_file(&rt, file.as_str(), asked, count)?,
+        Some(file) if file.as_str() != "memory" => ask_file(rt, file.as_str(), asked, count)?,
         _ => ask(alloc, &mut in_memory(alloc)?, asked, count)?,
     };
     println!(rt; "{count} asked, {accepted} accepted")?;

@@ -1,24 +1,22 @@
-//! Reads a member's seats from a table of many, or the whole table, to be timed from outside (bench/tables.sh). Its
-//! words: a file, or `memory`; how many seats its table has, which are added where there is no table yet; how many
-//! times a member's seats are read; and how many times the whole table is. `memory`, 1200, 10 and 1 if left out.
+//! Reads a member's seats from a table of many, or the whole table (bench/tables.sh). The words: a file, or `memory`; how
+//! many seats its table has, which are added where there is no table yet; how many times a member's seats are read; and how
+//! many times the whole table is. `memory`, 1200, 10 and 1 if left out.
 //!
 //! By the words `sample` and a new file it writes a small book there, for `sqlite3` to read (tests/file.sh).
-#![tactic(auto)]
 
 ghost use Rattle.std.specs.Prelude.{OnOk};
 ghost use Rattle.sqlite.specs.Held.{state};
 ghost use Rattle.tables.specs.Calls.{HoldsTable};
 ghost use Rattle.tables.specs.Schema.{seat_table};
 
-use anyhow::{Context, Result};
-use clerk::clerk::Clerk;
+use crate::shared::number;
+use anyhow::Result;
 use clerk::creating::create;
 use clerk::looking::look;
 use clerk::records;
 use clerk::sample::write_sample;
 use sqlite::{Alter, Connection};
 use std::alloc::Global;
-use std::env;
 use tables::TableFault;
 use tables::book_schema::is_empty;
 use tables::seat::{SeatRecord, insert_seat, load_seats, seats_by_crew};
@@ -155,7 +153,7 @@ fn read_table<S: Alter>(
 }
 
 /// How many seats both kinds of reads find.
-fn run<S: Alter + Drop>(
+fn read<S: Alter + Drop>(
     alloc: Global,
     mut conn: Connection<S>,
     counts: &Counts,
@@ -171,9 +169,9 @@ fn run<S: Alter + Drop>(
 
 /// Writes a small book to a file.
 fn write_book(rt: &HostRuntime, path: &str) -> Result<()> {
-    let mut clerk = Clerk::new(rt.alloc(), Connection::open(rt, path)?);
-    write_sample(rt.alloc(), &mut clerk)?;
-    clerk.into_connection().close()?;
+    let mut conn = Connection::open(rt, path)?;
+    write_sample(rt.alloc(), &mut conn)?;
+    conn.close()?;
     println!(rt; "wrote a book of nine tables")?;
     Ok(())
 }
@@ -187,9 +185,9 @@ fn measure(rt: &HostRuntime, words: &[String]) -> Result<()> {
     };
     let (of_members, of_table) = match words.get(0) {
         Some(file) if file.as_str() != "memory" => {
-            run(alloc, Connection::open(rt, file.as_str())?, &counts)?
+            read(alloc, Connection::open(rt, file.as_str())?, &counts)?
         }
-        _ => run(alloc, Connection::open_in_memory(alloc)?, &counts)?,
+        _ => read(alloc, Connection::open_in_memory(alloc)?, &counts)?,
     };
     let Counts {
         seats,
@@ -202,18 +200,9 @@ fn measure(rt: &HostRuntime, words: &[String]) -> Result<()> {
     Ok(())
 }
 
-fn main(rt: HostRuntime) -> Result<()> {
-    let words: Vec<String> = env::args(&rt)?.skip(1).collect(rt.alloc())?;
-    match words.as_slice() {
-        [word, file] if word.as_str() == "sample" => write_book(&rt, file.as_str()),
-        words => measure(&rt, words),
-    }
-}
-
-/// The number that a word gives, or `default` where the word is left out.
-fn number(words: &[String], place: usize, default: u32) -> Result<u32> {
-    match words.get(place) {
-        Some(word) => word.as_str().parse::<u32>().context("a number"),
-        None => Ok(default),
+pub(crate) fn run(rt: &HostRuntime, words: &[String]) -> Result<()> {
+    match words {
+        [word, file] if word.as_str() == "sample" => write_book(rt, file.as_str()),
+        words => measure(rt, words),
     }
 }
