@@ -1,41 +1,54 @@
 #!/usr/bin/env bash
-# Times what a book of 10,000 pairings and 50,000 requests in a file is asked: opening it, new members, and captains who give
-# their seats back and take them again. Beside it the stock shell `sqlite3` makes the changes of the new members by the same
-# statements, in as many transactions, on a copy of the same file. Each commit is on the disk before the next begins.
+# Times the program over a book of 10,000 pairings and 50,000 requests (long_book.sql): opening it, a command, and a schedule of
+# 1,000 pairings, each a command that is on the disk before its line is printed; and the same schedule into an empty book. Beside
+# it the stock shell `sqlite3` makes the changes of the schedule in as many transactions, on a copy of the same file.
 set -eu
 top=$(cd "$(dirname "$(readlink -f "${BASH_SOURCE[0]}")")/.." && pwd)
-(cd "$top/crates/bench" && rt run >/dev/null 2>&1)
-bench=$top/crates/bench/out/bench
+"$top/rosterbook" --version >/dev/null
 room=$(mktemp -d)
 trap 'rm -rf "$room"' EXIT
-asks=${1:-1000}
+cd "$room"
+pairings=1000
+
+# schedule COUNT: so many pairings of one segment.
+schedule() {
+    echo pairing,period,report,release,flight,from,out,to,in
+    for ((n = 1; n <= $1; n++)); do
+        day=$(printf '20%02d-%02d-%02d' $((25 + n / 336 % 50)) $((1 + n / 28 % 12)) $((1 + n % 28)))
+        echo "Q$n,1,${day}T11:00Z,${day}T20:00Z,RB1,BOS,${day}T12:00Z,IAD,${day}T19:30Z"
+    done
+}
+
+# The changes of that schedule as SQL.
+changes() {
+    echo 'PRAGMA journal_mode = WAL; PRAGMA synchronous = FULL;'
+    for ((n = 1; n <= pairings; n++)); do
+        echo "BEGIN; INSERT INTO pairing (id) VALUES ('Q$n'); INSERT INTO period (pairing, number, report_at, release_at) VALUES ('Q$n', 1, $n, $((n + 540)));"
+        echo "INSERT INTO segment (pairing, period, number, flight, origin, destination, out_at, in_at) VALUES ('Q$n', 1, 1, 'RB1', 'BOS', 'IAD', $((n + 60)), $((n + 510)));"
+        echo "INSERT INTO request (number, part, command, reply) VALUES (900001, $n, '$(printf '{"do":"add-pairing","pairing":"Q%d","periods":[{"release":"2025-06-10T20:00Z","report":"2025-06-10T11:00Z","segments":[{"flight":"RB1","from":"BOS","in":"2025-06-10T19:30Z","out":"2025-06-10T12:00Z","to":"IAD"}]}]}' "$n")', '{\"exceedances\":[],\"result\":\"accepted\"}'); COMMIT;"
+    done
+}
 
 # timed WHAT COMMAND..: seconds and the most memory that was held.
 timed() {
-    printf '%-28s ' "$1"
+    printf '%-44s ' "$1"
     shift
-    /usr/bin/time -f '%e s, %M kB' "$@" 2>&1 | tr '\n' ' '
-    echo
+    { /usr/bin/time -f '%e s, %M kB' "$@" || true; } 2>&1 >/dev/null | tail -n 1
 }
 
-"$bench" load "$room/book" 10000 50000 0 >/dev/null
-sqlite3 "$room/book" 'PRAGMA wal_checkpoint(TRUNCATE)' >/dev/null
-printf '%-28s %s bytes\n' 'the file' "$(stat -c %s "$room/book")"
-for words in "members 0" "members $asks" "seats $asks"; do
-    cp "$room/book" "$room/asked"
-    # shellcheck disable=SC2086
-    timed "$words" "$bench" book "$room/asked" $words
-    rm -f "$room/asked"*
-done
-
-cp "$room/book" "$room/stock"
-{
-    echo 'PRAGMA journal_mode = WAL; PRAGMA synchronous = FULL;'
-    for ((n = 0; n < asks; n++)); do
-        id=N$((1000000 + n))
-        command="{\"crew\":\"$id\",\"do\":\"add-crew\",\"name\":\"Ada Ray\",\"seat\":\"captain\"}"
-        echo "BEGIN; INSERT INTO crew (id, seat, name) VALUES ('$id', 0, 'Ada Ray');"
-        echo "INSERT INTO request (number, part, command, reply) VALUES ($((2000001 + n)), 0, '$command', '{\"exceedances\":[],\"result\":\"accepted\"}'); COMMIT;"
-    done
-} >"$room/stock.sql"
-timed "sqlite3, members $asks" sqlite3 "$room/stock" ".read $room/stock.sql"
+schedule $pairings >more.csv
+schedule 13000 | head -c 1048570 >torn.csv
+changes >stock.sql
+"$top/rosterbook" init empty.db UTC0 >/dev/null
+"$top/rosterbook" init roster.db UTC0 >/dev/null
+sqlite3 roster.db <"$top/bench/long_book.sql"
+sqlite3 roster.db 'PRAGMA wal_checkpoint(TRUNCATE)' >/dev/null
+cp roster.db stock.db
+printf '%-44s %s bytes\n' "the file" "$(stat -c %s roster.db)"
+timed "a torn schedule of $(stat -c %s torn.csv) bytes" "$top/rosterbook" import empty.db 900001 <torn.csv
+timed "$pairings pairings into an empty book" "$top/rosterbook" import empty.db 900001 <more.csv
+timed "opening the long book, and a refusal" "$top/rosterbook" do roster.db <<<'{"number":900000,"do":"cancel-pairing","pairing":"Q1"}'
+timed "a new member" "$top/rosterbook" do roster.db <<<'{"number":900002,"do":"add-crew","crew":"C1","seat":"captain","name":"Ada Ray"}'
+timed "$pairings pairings into the long book" "$top/rosterbook" import roster.db 900001 <more.csv
+timed "the same again" "$top/rosterbook" import roster.db 900001 <more.csv
+timed "sqlite3, the same changes" sqlite3 stock.db '.read stock.sql'

@@ -1,0 +1,258 @@
+#!/usr/bin/env python3
+"""Tries wrong bodies, each of which the prover must refuse.
+
+    tests/edits.py [--more] [--jobs N] [CRATE..]
+
+An edit is a file crates/CRATE/edits/NAME.edit, or with --more crates/CRATE/more-edits/NAME.edit. Its lines are `in: FUNCTION`,
+the function that must be refused, as a check prints it below its crate; `file: PATH`, in the crate; and pairs of `old: TEXT`
+and `new: TEXT`, where the old text stands in the file exactly once. With no `in:` the whole crate is checked.
+
+A function is proved over the contracts of those that it calls, so edits of different functions are tried by one check of
+these functions, on a copy of the crate. The libraries below have to be built and newer than their sources, as `rt ci` leaves
+them in a fresh clone; else `rt lib` builds them. The last line is 'N passed, M failed', and the exit status 1 where M isn't 0.
+"""
+
+import argparse
+import os
+import re
+import shutil
+import subprocess
+import sys
+import tempfile
+from concurrent.futures import ThreadPoolExecutor
+from dataclasses import dataclass
+from pathlib import Path
+
+TOP = Path(__file__).resolve().parent.parent
+PARTS = ("src", "specs", "proofs")
+
+
+@dataclass(frozen=True)
+class Crate:
+    name: str
+    ours: tuple  # its libraries of this repository
+    kits: tuple  # its libraries of the kit
+
+    @property
+    def folder(self):
+        return TOP / "crates" / self.name
+
+    @property
+    def library(self):
+        return self.folder / "out" / "rlib" / f"{self.name}.rlib"
+
+    def below(self):
+        """The crates of this repository that it stands on, lowest first."""
+        found = []
+        for it in self.ours:
+            found += [low for low in (*it.below(), it) if low not in found]
+        return found
+
+    def is_built(self):
+        if not self.library.exists():
+            return False
+        made = newest(self.library)
+        return all(newest(it.folder / part) <= made for it in (*self.below(), self) for part in PARTS)
+
+
+@dataclass(frozen=True)
+class Edit:
+    file: Path
+    functions: tuple
+    changes: tuple  # of path, old text and new text
+
+    @property
+    def label(self):
+        return f"{self.file.parts[-3]}/{self.file.stem}"
+
+
+class BadEdit(Exception):
+    """Why an edit can't be tried."""
+
+
+def newest(path):
+    """When the path, or what is newest in it, was written."""
+    if path.is_file():
+        return path.stat().st_mtime
+    return max((it.stat().st_mtime for it in path.rglob("*") if it.is_file()), default=0)
+
+
+def crates():
+    """The crates of crates.txt, by name."""
+    lines = [line.split("#")[0].strip() for line in (TOP / "crates.txt").read_text().splitlines()]
+    listed = {name.strip(): libraries.split() for name, libraries in (line.split(":") for line in lines if line)}
+    made = {}
+
+    def make(name):
+        if name not in made:
+            ours = tuple(make(it) for it in listed[name] if it in listed)
+            made[name] = Crate(name, ours, tuple(it for it in listed[name] if it not in listed))
+        return made[name]
+
+    for name in listed:
+        make(name)
+    return made
+
+
+def read_edit(file):
+    functions, changes, path, old = [], [], None, None
+    for line in file.read_text().splitlines():
+        word, _, text = line.partition(": ")
+        if word == "in":
+            functions += text.split(", ")
+        elif word == "file":
+            path = text.strip()
+        elif word == "old":
+            old = text
+        elif word in ("new", "new:") and path and old:
+            changes.append((path, old, text))
+            old = None
+        elif line:
+            raise BadEdit(f"it has a line that is none of an edit: {line}")
+    if not changes:
+        raise BadEdit("it changes nothing")
+    return Edit(file, tuple(functions), tuple(changes))
+
+
+def apply(edit, folder):
+    """Makes the edit's changes in the copy of its crate."""
+    for path, old, new in edit.changes:
+        text = (folder / path).read_text()
+        if text.count(old) != 1:
+            raise BadEdit(f"an old text is in {path} {text.count(old)} times, and not once")
+        (folder / path).write_text(text.replace(old, new))
+
+
+def rounds(edits):
+    """The edits in as few rounds as have each function once; what changes several places, or names no function, is alone."""
+    found = []
+    for edit in edits:
+        is_alone = len(edit.changes) > 1 or len(edit.functions) != 1
+        for others in found if not is_alone else []:
+            if edit.functions[0] not in others["functions"]:
+                break
+        else:
+            others = {"edits": [], "functions": set(), "is_alone": is_alone}
+            if is_alone:
+                found.insert(0, others)
+            else:
+                found.append(others)
+        others["edits"].append(edit)
+        others["functions"].update(edit.functions)
+    return [it["edits"] for it in found]
+
+
+def words_of_check(kit, crate):
+    words = [kit / "bin" / "rattle", "check", "--crate-name", crate.name, "--jobs", "1"]
+    words += ["src/main.rt" if (crate.folder / "src" / "main.rt").exists() else "src/lib.rt"]
+    for name in ("std", *crate.kits):
+        words += ["--extern", f"{name}={kit}/rlibs/{name}.rlib"]
+    words += ["-L", f"dependency={kit}/rlibs"]
+    for it in crate.ours:
+        words += ["--extern", f"{it.name}={it.library}"]
+    for it in crate.below():
+        words += ["-L", f"dependency={it.library.parent}"]
+    return [*words, "--antt-project", f"{kit}/rattle/logic/antt-project.json", "--logic-built", f"{kit}/logic_built", "--links", f"{crate.name}="]
+
+
+def try_round(words, crate, edits, kept):
+    """Checks a copy of the crate with these edits, and returns what it said, or why they can't be tried."""
+    with tempfile.TemporaryDirectory(prefix="edits-") as room:
+        room = Path(room)
+        for part in PARTS:
+            if (crate.folder / part).is_dir():
+                shutil.copytree(crate.folder / part, room / part)
+        for edit in edits:
+            apply(edit, room)
+        only = [word for edit in edits for name in edit.functions for word in ("--only", name)]
+        ran = subprocess.run([*words, *only, "--incremental", kept], cwd=room, stdin=subprocess.DEVNULL, capture_output=True, text=True, errors="replace")
+        return ran.stdout + ran.stderr
+
+
+def refusal(said, crate, name):
+    """What the check said against the function's own proof, and not only against what it calls; empty where it said nothing."""
+    told = re.search(rf"^fn {crate.name}::{re.escape(name)}: (.*)$", said, re.M)
+    if not told or not told[1].startswith(("not proved", "no proof")):
+        return ""
+    unfound = re.search(r"`search` did not prove ([^;]*)", told[1])
+    if unfound:
+        return unfound[1]
+    folder = f"proofs/{name.replace('::', '/')}/"
+    error = re.search(rf"^(?:\./)?{re.escape(folder)}(\S+?):\d+:\d+: error: (`[^`]*`)", said, re.M)
+    return error[2] if error else ""
+
+
+def verdicts(words, crate, edits, kept):
+    """Tries edits of one round, and yields of each whether it was refused, and what there is to say."""
+    try:
+        said = try_round(words, crate, edits, kept)
+    except BadEdit as why:
+        said = f"error: {why}"
+    is_whole = not edits[0].functions
+    if not re.search(r"^logic=not-proved" if is_whole else r"^only=\d+ proved=\d+", said, re.M):
+        if len(edits) > 1:
+            for edit in edits:
+                yield from verdicts(words, crate, [edit], kept)
+            return
+        is_proved = is_whole and re.search(r"^logic=proved", said, re.M)
+        first = next((line for line in said.splitlines() if "error" in line), said.strip()[-300:])
+        yield edits[0], False, "NOT REFUSED" if is_proved else f"BAD EDIT: no proof was tried: {first}"
+        return
+    for edit in edits:
+        found = {name: refusal(said, crate, name) for name in edit.functions}
+        if is_whole or all(found.values()):
+            yield edit, True, f"refused: {'; '.join(found.values())}" if found else "refused"
+        elif len(edits) > 1:
+            yield from verdicts(words, crate, [edit], kept)
+        else:
+            unsaid = [name for name, why in found.items() if not why]
+            yield edit, False, f"NOT REFUSED: nothing was said against {', '.join(unsaid)}"
+
+
+def try_crate(kit, crate, folder):
+    """Tries the crate's edits, and returns the lines to print, each with whether it tells of a refusal."""
+    lines, edits = [], []
+    for file in sorted((crate.folder / folder).glob("*.edit")):
+        try:
+            edits.append(read_edit(file))
+        except BadEdit as why:
+            lines.append((False, f"{crate.name}/{file.stem}: BAD EDIT: {why}"))
+    words = words_of_check(kit, crate)
+    with tempfile.TemporaryDirectory(prefix="edits-kept-") as kept:
+        for those in rounds(edits):
+            lines += [(is_refused, f"{edit.label}: {text}") for edit, is_refused, text in verdicts(words, crate, those, kept)]
+    return lines
+
+
+def main():
+    asked = argparse.ArgumentParser(description=__doc__.split("\n")[0])
+    asked.add_argument("--more", action="store_true", help="try crates/CRATE/more-edits")
+    asked.add_argument("--jobs", type=int, default=len(os.sched_getaffinity(0)), help="how many crates to try at once")
+    asked.add_argument("crates", nargs="*", metavar="CRATE")
+    asked = asked.parse_args()
+    folder = "more-edits" if asked.more else "edits"
+    rt = shutil.which("rt") or sys.exit("tests/edits.py: put the command rt of the Rattle kit on the PATH")
+    kit = Path(rt).resolve().parent.parent
+    known = crates()
+    for name in asked.crates:
+        if name not in known or not (known[name].folder / folder).is_dir():
+            sys.exit(f"tests/edits.py: there is no folder crates/{name}/{folder}")
+    chosen = [it for it in known.values() if (it.folder / folder).is_dir() and (it.name in asked.crates or not asked.crates)]
+    for crate in dict.fromkeys(low for it in chosen for low in it.below()):
+        if not crate.is_built() and subprocess.run([rt, "lib"], cwd=crate.folder).returncode:
+            sys.exit(f"tests/edits.py: {crate.name} could not be built")
+
+    refused = failed = 0
+    # (those with most to prove first)
+    chosen.sort(key=lambda it: -sum(file.stat().st_size for file in it.folder.rglob("*.antt")))
+    with ThreadPoolExecutor(asked.jobs) as pool:
+        for lines in pool.map(lambda it: try_crate(kit, it, folder), chosen):
+            for is_refused, line in lines:
+                print(line, flush=True)
+                refused, failed = refused + is_refused, failed + (not is_refused)
+    print(f"{refused} passed, {failed} failed")
+    return 1 if failed else 0
+
+
+if __name__ == "__main__":
+    sys.exit(main())
