@@ -1,16 +1,23 @@
-//! An audit of loading: books made by plain SQL, each with one damage, and books that a crew office kept.
+//! An audit of store and loading: the rows that a crew office leaves in the tables, books made by plain SQL, each with one
+//! damage, and books that the office kept.
 #![tactic(auto)]
 
 #[cfg(test)]
 mod answers;
 #[cfg(test)]
+mod asserting;
+#[cfg(test)]
 mod book;
 #[cfg(test)]
 mod columns;
 #[cfg(test)]
+mod creating;
+#[cfg(test)]
 mod duties;
 #[cfg(test)]
 mod kept;
+#[cfg(test)]
+mod long_pairing;
 #[cfg(test)]
 mod members;
 #[cfg(test)]
@@ -21,3 +28,5 @@ mod plans;
 mod records;
 #[cfg(test)]
 mod retelling;
+#[cfg(test)]
+mod rows;

@@ -8,14 +8,19 @@ mod changes;
 mod clerk;
 #[cfg(test)]
 mod columns;
-pub mod creating;
+#[cfg(test)]
+mod creating;
 #[cfg(test)]
 mod damage;
-pub mod filed;
+#[cfg(test)]
+mod filed;
 #[cfg(test)]
 mod finds;
-pub mod looking;
-pub mod records;
-pub mod sample;
+#[cfg(test)]
+mod looking;
+#[cfg(test)]
+mod records;
+#[cfg(test)]
+mod sample;
 #[cfg(test)]
 mod told;

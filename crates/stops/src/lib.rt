@@ -2,8 +2,10 @@
 //! turn, and compare the rows that are found when the files are opened again.
 #![tactic(auto)]
 
-pub mod disk;
-pub mod run;
+#[cfg(test)]
+mod disk;
+#[cfg(test)]
+mod run;
 #[cfg(test)]
 mod states;
 #[cfg(test)]

@@ -1,10 +1,10 @@
 //! The rows after each of the nine kinds of order. Times are in minutes since 2000-01-01T00:00Z.
 
 use crate::asserting::assert_told;
-use crate::fault::Unfiled;
-use crate::office::Office;
-use crate::story::{after, wanted};
 use command::{Key, Seat};
+use filing::Unfiled;
+use filing::office::Office;
+use filing::story::{after, wanted};
 use samples::add_crew;
 use std::alloc::Global;
 use std::process::Abort;

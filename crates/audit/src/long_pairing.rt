@@ -1,10 +1,10 @@
 //! A pairing of the greatest number of periods, each of the greatest number of segments.
 
 use crate::asserting::assert_found;
-use crate::fault::Unfiled;
-use crate::office::Office;
 use command::{Key, Order};
 use duty::Pairing;
+use filing::Unfiled;
+use filing::office::Office;
 use samples::{Unmade, fdp, june, pairing_id};
 use sqlite::{Connection, MemStore};
 use std::alloc::Global;

@@ -1,7 +1,7 @@
 //! What is told, compared with what is wanted.
 
-use crate::fault::Unfiled;
-use crate::telling::found;
+use filing::Unfiled;
+use filing::telling::found;
 use sqlite::{Connection, MemStore};
 use std::alloc::Global;
 use std::process::Abort;

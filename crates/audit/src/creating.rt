@@ -1,10 +1,10 @@
 //! A book made in a database that has other tables, or those of a book.
 
 use crate::asserting::{assert_found, assert_told};
-use crate::fault::Unfiled;
-use crate::office::{Office, create};
-use crate::telling::{found, told};
 use command::{Key, Seat};
+use filing::Unfiled;
+use filing::office::{Office, create};
+use filing::telling::{found, told};
 use samples::add_crew;
 use sqlite::{Connection, MemStore};
 use std::alloc::Global;
