@@ -1,8 +1,12 @@
 //! A crew office that asks its book. The tests compare what it is answered, and the rows that are then in the tables.
 #![tactic(auto)]
 
-pub mod asking;
-mod fault;
+#[cfg(test)]
+mod answers;
+#[cfg(test)]
+mod asking;
+#[cfg(test)]
+mod importing;
 #[cfg(test)]
 mod imports;
 #[cfg(test)]
@@ -10,10 +14,12 @@ mod keys;
 #[cfg(test)]
 mod late_flight;
 #[cfg(test)]
+mod office;
+#[cfg(test)]
+mod opening;
+#[cfg(test)]
 mod refusals;
 #[cfg(test)]
 mod reopening;
-pub mod requests;
-pub mod told;
-
-pub use fault::Unanswered;
+#[cfg(test)]
+mod requests;

@@ -1,0 +1,54 @@
+//! Import 500, of P10, P20 and P30.
+
+use crate::answers::{add_line, told};
+use book::{Book, Import};
+use duty::Pairing;
+use filing::Unfiled;
+use samples::{june, pairing};
+use sqlite::MemStore;
+use std::alloc::Global;
+
+fn pairings(alloc: Global) -> Result<Vec<Pairing>, Unfiled> {
+    let mut pairings = Vec::new(alloc);
+    for (id, day) in [("P10", 20), ("P20", 21), ("P30", 22)] {
+        let written = "06:30 | 07:30-10:30 | 11:00";
+        pairings.push(pairing(alloc, id, june(day), written)?)?;
+    }
+    Ok(pairings)
+}
+
+fn begun(alloc: Global) -> Result<Import, Unfiled> {
+    let pairings = pairings(alloc)?;
+    if pairings.len() > 10_000 {
+        return Err(Unfiled::Unmade);
+    }
+    Ok(Book::<MemStore>::import(500, pairings))
+}
+
+/// What the next part is answered; `none` where there are no more.
+fn next(alloc: Global, import: &mut Import, book: &mut Book<MemStore>) -> Result<String, Unfiled> {
+    match import.next(alloc, book) {
+        Some(answer) => told(alloc, &answer?),
+        None => Ok(String::from_str(alloc, "none")?),
+    }
+}
+
+fn all_parts(
+    alloc: Global,
+    import: &mut Import,
+    book: &mut Book<MemStore>,
+    parts: u8,
+) -> Result<String, Unfiled> {
+    let mut text = String::new(alloc);
+    for _ in 0..parts {
+        add_line(&mut text, next(alloc, import, book)?.as_str())?;
+    }
+    Ok(text)
+}
+
+/// What a book answers to a new import up to this part, a line each.
+pub fn imported(alloc: Global, book: &mut Book<MemStore>, parts: &str) -> Result<String, Unfiled> {
+    let parts = parts.parse::<u8>().map_err(|_| Unfiled::Unmade)?;
+    let mut import = begun(alloc)?;
+    all_parts(alloc, &mut import, book, parts)
+}
