@@ -3,7 +3,7 @@
 
     tests/edits.py [--more] [--jobs N] [CRATE..]
 
-An edit is a file crates/CRATE/edits/NAME.edit, or with --more crates/CRATE/more-edits/NAME.edit. Its lines are `in: FUNCTION`,
+An edit is a file crates/CRATE/must-fail/NAME.edit, or with --more crates/CRATE/must-fail-more/NAME.edit. Its lines are `in: FUNCTION`,
 the function that must be refused, as a check prints it below its crate; `file: PATH`, in the crate; and pairs of `old: TEXT`
 and `new: TEXT`, where the old text stands in the file exactly once. With no `in:` the whole crate is checked.
 
@@ -226,11 +226,11 @@ def try_crate(kit, crate, folder):
 
 def main():
     asked = argparse.ArgumentParser(description=__doc__.split("\n")[0])
-    asked.add_argument("--more", action="store_true", help="try crates/CRATE/more-edits")
+    asked.add_argument("--more", action="store_true", help="try crates/CRATE/must-fail-more")
     asked.add_argument("--jobs", type=int, default=len(os.sched_getaffinity(0)), help="how many crates to try at once")
     asked.add_argument("crates", nargs="*", metavar="CRATE")
     asked = asked.parse_args()
-    folder = "more-edits" if asked.more else "edits"
+    folder = "must-fail-more" if asked.more else "must-fail"
     rt = shutil.which("rt") or sys.exit("tests/edits.py: put the command rt of the Rattle kit on the PATH")
     kit = Path(rt).resolve().parent.parent
     known = crates()

@@ -1,6 +1,6 @@
 #!/usr/bin/env bash
 # Runs the program as a user does, and compares its exit status, standard output and standard error. Says on standard
-# error what differs; the last line of standard output is the number of cases that passed, and of those that failed.
+# error what differs; the last line of standard output is 'N passed, M failed'.
 set -u
 cd "$(dirname "$(readlink -f "${BASH_SOURCE[0]}")")/.." || exit 2
 
@@ -87,4 +87,4 @@ case_of init_after_a_full_disk 3 '' 'refused 43 NotEmpty' init "$room/untold" "$
 if command -v sqlite3 >/dev/null; then
     holds zone_kept [ "$(sqlite3 "$book" 'SELECT one, version, zone FROM book' 2>&1)" = "1|1|$zone" ]
 fi
-echo "$passed $failed"
+echo "$passed passed, $failed failed"

@@ -8,8 +8,7 @@
 #     # ..    a remark
 #
 # and any other a line that the command writes to standard output. Says on standard error what differs; the last line of
-# standard output is the number of transcripts that passed, and of those that failed. One that calls the shell `sqlite3` is
-# passed over where there is none on the PATH.
+# standard output is 'N passed, M failed'. One that calls the shell `sqlite3` is passed over where there is none on the PATH.
 set -u
 cd "$(dirname "$(readlink -f "${BASH_SOURCE[0]}")")/.." || exit 2
 top=$PWD
@@ -55,4 +54,4 @@ for file in "$room/README.md" tests/transcripts/*.txt; do
         printf 'tests/transcripts.sh: %s: wanted <, and got >\n%s\n' "$(basename "$file")" "$difference" >&2
     fi
 done
-echo "$passed $failed"
+echo "$passed passed, $failed failed"
