@@ -70,10 +70,13 @@ fn command_of(alloc: Global, text: &str) -> Result<Option<Command>, MemoryFault>
         Err(_) => return Ok(None),
     };
     let kept = canonical(alloc, &command)?;
-    if kept.as_str() != text {
-        return Ok(None);
+    if kept.as_str() == text {
+        Ok(Some(command))
+    } else {
+        // (by a call: written out in each place, a command's drop takes the prover minutes)
+        drop(command);
+        Ok(None)
     }
-    Ok(Some(command))
 }
 
 /// The reply of which this is the text, if it is one's.
@@ -101,10 +104,10 @@ fn request_of(alloc: Global, row: &RequestRecord) -> Result<Option<Entry>, Memor
     let Some(key) = key_of(row.number, row.part) else {
         return Ok(None);
     };
-    let Some(command) = command_of(alloc, row.command.as_str())? else {
+    let Some(reply) = reply_of(alloc, row.reply.as_str())? else {
         return Ok(None);
     };
-    let Some(reply) = reply_of(alloc, row.reply.as_str())? else {
+    let Some(command) = command_of(alloc, row.command.as_str())? else {
         return Ok(None);
     };
     Ok(Some(Entry::Request(key, Request { command, reply })))
