@@ -43,15 +43,15 @@ fn told_of(
     all_told(alloc, list, &answers)
 }
 
-/// What a book answers, by the first word of a page.
+/// What a book answers, by the first word of a line.
 fn answered(
     alloc: Global,
     book: &mut Book<MemStore>,
-    page: &str,
+    line: &str,
     list: &[(Key, Command)],
 ) -> Result<String, Unfiled> {
-    match word(page, 0) {
-        "import" => imported(alloc, book, word(page, 1)),
+    match word(line, 0) {
+        "import" => imported(alloc, book, word(line, 1)),
         "run" => told_of(alloc, list, run_all(alloc, book, list)),
         _ => told_of(alloc, list, ask_all(alloc, book, list)),
     }
@@ -61,10 +61,10 @@ fn answered(
 pub fn told(
     alloc: Global,
     book: &mut Book<MemStore>,
-    page: &str,
+    line: &str,
     list: &[(Key, Command)],
 ) -> Result<String, Unfiled> {
-    let mut text = answered(alloc, book, page, list)?;
+    let mut text = answered(alloc, book, line, list)?;
     if book.failed() {
         add_line(&mut text, "failed")?;
     }

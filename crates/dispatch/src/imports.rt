@@ -11,15 +11,12 @@ fn an_import_goes_on_after_a_refusal(rt: HostRuntime) -> Result<(), Fail> {
     assert_told(
         &rt,
         rt.alloc(),
-        &[
-            P20,
-            "create",
-            "import 4",
-            "SELECT id FROM pairing",
-            "SELECT number, part FROM request",
-        ],
-        "\
-        {\"exceedances\":[],\"result\":\"accepted\"}\n\
+        P20,
+        "create
+        import 4
+        SELECT id FROM pairing
+        SELECT number, part FROM request",
+        "{\"exceedances\":[],\"result\":\"accepted\"}\n\
         5 PairingExists\n\
         {\"exceedances\":[],\"result\":\"accepted\"}\n\
         none\n\
@@ -32,7 +29,7 @@ fn an_import_goes_on_after_a_refusal(rt: HostRuntime) -> Result<(), Fail> {
     )
 }
 
-/// The rows after the whole import are noted of one book, and compared with those of another.
+/// Another book has the same rows after the import that isn't dropped.
 #[test]
 fn an_import_that_is_dropped_after_one_part_is_handed_in_again(
     rt: HostRuntime,
@@ -40,14 +37,19 @@ fn an_import_that_is_dropped_after_one_part_is_handed_in_again(
     assert_told(
         &rt,
         rt.alloc(),
-        &[
-            P20, "create", "import 3", "note", "begin", P20, "create", "import 1", "import 3",
-            "compare",
-        ],
-        "\
+        P20,
+        "create
+        import 1
+        import 3
+        note
+        begin
+        2 plan P20 10: 11:00 | 12:00-19:30 | 20:00
+        create
+        import 3
+        compare",
+        "{\"exceedances\":[],\"result\":\"accepted\"}\n\
         {\"exceedances\":[],\"result\":\"accepted\"}\n\
         5 PairingExists\n\
-        {\"exceedances\":[],\"result\":\"accepted\"}\n\
         {\"exceedances\":[],\"result\":\"accepted\"}\n\
         {\"exceedances\":[],\"result\":\"accepted\"}\n\
         5 PairingExists\n\
@@ -56,6 +58,7 @@ fn an_import_that_is_dropped_after_one_part_is_handed_in_again(
     )
 }
 
+/// So has it here.
 #[test]
 fn an_import_that_is_dropped_after_two_parts_is_handed_in_again(
     rt: HostRuntime,
@@ -63,27 +66,24 @@ fn an_import_that_is_dropped_after_two_parts_is_handed_in_again(
     assert_told(
         &rt,
         rt.alloc(),
-        &[
-            P20,
-            "create",
-            "import 3",
-            "note",
-            "begin",
-            P20,
-            "create",
-            "import 2",
-            "SELECT id FROM pairing",
-            "import 3",
-            "compare",
-        ],
-        "\
-        {\"exceedances\":[],\"result\":\"accepted\"}\n\
-        5 PairingExists\n\
-        {\"exceedances\":[],\"result\":\"accepted\"}\n\
-        {\"exceedances\":[],\"result\":\"accepted\"}\n\
+        P20,
+        "create
+        import 2
+        SELECT id FROM pairing
+        import 3
+        note
+        begin
+        2 plan P20 10: 11:00 | 12:00-19:30 | 20:00
+        create
+        import 3
+        compare",
+        "{\"exceedances\":[],\"result\":\"accepted\"}\n\
         5 PairingExists\n\
         row P10\n\
         row P20\n\
+        {\"exceedances\":[],\"result\":\"accepted\"}\n\
+        5 PairingExists\n\
+        {\"exceedances\":[],\"result\":\"accepted\"}\n\
         {\"exceedances\":[],\"result\":\"accepted\"}\n\
         5 PairingExists\n\
         {\"exceedances\":[],\"result\":\"accepted\"}\n\

@@ -22,23 +22,17 @@ const LATE_FLIGHT: &str = "
     113 fly P13A 10: 11:00 | 23:00-+1 07:00 | +1 07:30
 ";
 
-/// And then it comes again.
-const FLOWN_AGAIN: &str = "113 fly P13A 10: 11:00 | 23:00-+1 07:00 | +1 07:30";
-
-/// Sections are stored by their places among the eight: 117.13(a) is the second and 117.25(e) the eighth.
+/// It comes again. Sections are stored by their places among the eight: 117.13(a) is the second and 117.25(e) the eighth.
 #[test]
 fn a_late_flight_that_is_repeated_is_recorded_once(rt: HostRuntime) -> Result<(), Fail> {
     assert_told(
         &rt,
         rt.alloc(),
-        &[
-            LATE_FLIGHT,
-            FLOWN_AGAIN,
-            "create",
-            "SELECT * FROM exceedance",
-        ],
-        "\
-        {\"exceedances\":[{\"crew\":\"C1\",\"section\":\"117.13(a)\"},{\"crew\":\"C1\",\"section\":\"117.25(e)\"},\
+        LATE_FLIGHT,
+        "113 fly P13A 10: 11:00 | 23:00-+1 07:00 | +1 07:30
+        create
+        SELECT * FROM exceedance",
+        "{\"exceedances\":[{\"crew\":\"C1\",\"section\":\"117.13(a)\"},{\"crew\":\"C1\",\"section\":\"117.25(e)\"},\
         {\"crew\":\"F1\",\"section\":\"117.13(a)\"}],\"result\":\"accepted\"}\n\
         {\"exceedances\":[{\"crew\":\"C1\",\"section\":\"117.13(a)\"},{\"crew\":\"C1\",\"section\":\"117.25(e)\"},\
         {\"crew\":\"F1\",\"section\":\"117.13(a)\"}],\"result\":\"accepted\"}\n\
@@ -48,22 +42,16 @@ fn a_late_flight_that_is_repeated_is_recorded_once(rt: HostRuntime) -> Result<()
     )
 }
 
-/// Or C1 is released from it.
-const RELEASED: &str = "114 release P13A C1";
-
 #[test]
 fn a_flown_pairing_keeps_its_captain(rt: HostRuntime) -> Result<(), Fail> {
     assert_told(
         &rt,
         rt.alloc(),
-        &[
-            LATE_FLIGHT,
-            RELEASED,
-            "run",
-            "SELECT crew FROM seat WHERE pairing = 'P13A' AND seat = 0",
-        ],
-        "\
-        {\"exceedances\":[{\"crew\":\"C1\",\"section\":\"117.13(a)\"},{\"crew\":\"C1\",\"section\":\"117.25(e)\"},\
+        LATE_FLIGHT,
+        "114 release P13A C1
+        run
+        SELECT crew FROM seat WHERE pairing = 'P13A' AND seat = 0",
+        "{\"exceedances\":[{\"crew\":\"C1\",\"section\":\"117.13(a)\"},{\"crew\":\"C1\",\"section\":\"117.25(e)\"},\
         {\"crew\":\"F1\",\"section\":\"117.13(a)\"}],\"result\":\"accepted\"}\n\
         10 Flown\n\
         row C1\n",
@@ -82,24 +70,27 @@ const TWO_CAPTAINS: &str = "
     8 assign P15C C2
 ";
 
-/// And then C1's P15A is swapped with C2's P15B.
-const SWAPPED: &str = "20 swap P15A C1 P15B C2";
-
+/// Another book is asked the same, and then to swap C1's P15A with C2's P15B.
 #[test]
 fn a_swap_that_leaves_too_little_rest_changes_nothing(rt: HostRuntime) -> Result<(), Fail> {
     assert_told(
         &rt,
         rt.alloc(),
-        &[
-            TWO_CAPTAINS,
-            "create",
-            "note",
-            "begin",
-            TWO_CAPTAINS,
-            SWAPPED,
-            "create",
-            "compare",
-        ],
+        TWO_CAPTAINS,
+        "create
+        note
+        begin
+        1 captain C1: Ada Ray
+        2 captain C2: Ada Ray
+        3 plan P15A 10: 11:00 | 12:00-19:30 | 20:00
+        4 assign P15A C1
+        5 plan P15B 12: 11:00 | 12:00-19:30 | 20:00
+        6 assign P15B C2
+        7 plan P15C 9: 20:00 | 21:00-+1 03:30 | +1 04:00
+        8 assign P15C C2
+        20 swap P15A C1 P15B C2
+        create
+        compare",
         "12 Limits C2 117.25(e)\nsame\n",
     )
 }

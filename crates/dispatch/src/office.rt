@@ -11,7 +11,7 @@ use std::alloc::Global;
 use std::process::Abort;
 use std::test::Fail;
 
-/// Requests that no book was asked yet, and the rows that were noted.
+/// The requests at hand, which no book was asked yet, and the rows that were noted.
 #[derive(Drop)]
 struct Desk {
     requests: Vec<(Key, Command)>,
@@ -19,18 +19,18 @@ struct Desk {
 }
 
 /// Makes a book, or takes one up.
-fn open(alloc: Global, conn: Connection<MemStore>, page: &str) -> Result<Book<MemStore>, Left> {
-    match page {
+fn open(alloc: Global, conn: Connection<MemStore>, line: &str) -> Result<Book<MemStore>, Left> {
+    match line {
         "create" | "run" => create(alloc, conn),
         _ => take_up(alloc, conn),
     }
 }
 
 /// Opens a book, asks it requests, and closes it.
-fn asked(alloc: Global, conn: Connection<MemStore>, page: &str, list: &[(Key, Command)]) -> Left {
-    match open(alloc, conn, page) {
+fn asked(alloc: Global, conn: Connection<MemStore>, line: &str, list: &[(Key, Command)]) -> Left {
+    match open(alloc, conn, line) {
         Ok(mut book) => {
-            let told = asking::told(alloc, &mut book, page, list);
+            let told = asking::told(alloc, &mut book, line, list);
             (told, book.into_connection())
         }
         Err(refused) => refused,
@@ -38,8 +38,8 @@ fn asked(alloc: Global, conn: Connection<MemStore>, page: &str, list: &[(Key, Co
 }
 
 /// Asks the requests of a desk, which then has none.
-fn sent(alloc: Global, conn: Connection<MemStore>, desk: &mut Desk, page: &str) -> Left {
-    let left = asked(alloc, conn, page, &desk.requests);
+fn sent(alloc: Global, conn: Connection<MemStore>, desk: &mut Desk, line: &str) -> Left {
+    let left = asked(alloc, conn, line, &desk.requests);
     desk.requests = Vec::new(alloc);
     left
 }
@@ -74,12 +74,12 @@ fn act(
     alloc: Global,
     conn: &mut Connection<MemStore>,
     desk: &mut Desk,
-    page: &str,
+    line: &str,
 ) -> Result<(), Unfiled> {
-    match word(page, 0) {
+    match word(line, 0) {
         "note" => desk.noted = telling::told(alloc, conn)?,
-        "INSERT" | "UPDATE" | "DELETE" => conn.execute_batch(page)?,
-        _ => add_requests(alloc, &mut desk.requests, page)?,
+        "INSERT" | "UPDATE" | "DELETE" => conn.execute_batch(line)?,
+        _ => add_requests(alloc, &mut desk.requests, line)?,
     }
     Ok(())
 }
@@ -88,49 +88,60 @@ fn acted(
     alloc: Global,
     conn: &mut Connection<MemStore>,
     desk: &mut Desk,
-    page: &str,
+    line: &str,
 ) -> Result<String, Unfiled> {
-    act(alloc, conn, desk, page)?;
+    act(alloc, conn, desk, line)?;
     Ok(String::new(alloc))
 }
 
-/// What is told of a page that opens no book.
+/// What is told of a line that opens no book.
 fn looked(
     alloc: Global,
     conn: &mut Connection<MemStore>,
     desk: &mut Desk,
-    page: &str,
+    line: &str,
 ) -> Result<String, Unfiled> {
-    match word(page, 0) {
+    match word(line, 0) {
         "compare" => compared(alloc, conn, desk.noted.as_str()),
-        "SELECT" => telling::found(alloc, conn, "row", page),
-        _ => acted(alloc, conn, desk, page),
+        "SELECT" => telling::found(alloc, conn, "row", line),
+        _ => acted(alloc, conn, desk, line),
     }
 }
 
-/// Does what a page says.
-fn done(alloc: Global, mut conn: Connection<MemStore>, desk: &mut Desk, page: &str) -> Left {
-    match word(page, 0) {
+/// Does what a line says.
+fn done(alloc: Global, mut conn: Connection<MemStore>, desk: &mut Desk, line: &str) -> Left {
+    match word(line, 0) {
         "begin" => begun(alloc, conn),
-        "create" | "run" | "open" | "import" => sent(alloc, conn, desk, page),
+        "create" | "run" | "open" | "import" => sent(alloc, conn, desk, line),
         _ => {
-            let told = looked(alloc, &mut conn, desk, page);
+            let told = looked(alloc, &mut conn, desk, line);
             (told, conn)
         }
     }
 }
 
-/// What an office tells that does what these pages say, one after the other, beginning with a database that has no tables.
+/// A desk with the requests of some lines.
+fn set_up(alloc: Global, requests: &str) -> Result<Desk, Unfiled> {
+    let mut list = Vec::new(alloc);
+    add_requests(alloc, &mut list, requests)?;
+    Ok(Desk {
+        requests: list,
+        noted: String::new(alloc),
+    })
+}
+
+/// What an office tells that has these requests at hand and then takes these lines in turn, beginning with a database that
+/// has no tables.
 ///
-/// A page is one of these, or lines of requests, as `requests` says, which the next `create`, `run` or `open` asks. What
-/// refuses a book is told, and what it answers, as `answers` says.
+/// A line is one of these, or a request as `add_requests` says, which is then at hand too. What refuses a book is told, and
+/// what it answers, as `all_told` says.
 ///
 ///     create
-///         makes a book, asks it the requests one by one, and closes it
+///         makes a book, asks it the requests at hand one by one, and closes it
 ///     run
-///         makes a book, asks it the requests in one run, and closes it
+///         makes a book, asks it the requests at hand in one run, and closes it
 ///     open
-///         takes up the book, asks it the requests one by one, and closes it
+///         takes up the book, asks it the requests at hand one by one, and closes it
 ///     import 2
 ///         takes up the book, asks it a new import up to part 2, and closes it
 ///     note
@@ -143,29 +154,27 @@ fn done(alloc: Global, mut conn: Connection<MemStore>, desk: &mut Desk, page: &s
 ///         tells the rows, each as a line that begins with `row`
 ///     DELETE FROM seat
 ///         runs the statement, as it does one that begins with INSERT or UPDATE
-fn told(alloc: Global, pages: &[&str]) -> Result<String, Unfiled> {
-    let mut conn = Connection::open_in_memory(alloc)?;
-    let mut desk = Desk {
-        requests: Vec::new(alloc),
-        noted: String::new(alloc),
-    };
+fn told(alloc: Global, requests: &str, lines: &str) -> Result<String, Unfiled> {
+    let mut desk = set_up(alloc, requests)?;
     let mut text = String::new(alloc);
-    for page in pages {
-        let (told, left) = done(alloc, conn, &mut desk, page);
+    let mut conn = Connection::open_in_memory(alloc)?;
+    for line in lines.split('\n') {
+        let (told, left) = done(alloc, conn, &mut desk, line.trim_ascii());
         conn = left;
         text.push_str(told?.as_str())?;
     }
     Ok(text)
 }
 
-/// Ends the test unless this is what an office tells that does what these pages say.
+/// Ends the test unless this is what an office tells that has these requests at hand and then takes these lines.
 pub fn assert_told(
     rt: &impl Abort,
     alloc: Global,
-    pages: &[&str],
+    requests: &str,
+    lines: &str,
     wanted: &str,
 ) -> Result<(), Fail> {
-    let text = told(alloc, pages)?;
+    let text = told(alloc, requests, lines)?;
     assert_eq!(rt; text.as_str(), wanted);
     Ok(())
 }
