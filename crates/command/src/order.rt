@@ -69,8 +69,13 @@ impl Command {
     pub fn new(order: Order) -> Result<Command, DutyFault>
         ensures { result ≡ checked (order_fault order) order }
     {
-        check(&order)?;
-        Ok(Command { order })
+        match check(&order) {
+            Ok(()) => Ok(Command { order }),
+            Err(fault) => {
+                drop(order);
+                Err(fault)
+            }
+        }
     }
 
     /// What it asks.

@@ -45,9 +45,9 @@ impl Copied for Change {
     fn copy(&self, alloc: Global) -> Result<Change, MemoryFault> {
         Ok(Change {
             key: self.key,
-            command: self.command.copy(alloc)?,
             reply: self.reply.copy(alloc)?,
             seats: self.seats.copy(alloc)?,
+            command: self.command.copy(alloc)?,
         })
     }
 }
@@ -57,7 +57,8 @@ impl Copied for Verdict {
         Ok(match self {
             Verdict::Repeat(reply) => Verdict::Repeat(reply.copy(alloc)?),
             Verdict::Accept(change, reply) => {
-                Verdict::Accept(change.copy(alloc)?, reply.copy(alloc)?)
+                let reply = reply.copy(alloc)?;
+                Verdict::Accept(change.copy(alloc)?, reply)
             }
             Verdict::Refuse(refusal) => Verdict::Refuse(refusal.copy(alloc)?),
         })

@@ -139,8 +139,8 @@ impl Copied for Rostered {
 impl Copied for Request {
     fn copy(&self, alloc: Global) -> Result<Request, MemoryFault> {
         Ok(Request {
-            command: self.command.copy(alloc)?,
             reply: self.reply.copy(alloc)?,
+            command: self.command.copy(alloc)?,
         })
     }
 }

@@ -41,9 +41,9 @@ impl Roster {
         };
         let change = Change {
             key,
-            command: command.copy(alloc)?,
             reply: reply.copy(alloc)?,
             seats: Items::new(self.seats(alloc, command.order())?),
+            command: command.copy(alloc)?,
         };
         Ok(Verdict::Accept(change, reply))
     }

@@ -61,11 +61,14 @@ fn read_place(alloc: Global, row: &ByteRecord) -> Result<Place, Unread>
     ensures read { IfOk result (λ place. spec.read_place (fields_of row.now) ≡ Some place) }
     ensures refused { IfErr result (λ unread. (unread ≡ Memory) ⊎ (spec.read_place (fields_of row.now) ≡ None)) }
 {
+    let period = period_at(row, 1)?;
+    let report = time_at(row, 2)?;
+    let release = time_at(row, 3)?;
     Ok(Place {
-        pairing: read_id(alloc, field(row, 0)?)?,
-        period: read_period(field(row, 1)?)?,
-        report: read_time(field(row, 2)?)?,
-        release: read_time(field(row, 3)?)?,
+        pairing: id_at(alloc, row, 0)?,
+        period,
+        report,
+        release,
     })
 }
 
@@ -74,12 +77,14 @@ fn read_segment(alloc: Global, row: &ByteRecord) -> Result<Segment, Unread>
     ensures read { IfOk result (λ segment. spec.read_segment (fields_of row.now) ≡ Some segment) }
     ensures refused { IfErr result (λ unread. (unread ≡ Memory) ⊎ (spec.read_segment (fields_of row.now) ≡ None)) }
 {
+    let block_out = time_at(row, 6)?;
+    let block_in = time_at(row, 8)?;
     Ok(Segment {
-        flight: read_id(alloc, field(row, 4)?)?,
-        from: read_id(alloc, field(row, 5)?)?,
-        block_out: read_time(field(row, 6)?)?,
-        to: read_id(alloc, field(row, 7)?)?,
-        block_in: read_time(field(row, 8)?)?,
+        flight: id_at(alloc, row, 4)?,
+        from: id_at(alloc, row, 5)?,
+        block_out,
+        to: id_at(alloc, row, 7)?,
+        block_in,
     })
 }
 
@@ -94,6 +99,30 @@ fn field(row: &ByteRecord, place: usize) -> Result<&str, Unread>
         Ok(text) => Ok(text),
         Err(_) => Err(Unread::Refused),
     }
+}
+
+/// The id, flight or airport in the field at a place.
+fn id_at<T: Shaped>(alloc: Global, row: &ByteRecord, place: usize) -> Result<Id<T>, Unread>
+    ensures read { IfOk result (λ id. spec.at place (spec.read_text T.has_shape) (fields_of row.now) ≡ Some id) }
+    ensures refused { IfErr result (λ unread. (unread ≡ Memory) ⊎ (spec.at place (spec.read_text T.has_shape) (fields_of row.now) ≡ None)) }
+{
+    read_id(alloc, field(row, place)?)
+}
+
+/// The instant in the field at a place.
+fn time_at(row: &ByteRecord, place: usize) -> Result<Minute, Unread>
+    ensures read { IfOk result (λ minute. spec.at place spec.read_time (fields_of row.now) ≡ Some minute) }
+    ensures refused { IfErr result (λ _. spec.at place spec.read_time (fields_of row.now) ≡ None) }
+{
+    read_time(field(row, place)?)
+}
+
+/// The number of a period in the field at a place.
+fn period_at(row: &ByteRecord, place: usize) -> Result<usize, Unread>
+    ensures read { IfOk result (λ period. spec.at place spec.read_period (fields_of row.now) ≡ Some period) }
+    ensures refused { IfErr result (λ _. spec.at place spec.read_period (fields_of row.now) ≡ None) }
+{
+    read_period(field(row, place)?)
 }
 
 /// An id, a flight or an airport.
