@@ -15,4 +15,5 @@ pub mod Reading
 pub mod ReadLemmas
 pub mod RefusalLemmas
 pub mod SegmentLemmas
+pub mod Stopping
 pub mod WalkKeeps

@@ -54,62 +54,73 @@ asked_at (Some a) result Q answer is said = (a, refl, rw is at said)
 
 -- ---- The parts so far
 
--- so many of them were asked, and told their answers
-pub record AreSoFar {S : Type 0} (g : Ghosts S) (old now : Kept S) (asked : List Asked) (count : ℕ) (status : Status) (out out' : Held) : Type 0 where
-  pub answers : List Answered
+-- so many of them were asked, and got these answers
+pub record AreAsked {S : Type 0} (g : Ghosts S) (old now : Kept S) (asked : List Asked) (count : ℕ) (answers : List Answered) : Type 0 where
   pub each : length answers ≡ count
-  pub printed : Appends out out' (part_lines 1 answers)
-  pub ends : status ≡ status_of_all answers
   pub clean : IsClean g now → IsClean g old
   pub answered : (s : State) → IsAt g old s → IsClean g now → answers ≡ take count (Replies s asked)
   pub left : (s : State) → IsAt g old s → IsAt g now (Fold s (take count asked))
 
-pub none_yet : {S : Type 0} (g : Ghosts S) (book : Kept S) (asked : List Asked) (out : Held) → AreSoFar g book book asked 0 Done out out
-none_yet g book asked out = record {
-  answers = [];
-  each = refl;
-  printed = appends_nothing out;
-  ends = refl;
-  clean = λ clean. clean;
-  answered = λ s at clean. refl;
-  left = λ s at. at;
-}
+-- and were told them
+pub record AreSoFar {S : Type 0} (g : Ghosts S) (old now : Kept S) (asked : List Asked) (count : ℕ) (status : Status) (out out' : Held) : Type 0 where
+  pub answers : List Answered
+  pub asked_so_far : AreAsked g old now asked count answers
+  pub printed : Appends out out' (part_lines 1 answers)
+  pub ends : status ≡ status_of_all answers
 
-module _ {S : Type 0} (g : Ghosts S) (old now new : Kept S) (asked : List Asked) (count : ℕ) (status : Status) (out out' out'' : Held) where
-  pub one_more : (a : Asked) (answer : Answer) → count < length asked → slice_get asked count ≡ Some a →
-      AreSoFar g old now asked count status out out' → IsAnswered g now new a (Ok answer) →
-      Appends out' out'' (part_line (count + 1) (result_of answer)) →
-      AreSoFar g old new asked (count + 1) (status_with status (result_of answer)) out out''
-  one_more a answer within at_count was answered told =
+pub none_asked : {S : Type 0} (g : Ghosts S) (book : Kept S) (asked : List Asked) → AreAsked g book book asked 0 []
+none_asked g book asked = record { each = refl; clean = λ clean. clean; answered = λ s at clean. refl; left = λ s at. at }
+
+pub none_yet : {S : Type 0} (g : Ghosts S) (book : Kept S) (asked : List Asked) (out : Held) → AreSoFar g book book asked 0 Done out out
+none_yet g book asked out = record { answers = []; asked_so_far = none_asked g book asked; printed = appends_nothing out; ends = refl }
+
+module _ {S : Type 0} (g : Ghosts S) (old now new : Kept S) (asked : List Asked) (count : ℕ) where
+  pub one_asked : (answers : List Answered) (a : Asked) (answer : Answered) → count < length asked → slice_get asked count ≡ Some a →
+      AreAsked g old now asked count answers →
+      (IsClean g new → IsClean g now) →
+      ((s : State) → IsAt g now s → IsClean g new → answer ≡ answer_in s a) →
+      ((s : State) → IsAt g now s → IsAt g new (next s a)) →
+      AreAsked g old new asked (count + 1) (answers ++ answer ∷ [])
+  one_asked answers a answer within at_count was clean reply leaves =
       let is_a : get_or asked count a ≡ a = get_or_from_slice_get asked count a a at_count in
-      let one_past : count + 1 ≡ 1 + length was.answers = omega (arith, was.each) in
-      let line : part_line (count + 1) (result_of answer) ≡ part_line (1 + length was.answers) (result_of answer) = ap (λ n. part_line n (result_of answer)) one_past in
       record {
-        answers = was.answers ++ result_of answer ∷ [];
-        each = length-append was.answers _ ∙ ap (λ n. n + 1) was.each;
-        printed = subst (Appends out out'') (ap (λ t. part_lines 1 was.answers ++ t) line ∙ sym (lines_more 1 was.answers (result_of answer))) (appends_both out out' out'' _ _ was.printed told);
-        ends = ap (λ s. status_with s (result_of answer)) was.ends ∙ sym (fold-append status_with Done was.answers (result_of answer ∷ []));
-        clean = λ clean. was.clean (answered.clean clean);
-        answered = λ s at clean.
+        each = length-append answers _ ∙ ap (λ n. n + 1) was.each;
+        clean = λ is_clean. was.clean (clean is_clean);
+        answered = λ s at is_clean.
             let so_far = Fold s (take count asked) in
-            let reply : result_of answer ≡ answer_in so_far a = answered.reply so_far (was.left s at) clean in
+            let replied : answer ≡ answer_in so_far a = reply so_far (was.left s at) is_clean in
             let more : take (count + 1) (Replies s asked) ≡ take count (Replies s asked) ++ answer_in so_far a ∷ [] = rw is_a at (replies_more s asked count a within) in
-            ap (λ t. t ++ result_of answer ∷ []) (was.answered s at (answered.clean clean)) ∙ ap (λ r. take count (Replies s asked) ++ r ∷ []) reply ∙ sym more;
+            ap (λ t. t ++ answer ∷ []) (was.answered s at (clean is_clean)) ∙ ap (λ r. take count (Replies s asked) ++ r ∷ []) replied ∙ sym more;
         left = λ s at.
             let so_far = Fold s (take count asked) in
             let more : Fold s (take (count + 1) asked) ≡ next so_far a = rw is_a at (fold_more s asked count a within) in
-            rw more (answered.answered so_far (was.left s at));
+            rw more (leaves so_far (was.left s at));
+      }
+
+  pub one_more : (status : Status) (out out' out'' : Held) (a : Asked) (answer : Answer) → count < length asked → slice_get asked count ≡ Some a →
+      AreSoFar g old now asked count status out out' → IsAnswered g now new a (Ok answer) →
+      Appends out' out'' (part_line (count + 1) (result_of answer)) →
+      AreSoFar g old new asked (count + 1) (status_with status (result_of answer)) out out''
+  one_more status out out' out'' a answer within at_count was answered told =
+      let one_past : count + 1 ≡ 1 + length was.answers = omega (arith, was.asked_so_far.each) in
+      let line : part_line (count + 1) (result_of answer) ≡ part_line (1 + length was.answers) (result_of answer) = ap (λ n. part_line n (result_of answer)) one_past in
+      record {
+        answers = was.answers ++ result_of answer ∷ [];
+        asked_so_far = one_asked was.answers a (result_of answer) within at_count was.asked_so_far answered.clean answered.reply answered.answered;
+        printed = subst (Appends out out'') (ap (λ t. part_lines 1 was.answers ++ t) line ∙ sym (lines_more 1 was.answers (result_of answer))) (appends_both out out' out'' _ _ was.printed told);
+        ends = ap (λ s. status_with s (result_of answer)) was.ends ∙ sym (fold-append status_with Done was.answers (result_of answer ∷ []));
       }
 
 pub all_added : {S : Type 0} (g : Ghosts S) (old new : Kept S) (number : ℕ) (plans : List Plan) (status : Status) (out out' : Held) →
     AreSoFar g old new (import number plans) (length plans) status out out' → AreAdded g old new number plans status out out'
 all_added g old new number plans status out out' all =
     let l = import number plans in
+    let so_far = all.asked_so_far in
     let none_left : take (length plans) l ≡ l = rw (sym (length-import number plans)) (take_all (length l) l (omega arith)) in
     let none_unsaid : (s : State) → take (length plans) (Replies s l) ≡ Replies s l = λ s. take_all (length plans) (Replies s l) (omega (arith, length-replies s l, length-import number plans)) in
     record {
       answers = all.answers;
-      told = record { each = all.each; printed = all.printed; ends = all.ends };
-      answered = λ s at clean. all.answered s at clean ∙ none_unsaid s;
-      left = λ s at. rw none_left at (all.left s at);
+      told = record { each = so_far.each; printed = all.printed; ends = all.ends };
+      answered = λ s at clean. so_far.answered s at clean ∙ none_unsaid s;
+      left = λ s at. rw none_left at (so_far.left s at);
     }

@@ -1,5 +1,5 @@
 -- What `do` and `import` make of what a reader has, and of a book.
-use Rattle.std.specs.Prelude.{◌≡◌, ◌⊎◌, ⊤, ℕ, ◌+◌, List, [], ◌∷◌, ◌++◌, length, codes, Result, Ok, Err}
+use Rattle.std.specs.Prelude.{◌≡◌, ◌≢◌, ◌⊎◌, ◌≤◌, ◌<◌, ⊤, ℕ, ◌+◌, List, [], ◌∷◌, ◌++◌, length, take, codes, Result, Ok, Err, IsTrue}
 use Rattle.std.specs.Fmt.{decimal}
 use Rattle.std.specs.List.{fold}
 use Rattle.std.specs.Io.KnownBytes.{Appends}
@@ -16,10 +16,13 @@ use Rattle.codec.specs.CommandJson.{read_request}
 use Rattle.codec.specs.RefusalText as json
 use Rattle.codec.specs.ReplyText.{reply_text}
 use Rattle.codec.specs.declared.fault.CodecFault.{CodecFault}
-use Rattle.book.specs.Kept.{IsAt, IsClean, Kept}
+use Rattle.loading.specs.declared.fault.StoreFault.TheVariants.{Store}
+use Rattle.book.specs.Kept.{IsAt, IsClean, IsInDoubt, Kept}
 use Rattle.rosterbook.specs.Streams.{Held, Prints, Reads, line_end, refused}
 use Rattle.rosterbook.specs.declared.status.Status.{Status}
 use Rattle.rosterbook.specs.declared.status.Status.TheVariants.{Done, Refused}
+use Rattle.rosterbook.specs.declared.stop.Stop.{Stop}
+use Rattle.rosterbook.specs.declared.stop.Stop.TheVariants.{Book}
 
 -- what the book answers a command, or a part of an import
 abbrev pub Answered : Type 0
@@ -28,6 +31,28 @@ Answered = Result Reply Refusal
 abbrev pub status_of : Answered → Status
 status_of (Ok reply) = Done
 status_of (Err refusal) = Refused
+
+-- ---- Where the program stops
+
+module _ {S : Type 0} (g : Ghosts S) where
+  -- what is left where so many commands were answered: after a fault of the store (90) the one after them is in doubt
+  abbrev pub IsLeft : Kept S → State → List Asked → ℕ → Stop → Type 0
+  IsLeft new s asked n (Book Store) = IsInDoubt g new (Fold s (take n asked)) (Fold s (take (n + 1) asked))
+  IsLeft new s asked n stop = IsAt g new (Fold s (take n asked))
+
+  -- these commands were asked in turn, and got these answers before the program stopped
+  pub record IsStoppedIn (old new : Kept S) (asked : List Asked) (answers : List Answered) (stop : Stop) : Type 0 where
+    pub few : length answers ≤ length asked
+    pub unanswered : stop ≡ Book Store → length answers < length asked
+    pub failed : stop ≡ Book Store → IsTrue new.failed
+    pub answered : (s : State) → IsAt g old s → IsClean g new → answers ≡ take (length answers) (Replies s asked)
+    pub left : (s : State) → IsAt g old s → IsLeft new s asked (length answers) stop
+
+-- nothing was asked, and nothing written
+pub record IsUnasked {S : Type 0} (old new : Kept S) (out out' : Held) (stop : Stop) : Type 0 where
+  pub unchanged : new ≡ old
+  pub silent : out' ≡ out
+  pub told : stop ≢ Book Store
 
 -- ---- `do`
 
@@ -62,6 +87,11 @@ abbrev pub left_by : State → Request → State
 left_by s (Ok asked) = next s (asked_as asked)
 left_by s (Err fault) = s
 
+-- what is asked: one command, or none where the request isn't read
+abbrev pub commands_of : Request → List Asked
+commands_of (Ok asked) = asked_as asked ∷ []
+commands_of (Err fault) = []
+
 -- the answer was the book's, where its state is known
 pub record IsAsked {S : Type 0} (g : Ghosts S) (old new : Kept S) (held out out' : Held) (status : Status) : Type 0 where
   pub input : List ℕ
@@ -69,6 +99,14 @@ pub record IsAsked {S : Type 0} (g : Ghosts S) (old new : Kept S) (held out out'
   pub told : IsTold held out out' status input answer
   pub answered : (s : State) → IsAt g old s → IsClean g new → Answers s (read_request input) answer
   pub left : (s : State) → IsAt g old s → IsAt g new (left_by s (read_request input))
+
+-- the program stopped before it asked anything, or when it had asked what was read
+abbrev pub IsAskStopped : {S : Type 0} → Ghosts S → Kept S → Kept S → Held → Held → Held → Stop → Type 0
+IsAskStopped g old new held out out' stop =
+    IsUnasked old new out out' stop
+    ⊎ ((input : List ℕ) × (answers : List Answered) × Reads held input
+    × IsStoppedIn g old new (commands_of (read_request input)) answers stop
+    × (stop ≡ Book Store → out' ≡ out))
 
 -- ---- `import`
 
@@ -124,3 +162,17 @@ pub record IsImported {S : Type 0} (g : Ghosts S) (old new : Kept S) (number : �
   pub read : Reads held text
   pub done : (IsNoSchedule text status out out' err err' × (new ≡ old))
       ⊎ ((plans : List Plan) × IsSchedule text plans × AreAdded g old new number plans status out out' × (err' ≡ err))
+
+-- the program stopped among these pairings: at a fault of the store (90) the answers were told, and no more
+pub record AreStopped {S : Type 0} (g : Ghosts S) (old new : Kept S) (number : ℕ) (plans : List Plan) (out out' : Held) (stop : Stop) : Type 0 where
+  pub answers : List Answered
+  pub asked : IsStoppedIn g old new (import number plans) answers stop
+  pub printed : stop ≡ Book Store → Appends out out' (part_lines 1 answers)
+
+-- the program stopped before it added anything, or among the pairings of the schedule that was read
+abbrev pub IsImportStopped : {S : Type 0} → Ghosts S → Kept S → Kept S → ℕ → Held → Held → Held → Held → Held → Stop → Type 0
+IsImportStopped g old new number held out out' err err' stop =
+    IsUnasked old new out out' stop
+    ⊎ ((text : List ℕ) × (plans : List Plan) × Reads held text × IsSchedule text plans
+    × AreStopped g old new number plans out out' stop
+    × (err' ≡ err))

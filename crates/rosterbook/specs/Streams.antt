@@ -1,7 +1,10 @@
 -- What the program reads and writes, where it is known.
-use Rattle.std.specs.Prelude.{◌≡◌, ⊤, ℕ, List, [], ◌∷◌, ◌++◌, take, codes, Option, Some, None}
+use Rattle.std.specs.Prelude.{◌≡◌, ◌⊎◌, ⊤, ℕ, List, [], ◌∷◌, ◌++◌, take, codes, Option, Some, None}
 use Rattle.std.specs.Io.KnownBytes.{Appends}
+use Rattle.loading.specs.declared.fault.StoreFault.TheVariants.{Memory}
 use Rattle.rosterbook.specs.declared.status.Status.{Status}
+use Rattle.rosterbook.specs.declared.stop.Stop.{Stop}
+use Rattle.rosterbook.specs.declared.stop.Stop.TheVariants.{Book, Channel}
 
 -- the bytes that a writer holds, or that a reader has, where they are known
 abbrev pub Held : Type 0
@@ -22,3 +25,7 @@ refused fault = codes "refused " ++ fault ++ line_end
 -- a line was written, and the program ends so
 abbrev pub Prints : Status × List ℕ → Status → Held → Held → Type 0
 Prints told status out out' = (status ≡ told.0) × Appends out out' (told.1 ++ line_end)
+
+-- how the program stops where a reader or a writer fails: for want of memory, or not
+abbrev pub IsOfChannel : Stop → Type 0
+IsOfChannel stop = (stop ≡ Book Memory) ⊎ (stop ≡ Channel)

@@ -1,6 +1,8 @@
 //! `rosterbook do`.
-ghost use Rattle.std.specs.Prelude.{◌≡◌, ℕ, List, IfOk, string_bytes};
+ghost use Rattle.std.specs.Prelude.{◌≡◌, ◌∷◌, [], ℕ, List, IfErr, IfOk, string_bytes};
+ghost use Rattle.roster.specs.Folds.{answer_of, next};
 ghost use Rattle.roster.specs.State.{State};
+ghost use Rattle.roster.specs.Steps.{step_of};
 ghost use Rattle.book.specs.Kept.{IsAt, IsClean, result_of};
 ghost use Rattle.codec.specs.CommandJson.{read_request};
 ghost use Rattle.rosterbook.specs.Asking as spec;
@@ -10,7 +12,7 @@ use crate::status::Status;
 use crate::stop::Stop;
 use book::{Answer, Book, BookFault, FileBook};
 use codec::{CodecFault, command_of_json, fault_to_json, refusal_to_json, reply_to_json};
-use command::Key;
+use command::{Command, Key};
 use sqlite::Alter;
 use std::alloc::Global;
 use std::io::{Read, Write};
@@ -47,7 +49,8 @@ pub fn ask_json<S: Alter, R: Read, O: Write>(
     reader: &mut R,
     out: &mut O,
 ) -> Result<Status, Stop>
-    ensures { IfOk result (λ status. spec.IsAsked S.Store book.old book.new (R.remaining reader.old) (O.contents out.old) (O.contents out.new) status) }
+    ensures asked { IfOk result (λ status. spec.IsAsked S.Store book.old book.new (R.remaining reader.old) (O.contents out.old) (O.contents out.new) status) }
+    ensures stopped { IfErr result (λ stop. spec.IsAskStopped S.Store book.old book.new (R.remaining reader.old) (O.contents out.old) (O.contents out.new) stop) }
 {
     let body = read_input(alloc, reader)?;
     let told = ask_body(alloc, book, &body)?;
@@ -57,19 +60,40 @@ pub fn ask_json<S: Alter, R: Read, O: Write>(
 
 /// What a book answers the body of a request.
 fn ask_body<S: Alter>(alloc: Global, book: &mut Book<S>, body: &[u8]) -> Result<Told, BookFault>
-    ensures { IfOk result (λ told. (answer : spec.Answered)
+    ensures told { IfOk result (λ told. (answer : spec.Answered)
         × ((told.status, string_bytes told.line) ≡ spec.told_json (read_request body.now) answer)
         × ((s : State) → IsAt S.Store book.old s → IsClean S.Store book.new → spec.Answers s (read_request body.now) answer)
         × ((s : State) → IsAt S.Store book.old s → IsAt S.Store book.new (spec.left_by s (read_request body.now)))) }
+    ensures stopped { IfErr result (λ fault. (answers : List spec.Answered) × spec.IsStoppedIn S.Store book.old book.new (spec.commands_of (read_request body.now)) answers (Stop.Book fault)) }
 {
     match command_of_json(alloc, body) {
         Ok((number, command)) => {
-            let answer = book.ask(alloc, Key::new(number, 0), &command)?;
-            Ok(line_of(alloc, &answer)?)
+            let told = ask_command(alloc, book, Key::new(number, 0), &command);
+            // (by a call: written out, a command's drop takes the prover long)
+            drop(command);
+            told
         }
         Err(CodecFault::Memory) => Err(BookFault::Memory),
         Err(fault) => Ok(refused(fault_to_json(alloc, fault)?)),
     }
+}
+
+/// What a book answers a command.
+fn ask_command<S: Alter>(
+    alloc: Global,
+    book: &mut Book<S>,
+    key: Key,
+    command: &Command,
+) -> Result<Told, BookFault>
+    ensures told { IfOk result (λ told. (answer : spec.Answered)
+        × (told.status ≡ spec.status_of answer)
+        × (string_bytes told.line ≡ spec.answer_json answer)
+        × ((s : State) → IsAt S.Store book.old s → IsClean S.Store book.new → answer ≡ answer_of (step_of s key command.now))
+        × ((s : State) → IsAt S.Store book.old s → IsAt S.Store book.new (next s (key, command.now)))) }
+    ensures stopped { IfErr result (λ fault. (answers : List spec.Answered) × spec.IsStoppedIn S.Store book.old book.new ((key, command.now) ∷ []) answers (Stop.Book fault)) }
+{
+    let answer = book.ask(alloc, key, command)?;
+    Ok(line_of(alloc, &answer)?)
 }
 
 /// What a book's answer is told as.

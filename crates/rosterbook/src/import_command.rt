@@ -1,5 +1,5 @@
 //! `rosterbook import`.
-ghost use Rattle.std.specs.Prelude.{◌≡◌, ◌≤◌, IfOk, OnOk, length};
+ghost use Rattle.std.specs.Prelude.{◌≡◌, ◌≤◌, IfErr, IfOk, OnOk, length};
 ghost use Rattle.std.specs.Io.KnownBytes.{Appends};
 ghost use Rattle.book.specs.Kept.{result_of};
 ghost use Rattle.rosterbook.specs.Asking as spec;
@@ -42,7 +42,8 @@ pub fn import_csv<S: Alter, R: Read, O: Write, E: Write>(
     out: &mut O,
     err: &mut E,
 ) -> Result<Status, Stop>
-    ensures { IfOk result (spec.IsImported S.Store book.old book.new number (R.remaining reader.old) (O.contents out.old) (O.contents out.new) (E.contents err.old) (E.contents err.new)) }
+    ensures imported { IfOk result (spec.IsImported S.Store book.old book.new number (R.remaining reader.old) (O.contents out.old) (O.contents out.new) (E.contents err.old) (E.contents err.new)) }
+    ensures stopped { IfErr result (spec.IsImportStopped S.Store book.old book.new number (R.remaining reader.old) (O.contents out.old) (O.contents out.new) (E.contents err.old) (E.contents err.new)) }
 {
     let text = read_input(alloc, reader)?;
     match schedule_of_csv(alloc, &text) {
@@ -64,7 +65,8 @@ fn add_all<S: Alter, O: Write>(
     out: &mut O,
 ) -> Result<Status, Stop>
     requires { length pairings.items ≤ 10_000 }
-    ensures { IfOk result (λ status. spec.AreAdded S.Store book.old book.new number pairings.items status (O.contents out.old) (O.contents out.new)) }
+    ensures added { IfOk result (λ status. spec.AreAdded S.Store book.old book.new number pairings.items status (O.contents out.old) (O.contents out.new)) }
+    ensures stopped { IfErr result (spec.AreStopped S.Store book.old book.new number pairings.items (O.contents out.old) (O.contents out.new)) }
 {
     let parts = pairings.len();
     let mut import = Book::<S>::import(number.get(), pairings);

@@ -67,6 +67,10 @@ impl From<MemoryFault> for Stop {
 }
 
 impl From<io::Error> for Stop {
+    ghost use Rattle.rosterbook.specs.Streams.{IsOfChannel};
+
+    ghost from_gives = { λ _ stop. IsOfChannel stop };
+
     fn from(error: io::Error) -> Stop {
         match error.kind() {
             io::ErrorKind::OutOfMemory => Stop::Book(BookFault::Memory),

@@ -1,0 +1,137 @@
+-- Where the program stops among the commands that it asks.
+use Rattle.std.proofs.Common.{◌≡◌, inl, inr, ◌<◌, ◌≤◌, ℕ, ◌+◌, ◌||◌, true, false, Bool, List, [], ◌∷◌, ◌++◌, length, take, get_or, slice_get, refl, ap, sym, subst, arith, Some, Result, Ok, Err, IfErr, IsErrAnd, IsTrue}
+use Rattle.std.proofs.lemmas.Option.{get_or_from_slice_get}
+use Rattle.sqlite_trees.specs.declared.store.Store.{Ghosts}
+use Rattle.duty.specs.Plans.{Plan}
+use Rattle.command.specs.Keys.{KeyParts}
+use Rattle.command.specs.declared.order.Order.{Order}
+use Rattle.loading.specs.declared.fault.StoreFault.{StoreFault}
+use Rattle.loading.specs.declared.fault.StoreFault.TheVariants.{Store, Memory}
+use Rattle.roster.specs.Folds.{Asked, Fold, Replies, import, next}
+use Rattle.roster.specs.State.{State}
+use Rattle.book.specs.Answered.{IsAnswered}
+use Rattle.book.specs.Kept.{IsAt, IsClean, IsInDoubt, Kept, is_store_fault, result_of}
+use Rattle.book.specs.declared.answer.Answer.{Answer}
+use Rattle.book.proofs.Runs.{fold_more}
+use Rattle.rosterbook.specs.Asking.{Answered, Answers, AreStopped, IsLeft, IsStoppedIn, Request, commands_of, left_by}
+use Rattle.rosterbook.specs.Streams.{Held, IsOfChannel}
+use Rattle.rosterbook.specs.declared.status.Status.{Status}
+use Rattle.rosterbook.specs.declared.stop.Stop.{Stop}
+use Rattle.rosterbook.specs.declared.stop.Stop.TheVariants.{Book}
+use Rattle.rosterbook.proofs.PartsAdded.{AreAsked, AreSoFar, one_asked}
+
+-- a reader or a writer doesn't fail as the store does
+pub no_fault_of_store : (stop : Stop) → IsOfChannel stop → stop ≡ Book Store → ⊥
+no_fault_of_store stop (inl memory) is = absurd (cc)
+no_fault_of_store stop (inr channel) is = absurd (cc)
+
+-- ---- Among commands
+
+or_true : (b : Bool) → IsTrue (b || true)
+or_true true = refl
+or_true false = refl
+
+-- the book has failed where the store has
+has_failed : (fault : StoreFault) (was is : Bool) → is ≡ (was || is_store_fault {A = Answer} (Err fault)) → Book fault ≡ Book Store → IsTrue is
+has_failed Store was is failed at_store = rw failed (or_true was)
+has_failed Memory was is failed at_store = absurd (cc)
+
+module _ {S : Type 0} (g : Ghosts S) (old now new : Kept S) (asked : List Asked) (count : ℕ) (answers : List Answered) where
+  -- no line was written of the last answer
+  pub untold : (stop : Stop) → IsOfChannel stop → count ≤ length asked → length answers ≡ count →
+      ((s : State) → IsAt g old s → IsClean g new → answers ≡ take count (Replies s asked)) →
+      ((s : State) → IsAt g old s → IsAt g new (Fold s (take count asked))) →
+      IsStoppedIn g old new asked answers stop
+  untold stop (inl is) within each answered left = subst (IsStoppedIn g old new asked answers) (sym is) (record {
+    few = omega (arith, each, within);
+    unanswered = λ no. absurd (cc);
+    failed = λ no. absurd (cc);
+    answered = λ s at clean. rw each (answered s at clean);
+    left = λ s at. rw each (left s at);
+  })
+  untold stop (inr is) within each answered left = subst (IsStoppedIn g old new asked answers) (sym is) (record {
+    few = omega (arith, each, within);
+    unanswered = λ no. absurd (cc);
+    failed = λ no. absurd (cc);
+    answered = λ s at clean. rw each (answered s at clean);
+    left = λ s at. rw each (left s at);
+  })
+
+  left_at : (fault : StoreFault) (s : State) (a : Asked) → Fold s (take (count + 1) asked) ≡ next (Fold s (take count asked)) a →
+      (fault ≡ Memory → IsAt g new (Fold s (take count asked))) →
+      (fault ≡ Store → IsInDoubt g new (Fold s (take count asked)) (next (Fold s (take count asked)) a)) → IsLeft g new s asked count (Book fault)
+  left_at Store s a more memory store = rw more (store refl)
+  left_at Memory s a more memory store = memory refl
+
+  -- the next met a fault
+  pub unanswered : (a : Asked) (fault : StoreFault) → count < length asked → slice_get asked count ≡ Some a →
+      AreAsked g old now asked count answers →
+      new.failed ≡ (now.failed || is_store_fault {A = Answer} (Err fault)) →
+      (IsClean g new → IsClean g now) →
+      ((s : State) → IsAt g now s → fault ≡ Memory → IsAt g new s) →
+      ((s : State) → IsAt g now s → fault ≡ Store → IsInDoubt g new s (next s a)) →
+      IsStoppedIn g old new asked answers (Book fault)
+  unanswered a fault within at_count was failed clean memory store =
+      let each = was.each in
+      let is_a : get_or asked count a ≡ a = get_or_from_slice_get asked count a a at_count in
+      record {
+        few = omega (arith, each, within);
+        unanswered = λ is. omega (arith, each, within);
+        failed = has_failed fault now.failed new.failed failed;
+        answered = λ s at is_clean. rw each (was.answered s at (clean is_clean));
+        left = λ s at.
+            let so_far = Fold s (take count asked) in
+            let more : Fold s (take (count + 1) asked) ≡ next so_far a = rw is_a at (fold_more s asked count a within) in
+            subst (λ n. IsLeft g new s asked n (Book fault)) (sym each) (left_at fault s a more (memory so_far (was.left s at)) (store so_far (was.left s at)));
+      }
+
+-- want of memory, before anything was asked
+pub unasked : {S : Type 0} (g : Ghosts S) (book : Kept S) (asked : List Asked) → IsStoppedIn g book book asked [] (Book Memory)
+unasked g book asked = untold g book book book asked 0 [] (Book Memory) (inl refl) (omega arith) refl (λ s at clean. refl) (λ s at. at)
+
+-- what is known of the fault of a call, by which another is returned
+pub err_told : {A E : Type 0} (r : Result A E) (P Q : E → Type 0) → IsErrAnd r P → ((e : E) → P e → Q e) → IfErr r Q
+err_told (Ok a) P Q it weaker = tt
+err_told (Err e) P Q it weaker = weaker e it
+
+-- ---- `do`
+
+pub request_stopped : {S : Type 0} (g : Ghosts S) (old new : Kept S) (request : Request) (number : ℕ) (order : Order) (key : KeyParts) (answers : List Answered) (stop : Stop) →
+    request ≡ Ok (number, order) → key ≡ record { number = number; part = 0 } → IsStoppedIn g old new ((key, order) ∷ []) answers stop → IsStoppedIn g old new (commands_of request) answers stop
+request_stopped g old new request number order key answers stop is under stopped =
+    let under_key : KeyParts = record { number = number; part = 0 } in
+    let at_key : IsStoppedIn g old new ((under_key, order) ∷ []) answers stop = subst (λ k. IsStoppedIn g old new ((k, order) ∷ []) answers stop) under stopped in
+    subst (λ r. IsStoppedIn g old new (commands_of r) answers stop) (sym is) at_key
+
+-- the answer was not written
+pub answer_untold : {S : Type 0} (g : Ghosts S) (old new : Kept S) (request : Request) (answer : Answered) (stop : Stop) → IsOfChannel stop →
+    ((s : State) → IsAt g old s → IsClean g new → Answers s request answer) →
+    ((s : State) → IsAt g old s → IsAt g new (left_by s request)) →
+    (answers : List Answered) × IsStoppedIn g old new (commands_of request) answers stop
+answer_untold g old new (Ok asked) answer stop which answered left = (answer ∷ [], untold g old new new (commands_of (Ok asked)) 1 (answer ∷ []) stop which (omega arith) refl answered left)
+answer_untold g old new (Err fault) answer stop which answered left = ([], untold g old new new [] 0 [] stop which (omega arith) refl (λ s at is_clean. refl) left)
+
+-- ---- `import`
+
+module _ {S : Type 0} (g : Ghosts S) (old now new : Kept S) (number : ℕ) (plans : List Plan) (count : ℕ) (status : Status) (out out' : Held) where
+  abbrev parts : List Asked
+  parts = import number plans
+
+  pub part_unanswered : (a : Asked) (fault : StoreFault) → count < length parts → slice_get parts count ≡ Some a →
+      AreSoFar g old now parts count status out out' → IsAnswered g now new a (Err fault) → AreStopped g old new number plans out out' (Book fault)
+  part_unanswered a fault within at_count was answered = record {
+    answers = was.answers;
+    asked = unanswered g old now new parts count was.answers a fault within at_count was.asked_so_far answered.failed answered.clean
+        (λ s at is. answered.memory s at (ap Err is)) (λ s at is. answered.store s at (ap Err is));
+    printed = λ is. was.printed;
+  }
+
+  pub part_untold : (out'' : Held) (a : Asked) (answer : Answer) (stop : Stop) → IsOfChannel stop → count < length parts → slice_get parts count ≡ Some a →
+      AreSoFar g old now parts count status out out' → IsAnswered g now new a (Ok answer) → AreStopped g old new number plans out out'' stop
+  part_untold out'' a answer stop which within at_count was answered = record {
+    answers = was.answers ++ result_of answer ∷ [];
+    asked =
+        let now_asked = one_asked g old now new parts count was.answers a (result_of answer) within at_count was.asked_so_far answered.clean answered.reply answered.answered in
+        untold g old now new parts (count + 1) _ stop which (omega (arith, within)) now_asked.each now_asked.answered now_asked.left;
+    printed = λ is. absurd (no_fault_of_store stop which is);
+  }
