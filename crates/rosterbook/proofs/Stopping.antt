@@ -7,14 +7,15 @@ use Rattle.command.specs.Keys.{KeyParts}
 use Rattle.command.specs.declared.order.Order.{Order}
 use Rattle.loading.specs.declared.fault.StoreFault.{StoreFault}
 use Rattle.loading.specs.declared.fault.StoreFault.TheVariants.{Store, Memory}
+use Rattle.codec.specs.CommandJson.{read_request}
 use Rattle.roster.specs.Folds.{Asked, Fold, Replies, import, next}
 use Rattle.roster.specs.State.{State}
 use Rattle.book.specs.Answered.{IsAnswered}
 use Rattle.book.specs.Kept.{IsAt, IsClean, IsInDoubt, Kept, is_store_fault, result_of}
 use Rattle.book.specs.declared.answer.Answer.{Answer}
 use Rattle.book.proofs.Runs.{fold_more}
-use Rattle.rosterbook.specs.Asking.{Answered, Answers, AreStopped, IsLeft, IsStoppedIn, Request, commands_of, left_by}
-use Rattle.rosterbook.specs.Streams.{Held, IsOfChannel}
+use Rattle.rosterbook.specs.Asking.{Answered, Answers, AreStopped, IsAskStopped, IsLeft, IsStoppedIn, Request, commands_of, left_by}
+use Rattle.rosterbook.specs.Streams.{Held, IsOfChannel, Reads}
 use Rattle.rosterbook.specs.declared.status.Status.{Status}
 use Rattle.rosterbook.specs.declared.stop.Stop.{Stop}
 use Rattle.rosterbook.specs.declared.stop.Stop.TheVariants.{Book}
@@ -104,12 +105,19 @@ request_stopped g old new request number order key answers stop is under stopped
     subst (λ r. IsStoppedIn g old new (commands_of r) answers stop) (sym is) at_key
 
 -- the answer was not written
-pub answer_untold : {S : Type 0} (g : Ghosts S) (old new : Kept S) (request : Request) (answer : Answered) (stop : Stop) → IsOfChannel stop →
+answer_untold : {S : Type 0} (g : Ghosts S) (old new : Kept S) (request : Request) (answer : Answered) (stop : Stop) → IsOfChannel stop →
     ((s : State) → IsAt g old s → IsClean g new → Answers s request answer) →
     ((s : State) → IsAt g old s → IsAt g new (left_by s request)) →
-    (answers : List Answered) × IsStoppedIn g old new (commands_of request) answers stop
-answer_untold g old new (Ok asked) answer stop which answered left = (answer ∷ [], untold g old new new (commands_of (Ok asked)) 1 (answer ∷ []) stop which (omega arith) refl answered left)
-answer_untold g old new (Err fault) answer stop which answered left = ([], untold g old new new [] 0 [] stop which (omega arith) refl (λ s at is_clean. refl) left)
+    (answers : List Answered) × IsStoppedIn g old new (commands_of request) answers stop × (length answers < length (commands_of request) → ⊥)
+answer_untold g old new (Ok asked) answer stop which answered left = (answer ∷ [], untold g old new new (commands_of (Ok asked)) 1 (answer ∷ []) stop which (omega arith) refl answered left, λ fewer. absurd (omega (arith, fewer)))
+answer_untold g old new (Err fault) answer stop which answered left = ([], untold g old new new [] 0 [] stop which (omega arith) refl (λ s at is_clean. refl) left, λ fewer. absurd (omega (arith, fewer)))
+
+pub asked_untold : {S : Type 0} (g : Ghosts S) (old new : Kept S) (held out out' : Held) (input : List ℕ) (answer : Answered) (stop : Stop) → IsOfChannel stop → Reads held input →
+    ((s : State) → IsAt g old s → IsClean g new → Answers s (read_request input) answer) →
+    ((s : State) → IsAt g old s → IsAt g new (left_by s (read_request input))) → IsAskStopped g old new held out out' stop
+asked_untold g old new held out out' input answer stop which read answered left =
+    let it = answer_untold g old new (read_request input) answer stop which answered left in
+    inr (input, it.0, read, it.1, λ fewer. absurd (it.2 fewer))
 
 -- ---- `import`
 

@@ -100,13 +100,13 @@ pub record IsAsked {S : Type 0} (g : Ghosts S) (old new : Kept S) (held out out'
   pub answered : (s : State) → IsAt g old s → IsClean g new → Answers s (read_request input) answer
   pub left : (s : State) → IsAt g old s → IsAt g new (left_by s (read_request input))
 
--- the program stopped before it asked anything, or when it had asked what was read
+-- the program stopped before it asked anything, or when it had asked what was read: nothing was printed where that has no answer
 abbrev pub IsAskStopped : {S : Type 0} → Ghosts S → Kept S → Kept S → Held → Held → Held → Stop → Type 0
 IsAskStopped g old new held out out' stop =
     IsUnasked old new out out' stop
     ⊎ ((input : List ℕ) × (answers : List Answered) × Reads held input
     × IsStoppedIn g old new (commands_of (read_request input)) answers stop
-    × (stop ≡ Book Store → out' ≡ out))
+    × (length answers < length (commands_of (read_request input)) → out' ≡ out))
 
 -- ---- `import`
 
