@@ -1,5 +1,5 @@
 -- Where the program stops among the commands that it asks.
-use Rattle.std.proofs.Common.{◌≡◌, inl, inr, ◌<◌, ◌≤◌, ℕ, ◌+◌, ◌||◌, true, false, Bool, List, [], ◌∷◌, ◌++◌, length, take, get_or, slice_get, refl, ap, sym, subst, arith, Some, Result, Ok, Err, IfErr, IsErrAnd, IsTrue}
+use Rattle.std.proofs.Common.{◌≡◌, ◌⊎◌, inl, inr, ◌<◌, ◌≤◌, ℕ, ◌+◌, ◌||◌, true, false, Bool, List, [], ◌∷◌, ◌++◌, length, take, get_or, slice_get, refl, ap, sym, subst, arith, Some, Result, Ok, Err, IfErr, IsErrAnd, IsTrue}
 use Rattle.std.proofs.lemmas.Option.{get_or_from_slice_get}
 use Rattle.sqlite_trees.specs.declared.store.Store.{Ghosts}
 use Rattle.duty.specs.Plans.{Plan}
@@ -32,6 +32,10 @@ or_true : (b : Bool) → IsTrue (b || true)
 or_true true = refl
 or_true false = refl
 
+told_as : (fault : StoreFault) → (Book fault ≡ Book Store) ⊎ IsOfChannel (Book fault)
+told_as Store = inl refl
+told_as Memory = inr (inl refl)
+
 -- the book has failed where the store has
 has_failed : (fault : StoreFault) (was is : Bool) → is ≡ (was || is_store_fault {A = Answer} (Err fault)) → Book fault ≡ Book Store → IsTrue is
 has_failed Store was is failed at_store = rw failed (or_true was)
@@ -44,6 +48,7 @@ module _ {S : Type 0} (g : Ghosts S) (old now new : Kept S) (asked : List Asked)
       ((s : State) → IsAt g old s → IsAt g new (Fold s (take count asked))) →
       IsStoppedIn g old new asked answers stop
   untold stop (inl is) within each answered left = subst (IsStoppedIn g old new asked answers) (sym is) (record {
+    told = inr (inl refl);
     few = omega (arith, each, within);
     unanswered = λ no. absurd (cc);
     failed = λ no. absurd (cc);
@@ -51,6 +56,7 @@ module _ {S : Type 0} (g : Ghosts S) (old now new : Kept S) (asked : List Asked)
     left = λ s at. rw each (left s at);
   })
   untold stop (inr is) within each answered left = subst (IsStoppedIn g old new asked answers) (sym is) (record {
+    told = inr (inr refl);
     few = omega (arith, each, within);
     unanswered = λ no. absurd (cc);
     failed = λ no. absurd (cc);
@@ -76,6 +82,7 @@ module _ {S : Type 0} (g : Ghosts S) (old now new : Kept S) (asked : List Asked)
       let each = was.each in
       let is_a : get_or asked count a ≡ a = get_or_from_slice_get asked count a a at_count in
       record {
+        told = told_as fault;
         few = omega (arith, each, within);
         unanswered = λ is. omega (arith, each, within);
         failed = has_failed fault now.failed new.failed failed;

@@ -1,5 +1,5 @@
 -- What `do` and `import` make of what a reader has, and of a book.
-use Rattle.std.specs.Prelude.{◌≡◌, ◌≢◌, ◌⊎◌, ◌≤◌, ◌<◌, ⊤, ℕ, ◌+◌, List, [], ◌∷◌, ◌++◌, length, take, codes, Result, Ok, Err, IsTrue}
+use Rattle.std.specs.Prelude.{◌≡◌, ◌⊎◌, ◌≤◌, ◌<◌, ⊤, ℕ, ◌+◌, List, [], ◌∷◌, ◌++◌, length, take, codes, Result, Ok, Err, IsTrue}
 use Rattle.std.specs.Fmt.{decimal}
 use Rattle.std.specs.List.{fold}
 use Rattle.std.specs.Io.KnownBytes.{Appends}
@@ -18,7 +18,7 @@ use Rattle.codec.specs.ReplyText.{reply_text}
 use Rattle.codec.specs.declared.fault.CodecFault.{CodecFault}
 use Rattle.loading.specs.declared.fault.StoreFault.TheVariants.{Store}
 use Rattle.book.specs.Kept.{IsAt, IsClean, IsInDoubt, Kept}
-use Rattle.rosterbook.specs.Streams.{Held, Prints, Reads, line_end, refused}
+use Rattle.rosterbook.specs.Streams.{Held, IsOfChannel, Prints, Reads, line_end, refused}
 use Rattle.rosterbook.specs.declared.status.Status.{Status}
 use Rattle.rosterbook.specs.declared.status.Status.TheVariants.{Done, Refused}
 use Rattle.rosterbook.specs.declared.stop.Stop.{Stop}
@@ -42,6 +42,7 @@ module _ {S : Type 0} (g : Ghosts S) where
 
   -- these commands were asked in turn, and got these answers before the program stopped
   pub record IsStoppedIn (old new : Kept S) (asked : List Asked) (answers : List Answered) (stop : Stop) : Type 0 where
+    pub told : (stop ≡ Book Store) ⊎ IsOfChannel stop
     pub few : length answers ≤ length asked
     pub unanswered : stop ≡ Book Store → length answers < length asked
     pub failed : stop ≡ Book Store → IsTrue new.failed
@@ -52,7 +53,7 @@ module _ {S : Type 0} (g : Ghosts S) where
 pub record IsUnasked {S : Type 0} (old new : Kept S) (out out' : Held) (stop : Stop) : Type 0 where
   pub unchanged : new ≡ old
   pub silent : out' ≡ out
-  pub told : stop ≢ Book Store
+  pub told : IsOfChannel stop
 
 -- ---- `do`
 
