@@ -9,7 +9,7 @@ ghost use Rattle.codec.specs.Laws.{IsCommand};
 
 use crate::encoded::{array, instant};
 use command::{Command, Member, Order, Swap};
-use duty::{Actual, CrewId, Ground, Pairing, PairingId};
+use duty::{Actual, CrewId, Ground, GroundId, Pairing, PairingId};
 use serde_json::{Value, json};
 use std::alloc::Global;
 use values::MemoryFault;
@@ -34,22 +34,12 @@ fn order_value(alloc: Global, order: &Order) -> Result<Value, MemoryFault>
     match order {
         Order::AddCrew(id, member) => add_crew(alloc, id, member),
         Order::AddPairing(pairing) => add_pairing(alloc, pairing),
-        Order::CancelPairing(id) => {
-            Ok(json!(in alloc; {"do": "cancel-pairing", "pairing": id.as_str()})?)
-        }
-        Order::Assign(id, crew) => {
-            let (id, crew) = (id.as_str(), crew.as_str());
-            Ok(json!(in alloc; {"do": "assign", "pairing": id, "crew": crew})?)
-        }
-        Order::Release(id, crew) => {
-            let (id, crew) = (id.as_str(), crew.as_str());
-            Ok(json!(in alloc; {"do": "release", "pairing": id, "crew": crew})?)
-        }
+        Order::CancelPairing(id) => cancel_pairing(alloc, id),
+        Order::Assign(id, crew) => assign(alloc, id, crew),
+        Order::Release(id, crew) => release(alloc, id, crew),
         Order::Swap(swap) => swap_value(alloc, swap),
         Order::AddGround(ground) => add_ground(alloc, ground),
-        Order::CancelGround(id) => {
-            Ok(json!(in alloc; {"do": "cancel-ground", "ground": id.as_str()})?)
-        }
+        Order::CancelGround(id) => cancel_ground(alloc, id),
         Order::Actual(id, actual) => actual_value(alloc, id, actual),
     }
 }
@@ -79,6 +69,29 @@ fn add_pairing(alloc: Global, pairing: &Pairing) -> Result<Value, MemoryFault>
     Ok(value)
 }
 
+fn cancel_pairing(alloc: Global, id: &PairingId) -> Result<Value, MemoryFault>
+    ensures { IfOk result (λ value. view value ≡ order_json (order.CancelPairing id.now)) }
+{
+    let value = json!(in alloc; {"do": "cancel-pairing", "pairing": id.as_str()})?;
+    Ok(value)
+}
+
+fn assign(alloc: Global, id: &PairingId, crew: &CrewId) -> Result<Value, MemoryFault>
+    ensures { IfOk result (λ value. view value ≡ order_json (order.Assign id.now crew.now)) }
+{
+    let (id, crew) = (id.as_str(), crew.as_str());
+    let value = json!(in alloc; {"do": "assign", "pairing": id, "crew": crew})?;
+    Ok(value)
+}
+
+fn release(alloc: Global, id: &PairingId, crew: &CrewId) -> Result<Value, MemoryFault>
+    ensures { IfOk result (λ value. view value ≡ order_json (order.Release id.now crew.now)) }
+{
+    let (id, crew) = (id.as_str(), crew.as_str());
+    let value = json!(in alloc; {"do": "release", "pairing": id, "crew": crew})?;
+    Ok(value)
+}
+
 fn swap_value(alloc: Global, swap: &Swap) -> Result<Value, MemoryFault>
     ensures { IfOk result (λ value. view value ≡ order_json (order.Swap swap.now)) }
 {
@@ -104,6 +117,13 @@ fn add_ground(alloc: Global, ground: &Ground) -> Result<Value, MemoryFault>
         "end": instant(alloc, ground.end())?,
         "task": ground.task().as_str()
     })?;
+    Ok(value)
+}
+
+fn cancel_ground(alloc: Global, id: &GroundId) -> Result<Value, MemoryFault>
+    ensures { IfOk result (λ value. view value ≡ order_json (order.CancelGround id.now)) }
+{
+    let value = json!(in alloc; {"do": "cancel-ground", "ground": id.as_str()})?;
     Ok(value)
 }
 
