@@ -12,6 +12,7 @@ ghost use Rattle.book.specs.Found.{MeansWhatIsIn};
 
 use crate::keeping::Book;
 use sqlite::{Alter, Connection, Error, ErrorCode, FileFrom, FileStore, Start, Wary};
+use sqlite_disk::Disk;
 use std::alloc::Global;
 use std::fs::exists;
 use store::{CreateFault, LoadFault, StoreFault};
@@ -49,7 +50,9 @@ impl FileBook {
     {
         Book::open_from(rt, path, Wary)
     }
+}
 
+impl<D: Disk + Drop> Book<FileStore<D>> {
     /// Closes the files. What is committed stands in the log, whether or not it is copied into the database now.
     pub fn close(self) {
         let _ = self.into_connection().close();
@@ -59,12 +62,21 @@ impl FileBook {
 /// Makes an empty book of a zone in a new or empty file, as [`Book::create`] does, and closes it. A file that `sqlite` doesn't
 /// open is 90, or 91 where it finds no memory.
 pub fn create_file(rt: &HostRuntime, path: &str, zone: Zone) -> Result<(), CreateFault> {
-    let conn = connect(rt, path, Wary)?;
-    match Book::create(rt.alloc(), conn, zone) {
-        Ok(book) => {
-            book.close();
-            Ok(())
-        }
+    let book = created(rt.alloc(), connect(rt, path, Wary)?, zone)?;
+    book.close();
+    Ok(())
+}
+
+/// The book that is made over a connection.
+fn created<S: Alter + Drop>(
+    alloc: Global,
+    conn: Connection<S>,
+    zone: Zone,
+) -> Result<Book<S>, CreateFault>
+    requires { IsOutside (state S.Store conn) }
+{
+    match Book::create(alloc, conn, zone) {
+        Ok(book) => Ok(book),
         Err((fault, _conn)) => Err(fault),
     }
 }

@@ -190,7 +190,9 @@ impl<S: Alter> Book<S> {
         let Ok(command) = adding(alloc, pairing) else {
             return Err(StoreFault::Memory);
         };
-        self.ask(alloc, key, &command)
+        let answer = self.ask(alloc, key, &command);
+        drop(command);
+        answer
     }
 
     /// Answers commands in turn, up to the first fault. Room for all answers is made before the first.
@@ -295,10 +297,15 @@ fn answer<S: Alter>(
     match roster.step(alloc, key, command) {
         Ok(Verdict::Repeat(reply)) => Ok(Answer::Accepted(reply)),
         Ok(Verdict::Refuse(refusal)) => Ok(Answer::Refused(refusal)),
-        Ok(Verdict::Accept(change, reply)) => match keep(alloc, store, roster, &change) {
-            Ok(()) => Ok(Answer::Accepted(reply)),
-            Err(fault) => Err(fault),
-        },
+        Ok(Verdict::Accept(change, reply)) => {
+            let kept = keep(alloc, store, roster, &change);
+            // (by a call: written out in each place, a change's drop takes the prover a minute)
+            drop(change);
+            match kept {
+                Ok(()) => Ok(Answer::Accepted(reply)),
+                Err(fault) => Err(fault),
+            }
+        }
         Err(_) => Err(StoreFault::Memory),
     }
 }
