@@ -7,9 +7,9 @@ cd "$(dirname "$(readlink -f "${BASH_SOURCE[0]}")")/.." || exit 2
 passed=0
 failed=0
 zone=EST5EDT,M3.2.0,M11.1.0
-duty="duty $zone 2025-06-10T15:59Z 2025-06-10T16:30Z 2025-06-10T20:30Z 2025-06-11T01:29Z"
+report=2025-06-10T15:59Z
 
-# case NAME STATUS OUT ERR WORDS..: OUT and ERR are patterns of the whole text.
+# case_of NAME STATUS OUT ERR WORDS..: OUT and ERR are patterns of the whole text.
 case_of() {
     local name=$1 status=$2 out=$3 err=$4 got_out got_err got
     shift 4
@@ -38,53 +38,136 @@ holds() {
     fi
 }
 
-# full_disk NAME WORDS..: standard output can't be kept.
-full_disk() {
-    local name=$1 got
+# lost NAME STREAM WORDS..: standard output is one of `streams`, which fails.
+lost() {
+    local name=$1 stream=$2 got
+    shift 2
+    got=$(./rosterbook "$@" 2>&1 >&"${streams[$stream]}" </dev/null)
+    holds "$name, $stream: $got" [ "$? $got" = '3 refused 92 Channel' ]
+}
+
+# untold NAME STREAM WORDS..: so is standard error, and the exit status alone tells it.
+untold() {
+    local name=$1 stream=$2 got
+    shift 2
+    got=$(./rosterbook "$@" 2>&"${streams[$stream]}" </dev/null)
+    holds "$name, $stream: $got" [ "$? $got" = '3 ' ]
+}
+
+# missing ARGUMENTS WORDS..: the command line lacks these arguments, one a line.
+missing() {
+    local list=${1//$'\n'/$'\n  '}
     shift
-    got=$(./rosterbook "$@" 2>&1 >/dev/full </dev/null)
-    holds "$name: $got" [ "$? $got" = "3 refused 92 Channel" ]
+    case_of "missing of $*" 2 '' $'error: the following required arguments were not provided:\n  '"$list"$'\n\n*' "$@"
+}
+
+# unexpected WORDS..: the last word is one too many.
+unexpected() {
+    case_of "unexpected: $*" 2 '' "error: unexpected argument '${!#}' found"$'\n*' "$@"
+}
+
+# no_number WORD WHY: the word is no number of a request.
+no_number() {
+    case_of "number '$1'" 2 '' "error: invalid value '$1' for '<NUMBER>': $2"$'\n*' import "$room/unmade" "$1"
+}
+
+# help_of COMMAND NAMES..: the help of the command, or of the program where that is '', has each name and fits 80 columns.
+help_of() {
+    local command=$1 text name
+    shift
+    case_of "help of '$command'" 0 '?*' '' ${command:+"$command"} --help
+    text=$(./rosterbook ${command:+"$command"} --help </dev/null)
+    for name in "$@"; do
+        holds "'$name' in the help of '$command'" grep -qFe "$name" <<<"$text"
+    done
+    holds "80 columns of '$command'" [ -z "$(LC_ALL=C grep '.\{81\}' <<<"$text")" ]
+}
+
+command_lines() {
+    case_of no_words 2 '' 'The roster book*Usage: rosterbook <COMMAND>*'
+    case_of no_command 2 '' $'error: unrecognized subcommand \'rest\'\n*' rest
+    case_of version 0 'rosterbook 0.1.0' '' --version
+    case_of not_utf_8 2 '' 'error: an argument is not UTF-8' duty $'\xff'
+    missing $'<ZONE>\n<REPORT>\n<TIME>...' duty
+    missing '<TIME>...' duty "$zone" "$report"
+    missing $'<FILE>\n<ZONE>' init
+    missing '<ZONE>' init "$room/unmade"
+    missing '<FILE>' 'do'
+    missing $'<FILE>\n<NUMBER>' import
+    missing '<NUMBER>' import "$room/unmade"
+    unexpected duty "$zone" "$report" --late
+    unexpected init "$room/unmade" "$zone" x
+    unexpected init "$room/unmade" --new
+    unexpected 'do' "$room/unmade" "$room/unmade"
+    unexpected import "$room/unmade" 500 501
+    unexpected import "$room/unmade" -1
+    no_number 0 '0 is not in 1..=9223372036854775807'
+    no_number 9223372036854775808 '9223372036854775808 is not in 1..=9223372036854775807'
+    no_number 18446744073709551616 'number too large to fit in target type'
+    no_number 1.5 'invalid digit found in string'
+    no_number abc 'invalid digit found in string'
+    no_number '' 'cannot parse integer from empty string'
+    holds unmade [ ! -e "$room/unmade" ]
+}
+
+helps() {
+    case_of help 0 'The roster book*' '' --help
+    help_of '' duty init 'do' import FILE ZONE NUMBER REPORT TIME "$zone" "$report"
+    help_of duty duty ZONE REPORT TIME "$zone" "$report" 'UTC instant' Example:
+    help_of init init FILE ZONE "$zone" UTC 'new or empty' Example:
+    help_of 'do' 'do' FILE 'JSON on standard input' '"number":1' 'Exit status'
+    help_of import import FILE NUMBER 'CSV on standard input' 'from 1 to 9223372036854775807' 'Exit status'
+}
+
+failing_outputs() {
+    local stream words=(duty "$zone" "$report" 2025-06-10T{16:30,20:30}Z 2025-06-11T{01:29,05:59}Z)
+    for stream in full unread closed; do
+        lost help "$stream" --help
+        lost verdict "$stream" "${words[@]}"
+        untold mistake "$stream" rest
+        untold refused_zone "$stream" duty '' '' ''
+        untold no_folder "$stream" init "$room/unmade/roster.db" "$zone"
+    done
+}
+
+books() {
+    local book=$room/roster.db text=$room/text word
+    : >"$room/empty"
+    seq 1000 >"$text"
+    case_of init 0 ready '' init "$book" "$zone"
+    case_of init_again 3 '' 'refused 43 NotEmpty' init "$book" UTC0
+    case_of init_of_an_empty_file 0 ready '' init "$room/empty" UTC0
+    case_of init_without_a_zone 1 '' 'refused T4 ZoneText' init "$room/unmade" America/New_York
+    case_of init_in_no_folder 3 '' 'refused 90 Store' init "$room/unmade/roster.db" "$zone"
+    # The zone is looked at first.
+    for word in '' America/New_York EST5EDT É5; do
+        case_of "init_in_no_folder_of_the_zone '$word'" 1 '' 'refused T4 ZoneText' init "$room/unmade/roster.db" "$word"
+    done
+    case_of init_of_a_folder 3 '' 'refused 90 Store' init "$room" "$zone"
+    case_of init_of_a_device 3 '' 'refused 90 Store' init /dev/full "$zone"
+    case_of init_of_memory 3 '' 'refused 90 Store' init :memory: "$zone"
+    case_of init_of_a_text 3 '' 'refused 90 Store' init "$text" "$zone"
+    holds unmade [ ! -e "$room/unmade" ]
+    holds text_kept [ "$(seq 1000)" = "$(cat "$text")" ]
+    # A book is made before that is told.
+    lost init full init "$room/untold" "$zone"
+    case_of init_after_a_full_disk 3 '' 'refused 43 NotEmpty' init "$room/untold" "$zone"
+    if command -v sqlite3 >/dev/null; then
+        holds zone_kept [ "$(sqlite3 "$book" 'SELECT one, version, zone FROM book' 2>&1)" = "1|1|$zone" ]
+    fi
 }
 
 room=$(mktemp -d) || exit 2
 trap 'rm -rf "$room"' EXIT
-book=$room/roster.db
-text=$room/text
-: >"$room/empty"
-seq 1000 >"$text"
-
 ./rosterbook --version >/dev/null || failed=$((failed + 1))
-# shellcheck disable=SC2086
-{
-    case_of within 0 '*flight 8:30 of 9:00 within' '' $duty 2025-06-11T05:59Z
-    case_of exceeds 1 '*flight 8:31 of 9:00 exceeds 117.13(a)' '' $duty 2025-06-11T06:00Z
-    case_of odd_times 1 '' 'refused 19 SegmentCount 1' $duty
-    case_of no_zone 1 '' 'refused T4 ZoneText' duty America/New_York x y
-    case_of no_times 2 '' 'error:*<TIME>...*' duty $zone 2025-06-10T15:59Z
-    case_of no_words 2 '' '*Usage: rosterbook <COMMAND>*'
-    case_of help 0 '*REPORT*UTC instant*Example:*' '' duty --help
-    case_of not_utf_8 2 '' 'error: an argument is not UTF-8' duty $'\xff'
-    full_disk full_disk $duty 2025-06-11T05:59Z
-}
+# Streams that take nothing: a full disk, a pipe that nobody reads (which is opened to be read too at first), and none at all.
+mkfifo "$room/pipe" || exit 2
+exec {full}>/dev/full {pipe}<>"$room/pipe"
+exec {unread}>"$room/pipe" {pipe}>&-
+declare -A streams=([full]=$full [unread]=$unread [closed]=-)
 
-case_of init 0 ready '' init "$book" "$zone"
-case_of init_again 3 '' 'refused 43 NotEmpty' init "$book" UTC0
-case_of init_of_an_empty_file 0 ready '' init "$room/empty" UTC0
-case_of init_without_a_zone 1 '' 'refused T4 ZoneText' init "$room/unmade" America/New_York
-case_of init_of_one_word 2 '' 'error:*<ZONE>*' init "$room/unmade"
-case_of init_of_three_words 2 '' "error: unexpected argument 'x'*" init "$room/unmade" "$zone" x
-case_of init_in_no_folder 3 '' 'refused 90 Store' init "$room/unmade/roster.db" "$zone"
-case_of init_of_a_folder 3 '' 'refused 90 Store' init "$room" "$zone"
-case_of init_of_a_device 3 '' 'refused 90 Store' init /dev/full "$zone"
-case_of init_of_memory 3 '' 'refused 90 Store' init :memory: "$zone"
-case_of init_of_a_text 3 '' 'refused 90 Store' init "$text" "$zone"
-case_of init_help 0 '*FILE*ZONE*Example:*' '' init --help
-holds unmade [ ! -e "$room/unmade" ]
-holds text_kept [ "$(seq 1000)" = "$(cat "$text")" ]
-# A book is made before that is told.
-full_disk init_on_a_full_disk init "$room/untold" "$zone"
-case_of init_after_a_full_disk 3 '' 'refused 43 NotEmpty' init "$room/untold" "$zone"
-if command -v sqlite3 >/dev/null; then
-    holds zone_kept [ "$(sqlite3 "$book" 'SELECT one, version, zone FROM book' 2>&1)" = "1|1|$zone" ]
-fi
+command_lines
+helps
+failing_outputs
+books
 echo "$passed passed, $failed failed"
