@@ -1,0 +1,337 @@
+#!/usr/bin/env python3
+"""Shows how the program reads the tables of a file, and what it leaves in them.
+
+    tests/tables.py
+
+Books are made by plain SQL, and the program is asked: such with a damage, or with two, of which the first table has to be named
+(tests/tables/damages.txt), and sound ones, whose answers tell how their rows are read (answers.txt). Books that the program makes
+are read by plain SELECTs: after each order of a story (story.txt), with the longest pairing, with the greatest key, and beside
+other tables. The SQL is that of Python's own `sqlite3`, of SQLite 3.37 or newer. What differs is told on standard error. The last
+line is 'N passed, M failed', and the exit status 1 where M isn't 0.
+"""
+
+import json
+import re
+import shutil
+import sqlite3
+import subprocess
+import sys
+import tempfile
+from contextlib import closing
+from dataclasses import dataclass
+from datetime import datetime, timedelta
+from pathlib import Path
+
+TOP = Path(__file__).resolve().parent.parent
+ZONE = "EST5EDT,M3.2.0,M11.1.0"
+GREATEST = "9223372036854775807"
+
+# ---- What is written in tests/tables
+
+
+def text_of(name):
+    return (TOP / "tests" / "tables" / name).read_text(encoding="utf-8")
+
+
+def read(name):
+    """The lines that aren't indented, each with the list of the indented ones below it."""
+    found = []
+    for line in re.sub(r"\\\n *", "", text_of(name)).splitlines():
+        if line.startswith(" "):
+            found[-1][1].append(line.strip())
+        elif not line.startswith("#"):
+            found.append((line, []))
+    return found
+
+
+SOUND = text_of("sound.sql")
+STORY = read("story.txt")
+MEMBER = STORY[0][0]
+FLY = next(kept for kept, _ in STORY if '"do":"actual"' in kept)
+
+# ---- Databases and the program
+
+
+def database(file, statements):
+    """The file, after these statements."""
+    with closing(sqlite3.connect(file)) as opened:
+        opened.executescript(f"PRAGMA synchronous = OFF; BEGIN; {statements}; COMMIT")
+    file.touch()  # (no statement makes no file)
+    return file
+
+
+def told(file, of=""):
+    """All rows, those of the schema too, as lines of a table's name and the values; those that begin so. Of a copy, so that the
+    log of the file stays."""
+    with tempfile.TemporaryDirectory() as copy:
+        for part in file.parent.glob(f"{file.name}*"):
+            shutil.copy(part, copy)
+        with closing(sqlite3.connect(Path(copy) / file.name)) as opened:
+            opened.text_factory = lambda text: text.decode(errors="surrogateescape")
+            tables = [name for (name,) in opened.execute("SELECT name FROM sqlite_schema WHERE type = 'table'")]
+            found = [(table, row) for table in ("sqlite_schema", *tables) for row in opened.execute(f"SELECT * FROM {table}")]
+    lines = [f"{table} " + "|".join("" if value is None else str(value) for value in row) for table, row in found]
+    return sorted(line for line in lines if line.startswith(of))
+
+
+def rows(file):
+    return [line for line in told(file) if not line.startswith("sqlite_schema ")]
+
+
+def ran(*words, given=""):
+    """What the program writes, standard error after `! `, and its exit status where that isn't 0."""
+    done = subprocess.run([TOP / "rosterbook", *words], input=given.encode(), capture_output=True)
+    out, err = done.stdout.decode(errors="replace"), done.stderr.decode(errors="replace")
+    return out + "".join(f"! {line}\n" for line in err.splitlines()) + (f"[{done.returncode}]\n" if done.returncode else "")
+
+
+# What an order in words names, in turn.
+NAMED = {
+    "add-crew": ("crew", "seat", "name"),
+    "cancel-pairing": ("pairing",),
+    "assign": ("pairing", "crew"),
+    "release": ("pairing", "crew"),
+    "swap": ("pairing", "crew", "other_pairing", "other_crew"),
+    "add-ground": ("ground", "crew", "begin", "end", "task"),
+    "cancel-ground": ("ground",),
+}
+
+
+def order(words):
+    """An order in words, or by the text that it is kept as."""
+    if words.startswith("{"):
+        return json.loads(words)
+    do, *texts = words.split()
+    if do == "fly":
+        return {**json.loads(FLY), "pairing": texts[0], "period": int(texts[1])}
+    if do == "add-ground":
+        begin = datetime(2000, 1, 1) + timedelta(minutes=int(texts.pop()))
+        texts += [f"{it:%Y-%m-%dT%H:%MZ}" for it in (begin, begin + timedelta(minutes=1))] + ["Drill"]
+    return {"do": do, **dict(zip(NAMED[do], texts))}
+
+
+def asked(file, words, number=100):
+    """What `do` answers to an order under this number."""
+    return ran("do", file, given=json.dumps({"number": int(number), **order(words)}))
+
+
+def imported(file, number, pairings):
+    """What `import` answers to these pairings, all of the same times."""
+    times = "1,2025-06-10T11:00Z,2025-06-10T20:00Z,RB1,BOS,2025-06-10T12:00Z,IAD,2025-06-10T19:30Z"
+    lines = ["pairing,period,report,release,flight,from,out,to,in", *(f"{pairing},{times}" for pairing in pairings)]
+    return ran("import", file, number, given="\n".join([*lines, ""]))
+
+
+# ---- What is wanted, as docs/FORMATS.md has it
+
+
+def reply(text):
+    """The JSON of `accepted` with exceedances, or of a refusal by its number and name, with its limits or its period."""
+    word, *rest = text.split()
+    name = "" if word == "accepted" else rest.pop(0)
+    broken = [{"crew": crew, "section": section} for crew, section in zip(rest[::2], rest[1::2])]
+    found = {"name": name, "refusal": int(word), "result": "refused"} if name else {"exceedances": broken, "result": "accepted"}
+    if name and rest:
+        found |= {"limits": broken} if name == "Limits" else {"period": int(rest[0])}
+    return json.dumps(found, sort_keys=True, separators=(",", ":"))
+
+
+def answer(text):
+    """What `do` answers, where that is the reply."""
+    return reply(text) + ("\n" if text.startswith("accepted") else "\n[1]\n")
+
+
+def refused(text):
+    """What the program answers, where it stops for that."""
+    return f"! refused {text}\n[3]\n"
+
+
+def of_nothing(text):
+    """What `do` answers to a request of no bytes: it reads that only of a book that it has loaded."""
+    return '{"field":"body","name":"BadJson","refusal":31,"result":"refused"}\n[1]\n' if text == "loaded" else refused(text)
+
+
+@dataclass
+class Desk:
+    """A folder with one database, and how many answers were right."""
+
+    room: Path
+    passed: int = 0
+    failed: int = 0
+
+    def file(self):
+        """A file that isn't there, in the place of the one before."""
+        for old in self.room.iterdir():
+            old.unlink()
+        return self.room / "book.db"
+
+    def book(self):
+        """An empty book that the program makes."""
+        file = self.file()
+        self.expect("an empty book", ran("init", file, ZONE), "ready\n")
+        return file
+
+    def expect(self, name, got, wanted):
+        self.passed += got == wanted
+        self.failed += got != wanted
+        if got != wanted:
+            print(f"tests/tables.py: {name}\nwanted: {wanted}\ngot: {got}", file=sys.stderr)
+
+    def expect_kept(self, name, file, call, wanted):
+        """That the call answers this, and leaves all rows as they were."""
+        before = told(file)
+        self.expect(name, call() + ("" if told(file) == before else "and other rows\n"), wanted)
+
+
+# ---- What is tried
+
+
+def long_pairing(periods, segments):
+    """Statements that add a P3 of so many periods of a day, each of so many segments of an hour."""
+    statements = "INSERT INTO pairing VALUES ('P3');"
+    for period in range(1, periods + 1):
+        begin = 13_400_000 + 1_440 * period
+        statements += f"INSERT INTO period VALUES ('P3', {period}, {begin}, {begin + 1_440}, NULL, NULL);"
+        for number in range(1, segments + 1):
+            times = f"{begin + 60 * number}, {begin + 60 * number + 60}, NULL, NULL"
+            statements += f"INSERT INTO segment VALUES ('P3', {period}, {number}, 'RB1', 'BOS', 'BOS', {times});"
+    return statements
+
+
+def damages():
+    """Statements, each with what is answered of the sound book after them."""
+    for wanted, lines in read("damages.txt"):
+        for line in lines:
+            before, _, rest = line.partition("<")
+            inside, _, after = rest.partition(">")
+            yield from ((before + one + after, wanted) for one in inside.split(" | "))
+    yield long_pairing(10, 12), "loaded"
+    for periods, segments in ((11, 1), (1, 13), (10, 13)):
+        yield long_pairing(periods, segments), "41 Damaged segment"
+
+
+def try_damages(desk):
+    for statements, wanted in damages():
+        file = database(desk.file(), SOUND + statements)
+        desk.expect_kept(statements, file, lambda: ran("do", file), of_nothing(wanted))
+    file = database(desk.file(), SOUND + "DELETE FROM seat WHERE pairing = 'P1' AND seat = 1")
+    desk.expect("damaged", ran("do", file), of_nothing("41 Damaged seat"))
+    desk.expect("mended", ran("do", database(file, "INSERT INTO seat VALUES ('P1', 1, 'F1')")), of_nothing("loaded"))
+
+
+def try_no_books(desk):
+    crew = "CREATE TABLE crew (id TEXT NOT NULL, seat INTEGER NOT NULL, name TEXT NOT NULL, PRIMARY KEY (id)) STRICT"
+    for statements in ("", "CREATE TABLE t (x INTEGER) STRICT", crew):
+        file = database(desk.file(), statements)
+        desk.expect_kept(f"no book: {statements}", file, lambda: ran("do", file), of_nothing("40 NotABook"))
+
+
+def try_answers(desk):
+    for statements, lines in read("answers.txt"):
+        for words, wanted in (it.split(": ") for line in lines for it in line.split(" | ")):
+            file = database(desk.file(), SOUND + statements)
+            number, rest = words.split(" ", 1) if words[0].isdigit() else (100, words)
+            desk.expect(f"{statements}: {words}", asked(file, rest, number), answer(wanted))
+    file = database(desk.file(), SOUND)
+    desk.expect("a held part", imported(file, "13", ["P4", "P5"]), "1 accepted\n2 refused 1 NumberUsed\n[1]\n")
+
+
+def try_story(desk):
+    """Each call opens the book anew. After each order those before it are asked again, and act once."""
+    file, wanted, held = desk.book(), [f"book 1|1|{ZONE}"], []
+    desk.expect("its row", rows(file), wanted)
+    for number, (kept, (line, *changes)) in enumerate(STORY, 1):
+        text, _, anew = line.partition(", then ")
+        for sign, row in (change.split(" ", 1) for change in changes):
+            wanted = [*wanted, row] if sign == "+" else [it for it in wanted if not it.startswith(row)]
+        wanted = sorted([*wanted, f"request {number}|0|{kept}|{reply(text)}"])
+        held.append((number, kept, answer(text)))
+        desk.expect(kept, asked(file, kept, number), answer(text))
+        desk.expect(f"the rows after {kept}", rows(file), wanted)
+        if anew:
+            desk.expect_kept(f"anew {kept}", file, lambda: asked(file, kept), answer(anew))
+        for before, other, as_then in held:
+            desk.expect_kept(f"again {other}", file, lambda: asked(file, other, before), as_then)
+    another = "add-crew C3 captain Moe"
+    for before, other, _ in held:
+        desk.expect_kept(f"in the place of {other}", file, lambda: asked(file, another, before), answer("1 NumberUsed"))
+    desk.expect("a free number", asked(file, another, len(STORY) + 1), answer("accepted"))
+
+
+def period_of_twelve(day):
+    """Twelve flights, from BOS to IAD and back in turn, each of which ends on the hour."""
+    ports = ("BOS", "IAD") * 7
+    segments = []
+    for i in range(12):
+        times = {"out": f"{day}T{i:02}:10Z", "in": f"{day}T{i + 1:02}:00Z"}
+        segments.append({"flight": f"RB{i + 1}", "from": ports[i], "to": ports[i + 1], **times})
+    return {"report": f"{day}T00:00Z", "release": f"{day}T12:30Z", "segments": segments}
+
+
+def try_long_pairing(desk):
+    file = desk.book()
+    periods = [period_of_twelve(f"2025-06-{day:02}") for day in range(1, 11)]
+    kept = json.dumps({"do": "add-pairing", "pairing": "P1", "periods": periods})
+    desk.expect("a long pairing", asked(file, kept), answer("accepted"))
+    desk.expect("its rows", [len(told(file, f"{table} ")) for table in ("pairing", "period", "segment")], [1, 10, 120])
+    for row in (
+        "pairing P1",
+        "period P1|1|13367520|13368270||",
+        "period P1|10|13380480|13381230||",
+        "segment P1|1|1|RB1|BOS|IAD|13367530|13367580||",
+        "segment P1|7|5|RB5|BOS|IAD|13376410|13376460||",
+        "segment P1|10|12|RB12|IAD|BOS|13381150|13381200||",
+    ):
+        desk.expect(f"the row {row}", told(file, row), [row])
+
+
+def try_greatest_key(desk):
+    """All parts of an import of 10,000 pairings but the last are refused."""
+    file = desk.book()
+    desk.expect("two pairings", imported(file, "1", ["P1", "P2"]), "1 accepted\n2 accepted\n")
+    pairings = ["P1", "P2"] * 4_999 + ["P1", "P3"]
+    wanted = "".join(f"{part} refused 5 PairingExists\n" for part in range(1, 10_000)) + "10000 accepted\n[1]\n"
+    kept = (
+        '{"do":"add-pairing","pairing":"P3","periods":[{"release":"2025-06-10T20:00Z","report":"2025-06-10T11:00Z","segments":['
+        '{"flight":"RB1","from":"BOS","in":"2025-06-10T19:30Z","out":"2025-06-10T12:00Z","to":"IAD"}]}]}'
+    )
+    row = f"request {GREATEST}|10000|{kept}|{reply('accepted')}"
+    desk.expect("10,000 parts", imported(file, GREATEST, pairings), wanted)
+    desk.expect("the greatest key", told(file, f"request {GREATEST}|"), [row])
+    desk.expect_kept("10,000 parts again", file, lambda: imported(file, GREATEST, pairings), wanted)
+    desk.expect("the greatest number", asked(file, MEMBER, GREATEST), answer("accepted"))
+    desk.expect("its rows", told(file, f"request {GREATEST}|"), [f"request {GREATEST}|0|{MEMBER}|{reply('accepted')}", row])
+
+
+def try_making(desk):
+    member = [f"book 1|1|{ZONE}", "crew C1|0|Ada Ray", f"request 1|0|{MEMBER}|{reply('accepted')}"]
+    file = desk.book()
+    desk.expect("a member", asked(file, MEMBER, 1), answer("accepted"))
+    desk.expect_kept("a second book", file, lambda: ran("init", file, "UTC0"), refused("43 NotEmpty"))
+    desk.expect("the rows of the first", rows(file), member)
+    file = database(desk.file(), "CREATE TABLE t (x INTEGER) STRICT; INSERT INTO t VALUES (7), (8)")
+    desk.expect("a book beside a table", ran("init", file, ZONE), "ready\n")
+    desk.expect("a member beside it", asked(file, MEMBER, 1), answer("accepted"))
+    desk.expect("the rows of both", rows(file), [*member, "t 7", "t 8"])
+    request = "CREATE TABLE Request (x INTEGER) STRICT; INSERT INTO request VALUES (7)"
+    for statements in (request, "CREATE TABLE t (x INTEGER REFERENCES crew) STRICT"):
+        file = database(desk.file(), statements)
+        desk.expect_kept(statements, file, lambda: ran("init", file, "UTC0"), refused("43 NotEmpty"))
+    desk.expect("a book in a folder", ran("init", desk.room, ZONE), refused("90 Store"))
+
+
+def main():
+    if sqlite3.sqlite_version_info < (3, 37):
+        sys.exit("tests/tables.py: Python's sqlite3 has to be of SQLite 3.37 or newer")
+    if subprocess.run([TOP / "rosterbook", "--version"], stdout=subprocess.DEVNULL).returncode:
+        return 3
+    with tempfile.TemporaryDirectory() as room:
+        desk = Desk(Path(room))
+        for tried in (try_damages, try_no_books, try_answers, try_story, try_long_pairing, try_greatest_key, try_making):
+            tried(desk)
+    print(f"{desk.passed} passed, {desk.failed} failed")
+    return 1 if desk.failed else 0
+
+
+if __name__ == "__main__":
+    sys.exit(main())
