@@ -1,0 +1,431 @@
+#!/usr/bin/env python3
+"""Asks the program what a crew desk asks, and compares what is told with the rows that were worked out.
+
+    tests/answers.py [NAME..]
+
+A case is a few pages of lines, which are taken in turn on a book of the captains C1 and C2 and the first officer F1. A line is
+a command, as tests/office.py has it, or a look into the tables of the book:
+
+    20 assign P1 C1 -> accepted     under the number 20, with what has to be told
+    assign P1 C1                    under a number of its own; it has to be accepted, and to break no limit
+    seats -> P1 C1 -                each pairing with its captain and its first officer
+    exceedances -> none             each exceedance that is kept
+    planned P1 10: .. -> yes        whether the pairing is kept with these periods alone
+
+Of a page that begins with the line `import` all others are pairings of one schedule. What differs is told on standard error.
+The last line is 'N passed, M failed', and the exit status 1 where M isn't 0.
+"""
+
+import sqlite3
+import sys
+import tempfile
+from dataclasses import dataclass
+
+from office import Book, build, order
+
+MEMBERS = """
+    hire C1 captain: Ada Ray
+    hire C2 captain: Bo Lind
+    hire F1 first-officer: Zoë Roy
+"""
+
+# ---- Assignments on both sides of a limit.
+
+HELD = """
+    plan P801 10: 11:00 | 12:00-19:30 | 20:00
+    assign P801 C1
+"""
+
+# C1 has ground duties on five days, and flies on 16 June.
+FIVE_GROUND_DUTIES = """
+    train G1 9: 12:00-20:00
+    train G2 10: 12:00-20:00
+    train G3 11: 12:00-20:00
+    train G4 12: 12:00-20:00
+    train G5 13: 12:00-20:00
+    plan P901 16: 12:00 | 13:00-15:00 | 15:30
+    assign P901 C1
+"""
+
+# C1 has 720 minutes of flight duty on each of five days.
+FIVE_DAYS_OF_FLIGHT_DUTY = """
+    plan P09 9: 12:00 | 13:00-15:00, 21:00-+1 00:00 | +1 00:00
+    assign P09 C1
+    plan P10 10: 12:00 | 13:00-15:00, 21:00-+1 00:00 | +1 00:00
+    assign P10 C1
+    plan P12 12: 12:00 | 13:00-15:00, 21:00-+1 00:00 | +1 00:00
+    assign P12 C1
+    plan P13 13: 12:00 | 13:00-15:00, 21:00-+1 00:00 | +1 00:00
+    assign P13 C1
+    plan P14 14: 12:00 | 13:00-15:00, 21:00-+1 00:00 | +1 00:00
+    assign P14 C1
+"""
+
+# C1 flies 480 minutes on each of twelve days of June.
+TWELVE_DAYS_OF_FLYING = "".join(
+    f"plan P{day} {day}: 11:00 | 12:00-20:00 | 20:30\nassign P{day} C1\n" for day in (1, 3, 5, 8, 10, 12, 15, 17, 19, 22, 24, 26)
+)
+
+# C1 flies 500 minutes on each third day of 2025 up to 21 December: 119 periods, 59,500 minutes.
+EACH_THIRD_DAY = [1 + 3 * period for period in range(119)]
+A_YEAR_PLANNED = "import\n" + "".join(f"plan P{day} day-{day}: 12:00 | 13:00-21:20 | 22:00\n" for day in EACH_THIRD_DAY)
+A_YEAR_OF_FLYING = "".join(f"assign P{day} C1\n" for day in EACH_THIRD_DAY)
+
+ASSIGNMENTS = {
+    "ten_hours_of_rest_are_enough": [HELD, """
+        plan P802 11: 06:00 | 07:00-09:00 | 09:30
+        1 assign P802 C1 -> accepted
+    """],
+    "a_minute_less_than_ten_hours_of_rest_is_too_little": [HELD, """
+        plan P803 11: 05:59 | 07:00-09:00 | 09:30
+        1 assign P803 C1 -> 12 Limits C1 117.25(e)
+    """],
+    "thirty_hours_free_from_ground_duties_are_enough": [FIVE_GROUND_DUTIES, """
+        plan P902 15: 00:00 | 01:00-05:00 | 06:00
+        1 assign P902 C1 -> accepted
+    """],
+    "a_later_period_keeps_its_thirty_hours_before_it": [FIVE_GROUND_DUTIES, """
+        plan P902 15: 00:00 | 01:00-07:00 | 08:00
+        1 assign P902 C1 -> 12 Limits C1 117.25(b)
+    """],
+    "a_week_holds_3600_minutes_of_flight_duty": [FIVE_DAYS_OF_FLIGHT_DUTY, """
+        plan P11 11: 12:00 | 12:00-12:01 | 12:01
+        1 assign P11 C1 -> 12 Limits C1 117.23(c)(1)
+    """],
+    # The window that ends with the new flight begins at 16:00 on 1 June.
+    "four_weeks_hold_6000_minutes_of_flight": [TWELVE_DAYS_OF_FLYING, """
+        plan P29 29: 07:00 | 08:00-16:00 | 16:30
+        1 assign P29 C1 -> accepted
+    """],
+    "four_weeks_do_not_hold_6001_minutes_of_flight": [TWELVE_DAYS_OF_FLYING, """
+        plan P29 29: 06:59 | 07:59-15:59 | 16:30
+        1 assign P29 C1 -> 12 Limits C1 117.23(b)(1)
+    """],
+    # Of the new flight's 530 minutes 500 are of 2025.
+    "a_year_holds_60000_minutes_of_flight": [A_YEAR_PLANNED, A_YEAR_OF_FLYING, """
+        plan P365 day-365: 15:00 | 15:40-+1 00:30 | +1 01:00
+        1 assign P365 C1 -> accepted
+    """],
+    "a_year_does_not_hold_60001_minutes_of_flight": [A_YEAR_PLANNED, A_YEAR_OF_FLYING, """
+        plan P365 day-365: 15:00 | 15:39-+1 00:30 | +1 01:00
+        1 assign P365 C1 -> 12 Limits C1 117.23(b)(2)
+    """],
+}  # fmt: skip
+
+# ---- Periods flown at other times than planned: what is recorded, and what is refused afterwards.
+
+# C1 flies on 6, 7 and 8 June, P13A together with F1, and P13B ten hours after it. P13A is flown eleven hours late, as request
+# 113 says. C1's week holds 3,600 minutes of flight duty, and so is within its limit.
+A_LATE_PERIOD = """
+    plan P06 6: 12:00 | 13:00-15:00, 21:00-+1 00:00 | +1 00:00
+    assign P06 C1
+    plan P07 7: 12:00 | 13:00-15:00, 21:00-+1 00:00 | +1 00:00
+    assign P07 C1
+    plan P08 8: 12:00 | 13:00-15:00, 21:00-+1 00:30 | +1 00:30
+    assign P08 C1
+    plan P13A 10: 11:00 | 12:00-20:00 | 20:30
+    assign P13A C1
+    assign P13A F1
+    plan P13B 11: 06:30 | 07:30-10:30 | 11:00
+    assign P13B C1
+    113 fly P13A 1 10: 11:00 | 23:00-+1 07:00 | +1 07:30 -> accepted C1 117.13(a) C1 117.25(e) F1 117.13(a)
+"""
+
+# C1 flies 3,600 minutes from 2 to 8 June, the last hour of them PL, together with F1. PL is flown long, as request 60 says:
+# C1's week is then over its limit.
+A_LONG_PERIOD = """
+    plan P2 2: 12:00 | 13:00-15:00, 21:00-+1 00:00 | +1 00:00
+    assign P2 C1
+    plan P3 3: 12:00 | 13:00-15:00, 21:00-+1 00:00 | +1 00:00
+    assign P3 C1
+    plan P4 4: 12:00 | 13:00-15:00, 21:00-+1 00:00 | +1 00:00
+    assign P4 C1
+    plan P6 6: 12:00 | 13:00-15:00, 21:00-+1 00:00 | +1 00:00
+    assign P6 C1
+    plan P7 7: 12:00 | 13:00-15:00, 21:00-23:00 | 23:00
+    assign P7 C1
+    plan PL 8: 11:00 | 11:10-12:00 | 12:00
+    assign PL C1
+    assign PL F1
+    60 fly PL 1 8: 11:00 | 11:10-18:50 | 19:00 -> accepted C1 117.23(c)(1)
+"""
+
+FLOWN_PERIODS = {
+    "a_late_period_is_recorded": [A_LATE_PERIOD, """
+        exceedances -> 113 0 C1 117.13(a) P13A 1 | 113 0 C1 117.25(e) P13A 1 | 113 0 F1 117.13(a) P13A 1
+    """],
+    "a_late_period_asked_again_is_recorded_once": [A_LATE_PERIOD, """
+        113 fly P13A 1 10: 11:00 | 23:00-+1 07:00 | +1 07:30 -> repeated C1 117.13(a) C1 117.25(e) F1 117.13(a)
+        exceedances -> 113 0 C1 117.13(a) P13A 1 | 113 0 C1 117.25(e) P13A 1 | 113 0 F1 117.13(a) P13A 1
+    """],
+    "a_late_period_is_recorded_under_each_number": [A_LATE_PERIOD, """
+        114 fly P13A 1 10: 11:00 | 23:00-+1 07:00 | +1 07:30 -> accepted C1 117.13(a) C1 117.25(e) F1 117.13(a)
+        exceedances -> 113 0 C1 117.13(a) P13A 1 | 113 0 C1 117.25(e) P13A 1 | 113 0 F1 117.13(a) P13A 1 \
+            | 114 0 C1 117.13(a) P13A 1 | 114 0 C1 117.25(e) P13A 1 | 114 0 F1 117.13(a) P13A 1
+    """],
+    "the_seats_of_a_flown_pairing_stay": [A_LATE_PERIOD, """
+        plan P20 20: 12:00 | 13:00-15:00, 21:00-+1 00:00 | +1 00:00
+        assign P20 C2
+        1 release P13A C1 -> 10 Flown
+        2 swap P13A C1 P20 C2 -> 10 Flown
+        3 swap P20 C2 P13A C1 -> 10 Flown
+    """],
+    "a_longer_period_fills_the_week_before_it": [A_LONG_PERIOD, """
+        plan P1 1: 12:00 | 12:10-13:00 | 13:00
+        1 assign P1 C1 -> 12 Limits C1 117.23(c)(1)
+    """],
+    "a_flown_pairing_is_neither_cancelled_nor_released": [A_LONG_PERIOD, """
+        1 cancel PL -> 9 PairingCrewed
+        2 release PL F1 -> 10 Flown
+        3 fly PL 2 8: 11:00 | 11:10-18:50 | 19:00 -> 13 NoSuchDuty
+    """],
+    # Fourteen hours and a half of flight, in fifteen and a half of flight duty.
+    "a_long_flight_breaks_both_tables": ["""
+        plan P1 10: 11:00 | 12:00-19:30 | 20:00
+        assign P1 C1
+        assign P1 F1
+        113 fly P1 1 10: 11:00 | 12:00-+1 02:30 | +1 03:00 -> accepted C1 117.11(a)(1) C1 117.13(a) F1 117.11(a)(1) F1 117.13(a)
+    """],
+    # What was recorded stays.
+    "an_actual_takes_the_place_of_an_earlier_one": [A_LONG_PERIOD, """
+        61 fly PL 1 8: 11:00 | 11:10-12:00 | 12:00 -> accepted
+        exceedances -> 60 0 C1 117.23(c)(1) PL 1
+    """],
+}  # fmt: skip
+
+# ---- New duties judged in a history: pairings, actual times and ground duties.
+
+# C1 flies 4,010 minutes from 2 to 8 June, since P2, held together with F1, was flown longer than planned.
+A_WEEK = """
+    plan P2 2: 12:00 | 13:00-15:00, 16:00-17:00 | 17:00
+    assign P2 C1
+    assign P2 F1
+    plan P3 3: 12:00 | 13:00-15:00, 21:00-+1 00:00 | +1 00:00
+    assign P3 C1
+    plan P4 4: 12:00 | 13:00-15:00, 21:00-+1 00:00 | +1 00:00
+    assign P4 C1
+    plan P6 6: 12:00 | 13:00-15:00, 21:00-+1 00:00 | +1 00:00
+    assign P6 C1
+    plan P7 7: 12:00 | 13:00-15:00, 21:00-23:00 | 23:00
+    assign P7 C1
+    plan P8 8: 11:00 | 11:10-18:50 | 19:00
+    assign P8 C1
+    60 fly P2 1 2: 12:00 | 13:00-15:00, 21:00-+1 00:00 | +1 00:00 -> accepted C1 117.23(c)(1)
+"""
+
+JUDGEMENT = {
+    "a_pairing_needs_ten_hours_of_rest": [HELD, """
+        plan P803 11: 05:59 | 07:00-09:00 | 09:30
+        1 assign P803 C1 -> 12 Limits C1 117.25(e)
+        plan P802 11: 06:00 | 07:00-09:00 | 09:30
+        2 assign P802 C1 -> accepted
+    """],
+    # The window from noon on 1 June to noon on 8 June, which the last period flies on past, holds 3,660 minutes.
+    "a_week_that_ends_in_a_later_period_is_tried": [A_WEEK, """
+        plan P1 1: 12:00 | 12:10-13:00 | 13:00
+        1 assign P1 C1 -> 12 Limits C1 117.23(c)(1)
+    """],
+    # By the actual report, a minute before noon, Table B would give an hour more.
+    "tables_are_entered_with_the_planned_report": ["""
+        plan P1 10: 16:00 | 16:30-20:30, +1 01:00-+1 05:00 | +1 05:30
+        1 assign P1 C1 -> accepted
+        2 assign P1 F1 -> accepted
+        3 fly P1 1 10: 15:59 | 16:30-20:30, +1 01:00-+1 05:00 | +1 05:30 -> accepted C1 117.13(a) F1 117.13(a)
+    """],
+    "a_ground_duty_overlaps_by_minutes": ["""
+        plan P1 10: 11:00 | 12:00-19:30 | 20:00
+        assign P1 C1
+        1 train G1 10: 19:59-22:00 -> 11 Overlap
+        2 train G1 10: 20:00-22:00 -> accepted
+    """],
+}  # fmt: skip
+
+# ---- Numbers of requests, and refusals for other causes than limits.
+
+# C1 is assigned P1 by request 20, and released from it by request 21.
+ASSIGNED_AND_RELEASED = """
+    plan P1 10: 11:00 | 12:00-19:30 | 20:00
+    20 assign P1 C1 -> accepted
+    seats -> P1 C1 -
+    21 release P1 C1 -> accepted
+    seats -> P1 - -
+"""
+
+# C1 holds P1, C1 and F1 hold P2, P3 is at the time of P1, and C1 has the ground duty G1.
+A_SMALL_BOOK = """
+    plan P1 10: 11:00 | 12:00-19:30 | 20:00
+    assign P1 C1
+    plan P2 12: 11:00 | 12:00-19:30 | 20:00
+    assign P2 C1
+    assign P2 F1
+    plan P3 10: 19:59 | 20:30-21:00 | 21:30
+    train G1 20: 12:00-20:00
+"""
+
+REQUESTS = {
+    "a_repeated_assignment_leaves_the_seat_free": [ASSIGNED_AND_RELEASED, """
+        20 assign P1 C1 -> repeated
+        seats -> P1 - -
+    """],
+    # The number is looked at before all others.
+    "a_held_number_takes_no_other_command": [ASSIGNED_AND_RELEASED, """
+        20 assign P1 C2 -> 1 NumberUsed
+        20 assign P9 C9 -> 1 NumberUsed
+    """],
+    # C1 holds P15A, and C2 holds P15B at the same hours two days later and P15C the night before P15A.
+    "a_swap_is_refused_for_what_the_other_member_breaks": [ASSIGNED_AND_RELEASED, """
+        plan P15A 10: 11:00 | 12:00-19:30 | 20:00
+        assign P15A C1
+        plan P15B 12: 11:00 | 12:00-19:30 | 20:00
+        assign P15B C2
+        plan P15C 9: 20:00 | 21:00-+1 03:30 | +1 04:00
+        assign P15C C2
+        22 swap P15A C1 P15B C2 -> 12 Limits C2 117.25(e)
+        seats -> P1 - - | P15A C1 - | P15B C2 - | P15C C2 -
+    """],
+    "a_swap_gives_each_member_the_others_seat": ["""
+        plan P1 10: 11:00 | 12:00-19:30 | 20:00
+        assign P1 C1
+        plan P2 12: 11:00 | 12:00-19:30 | 20:00
+        assign P2 C2
+        1 swap P1 C1 P2 C2 -> accepted
+        seats -> P1 C2 - | P2 C1 -
+    """],
+    "a_refused_command_leaves_its_number_free": ["""
+        30 assign P1 C1 -> 4 NoSuchPairing
+        30 plan P1 10: 11:00 | 12:00-19:30 | 20:00 -> accepted
+        31 assign P1 C1 -> accepted
+    """],
+    "the_id_of_a_cancelled_pairing_is_used_again": ["""
+        plan P1 10: 11:00 | 12:00-19:30 | 20:00
+        planned P1 10: 11:00 | 12:00-19:30 | 20:00 -> yes
+        1 cancel P1 -> accepted
+        seats -> none
+        2 plan P1 11: 05:00 | 06:00-07:00, 08:00-09:00 | 09:30 -> accepted
+        seats -> P1 - -
+        planned P1 11: 05:00 | 06:00-07:00, 08:00-09:00 | 09:30 -> yes
+    """],
+    "what_is_missing_is_refused": [A_SMALL_BOOK, """
+        1 assign P9 C9 -> 2 NoSuchCrew
+        2 cancel P9 -> 4 NoSuchPairing
+        3 release P1 C2 -> 8 NotAssigned
+        4 excuse G9 -> 15 NoSuchGround
+    """],
+    "an_actual_without_its_duty_is_refused": [A_SMALL_BOOK, """
+        1 fly P1 1 10: 11:00 | 12:00-19:30 | 20:00 -> 8 NotAssigned
+        2 fly P2 2 10: 11:00 | 12:00-19:30 | 20:00 -> 13 NoSuchDuty
+        3 fly P2 1 10: 11:00 | 12:00-13:00, 14:00-15:00 | 15:30 -> 19 SegmentCount 1
+    """],
+    "what_is_there_is_refused": [A_SMALL_BOOK, """
+        1 hire C1 first-officer: Ann Oh -> 3 CrewExists
+        2 plan P1 3: 11:00 | 12:00-19:30 | 20:00 -> 5 PairingExists
+        3 assign P1 C2 -> 6 SeatTaken
+        4 swap P1 C1 P2 F1 -> 7 WrongSeat
+        5 cancel P1 -> 9 PairingCrewed
+    """],
+    "duties_at_one_time_are_refused": [A_SMALL_BOOK, """
+        1 assign P3 C1 -> 11 Overlap
+        2 train G2 20: 19:59-21:00 -> 11 Overlap
+        3 train G1 22: 12:00-20:00 -> 14 GroundExists
+    """],
+    "a_ground_duty_is_cancelled_once": [A_SMALL_BOOK, """
+        1 excuse G1 -> accepted
+        2 excuse G1 -> 15 NoSuchGround
+    """],
+    "a_period_may_report_when_the_one_before_is_released": ["""
+        1 plan P1 10: 11:00 | 12:00-14:00, 15:00-17:00 | 20:00; 10: 19:59 | 21:00-22:00 | 23:00 -> 16 BadTimes 2
+        2 plan P1 10: 11:00 | 12:00-14:00, 15:00-17:00 | 20:00; 10: 20:00 | 21:00-22:00 | 23:00 -> accepted
+    """],
+    "a_pairing_has_a_period": ["""
+        1 plan P1 -> 19 SegmentCount 0
+    """],
+    # No member and no pairing of a swap has to be there for that.
+    "no_member_swaps_with_the_same_one": ["""
+        1 swap P1 C1 P2 C1 -> 18 BadField other_crew
+    """],
+}  # fmt: skip
+
+CASES = {**ASSIGNMENTS, **FLOWN_PERIODS, **JUDGEMENT, **REQUESTS}
+
+
+@dataclass(frozen=True)
+class Taken:
+    """A book after some pages, and each line that was told otherwise than it should be."""
+
+    book: Book
+    differences: tuple
+
+
+def look(book, line):
+    """What a line tells of the tables of the book, or None where it is no such line."""
+    word, _, rest = line.partition(" ")
+    match word:
+        case "seats":
+            return " | ".join(book.seats()) or "none"
+        case "exceedances":
+            return " | ".join(book.exceedances()) or "none"
+        case "planned":
+            plan = order(f"plan {rest}")
+            return "yes" if book.planned(plan["pairing"]) == plan["periods"] else "no"
+    return None
+
+
+def take_line(book, line):
+    """What the line is told otherwise than it should be, or None."""
+    asked, _, wanted = line.partition(" -> ")
+    number, _, command = asked.partition(" ")
+    found = look(book, asked)
+    if found is None:
+        found = book.ask(int(number), command) if number.isdigit() else book.settle(asked)
+    wanted = " ".join(wanted.split()) or "accepted"
+    return None if found == wanted else f"{asked}\n    wanted: {wanted}\n    told:   {found}"
+
+
+def take_page(book, page):
+    lines = [line.strip() for line in page.split("\n") if line.strip()]
+    if lines[0] == "import":
+        told = book.settle_all(lines[1:])
+        return [] if told == "accepted" else [f"import\n    told:   {told}"]
+    found = [take_line(book, line) for line in lines]
+    return [it for it in found if it]
+
+
+class Desk:
+    """Takes pages on books in a folder. Cases that begin with the same pages share the book that these leave."""
+
+    def __init__(self, room):
+        self.taken = {(): Taken(Book.made(room), ())}
+
+    def take(self, pages):
+        """The book after these pages."""
+        if pages not in self.taken:
+            before = self.take(pages[:-1])
+            book = before.book.copy()
+            self.taken[pages] = Taken(book, (*before.differences, *take_page(book, pages[-1])))
+        return self.taken[pages]
+
+
+def main():
+    names = sys.argv[1:] or list(CASES)
+    for name in names:
+        if name not in CASES:
+            sys.exit(f"tests/answers.py: there is no case {name}")
+    if not build():
+        return 3
+    failed = 0
+    with tempfile.TemporaryDirectory(prefix="answers-") as room:
+        desk = Desk(room)
+        for name in names:
+            try:
+                differences = desk.take((MEMBERS, *CASES[name])).differences
+            except sqlite3.Error as fault:
+                differences = (f"its tables can't be read: {fault}",)
+            for difference in differences:
+                print(f"tests/answers.py: {name}: {difference}", file=sys.stderr)
+            failed += bool(differences)
+    print(f"{len(names) - failed} passed, {failed} failed")
+    return 1 if failed else 0
+
+
+if __name__ == "__main__":
+    sys.exit(main())
