@@ -6,8 +6,9 @@
 Books are made by plain SQL, and the program is asked: such with a damage, or with two, of which the first table has to be named
 (tests/tables/damages.txt), and sound ones, whose answers tell how their rows are read (answers.txt). Books that the program makes
 are read by plain SELECTs: after each order of a story (story.txt), with the longest pairing, with the greatest key, and beside
-other tables. The SQL is that of Python's own `sqlite3`, of SQLite 3.37 or newer. What differs is told on standard error. The last
-line is 'N passed, M failed', and the exit status 1 where M isn't 0.
+other tables; and their tables are offered rows that they have to refuse (refused.txt). The SQL is that of Python's own `sqlite3`,
+of SQLite 3.37 or newer. What differs is told on standard error. The last line is 'N passed, M failed', and the exit status 1 where
+M isn't 0.
 """
 
 import json
@@ -320,6 +321,37 @@ def try_making(desk):
     desk.expect("a book in a folder", ran("init", desk.room, ZONE), refused("90 Store"))
 
 
+def is_refused(file, table, values):
+    """Whether the table refuses to keep a row of these values."""
+    try:
+        database(file, f"INSERT INTO {table} VALUES {values}")
+    except sqlite3.IntegrityError:
+        return True
+    return False
+
+
+def try_refused_rows(desk):
+    file = desk.book()
+    for held, refused_rows in read("refused.txt"):
+        table, values = held.split(" ", 1)
+        if table != "book":
+            database(file, f"INSERT INTO {table} VALUES {values}")
+        for row in refused_rows:
+            desk.expect(f"{table} {row} is refused", is_refused(file, table, row), True)
+
+
+TRIED = (
+    try_damages,
+    try_no_books,
+    try_answers,
+    try_story,
+    try_long_pairing,
+    try_greatest_key,
+    try_making,
+    try_refused_rows,
+)
+
+
 def main():
     if sqlite3.sqlite_version_info < (3, 37):
         sys.exit("tests/tables.py: Python's sqlite3 has to be of SQLite 3.37 or newer")
@@ -327,7 +359,7 @@ def main():
         return 3
     with tempfile.TemporaryDirectory() as room:
         desk = Desk(Path(room))
-        for tried in (try_damages, try_no_books, try_answers, try_story, try_long_pairing, try_greatest_key, try_making):
+        for tried in TRIED:
             tried(desk)
     print(f"{desk.passed} passed, {desk.failed} failed")
     return 1 if desk.failed else 0
