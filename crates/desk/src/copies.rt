@@ -1,8 +1,8 @@
 //! That with ample memory a copy is made, and is equal, and that each entry can be set.
 
-use crate::desk::left;
+use crate::everything::{command, one_of_everything, p1_unheld};
 use crate::seen::{or_unmade, seen};
-use command::{Command, Key, Member, Order, Refusal, Seat};
+use command::{Command, Key, Member, Refusal, Seat};
 use duty::{CrewId, Ground, GroundId, PairingId};
 use limits::Section;
 use roster::{
@@ -16,28 +16,13 @@ use std::test::Fail;
 use time117::Minute;
 use values::{Copied, Items, MemoryFault, Named, Table};
 
-/// Members, a pairing with both seats held and flown late, one with none, and a ground duty.
-const EVERYTHING: &str = "
-    plan P1 10: 11:00 | 12:00-19:30 | 20:00
-    assign P1 C1
-    assign P1 F1
-    plan P2 12: 11:00 | 12:00-19:30 | 20:00
-    train G1 20: 12:00-20:00
-    113 fly P1 1 10: 11:00 | 12:00-+1 02:30 | +1 03:00
-";
-
-/// What is recorded where P1 is flown late.
+/// What two members break in one period.
 const BROKEN: [(&str, Section); 4] = [
     ("C1", Section::FlightTime),
     ("C1", Section::FlightDutyPeriod),
     ("F1", Section::FlightTime),
     ("F1", Section::FlightDutyPeriod),
 ];
-
-fn one_of_everything(alloc: Global) -> Result<Roster, Unmade> {
-    let recorded = "accepted C1 117.11(a)(1) C1 117.13(a) F1 117.11(a)(1) F1 117.13(a)\n";
-    left(alloc, &[EVERYTHING], recorded)
-}
 
 /// A value that is compared with another one part by part.
 trait Like: Drop {
@@ -430,10 +415,6 @@ fn seats_taken(alloc: Global) -> Result<Items<SeatChange>, Unmade> {
     Ok(Items::new(seats))
 }
 
-fn command(order: Result<Order, Unmade>) -> Result<Command, Unmade> {
-    Ok(Command::new(order?)?)
-}
-
 /// The assignment of C1 to P1.
 fn assigned(alloc: Global) -> Result<Command, Unmade> {
     command(assign(alloc, "P1", "C1"))
@@ -480,8 +461,7 @@ fn is_accepted(alloc: Global, roster: &Roster) -> Result<bool, Unmade> {
 #[test]
 fn a_step_says_which_seats_change(rt: HostRuntime) -> Result<(), Fail> {
     let alloc = rt.alloc();
-    let roster = left(alloc, &["plan P1 10: 11:00 | 12:00-19:30 | 20:00"], "");
-    assert!(rt; seen(alloc, roster, is_accepted)?);
+    assert!(rt; seen(alloc, p1_unheld(alloc), is_accepted)?);
     Ok(())
 }
 

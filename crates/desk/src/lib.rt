@@ -1,21 +1,9 @@
-//! Worked rows of the roster, as a crew desk asks for them.
+//! Tests of the roster's values: they are copied and compared, and entries are set.
 #![tactic(auto)]
 
 #[cfg(test)]
-mod assignments;
-#[cfg(test)]
 mod copies;
 #[cfg(test)]
-mod desk;
-#[cfg(test)]
-mod flown_periods;
-#[cfg(test)]
-mod judgement;
-#[cfg(test)]
-mod lines;
-#[cfg(test)]
-mod requests;
+mod everything;
 #[cfg(test)]
 mod seen;
-#[cfg(test)]
-mod told;

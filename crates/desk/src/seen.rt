@@ -2,8 +2,6 @@
 
 use samples::Unmade;
 use std::alloc::Global;
-use std::process::Abort;
-use std::test::Fail;
 use values::MemoryFault;
 
 /// A value, if there was memory for it.
@@ -24,15 +22,4 @@ pub fn seen<T: Drop, R, F: FnOnce(Global, &T) -> Result<R, Unmade>>(
 {
     let value = value?;
     see(alloc, &value)
-}
-
-/// Ends the test unless this is what is told.
-pub fn assert_told(
-    rt: &impl Abort,
-    told: Result<String, Unmade>,
-    wanted: &str,
-) -> Result<(), Fail> {
-    let told = told?;
-    assert_eq!(rt; told.as_str(), wanted);
-    Ok(())
 }

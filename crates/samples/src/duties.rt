@@ -100,7 +100,12 @@ pub fn ground(
 }
 
 /// The actual times of a period, from 1 to 10, written as for `fdp`.
-pub fn actual(alloc: Global, period: u8, day: Minute, written: &str) -> Result<Actual, Unmade>
+pub(crate) fn actual(
+    alloc: Global,
+    period: u8,
+    day: Minute,
+    written: &str,
+) -> Result<Actual, Unmade>
     requires low { 1 ≤ period }
     requires high { period ≤ 10 }
 {

@@ -2,9 +2,7 @@ use crate::unmade::Unmade;
 use std::alloc::Global;
 use time117::Minute;
 
-/// 2025-01-01T00:00Z and 2025-06-01T00:00Z, in minutes since 2000-01-01T00:00Z.
-const JANUARY: u32 = 9_132 * 1_440;
-
+/// 2025-06-01T00:00Z, in minutes since 2000-01-01T00:00Z.
 const JUNE: u32 = 9_283 * 1_440;
 
 /// An instant by its text; the first one where the text is none.
@@ -12,20 +10,10 @@ pub fn instant(text: &str) -> Minute {
     Minute::read(text.as_bytes()).unwrap_or(Minute::FIRST)
 }
 
-/// The first minute of a day that is counted from 1 on; the first instant where there is none.
-fn day_from(first: u32, number: u32) -> Minute {
-    let minutes = number.saturating_sub(1).saturating_mul(1_440);
-    Minute::from_number(first.saturating_add(minutes)).unwrap_or(Minute::FIRST)
-}
-
-/// The first minute of a day of 2025, by its number from 1.
-pub fn day_of_2025(number: u32) -> Minute {
-    day_from(JANUARY, number)
-}
-
-/// The first minute of a day of June 2025.
+/// The first minute of a day of June 2025, counted from 1 on; the first instant where there is none.
 pub fn june(number: u32) -> Minute {
-    day_from(JUNE, number)
+    let minutes = number.saturating_sub(1).saturating_mul(1_440);
+    Minute::from_number(JUNE.saturating_add(minutes)).unwrap_or(Minute::FIRST)
 }
 
 /// The instant at `hh:mm` of a day, or of the day after it at `+1 hh:mm`.

@@ -8,11 +8,11 @@ mod orders;
 mod replies;
 mod unmade;
 
-pub use duties::{EASTERN, actual, fdp, ground, pairing, segment};
+pub use duties::{EASTERN, fdp, ground, pairing, segment};
 pub use ids::{crew_id, ground_id, pairing_id, text};
-pub use instants::{day_of_2025, instant, june};
+pub use instants::{instant, june};
 pub use orders::{
     add_crew, add_ground, add_pairing, assign, cancel_ground, cancel_pairing, fly, release, swap,
 };
-pub use replies::{exceedances, over, reply};
+pub use replies::{exceedances, reply};
 pub use unmade::Unmade;

@@ -1,6 +1,6 @@
 use crate::ids::crew_id;
 use crate::unmade::Unmade;
-use command::{Exceedance, Refusal, Reply};
+use command::{Exceedance, Reply};
 use limits::Section;
 use std::alloc::Global;
 use values::Items;
@@ -22,9 +22,4 @@ pub fn reply(alloc: Global, list: &[(&str, Section)]) -> Result<Reply, Unmade> {
     Ok(Reply {
         exceedances: exceedances(alloc, list)?,
     })
-}
-
-/// The refusal for the one limit that a member breaks.
-pub fn over(alloc: Global, who: &str, section: Section) -> Result<Refusal, Unmade> {
-    Ok(Refusal::Limits(exceedances(alloc, &[(who, section)])?))
 }
