@@ -32,7 +32,9 @@ fn make(alloc: Global, roster: &mut Roster, verdict: &Verdict) -> Result<(), Unm
 
 fn ask(alloc: Global, roster: &mut Roster, key: Key, command: &Command) -> Result<(), Unmade> {
     let verdict = roster.step(alloc, key, command)?;
-    make(alloc, roster, &verdict)
+    let made = make(alloc, roster, &verdict);
+    drop(verdict);
+    made
 }
 
 /// Has an order accepted under a key, and made.
@@ -43,7 +45,9 @@ fn take(
     order: Result<Order, Unmade>,
 ) -> Result<(), Unmade> {
     let command = command(order)?;
-    ask(alloc, roster, key, &command)
+    let taken = ask(alloc, roster, key, &command);
+    drop(command);
+    taken
 }
 
 fn empty(alloc: Global) -> Result<Roster, Unmade> {
