@@ -1,9 +1,9 @@
 //! Answers as lines of text.
 
+use crate::filing::Unfiled;
 use book::Answer;
 use codec::reply_to_json;
 use command::{Command, Exceedance, Key, Refusal};
-use filing::Unfiled;
 use std::alloc::Global;
 
 /// The first number whose answer is always told.

@@ -1,11 +1,11 @@
 //! Requests that a book answers, one by one or all in one run.
 
 use crate::answers::{add_line, all_told};
+use crate::filing::Unfiled;
 use crate::importing::imported;
 use crate::requests::word;
 use book::{Answer, Book, Run};
 use command::{Command, Key};
-use filing::Unfiled;
 use sqlite::MemStore;
 use std::alloc::Global;
 

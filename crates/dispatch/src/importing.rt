@@ -1,9 +1,9 @@
 //! Import 500, of P10, P20 and P30.
 
 use crate::answers::{add_line, told};
+use crate::filing::Unfiled;
 use book::{Book, Import};
 use duty::Pairing;
-use filing::Unfiled;
 use samples::{june, pairing};
 use sqlite::MemStore;
 use std::alloc::Global;

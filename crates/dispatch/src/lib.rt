@@ -1,4 +1,5 @@
-//! A crew office that asks its book. The tests compare what it is answered, and the rows that are then in the tables.
+//! Tests over databases in memory: a crew office that asks its book, what it is answered and which rows are then in the tables;
+//! what the tables find by key; and the store stopped at each call on its files.
 #![tactic(auto)]
 
 #[cfg(test)]
@@ -6,9 +7,13 @@ mod answers;
 #[cfg(test)]
 mod asking;
 #[cfg(test)]
+mod filing;
+#[cfg(test)]
 mod importing;
 #[cfg(test)]
 mod imports;
+#[cfg(test)]
+mod keyed;
 #[cfg(test)]
 mod keys;
 #[cfg(test)]
@@ -23,3 +28,5 @@ mod refusals;
 mod reopening;
 #[cfg(test)]
 mod requests;
+#[cfg(test)]
+mod stops;

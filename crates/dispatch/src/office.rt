@@ -1,11 +1,11 @@
 //! A crew office over a database in memory: it makes or takes up a book, asks it, closes it, and looks at the rows.
 
-use crate::asking;
+use crate::filing::{Unfiled, telling};
 use crate::opening::{Left, create, take_up};
 use crate::requests::{add_requests, word};
+use crate::{asking, keyed};
 use book::Book;
 use command::{Command, Key};
-use filing::{Unfiled, telling};
 use sqlite::{Connection, MemStore};
 use std::alloc::Global;
 use std::process::Abort;
@@ -104,6 +104,7 @@ fn looked(
     match word(line, 0) {
         "compare" => compared(alloc, conn, desk.noted.as_str()),
         "SELECT" => telling::found(alloc, conn, "row", line),
+        "find" => keyed::found(alloc, conn, line),
         _ => acted(alloc, conn, desk, line),
     }
 }
@@ -152,6 +153,8 @@ fn set_up(alloc: Global, requests: &str) -> Result<Desk, Unfiled> {
 ///         takes another database, that has no tables
 ///     SELECT id FROM pairing
 ///         tells the rows, each as a line that begins with `row`
+///     find member C1
+///         tells what the tables' functions find, as `keyed::found` says
 ///     DELETE FROM seat
 ///         runs the statement, as it does one that begins with INSERT or UPDATE
 fn told(alloc: Global, requests: &str, lines: &str) -> Result<String, Unfiled> {

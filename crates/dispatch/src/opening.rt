@@ -1,7 +1,7 @@
 //! Books that are made, or taken up as they are there.
 
+use crate::filing::Unfiled;
 use book::{Book, CreateFault, LoadFault};
-use filing::Unfiled;
 use samples::EASTERN;
 use sqlite::{Connection, MemStore};
 use std::alloc::Global;

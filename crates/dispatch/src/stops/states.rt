@@ -1,10 +1,10 @@
 //! Six orders, and the rows of the book after each of them. Times are in minutes since 2000-01-01T00:00Z.
 ghost use Rattle.std.specs.Prelude.{◌≤◌};
 
-use crate::run::Orders;
+use crate::filing::Unfiled;
+use crate::filing::telling::sorted;
+use crate::stops::run::Orders;
 use command::{Order, Seat};
-use filing::Unfiled;
-use filing::telling::sorted;
 use samples::{Unmade, add_crew, add_pairing, assign, fly, june};
 use std::alloc::Global;
 

@@ -1,6 +1,6 @@
 //! What the tables hold, read by plain SELECTs.
 
-use crate::fault::Unfiled;
+use crate::filing::Unfiled;
 use sqlite::types::ValueRef;
 use sqlite::{Alter, Connection, Error, Row};
 use std::alloc::Global;

@@ -1,8 +1,12 @@
 //! Stops at each call of one of the two files.
 
-use crate::disk::{Left, Stopped, fused, restarted};
-use crate::run::{Reached, play, reopened};
-use crate::states::{LateFlight, ORDERS, states};
+mod disk;
+mod run;
+mod states;
+
+use crate::stops::disk::{Left, Stopped, fused, restarted};
+use crate::stops::run::{Reached, play, reopened};
+use crate::stops::states::{LateFlight, ORDERS, states};
 use sqlite_disk::{Fuse, Memory};
 use std::alloc::Global;
 use std::test::Fail;

@@ -1,9 +1,9 @@
 //! A run of the office over files, and what another finds in them.
 
+use crate::filing::Unfiled;
+use crate::filing::office::Office;
+use crate::filing::telling::{found, told};
 use command::{Key, Order};
-use filing::Unfiled;
-use filing::office::Office;
-use filing::telling::{found, told};
 use samples::Unmade;
 use sqlite::{Alter, Connection, FileStore, Files, Options};
 use sqlite_disk::Disk;

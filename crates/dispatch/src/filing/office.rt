@@ -2,12 +2,11 @@
 
 ghost use Rattle.roster.specs.Steps.{IsUnderFreeKey};
 
-use crate::fault::Unfiled;
-use crate::telling::told;
+use crate::filing::Unfiled;
 use command::{Command, Key, Order};
 use roster::{Roster, Verdict};
 use samples::{EASTERN, Unmade};
-use sqlite::{Alter, Connection, MemStore};
+use sqlite::{Alter, Connection};
 use std::alloc::Global;
 use store::{CreateFault, Store, StoreFault};
 use time117::Zone;
@@ -24,7 +23,7 @@ pub struct Office<S: Alter> {
 }
 
 /// Makes the tables of a book. Where a transaction is begun, none are made.
-pub fn create<S: Alter>(
+fn create<S: Alter>(
     alloc: Global,
     conn: Connection<S>,
     zone: &Zone,
@@ -63,7 +62,9 @@ fn file<S: Alter>(
     command: &Command,
 ) -> Result<(), Unfiled> {
     let verdict = roster.step(alloc, key, command)?;
-    carry_out(alloc, store, roster, &verdict)
+    let filed = carry_out(alloc, store, roster, &verdict);
+    drop(verdict);
+    filed
 }
 
 fn made(order: Result<Order, Unmade>) -> Result<Command, Unfiled> {
@@ -78,7 +79,7 @@ fn empty(alloc: Global) -> Result<Roster, Unfiled> {
 
 impl<S: Alter + Drop> Office<S> {
     /// An office over a book whose tables hold this roster.
-    pub fn of(alloc: Global, store: Store<S>, roster: Roster) -> Office<S> {
+    fn of(alloc: Global, store: Store<S>, roster: Roster) -> Office<S> {
         Office {
             alloc,
             store,
@@ -109,12 +110,15 @@ impl<S: Alter + Drop> Office<S> {
 
     fn keep(&mut self, key: Key, order: Result<Order, Unmade>) -> Result<(), Unfiled> {
         let command = made(order)?;
-        file(self.alloc, &mut self.store, &mut self.roster, key, &command)
+        let kept = file(self.alloc, &mut self.store, &mut self.roster, key, &command);
+        drop(command);
+        kept
     }
 
     /// Has an order under a key accepted and kept, unless one before it was not.
     pub fn settle(&mut self, key: Key, order: Result<Order, Unmade>) {
         if self.stopped.is_some() {
+            drop(order);
             return;
         }
         match self.keep(key, order) {
@@ -128,11 +132,6 @@ impl<S: Alter + Drop> Office<S> {
         self.kept
     }
 
-    /// The roster, with all that was kept.
-    pub fn roster(&self) -> &Roster {
-        &self.roster
-    }
-
     /// The database.
     pub fn into_connection(self) -> Connection<S> {
         let Office {
@@ -143,32 +142,5 @@ impl<S: Alter + Drop> Office<S> {
             stopped: _,
         } = self;
         store.into_connection()
-    }
-
-    /// The database, where all orders were kept.
-    pub fn closed(self) -> Result<Connection<S>, Unfiled> {
-        match self.stopped {
-            None => Ok(self.into_connection()),
-            Some(fault) => Err(fault),
-        }
-    }
-
-    /// All rows of its tables, as lines, where all orders were kept.
-    pub fn told(self) -> Result<String, Unfiled> {
-        let alloc = self.alloc;
-        told(alloc, &mut self.closed()?)
-    }
-}
-
-impl Office<MemStore> {
-    /// An empty book in memory.
-    pub fn in_memory(alloc: Global) -> Result<Office<MemStore>, Unfiled> {
-        match Office::open(alloc, Connection::open_in_memory(alloc)?) {
-            Ok(office) => Ok(office),
-            Err((fault, conn)) => {
-                drop(conn);
-                Err(fault)
-            }
-        }
     }
 }

@@ -4,6 +4,7 @@ use sqlite::Error;
 use std::alloc::{AllocError, AllocFailed};
 use std::fmt;
 use store::{CreateFault, StoreFault};
+use tables::TableFault;
 use values::MemoryFault;
 
 /// Why a book isn't made, an order isn't kept in it, or its rows aren't told.
@@ -49,12 +50,6 @@ impl From<DutyFault> for Unfiled {
     }
 }
 
-impl From<CreateFault> for Unfiled {
-    fn from(fault: CreateFault) -> Unfiled {
-        Unfiled::NoBook(fault)
-    }
-}
-
 impl From<StoreFault> for Unfiled {
     fn from(fault: StoreFault) -> Unfiled {
         Unfiled::NotKept(fault)
@@ -63,6 +58,12 @@ impl From<StoreFault> for Unfiled {
 
 impl From<Error> for Unfiled {
     fn from(_error: Error) -> Unfiled {
+        Unfiled::Unread
+    }
+}
+
+impl From<TableFault> for Unfiled {
+    fn from(_fault: TableFault) -> Unfiled {
         Unfiled::Unread
     }
 }
