@@ -21,7 +21,7 @@ import sys
 import tempfile
 from dataclasses import dataclass
 
-from office import Book, build, order
+from office import Book, build, compact, order
 
 MEMBERS = """
     hire C1 captain: Ada Ray
@@ -61,6 +61,12 @@ FIVE_DAYS_OF_FLIGHT_DUTY = """
     assign P14 C1
 """
 
+# C1 has 720 minutes of flight duty on each of fifteen days of June.
+FIFTEEN_DAYS_OF_FLIGHT_DUTY = "".join(
+    f"plan P{day} {day}: 12:00 | 13:00-15:00, 21:00-+1 00:00 | +1 00:00\nassign P{day} C1\n"
+    for day in (2, 3, 5, 6, 9, 10, 12, 13, 16, 17, 19, 20, 23, 24, 26)
+)
+
 # C1 flies 480 minutes on each of twelve days of June.
 TWELVE_DAYS_OF_FLYING = "".join(
     f"plan P{day} {day}: 11:00 | 12:00-20:00 | 20:30\nassign P{day} C1\n" for day in (1, 3, 5, 8, 10, 12, 15, 17, 19, 22, 24, 26)
@@ -88,9 +94,33 @@ ASSIGNMENTS = {
         plan P902 15: 00:00 | 01:00-07:00 | 08:00
         1 assign P902 C1 -> 12 Limits C1 117.25(b)
     """],
+    # What lies before the later period's week is no part of its thirty hours.
+    "a_ground_duty_before_the_week_counts_for_nothing": [FIVE_GROUND_DUTIES, """
+        1 excuse G1 -> accepted
+        plan P902 15: 00:00 | 01:00-07:00 | 08:00
+        2 assign P902 C1 -> 12 Limits C1 117.25(b)
+    """],
+    "both_tables_are_reached": ["""
+        plan P1 10: 16:00 | 16:30-20:30, +1 01:00-+1 05:00 | +1 05:30
+        plan P2 10: 16:00 | 16:30-20:30, +1 01:00-+1 05:01 | +1 05:31
+        plan P3 10: 08:59 | 09:30-17:30 | 18:00
+        plan P4 10: 08:59 | 09:30-17:31 | 18:00
+        1 assign P2 C1 -> 12 Limits C1 117.13(a)
+        2 assign P1 C1 -> accepted
+        3 assign P4 C2 -> 12 Limits C2 117.11(a)(1)
+        4 assign P3 C2 -> accepted
+    """],
     "a_week_holds_3600_minutes_of_flight_duty": [FIVE_DAYS_OF_FLIGHT_DUTY, """
         plan P11 11: 12:00 | 12:00-12:01 | 12:01
         1 assign P11 C1 -> 12 Limits C1 117.23(c)(1)
+    """],
+    "four_weeks_hold_11400_minutes_of_flight_duty": [FIFTEEN_DAYS_OF_FLIGHT_DUTY, """
+        plan P27 27: 12:00 | 13:00-15:00, 20:00-22:00 | 22:00
+        1 assign P27 C1 -> accepted
+    """],
+    "four_weeks_do_not_hold_11401_minutes_of_flight_duty": [FIFTEEN_DAYS_OF_FLIGHT_DUTY, """
+        plan P27 27: 12:00 | 13:00-15:00, 20:00-22:01 | 22:01
+        1 assign P27 C1 -> 12 Limits C1 117.23(c)(2)
     """],
     # The window that ends with the new flight begins at 16:00 on 1 June.
     "four_weeks_hold_6000_minutes_of_flight": [TWELVE_DAYS_OF_FLYING, """
@@ -345,7 +375,135 @@ REQUESTS = {
     """],
 }  # fmt: skip
 
-CASES = {**ASSIGNMENTS, **FLOWN_PERIODS, **JUDGEMENT, **REQUESTS}
+# ---- Commands that are refused unseen: texts outside their shapes, then what is swapped with itself, then counts, times and chains.
+
+
+def hire(crew, name="Ada Ray"):
+    """The JSON of hiring a captain whom no line can name."""
+    return compact({"do": "add-crew", "crew": crew, "seat": "captain", "name": name})
+
+
+def train(ground, crew, task):
+    """The JSON of a ground duty that ends as it begins."""
+    times = {"begin": "2025-06-10T12:00Z", "end": "2025-06-10T12:00Z"}
+    return compact({"do": "add-ground", "ground": ground, "crew": crew, "task": task, **times})
+
+
+def plan(counts):
+    """The line of a pairing with a period a day, and so many flights of ten minutes in each."""
+    flights = [", ".join(f"{hour:02}:00-{hour:02}:10" for hour in range(count)) for count in counts]
+    return "plan P1 " + "; ".join(f"{day}: 00:00 | {its} | 23:00" for day, its in enumerate(flights, 1))
+
+
+SHAPES = {
+    "ids_are_of_1_to_12_capitals_digits_and_dashes": [f"""
+        1 {hire("A")} -> accepted
+        2 {hire("P-20")} -> accepted
+        3 {hire("ABCDEFGHIJKL")} -> accepted
+        4 {hire("ABCDEFGHIJKLM")} -> 18 BadField crew
+        5 {hire("")} -> 18 BadField crew
+        6 {hire("c1")} -> 18 BadField crew
+        7 {hire("C 1")} -> 18 BadField crew
+    """],
+    "names_are_of_1_to_60_bytes_without_control_bytes": [f"""
+        1 {hire("N1", "Zoë Ray")} -> accepted
+        2 {hire("N2", "N" * 60)} -> accepted
+        3 {hire("N3", "N" * 61)} -> 18 BadField name
+        4 {hire("N3", "ë" * 30)} -> accepted
+        5 {hire("N4", "ë" * 31)} -> 18 BadField name
+        6 {hire("N4", "")} -> 18 BadField name
+        7 {hire("N4", "a" + chr(9) + "b")} -> 18 BadField name
+        8 {hire("N4", chr(127))} -> 18 BadField name
+    """],
+    # The times of these plans are out of order, which is looked at later.
+    "flights_are_of_1_to_8_capitals_and_digits": ["""
+        1 plan P1 10: 11:00 | RB123456/BOS/IAD 10:00-10:10 | 11:00 -> 16 BadTimes 1
+        2 plan P1 10: 11:00 | RB1234567/BOS/IAD 10:00-10:10 | 11:00 -> 18 BadField periods
+        3 plan P1 10: 11:00 | RB-1/BOS/IAD 10:00-10:10 | 11:00 -> 18 BadField periods
+        4 plan P1 10: 11:00 | rb1/BOS/IAD 10:00-10:10 | 11:00 -> 18 BadField periods
+        5 plan P1 10: 11:00 | /BOS/IAD 10:00-10:10 | 11:00 -> 18 BadField periods
+    """],
+    "airports_are_of_3_or_4_capitals_and_digits": ["""
+        1 plan P1 10: 11:00 | RB1/KBOS/IA4 10:00-10:10 | 11:00 -> 16 BadTimes 1
+        2 plan P1 10: 11:00 | RB1/BO/IAD 10:00-10:10 | 11:00 -> 18 BadField periods
+        3 plan P1 10: 11:00 | RB1/BOS/KIAD1 10:00-10:10 | 11:00 -> 18 BadField periods
+        4 plan P1 10: 11:00 | RB1/BOS/iad 10:00-10:10 | 11:00 -> 18 BadField periods
+        5 plan P1 10: 11:00 | RB1/BOS/ 10:00-10:10 | 11:00 -> 18 BadField periods
+    """],
+    "the_first_text_outside_its_shape_is_refused": [f"""
+        1 {hire("c1", "")} -> 18 BadField crew
+        2 {hire("C3", "")} -> 18 BadField name
+        3 assign p1 c1 -> 18 BadField pairing
+        4 assign P1 c1 -> 18 BadField crew
+        5 release p1 c1 -> 18 BadField pairing
+        6 release P1 c1 -> 18 BadField crew
+        7 cancel p1 -> 18 BadField pairing
+        8 fly p1 1 10: 11:00 | 12:00-18:00 | 20:00 -> 18 BadField pairing
+        9 excuse g1 -> 18 BadField ground
+    """],
+    "a_ground_duty_has_its_shapes_and_begins_before_it_ends": [f"""
+        1 {train("g1", "c1", "")} -> 18 BadField ground
+        2 {train("G1", "c1", "")} -> 18 BadField crew
+        3 {train("G1", "C1", "")} -> 18 BadField task
+        4 {train("G1", "C1", "Sim")} -> 16 BadTimes 0
+    """],
+    # In the last of them the members are named as the pairings.
+    "a_swap_is_refused_for_shapes_and_then_for_what_is_equal": ["""
+        1 swap p1 c1 p1 c1 -> 18 BadField pairing
+        2 swap P1 c1 p2 c1 -> 18 BadField crew
+        3 swap P1 C1 p2 c2 -> 18 BadField other_pairing
+        4 swap P1 C1 P2 c2 -> 18 BadField other_crew
+        5 swap P1 C1 P1 c2 -> 18 BadField other_crew
+        6 swap P1 C1 P1 C2 -> 18 BadField other_pairing
+        7 swap P1 C1 P2 C1 -> 18 BadField other_crew
+        8 swap P1 C1 P1 C1 -> 18 BadField other_pairing
+        9 swap A1 A1 A2 A2 -> 2 NoSuchCrew
+    """],
+    "a_pairing_has_1_to_10_periods_of_1_to_12_flights": [f"""
+        1 {plan([1] * 11)} -> 19 SegmentCount 0
+        2 {plan([0])} -> 19 SegmentCount 1
+        3 {plan([13])} -> 19 SegmentCount 1
+        4 {plan([1, 12, 13, 0])} -> 19 SegmentCount 3
+        5 {plan([1] * 9 + [0])} -> 19 SegmentCount 10
+        6 {plan([12] * 10)} -> accepted
+        planned {plan([12] * 10).removeprefix("plan ")} -> yes
+    """],
+    # Each time of a plan, or of an actual, moved past the next one.
+    "the_times_of_a_period_are_in_order": ["""
+        1 plan P1 10: 01:01 | 01:00-02:30, 03:20-04:50 | 05:00 -> 16 BadTimes 1
+        2 plan P1 10: 00:00 | 02:30-02:30, 03:20-04:50 | 05:00 -> 16 BadTimes 1
+        3 plan P1 10: 00:00 | 01:00-03:21, 03:20-04:50 | 05:00 -> 16 BadTimes 1
+        4 plan P1 10: 00:00 | 01:00-02:30, 04:50-04:50 | 05:00 -> 16 BadTimes 1
+        5 plan P1 10: 00:00 | 01:00-02:30, 03:20-04:50 | 04:49 -> 16 BadTimes 1
+        6 fly P1 2 10: 01:01 | 01:00-02:30, 03:20-04:50 | 05:00 -> 16 BadTimes 2
+        7 fly P1 2 10: 00:00 | 02:30-02:30, 03:20-04:50 | 05:00 -> 16 BadTimes 2
+        8 fly P1 2 10: 00:00 | 01:00-03:21, 03:20-04:50 | 05:00 -> 16 BadTimes 2
+        9 fly P1 2 10: 00:00 | 01:00-02:30, 04:50-04:50 | 05:00 -> 16 BadTimes 2
+        10 fly P1 2 10: 00:00 | 01:00-02:30, 03:20-04:50 | 04:49 -> 16 BadTimes 2
+        11 fly P1 2 10: 01:00 | 01:00-03:20, 03:20-05:00 | 05:00 -> 4 NoSuchPairing
+        12 plan P1 10: 01:00 | 01:00-03:20, 03:20-05:00 | 05:00 -> accepted
+    """],
+    "an_actual_has_1_to_12_flights": [f"""
+        1 fly P1 2 10: 00:40 |  | 00:10 -> 19 SegmentCount 2
+        2 fly P1 2 10: 00:40 | {", ".join(["00:20-00:20"] * 13)} | 00:10 -> 19 SegmentCount 2
+        3 fly P1 2 10: 00:40 | {", ".join(["00:20-00:20"] * 12)} | 00:10 -> 16 BadTimes 2
+    """],
+    "each_flight_departs_from_where_the_one_before_arrived": ["""
+        1 plan P1 10: 11:00 | 12:00-13:00 | 13:00; 11: 11:00 | RB2/IAD/BOS 12:00-13:00, RB3/JFK/BOS 14:00-15:00 | 15:00 -> 17 BadChain 2
+        2 plan P1 10: 11:00 | 12:00-13:00 | 13:00; 11: 11:00 | RB2/JFK/BOS 12:00-13:00 | 15:00 -> 17 BadChain 2
+        3 plan P1 10: 11:00 | 12:00-13:00 | 13:00; 11: 11:00 | RB2/IAD/BOS 12:00-13:00, RB3/BOS/BOS 14:00-15:00 | 15:00 -> accepted
+    """],
+    # From one to the next what is named is mended, and all that comes later isn't.
+    "shapes_come_before_counts_before_times_before_chains": ["""
+        1 plan p1 -> 18 BadField pairing
+        2 plan P1 10: 00:00 | rb1/BOS/IAD 00:10-00:20, RB1/JFK/BOS 00:30-00:40 | 00:39; 11: 00:00 |  | 00:39 -> 18 BadField periods
+        3 plan P1 10: 00:00 | RB1/BOS/IAD 00:10-00:20, RB1/JFK/BOS 00:30-00:40 | 00:39; 11: 00:00 |  | 00:39 -> 19 SegmentCount 2
+        4 plan P1 10: 00:00 | RB1/BOS/IAD 00:10-00:20, RB1/JFK/BOS 00:30-00:40 | 00:39 -> 16 BadTimes 1
+        5 plan P1 10: 00:00 | RB1/BOS/IAD 00:10-00:20, RB1/JFK/BOS 00:30-00:40 | 00:40 -> 17 BadChain 1
+    """],
+}  # fmt: skip
+
+CASES = {**ASSIGNMENTS, **FLOWN_PERIODS, **JUDGEMENT, **REQUESTS, **SHAPES}
 
 
 @dataclass(frozen=True)

@@ -20,12 +20,14 @@ A line is a command, on a day of June 2025 (`10`) or of the whole year (`day-365
     fly P1 1 10: 11:00 | 12:00-19:30 | 20:00
 
 Periods are written as `report | out-in, out-in | release`, and `+1` is the day after. Flights are RB1, RB2 and so on, from BOS
-to IAD and back in turn. A ground duty, which `train` adds and `excuse` cancels, is one of C1 in the simulator.
+to IAD and back in turn; a plan may name all those of a period itself, as `RB7/BOS/JFK 12:00-19:30`. A ground duty, which `train`
+adds and `excuse` cancels, is one of C1 in the simulator. Any other command is written as its JSON, `{"do":"assign", ..}`.
 
 The tables are read by Python's own `sqlite3`, of SQLite 3.37 or newer.
 """
 
 import json
+import re
 import shutil
 import sqlite3
 import subprocess
@@ -37,6 +39,7 @@ from pathlib import Path
 
 TOP = Path(__file__).resolve().parent.parent
 PROGRAM = TOP / "crates" / "rosterbook_main" / "out" / "rosterbook_main"
+NAMED = re.compile(r"([^ ,]*)/(\w+)/(\w*) ")  # what a plan says of a flight
 ZONE = "EST5EDT,M3.2.0,M11.1.0"
 TABLES = ("book", "crew", "pairing", "period", "segment", "seat", "ground", "exceedance", "request")
 SECTIONS = (
@@ -90,15 +93,16 @@ def at(day, time):
     return written(day + timedelta(days=int(days or 0), hours=int(hours), minutes=int(minutes)))
 
 
+def block_times(day, text):
+    """The times of the flights that a period has."""
+    blocks = [flight.split("-") for flight in text.split(", ") if flight]
+    return [{"out": at(day, block_out), "in": at(day, block_in)} for block_out, block_in in blocks]
+
+
 def times(day, text):
     """The times of a period, as an actual has them."""
     report, flights, release = text.split(" | ")
-    blocks = [flight.split("-") for flight in flights.split(", ")]
-    return {
-        "report": at(day, report),
-        "release": at(day, release),
-        "segments": [{"out": at(day, block_out), "in": at(day, block_in)} for block_out, block_in in blocks],
-    }
+    return {"report": at(day, report), "release": at(day, release), "segments": block_times(day, flights)}
 
 
 def periods(text):
@@ -106,16 +110,20 @@ def periods(text):
     made, count = [], 0
     for part in text.split("; "):
         day, _, its_times = part.partition(": ")
-        made.append(times(day_of(day), its_times))
+        named = NAMED.findall(its_times)
+        made.append(times(day_of(day), NAMED.sub("", its_times)))
         for segment in made[-1]["segments"]:
-            start, end = ("IAD", "BOS") if count % 2 else ("BOS", "IAD")
+            ports = ("IAD", "BOS") if count % 2 else ("BOS", "IAD")
             count += 1
-            segment.update({"flight": f"RB{count}", "from": start, "to": end})
+            flight, start, end = named.pop(0) if named else (f"RB{count}", *ports)
+            segment.update({"flight": flight, "from": start, "to": end})
     return made
 
 
 def order(line):
     """The command of a line, as a request has it beside its number."""
+    if line.startswith("{"):
+        return json.loads(line)
     head, _, text = line.partition(": ")
     match head.split():
         case ["hire", crew, seat]:

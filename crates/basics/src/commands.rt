@@ -1,10 +1,11 @@
 //! Commands of all orders: each is made, and told apart from the others.
 
 use crate::copies::is_copied;
-use crate::ground_duties::ground;
 use command::{Command, Order, Seat};
+use duty::Ground;
 use samples::{
-    Unmade, add_crew, add_pairing, assign, cancel_ground, cancel_pairing, fly, june, release, swap,
+    Unmade, add_crew, add_pairing, assign, cancel_ground, cancel_pairing, crew_id, fly, ground_id,
+    june, release, swap, text,
 };
 use std::alloc::Global;
 use std::test::Fail;
@@ -15,8 +16,15 @@ fn add(orders: &mut Vec<Order>, order: Result<Order, Unmade>) -> Result<(), Unma
     Ok(())
 }
 
+/// A ground duty of a day.
 fn add_ground(alloc: Global, id: &str, crew: &str, task: &str) -> Result<Order, Unmade> {
-    Ok(Order::AddGround(ground(alloc, id, crew, task)?))
+    Ok(Order::AddGround(Ground::new(
+        ground_id(alloc, id)?,
+        crew_id(alloc, crew)?,
+        june(10),
+        june(11),
+        text(alloc, task)?,
+    )?))
 }
 
 /// Adds orders of members and of ground duties.

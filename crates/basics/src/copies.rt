@@ -10,12 +10,3 @@ pub fn is_copied<T: Copied + PartialEq>(alloc: Global, value: &T) -> bool {
         Err(_) => false,
     }
 }
-
-/// `copied`, if a copy is made and is equal.
-pub fn copied<T: Copied + PartialEq>(alloc: Global, value: &T) -> &'static str {
-    if is_copied(alloc, value) {
-        "copied"
-    } else {
-        "not copied"
-    }
-}

@@ -1,22 +1,40 @@
 //! Copies of duties, of their times in force and of histories.
 
-use crate::ground_duties::ground;
-use crate::periods::{LATER_TRIP, period};
+use crate::copies::is_copied;
 use crate::telling::add_line;
-use duty::{Duty, DutyInForce, FdpInForce, History, Span};
-use samples::Unmade;
+use duty::{Duty, DutyInForce, Fdp, FdpInForce, Ground, History, Span};
+use samples::{Unmade, actual, fdp, ground, pairing};
 use std::alloc::Global;
 use std::test::Fail;
 use time117::{Minute, Zone};
 use values::Copied;
 
-/// The round trip, planned to report at minute 300.
-fn flying(alloc: Global) -> Result<Duty, Unmade> {
-    Ok(Duty::Fdp(period(alloc, LATER_TRIP)?))
+/// From BOS to IAD and back, with the report at minute 300.
+const ROUND_TRIP: &str = "05:00 | 06:00-07:30, 08:20-09:50 | 10:00";
+
+fn flying(alloc: Global) -> Result<Fdp, Unmade> {
+    fdp(alloc, Minute::FIRST, ROUND_TRIP)
 }
 
-fn training(alloc: Global) -> Result<Duty, Unmade> {
-    Ok(Duty::Ground(ground(alloc, "G1", "C1", "Recurrent training")?))
+/// From minute 720 to 1200.
+fn training(alloc: Global) -> Result<Ground, Unmade> {
+    ground(alloc, "G1", Minute::FIRST, "12:00", "20:00")
+}
+
+#[test]
+fn a_copy_of_a_plan_is_equal(rt: HostRuntime) -> Result<(), Fail> {
+    let pairing = pairing(rt.alloc(), "P1", Minute::FIRST, ROUND_TRIP)?;
+    assert!(rt; is_copied(rt.alloc(), &flying(rt.alloc())?));
+    assert!(rt; is_copied(rt.alloc(), &pairing));
+    assert!(rt; is_copied(rt.alloc(), &training(rt.alloc())?));
+    Ok(())
+}
+
+#[test]
+fn a_copy_of_an_actual_is_equal(rt: HostRuntime) -> Result<(), Fail> {
+    let flown = actual(rt.alloc(), 2, Minute::FIRST, ROUND_TRIP)?;
+    assert!(rt; is_copied(rt.alloc(), &flown));
+    Ok(())
 }
 
 fn is_same(duty: &Duty, other: &Duty) -> bool {
@@ -28,7 +46,7 @@ fn is_same(duty: &Duty, other: &Duty) -> bool {
 }
 
 /// Whether a copy is made, and is the same.
-fn is_copied(alloc: Global, duty: &Duty) -> bool {
+fn is_duty_copied(alloc: Global, duty: &Duty) -> bool {
     match duty.copy(alloc) {
         Ok(copy) => is_same(&copy, duty),
         Err(_) => false,
@@ -37,8 +55,10 @@ fn is_copied(alloc: Global, duty: &Duty) -> bool {
 
 #[test]
 fn a_copy_of_a_duty_is_equal(rt: HostRuntime) -> Result<(), Fail> {
-    assert!(rt; is_copied(rt.alloc(), &flying(rt.alloc())?));
-    assert!(rt; is_copied(rt.alloc(), &training(rt.alloc())?));
+    let flying = Duty::Fdp(flying(rt.alloc())?);
+    let training = Duty::Ground(training(rt.alloc())?);
+    assert!(rt; is_duty_copied(rt.alloc(), &flying));
+    assert!(rt; is_duty_copied(rt.alloc(), &training));
     Ok(())
 }
 
@@ -70,7 +90,7 @@ fn told(alloc: Global, duty: &DutyInForce) -> Result<String, Unmade> {
 /// The round trip's times, on the clock of UTC.
 fn flying_in_force(alloc: Global) -> Result<FdpInForce, Unmade> {
     let utc = Zone::read(alloc, "UTC0")?;
-    Ok(period(alloc, LATER_TRIP)?.in_force(alloc, &utc)?)
+    Ok(flying(alloc)?.in_force(alloc, &utc)?)
 }
 
 fn told_flying(alloc: Global) -> Result<String, Unmade> {
@@ -122,8 +142,8 @@ fn a_copy_of_a_duty_in_force_is_equal(rt: HostRuntime) -> Result<(), Fail> {
 fn both(alloc: Global) -> Result<History, Unmade> {
     let utc = Zone::read(alloc, "UTC0")?;
     let mut history = History::empty(alloc);
-    history.insert(alloc, flying(alloc)?, &utc)?;
-    history.insert(alloc, training(alloc)?, &utc)?;
+    history.insert(alloc, Duty::Fdp(flying(alloc)?), &utc)?;
+    history.insert(alloc, Duty::Ground(training(alloc)?), &utc)?;
     Ok(history)
 }
 

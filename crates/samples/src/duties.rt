@@ -41,7 +41,7 @@ fn read_times(alloc: Global, day: Minute, written: &str) -> Result<Times, Unmade
 }
 
 /// A flight, by its number, airports and times.
-pub fn segment(
+fn segment(
     alloc: Global,
     flight: &str,
     from: &str,
@@ -100,12 +100,7 @@ pub fn ground(
 }
 
 /// The actual times of a period, from 1 to 10, written as for `fdp`.
-pub(crate) fn actual(
-    alloc: Global,
-    period: u8,
-    day: Minute,
-    written: &str,
-) -> Result<Actual, Unmade>
+pub fn actual(alloc: Global, period: u8, day: Minute, written: &str) -> Result<Actual, Unmade>
     requires low { 1 ≤ period }
     requires high { period ≤ 10 }
 {

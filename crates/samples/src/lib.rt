@@ -8,7 +8,7 @@ mod orders;
 mod replies;
 mod unmade;
 
-pub use duties::{EASTERN, fdp, ground, pairing, segment};
+pub use duties::{EASTERN, actual, fdp, ground, pairing};
 pub use ids::{crew_id, ground_id, pairing_id, text};
 pub use instants::{instant, june};
 pub use orders::{
