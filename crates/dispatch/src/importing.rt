@@ -1,14 +1,14 @@
 //! Import 500, of P10, P20 and P30.
 
 use crate::answers::{add_line, told};
-use crate::filing::Unfiled;
+use crate::fault::Untold;
 use book::{Book, Import};
 use duty::Pairing;
 use samples::{june, pairing};
-use sqlite::MemStore;
+use sqlite::Alter;
 use std::alloc::Global;
 
-fn pairings(alloc: Global) -> Result<Vec<Pairing>, Unfiled> {
+fn pairings(alloc: Global) -> Result<Vec<Pairing>, Untold> {
     let mut pairings = Vec::new(alloc);
     for (id, day) in [("P10", 20), ("P20", 21), ("P30", 22)] {
         let written = "06:30 | 07:30-10:30 | 11:00";
@@ -17,28 +17,32 @@ fn pairings(alloc: Global) -> Result<Vec<Pairing>, Unfiled> {
     Ok(pairings)
 }
 
-fn begun(alloc: Global) -> Result<Import, Unfiled> {
+fn begun<S: Alter>(alloc: Global) -> Result<Import, Untold> {
     let pairings = pairings(alloc)?;
     if pairings.len() > 10_000 {
-        return Err(Unfiled::Unmade);
+        return Err(Untold::Unmade);
     }
-    Ok(Book::<MemStore>::import(500, pairings))
+    Ok(Book::<S>::import(500, pairings))
 }
 
 /// What the next part is answered; `none` where there are no more.
-fn next(alloc: Global, import: &mut Import, book: &mut Book<MemStore>) -> Result<String, Unfiled> {
+fn next<S: Alter>(
+    alloc: Global,
+    import: &mut Import,
+    book: &mut Book<S>,
+) -> Result<String, Untold> {
     match import.next(alloc, book) {
         Some(answer) => told(alloc, &answer?),
         None => Ok(String::from_str(alloc, "none")?),
     }
 }
 
-fn all_parts(
+fn all_parts<S: Alter>(
     alloc: Global,
     import: &mut Import,
-    book: &mut Book<MemStore>,
+    book: &mut Book<S>,
     parts: u8,
-) -> Result<String, Unfiled> {
+) -> Result<String, Untold> {
     let mut text = String::new(alloc);
     for _ in 0..parts {
         add_line(&mut text, next(alloc, import, book)?.as_str())?;
@@ -47,8 +51,12 @@ fn all_parts(
 }
 
 /// What a book answers to a new import up to this part, a line each.
-pub fn imported(alloc: Global, book: &mut Book<MemStore>, parts: &str) -> Result<String, Unfiled> {
-    let parts = parts.parse::<u8>().map_err(|_| Unfiled::Unmade)?;
-    let mut import = begun(alloc)?;
+pub fn imported<S: Alter>(
+    alloc: Global,
+    book: &mut Book<S>,
+    parts: &str,
+) -> Result<String, Untold> {
+    let parts = parts.parse::<u8>().map_err(|_| Untold::Unmade)?;
+    let mut import = begun::<S>(alloc)?;
     all_parts(alloc, &mut import, book, parts)
 }

@@ -4,10 +4,10 @@ ghost use Rattle.std.specs.Prelude.{OnOk};
 ghost use Rattle.sqlite.specs.Held.{state};
 ghost use Rattle.tables.specs.Calls.{HoldsBook};
 
-use crate::filing::Unfiled;
-use crate::filing::telling::sorted;
+use crate::fault::Untold;
 use crate::office::assert_told;
 use crate::requests::word;
+use crate::rows::sorted;
 use sqlite::{Alter, Connection};
 use std::alloc::Global;
 use std::test::Fail;
@@ -27,11 +27,11 @@ use values::Copied;
 /// A record that is told as a line.
 trait Told: Copied + Drop {
     /// The record's columns with `|` between them, as the shell `sqlite3` prints a row.
-    fn line(&self, alloc: Global) -> Result<String, Unfiled>;
+    fn line(&self, alloc: Global) -> Result<String, Untold>;
 }
 
 /// A number, or nothing.
-fn if_any(alloc: Global, number: Option<u32>) -> Result<String, Unfiled> {
+fn if_any(alloc: Global, number: Option<u32>) -> Result<String, Untold> {
     Ok(match number {
         Some(number) => format!(in alloc; "{number}")?,
         None => String::new(alloc),
@@ -39,27 +39,27 @@ fn if_any(alloc: Global, number: Option<u32>) -> Result<String, Unfiled> {
 }
 
 impl Told for BookRecord {
-    fn line(&self, alloc: Global) -> Result<String, Unfiled> {
+    fn line(&self, alloc: Global) -> Result<String, Untold> {
         let zone = self.zone.as_str();
         Ok(format!(in alloc; "{}|{}|{zone}", self.one, self.version)?)
     }
 }
 
 impl Told for CrewRecord {
-    fn line(&self, alloc: Global) -> Result<String, Unfiled> {
+    fn line(&self, alloc: Global) -> Result<String, Untold> {
         let (id, name) = (self.id.as_str(), self.name.as_str());
         Ok(format!(in alloc; "{id}|{}|{name}", self.seat)?)
     }
 }
 
 impl Told for PairingRecord {
-    fn line(&self, alloc: Global) -> Result<String, Unfiled> {
+    fn line(&self, alloc: Global) -> Result<String, Untold> {
         Ok(String::from_str(alloc, self.id.as_str())?)
     }
 }
 
 impl Told for PeriodRecord {
-    fn line(&self, alloc: Global) -> Result<String, Unfiled> {
+    fn line(&self, alloc: Global) -> Result<String, Untold> {
         let pairing = self.pairing.as_str();
         let planned = format!(in alloc; "{}|{}", self.report_at, self.release_at)?;
         let report = if_any(alloc, self.act_report)?;
@@ -69,7 +69,7 @@ impl Told for PeriodRecord {
 }
 
 impl Told for SegmentRecord {
-    fn line(&self, alloc: Global) -> Result<String, Unfiled> {
+    fn line(&self, alloc: Global) -> Result<String, Untold> {
         let pairing = self.pairing.as_str();
         let (flight, from, to) = (
             self.flight.as_str(),
@@ -85,21 +85,21 @@ impl Told for SegmentRecord {
 }
 
 impl Told for SeatRecord {
-    fn line(&self, alloc: Global) -> Result<String, Unfiled> {
+    fn line(&self, alloc: Global) -> Result<String, Untold> {
         let (pairing, crew) = (self.pairing.as_str(), self.crew.as_str());
         Ok(format!(in alloc; "{pairing}|{}|{crew}", self.seat)?)
     }
 }
 
 impl Told for GroundRecord {
-    fn line(&self, alloc: Global) -> Result<String, Unfiled> {
+    fn line(&self, alloc: Global) -> Result<String, Untold> {
         let (id, crew, task) = (self.id.as_str(), self.crew.as_str(), self.task.as_str());
         Ok(format!(in alloc; "{id}|{crew}|{task}|{}|{}", self.begin_at, self.end_at)?)
     }
 }
 
 impl Told for ExceedanceRecord {
-    fn line(&self, alloc: Global) -> Result<String, Unfiled> {
+    fn line(&self, alloc: Global) -> Result<String, Untold> {
         let (crew, pairing) = (self.crew.as_str(), self.pairing.as_str());
         let key = format!(in alloc; "{}|{}", self.number, self.part)?;
         Ok(format!(in alloc; "{key}|{crew}|{}|{pairing}|{}", self.section, self.period)?)
@@ -107,17 +107,17 @@ impl Told for ExceedanceRecord {
 }
 
 impl Told for RequestRecord {
-    fn line(&self, alloc: Global) -> Result<String, Unfiled> {
+    fn line(&self, alloc: Global) -> Result<String, Untold> {
         let (command, reply) = (self.command.as_str(), self.reply.as_str());
         Ok(format!(in alloc; "{}|{}|{command}|{reply}", self.number, self.part)?)
     }
 }
 
 /// A copy of a record as a line.
-fn line_of_copy<R: Told>(alloc: Global, record: &R) -> Result<String, Unfiled> {
+fn line_of_copy<R: Told>(alloc: Global, record: &R) -> Result<String, Untold> {
     match record.copy(alloc) {
         Ok(copy) => copy.line(alloc),
-        Err(_) => Err(Unfiled::Memory),
+        Err(_) => Err(Untold::Memory),
     }
 }
 
@@ -125,7 +125,7 @@ fn line_of_copy<R: Told>(alloc: Global, record: &R) -> Result<String, Unfiled> {
 fn lines_of<R: Told>(
     alloc: Global,
     records: Result<Vec<R>, TableFault>,
-) -> Result<Vec<String>, Unfiled> {
+) -> Result<Vec<String>, Untold> {
     let mut lines = Vec::new(alloc);
     for record in &records? {
         lines.push(line_of_copy(alloc, record)?)?;
@@ -137,15 +137,12 @@ fn lines_of<R: Told>(
 }
 
 /// What is found, in the order of the alphabet.
-fn in_order<R: Told>(
-    alloc: Global,
-    records: Result<Vec<R>, TableFault>,
-) -> Result<String, Unfiled> {
+fn in_order<R: Told>(alloc: Global, records: Result<Vec<R>, TableFault>) -> Result<String, Untold> {
     Ok(sorted(alloc, lines_of(alloc, records)?)?)
 }
 
 /// What is found, as it comes.
-fn in_turn<R: Told>(alloc: Global, records: Result<Vec<R>, TableFault>) -> Result<String, Unfiled> {
+fn in_turn<R: Told>(alloc: Global, records: Result<Vec<R>, TableFault>) -> Result<String, Untold> {
     let mut all = String::new(alloc);
     for line in &lines_of(alloc, records)? {
         all.push_str(line.as_str())?;
@@ -154,18 +151,18 @@ fn in_turn<R: Told>(alloc: Global, records: Result<Vec<R>, TableFault>) -> Resul
     Ok(all)
 }
 
-fn yes(alloc: Global, holds: bool) -> Result<String, Unfiled> {
+fn yes(alloc: Global, holds: bool) -> Result<String, Untold> {
     Ok(String::from_str(alloc, if holds { "yes\n" } else { "no\n" })?)
 }
 
 /// Sees to what each call on a table owes.
-fn look<S: Alter>(alloc: Global, conn: &Connection<S>) -> Result<(), Unfiled>
+fn look<S: Alter>(alloc: Global, conn: &Connection<S>) -> Result<(), Untold>
     ensures { OnOk result (HoldsBook (state S.Store conn.now)) }
 {
     if is_book(alloc, conn)? {
         Ok(())
     } else {
-        Err(Unfiled::Unread)
+        Err(Untold::Unread)
     }
 }
 
@@ -175,11 +172,11 @@ fn request<S: Alter>(
     conn: &mut Connection<S>,
     number: &str,
     part: &str,
-) -> Result<String, Unfiled> {
+) -> Result<String, Untold> {
     look(alloc, conn)?;
     match (number.parse::<i64>(), part.parse::<u32>()) {
         (Ok(number), Ok(part)) => in_order(alloc, request_by_key(alloc, conn, number, part)),
-        _ => Err(Unfiled::Unread),
+        _ => Err(Untold::Unread),
     }
 }
 
@@ -189,7 +186,7 @@ fn found_of<S: Alter>(
     conn: &mut Connection<S>,
     kind: &str,
     id: &str,
-) -> Result<String, Unfiled> {
+) -> Result<String, Untold> {
     look(alloc, conn)?;
     match kind {
         "book" => in_order(alloc, load_book(alloc, conn)),
@@ -202,7 +199,7 @@ fn found_of<S: Alter>(
         "ground" => in_order(alloc, ground_by_id(alloc, conn, id)),
         "grounds-by" => in_order(alloc, grounds_by_crew(alloc, conn, id)),
         "exceedances" => in_turn(alloc, exceedances(alloc, conn)),
-        _ => Err(Unfiled::Unread),
+        _ => Err(Untold::Unread),
     }
 }
 
@@ -225,7 +222,7 @@ pub fn found<S: Alter>(
     alloc: Global,
     conn: &mut Connection<S>,
     line: &str,
-) -> Result<String, Unfiled> {
+) -> Result<String, Untold> {
     let (kind, id) = (word(line, 1), word(line, 2));
     match kind {
         "nothing" => yes(alloc, is_empty(conn)),

@@ -1,5 +1,5 @@
 //! Tests over databases in memory: a crew office that asks its book, what it is answered and which rows are then in the tables;
-//! what the tables find by key; and the store stopped at each call on its files.
+//! what the tables find by key; and a book stopped at each call on its files.
 #![tactic(auto)]
 
 #[cfg(test)]
@@ -7,7 +7,7 @@ mod answers;
 #[cfg(test)]
 mod asking;
 #[cfg(test)]
-mod filing;
+mod fault;
 #[cfg(test)]
 mod importing;
 #[cfg(test)]
@@ -28,5 +28,7 @@ mod refusals;
 mod reopening;
 #[cfg(test)]
 mod requests;
+#[cfg(test)]
+mod rows;
 #[cfg(test)]
 mod stops;

@@ -1,12 +1,12 @@
 //! A crew office over a database in memory: it makes or takes up a book, asks it, closes it, and looks at the rows.
 
-use crate::filing::{Unfiled, telling};
+use crate::fault::Untold;
 use crate::opening::{Left, create, take_up};
 use crate::requests::{add_requests, word};
-use crate::{asking, keyed};
+use crate::{asking, keyed, rows};
 use book::Book;
 use command::{Command, Key};
-use sqlite::{Connection, MemStore};
+use sqlite::{Alter, Connection};
 use std::alloc::Global;
 use std::process::Abort;
 use std::test::Fail;
@@ -19,7 +19,11 @@ struct Desk {
 }
 
 /// Makes a book, or takes one up.
-fn open(alloc: Global, conn: Connection<MemStore>, line: &str) -> Result<Book<MemStore>, Left> {
+fn open<S: Alter + Drop>(
+    alloc: Global,
+    conn: Connection<S>,
+    line: &str,
+) -> Result<Book<S>, Left<S>> {
     match line {
         "create" | "run" => create(alloc, conn),
         _ => take_up(alloc, conn),
@@ -27,7 +31,12 @@ fn open(alloc: Global, conn: Connection<MemStore>, line: &str) -> Result<Book<Me
 }
 
 /// Opens a book, asks it requests, and closes it.
-fn asked(alloc: Global, conn: Connection<MemStore>, line: &str, list: &[(Key, Command)]) -> Left {
+fn asked<S: Alter + Drop>(
+    alloc: Global,
+    conn: Connection<S>,
+    line: &str,
+    list: &[(Key, Command)],
+) -> Left<S> {
     match open(alloc, conn, line) {
         Ok(mut book) => {
             let told = asking::told(alloc, &mut book, line, list);
@@ -38,81 +47,79 @@ fn asked(alloc: Global, conn: Connection<MemStore>, line: &str, list: &[(Key, Co
 }
 
 /// Asks the requests of a desk, which then has none.
-fn sent(alloc: Global, conn: Connection<MemStore>, desk: &mut Desk, line: &str) -> Left {
+fn sent<S: Alter + Drop>(
+    alloc: Global,
+    conn: Connection<S>,
+    desk: &mut Desk,
+    line: &str,
+) -> Left<S> {
     let left = asked(alloc, conn, line, &desk.requests);
     desk.requests = Vec::new(alloc);
     left
 }
 
-/// Takes another database, that has no tables.
-fn begun(alloc: Global, conn: Connection<MemStore>) -> Left {
-    match Connection::open_in_memory(alloc) {
-        Ok(other) => {
-            drop(conn);
-            (Ok(String::new(alloc)), other)
-        }
-        Err(error) => (Err(error.into()), conn),
-    }
-}
-
 /// `same` where all rows are those that were noted, or else the rows.
-fn compared(
+fn compared<S: Alter + Drop>(
     alloc: Global,
-    conn: &mut Connection<MemStore>,
+    conn: &mut Connection<S>,
     noted: &str,
-) -> Result<String, Unfiled> {
-    let rows = telling::told(alloc, conn)?;
-    if rows.as_str() == noted {
+) -> Result<String, Untold> {
+    let found = rows::told(alloc, conn)?;
+    if found.as_str() == noted {
         Ok(String::from_str(alloc, "same\n")?)
     } else {
-        Ok(rows)
+        Ok(found)
     }
 }
 
 /// Notes all rows, takes up requests, or runs statements, of which nothing is told.
-fn act(
+fn act<S: Alter + Drop>(
     alloc: Global,
-    conn: &mut Connection<MemStore>,
+    conn: &mut Connection<S>,
     desk: &mut Desk,
     line: &str,
-) -> Result<(), Unfiled> {
+) -> Result<(), Untold> {
     match word(line, 0) {
-        "note" => desk.noted = telling::told(alloc, conn)?,
+        "note" => desk.noted = rows::told(alloc, conn)?,
         "INSERT" | "UPDATE" | "DELETE" => conn.execute_batch(line)?,
         _ => add_requests(alloc, &mut desk.requests, line)?,
     }
     Ok(())
 }
 
-fn acted(
+fn acted<S: Alter + Drop>(
     alloc: Global,
-    conn: &mut Connection<MemStore>,
+    conn: &mut Connection<S>,
     desk: &mut Desk,
     line: &str,
-) -> Result<String, Unfiled> {
+) -> Result<String, Untold> {
     act(alloc, conn, desk, line)?;
     Ok(String::new(alloc))
 }
 
 /// What is told of a line that opens no book.
-fn looked(
+fn looked<S: Alter + Drop>(
     alloc: Global,
-    conn: &mut Connection<MemStore>,
+    conn: &mut Connection<S>,
     desk: &mut Desk,
     line: &str,
-) -> Result<String, Unfiled> {
+) -> Result<String, Untold> {
     match word(line, 0) {
         "compare" => compared(alloc, conn, desk.noted.as_str()),
-        "SELECT" => telling::found(alloc, conn, "row", line),
+        "SELECT" => rows::found(alloc, conn, "row", line),
         "find" => keyed::found(alloc, conn, line),
         _ => acted(alloc, conn, desk, line),
     }
 }
 
 /// Does what a line says.
-fn done(alloc: Global, mut conn: Connection<MemStore>, desk: &mut Desk, line: &str) -> Left {
+fn done<S: Alter + Drop>(
+    alloc: Global,
+    mut conn: Connection<S>,
+    desk: &mut Desk,
+    line: &str,
+) -> Left<S> {
     match word(line, 0) {
-        "begin" => begun(alloc, conn),
         "create" | "run" | "open" | "import" => sent(alloc, conn, desk, line),
         _ => {
             let told = looked(alloc, &mut conn, desk, line);
@@ -122,13 +129,29 @@ fn done(alloc: Global, mut conn: Connection<MemStore>, desk: &mut Desk, line: &s
 }
 
 /// A desk with the requests of some lines.
-fn set_up(alloc: Global, requests: &str) -> Result<Desk, Unfiled> {
+fn set_up(alloc: Global, requests: &str) -> Result<Desk, Untold> {
     let mut list = Vec::new(alloc);
     add_requests(alloc, &mut list, requests)?;
     Ok(Desk {
         requests: list,
         noted: String::new(alloc),
     })
+}
+
+/// What is told of lines that are taken in turn over one database.
+fn told_over<S: Alter + Drop>(
+    alloc: Global,
+    mut conn: Connection<S>,
+    desk: &mut Desk,
+    lines: &str,
+) -> Result<String, Untold> {
+    let mut text = String::new(alloc);
+    for line in lines.split('\n') {
+        let (told, left) = done(alloc, conn, desk, line.trim_ascii());
+        conn = left;
+        text.push_str(told?.as_str())?;
+    }
+    Ok(text)
 }
 
 /// What an office tells that has these requests at hand and then takes these lines in turn, beginning with a database that
@@ -157,14 +180,12 @@ fn set_up(alloc: Global, requests: &str) -> Result<Desk, Unfiled> {
 ///         tells what the tables' functions find, as `keyed::found` says
 ///     DELETE FROM seat
 ///         runs the statement, as it does one that begins with INSERT or UPDATE
-fn told(alloc: Global, requests: &str, lines: &str) -> Result<String, Unfiled> {
+fn told(alloc: Global, requests: &str, lines: &str) -> Result<String, Untold> {
     let mut desk = set_up(alloc, requests)?;
     let mut text = String::new(alloc);
-    let mut conn = Connection::open_in_memory(alloc)?;
-    for line in lines.split('\n') {
-        let (told, left) = done(alloc, conn, &mut desk, line.trim_ascii());
-        conn = left;
-        text.push_str(told?.as_str())?;
+    for lines in lines.split("begin\n") {
+        let conn = Connection::open_in_memory(alloc)?;
+        text.push_str(told_over(alloc, conn, &mut desk, lines)?.as_str())?;
     }
     Ok(text)
 }

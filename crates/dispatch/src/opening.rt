@@ -1,22 +1,22 @@
 //! Books that are made, or taken up as they are there.
 
-use crate::filing::Unfiled;
+use crate::fault::Untold;
 use book::{Book, CreateFault, LoadFault};
 use samples::EASTERN;
-use sqlite::{Connection, MemStore};
+use sqlite::{Alter, Connection};
 use std::alloc::Global;
 use time117::Zone;
 
 /// A text of what was done with a database, and the database.
-pub type Left = (Result<String, Unfiled>, Connection<MemStore>);
+pub type Left<S> = (Result<String, Untold>, Connection<S>);
 
 /// Makes a book of New York's zone, or tells what refuses it. Where a transaction is begun, none is made.
-pub fn create(alloc: Global, conn: Connection<MemStore>) -> Result<Book<MemStore>, Left> {
+pub fn create<S: Alter>(alloc: Global, conn: Connection<S>) -> Result<Book<S>, Left<S>> {
     if !conn.is_autocommit() {
-        return Err((Err(Unfiled::Unread), conn));
+        return Err((Err(Untold::Unread), conn));
     }
     let Ok(zone) = Zone::read(alloc, EASTERN) else {
-        return Err((Err(Unfiled::Unmade), conn));
+        return Err((Err(Untold::Unmade), conn));
     };
     match Book::create(alloc, conn, zone) {
         Ok(book) => Ok(book),
@@ -24,14 +24,14 @@ pub fn create(alloc: Global, conn: Connection<MemStore>) -> Result<Book<MemStore
     }
 }
 
-fn not_made(alloc: Global, fault: CreateFault) -> Result<String, Unfiled> {
+fn not_made(alloc: Global, fault: CreateFault) -> Result<String, Untold> {
     Ok(format!(in alloc; "{fault}\n")?)
 }
 
 /// Takes up the book that is there, or tells what refuses it. Where a transaction is begun, none is taken up.
-pub fn take_up(alloc: Global, conn: Connection<MemStore>) -> Result<Book<MemStore>, Left> {
+pub fn take_up<S: Alter>(alloc: Global, conn: Connection<S>) -> Result<Book<S>, Left<S>> {
     if !conn.is_autocommit() {
-        return Err((Err(Unfiled::Unread), conn));
+        return Err((Err(Untold::Unread), conn));
     }
     match Book::adopt(alloc, conn) {
         Ok(book) => Ok(book),
@@ -39,6 +39,6 @@ pub fn take_up(alloc: Global, conn: Connection<MemStore>) -> Result<Book<MemStor
     }
 }
 
-fn not_taken_up(alloc: Global, fault: LoadFault) -> Result<String, Unfiled> {
+fn not_taken_up(alloc: Global, fault: LoadFault) -> Result<String, Untold> {
     Ok(format!(in alloc; "{fault}\n")?)
 }

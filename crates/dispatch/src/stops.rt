@@ -4,9 +4,10 @@ mod disk;
 mod run;
 mod states;
 
-use crate::stops::disk::{Left, Stopped, fused, restarted};
+use crate::stops::disk::{Left, Stopped, Stops, restarted, taking};
 use crate::stops::run::{Reached, play, reopened};
-use crate::stops::states::{LateFlight, ORDERS, states};
+use crate::stops::states::{REQUESTS, requests, states};
+use command::{Command, Key};
 use sqlite_disk::{Fuse, Memory};
 use std::alloc::Global;
 use std::test::Fail;
@@ -15,7 +16,7 @@ use std::test::Fail;
 fn place(reached: Reached) -> usize {
     match reached {
         Reached::NoBook => 0,
-        Reached::Kept(orders) => 1 + usize::from(orders),
+        Reached::Accepted(count) => count.saturating_add(1),
     }
 }
 
@@ -27,20 +28,19 @@ fn is_left(held: &str, states: &[String], reached: Reached, is_whole: bool) -> b
     allowed.any(|state| state.as_str() == held)
 }
 
-/// Stops a run of so many orders at each call from this one on, up to the first run that has no stop; how many calls
-/// that one makes.
-fn calls_of(
+/// Stops a run of these requests at each call from this one on, up to the first run that has no stop; how many calls that
+/// one makes.
+fn calls_of<D: Stops>(
     alloc: Global,
     states: &[String],
     (stopped, left): (Stopped, Left),
-    orders: u8,
+    list: &[(Key, Command)],
     first: u64,
 ) -> Result<u64, Fail> {
-    let whole = Reached::Kept(orders);
+    let whole = Reached::Accepted(list.len());
     for calls in first..first.saturating_add(1_000) {
-        let files = fused(alloc, stopped, calls);
-        let (reached, files) = play::<Fuse<Memory>, LateFlight>(alloc, files, orders);
-        let held = reopened(alloc, restarted(alloc, files, left))?;
+        let (reached, files) = play::<D>(alloc, taking(alloc, stopped, calls), list);
+        let held = reopened::<D>(alloc, restarted(alloc, files, left))?;
         if !is_left(held.as_str(), states, reached, reached == whole) {
             return Err(Fail::from("what no stop may leave"));
         }
@@ -51,36 +51,37 @@ fn calls_of(
     Err(Fail::from("no run came to its end"))
 }
 
-/// Stops a run at each call: of a book without orders, and then of each order. How many calls the longest run makes.
-fn stop(alloc: Global, stopped: Stopped, left: Left) -> Result<u64, Fail> {
+/// Stops a run at each call: of a book that is asked nothing, and then of each request. How many calls the longest run makes.
+fn stop<D: Stops>(alloc: Global, stopped: Stopped, left: Left) -> Result<u64, Fail> {
     let states = states(alloc)?;
     let mut calls = 0;
-    for orders in 0..=ORDERS {
-        calls = calls_of(alloc, states.as_slice(), (stopped, left), orders, calls)?;
+    for count in 0..=REQUESTS {
+        let list = requests(alloc, count)?;
+        calls = calls_of::<D>(alloc, states.as_slice(), (stopped, left), &list, calls)?;
     }
     Ok(calls)
 }
 
 #[test]
 fn each_call_of_the_log(rt: HostRuntime) -> Result<(), Fail> {
-    assert!(rt; stop(rt.alloc(), Stopped::Log, Left::Written)? > 0);
+    assert!(rt; stop::<Fuse<Memory>>(rt.alloc(), Stopped::Log, Left::Written)? > 0);
     Ok(())
 }
 
 #[test]
 fn each_call_of_the_database(rt: HostRuntime) -> Result<(), Fail> {
-    assert!(rt; stop(rt.alloc(), Stopped::Database, Left::Written)? > 0);
+    assert!(rt; stop::<Fuse<Memory>>(rt.alloc(), Stopped::Database, Left::Written)? > 0);
     Ok(())
 }
 
 #[test]
 fn each_call_of_the_log_before_a_sync(rt: HostRuntime) -> Result<(), Fail> {
-    assert!(rt; stop(rt.alloc(), Stopped::Log, Left::Synced)? > 0);
+    assert!(rt; stop::<Fuse<Memory>>(rt.alloc(), Stopped::Log, Left::Synced)? > 0);
     Ok(())
 }
 
 #[test]
 fn each_call_of_the_database_before_a_sync(rt: HostRuntime) -> Result<(), Fail> {
-    assert!(rt; stop(rt.alloc(), Stopped::Database, Left::Synced)? > 0);
+    assert!(rt; stop::<Fuse<Memory>>(rt.alloc(), Stopped::Database, Left::Synced)? > 0);
     Ok(())
 }

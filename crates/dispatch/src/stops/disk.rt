@@ -20,16 +20,13 @@ pub enum Left {
     Synced,
 }
 
-/// Two empty files, one of which takes so many calls.
-pub fn fused(alloc: Global, stopped: Stopped, calls: u64) -> Files<Fuse<Memory>> {
-    let (log, db) = match stopped {
-        Stopped::Log => (calls, u64::MAX),
-        Stopped::Database => (u64::MAX, calls),
-    };
-    Files {
-        log: Fuse::new(Memory::new(alloc), log),
-        db: Fuse::new(Memory::new(alloc), db),
-    }
+/// A file whose calls come to an end.
+pub trait Stops: Disk + Drop {
+    /// An empty file that takes so many calls.
+    fn taking(alloc: Global, calls: u64) -> Self;
+
+    /// The file as the machine finds it after a stop, which takes all calls.
+    fn restarted(self, alloc: Global, left: Left) -> Self;
 }
 
 /// What is written in a file, in a file that takes all calls.
@@ -47,17 +44,36 @@ fn synced(mut file: Fuse<Memory>) -> Fuse<Memory> {
     file
 }
 
+impl Stops for Fuse<Memory> {
+    fn taking(alloc: Global, calls: u64) -> Fuse<Memory> {
+        Fuse::new(Memory::new(alloc), calls)
+    }
+
+    fn restarted(self, alloc: Global, left: Left) -> Fuse<Memory> {
+        match left {
+            Left::Written => written(alloc, &self),
+            Left::Synced => synced(self),
+        }
+    }
+}
+
+/// Two empty files, one of which takes so many calls.
+pub fn taking<D: Stops>(alloc: Global, stopped: Stopped, calls: u64) -> Files<D> {
+    let (log, db) = match stopped {
+        Stopped::Log => (calls, u64::MAX),
+        Stopped::Database => (u64::MAX, calls),
+    };
+    Files {
+        log: D::taking(alloc, log),
+        db: D::taking(alloc, db),
+    }
+}
+
 /// The files as the machine finds them after a stop.
-pub fn restarted(alloc: Global, files: Files<Fuse<Memory>>, left: Left) -> Files<Fuse<Memory>> {
+pub fn restarted<D: Stops>(alloc: Global, files: Files<D>, left: Left) -> Files<D> {
     let Files { log, db } = files;
-    match left {
-        Left::Written => Files {
-            log: written(alloc, &log),
-            db: written(alloc, &db),
-        },
-        Left::Synced => Files {
-            log: synced(log),
-            db: synced(db),
-        },
+    Files {
+        log: log.restarted(alloc, left),
+        db: db.restarted(alloc, left),
     }
 }

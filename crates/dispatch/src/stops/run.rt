@@ -1,61 +1,60 @@
-//! A run of the office over files, and what another finds in them.
+//! A book in files that is asked requests, and what is found in the files when they are opened again.
 
-use crate::filing::Unfiled;
-use crate::filing::office::Office;
-use crate::filing::telling::{found, told};
-use command::{Key, Order};
-use samples::Unmade;
+use crate::fault::Untold;
+use crate::opening::create;
+use crate::rows::{found, told};
+use book::{Answer, Book};
+use command::{Command, Key};
 use sqlite::{Alter, Connection, FileStore, Files, Options};
 use sqlite_disk::Disk;
 use std::alloc::Global;
 
-/// An order of a list, by its place from 1.
-pub trait Orders {
-    fn order(alloc: Global, number: u8) -> Result<Order, Unmade>;
-}
-
-/// How far a run came: no book, or one with so many orders.
+/// How far a run came: no book, or one that accepted so many requests.
 #[derive(Clone, Copy, PartialEq, Eq)]
 pub enum Reached {
     NoBook,
-    Kept(u8),
+    Accepted(usize),
 }
 
-/// Makes a book and has orders kept in it, up to the first that is not.
-fn keep_all<S: Alter + Drop, O: Orders>(
+/// How many requests a book accepts in turn, up to the first that it doesn't.
+fn accepted<S: Alter>(alloc: Global, book: &mut Book<S>, list: &[(Key, Command)]) -> usize {
+    let mut count = 0usize;
+    for (key, command) in list {
+        match book.ask(alloc, *key, command) {
+            Ok(Answer::Accepted(_)) => count = count.saturating_add(1),
+            _ => return count,
+        }
+    }
+    count
+}
+
+/// Makes a book, and asks it the requests.
+fn ask_all<S: Alter + Drop>(
     alloc: Global,
     conn: Connection<S>,
-    orders: u8,
+    list: &[(Key, Command)],
 ) -> (Reached, Connection<S>) {
-    match Office::open(alloc, conn) {
-        Ok(office) => settle_all::<S, O>(alloc, office, orders),
-        Err((_fault, conn)) => (Reached::NoBook, conn),
+    match create(alloc, conn) {
+        Ok(mut book) => {
+            let count = accepted(alloc, &mut book, list);
+            (Reached::Accepted(count), book.into_connection())
+        }
+        Err((_told, conn)) => (Reached::NoBook, conn),
     }
 }
 
-fn settle_all<S: Alter + Drop, O: Orders>(
-    alloc: Global,
-    mut office: Office<S>,
-    orders: u8,
-) -> (Reached, Connection<S>) {
-    for number in 1..=orders {
-        office.settle(Key::new(u64::from(number), 0), O::order(alloc, number));
-    }
-    (Reached::Kept(office.kept()), office.into_connection())
-}
-
-/// Makes a book in files and has orders kept in it, as far as the files take the calls.
-pub fn play<D: Disk + Drop, O: Orders>(
+/// Makes a book in files and asks it the requests, as far as the files take the calls.
+pub fn play<D: Disk + Drop>(
     alloc: Global,
     files: Files<D>,
-    orders: u8,
+    list: &[(Key, Command)],
 ) -> (Reached, Files<D>) {
     if !files.may_be_used() {
         return (Reached::NoBook, files);
     }
     match Connection::open_files(alloc, files, Options::new(7)) {
         Ok(conn) => {
-            let (reached, conn) = keep_all::<FileStore<D>, O>(alloc, conn, orders);
+            let (reached, conn) = ask_all::<FileStore<D>>(alloc, conn, list);
             (reached, conn.into_store().close())
         }
         Err((_error, left)) => (Reached::NoBook, left.into_files()),
@@ -63,7 +62,7 @@ pub fn play<D: Disk + Drop, O: Orders>(
 }
 
 /// All rows of a book, or none where there are no tables at all.
-fn rows<S: Alter>(alloc: Global, conn: &mut Connection<S>) -> Result<String, Unfiled> {
+fn rows<S: Alter>(alloc: Global, conn: &mut Connection<S>) -> Result<String, Untold> {
     let tables = found(alloc, conn, "table", "SELECT name FROM sqlite_schema")?;
     if tables.is_empty() {
         Ok(tables)
@@ -73,9 +72,9 @@ fn rows<S: Alter>(alloc: Global, conn: &mut Connection<S>) -> Result<String, Unf
 }
 
 /// All rows that files hold, where they open.
-pub fn reopened<D: Disk + Drop>(alloc: Global, files: Files<D>) -> Result<String, Unfiled> {
+pub fn reopened<D: Disk + Drop>(alloc: Global, files: Files<D>) -> Result<String, Untold> {
     if !files.may_be_used() {
-        return Err(Unfiled::Unread);
+        return Err(Untold::Unread);
     }
     match Connection::open_files(alloc, files, Options::new(8)) {
         Ok(mut conn) => {
@@ -85,7 +84,7 @@ pub fn reopened<D: Disk + Drop>(alloc: Global, files: Files<D>) -> Result<String
         }
         Err((_error, left)) => {
             drop(left.into_files());
-            Err(Unfiled::Unread)
+            Err(Untold::Unread)
         }
     }
 }

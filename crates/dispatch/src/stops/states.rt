@@ -1,37 +1,32 @@
-//! Six orders, and the rows of the book after each of them. Times are in minutes since 2000-01-01T00:00Z.
+//! Six requests, and the rows of the book after each of them. Times are in minutes since 2000-01-01T00:00Z.
 ghost use Rattle.std.specs.Prelude.{◌≤◌};
 
-use crate::filing::Unfiled;
-use crate::filing::telling::sorted;
-use crate::stops::run::Orders;
-use command::{Order, Seat};
-use samples::{Unmade, add_crew, add_pairing, assign, fly, june};
+use crate::fault::Untold;
+use crate::requests::add_requests;
+use crate::rows::sorted;
+use command::{Command, Key};
 use std::alloc::Global;
 
-/// How many orders there are.
-pub const ORDERS: u8 = 6;
+/// How many requests there are.
+pub const REQUESTS: usize = 6;
 
 /// A captain and a first officer take a pairing, and fly it eleven hours late.
-pub struct LateFlight;
+const LATE_FLIGHT: [&str; 6] = [
+    "1 captain C1: Ada Ray",
+    "2 first-officer F1: Zoë Roy",
+    "3 plan P1 10: 11:00 | 12:00-14:00, 15:00-19:30 | 20:00",
+    "4 assign P1 C1",
+    "5 assign P1 F1",
+    "6 fly P1 10: 11:00 | 12:00-14:00, 23:00-+1 07:00 | +1 07:30",
+];
 
-impl Orders for LateFlight {
-    fn order(alloc: Global, number: u8) -> Result<Order, Unmade> {
-        match number {
-            1 => add_crew(alloc, "C1", Seat::Captain, "Ada Ray"),
-            2 => add_crew(alloc, "F1", Seat::FirstOfficer, "Zoë Roy"),
-            3 => {
-                let written = "11:00 | 12:00-14:00, 15:00-19:30 | 20:00";
-                add_pairing(alloc, "P1", june(10), written)
-            }
-            4 => assign(alloc, "P1", "C1"),
-            5 => assign(alloc, "P1", "F1"),
-            6 => {
-                let written = "11:00 | 12:00-14:00, 23:00-+1 07:00 | +1 07:30";
-                fly(alloc, "P1", 1, june(10), written)
-            }
-            _ => Err(Unmade),
-        }
+/// The first requests, so many of them.
+pub fn requests(alloc: Global, count: usize) -> Result<Vec<(Key, Command)>, Untold> {
+    let mut list = Vec::new(alloc);
+    for line in LATE_FLIGHT.iter().take(count) {
+        add_requests(alloc, &mut list, line)?;
     }
+    Ok(list)
 }
 
 const BOOK: &[&str] = &["book 1|1|EST5EDT,M3.2.0,M11.1.0"];
@@ -97,7 +92,7 @@ const FLOWN: &[&str] = &[
         ],\"result\":\"accepted\"}",
 ];
 
-fn joined(alloc: Global, rows: &[&[&str]]) -> Result<String, Unfiled> {
+fn joined(alloc: Global, rows: &[&[&str]]) -> Result<String, Untold> {
     let mut lines = Vec::new(alloc);
     for of_one in rows {
         for row in *of_one {
@@ -107,9 +102,9 @@ fn joined(alloc: Global, rows: &[&[&str]]) -> Result<String, Unfiled> {
     sorted(alloc, lines)
 }
 
-/// The rows after so many orders, of which there are no more than `ORDERS`.
-fn after(alloc: Global, orders: u8) -> Result<String, Unfiled> {
-    match orders {
+/// The rows after so many requests, of which there are no more than `REQUESTS`.
+fn after(alloc: Global, count: usize) -> Result<String, Untold> {
+    match count {
         0 => joined(alloc, &[BOOK]),
         1 => joined(alloc, &[BOOK, CAPTAIN]),
         2 => joined(alloc, &[BOOK, CAPTAIN, OFFICER]),
@@ -120,12 +115,12 @@ fn after(alloc: Global, orders: u8) -> Result<String, Unfiled> {
     }
 }
 
-/// No tables, the rows of the empty book, and the rows after each order.
-pub fn states(alloc: Global) -> Result<Vec<String>, Unfiled> {
+/// No tables, the rows of the empty book, and the rows after each request.
+pub fn states(alloc: Global) -> Result<Vec<String>, Untold> {
     let mut states = Vec::new(alloc);
     states.push(String::new(alloc))?;
-    for orders in 0..=ORDERS {
-        states.push(after(alloc, orders)?)?;
+    for count in 0..=REQUESTS {
+        states.push(after(alloc, count)?)?;
     }
     Ok(states)
 }

@@ -1,6 +1,6 @@
 //! What the tables hold, read by plain SELECTs.
 
-use crate::filing::Unfiled;
+use crate::fault::Untold;
 use sqlite::types::ValueRef;
 use sqlite::{Alter, Connection, Error, Row};
 use std::alloc::Global;
@@ -67,7 +67,7 @@ fn add_lines<S: Alter>(
 }
 
 /// Lines in the order of the alphabet, as one text.
-pub fn sorted(alloc: Global, mut lines: Vec<String>) -> Result<String, Unfiled> {
+pub fn sorted(alloc: Global, mut lines: Vec<String>) -> Result<String, Untold> {
     lines.sort()?;
     let mut all = String::new(alloc);
     for line in &lines {
@@ -83,14 +83,14 @@ pub fn found<S: Alter>(
     conn: &mut Connection<S>,
     name: &str,
     select: &str,
-) -> Result<String, Unfiled> {
+) -> Result<String, Untold> {
     let mut lines = Vec::new(alloc);
     add_lines(alloc, conn, name, select, &mut lines)?;
     sorted(alloc, lines)
 }
 
 /// All rows of the nine tables, as lines that begin with the name of their table.
-pub fn told<S: Alter>(alloc: Global, conn: &mut Connection<S>) -> Result<String, Unfiled> {
+pub fn told<S: Alter>(alloc: Global, conn: &mut Connection<S>) -> Result<String, Untold> {
     let mut lines = Vec::new(alloc);
     for (name, select) in TABLES {
         add_lines(alloc, conn, name, select, &mut lines)?;
