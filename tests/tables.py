@@ -15,16 +15,14 @@ import json
 import re
 import shutil
 import sqlite3
-import subprocess
 import sys
 import tempfile
 from contextlib import closing
 from dataclasses import dataclass
-from datetime import datetime, timedelta
 from pathlib import Path
 
-TOP = Path(__file__).resolve().parent.parent
-ZONE = "EST5EDT,M3.2.0,M11.1.0"
+from office import TOP, ZONE, build, instant, rosterbook
+
 GREATEST = "9223372036854775807"
 
 # ---- What is written in tests/tables
@@ -81,9 +79,8 @@ def rows(file):
 
 def ran(*words, given=""):
     """What the program writes, standard error after `! `, and its exit status where that isn't 0."""
-    done = subprocess.run([TOP / "rosterbook", *words], input=given.encode(), capture_output=True)
-    out, err = done.stdout.decode(errors="replace"), done.stderr.decode(errors="replace")
-    return out + "".join(f"! {line}\n" for line in err.splitlines()) + (f"[{done.returncode}]\n" if done.returncode else "")
+    done = rosterbook(*words, given=given)
+    return done.out + "".join(f"! {line}\n" for line in done.err.splitlines()) + (f"[{done.status}]\n" if done.status else "")
 
 
 # What an order in words names, in turn.
@@ -106,8 +103,8 @@ def order(words):
     if do == "fly":
         return {**json.loads(FLY), "pairing": texts[0], "period": int(texts[1])}
     if do == "add-ground":
-        begin = datetime(2000, 1, 1) + timedelta(minutes=int(texts.pop()))
-        texts += [f"{it:%Y-%m-%dT%H:%MZ}" for it in (begin, begin + timedelta(minutes=1))] + ["Drill"]
+        begin = int(texts.pop())
+        texts += [instant(begin), instant(begin + 1), "Drill"]
     return {"do": do, **dict(zip(NAMED[do], texts))}
 
 
@@ -287,7 +284,7 @@ def try_long_pairing(desk):
 
 
 def try_greatest_key(desk):
-    """All parts of an import of 10,000 pairings but the last are refused."""
+    """All parts of an import of 10,000 pairings but the last are refused; one more pairing is one too many."""
     file = desk.book()
     desk.expect("two pairings", imported(file, "1", ["P1", "P2"]), "1 accepted\n2 accepted\n")
     pairings = ["P1", "P2"] * 4_999 + ["P1", "P3"]
@@ -300,6 +297,8 @@ def try_greatest_key(desk):
     desk.expect("10,000 parts", imported(file, GREATEST, pairings), wanted)
     desk.expect("the greatest key", told(file, f"request {GREATEST}|"), [row])
     desk.expect_kept("10,000 parts again", file, lambda: imported(file, GREATEST, pairings), wanted)
+    refused_whole = "! refused 30 BadCsv 10002\n[1]\n"  # the header is the first record
+    desk.expect_kept("10,001 parts", file, lambda: imported(file, GREATEST, [*pairings, "P4"]), refused_whole)
     desk.expect("the greatest number", asked(file, MEMBER, GREATEST), answer("accepted"))
     desk.expect("its rows", told(file, f"request {GREATEST}|"), [f"request {GREATEST}|0|{MEMBER}|{reply('accepted')}", row])
 
@@ -355,7 +354,7 @@ TRIED = (
 def main():
     if sqlite3.sqlite_version_info < (3, 37):
         sys.exit("tests/tables.py: Python's sqlite3 has to be of SQLite 3.37 or newer")
-    if subprocess.run([TOP / "rosterbook", "--version"], stdout=subprocess.DEVNULL).returncode:
+    if not build():
         return 3
     with tempfile.TemporaryDirectory() as room:
         desk = Desk(Path(room))
