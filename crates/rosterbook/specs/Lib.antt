@@ -1,9 +1,6 @@
-pub mod Arguments
 pub mod Asking
-pub mod CommandLine
 pub mod FaultText
 pub mod FlightDuty
-pub mod Plain
 pub mod Program
 pub mod Refusal
 pub mod Streams

@@ -8,8 +8,8 @@ pub use Rattle.rosterbook.specs.Streams.{Held, line_end, refused}
 use Rattle.store.specs.Faults.{create_text}
 use Rattle.store.specs.declared.fault.CreateFault.{CreateFault}
 use Rattle.rosterbook.specs.Verdict.{Line, line_of}
-use Rattle.rosterbook.specs.declared.actions.Action.{Action}
-use Rattle.rosterbook.specs.declared.actions.Action.TheVariants.{Duty, Init, Do, Import}
+use Rattle.console.specs.declared.actions.Action.{Action}
+use Rattle.console.specs.declared.actions.Action.TheVariants.{Duty, Init, Do, Import}
 use Rattle.rosterbook.specs.declared.fault.LineFault.{LineFault}
 use Rattle.rosterbook.specs.declared.fault.LineFault.TheVariants.{Zone, Memory}
 use Rattle.rosterbook.specs.declared.status.Status.{Status}

@@ -1,8 +1,6 @@
 //! The program of the roster book: what a command line asks for, and how it is answered.
 #![tactic(auto)]
 
-mod actions;
-mod command_line;
 mod do_command;
 mod duty_command;
 mod fault;
@@ -17,8 +15,7 @@ mod stop;
 mod texts;
 mod verdict;
 
-pub use actions::Action;
-pub use command_line::action;
+pub use console::{Action, action};
 pub use do_command::ask_json;
 pub use fault::LineFault;
 pub use import_command::import_csv;

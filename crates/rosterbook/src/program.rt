@@ -2,7 +2,6 @@ ghost use Rattle.std.specs.Prelude.{◌≡◌, ◌≢◌, IfOk, IsErr};
 ghost use Rattle.rosterbook.specs.Program as spec;
 ghost use Rattle.rosterbook.specs.Program.{exit_status};
 
-use crate::actions::Action;
 use crate::do_command::answer_do;
 use crate::duty_command::answer_duty;
 use crate::import_command::answer_import;
@@ -10,6 +9,7 @@ use crate::init_command::answer_init;
 use crate::lines::refuse;
 use crate::status::Status;
 use crate::stop::Stop;
+use console::Action;
 use std::io::{Read, Write};
 
 /// Does what a command line asks for: reads from `reader`, writes to `out` and `err` what the program writes to standard

@@ -1,0 +1,216 @@
+-- Each argument that a line gave has a value, and so has each required one of a line that met no fault.
+use Rattle.std.proofs.Common.{◌≡◌, ◌&&◌, ◌||◌, ◌==◌, ◌++◌, ℕ, Bool, cond, true, false, not, refl}
+use Rattle.std.proofs.Common.{sym, List, [], ◌∷◌, length, Option, Some, None, is_some, true≢false}
+use Rattle.std.specs.Prelude.{find, slice_get, nat_lt, option_and_then, option_map}
+use Rattle.std.specs.Option.{option_map_or}
+use Rattle.std.specs.List.{list_all, list_any}
+use Rattle.std.specs.Str.{bytes_eq}
+use Rattle.clap.proofs.WalkLemmas.{both}
+use Rattle.clap.specs.Facts.{explicit_source, unwrap_or_range}
+use Rattle.clap.specs.Values.{is_request}
+use Rattle.clap.specs.Walk.{Row, Rule, Text, action_of, all_of, at_row, default_rows, first_of}
+use Rattle.clap.specs.Walk.{has_row, most_values, more_values, nothing_held, reading_by, rows_after}
+use Rattle.clap.specs.Walk.{used, used_as, values_or_missing, with_default, with_values, without}
+use Rattle.clap.specs.Simple.{Shape}
+use Rattle.clap.specs.Takes.{is_given}
+use Rattle.clap.specs.Kinds.{check_kinds, range_kinds}
+use Rattle.clap.specs.Faults.{action_fault, check_fault, defaults_fault, level_fault, settle_fault}
+use Rattle.clap.specs.Faults.{use_fault, walk_fault}
+use Rattle.clap.specs.Walk.{finished, settled, walk, walk_from}
+use Rattle.clap.specs.declared.builder.action.ArgAction.{ArgAction}
+use Rattle.clap.specs.declared.builder.action.ArgAction.TheVariants as action
+use Rattle.clap.specs.declared.error.kind.ErrorKind.TheVariants as kind
+use Rattle.clap.specs.declared.builder.value_parser.Reading.{Reading}
+use Rattle.clap.specs.declared.parser.matches.ValueSource.{ValueSource}
+use Rattle.clap.specs.declared.parser.matches.ValueSource.TheVariants.{CommandLine, DefaultValue}
+use Rattle.console.proofs.WalkKeeps.{found_passes, level_keeps, none_of}
+
+abbrev pub has_value : {X : Type 0} → List X → Bool
+has_value [] = false
+has_value (x ∷ xs) = true
+
+abbrev pub is_filled : Row → Bool
+is_filled r = has_value r.values
+
+abbrev pub Filled : List Row → Type 0
+Filled rows = list_all is_filled rows ≡ true
+
+-- a use of the argument has a value, or asks for help or the version
+abbrev pub takes_one : Rule → Bool
+takes_one a = is_request (action_of a) || nat_lt 0 (unwrap_or_range a.range).start_inclusive
+
+has_more : (xs ys : List Text) → has_value xs ≡ true → has_value (xs ++ ys) ≡ true
+has_more [] ys e = absurd (true≢false (sym e))
+has_more (x ∷ xs) ys e = refl
+
+pub all_more : {X : Type 0} (p : X → Bool) (xs ys : List X) → list_all p xs ≡ true → list_all p ys ≡ true
+    → list_all p (xs ++ ys) ≡ true
+all_more p [] ys e f = f
+all_more p (x ∷ xs) ys e f =
+    let q = both (p x) _ e in
+    rw (q.0, all_more p xs ys q.1 f) refl
+
+pub row_changed : (p : Row → Bool) (id : Text) (change : Row → List Row) (missing rows : List Row)
+    → ((r : Row) → bytes_eq r.id id ≡ true → p r ≡ true → list_all p (change r) ≡ true)
+    → list_all p missing ≡ true → list_all p rows ≡ true → list_all p (at_row id change missing rows) ≡ true
+row_changed p id change missing [] changed absent e = absent
+row_changed p id change missing (r ∷ rs) changed absent e =
+    go (bytes_eq r.id id) refl (row_changed p id change missing rs changed absent (both (p r) _ e).1)
+  where
+    go : (b : Bool) → bytes_eq r.id id ≡ b → list_all p (at_row id change missing rs) ≡ true
+        → list_all p (cond b (change r ++ rs) (r ∷ at_row id change missing rs)) ≡ true
+    go true same later = all_more p (change r) rs (changed r same (both (p r) _ e).0) (both (p r) _ e).1
+    go false other later = rw ((both (p r) _ e).0, later) refl
+
+values_added : (id : Text) (how : Reading) (source : ValueSource) (values : List Text) (rows : List Row)
+    → has_value values ≡ true → Filled rows
+    → Filled (with_values id how source values rows)
+values_added id how source values rows some e =
+    row_changed is_filled id (more_values source values) _ rows
+    (λ r same h. rw (has_more r.values values h) refl) (rw some refl) e
+
+row_removed : (id : Text) (rows : List Row) → Filled rows → Filled (without id rows)
+row_removed id rows e = row_changed is_filled id (λ _. []) [] rows (λ r same h. refl) refl e
+
+used_with : (x : ArgAction) (id : Text) (how : Reading) (values : List Text) (rows : List Row)
+    → has_value values ≡ true → Filled rows → Filled (used_as x id how values rows)
+used_with action.Set id how values rows some e = values_added id how CommandLine values _ some (row_removed id rows e)
+used_with action.SetTrue id how values rows some e =
+    values_added id how CommandLine values _ some (row_removed id rows e)
+used_with action.SetFalse id how values rows some e =
+    values_added id how CommandLine values _ some (row_removed id rows e)
+used_with action.Append id how values rows some e = values_added id how CommandLine values rows some e
+used_with action.Count id how [] rows some e = absurd (true≢false (sym some))
+used_with action.Count id how (v ∷ vs) rows some e =
+    values_added id how CommandLine (v ∷ vs) _ refl (row_removed id rows e)
+used_with action.Help id how values rows some e = e
+used_with action.HelpShort id how values rows some e = e
+used_with action.HelpLong id how values rows some e = e
+used_with action.Version id how values rows some e = e
+
+used_to_ask : (x : ArgAction) (id : Text) (how : Reading) (values : List Text) (rows : List Row) → is_request x ≡ true
+    → Filled rows → Filled (used_as x id how values rows)
+used_to_ask action.Set id how values rows asks e = absurd (true≢false (sym asks))
+used_to_ask action.SetTrue id how values rows asks e = absurd (true≢false (sym asks))
+used_to_ask action.SetFalse id how values rows asks e = absurd (true≢false (sym asks))
+used_to_ask action.Append id how values rows asks e = absurd (true≢false (sym asks))
+used_to_ask action.Count id how values rows asks e = absurd (true≢false (sym asks))
+used_to_ask action.Help id how values rows asks e = e
+used_to_ask action.HelpShort id how values rows asks e = e
+used_to_ask action.HelpLong id how values rows asks e = e
+used_to_ask action.Version id how values rows asks e = e
+
+no_range : (least most : ℕ) → nat_lt 0 least ≡ true → range_kinds least most 0 ≡ [] → ⊥
+no_range least most one none = go (nat_lt 0 least) one none
+  where
+    go : (b : Bool) → b ≡ true
+        → cond (b && 0 == 0) (kind.InvalidValue ∷ [])
+        (cond (least == most) (cond (least == 0) [] (kind.WrongNumberOfValues ∷ []))
+        (cond (nat_lt 0 least) (kind.TooFewValues ∷ []) (cond (nat_lt most 0) (kind.TooManyValues ∷ []) []))) ≡ [] → ⊥
+    go true is e = cc
+    go false is e = absurd (true≢false (sym is))
+
+-- a use within its range of one value or more has one
+used_within : (a : Rule) (values : List Text) → nat_lt 0 (unwrap_or_range a.range).start_inclusive ≡ true
+    → range_kinds (unwrap_or_range a.range).start_inclusive (most_values a) (length values) ≡ []
+    → has_value (values_or_missing a values) ≡ true
+used_within a [] one none = absurd (no_range (unwrap_or_range a.range).start_inclusive (most_values a) one none)
+used_within a (v ∷ vs) one none = refl
+
+use_fills : (again : Bool) (a : Rule) (values : List Text) (rows : List Row) → takes_one a ≡ true
+    → use_fault again a values rows ≡ [] → Filled rows → Filled (used a values rows)
+use_fills again a values rows ok none e = go (is_request (action_of a)) refl ok
+  where
+    go : (b : Bool) → is_request (action_of a) ≡ b → (b || nat_lt 0 (unwrap_or_range a.range).start_inclusive) ≡ true
+        → Filled (used a values rows)
+    go true asks one = used_to_ask (action_of a) a.id (reading_by a) (values_or_missing a values) rows asks e
+    go false asks one =
+        used_with (action_of a) a.id (reading_by a) (values_or_missing a values) rows
+        (used_within a values one (none_of
+        (range_kinds (unwrap_or_range a.range).start_inclusive (most_values a) (length values))
+        (action_fault (action_of a) again a (values_or_missing a values) rows) none).0) e
+
+default_filled : (id : Text) (how : Reading) (values : List Text) (rows : List Row) → Filled rows
+    → Filled (default_rows id how values rows)
+default_filled id how [] rows e = e
+default_filled id how (v ∷ vs) rows e = values_added id how DefaultValue (v ∷ vs) rows refl e
+
+default_fills : (a : Rule) (rows : List Row) → Filled rows → Filled (with_default rows a)
+default_fills a rows e = go (has_row a.id rows)
+  where
+    go : (b : Bool) → Filled (cond b rows (default_rows a.id (reading_by a) a.defaults rows))
+    go true = e
+    go false = default_filled a.id (reading_by a) a.defaults rows e
+
+-- the rows of a level that met no fault have values
+pub rows_filled : (s : Shape) (words : List Text) → list_all takes_one s.rules ≡ true
+    → level_fault s [] nothing_held words false [] ≡ [] → Filled (rows_after s.rules [] words)
+rows_filled s words ok none =
+    level_keeps s takes_one Filled ok (λ a values rows one no_fault e. use_fills s.args_override_self a values rows
+    one no_fault e)
+    (λ a rows one e. default_fills a rows e) [] words false [] none refl
+
+-- ---- what is required is there
+
+-- no required argument is missing of these rows
+abbrev pub NoneMissing : List Rule → List Row → Type 0
+NoneMissing rules rows = list_any (λ a. a.required && not (is_given a.id rows)) rules ≡ false
+
+pub first_there : (a b : Bool) → (a || b) ≡ false → (a ≡ false) × (b ≡ false)
+first_there true b e = absurd (true≢false e)
+first_there false b e = (refl, e)
+
+pub check_none : (wants_help wants_subcommand wants_argument : Bool)
+    → check_kinds wants_help wants_subcommand wants_argument ≡ []
+    → (wants_subcommand ≡ false) × (wants_argument ≡ false)
+check_none true b c e =
+    let bad : ⊥ = cc in
+    absurd bad
+check_none false true c e =
+    let bad : ⊥ = cc in
+    absurd bad
+check_none false false true e =
+    let bad : ⊥ = cc in
+    absurd bad
+check_none false false false e = (refl, refl)
+
+-- the checks of a level that met no fault
+pub checks_passed : (s : Shape) (words : List Text) → s.subcommand_negates_reqs ≡ false
+    → level_fault s [] nothing_held words false [] ≡ []
+    → NoneMissing s.rules (rows_after s.rules [] words)
+checks_passed s words negates none =
+    let end = (walk s.rules [] nothing_held words).held in
+    let p = none_of (walk_fault s [] (walk_from nothing_held) words) _ none in
+    let q = none_of (settle_fault s.rules s.args_override_self end) _ p.1 in
+    let r = none_of (defaults_fault (settled s.rules end).rows s.rules) _ q.1 in
+    let t : check_fault s (finished s.rules end) false ≡ [] = r.1 in
+    let missing = (check_none _ _ _ t).1 in
+    rw negates at missing
+
+-- a required argument that is not missing was given
+pub was_given : (b : Bool) → (true && not b) ≡ false → b ≡ true
+was_given true e = refl
+was_given false e = absurd (true≢false e)
+
+-- what was given has a first value
+pub given_first : (id : Text) (rows : List Row) → Filled rows → is_given id rows ≡ true
+    → is_some (first_of id rows) ≡ true
+given_first id rows filled given = go (find (λ r. bytes_eq r.id id) rows) refl given
+  where
+    value : (vs : List Text) → has_value vs ≡ true → is_some (slice_get vs 0) ≡ true
+    value [] e = absurd (true≢false (sym e))
+    value (v ∷ vs) e = refl
+
+    go : (o : Option Row) → find (λ r. bytes_eq r.id id) rows ≡ o
+        → option_map_or (λ r. explicit_source r.source) o false ≡ true
+        → is_some (option_and_then (λ r. slice_get r.values 0) o) ≡ true
+    go None is e = absurd (true≢false (sym e))
+    go (Some r) is e = value r.values (found_passes _ is_filled rows r filled is)
+
+pub given_all : (id : Text) (rows : List Row) → is_given id rows ≡ true → is_some (all_of id rows) ≡ true
+given_all id rows given = go (find (λ r. bytes_eq r.id id) rows) given
+  where
+    go : (o : Option Row) → option_map_or (λ r. explicit_source r.source) o false ≡ true
+        → is_some (option_map (λ r. r.values) o) ≡ true
+    go None e = absurd (true≢false (sym e))
+    go (Some r) e = refl

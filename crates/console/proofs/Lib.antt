@@ -1,0 +1,12 @@
+pub mod Commands
+pub mod DoRead
+pub mod DutyRead
+pub mod Entered
+pub mod Filled
+pub mod Getters
+pub mod ImportRead
+pub mod InitRead
+pub mod NumberRead
+pub mod PlainLine
+pub mod PlainWords
+pub mod WalkKeeps

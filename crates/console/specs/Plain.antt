@@ -1,0 +1,47 @@
+-- The words of a plain line of each subcommand.
+use Rattle.std.specs.Prelude.{◌≡◌, ◌==◌, ℕ, Bool, true, not, List, [], ◌∷◌, map, codes, string_bytes}
+use Rattle.clap.specs.Walk.{Text}
+use Rattle.console.specs.declared.actions.Action.{Action}
+use Rattle.console.specs.declared.actions.Action.TheVariants.{Duty, Init, Do, Import}
+
+-- a word that begins with no hyphen (45)
+abbrev pub is_plain : Text → Bool
+is_plain [] = true
+is_plain (x ∷ xs) = not (x == 45)
+
+-- `duty ZONE REPORT TIME..`, of one time or more
+abbrev pub duty_words : Text → Text → Text → List Text → List Text
+duty_words zone report time times = codes "duty" ∷ zone ∷ report ∷ time ∷ times
+
+-- the action is `duty` with exactly these arguments
+abbrev pub IsDuty : Text → Text → List Text → Action → Type 0
+IsDuty zone report times (Duty z r ts) =
+    (string_bytes z ≡ zone) × (string_bytes r ≡ report) × (map string_bytes ts.items ≡ times)
+IsDuty zone report times _ = ⊥
+
+-- `init FILE ZONE`
+abbrev pub init_words : Text → Text → List Text
+init_words file zone = codes "init" ∷ file ∷ zone ∷ []
+
+-- the action is `init` with exactly these arguments
+abbrev pub IsInit : Text → Text → Action → Type 0
+IsInit file zone (Init f z) = (string_bytes f ≡ file) × (string_bytes z ≡ zone)
+IsInit file zone _ = ⊥
+
+-- `do FILE`
+abbrev pub do_words : Text → List Text
+do_words file = codes "do" ∷ file ∷ []
+
+-- the action is `do` with exactly this argument
+abbrev pub IsDo : Text → Action → Type 0
+IsDo file (Do f) = string_bytes f ≡ file
+IsDo file _ = ⊥
+
+-- `import FILE NUMBER`
+abbrev pub import_words : Text → Text → List Text
+import_words file number = codes "import" ∷ file ∷ number ∷ []
+
+-- the action is `import` with exactly these arguments
+abbrev pub IsImport : Text → ℕ → Action → Type 0
+IsImport file number (Import f n) = (string_bytes f ≡ file) × (n ≡ number)
+IsImport file number _ = ⊥

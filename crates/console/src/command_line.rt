@@ -1,0 +1,303 @@
+//! The words after the program's name, read by `clap`.
+ghost use Rattle.std.specs.Prelude.{◌≡◌, ◌∷◌, ℕ, IfOk, IsErrAnd, IsSomeAnd, List, MatchResult, None, Some, codes};
+ghost use Rattle.std.specs.Prelude.{[], false, is_some, map, option_and_then, string_bytes, true};
+ghost use Rattle.std.specs.List.{list_all};
+ghost use Rattle.clap.specs.Walk.{Text, texts};
+ghost use Rattle.clap.specs.Words.{FailsBy, HasKind, all_of, fault_of, first_of, found_of, kind_of, rows_of};
+ghost use Rattle.clap.specs.Words.{rule_of, subcommand_of, subcommand_rows_of};
+ghost use Rattle.clap.specs.declared.error.kind.ErrorKind.TheVariants.{OutOfMemory, ValueValidation};
+ghost use Rattle.console.specs.Arguments.{HasArguments, HasDo, HasDuty, HasImport, HasInit, HasNumber};
+ghost use Rattle.console.specs.CommandLine.{IsCommand, States, bare, command_line, do_one, duty, import, init};
+ghost use Rattle.console.specs.CommandLine.{request_number, wanted};
+ghost use Rattle.console.specs.Plain.{IsDo, IsDuty, IsImport, IsInit, do_words, duty_words, import_words};
+ghost use Rattle.console.specs.Plain.{init_words, is_plain};
+
+use crate::actions::Action;
+use clap::{Arg, ArgAction, ArgMatches, Command, Error, value_parser};
+use codec::RequestNumber;
+use std::alloc::{AllocError, Global};
+
+const ARGUMENTS: &str = "\
+Arguments of the commands:
+  FILE    file of the book
+  ZONE    time zone of the crew, a POSIX rule such as EST5EDT,M3.2.0,M11.1.0
+  NUMBER  number of the request, 1 to 9223372036854775807
+  REPORT  report, a UTC instant such as 2025-06-10T15:59Z
+  TIME    block-out and block-in in turn, UTC instants such as 2025-06-10T16:30Z
+
+'rosterbook COMMAND --help' says more of a command.";
+
+const DUTY_EXAMPLE: &str = "\
+Example:
+  rosterbook duty EST5EDT,M3.2.0,M11.1.0 2025-06-10T15:59Z \\
+    2025-06-10T16:30Z 2025-06-10T20:30Z
+
+Exit status: 0 within the limits, 1 exceeds one or refused, 2 a mistake in
+the command line, 3 no memory or a failed output";
+
+const INIT_EXAMPLE: &str = "\
+Example:
+  rosterbook init roster.db EST5EDT,M3.2.0,M11.1.0
+
+Exit status: 0 done, 1 the zone is refused, 2 a mistake in the command line,
+3 the file has a book already, or the file, memory or the output fails";
+
+const DO_EXAMPLE: &str = "\
+Example:
+  echo '{\"number\":1,\"do\":\"add-crew\",\"crew\":\"C1\",\"seat\":\"captain\",
+    \"name\":\"Ada Ray\"}' | rosterbook do roster.db
+
+The same command under the same number is answered as it was and acts once.
+
+Exit status: 0 accepted, 1 refused, 2 a mistake in the command line, 3 there is
+no book in the file, or the file, memory, the input or the output fails";
+
+const IMPORT_EXAMPLE: &str = "\
+Example:
+  rosterbook import roster.db 500 < schedule.csv
+
+The pairings are the parts 1, 2, .. of the request NUMBER. An import that was
+stopped is handed in again, whole and under its number: each part acts once.
+
+Exit status: 0 all accepted, 1 the schedule or a part is refused, 2 a mistake
+in the command line, 3 there is no book in the file, or the file, memory, the
+input or the output fails";
+
+const NEW_FILE_HELP: &str = "File of the book, new or empty";
+
+const FILE_HELP: &str = "File of the book";
+
+const NUMBER_HELP: &str = "\
+Number of the request whose parts the pairings are,
+a whole number from 1 to 9223372036854775807";
+
+const ZONE_HELP: &str = "\
+Time zone of the acclimated crew, a POSIX rule, which gives the
+hours WEST of UTC: EST5EDT,M3.2.0,M11.1.0 or UTC0 or '<+0530>-5:30'";
+
+const REPORT_HELP: &str = "\
+Report, a UTC instant YYYY-MM-DDThh:mmZ,
+such as 2025-06-10T15:59Z";
+
+const TIME_HELP: &str = "\
+Block-out and block-in of 1 to 12 segments in turn, UTC instants
+YYYY-MM-DDThh:mmZ such as 2025-06-10T16:30Z 2025-06-10T20:30Z";
+
+/// Reads `words`, the command line after the program's name. An error is `clap`'s own for these
+/// words: a mistake, a call for help or the version, or want of memory.
+pub fn action(alloc: Global, words: &[&str]) -> Result<Action, Error>
+    ensures ok { IfOk result (λ a. IsSomeAnd (subcommand_of command_line (texts words.now)) (States a)) }
+    ensures refused { FailsBy (fault_of command_line (texts words.now)) result }
+    ensures duty { (zone report time : Text) (times : List Text)
+        → texts words.now ≡ duty_words zone report time times
+        → list_all is_plain (zone ∷ report ∷ time ∷ times) ≡ true
+        → MatchResult result (IsDuty zone report (time ∷ times))
+        (λ e. kind_of e ≡ OutOfMemory) }
+    ensures init { (file zone : Text)
+        → texts words.now ≡ init_words file zone
+        → list_all is_plain (file ∷ zone ∷ []) ≡ true
+        → MatchResult result (IsInit file zone) (λ e. kind_of e ≡ OutOfMemory) }
+    ensures do_one { (file : Text) → texts words.now ≡ do_words file → is_plain file ≡ true
+        → MatchResult result (IsDo file) (λ e. kind_of e ≡ OutOfMemory) }
+    ensures import { (file number : Text) (n : ℕ)
+        → texts words.now ≡ import_words file number
+        → list_all is_plain (file ∷ number ∷ []) ≡ true → request_number number ≡ Some n
+        → MatchResult result (IsImport file n) (λ e. kind_of e ≡ OutOfMemory) }
+    ensures import_number { (file number : Text)
+        → texts words.now ≡ import_words file number
+        → list_all is_plain (file ∷ number ∷ []) ≡ true → request_number number ≡ None
+        → IsErrAnd result (HasKind (ValueValidation ∷ [])) }
+{
+    read(alloc, words)
+}
+
+/// The same, as `clap` states it alone.
+fn read(alloc: Global, words: &[&str]) -> Result<Action, Error>
+    ensures ok { IfOk result (λ a. IsSomeAnd (subcommand_of command_line (texts words.now)) (States a)) }
+    ensures refused { FailsBy (fault_of command_line (texts words.now)) result }
+{
+    let matches = command(alloc)?.try_get_matches_from(words)?;
+    Ok(action_of(alloc, &matches)?)
+}
+
+/// The whole command line.
+fn command<'a>(alloc: Global) -> Result<Command<'a>, AllocError>
+    ensures { IfOk result (IsCommand command_line) }
+{
+    bare_command(alloc)?
+        .subcommand(duty_command(alloc)?)?
+        .subcommand(init_command(alloc)?)?
+        .subcommand(do_command(alloc)?)?
+        .subcommand(import_command(alloc)?)
+}
+
+/// The program without its subcommands.
+fn bare_command<'a>(alloc: Global) -> Result<Command<'a>, AllocError>
+    ensures { IfOk result (IsCommand bare) }
+{
+    Command::new(alloc, "rosterbook")
+        .version("0.1.0")
+        .about("The roster book of a crew office under 14 CFR Part 117")
+        .after_help(ARGUMENTS)
+        .no_binary_name(true)
+        .subcommand_required(true)
+        .arg_required_else_help(true)
+        .disable_help_subcommand(true)
+        .bin_name("rosterbook")
+}
+
+/// The subcommand `duty`.
+fn duty_command<'a>(alloc: Global) -> Result<Command<'a>, AllocError>
+    ensures { IfOk result (IsCommand duty) }
+{
+    let zone = positional(alloc, "zone", "ZONE").help(ZONE_HELP);
+    let report = positional(alloc, "report", "REPORT").help(REPORT_HELP);
+    let times = positional(alloc, "time", "TIME")
+        .action(ArgAction::Append)
+        .help(TIME_HELP);
+    Command::new(alloc, "duty")
+        .about("Judge one flight duty period by Tables A and B of 14 CFR Part 117")
+        .after_help(DUTY_EXAMPLE)
+        .arg(zone)?
+        .arg(report)?
+        .arg(times)
+}
+
+/// The subcommand `init`.
+fn init_command<'a>(alloc: Global) -> Result<Command<'a>, AllocError>
+    ensures { IfOk result (IsCommand init) }
+{
+    let file = positional(alloc, "file", "FILE").help(NEW_FILE_HELP);
+    let zone = positional(alloc, "zone", "ZONE").help(ZONE_HELP);
+    Command::new(alloc, "init")
+        .about("Make a book in a new or empty file")
+        .after_help(INIT_EXAMPLE)
+        .arg(file)?
+        .arg(zone)
+}
+
+/// The subcommand `do`.
+fn do_command<'a>(alloc: Global) -> Result<Command<'a>, AllocError>
+    ensures { IfOk result (IsCommand do_one) }
+{
+    let file = positional(alloc, "file", "FILE").help(FILE_HELP);
+    Command::new(alloc, "do")
+        .about("Answer one command, which is JSON on standard input")
+        .after_help(DO_EXAMPLE)
+        .arg(file)
+}
+
+/// The subcommand `import`.
+fn import_command<'a>(alloc: Global) -> Result<Command<'a>, AllocError>
+    ensures { IfOk result (IsCommand import) }
+{
+    let file = positional(alloc, "file", "FILE").help(FILE_HELP);
+    let number = positional(alloc, "number", "NUMBER")
+        .help(NUMBER_HELP)
+        .value_parser(value_parser!(u64).range(1..=i64::MAX));
+    Command::new(alloc, "import")
+        .about("Add the pairings of a schedule, which is CSV on standard input")
+        .after_help(IMPORT_EXAMPLE)
+        .arg(file)?
+        .arg(number)
+}
+
+/// An argument by its place that must be there.
+fn positional<'a>(alloc: Global, id: &'a str, value_name: &'a str) -> Arg<'a>
+    ensures rule { rule_of result ≡ wanted id.entry.now }
+    ensures local { result.global ≡ false }
+{
+    Arg::new(alloc, id).value_name(value_name).required(true)
+}
+
+/// The action that the subcommand of the matches asks for.
+fn action_of(alloc: Global, matches: &ArgMatches<'_>) -> Result<Action, AllocError>
+    requires { HasArguments (subcommand_rows_of matches.now) }
+    ensures { IfOk result (λ a. IsSomeAnd (subcommand_rows_of matches.now) (States a)) }
+{
+    let (name, arguments) = matches.subcommand().unwrap();
+    match name {
+        "duty" => duty_of(alloc, arguments),
+        "init" => init_of(alloc, arguments),
+        "do" => do_of(alloc, arguments),
+        "import" => import_of(alloc, arguments),
+        _ => unreachable!(),
+    }
+}
+
+/// The arguments of `duty`.
+fn duty_of(alloc: Global, matches: &ArgMatches<'_>) -> Result<Action, AllocError>
+    requires { HasDuty (rows_of (found_of matches.now)) }
+    ensures { IfOk result (λ a. States a (codes "duty", rows_of (found_of matches.now))) }
+{
+    Ok(Action::Duty {
+        zone: text_of(alloc, matches, "zone")?,
+        report: text_of(alloc, matches, "report")?,
+        times: texts_of(alloc, matches, "time")?,
+    })
+}
+
+/// The arguments of `init`.
+fn init_of(alloc: Global, matches: &ArgMatches<'_>) -> Result<Action, AllocError>
+    requires { HasInit (rows_of (found_of matches.now)) }
+    ensures { IfOk result (λ a. States a (codes "init", rows_of (found_of matches.now))) }
+{
+    let file = text_of(alloc, matches, "file")?;
+    let zone = text_of(alloc, matches, "zone")?;
+    Ok(Action::Init { file, zone })
+}
+
+/// The arguments of `do`.
+fn do_of(alloc: Global, matches: &ArgMatches<'_>) -> Result<Action, AllocError>
+    requires { HasDo (rows_of (found_of matches.now)) }
+    ensures { IfOk result (λ a. States a (codes "do", rows_of (found_of matches.now))) }
+{
+    let file = text_of(alloc, matches, "file")?;
+    Ok(Action::Do { file })
+}
+
+/// The arguments of `import`.
+fn import_of(alloc: Global, matches: &ArgMatches<'_>) -> Result<Action, AllocError>
+    requires { HasImport (rows_of (found_of matches.now)) }
+    ensures { IfOk result (λ a. States a (codes "import", rows_of (found_of matches.now))) }
+{
+    let file = text_of(alloc, matches, "file")?;
+    let number = number_of(matches, "number");
+    Ok(Action::Import { file, number })
+}
+
+/// The value of an argument that is a request's number.
+fn number_of(matches: &ArgMatches<'_>, id: &str) -> RequestNumber
+    requires { HasNumber id.now (rows_of (found_of matches.now)) }
+    ensures { option_and_then request_number (first_of id.now (rows_of (found_of matches.now))) ≡ Some result }
+{
+    let number = matches.get_one::<u64>(id).unwrap();
+    RequestNumber::new(number).unwrap()
+}
+
+/// The first value of an argument that has one.
+fn text_of(alloc: Global, matches: &ArgMatches<'_>, id: &str) -> Result<String, AllocError>
+    requires { is_some (first_of id.now (rows_of (found_of matches.now))) ≡ true }
+    ensures { IfOk result (λ s. first_of id.now (rows_of (found_of matches.now)) ≡ Some (string_bytes s)) }
+{
+    String::from_str(alloc, matches.get_str(id).unwrap())
+}
+
+/// The values of an argument that was used.
+fn texts_of(alloc: Global, matches: &ArgMatches<'_>, id: &str) -> Result<Vec<String>, AllocError>
+    requires { is_some (all_of id.now (rows_of (found_of matches.now))) ≡ true }
+    ensures { IfOk result (λ v. all_of id.now (rows_of (found_of matches.now)) ≡ Some (map string_bytes v.items)) }
+{
+    owned(alloc, matches.get_strs(id).unwrap())
+}
+
+/// A copy of each text.
+fn owned(alloc: Global, words: &[&str]) -> Result<Vec<String>, AllocError>
+    ensures { IfOk result (λ v. map string_bytes v.items ≡ texts words.now) }
+{
+    let mut copies = Vec::new(alloc);
+    for word in words {
+        copies.push(String::from_str(alloc, word)?)?;
+    }
+    Ok(copies)
+}
