@@ -375,7 +375,7 @@ REQUESTS = {
     """],
 }  # fmt: skip
 
-# ---- Commands that are refused unseen: texts outside their shapes, then what is swapped with itself, then counts, times and chains.
+# ---- Commands that are refused unseen: for texts outside their shapes, equal sides of a swap, counts, times and chains.
 
 
 def hire(crew, name="Ada Ray"):
