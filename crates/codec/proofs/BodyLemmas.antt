@@ -4,9 +4,10 @@ use Rattle.std.proofs.lemmas.Bool.Decides.{nat_tests}
 use Rattle.std.proofs.lemmas.Str.{IsUtf8-from_is_utf8, is_utf8-from_IsUtf8}
 use Rattle.std.specs.Prelude.{Bool}
 use Rattle.std.specs.Str.{IsUtf8, is_utf8}
-use Rattle.codec.specs.CommandJson.{read_body, read_object}
-use Rattle.codec.specs.declared.fault.CodecFault.TheVariants.{BadJson}
-use Rattle.codec.specs.declared.field.JsonField.TheVariants.{Body}
+use Rattle.codec.specs.Requests.{read_body}
+use Rattle.kept.specs.CommandJson.{read_object}
+use Rattle.kept.specs.declared.fault.CodecFault.TheVariants.{BadJson}
+use Rattle.kept.specs.declared.field.JsonField.TheVariants.{Body}
 
 within : (n : ℕ) → n ≤ 1_048_576 → nat_le n 1_048_576 ≡ true
 within n h = grind (arith, nat_tests)

@@ -1,8 +1,7 @@
-pub mod CompactTexts
-pub mod KeptBack
-pub mod OrdersBack
-pub mod ReplyBack
 pub mod BodyLemmas
+pub mod Grouped
+pub mod Loop
+pub mod Marks
 pub mod RefusalLemmas
-pub mod EachRead
-pub mod AsciiInstants
+pub mod Rows
+pub mod Text

@@ -1,11 +1,6 @@
-pub mod Fields
-pub mod Texts
-pub mod Values
-pub mod Instants
-pub mod KeptText
-pub mod Parts
-pub mod CommandJson
-pub mod ReplyText
+pub mod Grouping
+pub mod Places
+pub mod Records
 pub mod RefusalText
-pub mod Laws
-pub mod Schedules
+pub mod Requests
+pub mod Schedule

@@ -9,11 +9,11 @@ use Rattle.command.specs.Texts.{refusal_number, refusal_name}
 use Rattle.command.specs.declared.exceedance.Exceedance.{Exceedance}
 use Rattle.command.specs.declared.refusal.Refusal.{Refusal}
 use Rattle.command.specs.declared.refusal.Refusal.TheVariants.{Limits, SegmentCount}
-use Rattle.codec.specs.Fields.{field_name}
-use Rattle.codec.specs.ReplyText.{exceedance_json}
-use Rattle.codec.specs.Values.{object_of, array_of}
-use Rattle.codec.specs.declared.fault.CodecFault.{CodecFault}
-use Rattle.codec.specs.declared.fault.CodecFault.TheVariants.{BadJson, BadCsv, Duty, Memory}
+use Rattle.kept.specs.Fields.{field_name}
+use Rattle.kept.specs.ReplyText.{exceedance_json}
+use Rattle.kept.specs.Values.{object_of, array_of}
+use Rattle.kept.specs.declared.fault.CodecFault.{CodecFault}
+use Rattle.kept.specs.declared.fault.CodecFault.TheVariants.{BadJson, BadCsv, Duty, Memory}
 
 -- the members that come last
 abbrev pub refused : ℕ → List (List ℕ × Data)

@@ -1,86 +1,44 @@
-use crate::field::JsonField;
-use duty::DutyFault;
-use schedule::ScheduleFault;
-use std::alloc::AllocError;
-use std::error::Error;
-use std::fmt;
+use std::alloc::{AllocError, AllocFailed};
 use values::MemoryFault;
 
-/// Why a text isn't read as a command, a reply or a schedule.
-#[derive(Clone, Copy, Debug, PartialEq, Eq)]
-pub enum CodecFault {
-    /// The text is no object of JSON, or this member is missing, of the wrong kind, out of its range or not one of its
-    /// words, or holds such a part.
-    BadJson(JsonField),
-    /// A schedule is refused at this record, the header being record 1; 0 for a schedule of too many bytes.
-    BadCsv(usize),
-    /// The members are no command.
-    Duty(DutyFault),
+/// Why a schedule isn't read.
+#[derive(Clone, Copy)]
+pub enum ScheduleFault {
+    /// This record is at fault, the header being record 1; 0 for a schedule of too many bytes.
+    Record(usize),
     /// There was no memory.
     Memory,
 }
 
-impl fmt::Display for CodecFault {
-    ghost use Rattle.std.specs.Prelude.{Some};
-    ghost use Rattle.codec.specs.Texts.{fault_text};
-
-    ghost output = { λ fault. Some (fault_text fault) };
-
-    fn fmt<W: fmt::Write>(&self, f: &mut fmt::Formatter<W>) -> fmt::Result {
-        match self {
-            CodecFault::BadJson(field) => write!(f, "31 BadJson {field}"),
-            CodecFault::BadCsv(line) => write!(f, "30 BadCsv {line}"),
-            CodecFault::Duty(fault) => write!(f, "{fault}"),
-            CodecFault::Memory => write!(f, "91 Memory"),
-        }
-    }
-}
-
-impl Error for CodecFault {}
-
-impl From<MemoryFault> for CodecFault {
+impl From<MemoryFault> for ScheduleFault {
     ghost use Rattle.std.specs.Prelude.{◌≡◌};
-    ghost use Rattle.codec.specs.declared.fault.CodecFault.TheVariants.{Memory};
+    ghost use Rattle.codec.specs.declared.fault.ScheduleFault.TheVariants.{Memory};
 
     ghost from_gives = { λ _ fault. fault ≡ Memory };
 
-    fn from(_fault: MemoryFault) -> CodecFault {
-        CodecFault::Memory
+    fn from(_fault: MemoryFault) -> ScheduleFault {
+        ScheduleFault::Memory
     }
 }
 
-impl From<AllocError> for CodecFault {
+impl From<AllocError> for ScheduleFault {
     ghost use Rattle.std.specs.Prelude.{◌≡◌};
-    ghost use Rattle.codec.specs.declared.fault.CodecFault.TheVariants.{Memory};
+    ghost use Rattle.codec.specs.declared.fault.ScheduleFault.TheVariants.{Memory};
 
     ghost from_gives = { λ _ fault. fault ≡ Memory };
 
-    fn from(_error: AllocError) -> CodecFault {
-        CodecFault::Memory
+    fn from(_error: AllocError) -> ScheduleFault {
+        ScheduleFault::Memory
     }
 }
 
-impl From<DutyFault> for CodecFault {
+impl<T: Drop> From<AllocFailed<T>> for ScheduleFault {
     ghost use Rattle.std.specs.Prelude.{◌≡◌};
-    ghost use Rattle.codec.specs.declared.fault.CodecFault.TheVariants.{Duty};
+    ghost use Rattle.codec.specs.declared.fault.ScheduleFault.TheVariants.{Memory};
 
-    ghost from_gives = { λ duty fault. fault ≡ Duty duty };
+    ghost from_gives = { λ _ fault. fault ≡ Memory };
 
-    fn from(fault: DutyFault) -> CodecFault {
-        CodecFault::Duty(fault)
-    }
-}
-
-impl From<ScheduleFault> for CodecFault {
-    ghost use Rattle.std.specs.Prelude.{◌≡◌};
-    ghost use Rattle.codec.specs.Schedules.{of_schedule};
-
-    ghost from_gives = { λ schedule fault. fault ≡ of_schedule schedule };
-
-    fn from(fault: ScheduleFault) -> CodecFault {
-        match fault {
-            ScheduleFault::Record(line) => CodecFault::BadCsv(line),
-            ScheduleFault::Memory => CodecFault::Memory,
-        }
+    fn from(_failed: AllocFailed<T>) -> ScheduleFault {
+        ScheduleFault::Memory
     }
 }

@@ -1,25 +1,20 @@
-//! Commands and replies as JSON texts: the text that the book keeps of each, and what such a text is read as; schedules.
+//! What clients write and read: requests as JSON, schedules as CSV, and refusals as JSON. What the book keeps of a command and
+//! of its reply is handed on.
 #![tactic(auto)]
 
-mod body;
-mod command_json;
-mod encoded;
 mod fault;
-mod field;
-mod kept_text;
-pub mod laws;
-mod part;
-mod parts;
+mod fields;
+mod grouping;
+mod reading;
 mod refusal_text;
-mod reply_text;
+mod request_number;
+mod requests;
+mod scheduled;
 mod schedules;
-mod verb;
+mod unread;
 
-pub use command_json::{command_of_json, read_canonical};
-pub use fault::CodecFault;
-pub use field::JsonField;
-pub use kept_text::canonical;
-pub use parts::RequestNumber;
+pub use kept::{CodecFault, JsonField, canonical, read_canonical, read_reply, reply_to_json};
 pub use refusal_text::{fault_to_json, refusal_to_json};
-pub use reply_text::{read_reply, reply_to_json};
+pub use request_number::RequestNumber;
+pub use requests::command_of_json;
 pub use schedules::schedule_of_csv;

@@ -3,10 +3,9 @@ ghost use Rattle.std.specs.Prelude.{◌≡◌, string_bytes, IfOk};
 ghost use Rattle.serde_json.specs.View.{view};
 ghost use Rattle.codec.specs.RefusalText as spec;
 
-use crate::encoded::array;
-use crate::fault::CodecFault;
 use command::{Exceedance, Refusal};
 use duty::DutyFault;
+use kept::{CodecFault, array};
 use serde_json::{Value, json};
 use std::alloc::Global;
 use values::MemoryFault;

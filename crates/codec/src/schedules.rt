@@ -1,16 +1,23 @@
 //! Schedules of pairings in CSV.
 ghost use Rattle.std.specs.Prelude.{◌≡◌, ◌⊎◌, ℕ, IfOk, IfErr};
-ghost use Rattle.schedule.specs.Schedule.{IsAtFault, IsSchedule};
-ghost use Rattle.codec.specs.declared.fault.CodecFault.TheVariants.{BadCsv, Memory};
+ghost use Rattle.codec.specs.Schedule.{IsAtFault, IsSchedule};
+ghost use Rattle.kept.specs.declared.fault.CodecFault.TheVariants.{BadCsv, Memory};
 
-use crate::fault::CodecFault;
+use crate::fault::ScheduleFault;
+use crate::reading;
 use duty::Pairing;
+use kept::CodecFault;
 use std::alloc::Global;
 
-/// The pairings of a schedule in CSV, or the record at fault, as [`schedule::schedule_of_csv`] finds it.
+/// The pairings of a schedule in CSV, or the record at fault of the first pass that finds one: 30 with that record, the header
+/// being record 1, and 0 for a schedule of over 1,048,576 bytes. Besides it comes only want of memory.
 pub fn schedule_of_csv(alloc: Global, text: &[u8]) -> Result<Vec<Pairing>, CodecFault>
     ensures read { IfOk result (λ pairings. IsSchedule text.now pairings.items) }
     ensures refused { IfErr result (λ fault. (fault ≡ Memory) ⊎ ((n : ℕ) × (fault ≡ BadCsv n) × IsAtFault text.now n)) }
 {
-    Ok(schedule::schedule_of_csv(alloc, text)?)
+    match reading::schedule_of_csv(alloc, text) {
+        Ok(pairings) => Ok(pairings),
+        Err(ScheduleFault::Record(line)) => Err(CodecFault::BadCsv(line)),
+        Err(ScheduleFault::Memory) => Err(CodecFault::Memory),
+    }
 }

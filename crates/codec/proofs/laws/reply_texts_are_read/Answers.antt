@@ -1,5 +1,0 @@
-use Rattle.codec.proofs.ReplyBack.{reply_back}
-use Rattle.codec.proofs.laws.reply_texts_are_read.Goals as goal
-
-pub returns : goal.returns
-returns c = reply_back

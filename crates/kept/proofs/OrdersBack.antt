@@ -1,0 +1,143 @@
+-- The kept text of a command is read as it.
+use Rattle.std.proofs.Common.{◌≡◌, ℕ, ◌<◌, ◌≤◌, ◌^◌, Bool, true, false, ◌&&◌, List, [], ◌∷◌, map, Option, Some, None, Result, Ok, refl, sym, ap, ◌∙◌, arith, rules}
+use Rattle.std.proofs.lemmas.Bool.Decides.{nat_tests}
+use Rattle.std.specs.List.{list_all}
+use Rattle.std.specs.Prelude.{is_some}
+use Rattle.duty.specs.Shape.{is_within}
+use Rattle.serde_json.specs.Data.{Data}
+use Rattle.serde_json.specs.Find.{as_object}
+use Rattle.serde_json.specs.Read.{max_depth}
+use Rattle.serde_json.specs.Written.{has_float}
+use Rattle.serde_json.specs.View.{items_of}
+use Rattle.time117.proofs.WrittenLemmas.{read_written}
+use Rattle.duty.specs.Plans.{Plan, GroundPlan, ActualTimes, plan, as_planned}
+use Rattle.duty.specs.declared.fdp.Fdp.{Fdp}
+use Rattle.command.specs.Orders.{order_fault, IsTyped, IsMade}
+use Rattle.command.specs.declared.member.Member.{Member}
+use Rattle.command.specs.declared.member.Seat.{Seat}
+use Rattle.command.specs.declared.member.Seat.TheVariants.{Captain, FirstOfficer}
+use Rattle.command.specs.declared.order.Order.{Order}
+use Rattle.command.specs.declared.order.Order.TheVariants.{AddCrew, AddPairing, CancelPairing, Assign, Release, Swap, AddGround, CancelGround, Actual}
+use Rattle.kept.specs.CommandJson.{and_then, field_of, judged, unless_fault, read_members, read_order, read_kept, read_object}
+use Rattle.kept.specs.Instants.{is_instant, period_has_instants, segment_has_instants, times_have_instants, order_has_instants}
+use Rattle.kept.specs.Laws.{KeptTextsDiffer}
+use Rattle.kept.specs.KeptText.{period_json, segment_json, times_json, order_json, kept_text}
+use Rattle.kept.specs.Parts.{read_each, read_period, read_times, read_segment, read_verb}
+use Rattle.kept.specs.declared.fault.CodecFault.{CodecFault}
+use Rattle.kept.specs.declared.field.JsonField.TheVariants.{Do}
+use Rattle.kept.proofs.CompactTexts.{IsKept, items_kept, number_kept, read_compact}
+use Rattle.kept.proofs.KeptBack.{both, in_range, each_back, segment_back, times_back, times_kept, period_kept}
+
+period_back : (f : Fdp) → period_has_instants f ≡ true → read_period (period_json f) ≡ Some (as_planned f)
+period_back f h =
+    let p = both (is_instant f.report && is_instant f.release) (list_all segment_has_instants f.segments) h in
+    let q = both (is_instant f.report) (is_instant f.release) p.0 in
+    rw (read_written f.report (in_range _ q.0), read_written f.release (in_range _ q.1), each_back read_segment segment_json segment_has_instants segment_back f.segments p.1) refl
+
+periods_back : (fs : List Fdp) → list_all period_has_instants fs ≡ true → read_each read_period (items_of (map period_json fs)) ≡ Some (map as_planned fs)
+periods_back [] h = refl
+periods_back (f ∷ fs) h =
+    let p = both (period_has_instants f) (list_all period_has_instants fs) h in
+    rw (period_back f p.0, periods_back fs p.1) refl
+
+abbrev ReadsBack : Order → Type 0
+ReadsBack o = and_then (field_of read_verb Do (order_json o)) (λ verb. read_members verb (order_json o)) ≡ Ok o
+
+add_crew_back : (id name : List ℕ) (seat : Seat) → ReadsBack (AddCrew id (record { seat = seat; name = name }))
+add_crew_back id name Captain = refl
+add_crew_back id name FirstOfficer = refl
+
+abbrev planned_twice : List ℕ → List Fdp → Result Order CodecFault
+planned_twice id fs = Ok (AddPairing (plan id fs))
+
+add_pairing_back : (p : Plan) → map as_planned p.periods ≡ p.periods → list_all period_has_instants p.periods ≡ true → ReadsBack (AddPairing p)
+add_pairing_back p planned h =
+    rw (periods_back p.periods h) (ap (planned_twice p.id) planned ∙ ap (λ fs. Ok (AddPairing (record { id = p.id; periods = fs }))) planned)
+
+add_ground_back : (g : GroundPlan) → order_has_instants (AddGround g) ≡ true → ReadsBack (AddGround g)
+add_ground_back g h =
+    let p = both (is_instant g.begin) (is_instant g.end) h in
+    rw (read_written g.begin (in_range _ p.0), read_written g.end (in_range _ p.1)) refl
+
+within : (n : ℕ) → 1 ≤ n → n ≤ 10 → is_within 1 10 n ≡ true
+within n low high = grind (arith, nat_tests)
+
+actual_back : (id : List ℕ) (a : ActualTimes) → (1 ≤ a.period) × (a.period ≤ 10) → order_has_instants (Actual id a) ≡ true → ReadsBack (Actual id a)
+actual_back id a typed h =
+    let p = both (is_instant a.report && is_instant a.release) (list_all times_have_instants a.segments) h in
+    let q = both (is_instant a.report) (is_instant a.release) p.0 in
+    rw (within a.period typed.0 typed.1, read_written a.report (in_range _ q.0), read_written a.release (in_range _ q.1), each_back read_times times_json times_have_instants times_back a.segments p.1) refl
+
+order_back : (o : Order) → IsTyped o → order_has_instants o ≡ true → ReadsBack o
+order_back (AddCrew id m) typed h = add_crew_back id m.name m.seat
+order_back (AddPairing p) typed h = add_pairing_back p typed h
+order_back (CancelPairing id) typed h = refl
+order_back (Assign id who) typed h = refl
+order_back (Release id who) typed h = refl
+order_back (Swap w) typed h = refl
+order_back (AddGround g) typed h = add_ground_back g h
+order_back (CancelGround id) typed h = refl
+order_back (Actual id a) typed h = actual_back id a typed h
+
+order_kept : (o : Order) → IsTyped o → IsKept max_depth (order_json o)
+order_kept (AddPairing p) typed =
+    let periods = items_kept 3 period_json period_kept p.periods in
+    record {
+      same = rw periods.same refl;
+      numbers = (tt, (tt, (periods.numbers, tt)));
+      no_float = rw periods.no_float refl;
+      shallow = omega (arith, periods.shallow);
+    }
+order_kept (Actual id a) typed =
+    let segments = items_kept 1 times_json times_kept a.segments in
+    let period = number_kept a.period (omega (arith, typed.1)) in
+    record {
+      same = rw (period.same, segments.same) refl;
+      numbers = (tt, (tt, (period.numbers, (tt, (tt, (segments.numbers, tt))))));
+      no_float = rw segments.no_float refl;
+      shallow = omega (arith, segments.shallow);
+    }
+order_kept (AddCrew id m) typed = record { same = refl; numbers = search rules; no_float = refl; shallow = omega arith }
+order_kept (CancelPairing id) typed = record { same = refl; numbers = search rules; no_float = refl; shallow = omega arith }
+order_kept (Assign id who) typed = record { same = refl; numbers = search rules; no_float = refl; shallow = omega arith }
+order_kept (Release id who) typed = record { same = refl; numbers = search rules; no_float = refl; shallow = omega arith }
+order_kept (Swap w) typed = record { same = refl; numbers = search rules; no_float = refl; shallow = omega arith }
+order_kept (AddGround g) typed = record { same = refl; numbers = search rules; no_float = refl; shallow = omega arith }
+order_kept (CancelGround id) typed = record { same = refl; numbers = search rules; no_float = refl; shallow = omega arith }
+
+pub order_no_float : (o : Order) → IsMade o → has_float (order_json o) ≡ false
+order_no_float o made = (order_kept o made.1).no_float
+
+judged_made : (o : Order) → order_fault o ≡ None → judged o ≡ Ok o
+judged_made o h = rw h refl
+
+is_object : (o : Order) → is_some (as_object (order_json o)) ≡ true
+is_object (AddCrew id m) = refl
+is_object (AddPairing p) = refl
+is_object (CancelPairing id) = refl
+is_object (Assign id who) = refl
+is_object (Release id who) = refl
+is_object (Swap w) = refl
+is_object (AddGround g) = refl
+is_object (CancelGround id) = refl
+is_object (Actual id a) = refl
+
+object_read : (o : Order) → IsTyped o → read_object (kept_text o) ≡ Ok (order_json o)
+unfolding kept_text
+object_read o typed = rw (read_compact (order_json o) (order_kept o typed), is_object o) refl
+
+order_read : (o : Order) → IsMade o → order_has_instants o ≡ true → read_order (order_json o) ≡ Ok o
+unfolding read_order
+order_read o made h =
+    ap (λ (r : Result Order CodecFault). and_then r judged) (order_back o made.1 h) ∙ judged_made o made.0
+
+-- the text of a command whose instants are of 2000 to 2099
+pub kept_back : (o : Order) → IsMade o → order_has_instants o ≡ true → read_kept (kept_text o) ≡ Ok o
+kept_back o made h =
+    ap (λ (r : Result Data CodecFault). and_then r read_order) (object_read o made.1) ∙ order_read o made h
+
+pub kept_differ : KeptTextsDiffer
+kept_differ a b p q e =
+    let one : Ok a ≡ read_kept (kept_text b) = sym (kept_back a p.0 p.1) ∙ ap read_kept e in
+    let other = kept_back b q.0 q.1 in
+    cc

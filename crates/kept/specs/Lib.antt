@@ -1,0 +1,9 @@
+pub mod Fields
+pub mod Texts
+pub mod Values
+pub mod Instants
+pub mod KeptText
+pub mod Parts
+pub mod CommandJson
+pub mod ReplyText
+pub mod Laws

@@ -1,5 +1,0 @@
-pub mod Text
-pub mod Marks
-pub mod Rows
-pub mod Grouped
-pub mod Loop

@@ -1,5 +1,0 @@
-pub mod Records
-pub mod Places
-pub mod Schedule
-pub mod Grouping
-pub mod Texts
