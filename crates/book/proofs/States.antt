@@ -37,8 +37,8 @@ use Rattle.roster.specs.declared.change.Verdict.TheVariants.{Accept, Refuse, Rep
 use Rattle.roster.specs.declared.state.Request.{Request}
 use Rattle.loading.specs.SameRows.{HasInstants}
 use Rattle.loading.proofs.SameStates.{database_holds_one_state}
-use Rattle.store.specs.Kept.{IsBookOf, Holds}
-use Rattle.store.specs.Outcomes.{AddsNothing, HoldsNow, Leaves, LeavesSome, StillShows, either, one}
+use Rattle.writing.specs.Kept.{IsBookOf, Holds}
+use Rattle.writing.specs.Outcomes.{AddsNothing, HoldsNow, Leaves, LeavesSome, StillShows, either, one}
 use Rattle.book.specs.Kept.{IsKept, Keeps, StillHolds, either_kept}
 
 some_same : {A : Type 0} {a b : A} → Some a ≡ Some b → a ≡ b

@@ -38,15 +38,15 @@ use Rattle.tables.specs.Records.{IsRequestRow, request_row}
 use Rattle.tables.specs.Rows.{begins_with}
 use Rattle.tables.specs.declared.request.RequestRecord.{RequestRecord}
 use Rattle.loading.proofs.Mapping.{all_taken, nothing_mapped, next_mapped, mapped_at, mapped_place}
-use Rattle.loading.proofs.Tests.{passes}
-use Rattle.loading.proofs.Values.{ids_same, int_is, text_is, number_is}
+use Rattle.rows.proofs.Tests.{passes}
+use Rattle.rows.proofs.Values.{ids_same, int_is, text_is, number_is}
 use Rattle.loading.proofs.Telling.{unread, of_blame, clean_before}
 use Rattle.loading.specs.Loading.{IsKey, IsRequest, name_of, IsRight, AreRight, AreHeld, IsDamaged, Says}
 use Rattle.loading.specs.Reading.{AreWanting, RequestsRead, Saw, Blames, HasRows, IsUnreadable, IsReadTo, Mapped, AreOnce, TellsOf, HasStranger}
 use Rattle.loading.specs.declared.fault.LoadFault.{LoadFault}
 use Rattle.loading.specs.declared.fault.LoadFault.TheVariants.{NotABook, Damaged, Version, Fault}
 use Rattle.loading.specs.declared.fault.TableName.TheVariants as table_name
-use Rattle.loading.specs.Rows.{RequestAt, ExceedanceAt, row_of_request, row_of_exceedance, request, exceedance}
+use Rattle.rows.specs.Rows.{RequestAt, ExceedanceAt, row_of_request, row_of_exceedance, request, exceedance}
 
 -- ---- Texts
 

@@ -18,7 +18,7 @@ use Rattle.tables.specs.declared.segment.SegmentRecord.{SegmentRecord}
 use Rattle.loading.specs.Loading.{ArePeriods, IsInstantIfAny}
 use Rattle.loading.specs.PlanRows.{Periods, Segments, PeriodRows, SegmentRows, ArePeriodsKeyed, AreSegmentsKeyed, AreUngapped, HasNoGaps, IsTold, period_name, segment_name}
 use Rattle.loading.specs.Reading.{AreOnce, HasStranger, IsFree, Mapped}
-use Rattle.loading.specs.Rows.{HasJust, row_of_pairing}
+use Rattle.rows.specs.Rows.{HasJust, row_of_pairing}
 use Rattle.loading.specs.declared.plan_rows.PeriodKey.{PeriodKey}
 use Rattle.loading.specs.declared.plan_rows.SegmentKey.{SegmentKey}
 

@@ -10,7 +10,7 @@ ghost use Rattle.loading.specs.Keyed.{ArePeriodsWanting, ArePeriodsWhole, AtInst
 ghost use Rattle.loading.specs.Loading.{IsInstantIfAny};
 ghost use Rattle.loading.specs.PlanRows.{period_name, AreUngapped};
 ghost use Rattle.loading.specs.Reading.{Saw, HasRows, IsUnreadable, Blames, TellsOf, HasStranger};
-ghost use Rattle.loading.specs.Rows.{period};
+ghost use Rattle.rows.specs.Rows.{period};
 ghost use Rattle.loading.specs.declared.fault.TableName.TheVariants as table_name;
 
 use crate::fault::{LoadFault, TableName};

@@ -13,7 +13,7 @@ ghost use Rattle.codec.specs.ReplyText.{reply_text};
 ghost use Rattle.tables.specs.Records.{request_row, IsRequestRow};
 ghost use Rattle.loading.specs.Loading.{IsRequest, IsKey, AreHeld, Says};
 ghost use Rattle.loading.specs.Reading.{AreWanting, RequestsRead, Saw, HasRows, IsUnreadable, Blames, IsReadTo, TellsOf, HasStranger};
-ghost use Rattle.loading.specs.Rows.{row_of_request, request, exceedance};
+ghost use Rattle.rows.specs.Rows.{row_of_request, request, exceedance};
 ghost use Rattle.loading.specs.declared.fault.TableName.TheVariants as table_name;
 
 use crate::fault::{LoadFault, TableName};

@@ -16,7 +16,7 @@ use Rattle.codec.specs.CommandJson.{read_request}
 use Rattle.codec.specs.RefusalText as json
 use Rattle.codec.specs.ReplyText.{reply_text}
 use Rattle.codec.specs.declared.fault.CodecFault.{CodecFault}
-use Rattle.loading.specs.declared.fault.StoreFault.TheVariants.{Store}
+use Rattle.rows.specs.declared.fault.StoreFault.TheVariants.{Store}
 use Rattle.book.specs.Kept.{IsAt, IsClean, IsInDoubt, Kept}
 use Rattle.rosterbook.specs.Streams.{Held, IsOfChannel, Prints, Reads, line_end, refused}
 use Rattle.rosterbook.specs.declared.status.Status.{Status}
