@@ -2,14 +2,14 @@
 use Rattle.std.proofs.Common.{◌≡◌, refl, sym, ap, subst, ◌∙◌, false, Result, Ok, Err, OnOk, OnErr, IfOk}
 use Rattle.sqlite.specs.State as conn
 use Rattle.sqlite.specs.State.{HasCleanDisk}
-use Rattle.codec.specs.Laws.{IsCommand}
+use Rattle.kept.specs.Laws.{IsCommand}
 use Rattle.roster.specs.State.{State}
 use Rattle.roster.specs.Steps.{after}
 use Rattle.roster.specs.declared.change.Change.{Change}
-use Rattle.loading.specs.declared.fault.StoreFault.{StoreFault}
-use Rattle.loading.specs.declared.fault.StoreFault.TheVariants.{Store, Memory}
-use Rattle.store.specs.Next.{IsNext}
-use Rattle.store.specs.Outcomes.{HoldsNow, Leaves, LeavesSome, StillShows, either, one}
+use Rattle.rows.specs.declared.fault.StoreFault.{StoreFault}
+use Rattle.rows.specs.declared.fault.StoreFault.TheVariants.{Store, Memory}
+use Rattle.writing.specs.Next.{IsNext}
+use Rattle.writing.specs.Outcomes.{HoldsNow, Leaves, LeavesSome, StillShows, either, one}
 use Rattle.book.specs.Asking.{Did, Done}
 use Rattle.book.specs.Kept.{Keeps, StillHolds, either_kept, is_store_fault}
 use Rattle.book.proofs.States.{both_kept, kept_after, shows_still, shown_still, shown_before, keeps_as, shows_as, either_as, still_as, same_state}

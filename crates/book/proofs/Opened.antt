@@ -5,8 +5,8 @@ use Rattle.sqlite.specs.Start.{FindsIn}
 use Rattle.sqlite.specs.State as conn
 use Rattle.sqlite.specs.State.{HasCleanDisk, IsUnchanged, Opens}
 use Rattle.sqlite.specs.Effect.{Database}
-use Rattle.store.specs.Kept.{IsBookOf}
-use Rattle.store.specs.Outcomes.{AddsNothing}
+use Rattle.writing.specs.Kept.{IsBookOf}
+use Rattle.writing.specs.Outcomes.{AddsNothing}
 use Rattle.book.specs.Kept.{Means}
 use Rattle.book.specs.Found.{MeansWhatIsIn}
 

@@ -7,8 +7,8 @@ use Rattle.sqlite.specs.Held.{state}
 use Rattle.duty.specs.Plans.{Plan}
 use Rattle.command.specs.declared.order.Order.TheVariants.{AddPairing}
 use Rattle.roster.specs.Folds.{Asked, import, next}
-use Rattle.loading.specs.declared.fault.StoreFault.TheVariants.{Store, Memory}
-use Rattle.store.specs.Outcomes.{LeavesSome}
+use Rattle.rows.specs.declared.fault.StoreFault.TheVariants.{Store, Memory}
+use Rattle.writing.specs.Outcomes.{LeavesSome}
 use Rattle.book.specs.Answered.{IsAnswered}
 use Rattle.book.specs.Importing.{Importing, part_of}
 use Rattle.book.specs.Kept.{Kept}

@@ -8,9 +8,9 @@ use Rattle.roster.specs.Folds.{Asked, Fold, Replies, answer_of, next}
 use Rattle.roster.specs.Honest.{Honest}
 use Rattle.roster.specs.State.{State}
 use Rattle.roster.specs.Steps.{step_of}
-use Rattle.loading.specs.declared.fault.StoreFault.{StoreFault}
-use Rattle.loading.specs.declared.fault.StoreFault.TheVariants.{Store, Memory}
-use Rattle.store.specs.Outcomes.{Leaves, either, one}
+use Rattle.rows.specs.declared.fault.StoreFault.{StoreFault}
+use Rattle.rows.specs.declared.fault.StoreFault.TheVariants.{Store, Memory}
+use Rattle.writing.specs.Outcomes.{Leaves, either, one}
 use Rattle.book.specs.Kept.{Keeps, either_kept}
 
 fold_suc : (s : State) (l : List Asked) (i : ℕ) (a : Asked) → i < length l → Fold s (take (suc i) l) ≡ next (Fold s (take i l)) (get_or l i a)

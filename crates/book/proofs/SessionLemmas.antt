@@ -5,9 +5,9 @@ use Rattle.std.proofs.lemmas.Bool.{cases_lt}
 use Rattle.sqlite.specs.State as conn
 use Rattle.roster.specs.Folds.{Asked, Fold, Session, Stopped, next}
 use Rattle.roster.specs.State.{State}
-use Rattle.loading.specs.declared.fault.StoreFault.{StoreFault}
-use Rattle.loading.specs.declared.fault.StoreFault.TheVariants.{Store, Memory}
-use Rattle.store.specs.Outcomes.{Leaves, either}
+use Rattle.rows.specs.declared.fault.StoreFault.{StoreFault}
+use Rattle.rows.specs.declared.fault.StoreFault.TheVariants.{Store, Memory}
+use Rattle.writing.specs.Outcomes.{Leaves, either}
 use Rattle.book.specs.Kept.{Ends, IsKept, Keeps, either_kept}
 use Rattle.book.specs.Sessions.{IsAfter, count_of, fault_of}
 

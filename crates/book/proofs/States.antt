@@ -18,8 +18,8 @@ use Rattle.command.specs.Orders.{IsMade}
 use Rattle.command.specs.declared.exceedance.Reply.{Reply}
 use Rattle.command.specs.declared.order.Order.{Order}
 use Rattle.command.specs.declared.refusal.Refusal.{Refusal}
-use Rattle.codec.specs.Instants.{order_has_instants}
-use Rattle.codec.specs.Laws.{IsCommand}
+use Rattle.kept.specs.Instants.{order_has_instants}
+use Rattle.kept.specs.Laws.{IsCommand}
 use Rattle.roster.proofs.Accepted.{accepted}
 use Rattle.roster.proofs.KeepsHonest.{keeps_honest}
 use Rattle.roster.proofs.MadeByCommands.{starts_sound}
@@ -37,8 +37,8 @@ use Rattle.roster.specs.declared.change.Verdict.TheVariants.{Accept, Refuse, Rep
 use Rattle.roster.specs.declared.state.Request.{Request}
 use Rattle.loading.specs.SameRows.{HasInstants}
 use Rattle.loading.proofs.SameStates.{database_holds_one_state}
-use Rattle.store.specs.Kept.{IsBookOf, Holds}
-use Rattle.store.specs.Outcomes.{AddsNothing, HoldsNow, Leaves, LeavesSome, StillShows, either, one}
+use Rattle.writing.specs.Kept.{IsBookOf, Holds}
+use Rattle.writing.specs.Outcomes.{AddsNothing, HoldsNow, Leaves, LeavesSome, StillShows, either, one}
 use Rattle.book.specs.Kept.{IsKept, Keeps, StillHolds, either_kept}
 
 some_same : {A : Type 0} {a b : A} → Some a ≡ Some b → a ≡ b

@@ -6,9 +6,9 @@ use Rattle.roster.specs.Folds.{Asked, Session, Stopped, answer_of, next}
 use Rattle.roster.specs.Honest.{Honest}
 use Rattle.roster.specs.State.{State}
 use Rattle.roster.specs.Steps.{step_of}
-use Rattle.loading.specs.declared.fault.StoreFault.{StoreFault}
-use Rattle.loading.specs.declared.fault.StoreFault.TheVariants.{Store, Memory}
-use Rattle.store.specs.Outcomes.{Leaves, LeavesSome}
+use Rattle.rows.specs.declared.fault.StoreFault.{StoreFault}
+use Rattle.rows.specs.declared.fault.StoreFault.TheVariants.{Store, Memory}
+use Rattle.writing.specs.Outcomes.{Leaves, LeavesSome}
 use Rattle.book.specs.Kept.{HasTables, IsAt, IsClean, IsInDoubt, Kept, StillHasTables, is_store_fault, result_of}
 use Rattle.book.specs.Sessions.{IsAfter, count_of, fault_of}
 use Rattle.book.specs.declared.answer.Answer.{Answer}

@@ -3,9 +3,9 @@ use Rattle.std.specs.Prelude.{◌≡◌, Result, Ok, Err}
 use Rattle.sqlite.specs.State as conn
 use Rattle.sqlite.specs.State.{HasCleanDisk}
 use Rattle.roster.specs.State.{State}
-use Rattle.loading.specs.declared.fault.StoreFault.{StoreFault}
-use Rattle.loading.specs.declared.fault.StoreFault.TheVariants.{Store, Memory}
-use Rattle.store.specs.Outcomes.{Leaves, LeavesSome, HoldsNow}
+use Rattle.rows.specs.declared.fault.StoreFault.{StoreFault}
+use Rattle.rows.specs.declared.fault.StoreFault.TheVariants.{Store, Memory}
+use Rattle.writing.specs.Outcomes.{Leaves, LeavesSome, HoldsNow}
 use Rattle.book.specs.Kept.{Keeps, StillHolds, either_kept}
 
 -- the roster became this state and so did the tables, neither changed, or the tables are of one of the two

@@ -4,8 +4,8 @@ use Rattle.sqlite_trees.specs.Tree.{Trees}
 use Rattle.sqlite.specs.Files.{AreFoundIn}
 use Rattle.sqlite.specs.State as conn
 use Rattle.roster.specs.State.{State}
-use Rattle.store.specs.Kept.{Holds}
-use Rattle.store.specs.Outcomes.{HoldsNow}
+use Rattle.writing.specs.Kept.{Holds}
+use Rattle.writing.specs.Outcomes.{HoldsNow}
 use Rattle.book.specs.Kept.{Keeps}
 
 -- the files hold tables that mean a state; those that are shown mean it too, and a crash leaves it and nothing else

@@ -11,12 +11,12 @@ use Rattle.roster.specs.Folds.{Asked, Fold}
 use Rattle.roster.specs.Sound.{Sound}
 use Rattle.roster.specs.State.{State}
 use Rattle.loading.specs.Loading.{IsRight}
-use Rattle.loading.specs.Rows.{request}
+use Rattle.rows.specs.Rows.{request}
 use Rattle.loading.specs.SameRows.{HasInstants}
-use Rattle.loading.specs.declared.fault.StoreFault.{StoreFault}
-use Rattle.loading.specs.declared.fault.StoreFault.TheVariants.{Store, Memory}
-use Rattle.store.specs.Kept.{IsBookOf}
-use Rattle.store.specs.Outcomes.{Leaves, LeavesSome, HoldsNow, one, either}
+use Rattle.rows.specs.declared.fault.StoreFault.{StoreFault}
+use Rattle.rows.specs.declared.fault.StoreFault.TheVariants.{Store, Memory}
+use Rattle.writing.specs.Kept.{IsBookOf}
+use Rattle.writing.specs.Outcomes.{Leaves, LeavesSome, HoldsNow, one, either}
 use Rattle.book.specs.declared.answer.Answer.{Answer}
 use Rattle.book.specs.declared.answer.Answer.TheVariants.{Accepted, Refused}
 

@@ -2,8 +2,8 @@
 use Rattle.std.specs.Prelude.{◌≡◌, ℕ, ◌+◌, List, [], ◌∷◌, ◌++◌, take, Result, Ok, Err, Option, Some, None}
 use Rattle.roster.specs.Folds.{Asked, Session, Stopped}
 use Rattle.roster.specs.State.{State}
-use Rattle.loading.specs.declared.fault.StoreFault.{StoreFault}
-use Rattle.loading.specs.declared.fault.StoreFault.TheVariants.{Store, Memory}
+use Rattle.rows.specs.declared.fault.StoreFault.{StoreFault}
+use Rattle.rows.specs.declared.fault.StoreFault.TheVariants.{Store, Memory}
 use Rattle.book.specs.Kept.{IsKept}
 
 -- the commands that a call took up, of which it answered so many: the one that met want of memory changed nothing

@@ -6,7 +6,7 @@ ghost use Rattle.sqlite.specs.Files.{IsOpened, file_state, over_files};
 ghost use Rattle.sqlite.specs.Held.{state};
 ghost use Rattle.sqlite.specs.Start.{FindsIn};
 ghost use Rattle.sqlite.specs.State.{HasCleanDisk, IsUnchanged};
-ghost use Rattle.store.specs.Outcomes.{AddsNothing, IsOutside};
+ghost use Rattle.writing.specs.Outcomes.{AddsNothing, IsOutside};
 ghost use Rattle.book.specs.Kept.{IsClean, Means};
 ghost use Rattle.book.specs.Found.{MeansWhatIsIn};
 

@@ -9,10 +9,10 @@ ghost use Rattle.roster.specs.Sound.{Sound};
 ghost use Rattle.roster.specs.State.{State, empty};
 ghost use Rattle.roster.specs.Steps.{after, step_of};
 ghost use Rattle.loading.specs.Loading.{Says};
-ghost use Rattle.store.specs.Next.{IsNext};
-ghost use Rattle.store.specs.Kept.{KeepPlain};
-ghost use Rattle.store.specs.Making.{IsFree};
-ghost use Rattle.store.specs.Outcomes.{AddsNothing, AddsOnly, IsOutside, Leaves, LeavesOnly, LeavesSome, MayAdd};
+ghost use Rattle.writing.specs.Next.{IsNext};
+ghost use Rattle.writing.specs.Kept.{KeepPlain};
+ghost use Rattle.writing.specs.Making.{IsFree};
+ghost use Rattle.writing.specs.Outcomes.{AddsNothing, AddsOnly, IsOutside, Leaves, LeavesOnly, LeavesSome, MayAdd};
 ghost use Rattle.book.specs.Answered.{IsAnswered};
 ghost use Rattle.book.specs.Asking.{Did};
 ghost use Rattle.book.specs.Sessions.{IsAfter, count_of, fault_of};
@@ -50,7 +50,7 @@ impl<S: Alter + Drop> Drop for Book<S> {
 impl<S: Alter> Model for Book<S> {
     ghost use Rattle.std.specs.Prelude.{◌≡◌, false};
     ghost use Rattle.sqlite.specs.Held.{state};
-    ghost use Rattle.store.specs.Outcomes.{LeavesSome};
+    ghost use Rattle.writing.specs.Outcomes.{LeavesSome};
     ghost use Rattle.book.specs.Kept.{Kept, Keeps, kept_code};
 
     ghost Value = { Kept S };

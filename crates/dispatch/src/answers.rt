@@ -2,8 +2,8 @@
 
 use crate::fault::Untold;
 use book::Answer;
-use codec::reply_to_json;
 use command::{Command, Exceedance, Key, Refusal};
+use kept::reply_to_json;
 use std::alloc::Global;
 
 /// The first number whose answer is always told.

@@ -1,7 +1,3 @@
-pub mod FewPeriods
-pub mod Lists
-pub mod Tests
-pub mod Values
 pub mod SamePairings
 pub mod SameStates
 pub mod Mapping

@@ -12,17 +12,17 @@ use Rattle.duty.specs.declared.fault.DutyFault.{DutyFault}
 use Rattle.duty.specs.declared.fdp.Fdp.{Fdp}
 use Rattle.duty.specs.declared.segment.BlockTimes.{BlockTimes}
 use Rattle.duty.specs.declared.segment.Segment.{Segment}
-use Rattle.codec.specs.Instants.{is_instant}
+use Rattle.kept.specs.Instants.{is_instant}
 use Rattle.roster.specs.declared.state.Rostered.{Rostered}
 use Rattle.tables.specs.declared.period.PeriodRecord.{PeriodRecord}
 use Rattle.tables.specs.declared.segment.SegmentRecord.{SegmentRecord}
-use Rattle.loading.proofs.FewPeriods.{few_periods}
-use Rattle.loading.proofs.Lists.{same_list, some_same, one_value}
+use Rattle.rows.proofs.FewPeriods.{few_periods}
+use Rattle.rows.proofs.Lists.{same_list, some_same, one_value}
 use Rattle.loading.proofs.SamePairings.{fdps_same}
 use Rattle.loading.specs.PlanRows.{Periods, Segments, period_name, segment_name, HasNoGap, HasNoGaps, AreUngapped, EachBeside, AreTimes, block_pair, actual_pair}
 use Rattle.loading.specs.PlanRows.{planned_segment, IsSegment, HasRowOf, AreSegments, HasNoSegments, IsActualOf, HasSegments, IsReadPeriod, HasPeriodRow, ArePeriodsRead, HasNoPeriods, IsTold}
 use Rattle.loading.specs.Reading.{Blames}
-use Rattle.loading.specs.Rows.{times_flown}
+use Rattle.rows.specs.Rows.{times_flown}
 use Rattle.loading.specs.declared.fault.LoadFault.{LoadFault}
 use Rattle.loading.specs.declared.fault.LoadFault.TheVariants.{NotABook, Version, Damaged, Fault}
 use Rattle.loading.specs.declared.fault.TableName as name

@@ -10,22 +10,22 @@ use Rattle.duty.specs.Plans.{ActualTimes}
 use Rattle.duty.specs.declared.fdp.Fdp.{Fdp}
 use Rattle.duty.specs.declared.segment.BlockTimes.{BlockTimes}
 use Rattle.duty.specs.declared.segment.Segment.{Segment}
-use Rattle.codec.specs.Instants.{is_instant, times_have_instants, segment_has_instants, period_has_instants}
+use Rattle.kept.specs.Instants.{is_instant, times_have_instants, segment_has_instants, period_has_instants}
 use Rattle.roster.specs.State.{State}
 use Rattle.roster.specs.declared.state.Rostered.{Rostered}
 use Rattle.tables.specs.Records.{period_row, segment_row}
 use Rattle.tables.specs.declared.period.PeriodRecord.{PeriodRecord}
 use Rattle.tables.specs.declared.segment.SegmentRecord.{SegmentRecord}
-use Rattle.loading.proofs.FewPeriods.{few_segments}
-use Rattle.loading.proofs.Lists.{same_list, some_same, one_value}
+use Rattle.rows.proofs.FewPeriods.{few_segments}
+use Rattle.rows.proofs.Lists.{same_list, some_same, one_value}
 use Rattle.loading.proofs.PlanKeys.{period_names_same, segment_names_same}
 use Rattle.loading.proofs.PlanLemmas.{there_within, same_plan, same_listed, times_once, block_pairs_same, Beside, beside, beside_once}
 use Rattle.loading.proofs.SamePairings.{planned_report}
-use Rattle.loading.proofs.Values.{numbers_same, text_is, number_is}
+use Rattle.rows.proofs.Values.{numbers_same, text_is, number_is}
 use Rattle.loading.specs.Loading.{IsPlanned, actual_has_instants}
 use Rattle.loading.specs.PlanRows.{Periods, Segments, period_name, segment_name, AreTimes, block_pair, actual_pair, IsSegment, HasRowOf, HasPeriodRow, IsReadPeriod, HasSegments, IsTold}
 use Rattle.loading.specs.PlanRows.{PeriodRows, SegmentRows, ArePeriodsKeyed, AreSegmentsKeyed}
-use Rattle.loading.specs.Rows.{InPeriod, InSegment, At, PeriodOf, SegmentOf, row_of_period, row_of_segment, times_flown}
+use Rattle.rows.specs.Rows.{InPeriod, InSegment, At, PeriodOf, SegmentOf, row_of_period, row_of_segment, times_flown}
 
 pub all_at : {A : Type 0} (test : A → Bool) (xs : List A) → list_all test xs ≡ true → (i : ℕ) (x : A) → slice_get xs i ≡ Some x → test x ≡ true
 all_at test [] e i x there = absurd (cc)

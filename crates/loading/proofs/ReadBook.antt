@@ -16,10 +16,10 @@ use Rattle.tables.specs.declared.book.BookRecord.{BookRecord}
 use Rattle.loading.proofs.Ascii.{zone_utf8}
 use Rattle.loading.proofs.Mapping.{mapped_at}
 use Rattle.loading.proofs.Telling.{nothing_left, unread}
-use Rattle.loading.proofs.Values.{text_is}
+use Rattle.rows.proofs.Values.{text_is}
 use Rattle.loading.specs.Loading.{IsNoBook, IsOfOtherVersion, AreRight, IsDamaged, Says, named}
 use Rattle.loading.specs.Reading.{Saw, Blames, BlamesBook, HasRows, IsNoBookRow, IsOnly, IsReadTo, IsUnreadable, book_of}
-use Rattle.loading.specs.Rows.{book, table}
+use Rattle.rows.specs.Rows.{book, table}
 use Rattle.loading.specs.declared.fault.LoadFault.{LoadFault}
 use Rattle.loading.specs.declared.fault.LoadFault.TheVariants.{NotABook, Version, Damaged, Fault}
 use Rattle.loading.specs.declared.fault.TableName.TheVariants as table_name

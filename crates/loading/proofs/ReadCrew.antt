@@ -22,14 +22,14 @@ use Rattle.tables.specs.Rows.{begins_with}
 use Rattle.tables.specs.declared.crew.CrewRecord.{CrewRecord}
 use Rattle.loading.proofs.Ascii.{id_utf8}
 use Rattle.loading.proofs.Mapping.{all_taken, nothing_mapped, next_mapped, mapped_at, mapped_place}
-use Rattle.loading.proofs.Tests.{passes}
-use Rattle.loading.proofs.Values.{text_is, number_is}
+use Rattle.rows.proofs.Tests.{passes}
+use Rattle.rows.proofs.Values.{text_is, number_is}
 use Rattle.loading.proofs.Telling.{unread, of_blame, clean_before}
 use Rattle.loading.specs.Loading.{IsMember, IsRight, AreRight, IsDamaged, Says}
 use Rattle.loading.specs.Reading.{seat_of, MembersRead, Saw, Blames, HasRows, IsUnreadable, IsReadTo, Mapped, AreOnce, TellsOf, HasStranger}
 use Rattle.loading.specs.declared.fault.LoadFault.{LoadFault}
 use Rattle.loading.specs.declared.fault.TableName.TheVariants as table_name
-use Rattle.loading.specs.Rows.{seat_number, row_of_member, crew, book}
+use Rattle.rows.specs.Rows.{seat_number, row_of_member, crew, book}
 
 pub seat_known : (seat : Seat) → seat_of (seat_number seat) ≡ Some seat
 seat_known Captain = refl

@@ -30,18 +30,18 @@ use Rattle.tables.specs.Rows.{rows_of, begins_with}
 use Rattle.tables.specs.Schema.{BookTable, pairing_table, period_table, segment_table, seat_table, exceedance_table}
 use Rattle.tables.specs.declared.exceedance.ExceedanceRecord.{ExceedanceRecord}
 use Rattle.loading.proofs.Ascii.{id_utf8}
-use Rattle.loading.proofs.FewPeriods.{few_periods}
+use Rattle.rows.proofs.FewPeriods.{few_periods}
 use Rattle.loading.proofs.Mapping.{all_taken, nothing_mapped, next_mapped, mapped_at, mapped_place}
 use Rattle.loading.proofs.ReadGrounds.{crew_part, members_same}
 use Rattle.loading.proofs.SamePairings.{same_pairing}
-use Rattle.loading.proofs.Tests.{passes}
-use Rattle.loading.proofs.Values.{ids_same, int_is, text_is, number_is}
+use Rattle.rows.proofs.Tests.{passes}
+use Rattle.rows.proofs.Values.{ids_same, int_is, text_is, number_is}
 use Rattle.loading.proofs.Telling.{unread, of_blame, clean_before}
 use Rattle.loading.specs.Loading.{IsKey, IsExceedance, ArePlanned, AreSeated, name_of, IsRight, IsSeatRight, AreRight, IsDamaged, Says}
 use Rattle.loading.specs.Reading.{ExceedancesRead, IsFlown, IsRecorded, row_of_recorded, Saw, Blames, HasRows, IsUnreadable, IsReadTo, Mapped, AreOnce, TellsOf, HasStranger}
 use Rattle.loading.specs.declared.fault.LoadFault.{LoadFault}
 use Rattle.loading.specs.declared.fault.TableName.TheVariants as table_name
-use Rattle.loading.specs.Rows.{HasJust, row_of_pairing, exceedance, ground_duty}
+use Rattle.rows.specs.Rows.{HasJust, row_of_pairing, exceedance, ground_duty}
 
 -- ---- One record
 

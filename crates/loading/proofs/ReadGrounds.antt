@@ -16,7 +16,7 @@ use Rattle.duty.specs.Shape.{is_id}
 use Rattle.duty.specs.Words.{checked}
 use Rattle.duty.specs.declared.fault.DutyFault.{DutyFault}
 use Rattle.command.specs.declared.member.Member.{Member}
-use Rattle.codec.specs.Instants.{is_instant}
+use Rattle.kept.specs.Instants.{is_instant}
 use Rattle.roster.specs.Entries.{put}
 use Rattle.roster.specs.Sound.{Crew}
 use Rattle.roster.specs.State.{State}
@@ -30,14 +30,14 @@ use Rattle.tables.specs.declared.ground.GroundRecord.{GroundRecord}
 use Rattle.loading.proofs.Ascii.{id_utf8}
 use Rattle.loading.proofs.Mapping.{all_taken, nothing_mapped, next_mapped, mapped_at, mapped_place}
 use Rattle.loading.proofs.SameStates.{crew_told}
-use Rattle.loading.proofs.Tests.{passes}
-use Rattle.loading.proofs.Values.{text_is, number_is}
+use Rattle.rows.proofs.Tests.{passes}
+use Rattle.rows.proofs.Values.{text_is, number_is}
 use Rattle.loading.proofs.Telling.{unread, of_blame, clean_before}
 use Rattle.loading.specs.Loading.{IsGround, IsRight, IsCrewRight, IsSeatRight, AreRight, IsDamaged, Says}
 use Rattle.loading.specs.Reading.{GroundsRead, Saw, Blames, HasRows, IsUnreadable, IsReadTo, Mapped, AreOnce, TellsOf, HasStranger}
 use Rattle.loading.specs.declared.fault.LoadFault.{LoadFault}
 use Rattle.loading.specs.declared.fault.TableName.TheVariants as table_name
-use Rattle.loading.specs.Rows.{row_of_ground, ground_duty, seat}
+use Rattle.rows.specs.Rows.{row_of_ground, ground_duty, seat}
 
 -- ---- One record
 

@@ -10,10 +10,10 @@ use Rattle.tables.specs.Records.{IsPairingRow, pairing_row}
 use Rattle.tables.specs.declared.pairing.PairingRecord.{PairingRecord}
 use Rattle.loading.proofs.Ascii.{id_utf8}
 use Rattle.loading.proofs.Mapping.{all_taken, nothing_mapped, next_mapped, mapped_at, mapped_place}
-use Rattle.loading.proofs.Values.{text_is}
+use Rattle.rows.proofs.Values.{text_is}
 use Rattle.loading.specs.Keyed.{Ids, IdsRead, IsId, AreIds, HasIds, row_of_id}
 use Rattle.loading.specs.Reading.{HasRows, HasStranger, IsUnreadable, Mapped}
-use Rattle.loading.specs.Rows.{pairing}
+use Rattle.rows.specs.Rows.{pairing}
 
 -- ---- Records in turn
 

@@ -18,7 +18,7 @@ use Rattle.duty.specs.Pairings.{are_shaped, has_shapes}
 use Rattle.duty.specs.Plans.{ActualTimes}
 use Rattle.duty.specs.declared.segment.BlockTimes.{BlockTimes}
 use Rattle.duty.specs.declared.segment.Segment.{Segment}
-use Rattle.codec.specs.Instants.{period_has_instants, segment_has_instants, times_have_instants}
+use Rattle.kept.specs.Instants.{period_has_instants, segment_has_instants, times_have_instants}
 use Rattle.roster.specs.Entries.{put}
 use Rattle.roster.specs.State.{State}
 use Rattle.roster.specs.declared.put.Entry.TheVariants as entry
@@ -30,20 +30,20 @@ use Rattle.tables.specs.declared.period.PeriodRecord.{PeriodRecord}
 use Rattle.tables.specs.declared.segment.SegmentRecord.{SegmentRecord}
 use Rattle.loading.proofs.Ascii.{id_utf8, flight_utf8, airport_utf8}
 use Rattle.loading.proofs.Entries.{Passed, none_passed, next_passed, is_there, all_passed, passed_more}
-use Rattle.loading.proofs.FewPeriods.{all_shaped, few_periods, few_segments}
+use Rattle.rows.proofs.FewPeriods.{all_shaped, few_periods, few_segments}
 use Rattle.loading.proofs.Following.{has_value}
-use Rattle.loading.proofs.Lists.{some_same}
+use Rattle.rows.proofs.Lists.{some_same}
 use Rattle.loading.proofs.PlanLemmas.{there_within}
 use Rattle.loading.proofs.PlanStates.{all_at, state_told, told_planned, periods_are, segments_are}
 use Rattle.loading.proofs.ReadPeriods.{number_fits, of_row}
 use Rattle.loading.proofs.ReadTables.{then_saw}
 use Rattle.loading.proofs.Telling.{clean_before, of_blame}
-use Rattle.loading.proofs.Values.{text_is}
+use Rattle.rows.proofs.Values.{text_is}
 use Rattle.loading.specs.Keyed.{Ids, AreIds, HasIds, HasPeriods, HasSegmentsOf, HasUntold, IsPairingOf, IsPeriodTable, IsSegmentOf, IsSegmentTable, PairingsRead}
 use Rattle.loading.specs.Loading.{AreRight, IsCrewRight, IsDamaged, IsPairingRight, IsPlanned, IsSegmentRight, Says, named}
 use Rattle.loading.specs.PlanRows.{IsTold, PeriodRows, Periods, SegmentRows, Segments, period_name, segment_name}
 use Rattle.loading.specs.Reading.{AreFree, Blames, IsFree, IsReadTo, Saw}
-use Rattle.loading.specs.Rows.{At, InPeriod, InSegment, PeriodOf, SegmentOf, crew, pairing, period, segment, row_of_pairing, row_of_period, row_of_segment, times_flown}
+use Rattle.rows.specs.Rows.{At, InPeriod, InSegment, PeriodOf, SegmentOf, crew, pairing, period, segment, row_of_pairing, row_of_period, row_of_segment, times_flown}
 use Rattle.loading.specs.declared.fault.LoadFault.{LoadFault}
 use Rattle.loading.specs.declared.fault.TableName as name
 use Rattle.loading.specs.declared.fault.TableName.TheVariants as table_name

@@ -20,13 +20,13 @@ use Rattle.limits.specs.declared.section.Section.{Section}
 use Rattle.command.specs.Keys.{KeyParts, key_name}
 use Rattle.command.specs.declared.exceedance.Reply.{Reply}
 use Rattle.command.specs.declared.order.Order.{Order}
-use Rattle.codec.proofs.OrdersBack.{kept_back}
-use Rattle.codec.proofs.ReplyBack.{reply_back}
-use Rattle.codec.specs.CommandJson.{read_kept}
-use Rattle.codec.specs.KeptText.{kept_text}
-use Rattle.codec.specs.Laws.{IsCommand}
-use Rattle.codec.specs.ReplyText.{reply_text, read_reply}
-use Rattle.codec.specs.declared.fault.CodecFault.{CodecFault}
+use Rattle.kept.proofs.OrdersBack.{kept_back}
+use Rattle.kept.proofs.ReplyBack.{reply_back}
+use Rattle.kept.specs.CommandJson.{read_kept}
+use Rattle.kept.specs.KeptText.{kept_text}
+use Rattle.kept.specs.Laws.{IsCommand}
+use Rattle.kept.specs.ReplyText.{reply_text, read_reply}
+use Rattle.kept.specs.declared.fault.CodecFault.{CodecFault}
 use Rattle.roster.specs.Entries.{put}
 use Rattle.roster.specs.State.{State}
 use Rattle.roster.specs.declared.put.Entry.{Entry}
@@ -38,15 +38,15 @@ use Rattle.tables.specs.Records.{IsRequestRow, request_row}
 use Rattle.tables.specs.Rows.{begins_with}
 use Rattle.tables.specs.declared.request.RequestRecord.{RequestRecord}
 use Rattle.loading.proofs.Mapping.{all_taken, nothing_mapped, next_mapped, mapped_at, mapped_place}
-use Rattle.loading.proofs.Tests.{passes}
-use Rattle.loading.proofs.Values.{ids_same, int_is, text_is, number_is}
+use Rattle.rows.proofs.Tests.{passes}
+use Rattle.rows.proofs.Values.{ids_same, int_is, text_is, number_is}
 use Rattle.loading.proofs.Telling.{unread, of_blame, clean_before}
 use Rattle.loading.specs.Loading.{IsKey, IsRequest, name_of, IsRight, AreRight, AreHeld, IsDamaged, Says}
 use Rattle.loading.specs.Reading.{AreWanting, RequestsRead, Saw, Blames, HasRows, IsUnreadable, IsReadTo, Mapped, AreOnce, TellsOf, HasStranger}
 use Rattle.loading.specs.declared.fault.LoadFault.{LoadFault}
 use Rattle.loading.specs.declared.fault.LoadFault.TheVariants.{NotABook, Damaged, Version, Fault}
 use Rattle.loading.specs.declared.fault.TableName.TheVariants as table_name
-use Rattle.loading.specs.Rows.{RequestAt, ExceedanceAt, row_of_request, row_of_exceedance, request, exceedance}
+use Rattle.rows.specs.Rows.{RequestAt, ExceedanceAt, row_of_request, row_of_exceedance, request, exceedance}
 
 -- ---- Texts
 

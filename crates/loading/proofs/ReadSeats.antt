@@ -21,12 +21,12 @@ use Rattle.roster.specs.State.{State}
 use Rattle.roster.specs.declared.state.Rostered.{Rostered}
 use Rattle.tables.specs.Records.{seat_row}
 use Rattle.tables.specs.declared.seat.SeatRecord.{SeatRecord}
-use Rattle.loading.proofs.Lists.{one_value, some_same}
+use Rattle.rows.proofs.Lists.{one_value, some_same}
 use Rattle.loading.proofs.Mapping.{mapped_at, mapped_place, of_appended, in_appended, of_taken, take_next, has_at}
 use Rattle.loading.proofs.ReadCrew.{seat_known, number_known}
-use Rattle.loading.proofs.Values.{text_is, number_is}
+use Rattle.rows.proofs.Values.{text_is, number_is}
 use Rattle.loading.specs.Reading.{seat_of, AreOnce, SeatIndex, SeatsRead, IsHeld, IsSamePlan, AreCrewed, AreFree, AreUnseated, Blames, row_of_held, TellsOf, HasStranger}
-use Rattle.loading.specs.Rows.{InSeat, row_of_seat}
+use Rattle.rows.specs.Rows.{InSeat, row_of_seat}
 use Rattle.loading.specs.declared.fault.LoadFault.{LoadFault}
 use Rattle.loading.specs.declared.fault.LoadFault.TheVariants.{NotABook, Version, Damaged, Fault}
 use Rattle.loading.specs.declared.fault.TableName.TheVariants as table_name

@@ -7,7 +7,7 @@ use Rattle.sqlite.specs.State.{State, HasCleanDisk, IsUnchanged}
 use Rattle.tables.specs.Calls.{LeavesNothing}
 use Rattle.loading.proofs.Telling.{clean_before}
 use Rattle.loading.specs.Reading.{Saw, HasRows, IsUnreadable, Blames}
-use Rattle.loading.specs.Rows.{TableName}
+use Rattle.rows.specs.Rows.{TableName}
 use Rattle.loading.specs.declared.fault.LoadFault.{LoadFault}
 use Rattle.loading.specs.declared.fault.LoadFault.TheVariants.{NotABook, Version, Damaged, Fault}
 use Rattle.loading.specs.declared.fault.TableName as name

@@ -14,9 +14,9 @@ use Rattle.roster.specs.Pairings.{holder}
 use Rattle.roster.specs.Sound.{IsActual, SoundPairing}
 use Rattle.roster.specs.State.{State}
 use Rattle.roster.specs.declared.state.Rostered.{Rostered}
-use Rattle.loading.specs.Rows.{InPeriod, InSegment, InSeat, At, PeriodOf, SegmentOf, HeldSeat, row_of_period, row_of_segment, row_of_seat, seat_number, times_flown}
-use Rattle.loading.proofs.Lists.{Answers, same_list, same_option, one_value}
-use Rattle.loading.proofs.Values.{seats_same, numbers_same, times_same, text_is, number_is}
+use Rattle.rows.specs.Rows.{InPeriod, InSegment, InSeat, At, PeriodOf, SegmentOf, HeldSeat, row_of_period, row_of_segment, row_of_seat, seat_number, times_flown}
+use Rattle.rows.proofs.Lists.{Answers, same_list, same_option, one_value}
+use Rattle.rows.proofs.Values.{seats_same, numbers_same, times_same, text_is, number_is}
 
 -- ---- What the rows of one state tell of another, which has them too
 

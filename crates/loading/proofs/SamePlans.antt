@@ -6,9 +6,9 @@ use Rattle.sqlite.specs.Effect.{Database}
 use Rattle.roster.specs.State.{State}
 use Rattle.roster.specs.declared.state.Rostered.{Rostered}
 use Rattle.loading.specs.Loading.{IsPlanned, IsSegmentRight}
-use Rattle.loading.specs.Rows.{TableName, table, HasJust, pairing, period, segment, row_of_pairing}
+use Rattle.rows.specs.Rows.{TableName, table, HasJust, pairing, period, segment, row_of_pairing}
 use Rattle.loading.proofs.SamePairings.{Planned, SamePlan, same_plan}
-use Rattle.loading.proofs.Values.{text_is}
+use Rattle.rows.proofs.Values.{text_is}
 
 -- what one has another has too, if both have just the rows of a table
 pub told : (it : TableName) (db : Database) (P Q : Row → Type 0) → HasJust (table it) db P → HasJust (table it) db Q → (row : Row) → P row → Q row

@@ -23,17 +23,17 @@ use Rattle.tables.specs.Records.{IsSeatRow, seat_row}
 use Rattle.tables.specs.Rows.{begins_with, rows_of}
 use Rattle.tables.specs.declared.seat.SeatRecord.{SeatRecord}
 use Rattle.loading.proofs.Ascii.{id_utf8}
-use Rattle.loading.proofs.Lists.{same_option}
+use Rattle.rows.proofs.Lists.{same_option}
 use Rattle.loading.proofs.Mapping.{all_taken}
 use Rattle.loading.proofs.ReadCrew.{number_fits}
 use Rattle.loading.proofs.SamePairings.{holder_told}
 use Rattle.loading.proofs.SamePlans.{beside, told}
 use Rattle.loading.proofs.SameStates.{crew_told}
 use Rattle.loading.proofs.Telling.{unread, of_blame, clean_before}
-use Rattle.loading.proofs.Tests.{passes}
+use Rattle.rows.proofs.Tests.{passes}
 use Rattle.loading.specs.Loading.{IsPlanned, IsSegmentRight, AreRight, IsDamaged, Says}
 use Rattle.loading.specs.Reading.{AreOnce, SeatIndex, SeatsRead, IsHeld, IsSamePlan, AreCrewed, AreUnseated, row_of_held, Saw, Blames, HasRows, IsUnreadable, IsReadTo, HasStranger}
-use Rattle.loading.specs.Rows.{table, crew, InPairing, InPeriod, InSegment, InSeat, seat_number, seat, segment}
+use Rattle.rows.specs.Rows.{table, crew, InPairing, InPeriod, InSegment, InSeat, seat_number, seat, segment}
 use Rattle.loading.specs.declared.fault.LoadFault.{LoadFault}
 use Rattle.loading.specs.declared.fault.TableName.TheVariants as table_name
 

@@ -13,10 +13,10 @@ use Rattle.tables.specs.Schema.{BookTable, IsOfBook}
 use Rattle.tables.specs.declared.table_fault.TableFault.TheVariants as table_fault
 use Rattle.loading.specs.Loading.{IsDamaged, Says, named}
 use Rattle.loading.specs.Reading.{Saw, HasRows, IsUnreadable, Blames}
-use Rattle.loading.specs.Rows.{TableName, table}
+use Rattle.rows.specs.Rows.{TableName, table}
 use Rattle.loading.specs.declared.fault.LoadFault.{LoadFault}
 use Rattle.loading.specs.declared.fault.LoadFault.TheVariants.{NotABook, Version, Damaged, Fault}
-use Rattle.loading.specs.declared.fault.StoreFault.{StoreFault}
+use Rattle.rows.specs.declared.fault.StoreFault.{StoreFault}
 use Rattle.loading.specs.declared.fault.TableName as name
 
 pub nothing_left : (s : State) → LeavesNothing s s

@@ -1,21 +1,10 @@
--- Which fault of the store a fault of a table is, and how faults are printed.
+-- How the refusal to load a book is printed.
 use Rattle.std.specs.Prelude.{ℕ, List, ◌++◌, codes}
-use Rattle.tables.specs.declared.table_fault.TableFault.{TableFault}
-use Rattle.tables.specs.declared.table_fault.TableFault.TheVariants as table
+use Rattle.rows.specs.Faults.{fault_text}
 use Rattle.loading.specs.declared.fault.LoadFault.{LoadFault}
 use Rattle.loading.specs.declared.fault.LoadFault.TheVariants as load
-use Rattle.loading.specs.declared.fault.StoreFault.{StoreFault}
-use Rattle.loading.specs.declared.fault.StoreFault.TheVariants.{Store, Memory}
 use Rattle.loading.specs.declared.fault.TableName.{TableName}
 use Rattle.loading.specs.declared.fault.TableName.TheVariants as name
-
-abbrev pub fault_of : TableFault → StoreFault
-fault_of table.Memory = Memory
-fault_of _ = Store
-
-abbrev pub fault_text : StoreFault → List ℕ
-fault_text Store = codes "90 Store"
-fault_text Memory = codes "91 Memory"
 
 abbrev pub name_text : TableName → List ℕ
 name_text name.Book = codes "book"

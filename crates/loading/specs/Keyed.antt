@@ -6,7 +6,7 @@ use Rattle.sqlite_value.specs.Order.{Row}
 use Rattle.sqlite_rules.specs.Lists.{Has}
 use Rattle.sqlite.specs.Effect.{Database}
 use Rattle.duty.specs.Shape.{is_id}
-use Rattle.codec.specs.Instants.{is_instant}
+use Rattle.kept.specs.Instants.{is_instant}
 use Rattle.roster.specs.State.{State}
 use Rattle.roster.specs.declared.state.Rostered.{Rostered}
 use Rattle.tables.specs.Records.{IsNumber, IsSegmentRow, pairing_row, period_row, segment_row}
@@ -18,7 +18,7 @@ use Rattle.tables.specs.declared.segment.SegmentRecord.{SegmentRecord}
 use Rattle.loading.specs.Loading.{ArePeriods, IsInstantIfAny}
 use Rattle.loading.specs.PlanRows.{Periods, Segments, PeriodRows, SegmentRows, ArePeriodsKeyed, AreSegmentsKeyed, AreUngapped, HasNoGaps, IsTold, period_name, segment_name}
 use Rattle.loading.specs.Reading.{AreOnce, HasStranger, IsFree, Mapped}
-use Rattle.loading.specs.Rows.{HasJust, row_of_pairing}
+use Rattle.rows.specs.Rows.{HasJust, row_of_pairing}
 use Rattle.loading.specs.declared.plan_rows.PeriodKey.{PeriodKey}
 use Rattle.loading.specs.declared.plan_rows.SegmentKey.{SegmentKey}
 

@@ -1,4 +1,3 @@
-pub mod Rows
 pub mod SameRows
 pub mod PlanOrder
 pub mod PlanRows

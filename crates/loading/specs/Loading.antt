@@ -13,10 +13,10 @@ use Rattle.duty.specs.Shape.{is_id, is_plain_text}
 use Rattle.command.specs.Keys.{KeyParts, key_name}
 use Rattle.command.specs.declared.member.Member.{Member}
 use Rattle.command.specs.declared.member.Seat.TheVariants.{Captain, FirstOfficer}
-use Rattle.codec.specs.Instants.{is_instant, period_has_instants, times_have_instants}
-use Rattle.codec.specs.KeptText.{kept_text}
-use Rattle.codec.specs.Laws.{IsCommand}
-use Rattle.codec.specs.ReplyText.{reply_text}
+use Rattle.kept.specs.Instants.{is_instant, period_has_instants, times_have_instants}
+use Rattle.kept.specs.KeptText.{kept_text}
+use Rattle.kept.specs.Laws.{IsCommand}
+use Rattle.kept.specs.ReplyText.{reply_text}
 use Rattle.roster.specs.Pairings.{is_flown, is_fully_crewed}
 use Rattle.roster.specs.Sound.{Crew, IsHolder, IsActual}
 use Rattle.roster.specs.State.{State, exceedance_name}
@@ -33,7 +33,7 @@ use Rattle.loading.specs.declared.fault.LoadFault.{LoadFault}
 use Rattle.loading.specs.declared.fault.LoadFault.TheVariants.{NotABook, Damaged, Version, Fault}
 use Rattle.loading.specs.declared.fault.TableName as name
 use Rattle.loading.specs.declared.fault.TableName.TheVariants as table_name
-use Rattle.loading.specs.Rows.{TableName, book, crew, pairing, period, segment, seat, ground_duty, exceedance, request, table, In, InPeriod, HasJust}
+use Rattle.rows.specs.Rows.{TableName, book, crew, pairing, period, segment, seat, ground_duty, exceedance, request, table, In, InPeriod, HasJust}
 
 -- ---- What the values of a table are
 

@@ -9,12 +9,12 @@ use Rattle.duty.specs.Plans.{ActualTimes}
 use Rattle.duty.specs.declared.fdp.Fdp.{Fdp}
 use Rattle.duty.specs.declared.segment.BlockTimes.{BlockTimes}
 use Rattle.duty.specs.declared.segment.Segment.{Segment}
-use Rattle.codec.specs.Instants.{is_instant, segment_has_instants}
+use Rattle.kept.specs.Instants.{is_instant, segment_has_instants}
 use Rattle.roster.specs.declared.state.Rostered.{Rostered}
 use Rattle.tables.specs.Records.{period_row, segment_row}
 use Rattle.tables.specs.declared.period.PeriodRecord.{PeriodRecord}
 use Rattle.tables.specs.declared.segment.SegmentRecord.{SegmentRecord}
-use Rattle.loading.specs.Rows.{times_flown}
+use Rattle.rows.specs.Rows.{times_flown}
 
 -- the names of the keys: so periods are in the order of pairing and number, and segments of pairing, period and number
 abbrev pub period_name : List ℕ → ℕ → List ℕ
@@ -28,10 +28,6 @@ Periods = fin.FinMap name_cmp PeriodRecord
 
 abbrev pub Segments : Type 0
 Segments = fin.FinMap name_cmp SegmentRecord
-
--- each period has at most twelve segments
-abbrev pub HaveFewSegments : List Fdp → Type 0
-HaveFewSegments periods = (place : ℕ) (fdp : Fdp) → slice_get periods place ≡ Some fdp → length fdp.segments ≤ 12
 
 -- what is numbered from 1, without a gap
 abbrev pub HasNoGap : {V : Type 0} → (ℕ → Option V) → Type 0

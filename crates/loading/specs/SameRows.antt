@@ -3,11 +3,11 @@ use Rattle.std.specs.Prelude.{◌≡◌, ◌↔◌, ℕ, true, List, Some}
 use Rattle.std.specs.FinMap as fin
 use Rattle.sqlite_value.specs.Order.{Row}
 use Rattle.sqlite.specs.Effect.{Database}
-use Rattle.codec.specs.Instants.{order_has_instants}
+use Rattle.kept.specs.Instants.{order_has_instants}
 use Rattle.roster.specs.Sound.{Sound}
 use Rattle.roster.specs.State.{State}
 use Rattle.roster.specs.declared.state.Request.{Request}
-use Rattle.loading.specs.Rows.{Rows, TableName, In}
+use Rattle.rows.specs.Rows.{Rows, TableName, In}
 
 -- the instants of kept commands are of the years 2000 to 2099, as the type of an instant sees to
 abbrev pub HasInstants : State → Type 0

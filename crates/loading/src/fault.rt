@@ -1,16 +1,8 @@
+use rows::StoreFault;
 use std::alloc::{AllocError, AllocFailed};
 use std::fmt;
 use tables::TableFault;
 use values::MemoryFault;
-
-/// Why a call on the tables of a book failed.
-#[derive(Clone, Copy, Debug, PartialEq, Eq)]
-pub enum StoreFault {
-    /// The store refused or failed for another reason than memory, or a commit failed for whatever reason: refusal 90.
-    Store,
-    /// No memory was left before the commit: refusal 91. Nothing is changed.
-    Memory,
-}
 
 /// A table of the book, in the order in which loading looks at them.
 #[derive(Clone, Copy, Debug, PartialEq, Eq)]
@@ -38,58 +30,6 @@ pub enum LoadFault {
     Version,
     /// A fault of the store (90) or want of memory (91).
     Fault(StoreFault),
-}
-
-impl fmt::Display for StoreFault {
-    ghost use Rattle.std.specs.Prelude.{Some};
-    ghost use Rattle.loading.specs.Faults.{fault_text};
-
-    ghost output = { λ fault. Some (fault_text fault) };
-
-    fn fmt<W: fmt::Write>(&self, f: &mut fmt::Formatter<W>) -> fmt::Result {
-        f.write_str(match self {
-            StoreFault::Store => "90 Store",
-            StoreFault::Memory => "91 Memory",
-        })
-    }
-}
-
-impl std::error::Error for StoreFault {}
-
-impl From<TableFault> for StoreFault {
-    ghost use Rattle.std.specs.Prelude.{◌≡◌};
-    ghost use Rattle.loading.specs.Faults.{fault_of};
-
-    ghost from_gives = { λ fault given. given ≡ fault_of fault };
-
-    fn from(fault: TableFault) -> StoreFault {
-        match fault {
-            TableFault::Memory => StoreFault::Memory,
-            TableFault::Store | TableFault::NotARecord => StoreFault::Store,
-        }
-    }
-}
-
-impl From<MemoryFault> for StoreFault {
-    ghost use Rattle.std.specs.Prelude.{◌≡◌};
-    ghost use Rattle.loading.specs.declared.fault.StoreFault.TheVariants.{Memory};
-
-    ghost from_gives = { λ _ fault. fault ≡ Memory };
-
-    fn from(_fault: MemoryFault) -> StoreFault {
-        StoreFault::Memory
-    }
-}
-
-impl From<AllocError> for StoreFault {
-    ghost use Rattle.std.specs.Prelude.{◌≡◌};
-    ghost use Rattle.loading.specs.declared.fault.StoreFault.TheVariants.{Memory};
-
-    ghost from_gives = { λ _ fault. fault ≡ Memory };
-
-    fn from(_error: AllocError) -> StoreFault {
-        StoreFault::Memory
-    }
 }
 
 impl fmt::Display for TableName {
@@ -135,7 +75,7 @@ impl std::error::Error for LoadFault {}
 
 impl From<TableFault> for LoadFault {
     ghost use Rattle.std.specs.Prelude.{◌≡◌};
-    ghost use Rattle.loading.specs.Faults.{fault_of};
+    ghost use Rattle.rows.specs.Faults.{fault_of};
     ghost use Rattle.loading.specs.declared.fault.LoadFault.TheVariants.{Fault};
 
     ghost from_gives = { λ fault given. given ≡ Fault (fault_of fault) };
@@ -148,7 +88,7 @@ impl From<TableFault> for LoadFault {
 impl From<MemoryFault> for LoadFault {
     ghost use Rattle.std.specs.Prelude.{◌≡◌};
     ghost use Rattle.loading.specs.declared.fault.LoadFault.TheVariants.{Fault};
-    ghost use Rattle.loading.specs.declared.fault.StoreFault.TheVariants.{Memory};
+    ghost use Rattle.rows.specs.declared.fault.StoreFault.TheVariants.{Memory};
 
     ghost from_gives = { λ _ fault. fault ≡ Fault Memory };
 
@@ -160,7 +100,7 @@ impl From<MemoryFault> for LoadFault {
 impl From<AllocError> for LoadFault {
     ghost use Rattle.std.specs.Prelude.{◌≡◌};
     ghost use Rattle.loading.specs.declared.fault.LoadFault.TheVariants.{Fault};
-    ghost use Rattle.loading.specs.declared.fault.StoreFault.TheVariants.{Memory};
+    ghost use Rattle.rows.specs.declared.fault.StoreFault.TheVariants.{Memory};
 
     ghost from_gives = { λ _ fault. fault ≡ Fault Memory };
 
@@ -172,7 +112,7 @@ impl From<AllocError> for LoadFault {
 impl<T: Drop> From<AllocFailed<T>> for LoadFault {
     ghost use Rattle.std.specs.Prelude.{◌≡◌};
     ghost use Rattle.loading.specs.declared.fault.LoadFault.TheVariants.{Fault};
-    ghost use Rattle.loading.specs.declared.fault.StoreFault.TheVariants.{Memory};
+    ghost use Rattle.rows.specs.declared.fault.StoreFault.TheVariants.{Memory};
 
     ghost from_gives = { λ _ fault. fault ≡ Fault Memory };
 

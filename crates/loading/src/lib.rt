@@ -1,4 +1,4 @@
-//! What the tables of a book mean, and a roster read from them.
+//! A roster read from the tables of a book.
 #![tactic(auto)]
 
 mod fault;
@@ -16,6 +16,6 @@ mod read_seats;
 mod read_segments;
 mod whole;
 
-pub use fault::{LoadFault, StoreFault, TableName};
+pub use fault::{LoadFault, TableName};
 pub use laws::{database_holds_one_state, rows_say_all};
 pub use whole::read_all;

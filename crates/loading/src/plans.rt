@@ -4,7 +4,7 @@ ghost use Rattle.std.specs.Prelude.{◌≡◌, ◌≤◌, ℕ, map, true, false,
 ghost use Rattle.duty.specs.declared.segment.BlockTimes as declared_times;
 ghost use Rattle.duty.specs.declared.fdp.Fdp as declared_fdp;
 ghost use Rattle.duty.specs.declared.segment.Segment as declared_segment;
-ghost use Rattle.codec.specs.Instants.{is_instant};
+ghost use Rattle.kept.specs.Instants.{is_instant};
 ghost use Rattle.duty.specs.Plans.{ActualTimes};
 ghost use Rattle.roster.specs.declared.state.Rostered as declared_rostered;
 ghost use Rattle.loading.specs.PlanRows.{AreTimes, planned_segment, IsSegment, HasNoGaps, AreUngapped, AreSegments, HasNoSegments, IsActualOf, IsReadPeriod, ArePeriodsRead, HasNoPeriods, IsTold};

@@ -9,11 +9,12 @@ ghost use Rattle.tables.specs.Records.{book_row, IsBookRow};
 ghost use Rattle.tables.specs.declared.book.BookRecord.{BookRecord as RecordOf};
 ghost use Rattle.loading.specs.Loading.{Says};
 ghost use Rattle.loading.specs.Reading.{Blames, BlamesBook, book_of, IsOnly, Saw, HasRows, IsReadTo, IsUnreadable};
-ghost use Rattle.loading.specs.Rows.{book};
+ghost use Rattle.rows.specs.Rows.{book};
 ghost use Rattle.loading.specs.declared.fault.TableName.TheVariants as table_name;
 
-use crate::fault::{LoadFault, StoreFault, TableName};
+use crate::fault::{LoadFault, TableName};
 use roster::Roster;
+use rows::StoreFault;
 use sqlite::{Alter, Connection};
 use std::alloc::Global;
 use tables::TableFault;

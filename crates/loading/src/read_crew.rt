@@ -8,7 +8,7 @@ ghost use Rattle.sqlite_rules.specs.Lists.{Has};
 ghost use Rattle.tables.specs.Records.{crew_row, IsCrewRow};
 ghost use Rattle.loading.specs.Loading.{IsMember, Says};
 ghost use Rattle.loading.specs.Reading.{seat_of, MembersRead, Saw, HasRows, IsUnreadable, Blames, IsReadTo, TellsOf, HasStranger};
-ghost use Rattle.loading.specs.Rows.{row_of_member, crew, book};
+ghost use Rattle.rows.specs.Rows.{row_of_member, crew, book};
 ghost use Rattle.loading.specs.declared.fault.TableName.TheVariants as table_name;
 
 use crate::fault::{LoadFault, TableName};

@@ -9,7 +9,7 @@ ghost use Rattle.limits.specs.declared.section.Section as spec_section;
 ghost use Rattle.tables.specs.Records.{exceedance_row, IsExceedanceRow};
 ghost use Rattle.loading.specs.Loading.{Says};
 ghost use Rattle.loading.specs.Reading.{ExceedancesRead, IsFlown, IsRecorded, row_of_recorded, Saw, HasRows, IsUnreadable, Blames, IsReadTo, TellsOf, HasStranger};
-ghost use Rattle.loading.specs.Rows.{exceedance, ground_duty};
+ghost use Rattle.rows.specs.Rows.{exceedance, ground_duty};
 ghost use Rattle.loading.specs.declared.fault.TableName.TheVariants as table_name;
 
 use crate::fault::{LoadFault, TableName};

@@ -7,7 +7,7 @@ ghost use Rattle.sqlite.specs.State.{HasCleanDisk};
 ghost use Rattle.tables.specs.Records.{ground_row, IsGroundRow};
 ghost use Rattle.loading.specs.Loading.{IsGround, Says};
 ghost use Rattle.loading.specs.Reading.{GroundsRead, Saw, HasRows, IsUnreadable, Blames, IsReadTo, TellsOf, HasStranger};
-ghost use Rattle.loading.specs.Rows.{row_of_ground, ground_duty, seat};
+ghost use Rattle.rows.specs.Rows.{row_of_ground, ground_duty, seat};
 ghost use Rattle.loading.specs.declared.fault.TableName.TheVariants as table_name;
 
 use crate::fault::{LoadFault, TableName};

@@ -9,7 +9,7 @@ ghost use Rattle.loading.specs.Keyed.{AreIds, HasIds, HasUntold, IdsRead, IsId, 
 ghost use Rattle.loading.specs.Loading.{Says};
 ghost use Rattle.loading.specs.PlanRows.{AreUngapped, HasNoGaps};
 ghost use Rattle.loading.specs.Reading.{AreFree, Saw, HasRows, IsUnreadable, Blames, HasStranger, IsReadTo};
-ghost use Rattle.loading.specs.Rows.{crew, pairing, segment};
+ghost use Rattle.rows.specs.Rows.{crew, pairing, segment};
 ghost use Rattle.loading.specs.declared.fault.TableName.TheVariants as table_name;
 
 use crate::fault::{LoadFault, TableName};

@@ -4,13 +4,13 @@ ghost use Rattle.std.specs.Prelude.{◌≡◌, ◌↔◌, length, map, true, IfO
 ghost use Rattle.std.specs.FinMap as fin;
 ghost use Rattle.sqlite.specs.Held.{state};
 ghost use Rattle.sqlite.specs.State.{HasCleanDisk};
-ghost use Rattle.codec.specs.Instants.{is_instant};
+ghost use Rattle.kept.specs.Instants.{is_instant};
 ghost use Rattle.tables.specs.Records.{period_row, IsPeriodRow};
 ghost use Rattle.loading.specs.Keyed.{ArePeriodsWanting, ArePeriodsWhole, AtInstants, Follows, HasIds, HasPeriods, IsKeyedPeriod, IsPeriodTable, PeriodsRead, row_of_keyed_period};
 ghost use Rattle.loading.specs.Loading.{IsInstantIfAny};
 ghost use Rattle.loading.specs.PlanRows.{period_name, AreUngapped};
 ghost use Rattle.loading.specs.Reading.{Saw, HasRows, IsUnreadable, Blames, TellsOf, HasStranger};
-ghost use Rattle.loading.specs.Rows.{period};
+ghost use Rattle.rows.specs.Rows.{period};
 ghost use Rattle.loading.specs.declared.fault.TableName.TheVariants as table_name;
 
 use crate::fault::{LoadFault, TableName};

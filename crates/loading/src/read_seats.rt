@@ -9,7 +9,7 @@ ghost use Rattle.roster.specs.Pairings.{is_flown, is_fully_crewed};
 ghost use Rattle.tables.specs.Records.{seat_row, IsSeatRow};
 ghost use Rattle.loading.specs.Loading.{Says};
 ghost use Rattle.loading.specs.Reading.{AreCrewed, AreFree, AreUnseated, IsHeld, SeatsRead, row_of_held, Saw, HasRows, IsUnreadable, Blames, IsReadTo, TellsOf, HasStranger};
-ghost use Rattle.loading.specs.Rows.{seat, segment};
+ghost use Rattle.rows.specs.Rows.{seat, segment};
 ghost use Rattle.loading.specs.declared.fault.TableName.TheVariants as table_name;
 
 use crate::fault::{LoadFault, TableName};

@@ -8,7 +8,7 @@ ghost use Rattle.tables.specs.Records.{segment_row, IsSegmentRow};
 ghost use Rattle.loading.specs.Keyed.{AreSegmentsWanting, AreSegmentsWhole, Follows, HasPeriods, HasSegmentsOf, IsKeyedSegment, IsSegmentTable, SegmentsRead, row_of_keyed_segment};
 ghost use Rattle.loading.specs.PlanRows.{segment_name, HasNoGaps};
 ghost use Rattle.loading.specs.Reading.{Saw, HasRows, IsUnreadable, Blames, TellsOf, HasStranger};
-ghost use Rattle.loading.specs.Rows.{segment};
+ghost use Rattle.rows.specs.Rows.{segment};
 ghost use Rattle.loading.specs.declared.fault.TableName.TheVariants as table_name;
 
 use crate::fault::{LoadFault, TableName};

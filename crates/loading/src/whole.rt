@@ -6,7 +6,7 @@ ghost use Rattle.sqlite.specs.Held.{state};
 ghost use Rattle.sqlite.specs.State.{HasCleanDisk};
 ghost use Rattle.loading.specs.Loading.{Says};
 ghost use Rattle.loading.specs.Reading.{AreFree, HasNoDuties, IsReadTo, Saw};
-ghost use Rattle.loading.specs.Rows.{ground_duty, request, segment};
+ghost use Rattle.rows.specs.Rows.{ground_duty, request, segment};
 
 use crate::fault::LoadFault;
 use crate::read_book::read_book;

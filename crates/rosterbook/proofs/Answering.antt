@@ -6,14 +6,14 @@ use Rattle.duty.specs.Plans.{Plan}
 use Rattle.command.specs.Keys.{KeyParts}
 use Rattle.command.specs.declared.order.Order.{Order}
 use Rattle.command.specs.declared.refusal.Refusal.TheVariants.{NumberUsed}
-use Rattle.schedule.specs.Schedule.{IsAtFault, IsSchedule}
+use Rattle.codec.specs.Schedule.{IsAtFault, IsSchedule}
 use Rattle.roster.specs.Folds.{answer_of, next}
 use Rattle.roster.specs.State.{State}
 use Rattle.roster.specs.Steps.{step_of}
 use Rattle.codec.specs.RefusalText as json
-use Rattle.codec.specs.Texts.{fault_text}
-use Rattle.codec.specs.declared.fault.CodecFault.{CodecFault}
-use Rattle.codec.specs.declared.fault.CodecFault.TheVariants.{BadCsv}
+use Rattle.kept.specs.Texts.{fault_text}
+use Rattle.kept.specs.declared.fault.CodecFault.{CodecFault}
+use Rattle.kept.specs.declared.fault.CodecFault.TheVariants.{BadCsv}
 use Rattle.book.specs.Kept.{IsAt, IsClean, Kept}
 use Rattle.rosterbook.specs.Asking.{Answered, Answers, AreAdded, AreTold, IsImported, IsImportTold, IsNoSchedule, Request, answer_json, left_by, status_of, told_json}
 use Rattle.rosterbook.specs.Streams.{Held, Reads, refused}

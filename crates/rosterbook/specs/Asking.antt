@@ -9,14 +9,14 @@ use Rattle.command.specs.Texts.{refusal_text}
 use Rattle.command.specs.declared.exceedance.Reply.{Reply}
 use Rattle.command.specs.declared.order.Order.{Order}
 use Rattle.command.specs.declared.refusal.Refusal.{Refusal}
-use Rattle.schedule.specs.Schedule.{IsAtFault, IsSchedule}
+use Rattle.codec.specs.Schedule.{IsAtFault, IsSchedule}
 use Rattle.roster.specs.Folds.{Asked, Fold, Replies, import, next}
 use Rattle.roster.specs.State.{State}
-use Rattle.codec.specs.CommandJson.{read_request}
+use Rattle.codec.specs.Requests.{read_request}
 use Rattle.codec.specs.RefusalText as json
-use Rattle.codec.specs.ReplyText.{reply_text}
-use Rattle.codec.specs.declared.fault.CodecFault.{CodecFault}
-use Rattle.loading.specs.declared.fault.StoreFault.TheVariants.{Store}
+use Rattle.kept.specs.ReplyText.{reply_text}
+use Rattle.kept.specs.declared.fault.CodecFault.{CodecFault}
+use Rattle.rows.specs.declared.fault.StoreFault.TheVariants.{Store}
 use Rattle.book.specs.Kept.{IsAt, IsClean, IsInDoubt, Kept}
 use Rattle.rosterbook.specs.Streams.{Held, IsOfChannel, Prints, Reads, line_end, refused}
 use Rattle.rosterbook.specs.declared.status.Status.{Status}

@@ -3,7 +3,8 @@ use Rattle.std.specs.Prelude.{◌≡◌, ℕ, List, codes}
 use Rattle.time117.specs.declared.minute.TimeFault.TheVariants.{Malformed, NoSuchTime, OutOfRange}
 use Rattle.time117.specs.declared.zone.ZoneFault.{ZoneFault}
 use Rattle.time117.specs.declared.zone.ZoneFault.TheVariants as zone
-use Rattle.loading.specs.Faults as loading
+use Rattle.rows.specs.Faults as rows
+use Rattle.loading.specs.Faults.{load_text}
 use Rattle.rosterbook.specs.declared.fault.LineFault.{LineFault}
 use Rattle.rosterbook.specs.declared.fault.LineFault.TheVariants.{Zone, Time, SegmentCount, BadTimes, Memory}
 use Rattle.rosterbook.specs.declared.stop.Stop.{Stop}
@@ -20,8 +21,8 @@ fault_text Memory = codes "91 Memory"
 
 -- why the program stops before its end
 abbrev pub stop_text : Stop → List ℕ
-stop_text (Load fault) = loading.load_text fault
-stop_text (Book fault) = loading.fault_text fault
+stop_text (Load fault) = load_text fault
+stop_text (Book fault) = rows.fault_text fault
 stop_text Channel = codes "92 Channel"
 
 -- what a zone's fault is on the line

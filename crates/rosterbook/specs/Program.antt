@@ -5,8 +5,8 @@ use Rattle.time117.specs.Local.{is_zone_text}
 use Rattle.rosterbook.specs.Asking.{Answered, IsImportTold, IsTold}
 use Rattle.rosterbook.specs.FaultText.{fault_text}
 pub use Rattle.rosterbook.specs.Streams.{Held, line_end, refused}
-use Rattle.store.specs.Faults.{create_text}
-use Rattle.store.specs.declared.fault.CreateFault.{CreateFault}
+use Rattle.writing.specs.Faults.{create_text}
+use Rattle.writing.specs.declared.fault.CreateFault.{CreateFault}
 use Rattle.rosterbook.specs.Verdict.{Line, line_of}
 use Rattle.console.specs.declared.actions.Action.{Action}
 use Rattle.console.specs.declared.actions.Action.TheVariants.{Duty, Init, Do, Import}

@@ -1,7 +1,7 @@
 -- What the program reads and writes, where it is known.
 use Rattle.std.specs.Prelude.{◌≡◌, ◌⊎◌, ⊤, ℕ, List, [], ◌∷◌, ◌++◌, take, codes, Option, Some, None}
 use Rattle.std.specs.Io.KnownBytes.{Appends}
-use Rattle.loading.specs.declared.fault.StoreFault.TheVariants.{Memory}
+use Rattle.rows.specs.declared.fault.StoreFault.TheVariants.{Memory}
 use Rattle.rosterbook.specs.declared.status.Status.{Status}
 use Rattle.rosterbook.specs.declared.stop.Stop.{Stop}
 use Rattle.rosterbook.specs.declared.stop.Stop.TheVariants.{Book, Channel}

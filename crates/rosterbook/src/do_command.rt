@@ -4,7 +4,7 @@ ghost use Rattle.roster.specs.Folds.{answer_of, next};
 ghost use Rattle.roster.specs.State.{State};
 ghost use Rattle.roster.specs.Steps.{step_of};
 ghost use Rattle.book.specs.Kept.{IsAt, IsClean, result_of};
-ghost use Rattle.codec.specs.CommandJson.{read_request};
+ghost use Rattle.codec.specs.Requests.{read_request};
 ghost use Rattle.rosterbook.specs.Asking as spec;
 
 use crate::lines::{read_input, write_line};

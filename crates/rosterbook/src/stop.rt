@@ -56,7 +56,7 @@ impl From<BookFault> for Stop {
 
 impl From<MemoryFault> for Stop {
     ghost use Rattle.std.specs.Prelude.{◌≡◌};
-    ghost use Rattle.loading.specs.declared.fault.StoreFault.TheVariants.{Memory};
+    ghost use Rattle.rows.specs.declared.fault.StoreFault.TheVariants.{Memory};
     ghost use Rattle.rosterbook.specs.declared.stop.Stop.TheVariants.{Book};
 
     ghost from_gives = { λ _ stop. stop ≡ Book Memory };

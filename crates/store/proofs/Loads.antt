@@ -9,11 +9,11 @@ use Rattle.sqlite.proofs.StateLemmas.{survives_then}
 use Rattle.roster.specs.State as roster
 use Rattle.tables.specs.Calls.{LeavesNothing}
 use Rattle.loading.specs.Loading.{Says}
-use Rattle.store.specs.Kept.{IsBookOf}
-use Rattle.store.specs.Outcomes.{Leaves, HoldsNow, IsOutside, IsOverBook, one}
+use Rattle.writing.specs.Kept.{IsBookOf}
+use Rattle.writing.specs.Outcomes.{Leaves, HoldsNow, IsOutside, IsOverBook, one}
 use Rattle.loading.specs.Reading.{IsReadTo, Saw}
-use Rattle.loading.specs.Rows.{request}
-use Rattle.store.proofs.Ending.{of_trees}
+use Rattle.rows.specs.Rows.{request}
+use Rattle.writing.proofs.Ending.{of_trees}
 use Rattle.store.proofs.ReadBooks.{read_book_of}
 use Rattle.loading.proofs.Telling.{clean_before}
 use Rattle.loading.specs.declared.fault.LoadFault.{LoadFault}

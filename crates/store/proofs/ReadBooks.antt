@@ -3,8 +3,8 @@ use Rattle.sqlite.specs.Effect.{Database, IsDatabase}
 use Rattle.roster.specs.State.{State}
 use Rattle.tables.specs.Rows.{IsStored}
 use Rattle.loading.specs.Reading.{IsReadTo}
-use Rattle.loading.specs.Rows.{table, HasJust, In, book, crew, pairing, period, segment, seat, ground_duty, exceedance, request}
-use Rattle.store.specs.Kept.{IsBookOf}
+use Rattle.rows.specs.Rows.{table, HasJust, In, book, crew, pairing, period, segment, seat, ground_duty, exceedance, request}
+use Rattle.writing.specs.Kept.{IsBookOf}
 
 -- read whole, with the trees that list the schema, it is the book of the state
 pub read_book_of : (s : State) (db : Database) → IsDatabase db → IsReadTo request s db → IsBookOf s db

@@ -1,13 +1,9 @@
 //! The tables of the book as a state of the machine.
 #![tactic(auto)]
 
-mod fault;
-mod making;
-mod records;
 mod store;
-mod transaction;
-mod writing;
 
-pub use fault::CreateFault;
-pub use loading::{LoadFault, StoreFault, TableName, database_holds_one_state, rows_say_all};
+pub use loading::{LoadFault, TableName, database_holds_one_state, rows_say_all};
+pub use rows::StoreFault;
 pub use store::Store;
+pub use writing::CreateFault;

@@ -1,33 +1,28 @@
 ghost use Rattle.std.specs.Prelude.{◌≡◌, IfOk, IfErr, IsErrAnd, OnOk, OnErr, Err};
 ghost use Rattle.sqlite.specs.State.{HasCleanDisk, IsUnchanged};
 ghost use Rattle.sqlite.specs.Held.{state};
-ghost use Rattle.codec.specs.Laws.{IsCommand};
+ghost use Rattle.kept.specs.Laws.{IsCommand};
 ghost use Rattle.roster.specs.Sound.{Sound};
 ghost use Rattle.roster.specs.State.{State, empty};
 ghost use Rattle.roster.specs.Steps.{after};
-ghost use Rattle.store.specs.Kept.{KeepOthers, KeepPlain};
+ghost use Rattle.writing.specs.Kept.{KeepOthers, KeepPlain};
 ghost use Rattle.loading.specs.Loading.{IsRight, Says};
-ghost use Rattle.store.specs.Making.{IsFree};
-ghost use Rattle.store.specs.Next.{IsNext};
-ghost use Rattle.store.specs.Outcomes.{Leaves, LeavesSome, LeavesOnly, AddsOnly, AddsNothing, MayAdd, HoldsNow, IsOutside, IsOverBook, StillShows, one, either};
+ghost use Rattle.writing.specs.Making.{IsFree};
+ghost use Rattle.writing.specs.Next.{IsNext};
+ghost use Rattle.writing.specs.Outcomes.{Leaves, LeavesSome, LeavesOnly, AddsOnly, AddsNothing, MayAdd, HoldsNow, IsOutside, IsOverBook, StillShows, one, either};
 ghost use Rattle.loading.specs.Reading.{IsReadTo, Saw};
-ghost use Rattle.loading.specs.Rows.{request};
+ghost use Rattle.rows.specs.Rows.{request};
 ghost use Rattle.loading.specs.SameRows.{HasInstants};
 
-use crate::fault::CreateFault;
-use crate::making::{is_free, make_tables};
-use crate::records::request_record;
-use crate::transaction::end;
-use crate::writing::write_change;
-use loading::{LoadFault, StoreFault, read_all};
+use loading::{LoadFault, read_all};
 use roster::{Change, Roster};
+use rows::StoreFault;
 use sqlite::{Alter, Connection};
 use std::alloc::Global;
 use std::marker::Model;
-use tables::book::BookRecord;
-use tables::transaction::{begin, rollback};
+use tables::transaction::rollback;
 use time117::Zone;
-use values::Text;
+use writing::{CreateFault, commit_change, make_book};
 
 /// The tables of a book. Contracts see what its connection holds.
 pub struct Store<S: Alter> {
@@ -42,7 +37,7 @@ impl<S: Alter + Drop> Drop for Store<S> {
 
 impl<S: Alter> Model for Store<S> {
     ghost use Rattle.sqlite.specs.Held.{Held, held_code, state};
-    ghost use Rattle.store.specs.Outcomes.{IsOutside, IsOverBook};
+    ghost use Rattle.writing.specs.Outcomes.{IsOutside, IsOverBook};
 
     ghost Value = { Held S };
 
@@ -75,7 +70,7 @@ impl<S: Alter> Store<S> {
         ensures outside { IfErr result (λ e. IsOutside (state S.Store e.1)) }
         ensures some_left { IfErr result (λ e. LeavesSome (state S.Store e.1)) }
     {
-        match make(alloc, &mut conn, zone) {
+        match make_book(alloc, &mut conn, zone) {
             Ok(()) => Ok(Store { conn }),
             Err(fault) => Err((fault, conn)),
         }
@@ -122,7 +117,7 @@ impl<S: Alter> Store<S> {
         ensures some { LeavesSome (state S.Store self.new) }
         ensures honest { HasCleanDisk (state S.Store self.new) → HasCleanDisk (state S.Store self.old) }
     {
-        write(alloc, &mut self.conn, change)
+        commit_change(alloc, &mut self.conn, change)
     }
 
     /// The connection, with nothing changed.
@@ -133,34 +128,6 @@ impl<S: Alter> Store<S> {
         let Store { conn } = self;
         conn
     }
-}
-
-/// Makes the tables, and the row of the book, in one transaction.
-fn make<S: Alter>(alloc: Global, conn: &mut Connection<S>, zone: &Zone) -> Result<(), CreateFault>
-    requires { IsOutside (state S.Store conn.old) }
-    ensures ok { OnOk result (Leaves (state S.Store conn.new) (one (empty zone.now))) }
-    ensures made { OnOk result (HoldsNow (state S.Store conn.new) (empty zone.now)) }
-    ensures some { LeavesSome (state S.Store conn.new) }
-    ensures over { OnOk result (IsOverBook (state S.Store conn.new)) }
-    ensures refused { (¬ IsFree (state S.Store conn.old).now.schema) → result ≡ Err CreateFault.NotEmpty }
-    ensures not_empty { result ≡ Err CreateFault.NotEmpty → (¬ IsFree (state S.Store conn.old).now.schema) × (conn.new ≡ conn.old) }
-    ensures memory { result ≡ Err (CreateFault.Fault StoreFault.Memory) → AddsNothing (state S.Store conn.old) (state S.Store conn.new) }
-    ensures store { OnErr result (MayAdd (state S.Store conn.old) (state S.Store conn.new) (empty zone.now)) }
-    ensures alone { OnOk result (LeavesOnly (state S.Store conn.new) (KeepPlain (state S.Store conn.old).now)) }
-    ensures others { OnErr result (AddsOnly (state S.Store conn.old) (state S.Store conn.new) (KeepPlain (state S.Store conn.old).now)) }
-    ensures outside { IsOutside (state S.Store conn.new) }
-{
-    if !is_free(conn) {
-        return Err(CreateFault::NotEmpty);
-    }
-    let book = BookRecord {
-        one: 1,
-        version: 1,
-        zone: Text::new(String::from_str(alloc, zone.text())?),
-    };
-    begin(conn)?;
-    let done = make_tables(conn, &book);
-    Ok(end(conn, done)?)
 }
 
 /// Reads a book, and leaves no transaction open.
@@ -182,34 +149,4 @@ fn read<S: Alter>(alloc: Global, conn: &mut Connection<S>) -> Result<Roster, Loa
         let _undone = rollback(conn);
     }
     read
-}
-
-/// Writes a change, in one transaction.
-fn write<S: Alter>(
-    alloc: Global,
-    conn: &mut Connection<S>,
-    change: &Change,
-) -> Result<(), StoreFault>
-    requires outside { IsOutside (state S.Store conn.old) }
-    requires over { IsOverBook (state S.Store conn.old) }
-    ensures ok { (s : State) → IsNext s change.now → Leaves (state S.Store conn.old) (one s) → OnOk result (Leaves (state S.Store conn.new) (one (after s change.now))) }
-    ensures made { (s : State) → IsNext s change.now → Leaves (state S.Store conn.old) (one s) → OnOk result (HoldsNow (state S.Store conn.new) (after s change.now)) }
-    ensures memory { (s : State) → Leaves (state S.Store conn.old) (one s) → result ≡ Err StoreFault.Memory → Leaves (state S.Store conn.new) (one s) }
-    ensures store { (s : State) → IsNext s change.now → Leaves (state S.Store conn.old) (one s) → result ≡ Err StoreFault.Store → Leaves (state S.Store conn.new) (either s (after s change.now)) }
-    ensures alone { OnOk result (LeavesOnly (state S.Store conn.new) (KeepOthers (state S.Store conn.old).now)) }
-    ensures others { AddsOnly (state S.Store conn.old) (state S.Store conn.new) (KeepOthers (state S.Store conn.old).now) }
-    ensures command { OnOk result (IsCommand change.now.command) }
-    ensures in_doubt { result ≡ Err StoreFault.Store → IsCommand change.now.command }
-    ensures shown { OnErr result (StillShows (state S.Store conn.old) (state S.Store conn.new)) }
-    ensures some { LeavesSome (state S.Store conn.new) }
-    ensures honest { HasCleanDisk (state S.Store conn.new) → HasCleanDisk (state S.Store conn.old) }
-    ensures outside { IsOutside (state S.Store conn.new) }
-    ensures over { IsOverBook (state S.Store conn.new) }
-{
-    let row = request_record(alloc, change.key, &change.command, &change.reply)?;
-    let _live = conn.schema();
-    let _settled = conn.is_autocommit();
-    begin(conn)?;
-    let done = write_change(alloc, conn, change, &row);
-    end(conn, done)
 }

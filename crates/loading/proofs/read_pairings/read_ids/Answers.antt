@@ -4,7 +4,7 @@ use Rattle.tables.specs.Records.{IsPairingRow, pairing_row}
 use Rattle.tables.specs.declared.pairing.PairingRecord.{PairingRecord}
 use Rattle.loading.specs.Keyed.{AreIds, HasIds, Ids, IdsRead, IsId, row_of_id}
 use Rattle.loading.specs.Reading.{Saw, Blames, HasStranger}
-use Rattle.loading.specs.Rows.{pairing}
+use Rattle.rows.specs.Rows.{pairing}
 use Rattle.loading.specs.declared.fault.LoadFault.{LoadFault}
 use Rattle.loading.specs.declared.fault.TableName.TheVariants as table_name
 use Rattle.loading.proofs.ReadTables.{not_read, is_read}

@@ -5,7 +5,7 @@ use Rattle.tables.specs.declared.period.PeriodRecord.{PeriodRecord}
 use Rattle.loading.specs.Keyed.{ArePeriodsWanting, ArePeriodsWhole, HasPeriods, IsPeriodTable}
 use Rattle.loading.specs.PlanRows.{AreUngapped, Periods}
 use Rattle.loading.specs.Reading.{Saw, Blames}
-use Rattle.loading.specs.Rows.{period}
+use Rattle.rows.specs.Rows.{period}
 use Rattle.loading.specs.declared.fault.LoadFault.{LoadFault}
 use Rattle.loading.specs.declared.fault.TableName.TheVariants as table_name
 use Rattle.loading.proofs.ReadTables.{not_read, is_read, if_read}

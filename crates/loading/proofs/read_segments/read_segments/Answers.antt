@@ -5,7 +5,7 @@ use Rattle.tables.specs.declared.segment.SegmentRecord.{SegmentRecord}
 use Rattle.loading.specs.Keyed.{AreSegmentsWanting, AreSegmentsWhole, HasSegmentsOf, IsSegmentTable}
 use Rattle.loading.specs.PlanRows.{HasNoGaps, Segments}
 use Rattle.loading.specs.Reading.{Saw, Blames}
-use Rattle.loading.specs.Rows.{segment}
+use Rattle.rows.specs.Rows.{segment}
 use Rattle.loading.specs.declared.fault.LoadFault.{LoadFault}
 use Rattle.loading.specs.declared.fault.TableName.TheVariants as table_name
 use Rattle.loading.proofs.ReadTables.{not_read, is_read, if_read}

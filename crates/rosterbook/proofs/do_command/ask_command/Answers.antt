@@ -1,5 +1,5 @@
 use Rattle.std.proofs.Common.{inl, Err, [], ◌∷◌, refl, ap, arith, subst, sym}
-use Rattle.loading.specs.declared.fault.StoreFault.TheVariants.{Memory}
+use Rattle.rows.specs.declared.fault.StoreFault.TheVariants.{Memory}
 use Rattle.roster.specs.Folds.{Asked}
 use Rattle.book.specs.Kept.{result_of}
 use Rattle.rosterbook.specs.Asking.{IsStoppedIn}

@@ -3,9 +3,9 @@ use Rattle.sqlite.specs.Held.{state}
 use Rattle.sqlite.specs.State.{HasCleanDisk}
 use Rattle.roster.specs.Sound.{Sound}
 use Rattle.loading.specs.Loading.{Says}
-use Rattle.store.specs.Outcomes.{HoldsNow, IsOverBook, Leaves, one}
+use Rattle.writing.specs.Outcomes.{HoldsNow, IsOverBook, Leaves, one}
 use Rattle.loading.specs.Reading.{IsReadTo}
-use Rattle.loading.specs.Rows.{request}
+use Rattle.rows.specs.Rows.{request}
 use Rattle.loading.specs.SameRows.{HasInstants}
 use Rattle.store.proofs.Loads.{on_read, loaded_leaves, loaded_now, loaded_over}
 use Rattle.loading.proofs.RightSound.{right_sound, right_instants}

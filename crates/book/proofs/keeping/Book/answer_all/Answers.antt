@@ -3,9 +3,9 @@ use Rattle.std.proofs.lemmas.List.{map-append}
 use Rattle.sqlite.specs.Held.{state}
 use Rattle.roster.specs.Folds.{Fold, Replies, next}
 use Rattle.roster.specs.Honest.{Honest}
-use Rattle.loading.specs.declared.fault.StoreFault.{StoreFault}
-use Rattle.loading.specs.declared.fault.StoreFault.TheVariants.{Store, Memory}
-use Rattle.store.specs.Outcomes.{Leaves}
+use Rattle.rows.specs.declared.fault.StoreFault.{StoreFault}
+use Rattle.rows.specs.declared.fault.StoreFault.TheVariants.{Store, Memory}
+use Rattle.writing.specs.Outcomes.{Leaves}
 use Rattle.book.specs.Kept.{Ends, result_of}
 use Rattle.book.proofs.States.{honest_next, one_of_either, shows_still}
 use Rattle.book.proofs.Runs.{answer_in, fold_more, replies_more, one_honest, either_honest}

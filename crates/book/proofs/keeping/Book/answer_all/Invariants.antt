@@ -5,7 +5,7 @@ use Rattle.roster.specs.Folds.{Fold, Replies}
 use Rattle.roster.specs.Honest.{Honest}
 use Rattle.roster.specs.Sound.{Sound}
 use Rattle.roster.specs.State.{State}
-use Rattle.store.specs.Outcomes.{LeavesSome}
+use Rattle.writing.specs.Outcomes.{LeavesSome}
 use Rattle.book.specs.Kept.{HasTables, IsAt, IsClean, result_of}
 use Rattle.book.proofs.keeping.Book.answer_all.Given as goal
 

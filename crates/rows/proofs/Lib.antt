@@ -1,0 +1,4 @@
+pub mod FewPeriods
+pub mod Lists
+pub mod Tests
+pub mod Values

@@ -1,0 +1,7 @@
+-- How many segments a period has. No public clause names this.
+use Rattle.std.specs.Prelude.{◌≡◌, ◌≤◌, ℕ, List, length, Some, slice_get}
+use Rattle.duty.specs.declared.fdp.Fdp.{Fdp}
+
+-- each period has at most twelve segments
+abbrev pub HaveFewSegments : List Fdp → Type 0
+HaveFewSegments periods = (place : ℕ) (fdp : Fdp) → slice_get periods place ≡ Some fdp → length fdp.segments ≤ 12

@@ -1,0 +1,3 @@
+pub mod Rows
+pub mod Faults
+pub mod Counts

@@ -1,8 +1,0 @@
-use Rattle.store.specs.Writing.{AddsSegmentsOf}
-use Rattle.sqlite.specs.Held.{state}
-use Rattle.store.specs.Calls.{WroteSome}
-use Rattle.store.proofs.writing.add_segments.Given as goal
-
-abbrev pub invariant-loop-place : goal.invariant-loop-place
-invariant-loop-place g l =
-    WroteSome (λ place fdp. AddsSegmentsOf l.id place fdp.segments) l.place l.periods (state g.S.Store l.fn.conn) (state g.S.Store l.conn)

@@ -1,8 +1,0 @@
-use Rattle.store.specs.Writing.{FliesSegment}
-use Rattle.sqlite.specs.Held.{state}
-use Rattle.store.specs.Calls.{WroteSome}
-use Rattle.store.proofs.writing.fly_segments.Given as goal
-
-abbrev pub invariant-loop-at : goal.invariant-loop-at
-invariant-loop-at g l =
-    WroteSome (FliesSegment l.id l.number) l.at l.legs (state g.S.Store l.fn.conn) (state g.S.Store l.conn)

@@ -1,8 +1,0 @@
-use Rattle.store.specs.Writing.{Reseats}
-use Rattle.sqlite.specs.Held.{state}
-use Rattle.store.specs.Calls.{WroteSome}
-use Rattle.store.proofs.writing.reseat.Given as goal
-
-abbrev pub invariant-loop-change : goal.invariant-loop-change
-invariant-loop-change g l =
-    WroteSome (λ _ change. Reseats change) l.change-index l.changes (state g.S.Store l.fn.conn) (state g.S.Store l.conn)

@@ -1,0 +1,17 @@
+pub mod Chaining
+pub mod Committing
+pub mod EmptyBook
+pub mod Ending
+pub mod FewPeriods
+pub mod Retiming
+pub mod Sets
+pub mod Sparing
+pub mod EffectSimple
+pub mod EffectPlans
+pub mod Effects
+pub mod EffectActual
+pub mod EffectPairing
+pub mod EffectSeats
+pub mod Tables
+pub mod Growth
+pub mod Growing

@@ -1,0 +1,197 @@
+-- Tables that aren't of the book keep their rows.
+use Rattle.std.proofs.Common.{◌≡◌, ◌≢◌, refl, sym, ap, subst, ◌∙◌, inl, inr, arith, ℕ, ◌+◌, pos, suc, Bool, List, [], ◌∷◌, Option, None, Some, IsTrue, Result, Ok, Err, IsOk}
+use Rattle.std.specs.List.{AllByRecursion}
+use Rattle.sqlite_rules.specs.Lists.{Has}
+use Rattle.sqlite_schema.specs.declared.schema.Schema.{Schema}
+use Rattle.sqlite_schema.specs.declared.schema.Table.{Table}
+use Rattle.sqlite_trees.specs.Tree.{Trees}
+use Rattle.sqlite_trees.specs.declared.store.Store.{Ghosts}
+use Rattle.sqlite_value.specs.Order.{Row}
+use Rattle.sqlite_value.specs.declared.value.Value.TheVariants.{Int, Text}
+use Rattle.sqlite.specs.Effect.{Database, IsDatabase}
+use Rattle.sqlite.specs.Held.{Held, state}
+use Rattle.sqlite.specs.State.{State, HasCleanDisk, IsLive, Survives}
+use Rattle.duty.specs.Plans.{Plan, ActualTimes}
+use Rattle.roster.specs.declared.state.PeriodId.{PeriodId}
+use Rattle.command.specs.declared.order.Order.{Order}
+use Rattle.command.specs.declared.order.Order.TheVariants.{AddCrew, AddPairing, CancelPairing, Assign, Release, Swap, AddGround, CancelGround, Actual}
+use Rattle.roster.specs.declared.change.Change.{Change}
+use Rattle.roster.specs.declared.change.SeatChange.{SeatChange}
+use Rattle.tables.specs.Calls.{Begun, Committed}
+use Rattle.tables.specs.Records.{with_period_times, with_segment_times}
+use Rattle.tables.specs.Rows.{Changes, Inserts, Deletes, Updates, begins_with, stored}
+use Rattle.tables.specs.Schema.{BookTable, IsTable, book_table, table_found, table_of}
+use Rattle.writing.specs.Calls.{Changed, Each, IsFit, IsReady, Then, Wrote}
+use Rattle.writing.specs.Kept.{IsOther, KeepOthers, KeepPlain}
+use Rattle.writing.specs.Making.{Grows, IsFree, all_tables}
+use Rattle.writing.specs.Outcomes.{LeavesOnly, AddsOnly}
+use Rattle.rows.specs.Rows.{TableName, table, crew, pairing, period, segment, seat, ground_duty, exceedance, request, row_of_member, row_of_pairing, row_of_period, row_of_segment, row_of_seat, row_of_ground, row_of_exceedance, row_of_request, seat_number}
+use Rattle.writing.specs.Writing.{AddsPeriods, AddsSegmentOf, AddsSegmentsOf, AddsSegments, FreesSeat, Seats, Reseats, FliesPeriod, FliesSegment, FliesSegments, Records, RecordsAll, Writes, WritesOrder}
+use Rattle.writing.proofs.Tables.{fit_after}
+
+-- the schema is as it was, and each table that isn't of the book has its rows
+record Spares (old new : Database) : Type 0 where
+  schema : new.schema ≡ old.schema
+  others : (t : Table) → Has old.schema.tables t → IsOther t.name → new.trees t.tree ≡ old.trees t.tree
+
+spares_nothing : (db : Database) → Spares db db
+spares_nothing db = record { schema = refl; others = λ _ _ _. refl }
+
+spares_then : (a b c : Database) → Spares a b → Spares b c → Spares a c
+spares_then a b c one two = record {
+  schema = two.schema ∙ one.schema;
+  others = λ t there other. two.others t (subst (λ (s : Schema). Has s.tables t) (sym one.schema) there) other ∙ one.others t there other;
+}
+
+holds_of : (P : Table → Type 0) (ts : List Table) (t : Table) → AllByRecursion P ts → Has ts t → P t
+holds_of P [] t all none = absurd none
+holds_of P (x ∷ xs) t all (inl same) = subst P (sym same) all.0
+holds_of P (x ∷ xs) t all (inr more) = holds_of P xs t all.1 more
+
+spares_by : (old new : Database) (a : TableName) (Is : Row → Type 0) → Changes (table a) old new Is → Spares old new
+spares_by old new a Is changes = record {
+  schema = changes.schema;
+  others = λ t there other. holds_of _ old.schema.tables t changes.others there (other a);
+}
+
+-- ---- One change after the other
+
+-- a change that does so, and leaves the tables of a book
+abbrev Safe : (Database → Database → Type 0) → Type 0
+Safe Is = (old new : Database) → IsFit old → Is old new → IsFit new × Spares old new
+
+safe_insert : (a : TableName) (row : Row) → Safe (Inserts (table a) row)
+safe_insert a row old new fit is = (fit_after old new fit a _ is, spares_by old new a _ is)
+
+safe_delete : (a : TableName) (test : Row → Bool) → Safe (Deletes (table a) test)
+safe_delete a test old new fit is = (fit_after old new fit a _ (is (fit.1 a)), spares_by old new a _ (is (fit.1 a)))
+
+safe_update : (a : TableName) (test : Row → Bool) (change : Row → Row) → Safe (Updates (table a) test change)
+safe_update a test change old new fit is = (fit_after old new fit a _ (is (fit.1 a)), spares_by old new a _ (is (fit.1 a)))
+
+safe_nothing : Safe (λ old new. new ≡ old)
+safe_nothing old new fit is = (subst IsFit (sym is) fit, subst (Spares old) (sym is) (spares_nothing old))
+
+safe_then : (First Second : Database → Database → Type 0) → Safe First → Safe Second → Safe (Then First Second)
+safe_then First Second one two old new fit is =
+    let first = one old is.0 fit is.1 in
+    let second = two is.0 new first.0 is.2 in
+    (second.0, spares_then old is.0 new first.1 second.1)
+
+safe_each : {V : Type 0} (Is : ℕ → V → Database → Database → Type 0) → ((place : ℕ) (v : V) → Safe (Is place v)) → (place : ℕ) (vs : List V) → Safe (Each Is place vs)
+safe_each Is safe place [] old new fit is = safe_nothing old new fit is
+safe_each Is safe place (v ∷ vs) old new fit is = safe_then (Is place v) (Each Is (suc place) vs) (safe place v) (safe_each Is safe (suc place) vs) old new fit is
+
+safe_seats : (change : SeatChange) (holder : Option (List ℕ)) → Safe (Seats change holder)
+safe_seats change None old new fit is = safe_nothing old new fit is
+safe_seats change (Some who) old new fit is = safe_insert seat (row_of_seat change.pairing change.seat who) old new fit is
+
+-- ---- What the orders write
+
+safe_plan : (plan : Plan) → Safe (Then (Inserts (table pairing) (row_of_pairing plan.id)) (Then (AddsPeriods plan.id plan.periods) (AddsSegments plan.id plan.periods)))
+safe_plan plan =
+    safe_then (Inserts (table pairing) (row_of_pairing plan.id)) (Then (AddsPeriods plan.id plan.periods) (AddsSegments plan.id plan.periods)) (safe_insert pairing (row_of_pairing plan.id))
+    (safe_then (AddsPeriods plan.id plan.periods) (AddsSegments plan.id plan.periods)
+    (safe_each (λ place fdp. Inserts (table period) (row_of_period plan.id place fdp None)) (λ place fdp. safe_insert period (row_of_period plan.id place fdp None)) 0 plan.periods)
+    (safe_each (λ place fdp. AddsSegmentsOf plan.id place fdp.segments)
+    (λ place fdp. safe_each (AddsSegmentOf plan.id place) (λ at s. safe_insert segment (row_of_segment plan.id place at s None)) 0 fdp.segments) 0 plan.periods))
+
+safe_reseats : (changes : List SeatChange) → Safe (Each (λ _ change. Reseats change) 0 changes)
+safe_reseats changes =
+    safe_each (λ _ change. Reseats change)
+    (λ _ change. safe_then (FreesSeat change) (Seats change change.holder) (safe_delete seat (begins_with (Text change.pairing ∷ Int (pos (seat_number change.seat)) ∷ []))) (safe_seats change change.holder)) 0 changes
+
+safe_flight : (change : Change) (id : List ℕ) (a : ActualTimes) → Safe (WritesOrder change (Actual id a))
+safe_flight change id a =
+    let p : PeriodId = record { pairing = id; number = a.period } in
+    safe_then (FliesPeriod id a) (Then (FliesSegments id a.period a.segments) (RecordsAll change.key p change.reply.exceedances))
+    (safe_update period (begins_with (Text id ∷ Int (pos a.period) ∷ [])) (with_period_times a.report a.release))
+    (safe_then (FliesSegments id a.period a.segments) (RecordsAll change.key p change.reply.exceedances)
+    (safe_each (FliesSegment id a.period)
+    (λ at t. safe_update segment (begins_with (Text id ∷ Int (pos a.period) ∷ Int (pos (at + 1)) ∷ [])) (with_segment_times t.block_out t.block_in)) 0 a.segments)
+    (safe_each (λ _ e. Records change.key p e) (λ _ e. safe_insert exceedance (row_of_exceedance change.key e.crew e.section p)) 0 change.reply.exceedances))
+
+safe_order : (change : Change) (order : Order) → Safe (WritesOrder change order)
+safe_order change (AddCrew id m) = safe_insert crew (row_of_member id m)
+safe_order change (AddPairing plan) = safe_plan plan
+safe_order change (CancelPairing id) =
+    safe_then (Deletes (table segment) (begins_with (Text id ∷ []))) (Then (Deletes (table period) (begins_with (Text id ∷ []))) (Deletes (table pairing) (begins_with (Text id ∷ []))))
+    (safe_delete segment (begins_with (Text id ∷ [])))
+    (safe_then (Deletes (table period) (begins_with (Text id ∷ []))) (Deletes (table pairing) (begins_with (Text id ∷ [])))
+    (safe_delete period (begins_with (Text id ∷ []))) (safe_delete pairing (begins_with (Text id ∷ []))))
+safe_order change (Assign id who) = safe_reseats change.seats
+safe_order change (Release id who) = safe_reseats change.seats
+safe_order change (Swap w) = safe_reseats change.seats
+safe_order change (AddGround g) = safe_insert ground_duty (row_of_ground g.id g)
+safe_order change (CancelGround id) = safe_delete ground_duty (begins_with (Text id ∷ []))
+safe_order change (Actual id a) = safe_flight change id a
+
+safe_writes : (change : Change) → Safe (Writes change)
+safe_writes change old new fit is =
+    let first = safe_order change change.command old is.0 fit is.1.0 in
+    let second = safe_insert request (row_of_request change.key (record { command = change.command; reply = change.reply })) is.0 new first.0 is.2 in
+    (second.0, spares_then old is.0 new first.1 second.1)
+
+pub written_keeps : {A E : Type 0} (change : Change) (old begun last : State) (r : Result A E) → Wrote (Writes change) begun last r → IsReady begun → (HasCleanDisk begun → Begun old begun) →
+    IsLive last → HasCleanDisk last → IsOk r → KeepOthers old.now last.now.trees
+written_keeps change old begun last (Err e) wrote ready begins live clean is = absurd (cc)
+written_keeps change old begun last (Ok a) wrote ready begins live clean is =
+    let it = wrote.changed.done clean in
+    let before : HasCleanDisk begun = omega (arith, wrote.changed.left.clean) in
+    let spares = (safe_writes change begun.now last.now (ready.fit before) it.0).1 in
+    let kept : KeepOthers begun.now last.now.trees = record {
+      database = subst (λ (schema : Schema). IsDatabase (record { schema = schema; trees = last.now.trees })) spares.schema (live it.1.is_open).0;
+      others = spares.others;
+    } in
+    subst (λ (db : Database). KeepOthers db last.now.trees) (begins before).0.now_is kept
+
+-- ---- What the making of a book leaves of other tables
+
+free_name : (schema : Schema) → IsFree schema → (t : BookTable) → IsTable t schema → t.name ≢ book_table.name
+free_name schema free t there same =
+    let none : table_found schema t.name ≡ None = ap (table_found schema) same ∙ free.0.0 in
+    let no : None ≡ Some (table_of t there.tree) = sym none ∙ there.found in
+    absurd (cc)
+
+pub made_keeps : {A E : Type 0} (row : Row) (old begun last : State) (r : Result A E) → IsFree old.now.schema → (HasCleanDisk begun → Begun old begun) →
+    Changed (Then (Grows [] all_tables) (Inserts book_table row)) begun last r → IsLive last → HasCleanDisk last → IsOk r → KeepPlain old.now last.now.trees
+made_keeps row old begun last (Err fault) free begins changed live clean is = absurd (cc)
+made_keeps row old begun last (Ok a) free begins changed live clean is =
+    let it = changed.done clean in
+    let same = (begins (omega (arith, changed.left.clean))).0.now_is in
+    record {
+      schema = last.now.schema;
+      database = (live it.1.is_open).0;
+      others = λ t there.
+          let kept = it.0.1.1 t (subst (λ (db : Database). IsTable t db.schema) (sym same) there) in (
+            subst (IsTable t) (sym it.0.2.schema) kept.0,
+            it.0.2.keeps t kept.0 (free_name old.now.schema free t there) ∙ kept.1 ∙ ap (stored t) same,
+          );
+    }
+
+-- ---- What a crash leaves
+
+pub may_add : (old last new : State) (Done : Type 0) (P : Trees → Type 0) → Survives old new (λ trees. Done × (trees ≡ last.now.trees)) → (HasCleanDisk new → Done → P last.now.trees) → AddsOnly old new P
+may_add old last new Done P survives keeps = record {
+  crash = λ clean trees may. elim (survives.crash clean trees may) [
+    | inl was ↦ inl was
+    | inr reached ↦ inr (subst P (sym reached.1) (keeps clean reached.0))
+  ];
+}
+
+pub adds_nothing : (old new : State) (P : Trees → Type 0) → Survives old new (λ _. ⊥) → AddsOnly old new P
+adds_nothing old new P survives = record {
+  crash = λ clean trees may. elim (survives.crash clean trees may) [
+    | inl was ↦ inl was
+    | inr none ↦ absurd none
+  ];
+}
+
+pub leaves_only : {S : Type 0} (g : Ghosts S) (last : State) (new : Held S) (P : Trees → Type 0) → (HasCleanDisk (state g new) → Committed last (state g new)) → (HasCleanDisk (state g new) → P last.now.trees) →
+    ((it : S) (trees : Trees) → IsTrue (g.view it).is_open → g.recovers it trees → trees ≡ (g.view it).committed) → LeavesOnly (state g new) P
+leaves_only g last new P ended keeps law = record {
+  crash = λ clean trees may.
+      let shows = (ended clean).1 in
+      let same : trees ≡ (state g new).committed.trees = law new.store trees shows.is_open may in
+      subst P (sym same) (subst (λ (db : Database). P db.trees) (sym shows.committed_is) (keeps clean));
+}

@@ -1,0 +1,10 @@
+use Rattle.sqlite.specs.Held.{state}
+use Rattle.rows.specs.Rows.{seat}
+use Rattle.writing.proofs.Chaining.{wrote_ok}
+use Rattle.writing.proofs.Tables.{inserts_keep}
+use Rattle.writing.proofs.writing.take_seat.Goals as goal
+
+pub returns : goal.returns
+returns g c =
+    let given = rw c.in_ok-record.ensures at c.in_ok-insert_seat.ensures in
+    wrote_ok (state g.S.Store c.args.conn.now) (state g.S.Store c.insert_seat.new.conn) tt (inserts_keep seat _) c.requires given.ran given.crash

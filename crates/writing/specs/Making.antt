@@ -1,0 +1,36 @@
+-- How the tables of a book are made.
+use Rattle.std.specs.Prelude.{◌≡◌, List, [], ◌∷◌, None}
+use Rattle.std.specs.List.{AllByRecursion}
+use Rattle.sqlite_schema.specs.declared.schema.Schema.{Schema}
+use Rattle.sqlite.specs.Effect.{Database}
+use Rattle.tables.specs.Schema.{BookTable, IsTable, IsUnreferenced, table_found, book_tables, book_table, crew_table, pairing_table, period_table, segment_table, seat_table, ground_table, exceedance_table, request_table}
+use Rattle.tables.specs.Rows.{stored}
+use Rattle.writing.specs.Kept.{KeepsPlain}
+
+-- no table has the name of one of the book, and no foreign key refers to one
+abbrev pub IsFree : Schema → Type 0
+IsFree schema = AllByRecursion (λ t. (table_found schema t.name ≡ None) × IsUnreferenced t schema) book_tables
+
+-- ---- What the functions say to one another of the tables that they make. No public clause names these.
+
+abbrev pub AreUnreferenced : Schema → Type 0
+AreUnreferenced schema = AllByRecursion (λ t. IsUnreferenced t schema) book_tables
+
+-- these tables are there, with no row
+pub record HasEmpty (tables : List BookTable) (db : Database) : Type 0 where
+  pub there : AllByRecursion (λ t. IsTable t db.schema × (stored t db ≡ [])) tables
+  pub unreferenced : AreUnreferenced db.schema
+
+-- the second tables are there where the first were, and others keep their rows
+abbrev pub Grows : List BookTable → List BookTable → Database → Database → Type 0
+Grows first second old new = (HasEmpty first old → HasEmpty second new) × KeepsPlain old new
+
+-- the last made comes first
+abbrev pub first_tables : List BookTable
+first_tables = pairing_table ∷ crew_table ∷ book_table ∷ []
+
+abbrev pub second_tables : List BookTable
+second_tables = seat_table ∷ segment_table ∷ period_table ∷ first_tables
+
+abbrev pub all_tables : List BookTable
+all_tables = request_table ∷ exceedance_table ∷ ground_table ∷ second_tables

@@ -1,0 +1,57 @@
+-- What a crash may leave of the tables.
+use Rattle.std.specs.Prelude.{◌≡◌, ◌⊎◌, false, IsTrue}
+use Rattle.sqlite_trees.specs.Tree.{Trees}
+use Rattle.sqlite.specs.State.{State, HasCleanDisk}
+use Rattle.roster.specs.State as roster
+use Rattle.tables.specs.Schema.{IsBook}
+use Rattle.writing.specs.Kept.{IsBookOf, Holds, AreStored}
+
+-- All of this is said as long as the disk has returned what was written.
+
+abbrev pub one : roster.State → roster.State → Type 0
+one s = λ t. t ≡ s
+
+abbrev pub either : roster.State → roster.State → roster.State → Type 0
+either s t = λ r. (r ≡ s) ⊎ (r ≡ t)
+
+-- a crash leaves the tables of a book in a state of which P holds, and nothing else
+pub record Leaves (now : State) (P : roster.State → Type 0) : Type 0 where
+  pub crash : HasCleanDisk now → (trees : Trees) → now.may_leave trees → (s : roster.State) × P s × Holds trees s
+
+-- and it leaves something
+abbrev pub LeavesSome : State → Type 0
+LeavesSome now = HasCleanDisk now → ∥ ((trees : Trees) × now.may_leave trees) ∥₁
+
+-- a crash leaves nothing that it could not leave before
+pub record AddsNothing (old now : State) : Type 0 where
+  pub honest : HasCleanDisk now → HasCleanDisk old
+  pub crash : HasCleanDisk now → (trees : Trees) → now.may_leave trees → old.may_leave trees
+
+-- a crash leaves what it could leave before, or the tables of a book in this state
+pub record MayAdd (old now : State) (s : roster.State) : Type 0 where
+  pub honest : HasCleanDisk now → HasCleanDisk old
+  pub crash : HasCleanDisk now → (trees : Trees) → now.may_leave trees → old.may_leave trees ⊎ Holds trees s
+
+-- a crash leaves only trees of which P holds
+pub record LeavesOnly (now : State) (P : Trees → Type 0) : Type 0 where
+  pub crash : HasCleanDisk now → (trees : Trees) → now.may_leave trees → P trees
+
+-- or what it could leave before
+pub record AddsOnly (old now : State) (P : Trees → Type 0) : Type 0 where
+  pub crash : HasCleanDisk now → (trees : Trees) → now.may_leave trees → old.may_leave trees ⊎ P trees
+
+-- no transaction is begun
+abbrev pub IsOutside : State → Type 0
+IsOutside s = HasCleanDisk s → s.in_transaction ≡ false
+
+-- while it is open, it has the tables of a book, and each row of them under a number of its own
+abbrev pub IsOverBook : State → Type 0
+IsOverBook s = HasCleanDisk s → IsTrue s.is_open → IsBook s.now.schema × AreStored s.now
+
+-- it is open, and has the tables of a book in this state
+abbrev pub HoldsNow : State → roster.State → Type 0
+HoldsNow now s = HasCleanDisk now → IsTrue now.is_open × IsBookOf s now.now
+
+-- while it is open, it shows the database that it showed before
+abbrev pub StillShows : State → State → Type 0
+StillShows old now = HasCleanDisk now → IsTrue now.is_open → IsTrue old.is_open × (now.now ≡ old.now)

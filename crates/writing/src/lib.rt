@@ -1,0 +1,12 @@
+//! A book made, and an accepted change written, each in one transaction.
+#![tactic(auto)]
+
+mod commits;
+mod fault;
+mod making;
+mod records;
+mod transaction;
+mod writing;
+
+pub use commits::{commit_change, make_book};
+pub use fault::CreateFault;
