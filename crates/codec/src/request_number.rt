@@ -22,7 +22,7 @@ impl Model for RequestNumber {
 }
 
 impl RequestNumber {
-    ghost use Rattle.std.specs.Prelude.{◌≤◌, Some, None, if◌then◌else◌};
+    ghost use Rattle.std.specs.Prelude.{◌≡◌, ◌≤◌, Some, None, if◌then◌else◌};
     ghost use Rattle.duty.specs.Shape.{is_within};
 
     /// The number, where it is from 1 to 9,223,372,036,854,775,807.

@@ -1,7 +1,5 @@
 use Rattle.std.proofs.Common.{◌≡◌, ◌≤◌, ◌∙◌, length, ap, arith, inr, subst, IfOk, Ok, sym}
-use Rattle.std.specs.Str.{IsUtf8}
 use Rattle.serde_json.specs.View.{view}
-use Rattle.codec.specs.Requests.{read_body}
 use Rattle.kept.specs.CommandJson.{read_object}
 use Rattle.codec.proofs.BodyLemmas.{body_of_text, body_of_no_text}
 use Rattle.codec.proofs.requests.body_object.Goals as goal
