@@ -313,6 +313,18 @@ REQUESTS = {
         22 swap P15A C1 P15B C2 -> 12 Limits C2 117.25(e)
         seats -> P1 - - | P15A C1 - | P15B C2 - | P15C C2 -
     """],
+    # C1 holds P15D the night before P15B too.
+    "a_swap_is_refused_for_what_both_members_break": ["""
+        plan P15A 10: 11:00 | 12:00-19:30 | 20:00
+        assign P15A C1
+        plan P15B 12: 11:00 | 12:00-19:30 | 20:00
+        assign P15B C2
+        plan P15C 9: 20:00 | 21:00-+1 03:30 | +1 04:00
+        assign P15C C2
+        plan P15D 11: 20:00 | 21:00-+1 03:30 | +1 04:00
+        assign P15D C1
+        1 swap P15A C1 P15B C2 -> 12 Limits C1 117.25(e) C2 117.25(e)
+    """],
     "a_swap_gives_each_member_the_others_seat": ["""
         plan P1 10: 11:00 | 12:00-19:30 | 20:00
         assign P1 C1

@@ -68,9 +68,9 @@ def build():
 
 
 def rosterbook(*words, given=""):
-    """Runs the program, once it is built, with these words and this standard input."""
-    ran = subprocess.run([PROGRAM, *words], input=given, capture_output=True, encoding="utf-8", errors="replace")
-    return Ran(ran.returncode, ran.stdout, ran.stderr)
+    """Runs the program, once it is built, with these words and this standard input, a text or bytes."""
+    ran = subprocess.run([PROGRAM, *words], input=given if isinstance(given, bytes) else given.encode(), capture_output=True)
+    return Ran(ran.returncode, ran.stdout.decode(errors="replace"), ran.stderr.decode(errors="replace"))
 
 
 # ---- Commands, made of lines.
@@ -218,8 +218,12 @@ class Book:
         folder = tempfile.mkdtemp(dir=self.folder.parent)
         return Book(Path(shutil.copytree(self.folder, folder, dirs_exist_ok=True)), self.next_number)
 
+    def send(self, body):
+        """What the program answers to the body of a request."""
+        return rosterbook("do", self.file, given=body)
+
     def do(self, number, command):
-        return rosterbook("do", self.file, given=compact({"number": number, **command}))
+        return self.send(compact({"number": number, **command}))
 
     def import_schedule(self, number, text):
         return rosterbook("import", self.file, str(number), given=text)
@@ -264,6 +268,10 @@ class Book:
         """The rows of each table."""
         with closing(sqlite3.connect(self.file)) as tables:
             return {name: set(tables.execute(f"SELECT * FROM {name}")) for name in TABLES}
+
+    def requests(self):
+        """The rows of its requests, in order."""
+        return self.rows("SELECT * FROM request ORDER BY number, part")
 
     def seats(self):
         """Each pairing with its captain and its first officer, or a dash for nobody."""

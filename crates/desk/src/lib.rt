@@ -1,9 +1,28 @@
-//! Tests of the roster's values: they are copied and compared, and entries are set.
+//! What no clause of the crates from `values` to `roster` says and no run of the program shows: that values are copied and
+//! compared with ample memory, that each entry of a roster can be set, and how keys are ordered and faults printed.
 #![tactic(auto)]
 
 #[cfg(test)]
-mod copies;
+mod commands;
+#[cfg(test)]
+mod copied;
+#[cfg(test)]
+mod duties;
 #[cfg(test)]
 mod everything;
 #[cfg(test)]
+mod faults;
+#[cfg(test)]
+mod keys;
+#[cfg(test)]
+mod lists;
+#[cfg(test)]
+mod replies;
+#[cfg(test)]
+mod rosters;
+#[cfg(test)]
 mod seen;
+#[cfg(test)]
+mod tables;
+#[cfg(test)]
+mod telling;

@@ -1,6 +1,6 @@
 //! Members, replies and refusals: their copies and their texts.
 
-use crate::copies::is_copied;
+use crate::copied::is_copied;
 use command::{Member, Refusal, Reply, Seat};
 use limits::Section;
 use samples::{Unmade, exceedances, reply, text};

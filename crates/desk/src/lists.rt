@@ -1,6 +1,6 @@
 //! Texts, lists and what may be missing.
 
-use crate::copies::is_copied;
+use crate::copied::is_copied;
 use samples::{Unmade, text};
 use std::alloc::Global;
 use std::cmp::Ordering;

@@ -1,6 +1,6 @@
 //! Copies of duties, of their times in force and of histories.
 
-use crate::copies::is_copied;
+use crate::copied::is_copied;
 use crate::telling::add_line;
 use duty::{Duty, DutyInForce, Fdp, FdpInForce, Ground, History, Span};
 use samples::{Unmade, actual, fdp, ground, pairing};

@@ -1,6 +1,6 @@
 //! Commands of all orders: each is made, and told apart from the others.
 
-use crate::copies::is_copied;
+use crate::copied::is_copied;
 use command::{Command, Order, Seat};
 use duty::Ground;
 use samples::{

@@ -1,0 +1,442 @@
+#!/usr/bin/env python3
+"""Holds what the program says of limits to the regulation's tables, and to a slow count of its rules.
+
+    tests/judgement.py
+
+Tables A and B are asked of `duty`, at the first and the last minute of each row, with one to eight segments, and on both sides of
+what they give. Then members fly, train and are assigned pairings at times without a pattern, and each answer of `do` is compared
+with a count, minute by minute, of docs/RULES.md ("The eight limits"): duties overlap, touch, begin at minute 0 and run for days.
+The times are the same in each run. What differs is told on standard error. The last line is 'N passed, M failed', and the exit
+status 1 where M isn't 0.
+"""
+
+import sys
+import tempfile
+from copy import deepcopy
+from dataclasses import dataclass, field
+from itertools import accumulate, compress
+from operator import sub
+
+from office import SECTIONS, Book, Ran, build, instant, rosterbook, told
+
+DAY = 1_440
+
+# ---- The tables, as 14 CFR Part 117 prints them: the first minute of a row, the first of the next, and hours.
+
+TABLE_A = [("00:00", "05:00", 8), ("05:00", "20:00", 9), ("20:00", "24:00", 8)]
+TABLE_B = [
+    ("00:00", "04:00", [9, 9, 9, 9, 9, 9, 9]),
+    ("04:00", "05:00", [10, 10, 10, 10, 9, 9, 9]),
+    ("05:00", "06:00", [12, 12, 12, 12, 11.5, 11, 10.5]),
+    ("06:00", "07:00", [13, 13, 12, 12, 11.5, 11, 10.5]),
+    ("07:00", "12:00", [14, 14, 13, 13, 12.5, 12, 11.5]),
+    ("12:00", "13:00", [13, 13, 13, 13, 12.5, 12, 11.5]),
+    ("13:00", "17:00", [12, 12, 12, 12, 11.5, 11, 10.5]),
+    ("17:00", "22:00", [12, 12, 11, 11, 10, 9, 9]),
+    ("22:00", "23:00", [11, 11, 10, 10, 9, 9, 9]),
+    ("23:00", "24:00", [10, 10, 10, 9, 9, 9, 9]),
+]  # fmt: skip
+
+
+def minute_of(clock):
+    hours, minutes = clock.split(":")
+    return 60 * int(hours) + int(minutes)
+
+
+def row_of(table, minute):
+    return next(row for first, end, row in table if minute_of(first) <= minute < minute_of(end))
+
+
+def table_a(minute):
+    """The minutes of flight that Table A gives to a report at a minute of the day."""
+    return 60 * row_of(TABLE_A, minute)
+
+
+def table_b(minute, segments):
+    """The minutes of flight duty that Table B gives to a report at a minute of the day, and so many segments."""
+    return int(60 * row_of(TABLE_B, minute)[min(segments, 7) - 1])
+
+
+def boundaries(table):
+    """The first and the last minute of each row."""
+    return [minute for first, end, _ in table for minute in (minute_of(first), minute_of(end) - 1)]
+
+
+def clock(minutes):
+    return f"{minutes // 60}:{minutes % 60:02}"
+
+
+def line_of(start, segments):
+    """What `duty` writes of a period with these segments that reports at a minute of the day."""
+    flight = sum(block_in - block_out for block_out, block_in in segments)
+    period = segments[-1][1] - start
+    given_a, given_b = table_a(start), table_b(start, len(segments))
+    exceeded = ["117.11(a)(1)"] * (flight > given_a) + ["117.13(a)"] * (period > given_b)
+    line = f"report {clock(start).zfill(5)} segments {len(segments)} fdp {clock(period)} of {clock(given_b)}"
+    outcome = f"exceeds {' '.join(exceeded)}" if exceeded else "within"
+    return Ran(1 if exceeded else 0, f"{line} flight {clock(flight)} of {clock(given_a)} {outcome}\n", "")
+
+
+def periods_at_limits():
+    """Periods that take all that a table gives them, and a minute more: their reports and segments."""
+    for start in boundaries(TABLE_B):
+        for count in (1, 2, 3, 4, 5, 6, 7, 8, 12):
+            for more in (0, 1):
+                end = start + table_b(start, count) + more
+                outs = [start + 20 * place for place in range(count - 1)] + [end - 20]
+                yield start, [(block_out, block_out + 20) for block_out in outs]
+    for start in boundaries(TABLE_A):
+        for more in (0, 1):
+            yield start, [(start, start + table_a(start) + more)]
+
+
+def try_tables(desk):
+    for start, segments in periods_at_limits():
+        times = [instant(start), *(instant(time) for segment in segments for time in segment)]
+        desk.expect(f"a period with {times}", rosterbook("duty", "UTC0", *times), line_of(start, segments))
+
+
+# ---- Duties in force, and the slow count.
+
+OFFSET = -300  # the clock's of the zone EST5
+
+
+@dataclass(frozen=True)
+class Period:
+    """A flight duty period in force: the minute of the day of its planned report, and its times."""
+
+    start: int
+    report: int
+    segments: tuple
+    release: int
+
+    @property
+    def last_in(self):
+        return self.segments[-1][1]
+
+
+@dataclass(frozen=True)
+class Training:
+    """A ground duty."""
+
+    begin: int
+    end: int
+
+
+def flight_spans(duty):
+    return duty.segments if isinstance(duty, Period) else ()
+
+
+def period_spans(duty):
+    return ((duty.report, duty.last_in),) if isinstance(duty, Period) else ()
+
+
+def duty_spans(duty):
+    return ((duty.report, duty.release),) if isinstance(duty, Period) else ((duty.begin, duty.end),)
+
+
+def minutes(duties, spans, end):
+    """For each minute before the end 1 where it is in a span of one of the duties, else 0."""
+    found = bytearray(end)
+    for duty in duties:
+        for first, last in spans(duty):
+            found[first:last] = b"\1" * (last - first)
+    return found
+
+
+def is_over(held, new, width, most, step=1):
+    """Whether some window of this width, which begins at a multiple of the step, meets a new minute and holds more than `most`."""
+    if held.count(1) <= most:
+        return False
+    first, end = max(new.find(1) - width, 0) // step * step, new.rfind(1) + width  # of all windows that meet a new minute
+    counts = []
+    for found in (held[first:end], new[first:end]):
+        sums = list(accumulate(bytes(width) + found + bytes(width), initial=0))
+        counts.append(map(sub, sums[width::step], sums[::step]))
+    return max(compress(*counts), default=0) > most
+
+
+def before(found, report, width):
+    """The minutes before a report, of which there may be some before minute 0."""
+    return found[max(report - width, 0) : report].rjust(width, b"\0")
+
+
+def lacks_rest(held, new, new_duties, duties, width, lacks):
+    """Whether the minutes before the report of a period lack the rest: of one that is new, or that has new minutes before it."""
+    return any(
+        lacks(before(held, duty.report, width))
+        for duty in duties
+        if isinstance(duty, Period) and (duty in new_duties or 1 in before(new, duty.report, width))
+    )
+
+
+def broken(new_duties, others):
+    """The sections that new duties of a member break beside the others, in order."""
+    duties = [*others, *new_duties]
+    end = max(last for duty in duties for _, last in duty_spans(duty))
+    flight, period, duty = (minutes(duties, spans, end) for spans in (flight_spans, period_spans, duty_spans))
+    new_flight, new_period, new_duty = (minutes(new_duties, spans, end) for spans in (flight_spans, period_spans, duty_spans))
+    flown = [it for it in new_duties if isinstance(it, Period)]
+    found = (
+        any(sum(last - first for first, last in it.segments) > table_a(it.start) for it in flown),
+        any(it.last_in - it.report > table_b(it.start, len(it.segments)) for it in flown),
+        is_over(flight, new_flight, 672 * 60, 100 * 60),
+        is_over(flight, new_flight, 365 * DAY, 1_000 * 60, DAY),
+        is_over(period, new_period, 168 * 60, 60 * 60),
+        is_over(period, new_period, 672 * 60, 190 * 60),
+        lacks_rest(duty, new_duty, new_duties, duties, 168 * 60, lambda held: bytes(30 * 60) not in held),
+        lacks_rest(duty, new_duty, new_duties, duties, 10 * 60, lambda held: 1 in held),
+    )
+    return [section for section, is_broken in zip(SECTIONS, found) if is_broken]
+
+
+def overlap(new_duties, others):
+    """Whether a minute is a duty minute of both."""
+    end = max(last for duty in [*new_duties, *others] for _, last in duty_spans(duty))
+    one, other = (int.from_bytes(minutes(duties, duty_spans, end), "big") for duties in (new_duties, others))
+    return one & other != 0
+
+
+# ---- Books of members who fly, train and are assigned pairings at times without a pattern.
+
+CAPTAINS, OFFICERS = ("C1", "C2"), ("F1", "F2")
+
+
+@dataclass(frozen=True)
+class Scale:
+    """How large the books are: times are multiples of `grid` minutes, duties begin in the first `horizon` of these units, and nothing
+    in them lasts `longest` units."""
+
+    books: int
+    grid: int
+    horizon: int
+    longest: int
+
+    @property
+    def end(self):
+        """All duties end before this minute, which begins a day."""
+        return ((self.horizon + 6 * self.longest + 6) * self.grid // DAY + 1) * DAY
+
+
+SCALES = (Scale(10, 60, 200, 12), Scale(10, 1, 14_000, 900), Scale(6, 30, 1_900, 100), Scale(4, 720, 1_000, 40))
+STEPS = 20  # of each book
+
+
+@dataclass
+class Draws:
+    """A sequence of numbers without a pattern, the same in each run."""
+
+    state: int = 117
+
+    def below(self, limit):
+        """The next number, from 0 up to, and without, the limit."""
+        self.state = (1_664_525 * self.state + 1_013_904_223) % 2**32
+        return (self.state >> 8) % max(limit, 1)
+
+    def one_of(self, choices):
+        return choices[self.below(len(choices))]
+
+
+@dataclass
+class Model:
+    """What a book holds: the periods of each pairing, in force, its captain and first officer, and each ground duty of a member."""
+
+    pairings: dict = field(default_factory=dict)
+    seats: dict = field(default_factory=dict)
+    trainings: list = field(default_factory=list)
+
+    def others(self, member, pairing=None, place=None):
+        """The member's duties, without a period of a pairing."""
+        periods = [
+            period
+            for name, its in self.pairings.items()
+            if member in self.seats.get(name, ())
+            for number, period in enumerate(its)
+            if (name, number) != (pairing, place)
+        ]
+        return periods + [training for who, training in self.trainings if who == member]
+
+    def refusal(self, member, new_duties):
+        """Why the member can't have these duties too, in words, or None."""
+        others = self.others(member)
+        if overlap(new_duties, others):
+            return "11 Overlap"
+        sections = broken(new_duties, others)
+        return " ".join(["12 Limits", *(f"{member} {section}" for section in sections)]) if sections else None
+
+    def assign(self, pairing, member):
+        refusal = self.refusal(member, self.pairings[pairing])
+        if refusal is None:
+            self.seats[pairing][member in OFFICERS] = member
+        return refusal or "accepted"
+
+    def train(self, member, training):
+        refusal = self.refusal(member, [training])
+        if refusal is None:
+            self.trainings.append((member, training))
+        return refusal or "accepted"
+
+    def fly(self, pairing, place, period):
+        self.pairings[pairing][place] = period
+        words = ["accepted"]
+        for member in self.seats[pairing]:
+            words += [f"{member} {section}" for section in broken([period], self.others(member, pairing, place))]
+        return " ".join(words)
+
+
+def drawn_period(draws, scale, start=None):
+    """A period of one to three segments, one after the other. It is planned at these times, unless a start is given."""
+    report = time = draws.below(scale.horizon)
+    segments = []
+    for _ in range(draws.below(3) + 1):
+        block_out = time + draws.below(scale.longest // 3)
+        time = block_out + draws.below(scale.longest - 1) + 1
+        segments.append((block_out * scale.grid, time * scale.grid))
+    report, release = report * scale.grid, (time + draws.below(3)) * scale.grid
+    return Period((report + OFFSET) % DAY if start is None else start, report, tuple(segments), release)
+
+
+def short_period(report, segments):
+    """A period of segments of a minute each."""
+    times = tuple((report + place, report + place + 1) for place in range(segments))
+    return Period((report + OFFSET) % DAY, report, times, report + segments)
+
+
+def written(period):
+    """The times of a period, as an actual has them."""
+    segments = [{"out": instant(block_out), "in": instant(block_in)} for block_out, block_in in period.segments]
+    return {"report": instant(period.report), "release": instant(period.release), "segments": segments}
+
+
+def schedule(pairings):
+    """Pairings as a schedule in CSV."""
+    records = ["pairing,period,report,release,flight,from,out,to,in"]
+    for name, periods in pairings.items():
+        for number, period in enumerate(periods, 1):
+            for block_out, block_in in period.segments:
+                times = f"{instant(period.report)},{instant(period.release)},RB1,BOS,{instant(block_out)},BOS,{instant(block_in)}"
+                records.append(f"{name},{number},{times}")
+    return "".join(f"{record}\n" for record in records)
+
+
+@dataclass
+class Walk:
+    """A book, what it has to hold, and how often each section was broken."""
+
+    book: Book
+    model: Model
+    tally: dict
+
+    def copy(self):
+        return Walk(self.book.copy(), deepcopy(self.model), self.tally)
+
+    def add(self, pairings):
+        """Adds pairings, which nobody holds."""
+        self.book.import_schedule(self.book.take_number(), schedule(pairings))
+        self.model.pairings |= pairings
+        self.model.seats |= {name: [None, None] for name in pairings}
+
+    def compare(self, command, wanted):
+        """What the command is answered otherwise than it should be, or None."""
+        for section in SECTIONS:
+            self.tally[section] += section in wanted
+        got = told(self.book.do(self.book.take_number(), command))
+        return None if got == wanted else f"{command}\n    wanted: {wanted}\n    told:   {got}"
+
+    def assign(self, pairing, member):
+        wanted = self.model.assign(pairing, member)
+        return self.compare({"do": "assign", "pairing": pairing, "crew": member}, wanted)
+
+    def train(self, member, training):
+        times = {"begin": instant(training.begin), "end": instant(training.end)}
+        ground = f"G{len(self.model.trainings)}"
+        wanted = self.model.train(member, training)
+        return self.compare({"do": "add-ground", "ground": ground, "crew": member, "task": "Simulator", **times}, wanted)
+
+    def fly(self, pairing, place, period):
+        wanted = self.model.fly(pairing, place, period)
+        return self.compare({"do": "actual", "pairing": pairing, "period": place + 1, **written(period)}, wanted)
+
+    def step(self, draws, scale):
+        """One command: most often a period is flown, else a ground duty added or a pairing assigned."""
+        kind = draws.below(10)
+        member = draws.one_of(CAPTAINS + OFFICERS)
+        free = [name for name, crew in self.model.seats.items() if crew[member in OFFICERS] is None]
+        if kind < 2:
+            begin = draws.below(scale.horizon)
+            length = draws.below(scale.longest - 1) + 1
+            return self.train(member, Training(begin * scale.grid, (begin + length) * scale.grid))
+        if kind < 5 and free:
+            return self.assign(draws.one_of(free), member)
+        crewed = [name for name, crew in self.model.seats.items() if None not in crew]
+        pairing = draws.one_of(crewed)
+        place = draws.below(len(self.model.pairings[pairing]))
+        return self.fly(pairing, place, drawn_period(draws, scale, self.model.pairings[pairing][place].start))
+
+
+def crewed_book(room, draws, scale, tally):
+    """A book of eight pairings after the horizon, each with a crew, whose periods are flown before it; and what was wrong."""
+    walk = Walk(Book.made(room, "EST5"), Model(), tally)
+    for member in CAPTAINS:
+        walk.book.settle(f"hire {member} captain: Ada Ray")
+    for member in OFFICERS:
+        walk.book.settle(f"hire {member} first-officer: Bo Lind")
+    far = {f"FAR{place}": [short_period(scale.end + 3 * DAY * place + draws.below(DAY), draws.below(8) + 1)] for place in range(8)}
+    walk.add(far)
+    crews = [(pairing, member) for place, pairing in enumerate(far) for member in (CAPTAINS[place % 2], OFFICERS[place // 2 % 2])]
+    found = [walk.assign(pairing, member) for pairing, member in crews]
+    return walk, next((it for it in found if it), None)
+
+
+def first_difference(walk, draws, scale):
+    """What the first answer that differs from the count is, or None."""
+    near = {f"NEAR{place}": [drawn_period(draws, scale)] for place in range(4)}
+    later = {f"LATER{place}": [short_period(draws.below(scale.horizon) * scale.grid, draws.below(3) + 1)] for place in range(4)}
+    walk.add(near | later)
+    for _ in range(STEPS):
+        difference = walk.step(draws, scale)
+        if difference:
+            return difference
+    return None
+
+
+def try_judgement(desk):
+    draws = Draws()
+    tally = dict.fromkeys(SECTIONS, 0)
+    for scale in SCALES:
+        start, difference = crewed_book(desk.room, draws, scale, tally)
+        desk.expect(f"crews of a book by {scale.grid} minutes", difference, None)
+        for number in range(scale.books):
+            desk.expect(f"book {number} by {scale.grid} minutes", first_difference(start.copy(), draws, scale), None)
+    for section, count in tally.items():
+        desk.expect(f"{section} is broken {count} times, which is", "enough" if count >= 10 else "not enough", "enough")
+
+
+@dataclass
+class Desk:
+    """A folder for books, and how many answers were right."""
+
+    room: str
+    passed: int = 0
+    failed: int = 0
+
+    def expect(self, name, got, wanted):
+        self.passed += got == wanted
+        self.failed += got != wanted
+        if got != wanted:
+            print(f"tests/judgement.py: {name}\nwanted: {wanted}\ngot: {got}", file=sys.stderr)
+
+
+def main():
+    if not build():
+        return 3
+    with tempfile.TemporaryDirectory(prefix="judgement-") as room:
+        desk = Desk(room)
+        for tried in (try_tables, try_judgement):
+            tried(desk)
+    print(f"{desk.passed} passed, {desk.failed} failed")
+    return 1 if desk.failed else 0
+
+
+if __name__ == "__main__":
+    sys.exit(main())
