@@ -4,10 +4,10 @@ ghost use Rattle.std.specs.Prelude.{OnOk};
 ghost use Rattle.sqlite.specs.Held.{state};
 ghost use Rattle.tables.specs.Calls.{HoldsBook};
 
+use crate::contents::sorted;
 use crate::fault::Untold;
 use crate::office::assert_told;
 use crate::requests::word;
-use crate::rows::sorted;
 use sqlite::{Alter, Connection};
 use std::alloc::Global;
 use std::test::Fail;

@@ -7,6 +7,8 @@ mod answers;
 #[cfg(test)]
 mod asking;
 #[cfg(test)]
+mod contents;
+#[cfg(test)]
 mod fault;
 #[cfg(test)]
 mod importing;
@@ -28,7 +30,5 @@ mod refusals;
 mod reopening;
 #[cfg(test)]
 mod requests;
-#[cfg(test)]
-mod rows;
 #[cfg(test)]
 mod stops;

@@ -3,7 +3,7 @@
 use crate::fault::Untold;
 use crate::opening::{Left, create, take_up};
 use crate::requests::{add_requests, word};
-use crate::{asking, keyed, rows};
+use crate::{asking, contents, keyed};
 use book::Book;
 use command::{Command, Key};
 use sqlite::{Alter, Connection};
@@ -64,7 +64,7 @@ fn compared<S: Alter + Drop>(
     conn: &mut Connection<S>,
     noted: &str,
 ) -> Result<String, Untold> {
-    let found = rows::told(alloc, conn)?;
+    let found = contents::told(alloc, conn)?;
     if found.as_str() == noted {
         Ok(String::from_str(alloc, "same\n")?)
     } else {
@@ -80,7 +80,7 @@ fn act<S: Alter + Drop>(
     line: &str,
 ) -> Result<(), Untold> {
     match word(line, 0) {
-        "note" => desk.noted = rows::told(alloc, conn)?,
+        "note" => desk.noted = contents::told(alloc, conn)?,
         "INSERT" | "UPDATE" | "DELETE" => conn.execute_batch(line)?,
         _ => add_requests(alloc, &mut desk.requests, line)?,
     }
@@ -106,7 +106,7 @@ fn looked<S: Alter + Drop>(
 ) -> Result<String, Untold> {
     match word(line, 0) {
         "compare" => compared(alloc, conn, desk.noted.as_str()),
-        "SELECT" => rows::found(alloc, conn, "row", line),
+        "SELECT" => contents::found(alloc, conn, "row", line),
         "find" => keyed::found(alloc, conn, line),
         _ => acted(alloc, conn, desk, line),
     }

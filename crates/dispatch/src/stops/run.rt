@@ -1,8 +1,8 @@
 //! A book in files that is asked requests, and what is found in the files when they are opened again.
 
+use crate::contents::{found, told};
 use crate::fault::Untold;
 use crate::opening::create;
-use crate::rows::{found, told};
 use book::{Answer, Book};
 use command::{Command, Key};
 use sqlite::{Alter, Connection, FileStore, Files, Options};

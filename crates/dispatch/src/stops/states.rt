@@ -1,9 +1,9 @@
 //! Six requests, and the rows of the book after each of them. Times are in minutes since 2000-01-01T00:00Z.
 ghost use Rattle.std.specs.Prelude.{◌≤◌};
 
+use crate::contents::sorted;
 use crate::fault::Untold;
 use crate::requests::add_requests;
-use crate::rows::sorted;
 use command::{Command, Key};
 use std::alloc::Global;
 
