@@ -1,5 +1,5 @@
 //! What no clause of the crates from `values` to `roster` says and no run of the program shows: that values are copied and
-//! compared with ample memory, that each entry of a roster can be set, and how keys are ordered and faults printed.
+//! compared with ample memory, and that each entry of a roster can be set.
 #![tactic(auto)]
 
 #[cfg(test)]
@@ -11,10 +11,6 @@ mod duties;
 #[cfg(test)]
 mod everything;
 #[cfg(test)]
-mod faults;
-#[cfg(test)]
-mod keys;
-#[cfg(test)]
 mod lists;
 #[cfg(test)]
 mod replies;
@@ -22,7 +18,5 @@ mod replies;
 mod rosters;
 #[cfg(test)]
 mod seen;
-#[cfg(test)]
-mod tables;
 #[cfg(test)]
 mod telling;

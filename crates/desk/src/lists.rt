@@ -3,7 +3,6 @@
 use crate::copied::is_copied;
 use samples::{Unmade, text};
 use std::alloc::Global;
-use std::cmp::Ordering;
 use std::test::Fail;
 use values::{Copied, Items, Text};
 
@@ -17,31 +16,6 @@ fn a_copy_of_a_text_is_equal(rt: HostRuntime) -> Result<(), Fail> {
     for of in ["", "BOS", "Zoë Ray"] {
         assert!(rt; is_copied(rt.alloc(), &text(rt.alloc(), of)?));
         assert_eq!(rt; copied(rt.alloc(), of)?.as_str(), of);
-    }
-    Ok(())
-}
-
-/// Whether the texts stand in that order, by each way to compare them.
-fn are_ordered(first: &Text, second: &Text, order: Ordering) -> bool {
-    first.cmp(second) == order
-        && first.partial_cmp(second) == Some(order)
-        && (first == second) == (order == Ordering::Equal)
-}
-
-#[test]
-fn texts_are_ordered_by_their_bytes(rt: HostRuntime) -> Result<(), Fail> {
-    let cases = [
-        ("C1", "C2", Ordering::Less),
-        ("C1", "C10", Ordering::Less),
-        ("C9", "C10", Ordering::Greater),
-        ("-", "A", Ordering::Less),
-        ("", "A", Ordering::Less),
-        ("C1", "C1", Ordering::Equal),
-    ];
-    for (first, second, order) in cases {
-        let a = text(rt.alloc(), first)?;
-        let b = text(rt.alloc(), second)?;
-        assert!(rt; are_ordered(&a, &b, order), "{first} beside {second}");
     }
     Ok(())
 }
