@@ -290,16 +290,16 @@ class Model:
         return " ".join(words)
 
 
-def drawn_period(draws, scale, start=None):
-    """A period of one to three segments, one after the other. It is planned at these times, unless a start is given."""
+def drawn_period(draws, scale, plan=None):
+    """A period of one to three segments, one after the other. It is planned at these times, unless it is a plan that is flown."""
     report = time = draws.below(scale.horizon)
     segments = []
-    for _ in range(draws.below(3) + 1):
+    for _ in plan.segments if plan else range(draws.below(3) + 1):
         block_out = time + draws.below(scale.longest // 3)
         time = block_out + draws.below(scale.longest - 1) + 1
         segments.append((block_out * scale.grid, time * scale.grid))
     report, release = report * scale.grid, (time + draws.below(3)) * scale.grid
-    return Period((report + OFFSET) % DAY if start is None else start, report, tuple(segments), release)
+    return Period(plan.start if plan else (report + OFFSET) % DAY, report, tuple(segments), release)
 
 
 def short_period(report, segments):
@@ -377,7 +377,7 @@ class Walk:
         crewed = [name for name, crew in self.model.seats.items() if None not in crew]
         pairing = draws.one_of(crewed)
         place = draws.below(len(self.model.pairings[pairing]))
-        return self.fly(pairing, place, drawn_period(draws, scale, self.model.pairings[pairing][place].start))
+        return self.fly(pairing, place, drawn_period(draws, scale, self.model.pairings[pairing][place]))
 
 
 def crewed_book(room, draws, scale, tally):
@@ -387,7 +387,7 @@ def crewed_book(room, draws, scale, tally):
         walk.book.settle(f"hire {member} captain: Ada Ray")
     for member in OFFICERS:
         walk.book.settle(f"hire {member} first-officer: Bo Lind")
-    far = {f"FAR{place}": [short_period(scale.end + 3 * DAY * place + draws.below(DAY), draws.below(8) + 1)] for place in range(8)}
+    far = {f"FAR{place}": [short_period(scale.end + 3 * DAY * place + draws.below(DAY), draws.below(3) + 1)] for place in range(8)}
     walk.add(far)
     crews = [(pairing, member) for place, pairing in enumerate(far) for member in (CAPTAINS[place // 6], OFFICERS[place % 2])]
     found = [walk.assign(pairing, member) for pairing, member in crews]
