@@ -14,7 +14,7 @@ import sys
 import tempfile
 from copy import deepcopy
 from dataclasses import dataclass, field
-from itertools import accumulate, compress
+from itertools import accumulate, chain, compress, repeat
 from operator import sub
 
 from office import SECTIONS, Book, Ran, build, instant, rosterbook, told
@@ -144,16 +144,22 @@ def minutes(duties, spans, end):
     return found
 
 
-def is_over(held, new, width, most, step=1):
-    """Whether some window of this width, which begins at a multiple of the step, meets a new minute and holds more than `most`."""
-    if held.count(1) <= most:
+def days(found):
+    """The minutes of each day."""
+    return [found[first : first + DAY] for first in range(0, len(found), DAY)]
+
+
+def is_over(held, new, width, most):
+    """Whether some window of this width, of minutes or of days, meets a new minute and holds more than `most`. Of each minute or day it
+    is told how many minutes it holds, and with 1 or 0 whether it has a new one."""
+    if 1 not in new or sum(held) <= most:
         return False
-    first, end = max(new.find(1) - width, 0) // step * step, new.rfind(1) + width  # of all windows that meet a new minute
-    counts = []
+    first, end = max(new.find(1) - width, 0), new.rfind(1) + 1 + width  # of all windows that meet a new minute
+    sums = []
     for found in (held[first:end], new[first:end]):
-        sums = list(accumulate(bytes(width) + found + bytes(width), initial=0))
-        counts.append(map(sub, sums[width::step], sums[::step]))
-    return max(compress(*counts), default=0) > most
+        before = list(accumulate(chain(repeat(0, width), found, repeat(0, width)), initial=0))
+        sums.append(map(sub, before[width:], before))
+    return max(compress(*sums), default=0) > most
 
 
 def before(found, report, width):
@@ -181,7 +187,7 @@ def broken(new_duties, others):
         any(sum(last - first for first, last in it.segments) > table_a(it.start) for it in flown),
         any(it.last_in - it.report > table_b(it.start, len(it.segments)) for it in flown),
         is_over(flight, new_flight, 672 * 60, 100 * 60),
-        is_over(flight, new_flight, 365 * DAY, 1_000 * 60, DAY),
+        is_over([day.count(1) for day in days(flight)], bytes(1 in day for day in days(new_flight)), 365, 1_000 * 60),
         is_over(period, new_period, 168 * 60, 60 * 60),
         is_over(period, new_period, 672 * 60, 190 * 60),
         lacks_rest(duty, new_duty, new_duties, duties, 168 * 60, lambda held: bytes(30 * 60) not in held),
@@ -204,10 +210,11 @@ CAPTAINS, OFFICERS = ("C1", "C2"), ("F1", "F2")
 
 @dataclass(frozen=True)
 class Scale:
-    """How large the books are: times are multiples of `grid` minutes, duties begin in the first `horizon` of these units, and nothing
-    in them lasts `longest` units."""
+    """How many books there are, how many commands each is asked, and how large they are: times are multiples of `grid` minutes, duties
+    begin in the first `horizon` of these units, and nothing in them lasts `longest` units."""
 
     books: int
+    steps: int
     grid: int
     horizon: int
     longest: int
@@ -218,8 +225,7 @@ class Scale:
         return ((self.horizon + 6 * self.longest + 6) * self.grid // DAY + 1) * DAY
 
 
-SCALES = (Scale(10, 60, 200, 12), Scale(10, 1, 14_000, 900), Scale(6, 30, 1_900, 100), Scale(4, 720, 1_000, 40))
-STEPS = 20  # of each book
+SCALES = (Scale(6, 30, 60, 200, 12), Scale(6, 30, 1, 14_000, 900), Scale(3, 30, 120, 250, 30), Scale(2, 20, 720, 1_000, 40))
 
 
 @dataclass
@@ -284,16 +290,16 @@ class Model:
         return " ".join(words)
 
 
-def drawn_period(draws, scale, start=None):
-    """A period of one to three segments, one after the other. It is planned at these times, unless a start is given."""
+def drawn_period(draws, scale, plan=None):
+    """A period of one to three segments, one after the other. It is planned at these times, unless it is a plan that is flown."""
     report = time = draws.below(scale.horizon)
     segments = []
-    for _ in range(draws.below(3) + 1):
+    for _ in plan.segments if plan else range(draws.below(3) + 1):
         block_out = time + draws.below(scale.longest // 3)
         time = block_out + draws.below(scale.longest - 1) + 1
         segments.append((block_out * scale.grid, time * scale.grid))
     report, release = report * scale.grid, (time + draws.below(3)) * scale.grid
-    return Period((report + OFFSET) % DAY if start is None else start, report, tuple(segments), release)
+    return Period(plan.start if plan else (report + OFFSET) % DAY, report, tuple(segments), release)
 
 
 def short_period(report, segments):
@@ -371,7 +377,7 @@ class Walk:
         crewed = [name for name, crew in self.model.seats.items() if None not in crew]
         pairing = draws.one_of(crewed)
         place = draws.below(len(self.model.pairings[pairing]))
-        return self.fly(pairing, place, drawn_period(draws, scale, self.model.pairings[pairing][place].start))
+        return self.fly(pairing, place, drawn_period(draws, scale, self.model.pairings[pairing][place]))
 
 
 def crewed_book(room, draws, scale, tally):
@@ -381,9 +387,9 @@ def crewed_book(room, draws, scale, tally):
         walk.book.settle(f"hire {member} captain: Ada Ray")
     for member in OFFICERS:
         walk.book.settle(f"hire {member} first-officer: Bo Lind")
-    far = {f"FAR{place}": [short_period(scale.end + 3 * DAY * place + draws.below(DAY), draws.below(8) + 1)] for place in range(8)}
+    far = {f"FAR{place}": [short_period(scale.end + 3 * DAY * place + draws.below(DAY), draws.below(3) + 1)] for place in range(8)}
     walk.add(far)
-    crews = [(pairing, member) for place, pairing in enumerate(far) for member in (CAPTAINS[place % 2], OFFICERS[place // 2 % 2])]
+    crews = [(pairing, member) for place, pairing in enumerate(far) for member in (CAPTAINS[place // 6], OFFICERS[place % 2])]
     found = [walk.assign(pairing, member) for pairing, member in crews]
     return walk, next((it for it in found if it), None)
 
@@ -393,7 +399,7 @@ def first_difference(walk, draws, scale):
     near = {f"NEAR{place}": [drawn_period(draws, scale)] for place in range(4)}
     later = {f"LATER{place}": [short_period(draws.below(scale.horizon) * scale.grid, draws.below(3) + 1)] for place in range(4)}
     walk.add(near | later)
-    for _ in range(STEPS):
+    for _ in range(scale.steps):
         difference = walk.step(draws, scale)
         if difference:
             return difference
