@@ -1,15 +1,16 @@
 #!/usr/bin/env python3
 """Tries wrong bodies, each of which the prover must refuse.
 
-    tests/edits.py [--more] [--jobs N] [CRATE..]
+    tests/edits.py [--more] [--built] [--jobs N] [CRATE..]
 
 An edit is a file crates/CRATE/must-fail/NAME.edit, or with --more crates/CRATE/must-fail-more/NAME.edit. Its lines are `in: FUNCTION`,
 the function that must be refused, as a check prints it below its crate; `file: PATH`, in the crate; and pairs of `old: TEXT`
 and `new: TEXT`, where the old text stands in the file exactly once. With no `in:` the whole crate is checked.
 
 A function is proved over the contracts of those that it calls, so edits of different functions are tried by one check of
-these functions, on a copy of the crate. The libraries below have to be built and newer than their sources, as `rt ci` leaves
-them in a fresh clone; else `rt lib` builds them. The last line is 'N passed, M failed', and the exit status 1 where M isn't 0.
+these functions, on a copy of the crate. `rt lib` first builds each library below that is missing or older than its sources; with
+--built those that are there are taken as they are, as `rt ci` left them: what it has from an earlier run on a machine is older than
+a fresh clone. The last line is 'N passed, M failed', and the exit status 1 where M isn't 0.
 """
 
 import argparse
@@ -227,6 +228,7 @@ def try_crate(kit, crate, folder):
 def main():
     asked = argparse.ArgumentParser(description=__doc__.split("\n")[0])
     asked.add_argument("--more", action="store_true", help="try crates/CRATE/must-fail-more")
+    asked.add_argument("--built", action="store_true", help="take the libraries that are there as they are")
     asked.add_argument("--jobs", type=int, default=len(os.sched_getaffinity(0)), help="how many crates to try at once")
     asked.add_argument("crates", nargs="*", metavar="CRATE")
     asked = asked.parse_args()
@@ -239,7 +241,8 @@ def main():
             sys.exit(f"tests/edits.py: there is no folder crates/{name}/{folder}")
     chosen = [it for it in known.values() if (it.folder / folder).is_dir() and (it.name in asked.crates or not asked.crates)]
     for crate in dict.fromkeys(low for it in chosen for low in it.below()):
-        if not crate.is_built() and subprocess.run([rt, "lib"], cwd=crate.folder).returncode:
+        is_built = crate.library.exists() if asked.built else crate.is_built()
+        if not is_built and subprocess.run([rt, "lib"], cwd=crate.folder).returncode:
             sys.exit(f"tests/edits.py: {crate.name} could not be built")
 
     refused = failed = 0
