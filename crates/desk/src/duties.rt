@@ -1,4 +1,4 @@
-//! Copies of duties, and of histories with their duties' times in force.
+//! Copies of duties, of their times in force and of histories.
 
 use crate::copied::is_copied;
 use crate::telling::add_line;
@@ -85,6 +85,57 @@ fn told(alloc: Global, duty: &DutyInForce) -> Result<String, Unmade> {
             Ok(format!(in alloc; "ground{}", told_span(alloc, span)?.as_str())?)
         }
     }
+}
+
+/// The round trip's times, on the clock of UTC.
+fn flying_in_force(alloc: Global) -> Result<FdpInForce, Unmade> {
+    let utc = Zone::read(alloc, "UTC0")?;
+    Ok(flying(alloc)?.in_force(alloc, &utc)?)
+}
+
+fn told_flying(alloc: Global) -> Result<String, Unmade> {
+    told_fdp(alloc, &flying_in_force(alloc)?)
+}
+
+fn told_copy_of_flying(alloc: Global) -> Result<String, Unmade> {
+    told_fdp(alloc, &flying_in_force(alloc)?.copy(alloc)?)
+}
+
+fn told_copy(alloc: Global, duty: &DutyInForce) -> Result<String, Unmade> {
+    told(alloc, &duty.copy(alloc)?)
+}
+
+fn told_copy_of_flying_duty(alloc: Global) -> Result<String, Unmade> {
+    told_copy(alloc, &DutyInForce::Fdp(flying_in_force(alloc)?))
+}
+
+fn told_copy_of_training(alloc: Global) -> Result<String, Unmade> {
+    let span = Span {
+        from: Minute::from_number(720).ok_or(Unmade)?,
+        to: Minute::from_number(1_200).ok_or(Unmade)?,
+    };
+    told_copy(alloc, &DutyInForce::Ground(span))
+}
+
+fn tell_of_times(alloc: Global, told: &mut String) -> Result<(), Unmade> {
+    add_line(told, told_flying(alloc))?;
+    add_line(told, told_copy_of_flying(alloc))?;
+    add_line(told, told_copy_of_flying_duty(alloc))?;
+    add_line(told, told_copy_of_training(alloc))
+}
+
+#[test]
+fn a_copy_of_a_duty_in_force_is_equal(rt: HostRuntime) -> Result<(), Fail> {
+    let mut told = String::new(rt.alloc());
+    tell_of_times(rt.alloc(), &mut told)?;
+    assert_eq!(rt;
+        told.as_str(),
+        "start 300, 300, 360-450, 500-590, 600\n\
+        start 300, 300, 360-450, 500-590, 600\n\
+        start 300, 300, 360-450, 500-590, 600\n\
+        ground, 720-1200\n"
+    );
+    Ok(())
 }
 
 /// The history of both duties, on the clock of UTC.

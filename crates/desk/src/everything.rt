@@ -1,4 +1,4 @@
-//! A roster of everything, which commands made.
+//! Rosters that commands made: one of a few entries, and one of everything.
 
 ghost use Rattle.roster.specs.Steps.{IsUnderFreeKey};
 
@@ -85,10 +85,16 @@ fn go_on(alloc: Global, roster: &mut Roster) -> Result<(), Unmade> {
     take(alloc, roster, Key::new(113, 0), late)
 }
 
-/// Members, a pairing with both seats held and flown late, one with none, and a ground duty.
-pub fn one_of_everything(alloc: Global) -> Result<Roster, Unmade> {
+/// The captains C1 and C2, the first officer F1, and P1, which nobody holds.
+pub fn p1_unheld(alloc: Global) -> Result<Roster, Unmade> {
     let mut roster = empty(alloc)?;
     begin(alloc, &mut roster)?;
+    Ok(roster)
+}
+
+/// Members, a pairing with both seats held and flown late, one with none, and a ground duty.
+pub fn one_of_everything(alloc: Global) -> Result<Roster, Unmade> {
+    let mut roster = p1_unheld(alloc)?;
     go_on(alloc, &mut roster)?;
     Ok(roster)
 }

@@ -1,6 +1,6 @@
 //! That with ample memory a copy is made, and is equal, and that each entry can be set.
 
-use crate::everything::{command, one_of_everything};
+use crate::everything::{command, one_of_everything, p1_unheld};
 use crate::seen::{or_unmade, seen};
 use command::{Command, Key, Member, Refusal, Seat};
 use duty::{CrewId, Ground, GroundId, PairingId};
@@ -8,9 +8,12 @@ use limits::Section;
 use roster::{
     Change, Entry, ExceedanceId, PeriodId, Request, Roster, Rostered, SeatChange, Verdict,
 };
-use samples::{Unmade, assign, crew_id, june, pairing, pairing_id, reply, swap};
+use samples::{
+    Unmade, assign, crew_id, ground, ground_id, june, pairing, pairing_id, release, reply, swap,
+};
 use std::alloc::Global;
 use std::test::Fail;
+use time117::Minute;
 use values::{Copied, Items, MemoryFault, Named, Table};
 
 /// What two members break in one period.
@@ -106,6 +109,36 @@ fn is_copied<T: Copied + PartialEq + Drop>(alloc: Global, value: Result<T, Unmad
     };
     match value.copy(alloc) {
         Ok(copy) => copy == value,
+        Err(_) => false,
+    }
+}
+
+fn is_equal<T: PartialEq + Drop>(value: Result<T, Unmade>, other: &T) -> bool {
+    match value {
+        Ok(value) => value == *other,
+        Err(_) => false,
+    }
+}
+
+/// Whether both values are made, and are equal.
+fn are_equal<T: PartialEq + Drop>(value: Result<T, Unmade>, other: Result<T, Unmade>) -> bool {
+    match other {
+        Ok(other) => is_equal(value, &other),
+        Err(_) => false,
+    }
+}
+
+fn is_other<T: PartialEq + Drop>(value: Result<T, Unmade>, other: &T) -> bool {
+    match value {
+        Ok(value) => value != *other,
+        Err(_) => false,
+    }
+}
+
+/// Whether both values are made, and differ.
+fn are_others<T: PartialEq + Drop>(value: Result<T, Unmade>, other: Result<T, Unmade>) -> bool {
+    match other {
+        Ok(other) => is_other(value, &other),
         Err(_) => false,
     }
 }
@@ -262,6 +295,43 @@ fn a_roster_is_rebuilt_of_copies_of_its_entries(rt: HostRuntime) -> Result<(), F
     Ok(())
 }
 
+/// G1 at noon of 21 June.
+fn later(alloc: Global) -> Result<Ground, Unmade> {
+    ground(alloc, "G1", june(21), "12:00", "20:00")
+}
+
+fn put_later(alloc: Global, roster: &mut Roster) -> Result<(), Unmade> {
+    or_unmade(roster.put(alloc, Entry::Ground(later(alloc)?)))
+}
+
+fn with_later(alloc: Global) -> Result<Roster, Unmade> {
+    let mut roster = one_of_everything(alloc)?;
+    put_later(alloc, &mut roster)?;
+    Ok(roster)
+}
+
+/// When the only ground duty begins, if it is G1.
+fn begin_of_g1(alloc: Global, grounds: &Table<GroundId, Ground>) -> Result<Minute, Unmade> {
+    let id = ground_id(alloc, "G1")?;
+    match grounds.get(&id) {
+        Some(ground) if grounds.len() == 1 => Ok(ground.begin()),
+        _ => Err(Unmade),
+    }
+}
+
+/// Whether the only ground duty is G1, and begins at noon of 21 June.
+fn begins_later(alloc: Global, roster: &Roster) -> Result<bool, Unmade> {
+    let begin = begin_of_g1(alloc, &roster.grounds)?;
+    Ok(later(alloc)?.begin() == begin)
+}
+
+#[test]
+fn an_entry_takes_the_place_of_the_one_before(rt: HostRuntime) -> Result<(), Fail> {
+    let alloc = rt.alloc();
+    assert!(rt; seen(alloc, with_later(alloc), begins_later)?);
+    Ok(())
+}
+
 /// A pairing by its id.
 fn rostered<'a>(alloc: Global, roster: &'a Roster, id: &str) -> Result<&'a Rostered, Unmade> {
     let id = pairing_id(alloc, id)?;
@@ -280,6 +350,28 @@ fn are_copied_pairings(alloc: Global, roster: &Roster) -> Result<bool, Unmade> {
 fn a_copy_of_a_pairing_in_the_book_is_equal(rt: HostRuntime) -> Result<(), Fail> {
     let alloc = rt.alloc();
     assert!(rt; seen(alloc, one_of_everything(alloc), are_copied_pairings)?);
+    Ok(())
+}
+
+/// Whether the first is flown and the second isn't, and each is like itself only.
+fn are_different(one: &Rostered, other: &Rostered) -> bool {
+    one.is_flown()
+        && !other.is_flown()
+        && one.is_like(one)
+        && other.is_like(other)
+        && !one.is_like(other)
+        && !other.is_like(one)
+}
+
+fn are_different_pairings(alloc: Global, roster: &Roster) -> Result<bool, Unmade> {
+    let flown = rostered(alloc, roster, "P1")?;
+    Ok(are_different(flown, rostered(alloc, roster, "P2")?))
+}
+
+#[test]
+fn pairings_in_the_book_differ(rt: HostRuntime) -> Result<(), Fail> {
+    let alloc = rt.alloc();
+    assert!(rt; seen(alloc, one_of_everything(alloc), are_different_pairings)?);
     Ok(())
 }
 
@@ -354,6 +446,25 @@ fn acceptance(alloc: Global) -> Result<Verdict, Unmade> {
     Ok(Verdict::Accept(assignment(alloc)?, reply))
 }
 
+/// What a command is answered as request 20.
+fn stepped(alloc: Global, roster: &Roster, command: &Command) -> Result<Verdict, Unmade> {
+    or_unmade(roster.step(alloc, Key::new(20, 0), command))
+}
+
+/// Whether the assignment is accepted with its changes.
+fn is_accepted(alloc: Global, roster: &Roster) -> Result<bool, Unmade> {
+    seen(alloc, assigned(alloc), |alloc, command| {
+        Ok(are_equal(stepped(alloc, roster, command), acceptance(alloc)))
+    })
+}
+
+#[test]
+fn a_step_says_which_seats_change(rt: HostRuntime) -> Result<(), Fail> {
+    let alloc = rt.alloc();
+    assert!(rt; seen(alloc, p1_unheld(alloc), is_accepted)?);
+    Ok(())
+}
+
 fn repetition(alloc: Global) -> Result<Verdict, Unmade> {
     Ok(Verdict::Repeat(reply(alloc, BROKEN.as_slice())?))
 }
@@ -380,5 +491,31 @@ fn swapped(alloc: Global) -> Result<Request, Unmade> {
 fn a_copy_of_a_request_is_equal(rt: HostRuntime) -> Result<(), Fail> {
     let alloc = rt.alloc();
     assert!(rt; is_copied(alloc, swapped(alloc)));
+    Ok(())
+}
+
+/// What is kept of the assignment.
+fn kept_assignment(alloc: Global) -> Result<Request, Unmade> {
+    let reply = reply(alloc, &[])?;
+    Ok(Request {
+        command: assigned(alloc)?,
+        reply,
+    })
+}
+
+/// What is kept of the release of C1 from P1.
+fn kept_release(alloc: Global) -> Result<Request, Unmade> {
+    let reply = reply(alloc, &[])?;
+    Ok(Request {
+        command: command(release(alloc, "P1", "C1"))?,
+        reply,
+    })
+}
+
+#[test]
+fn requests_of_other_commands_differ(rt: HostRuntime) -> Result<(), Fail> {
+    let alloc = rt.alloc();
+    assert!(rt; is_copied(alloc, kept_release(alloc)));
+    assert!(rt; are_others(kept_release(alloc), kept_assignment(alloc)));
     Ok(())
 }
