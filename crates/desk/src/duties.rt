@@ -1,171 +1,130 @@
-//! Copies of duties, of their times in force and of histories.
+//! Duties, their times in force, and histories.
 
-use crate::copied::is_copied;
-use crate::telling::add_line;
-use duty::{Duty, DutyInForce, Fdp, FdpInForce, Ground, History, Span};
-use samples::{Unmade, actual, fdp, ground, pairing};
+use crate::requests::asked_all;
+use duty::{Duty, DutyInForce, Fdp, FdpInForce, Ground, History};
+use roster::Roster;
 use std::alloc::Global;
 use std::test::Fail;
-use time117::{Minute, Zone};
 use values::Copied;
 
-/// From BOS to IAD and back, with the report at minute 300.
-const ROUND_TRIP: &str = "05:00 | 06:00-07:30, 08:20-09:50 | 10:00";
-
-fn flying(alloc: Global) -> Result<Fdp, Unmade> {
-    fdp(alloc, Minute::FIRST, ROUND_TRIP)
+/// The first period of each pairing in a roster.
+fn periods(alloc: Global, roster: &Roster) -> Result<Vec<Fdp>, Fail> {
+    let mut periods = Vec::new(alloc);
+    for (_id, rostered) in roster.pairings.iter() {
+        if let Some(period) = rostered.plan.periods().first() {
+            periods.push(period.copy(alloc)?)?;
+        }
+    }
+    Ok(periods)
 }
 
-/// From minute 720 to 1200.
-fn training(alloc: Global) -> Result<Ground, Unmade> {
-    ground(alloc, "G1", Minute::FIRST, "12:00", "20:00")
+/// The ground duties in a roster.
+fn grounds(alloc: Global, roster: &Roster) -> Result<Vec<Ground>, Fail> {
+    let mut grounds = Vec::new(alloc);
+    for (_id, ground) in roster.grounds.iter() {
+        grounds.push(ground.copy(alloc)?)?;
+    }
+    Ok(grounds)
 }
 
-#[test]
-fn a_copy_of_a_plan_is_equal(rt: HostRuntime) -> Result<(), Fail> {
-    let pairing = pairing(rt.alloc(), "P1", Minute::FIRST, ROUND_TRIP)?;
-    assert!(rt; is_copied(rt.alloc(), &flying(rt.alloc())?));
-    assert!(rt; is_copied(rt.alloc(), &pairing));
-    assert!(rt; is_copied(rt.alloc(), &training(rt.alloc())?));
-    Ok(())
+/// The duties of a roster, whoever has them.
+fn duties(alloc: Global, roster: &Roster) -> Result<Vec<Duty>, Fail> {
+    let mut duties = Vec::new(alloc);
+    for period in periods(alloc, roster)? {
+        duties.push(Duty::Fdp(period))?;
+    }
+    for ground in grounds(alloc, roster)? {
+        duties.push(Duty::Ground(ground))?;
+    }
+    Ok(duties)
 }
 
-#[test]
-fn a_copy_of_an_actual_is_equal(rt: HostRuntime) -> Result<(), Fail> {
-    let flown = actual(rt.alloc(), 2, Minute::FIRST, ROUND_TRIP)?;
-    assert!(rt; is_copied(rt.alloc(), &flown));
-    Ok(())
-}
-
-fn is_same(duty: &Duty, other: &Duty) -> bool {
-    match (duty, other) {
-        (Duty::Fdp(fdp), Duty::Fdp(other)) => fdp == other,
-        (Duty::Ground(ground), Duty::Ground(other)) => ground == other,
+/// Whether a copy of a duty is made, and is equal.
+fn is_duty_copied(alloc: Global, duty: &Duty) -> bool {
+    match (duty.copy(alloc), duty) {
+        (Ok(Duty::Fdp(copy)), Duty::Fdp(period)) => copy == *period,
+        (Ok(Duty::Ground(copy)), Duty::Ground(ground)) => copy == *ground,
         _ => false,
     }
 }
 
-/// Whether a copy is made, and is the same.
-fn is_duty_copied(alloc: Global, duty: &Duty) -> bool {
-    match duty.copy(alloc) {
-        Ok(copy) => is_same(&copy, duty),
+#[test]
+fn duties_are_copied(rt: HostRuntime) -> Result<(), Fail> {
+    let roster = asked_all(rt.alloc())?.roster;
+    for duty in &duties(rt.alloc(), &roster)? {
+        assert!(rt; is_duty_copied(rt.alloc(), duty));
+    }
+    Ok(())
+}
+
+fn are_same_times(one: &FdpInForce, other: &FdpInForce) -> bool {
+    one.start() == other.start()
+        && one.report() == other.report()
+        && one.release() == other.release()
+        && one.segments() == other.segments()
+}
+
+fn are_times_copied(alloc: Global, times: &FdpInForce) -> bool {
+    match times.copy(alloc) {
+        Ok(copy) => are_same_times(&copy, times),
         Err(_) => false,
     }
 }
 
-#[test]
-fn a_copy_of_a_duty_is_equal(rt: HostRuntime) -> Result<(), Fail> {
-    let flying = Duty::Fdp(flying(rt.alloc())?);
-    let training = Duty::Ground(training(rt.alloc())?);
-    assert!(rt; is_duty_copied(rt.alloc(), &flying));
-    assert!(rt; is_duty_copied(rt.alloc(), &training));
-    Ok(())
-}
-
-/// The start, the report, each segment and the release.
-fn told_fdp(alloc: Global, fdp: &FdpInForce) -> Result<String, Unmade> {
-    let mut told = format!(in alloc; "start {}, {}", fdp.start(), fdp.report().number())?;
-    for span in fdp.segments() {
-        let segment = told_span(alloc, span)?;
-        told.push_str(segment.as_str())?;
-    }
-    let release = format!(in alloc; ", {}", fdp.release().number())?;
-    told.push_str(release.as_str())?;
-    Ok(told)
-}
-
-fn told_span(alloc: Global, span: &Span) -> Result<String, Unmade> {
-    Ok(format!(in alloc; ", {}-{}", span.from.number(), span.to.number())?)
-}
-
-fn told(alloc: Global, duty: &DutyInForce) -> Result<String, Unmade> {
-    match duty {
-        DutyInForce::Fdp(fdp) => told_fdp(alloc, fdp),
-        DutyInForce::Ground(span) => {
-            Ok(format!(in alloc; "ground{}", told_span(alloc, span)?.as_str())?)
-        }
+fn are_same(one: &DutyInForce, other: &DutyInForce) -> bool {
+    match (one, other) {
+        (DutyInForce::Fdp(one), DutyInForce::Fdp(other)) => are_same_times(one, other),
+        (DutyInForce::Ground(one), DutyInForce::Ground(other)) => one == other,
+        _ => false,
     }
 }
 
-/// The round trip's times, on the clock of UTC.
-fn flying_in_force(alloc: Global) -> Result<FdpInForce, Unmade> {
-    let utc = Zone::read(alloc, "UTC0")?;
-    Ok(flying(alloc)?.in_force(alloc, &utc)?)
-}
-
-fn told_flying(alloc: Global) -> Result<String, Unmade> {
-    told_fdp(alloc, &flying_in_force(alloc)?)
-}
-
-fn told_copy_of_flying(alloc: Global) -> Result<String, Unmade> {
-    told_fdp(alloc, &flying_in_force(alloc)?.copy(alloc)?)
-}
-
-fn told_copy(alloc: Global, duty: &DutyInForce) -> Result<String, Unmade> {
-    told(alloc, &duty.copy(alloc)?)
-}
-
-fn told_copy_of_flying_duty(alloc: Global) -> Result<String, Unmade> {
-    told_copy(alloc, &DutyInForce::Fdp(flying_in_force(alloc)?))
-}
-
-fn told_copy_of_training(alloc: Global) -> Result<String, Unmade> {
-    let span = Span {
-        from: Minute::from_number(720).ok_or(Unmade)?,
-        to: Minute::from_number(1_200).ok_or(Unmade)?,
+/// Whether a copy of a duty in force is made, and of the times of a flight duty period, and each is equal.
+fn is_copied(alloc: Global, duty: &DutyInForce) -> bool {
+    let is_whole = match duty {
+        DutyInForce::Fdp(times) => are_times_copied(alloc, times),
+        DutyInForce::Ground(_) => true,
     };
-    told_copy(alloc, &DutyInForce::Ground(span))
+    match duty.copy(alloc) {
+        Ok(copy) => is_whole && are_same(&copy, duty),
+        Err(_) => false,
+    }
 }
 
-fn tell_of_times(alloc: Global, told: &mut String) -> Result<(), Unmade> {
-    add_line(told, told_flying(alloc))?;
-    add_line(told, told_copy_of_flying(alloc))?;
-    add_line(told, told_copy_of_flying_duty(alloc))?;
-    add_line(told, told_copy_of_training(alloc))
-}
-
-#[test]
-fn a_copy_of_a_duty_in_force_is_equal(rt: HostRuntime) -> Result<(), Fail> {
-    let mut told = String::new(rt.alloc());
-    tell_of_times(rt.alloc(), &mut told)?;
-    assert_eq!(rt;
-        told.as_str(),
-        "start 300, 300, 360-450, 500-590, 600\n\
-        start 300, 300, 360-450, 500-590, 600\n\
-        start 300, 300, 360-450, 500-590, 600\n\
-        ground, 720-1200\n"
-    );
-    Ok(())
-}
-
-/// The history of both duties, on the clock of UTC.
-fn both(alloc: Global) -> Result<History, Unmade> {
-    let utc = Zone::read(alloc, "UTC0")?;
+/// The history of the duties.
+fn history(alloc: Global, roster: &Roster) -> Result<History, Fail> {
     let mut history = History::empty(alloc);
-    history.insert(alloc, Duty::Fdp(flying(alloc)?), &utc)?;
-    history.insert(alloc, Duty::Ground(training(alloc)?), &utc)?;
+    for duty in duties(alloc, roster)? {
+        history.insert(alloc, duty, &roster.zone)?;
+    }
     Ok(history)
 }
 
-/// Each duty's times on a line.
-fn told_all(alloc: Global, history: &History) -> Result<String, Unmade> {
-    let mut all = String::new(alloc);
+#[test]
+fn duties_in_force_are_copied(rt: HostRuntime) -> Result<(), Fail> {
+    let roster = asked_all(rt.alloc())?.roster;
+    let history = history(rt.alloc(), &roster)?;
     for duty in history.duties() {
-        add_line(&mut all, told(alloc, duty))?;
+        assert!(rt; is_copied(rt.alloc(), duty));
     }
-    Ok(all)
+    Ok(())
 }
 
-fn told_copy_of_both(alloc: Global) -> Result<String, Unmade> {
-    let history = both(alloc)?;
-    told_all(alloc, &history.copy(alloc)?)
+/// Whether two histories have the same duties in the same order.
+fn have_same_duties(one: &History, other: &History) -> bool {
+    one.duties().len() == other.duties().len()
+        && one
+            .duties()
+            .iter()
+            .zip(other.duties())
+            .all(|(one, other)| are_same(one, other))
 }
-
-const BOTH: &str = "start 300, 300, 360-450, 500-590, 600\nground, 720-1200\n";
 
 #[test]
-fn a_copy_of_a_history_has_its_duties(rt: HostRuntime) -> Result<(), Fail> {
-    assert_eq!(rt; told_all(rt.alloc(), &both(rt.alloc())?)?.as_str(), BOTH);
-    assert_eq!(rt; told_copy_of_both(rt.alloc())?.as_str(), BOTH);
+fn histories_are_copied(rt: HostRuntime) -> Result<(), Fail> {
+    let roster = asked_all(rt.alloc())?.roster;
+    let history = history(rt.alloc(), &roster)?;
+    assert_eq!(rt; history.duties().len(), 5);
+    assert!(rt; have_same_duties(&history.copy(rt.alloc())?, &history));
     Ok(())
 }

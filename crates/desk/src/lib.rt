@@ -1,22 +1,14 @@
-//! What no clause of the crates from `values` to `roster` says and no run of the program shows: that values are copied and
-//! compared with ample memory, and that each entry of a roster can be set.
+//! What no clause of the crates from `values` to `roster` says and no run of the program shows: that with ample memory a copy
+//! is made of a value of each type, which is equal to the value and to no other one.
 #![tactic(auto)]
 
-#[cfg(test)]
-mod commands;
 #[cfg(test)]
 mod copied;
 #[cfg(test)]
 mod duties;
 #[cfg(test)]
-mod everything;
-#[cfg(test)]
-mod lists;
-#[cfg(test)]
-mod replies;
+mod requests;
 #[cfg(test)]
 mod rosters;
 #[cfg(test)]
-mod seen;
-#[cfg(test)]
-mod telling;
+mod texts;

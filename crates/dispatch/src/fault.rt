@@ -1,5 +1,4 @@
-use duty::DutyFault;
-use samples::Unmade;
+use kept::CodecFault;
 use sqlite::Error;
 use std::alloc::{AllocError, AllocFailed};
 use std::fmt;
@@ -32,14 +31,8 @@ impl fmt::Display for Untold {
 
 impl std::error::Error for Untold {}
 
-impl From<Unmade> for Untold {
-    fn from(_unmade: Unmade) -> Untold {
-        Untold::Unmade
-    }
-}
-
-impl From<DutyFault> for Untold {
-    fn from(_fault: DutyFault) -> Untold {
+impl From<CodecFault> for Untold {
+    fn from(_fault: CodecFault) -> Untold {
         Untold::Unmade
     }
 }

@@ -2,17 +2,35 @@
 
 use crate::answers::{add_line, told};
 use crate::fault::Untold;
+use crate::requests::command;
 use book::{Book, Import};
+use command::{Command, Order};
 use duty::Pairing;
-use samples::{june, pairing};
 use sqlite::Alter;
 use std::alloc::Global;
+use values::Copied;
+
+const PLANS: [&str; 3] = [
+    "plan P10 20: 06:30 | 07:30-10:30 | 11:00",
+    "plan P20 21: 06:30 | 07:30-10:30 | 11:00",
+    "plan P30 22: 06:30 | 07:30-10:30 | 11:00",
+];
+
+/// The pairing that a command adds.
+fn pairing(alloc: Global, adding: &Command) -> Result<Pairing, Untold> {
+    match adding.order() {
+        Order::AddPairing(pairing) => Ok(pairing.copy(alloc)?),
+        _ => Err(Untold::Unmade),
+    }
+}
 
 fn pairings(alloc: Global) -> Result<Vec<Pairing>, Untold> {
     let mut pairings = Vec::new(alloc);
-    for (id, day) in [("P10", 20), ("P20", 21), ("P30", 22)] {
-        let written = "06:30 | 07:30-10:30 | 11:00";
-        pairings.push(pairing(alloc, id, june(day), written)?)?;
+    for plan in PLANS {
+        let adding = command(alloc, plan)?;
+        let pairing = pairing(alloc, &adding);
+        drop(adding);
+        pairings.push(pairing?)?;
     }
     Ok(pairings)
 }

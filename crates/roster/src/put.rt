@@ -9,7 +9,7 @@ use std::alloc::Global;
 use values::{Copied, MemoryFault};
 
 /// One thing that a roster knows.
-#[derive(Drop)]
+#[derive(PartialEq, Eq, Drop)]
 pub enum Entry {
     /// A member, under an id.
     Member(CrewId, Member),

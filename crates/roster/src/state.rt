@@ -11,7 +11,7 @@ use time117::Zone;
 use values::{Copied, Items, MemoryFault, Named, Table};
 
 /// A pairing in the book: its plan, the actual of each period in turn where there is one, and who holds its seats.
-#[derive(Drop)]
+#[derive(PartialEq, Eq, Drop)]
 pub struct Rostered {
     pub plan: Pairing,
     pub actuals: Items<Option<Actual>>,
