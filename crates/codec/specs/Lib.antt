@@ -1,3 +1,4 @@
+pub mod Bounds
 pub mod Grouping
 pub mod Places
 pub mod Records

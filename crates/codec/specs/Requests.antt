@@ -5,6 +5,7 @@ use Rattle.serde_json.specs.Data.{Data}
 use Rattle.serde_json.specs.Find.{as_number, as_u64}
 use Rattle.duty.specs.Shape.{is_within}
 use Rattle.command.specs.declared.order.Order.{Order}
+use Rattle.codec.specs.Bounds.{most_bytes}
 use Rattle.kept.specs.CommandJson.{and_then, field_of, read_object, read_order}
 use Rattle.kept.specs.Parts.{with_part}
 use Rattle.kept.specs.declared.fault.CodecFault.{CodecFault}
@@ -21,7 +22,7 @@ read_number d =
 
 -- the object of a request's body, which is UTF-8 of at most 1,048,576 bytes
 abbrev pub read_body : List ℕ → Result Data CodecFault
-read_body body = if nat_le (length body) 1_048_576 && is_utf8 body then read_object body else Err (BadJson Body)
+read_body body = if nat_le (length body) most_bytes && is_utf8 body then read_object body else Err (BadJson Body)
 
 -- the command of a request's body, under its number, which is looked at first
 abbrev pub read_request : List ℕ → Result (ℕ × Order) CodecFault

@@ -8,6 +8,7 @@ use Rattle.duty.specs.Pairings.{pairing_fault}
 use Rattle.duty.specs.Plans.{Plan}
 use Rattle.duty.specs.Words.{each_next}
 use Rattle.duty.specs.declared.fdp.Fdp.{Fdp}
+use Rattle.codec.specs.Bounds.{most_bytes}
 use Rattle.codec.specs.Places.{first_misplaced}
 use Rattle.codec.specs.Records.{is_header, read_record, first_unread}
 use Rattle.codec.specs.declared.scheduled.ScheduledSegment.{ScheduledSegment}
@@ -49,7 +50,7 @@ HasRecords text records = AreRecords default_config StartRecord (strip_bom text)
 
 -- a text of at most 1,048,576 bytes, with at most one byte order mark at its start
 abbrev pub IsText : List ℕ → Type 0
-IsText text = (length text ≤ 1_048_576) × (strip_bom (strip_bom text) ≡ strip_bom text)
+IsText text = (length text ≤ most_bytes) × (strip_bom (strip_bom text) ≡ strip_bom text)
 
 -- a text that is the header and then these segments, a record each
 abbrev pub Holds : List ℕ → List ScheduledSegment → Type 0
@@ -70,8 +71,8 @@ IsSchedule text plans =
 -- the text as a whole (record 0), a second byte order mark (record 1), or the first record that isn't read
 abbrev pub IsUnread : List ℕ → ℕ → Type 0
 IsUnread text n =
-    ((1_048_576 < length text) × (n ≡ 0))
-    ⊎ ((length text ≤ 1_048_576) × (strip_bom (strip_bom text) ≢ strip_bom text) × (n ≡ 1))
+    ((most_bytes < length text) × (n ≡ 0))
+    ⊎ ((length text ≤ most_bytes) × (strip_bom (strip_bom text) ≢ strip_bom text) × (n ≡ 1))
     ⊎ (IsText text × (records : List (List (List ℕ))) × HasRecords text records × (first_unread records ≡ Some n))
 
 -- the first record of the first of these that is no pairing

@@ -13,6 +13,9 @@ mod scheduled;
 mod schedules;
 mod unread;
 
+/// The most bytes of a request's body, and of a schedule.
+pub const MOST_BYTES: usize = 1_048_576;
+
 pub use kept::{CodecFault, JsonField, canonical, read_canonical, read_reply, reply_to_json};
 pub use refusal_text::{fault_to_json, refusal_to_json};
 pub use request_number::RequestNumber;

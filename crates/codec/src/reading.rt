@@ -7,6 +7,7 @@ ghost use Rattle.codec.specs.Records as spec;
 ghost use Rattle.codec.specs.Schedule.{IsAtFault, IsSchedule, IsText, IsUnread};
 ghost use Rattle.codec.specs.declared.fault.ScheduleFault.TheVariants.{Memory, Record};
 
+use crate::MOST_BYTES;
 use crate::fault::ScheduleFault;
 use crate::fields::{is_header, read_record};
 use crate::grouping::{grouped, made};
@@ -15,9 +16,6 @@ use csv::{ByteRecord, ReaderBuilder};
 use duty::Pairing;
 use std::alloc::Global;
 use values::MemoryFault;
-
-/// The most bytes of a schedule.
-const MOST_BYTES: usize = 1_048_576;
 
 /// The text without a byte order mark at its start.
 #[tactic(auto, using(crate::proofs::Marks::strip_marked, crate::proofs::Marks::strip_short, crate::proofs::Marks::strip_unmarked))]

@@ -4,14 +4,12 @@ ghost use Rattle.serde_json.specs.View.{view};
 ghost use Rattle.codec.specs.Requests.{read_body, read_request};
 ghost use Rattle.kept.specs.declared.fault.CodecFault.TheVariants.{Memory};
 
+use crate::MOST_BYTES;
 use crate::request_number::RequestNumber;
 use command::Command;
 use kept::{CodecFault, JsonField, command_of, json_field, object};
 use serde_json::Value;
 use std::alloc::Global;
-
-/// The most bytes that the body of a request has.
-const MAX_BODY: usize = 1_048_576;
 
 /// The command of a request's body, under its number from 1 to 9,223,372,036,854,775,807. Members are read as of a text that
 /// the book keeps. A fault is the first of: a body of over 1,048,576 bytes, one that isn't UTF-8 or no object of JSON;
@@ -33,7 +31,7 @@ fn body_object(alloc: Global, body: &[u8]) -> Result<Value, CodecFault>
     ensures object { IfOk result (λ object. read_body body.now ≡ Ok (view object)) }
     ensures refused { IfErr result (λ fault. (fault ≡ Memory) ⊎ (read_body body.now ≡ Err fault)) }
 {
-    if body.len() > MAX_BODY {
+    if body.len() > MOST_BYTES {
         return Err(CodecFault::BadJson(JsonField::Body));
     }
     match str::from_utf8(body) {

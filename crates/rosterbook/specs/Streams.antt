@@ -1,6 +1,7 @@
 -- What the program reads and writes, where it is known.
-use Rattle.std.specs.Prelude.{◌≡◌, ◌⊎◌, ⊤, ℕ, List, [], ◌∷◌, ◌++◌, take, codes, Option, Some, None}
+use Rattle.std.specs.Prelude.{◌≡◌, ◌⊎◌, ⊤, ℕ, List, [], ◌∷◌, ◌++◌, ◌+◌, take, codes, Option, Some, None}
 use Rattle.std.specs.Io.KnownBytes.{Appends}
+use Rattle.codec.specs.Bounds.{most_bytes}
 use Rattle.rows.specs.declared.fault.StoreFault.TheVariants.{Memory}
 use Rattle.rosterbook.specs.declared.status.Status.{Status}
 use Rattle.rosterbook.specs.declared.stop.Stop.{Stop}
@@ -13,7 +14,7 @@ Held = Option (List ℕ)
 -- what is read of the bytes that a reader has: at most one more than a request or a schedule may have
 abbrev pub Reads : Held → List ℕ → Type 0
 Reads None input = ⊤
-Reads (Some bytes) input = input ≡ take 1_048_577 bytes
+Reads (Some bytes) input = input ≡ take (most_bytes + 1) bytes
 
 abbrev pub line_end : List ℕ
 line_end = 10 ∷ []

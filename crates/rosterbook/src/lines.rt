@@ -3,13 +3,14 @@ ghost use Rattle.std.specs.Prelude.{◌++◌, IfOk, IfSome, OnOk};
 ghost use Rattle.std.specs.Io.KnownBytes.{Appends};
 ghost use Rattle.rosterbook.specs.Streams as spec;
 
+use codec::MOST_BYTES;
 use std::alloc::Global;
 use std::fmt::Display;
 use std::io;
 use std::io::{Read, Write};
 
 /// One byte more than a request's body or a schedule may have.
-const MOST: u64 = 1_048_577;
+const MOST: u64 = MOST_BYTES as u64 + 1;
 
 /// What a reader gives, and no more than is needed to find it too long.
 pub(crate) fn read_input<R: Read>(alloc: Global, reader: &mut R) -> io::Result<Vec<u8>>
