@@ -115,8 +115,9 @@ helps() {
     help_of '' duty init 'do' import FILE ZONE NUMBER REPORT TIME "$zone" "$report"
     help_of duty duty ZONE REPORT TIME "$zone" "$report" 'UTC instant' Example:
     help_of init init FILE ZONE "$zone" UTC 'new or empty' Example:
-    help_of 'do' 'do' FILE 'JSON on standard input' '"number":1' 'Exit status'
-    help_of import import FILE NUMBER 'CSV on standard input' 'from 1 to 9223372036854775807' 'Exit status'
+    help_of 'do' 'do' FILE 'JSON on standard input' '"number":1' add-crew actual '90 Store' 'Exit status'
+    help_of import import FILE NUMBER 'CSV on standard input' 'from 1 to 9223372036854775807' '  pairing,period,report,release,flight,from,out,to,in' \
+        'record 1' '90 Store' 'Exit status'
 }
 
 failing_outputs() {

@@ -47,7 +47,11 @@ Example:
   echo '{\"number\":1,\"do\":\"add-crew\",\"crew\":\"C1\",\"seat\":\"captain\",
     \"name\":\"Ada Ray\"}' | rosterbook do roster.db
 
+Commands: add-crew, add-pairing, cancel-pairing, assign, release, swap,
+add-ground, cancel-ground, actual.
+
 The same command under the same number is answered as it was and acts once.
+One program at a time has a book: the others are refused with 90 Store.
 
 Exit status: 0 accepted, 1 refused, 2 a mistake in the command line, 3 there is
 no book in the file, or the file, memory, the input or the output fails";
@@ -56,8 +60,13 @@ const IMPORT_EXAMPLE: &str = "\
 Example:
   rosterbook import roster.db 500 < schedule.csv
 
+The schedule has a record a segment, after this header, which is record 1 where
+a refusal names the record at fault:
+  pairing,period,report,release,flight,from,out,to,in
+
 The pairings are the parts 1, 2, .. of the request NUMBER. An import that was
 stopped is handed in again, whole and under its number: each part acts once.
+One program at a time has a book: the others are refused with 90 Store.
 
 Exit status: 0 all accepted, 1 the schedule or a part is refused, 2 a mistake
 in the command line, 3 there is no book in the file, or the file, memory, the
