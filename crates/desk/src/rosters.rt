@@ -7,7 +7,7 @@ use std::alloc::Global;
 use std::test::Fail;
 use values::{Copied, Named, Table};
 
-/// A mark for each verdict that accepts (`+`) or repeats (`=`), and each refusal's line.
+/// A mark for each verdict that accepts (`+`) or repeats (`=`), and each refusal's number.
 fn told(alloc: Global, verdicts: &[Verdict]) -> Result<String, Fail> {
     let mut told = String::new(alloc);
     for verdict in verdicts {
@@ -15,8 +15,8 @@ fn told(alloc: Global, verdicts: &[Verdict]) -> Result<String, Fail> {
             Verdict::Accept(_, _) => told.push_str("+")?,
             Verdict::Repeat(_) => told.push_str("=")?,
             Verdict::Refuse(refusal) => {
-                let line = format!(in alloc; "\n{refusal}")?;
-                told.push_str(line.as_str())?;
+                let number = format!(in alloc; " {}", refusal.number())?;
+                told.push_str(number.as_str())?;
             }
         }
     }
@@ -25,28 +25,12 @@ fn told(alloc: Global, verdicts: &[Verdict]) -> Result<String, Fail> {
 
 #[test]
 fn verdicts_are_copied(rt: HostRuntime) -> Result<(), Fail> {
-    let played = asked_all(rt.alloc())?;
+    let verdicts = asked_all(rt.alloc())?.verdicts;
     assert_eq!(rt;
-        told(rt.alloc(), &played.verdicts)?.as_str(),
-        "+++++++++++++++++++++==\n\
-        1 NumberUsed\n\
-        2 NoSuchCrew\n\
-        3 CrewExists\n\
-        4 NoSuchPairing\n\
-        5 PairingExists\n\
-        6 SeatTaken\n\
-        7 WrongSeat\n\
-        8 NotAssigned\n\
-        9 PairingCrewed\n\
-        10 Flown\n\
-        11 Overlap\n\
-        12 Limits\n\
-        13 NoSuchDuty\n\
-        14 GroundExists\n\
-        15 NoSuchGround\n\
-        19 SegmentCount 1"
+        told(rt.alloc(), &verdicts)?.as_str(),
+        "+++++++++++++++++++++== 1 2 3 4 5 6 7 8 9 10 11 12 13 14 15 19"
     );
-    assert!(rt; all_are_copied(rt.alloc(), &played.verdicts));
+    assert!(rt; all_are_copied(rt.alloc(), &verdicts));
     Ok(())
 }
 
