@@ -54,15 +54,21 @@ fn period(alloc: Global, day: &str, written: &str) -> Result<String, Untold> {
     let report = instant(alloc, day, parts.next().unwrap_or(""))?;
     let segments = segments(alloc, day, parts.next().unwrap_or(""))?;
     let release = instant(alloc, day, parts.next().unwrap_or(""))?;
-    Ok(format!(in alloc; "\"report\":\"{report}\",\"segments\":[{segments}],\"release\":\"{release}\"")?)
+    Ok(format!(in alloc;
+        "\"report\":\"{report}\",\"segments\":[{segments}],\"release\":\"{release}\""
+    )?)
 }
 
 fn member(alloc: Global, id: &str, seat: &str, name: &str) -> Result<String, Untold> {
-    Ok(format!(in alloc; "{{\"do\":\"add-crew\",\"crew\":\"{id}\",\"seat\":\"{seat}\",\"name\":\"{name}\"}}")?)
+    Ok(format!(in alloc;
+        "{{\"do\":\"add-crew\",\"crew\":\"{id}\",\"seat\":\"{seat}\",\"name\":\"{name}\"}}"
+    )?)
 }
 
 fn plan(alloc: Global, id: &str, period: String) -> Result<String, Untold> {
-    Ok(format!(in alloc; "{{\"do\":\"add-pairing\",\"pairing\":\"{id}\",\"periods\":[{{{period}}}]}}")?)
+    Ok(format!(in alloc;
+        "{{\"do\":\"add-pairing\",\"pairing\":\"{id}\",\"periods\":[{{{period}}}]}}"
+    )?)
 }
 
 fn fly(alloc: Global, id: &str, period: String) -> Result<String, Untold> {

@@ -5,7 +5,7 @@ use crate::fault::Untold;
 use crate::opening::create;
 use book::{Answer, Book};
 use command::{Command, Key};
-use sqlite::{Alter, Connection, FileStore, Files, Options};
+use sqlite::{Alter, Connection, Files, Options};
 use sqlite_disk::Disk;
 use std::alloc::Global;
 
@@ -28,36 +28,34 @@ fn accepted<S: Alter>(alloc: Global, book: &mut Book<S>, list: &[(Key, Command)]
     count
 }
 
-/// Makes a book, and asks it the requests.
-fn ask_all<S: Alter + Drop>(
-    alloc: Global,
-    conn: Connection<S>,
-    list: &[(Key, Command)],
-) -> (Reached, Connection<S>) {
-    match create(alloc, conn) {
-        Ok(mut book) => {
-            let count = accepted(alloc, &mut book, list);
-            (Reached::Accepted(count), book.into_connection())
-        }
-        Err((_told, conn)) => (Reached::NoBook, conn),
-    }
+/// What is done with a database in files while they are open.
+trait Act: Drop {
+    type Told;
+
+    fn act<S: Alter + Drop>(
+        self,
+        alloc: Global,
+        conn: Connection<S>,
+    ) -> (Self::Told, Connection<S>);
 }
 
-/// Makes a book in files and asks it the requests, as far as the files take the calls.
-pub fn play<D: Disk + Drop>(
-    alloc: Global,
-    files: Files<D>,
-    list: &[(Key, Command)],
-) -> (Reached, Files<D>) {
-    if !files.may_be_used() {
-        return (Reached::NoBook, files);
-    }
-    match Connection::open_files(alloc, files, Options::new(7)) {
-        Ok(conn) => {
-            let (reached, conn) = ask_all::<FileStore<D>>(alloc, conn, list);
-            (reached, conn.into_store().close())
+/// Makes a book, and asks it the requests.
+#[derive(Drop)]
+struct Asking<'a> {
+    list: &'a [(Key, Command)],
+}
+
+impl<'a> Act for Asking<'a> {
+    type Told = Reached;
+
+    fn act<S: Alter + Drop>(self, alloc: Global, conn: Connection<S>) -> (Reached, Connection<S>) {
+        match create(alloc, conn) {
+            Ok(mut book) => {
+                let count = accepted(alloc, &mut book, self.list);
+                (Reached::Accepted(count), book.into_connection())
+            }
+            Err((_told, conn)) => (Reached::NoBook, conn),
         }
-        Err((_error, left)) => (Reached::NoBook, left.into_files()),
     }
 }
 
@@ -71,20 +69,55 @@ fn rows<S: Alter>(alloc: Global, conn: &mut Connection<S>) -> Result<String, Unt
     }
 }
 
+/// Finds the rows.
+#[derive(Drop)]
+struct AllRows;
+
+impl Act for AllRows {
+    type Told = Result<String, Untold>;
+
+    fn act<S: Alter + Drop>(
+        self,
+        alloc: Global,
+        mut conn: Connection<S>,
+    ) -> (Result<String, Untold>, Connection<S>) {
+        let rows = rows(alloc, &mut conn);
+        (rows, conn)
+    }
+}
+
+/// Opens files, does this with the database in them, and closes them. Nothing is told where they don't open.
+fn opened<D: Disk + Drop, A: Act>(
+    alloc: Global,
+    files: Files<D>,
+    options: Options,
+    act: A,
+) -> (Option<A::Told>, Files<D>) {
+    if !files.may_be_used() {
+        return (None, files);
+    }
+    match Connection::open_files(alloc, files, options) {
+        Ok(conn) => {
+            let (told, conn) = act.act(alloc, conn);
+            (Some(told), conn.into_store().close())
+        }
+        Err((_error, left)) => (None, left.into_files()),
+    }
+}
+
+/// Makes a book in files and asks it the requests, as far as the files take the calls.
+pub fn play<D: Disk + Drop>(
+    alloc: Global,
+    files: Files<D>,
+    list: &[(Key, Command)],
+) -> (Reached, Files<D>) {
+    let (reached, files) = opened(alloc, files, Options::new(7), Asking { list });
+    (reached.unwrap_or(Reached::NoBook), files)
+}
+
 /// All rows that files hold, where they open.
 pub fn reopened<D: Disk + Drop>(alloc: Global, files: Files<D>) -> Result<String, Untold> {
-    if !files.may_be_used() {
-        return Err(Untold::Unread);
-    }
-    match Connection::open_files(alloc, files, Options::new(8)) {
-        Ok(mut conn) => {
-            let rows = rows(alloc, &mut conn);
-            drop(conn.into_store().close());
-            rows
-        }
-        Err((_error, left)) => {
-            drop(left.into_files());
-            Err(Untold::Unread)
-        }
-    }
+    let (rows, files) = opened(alloc, files, Options::new(8), AllRows);
+    drop(files);
+    rows.unwrap_or(Err(Untold::Unread))
 }
