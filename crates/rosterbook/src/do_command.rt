@@ -13,7 +13,8 @@ use crate::stop::Stop;
 use book::{Answer, Book, BookFault, FileBook};
 use codec::{CodecFault, command_of_json, fault_to_json, refusal_to_json, reply_to_json};
 use command::{Command, Key};
-use sqlite::Alter;
+use sqlite::{Alter, FileStore};
+use sqlite_disk::Disk;
 use std::alloc::Global;
 use std::io::{Read, Write};
 use values::MemoryFault;
@@ -34,8 +35,19 @@ pub(crate) fn answer_do<R: Read, O: Write>(
 ) -> Result<Status, Stop>
     ensures { IfOk result (λ status. (input : List ℕ) × (answer : spec.Answered) × spec.IsTold (R.remaining reader.old) (O.contents out.old) (O.contents out.new) status input answer) }
 {
-    let mut book = FileBook::open(rt, file)?;
-    let done = ask_json(rt.alloc(), &mut book, reader, out);
+    ask_once(rt.alloc(), FileBook::open(rt, file)?, reader, out)
+}
+
+/// Asks a book one command, and closes it.
+fn ask_once<D: Disk + Drop, R: Read, O: Write>(
+    alloc: Global,
+    mut book: Book<FileStore<D>>,
+    reader: &mut R,
+    out: &mut O,
+) -> Result<Status, Stop>
+    ensures { IfOk result (λ status. (input : List ℕ) × (answer : spec.Answered) × spec.IsTold (R.remaining reader.old) (O.contents out.old) (O.contents out.new) status input answer) }
+{
+    let done = ask_json(alloc, &mut book, reader, out);
     book.close();
     done
 }

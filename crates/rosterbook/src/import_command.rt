@@ -10,7 +10,8 @@ use crate::stop::Stop;
 use book::{Answer, Book, BookFault, FileBook, Import};
 use codec::{CodecFault, RequestNumber, schedule_of_csv};
 use duty::Pairing;
-use sqlite::Alter;
+use sqlite::{Alter, FileStore};
+use sqlite_disk::Disk;
 use std::alloc::Global;
 use std::io;
 use std::io::{Read, Write};
@@ -26,8 +27,28 @@ pub(crate) fn answer_import<R: Read, O: Write, E: Write>(
 ) -> Result<Status, Stop>
     ensures { IfOk result (spec.IsImportTold (R.remaining reader.old) (O.contents out.old) (O.contents out.new) (E.contents err.old) (E.contents err.new)) }
 {
-    let mut book = FileBook::open(rt, file)?;
-    let done = import_csv(rt.alloc(), &mut book, number, reader, out, err);
+    import_once(
+        rt.alloc(),
+        FileBook::open(rt, file)?,
+        number,
+        reader,
+        out,
+        err,
+    )
+}
+
+/// Adds the pairings of one schedule to a book, and closes it.
+fn import_once<D: Disk + Drop, R: Read, O: Write, E: Write>(
+    alloc: Global,
+    mut book: Book<FileStore<D>>,
+    number: RequestNumber,
+    reader: &mut R,
+    out: &mut O,
+    err: &mut E,
+) -> Result<Status, Stop>
+    ensures { IfOk result (spec.IsImportTold (R.remaining reader.old) (O.contents out.old) (O.contents out.new) (E.contents err.old) (E.contents err.new)) }
+{
+    let done = import_csv(alloc, &mut book, number, reader, out, err);
     book.close();
     done
 }
