@@ -5,8 +5,8 @@ ghost use Rattle.codec.specs.RefusalText as spec;
 
 use command::{Exceedance, Refusal};
 use duty::DutyFault;
-use kept::{CodecFault, array};
-use serde_json::{Value, json};
+use kept::{CodecFault, Scalar, object_of, object_with_list};
+use serde_json::Value;
 use std::alloc::Global;
 use values::MemoryFault;
 
@@ -71,43 +71,53 @@ fn duty_fault_value(alloc: Global, fault: DutyFault) -> Result<Value, MemoryFaul
 fn plain_refusal(alloc: Global, number: u8, name: &str) -> Result<Value, MemoryFault>
     ensures { IfOk result (λ value. view value ≡ spec.plain_refusal number name.now) }
 {
-    Ok(json!(in alloc; {"result": "refused", "refusal": number, "name": name})?)
+    let members = [
+        ("result", Scalar::Text("refused")),
+        ("refusal", Scalar::Number(u64::from(number))),
+        ("name", Scalar::Text(name)),
+    ];
+    object_of(alloc, &members)
 }
 
 fn period_refusal(alloc: Global, number: u8, name: &str, period: u8) -> Result<Value, MemoryFault>
     ensures { IfOk result (λ value. view value ≡ spec.period_refusal number name.now period) }
 {
-    let value = json!(in alloc; {
-        "result": "refused",
-        "refusal": number,
-        "name": name,
-        "period": period
-    })?;
-    Ok(value)
+    let members = [
+        ("result", Scalar::Text("refused")),
+        ("refusal", Scalar::Number(u64::from(number))),
+        ("name", Scalar::Text(name)),
+        ("period", Scalar::Number(u64::from(period))),
+    ];
+    object_of(alloc, &members)
 }
 
-fn field_refusal(alloc: Global, number: u8, name: &str, field: &str) -> Result<Value, MemoryFault>
+fn field_refusal<'a>(
+    alloc: Global,
+    number: u8,
+    name: &'a str,
+    field: &'a str,
+) -> Result<Value, MemoryFault>
     ensures { IfOk result (λ value. view value ≡ spec.field_refusal number name.now field.now) }
 {
-    let value = json!(in alloc; {
-        "result": "refused",
-        "refusal": number,
-        "name": name,
-        "field": field
-    })?;
-    Ok(value)
+    let members = [
+        ("result", Scalar::Text("refused")),
+        ("refusal", Scalar::Number(u64::from(number))),
+        ("name", Scalar::Text(name)),
+        ("field", Scalar::Text(field)),
+    ];
+    object_of(alloc, &members)
 }
 
 fn line_refusal(alloc: Global, number: u8, name: &str, line: usize) -> Result<Value, MemoryFault>
     ensures { IfOk result (λ value. view value ≡ spec.line_refusal number name.now line) }
 {
-    let value = json!(in alloc; {
-        "result": "refused",
-        "refusal": number,
-        "name": name,
-        "line": line
-    })?;
-    Ok(value)
+    let members = [
+        ("result", Scalar::Text("refused")),
+        ("refusal", Scalar::Number(u64::from(number))),
+        ("name", Scalar::Text(name)),
+        ("line", Scalar::Number(line as u64)),
+    ];
+    object_of(alloc, &members)
 }
 
 fn limits_refusal(
@@ -118,11 +128,10 @@ fn limits_refusal(
 ) -> Result<Value, MemoryFault>
     ensures { IfOk result (λ value. view value ≡ spec.limits_refusal number name.now broken.now) }
 {
-    let value = json!(in alloc; {
-        "result": "refused",
-        "refusal": number,
-        "name": name,
-        "limits": array(alloc, broken)?
-    })?;
-    Ok(value)
+    let members = [
+        ("result", Scalar::Text("refused")),
+        ("refusal", Scalar::Number(u64::from(number))),
+        ("name", Scalar::Text(name)),
+    ];
+    object_with_list(alloc, &members, "limits", broken)
 }

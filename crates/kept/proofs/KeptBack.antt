@@ -1,18 +1,16 @@
 -- A kept text is read as its command.
-use Rattle.std.proofs.Common.{◌≡◌, ℕ, ◌<◌, ◌≤◌, ◌^◌, Bool, true, false, ◌&&◌, List, [], ◌∷◌, map, Option, Some, None, Result, Ok, refl, sym, ap, ◌∙◌, arith, rules}
+use Rattle.std.proofs.Common.{◌≡◌, ℕ, ◌<◌, Bool, true, false, ◌&&◌, List, [], ◌∷◌, map, Option, Some, refl, arith, rules}
 use Rattle.std.proofs.lemmas.Bool.Decides.{nat_tests}
-use Rattle.std.proofs.lemmas.Bool.{and_parts}
 use Rattle.std.specs.List.{list_all}
-use Rattle.serde_json.specs.Data.{Data, Items}
-use Rattle.serde_json.specs.Read.{max_depth}
+use Rattle.serde_json.specs.Data.{Data}
 use Rattle.serde_json.specs.View.{items_of}
 use Rattle.time117.proofs.WrittenLemmas.{read_written}
 use Rattle.duty.specs.declared.fdp.Fdp.{Fdp}
 use Rattle.duty.specs.declared.segment.BlockTimes.{BlockTimes}
 use Rattle.duty.specs.declared.segment.Segment.{Segment}
-use Rattle.kept.specs.Instants.{is_instant, segment_has_instants, times_have_instants, period_has_instants}
+use Rattle.kept.specs.Instants.{is_instant, segment_has_instants, times_have_instants}
 use Rattle.kept.specs.KeptText.{segment_json, times_json, period_json}
-use Rattle.kept.specs.Parts.{read_each, read_time, read_times, read_segment, read_period}
+use Rattle.kept.specs.Parts.{read_each, read_time, read_times, read_segment}
 use Rattle.kept.specs.Values.{instant_json}
 use Rattle.kept.proofs.CompactTexts.{IsKept, items_kept}
 

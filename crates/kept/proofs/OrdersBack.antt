@@ -1,5 +1,5 @@
 -- The kept text of a command is read as it.
-use Rattle.std.proofs.Common.{◌≡◌, ℕ, ◌<◌, ◌≤◌, ◌^◌, Bool, true, false, ◌&&◌, List, [], ◌∷◌, map, Option, Some, None, Result, Ok, refl, sym, ap, ◌∙◌, arith, rules}
+use Rattle.std.proofs.Common.{◌≡◌, ℕ, ◌≤◌, true, false, ◌&&◌, List, [], ◌∷◌, map, Some, None, Result, Ok, refl, sym, ap, ◌∙◌, arith, rules}
 use Rattle.std.proofs.lemmas.Bool.Decides.{nat_tests}
 use Rattle.std.specs.List.{list_all}
 use Rattle.std.specs.Prelude.{is_some}
@@ -13,12 +13,11 @@ use Rattle.time117.proofs.WrittenLemmas.{read_written}
 use Rattle.duty.specs.Plans.{Plan, GroundPlan, ActualTimes, plan, as_planned}
 use Rattle.duty.specs.declared.fdp.Fdp.{Fdp}
 use Rattle.command.specs.Orders.{order_fault, IsTyped, IsMade}
-use Rattle.command.specs.declared.member.Member.{Member}
 use Rattle.command.specs.declared.member.Seat.{Seat}
 use Rattle.command.specs.declared.member.Seat.TheVariants.{Captain, FirstOfficer}
 use Rattle.command.specs.declared.order.Order.{Order}
 use Rattle.command.specs.declared.order.Order.TheVariants.{AddCrew, AddPairing, CancelPairing, Assign, Release, Swap, AddGround, CancelGround, Actual}
-use Rattle.kept.specs.CommandJson.{and_then, field_of, judged, unless_fault, read_members, read_order, read_kept, read_object}
+use Rattle.kept.specs.CommandJson.{and_then, field_of, judged, read_members, read_order, read_kept, read_object}
 use Rattle.kept.specs.Instants.{is_instant, period_has_instants, segment_has_instants, times_have_instants, order_has_instants}
 use Rattle.kept.specs.Laws.{KeptTextsDiffer}
 use Rattle.kept.specs.KeptText.{period_json, segment_json, times_json, order_json, kept_text}

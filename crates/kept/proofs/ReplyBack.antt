@@ -1,7 +1,6 @@
 -- The text of a reply is read as it.
-use Rattle.std.proofs.Common.{◌≡◌, ℕ, true, false, List, [], ◌∷◌, map, Some, Ok, refl, ap, ◌∙◌, arith, rules}
+use Rattle.std.proofs.Common.{◌≡◌, true, false, List, [], ◌∷◌, Some, Ok, refl, arith, rules}
 use Rattle.std.specs.List.{list_all}
-use Rattle.serde_json.specs.Data.{Data}
 use Rattle.serde_json.specs.Read.{max_depth}
 use Rattle.serde_json.specs.Written.{has_float}
 use Rattle.limits.specs.SectionText.{section_text}
@@ -9,9 +8,8 @@ use Rattle.limits.specs.declared.section.Section.TheVariants.{FlightTime, Flight
 use Rattle.limits.specs.declared.section.Section.{Section}
 use Rattle.command.specs.declared.exceedance.Exceedance.{Exceedance}
 use Rattle.command.specs.declared.exceedance.Reply.{Reply}
-use Rattle.kept.specs.Parts.{read_each}
 use Rattle.serde_json.specs.Data.{string}
-use Rattle.kept.specs.ReplyText.{exceedance_json, reply_json, reply_text, read_section, read_exceedance, read_accepted, read_reply}
+use Rattle.kept.specs.ReplyText.{exceedance_json, reply_json, reply_text, read_section, read_exceedance, read_reply}
 use Rattle.kept.proofs.CompactTexts.{IsKept, items_kept, read_compact}
 use Rattle.kept.proofs.KeptBack.{each_back}
 

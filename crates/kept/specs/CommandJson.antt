@@ -1,7 +1,7 @@
 -- What the members of a command are read as, and which of them are refused. Members are looked for in the order in which
 -- they stand here; the first that is missing or isn't read is refused by its name, and after them what the whole is refused
 -- for.
-use Rattle.std.specs.Prelude.{◌≡◌, ℕ, List, Option, Some, None, is_some, ok_or, option_and_then, Result, Ok, Err, if◌then◌else◌}
+use Rattle.std.specs.Prelude.{ℕ, List, Option, Some, None, is_some, ok_or, option_and_then, Result, Ok, Err, if◌then◌else◌}
 use Rattle.serde_json.specs.Data.{Data}
 use Rattle.serde_json.specs.Find.{as_str, as_object}
 use Rattle.serde_json.specs.Read.{read}

@@ -1,6 +1,7 @@
 pub mod Fields
 pub mod Texts
 pub mod Values
+pub mod Objects
 pub mod Instants
 pub mod KeptText
 pub mod Parts

@@ -2,14 +2,13 @@
 ghost use Rattle.std.specs.Prelude.{◌≡◌, true, map, IfOk, OnOk};
 ghost use Rattle.std.specs.List.{list_all};
 ghost use Rattle.serde_json.specs.View.{view};
-ghost use Rattle.kept.specs.Values.{array_of, instant_json};
-ghost use Rattle.kept.specs.Instants.{is_instant};
+ghost use Rattle.kept.specs.Values.{array_of};
 
+use crate::objects::{Scalar, object_of, object_with_list};
 use command::Exceedance;
 use duty::{BlockTimes, Fdp, Segment};
-use serde_json::{Value, json};
+use serde_json::Value;
 use std::alloc::Global;
-use time117::Minute;
 use values::MemoryFault;
 
 /// A part of a command or a reply.
@@ -26,18 +25,6 @@ pub trait Encoded {
     fn to_json(&self, alloc: Global) -> Result<Value, MemoryFault>
         ensures json { IfOk result (λ value. view value ≡ json self.now) }
         ensures instants { OnOk result (has_instants self.now ≡ true) };
-}
-
-/// An instant in its first written form.
-pub fn instant(alloc: Global, minute: Minute) -> Result<Value, MemoryFault>
-    ensures json { IfOk result (λ value. view value ≡ instant_json minute) }
-    ensures instant { is_instant minute ≡ true }
-{
-    let _in_range = minute.number();
-    let mut text = Vec::new(alloc);
-    minute.write(&mut text)?;
-    let text = String::from_utf8(text).unwrap();
-    Ok(Value::String(text))
 }
 
 /// Each part in turn.
@@ -61,14 +48,14 @@ impl Encoded for Segment {
     ghost has_instants = { segment_has_instants };
 
     fn to_json(&self, alloc: Global) -> Result<Value, MemoryFault> {
-        let value = json!(in alloc; {
-            "flight": self.flight.as_str(),
-            "from": self.from.as_str(),
-            "out": instant(alloc, self.block_out)?,
-            "to": self.to.as_str(),
-            "in": instant(alloc, self.block_in)?
-        })?;
-        Ok(value)
+        let members = [
+            ("flight", Scalar::Text(self.flight.as_str())),
+            ("from", Scalar::Text(self.from.as_str())),
+            ("out", Scalar::instant(self.block_out)),
+            ("to", Scalar::Text(self.to.as_str())),
+            ("in", Scalar::instant(self.block_in)),
+        ];
+        object_of(alloc, &members)
     }
 }
 
@@ -85,11 +72,11 @@ impl Encoded for BlockTimes {
             block_out,
             block_in,
         } = *self;
-        let value = json!(in alloc; {
-            "out": instant(alloc, block_out)?,
-            "in": instant(alloc, block_in)?
-        })?;
-        Ok(value)
+        let members = [
+            ("out", Scalar::instant(block_out)),
+            ("in", Scalar::instant(block_in)),
+        ];
+        object_of(alloc, &members)
     }
 }
 
@@ -102,12 +89,11 @@ impl Encoded for Fdp {
     ghost has_instants = { period_has_instants };
 
     fn to_json(&self, alloc: Global) -> Result<Value, MemoryFault> {
-        let value = json!(in alloc; {
-            "report": instant(alloc, self.report)?,
-            "release": instant(alloc, self.release)?,
-            "segments": array(alloc, self.segments.as_slice())?
-        })?;
-        Ok(value)
+        let times = [
+            ("report", Scalar::instant(self.report)),
+            ("release", Scalar::instant(self.release)),
+        ];
+        object_with_list(alloc, &times, "segments", self.segments.as_slice())
     }
 }
 
@@ -120,7 +106,10 @@ impl Encoded for Exceedance {
     ghost has_instants = { λ _. true };
 
     fn to_json(&self, alloc: Global) -> Result<Value, MemoryFault> {
-        let section = format!(in alloc; "{}", self.section)?;
-        Ok(json!(in alloc; {"crew": self.crew.as_str(), "section": section})?)
+        let members = [
+            ("crew", Scalar::Text(self.crew.as_str())),
+            ("section", Scalar::Section(self.section)),
+        ];
+        object_of(alloc, &members)
     }
 }

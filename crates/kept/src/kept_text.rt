@@ -7,10 +7,10 @@ ghost use Rattle.kept.specs.Instants.{order_has_instants};
 ghost use Rattle.kept.specs.KeptText.{kept_text, order_json};
 ghost use Rattle.kept.specs.Laws.{IsCommand};
 
-use crate::encoded::{array, instant};
+use crate::objects::{Scalar, object_of, object_with_list};
 use command::{Command, Member, Order, Swap};
 use duty::{Actual, CrewId, Ground, GroundId, Pairing, PairingId};
-use serde_json::{Value, json};
+use serde_json::Value;
 use std::alloc::Global;
 use values::MemoryFault;
 
@@ -44,100 +44,109 @@ fn order_value(alloc: Global, order: &Order) -> Result<Value, MemoryFault>
     }
 }
 
-fn add_crew(alloc: Global, id: &CrewId, member: &Member) -> Result<Value, MemoryFault>
+fn add_crew<'a>(alloc: Global, id: &'a CrewId, member: &'a Member) -> Result<Value, MemoryFault>
     ensures { IfOk result (λ value. view value ≡ order_json (order.AddCrew id.now member.now)) }
 {
-    let seat = format!(in alloc; "{}", member.seat)?;
-    let value = json!(in alloc; {
-        "do": "add-crew",
-        "crew": id.as_str(),
-        "seat": seat,
-        "name": member.name.as_str()
-    })?;
-    Ok(value)
+    let members = [
+        ("do", Scalar::Text("add-crew")),
+        ("crew", Scalar::Text(id.as_str())),
+        ("seat", Scalar::Seat(member.seat)),
+        ("name", Scalar::Text(member.name.as_str())),
+    ];
+    object_of(alloc, &members)
 }
 
 fn add_pairing(alloc: Global, pairing: &Pairing) -> Result<Value, MemoryFault>
     ensures json { IfOk result (λ value. view value ≡ order_json (order.AddPairing pairing.now)) }
     ensures instants { OnOk result (order_has_instants (order.AddPairing pairing.now) ≡ true) }
 {
-    let value = json!(in alloc; {
-        "do": "add-pairing",
-        "pairing": pairing.id().as_str(),
-        "periods": array(alloc, pairing.periods())?
-    })?;
-    Ok(value)
+    let members = [
+        ("do", Scalar::Text("add-pairing")),
+        ("pairing", Scalar::Text(pairing.id().as_str())),
+    ];
+    object_with_list(alloc, &members, "periods", pairing.periods())
 }
 
 fn cancel_pairing(alloc: Global, id: &PairingId) -> Result<Value, MemoryFault>
     ensures { IfOk result (λ value. view value ≡ order_json (order.CancelPairing id.now)) }
 {
-    let value = json!(in alloc; {"do": "cancel-pairing", "pairing": id.as_str()})?;
-    Ok(value)
+    let members = [
+        ("do", Scalar::Text("cancel-pairing")),
+        ("pairing", Scalar::Text(id.as_str())),
+    ];
+    object_of(alloc, &members)
 }
 
-fn assign(alloc: Global, id: &PairingId, crew: &CrewId) -> Result<Value, MemoryFault>
+fn assign<'a>(alloc: Global, id: &'a PairingId, crew: &'a CrewId) -> Result<Value, MemoryFault>
     ensures { IfOk result (λ value. view value ≡ order_json (order.Assign id.now crew.now)) }
 {
-    let (id, crew) = (id.as_str(), crew.as_str());
-    let value = json!(in alloc; {"do": "assign", "pairing": id, "crew": crew})?;
-    Ok(value)
+    let members = [
+        ("do", Scalar::Text("assign")),
+        ("pairing", Scalar::Text(id.as_str())),
+        ("crew", Scalar::Text(crew.as_str())),
+    ];
+    object_of(alloc, &members)
 }
 
-fn release(alloc: Global, id: &PairingId, crew: &CrewId) -> Result<Value, MemoryFault>
+fn release<'a>(alloc: Global, id: &'a PairingId, crew: &'a CrewId) -> Result<Value, MemoryFault>
     ensures { IfOk result (λ value. view value ≡ order_json (order.Release id.now crew.now)) }
 {
-    let (id, crew) = (id.as_str(), crew.as_str());
-    let value = json!(in alloc; {"do": "release", "pairing": id, "crew": crew})?;
-    Ok(value)
+    let members = [
+        ("do", Scalar::Text("release")),
+        ("pairing", Scalar::Text(id.as_str())),
+        ("crew", Scalar::Text(crew.as_str())),
+    ];
+    object_of(alloc, &members)
 }
 
 fn swap_value(alloc: Global, swap: &Swap) -> Result<Value, MemoryFault>
     ensures { IfOk result (λ value. view value ≡ order_json (order.Swap swap.now)) }
 {
-    let value = json!(in alloc; {
-        "do": "swap",
-        "pairing": swap.pairing.as_str(),
-        "crew": swap.crew.as_str(),
-        "other_pairing": swap.other_pairing.as_str(),
-        "other_crew": swap.other_crew.as_str()
-    })?;
-    Ok(value)
+    let members = [
+        ("do", Scalar::Text("swap")),
+        ("pairing", Scalar::Text(swap.pairing.as_str())),
+        ("crew", Scalar::Text(swap.crew.as_str())),
+        ("other_pairing", Scalar::Text(swap.other_pairing.as_str())),
+        ("other_crew", Scalar::Text(swap.other_crew.as_str())),
+    ];
+    object_of(alloc, &members)
 }
 
 fn add_ground(alloc: Global, ground: &Ground) -> Result<Value, MemoryFault>
     ensures json { IfOk result (λ value. view value ≡ order_json (order.AddGround ground.now)) }
     ensures instants { OnOk result (order_has_instants (order.AddGround ground.now) ≡ true) }
 {
-    let value = json!(in alloc; {
-        "do": "add-ground",
-        "ground": ground.id().as_str(),
-        "crew": ground.crew().as_str(),
-        "begin": instant(alloc, ground.begin())?,
-        "end": instant(alloc, ground.end())?,
-        "task": ground.task().as_str()
-    })?;
-    Ok(value)
+    let members = [
+        ("do", Scalar::Text("add-ground")),
+        ("ground", Scalar::Text(ground.id().as_str())),
+        ("crew", Scalar::Text(ground.crew().as_str())),
+        ("begin", Scalar::instant(ground.begin())),
+        ("end", Scalar::instant(ground.end())),
+        ("task", Scalar::Text(ground.task().as_str())),
+    ];
+    object_of(alloc, &members)
 }
 
 fn cancel_ground(alloc: Global, id: &GroundId) -> Result<Value, MemoryFault>
     ensures { IfOk result (λ value. view value ≡ order_json (order.CancelGround id.now)) }
 {
-    let value = json!(in alloc; {"do": "cancel-ground", "ground": id.as_str()})?;
-    Ok(value)
+    let members = [
+        ("do", Scalar::Text("cancel-ground")),
+        ("ground", Scalar::Text(id.as_str())),
+    ];
+    object_of(alloc, &members)
 }
 
 fn actual_value(alloc: Global, id: &PairingId, actual: &Actual) -> Result<Value, MemoryFault>
     ensures json { IfOk result (λ value. view value ≡ order_json (order.Actual id.now actual.now)) }
     ensures instants { OnOk result (order_has_instants (order.Actual id.now actual.now) ≡ true) }
 {
-    let value = json!(in alloc; {
-        "do": "actual",
-        "pairing": id.as_str(),
-        "period": actual.period(),
-        "report": instant(alloc, actual.report())?,
-        "release": instant(alloc, actual.release())?,
-        "segments": array(alloc, actual.segments())?
-    })?;
-    Ok(value)
+    let members = [
+        ("do", Scalar::Text("actual")),
+        ("pairing", Scalar::Text(id.as_str())),
+        ("period", Scalar::Number(u64::from(actual.period()))),
+        ("report", Scalar::instant(actual.report())),
+        ("release", Scalar::instant(actual.release())),
+    ];
+    object_with_list(alloc, &members, "segments", actual.segments())
 }

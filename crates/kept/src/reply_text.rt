@@ -6,12 +6,12 @@ ghost use Rattle.kept.specs.declared.fault.CodecFault.TheVariants.{Memory};
 ghost use Rattle.kept.specs.declared.part.Unread.TheVariants as unread;
 
 use crate::body::body;
-use crate::encoded::array;
 use crate::fault::CodecFault;
 use crate::field::JsonField;
+use crate::objects::{Scalar, object_with_list};
 use crate::part::{Unread, member, member_list};
 use command::Reply;
-use serde_json::{Value, json};
+use serde_json::Value;
 use std::alloc::Global;
 use values::{Items, MemoryFault, Text};
 
@@ -30,11 +30,8 @@ pub fn reply_to_json(alloc: Global, reply: &Reply) -> Result<String, MemoryFault
 fn reply_value(alloc: Global, reply: &Reply) -> Result<Value, MemoryFault>
     ensures { IfOk result (λ value. view value ≡ spec.reply_json reply.now) }
 {
-    let value = json!(in alloc; {
-        "result": "accepted",
-        "exceedances": array(alloc, reply.exceedances.as_slice())?
-    })?;
-    Ok(value)
+    let result = [("result", Scalar::Text("accepted"))];
+    object_with_list(alloc, &result, "exceedances", reply.exceedances.as_slice())
 }
 
 /// The accepted reply that a text is; any other text is refused as a whole.

@@ -2,7 +2,7 @@ use Rattle.std.proofs.Common.{◌≡◌, ◌<◌, ◌++◌, ap, ◌∙◌, arith
 use Rattle.std.specs.Str.{IsUtf8}
 use Rattle.time117.specs.Instant.{written}
 use Rattle.kept.proofs.AsciiInstants.{IsUtf8-written}
-use Rattle.kept.proofs.encoded.instant.Goals as goal
+use Rattle.kept.proofs.objects.instant.Goals as goal
 
 pub unwrap-text-requires : goal.unwrap-text-requires
 unwrap-text-requires c =
