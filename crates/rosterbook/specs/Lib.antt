@@ -1,8 +1,5 @@
 pub mod Asking
-pub mod FaultText
-pub mod FlightDuty
 pub mod Program
 pub mod Refusal
+pub mod StopText
 pub mod Streams
-pub mod Texts
-pub mod Verdict

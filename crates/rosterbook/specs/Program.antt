@@ -3,15 +3,15 @@ use Rattle.std.specs.Prelude.{◌≡◌, ℕ, Bool, true, false, List, [], ◌++
 use Rattle.std.specs.Io.KnownBytes.{Appends}
 use Rattle.time117.specs.Local.{is_zone_text}
 use Rattle.rosterbook.specs.Asking.{Answered, IsImportTold, IsTold}
-use Rattle.rosterbook.specs.FaultText.{fault_text}
+use Rattle.verdict.specs.FaultText.{fault_text}
 pub use Rattle.rosterbook.specs.Streams.{Held, line_end, refused}
 use Rattle.writing.specs.Faults.{create_text}
 use Rattle.writing.specs.declared.fault.CreateFault.{CreateFault}
-use Rattle.rosterbook.specs.Verdict.{Line, line_of}
+use Rattle.verdict.specs.Verdict.{Line, line_of}
 use Rattle.console.specs.declared.actions.Action.{Action}
 use Rattle.console.specs.declared.actions.Action.TheVariants.{Duty, Init, Do, Import}
-use Rattle.rosterbook.specs.declared.fault.LineFault.{LineFault}
-use Rattle.rosterbook.specs.declared.fault.LineFault.TheVariants.{Zone, Memory}
+use Rattle.verdict.specs.declared.fault.LineFault.{LineFault}
+use Rattle.verdict.specs.declared.fault.LineFault.TheVariants.{Zone, Memory}
 use Rattle.rosterbook.specs.declared.status.Status.{Status}
 use Rattle.rosterbook.specs.declared.status.Status.TheVariants.{Done, Refused, Usage, Failed}
 

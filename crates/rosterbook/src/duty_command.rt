@@ -1,14 +1,14 @@
 //! `rosterbook duty`.
 ghost use Rattle.std.specs.Prelude.{◌≡◌, ◌⊎◌, map, string_bytes, IfOk};
 ghost use Rattle.rosterbook.specs.Program as spec;
-ghost use Rattle.rosterbook.specs.Verdict.{line_of};
+ghost use Rattle.verdict.specs.Verdict.{line_of};
 
 use crate::lines::{refuse, write_line};
 use crate::status::Status;
-use crate::verdict::duty_line;
 use std::alloc::Global;
 use std::io;
 use std::io::Write;
+use verdict::duty_line;
 
 /// Answers `rosterbook duty`. An error is a writer's.
 pub(crate) fn answer_duty<O: Write, E: Write>(
@@ -29,7 +29,7 @@ pub(crate) fn answer_duty<O: Write, E: Write>(
         }
         Err(fault) => {
             refuse(err, &fault)?;
-            Ok(fault.status())
+            Ok(Status::of_fault(fault))
         }
     }
 }

@@ -4,13 +4,13 @@ ghost use Rattle.std.specs.Io.KnownBytes.{Appends};
 ghost use Rattle.time117.specs.Local.{is_zone_text};
 ghost use Rattle.rosterbook.specs.Program as spec;
 
-use crate::fault::LineFault;
 use crate::lines::{refuse, write_line};
 use crate::status::Status;
 use book::{CreateFault, create_file};
 use std::io;
 use std::io::Write;
 use time117::{Zone, ZoneFault};
+use verdict::LineFault;
 
 /// Answers `rosterbook init`: reads the zone, makes the book and says so. An error is a writer's.
 pub(crate) fn answer_init<O: Write, E: Write>(
@@ -57,5 +57,5 @@ fn refuse_zone<E: Write>(fault: ZoneFault, err: &mut E) -> io::Result<Status>
 {
     let fault = LineFault::from(fault);
     refuse(err, &fault)?;
-    Ok(fault.status())
+    Ok(Status::of_fault(fault))
 }

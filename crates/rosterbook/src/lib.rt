@@ -3,8 +3,6 @@
 
 mod do_command;
 mod duty_command;
-mod fault;
-mod flight_duty;
 mod import_command;
 mod init_command;
 mod lines;
@@ -12,15 +10,12 @@ mod program;
 mod refusal;
 mod status;
 mod stop;
-mod texts;
-mod verdict;
 
 pub use console::{Action, action};
 pub use do_command::ask_json;
-pub use fault::LineFault;
 pub use import_command::import_csv;
 pub use program::perform;
 pub use refusal::tell_refusal;
 pub use status::Status;
 pub use stop::Stop;
-pub use verdict::duty_line;
+pub use verdict::{LineFault, duty_line};

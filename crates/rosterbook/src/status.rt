@@ -1,3 +1,7 @@
+ghost use Rattle.std.specs.Prelude.{◌≡◌, ◌≢◌};
+
+use verdict::LineFault;
+
 /// How the program ends: its exit status.
 #[derive(Clone, Copy, Debug, PartialEq, Eq)]
 pub enum Status {
@@ -9,4 +13,17 @@ pub enum Status {
     Usage = 2,
     /// The store, memory, a channel or the network failed.
     Failed = 3,
+}
+
+impl Status {
+    /// How the program ends after a fault of a line.
+    pub fn of_fault(fault: LineFault) -> Status
+        ensures failed { fault ≡ LineFault.Memory → result ≡ Status.Failed }
+        ensures refused { fault ≢ LineFault.Memory → result ≡ Status.Refused }
+    {
+        match fault {
+            LineFault::Memory => Status::Failed,
+            _ => Status::Refused,
+        }
+    }
 }

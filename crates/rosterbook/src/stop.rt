@@ -17,7 +17,7 @@ pub enum Stop {
 
 impl fmt::Display for Stop {
     ghost use Rattle.std.specs.Prelude.{Some};
-    ghost use Rattle.rosterbook.specs.FaultText.{stop_text};
+    ghost use Rattle.rosterbook.specs.StopText.{stop_text};
 
     ghost output = { λ stop. Some (stop_text stop) };
 

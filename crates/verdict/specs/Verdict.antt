@@ -12,13 +12,13 @@ use Rattle.duty.specs.declared.fdp.Fdp.{Fdp}
 use Rattle.limits.specs.Tables.{table_a, table_b}
 use Rattle.limits.specs.SectionText.{section_text}
 use Rattle.limits.specs.declared.section.Section.TheVariants.{FlightTime, FlightDutyPeriod}
-use Rattle.rosterbook.specs.FlightDuty.{is_block_time_count, fdp_of}
-use Rattle.rosterbook.specs.Texts.{clock_text, hours_text}
-use Rattle.rosterbook.specs.declared.verdict.Verdict.{Verdict}
-use Rattle.rosterbook.specs.declared.verdict.Against.{Against}
-use Rattle.rosterbook.specs.declared.verdict.Outcome.{Outcome}
-use Rattle.rosterbook.specs.declared.fault.LineFault.{LineFault}
-use Rattle.rosterbook.specs.declared.fault.LineFault.TheVariants.{Zone, Time, SegmentCount, BadTimes}
+use Rattle.verdict.specs.FlightDuty.{is_block_time_count, fdp_of}
+use Rattle.verdict.specs.Texts.{clock_text, hours_text}
+use Rattle.verdict.specs.declared.verdict.Verdict.{Verdict}
+use Rattle.verdict.specs.declared.verdict.Against.{Against}
+use Rattle.verdict.specs.declared.verdict.Outcome.{Outcome}
+use Rattle.verdict.specs.declared.fault.LineFault.{LineFault}
+use Rattle.verdict.specs.declared.fault.LineFault.TheVariants.{Zone, Time, SegmentCount, BadTimes}
 
 -- a flight duty period beside what the tables give
 abbrev pub verdict : FdpTimes → Verdict

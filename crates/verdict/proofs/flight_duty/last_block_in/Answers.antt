@@ -1,6 +1,6 @@
 use Rattle.std.proofs.Common.{sym}
-use Rattle.rosterbook.proofs.SegmentLemmas.{last_in-last}
-use Rattle.rosterbook.proofs.flight_duty.last_block_in.Goals as goal
+use Rattle.verdict.proofs.SegmentLemmas.{last_in-last}
+use Rattle.verdict.proofs.flight_duty.last_block_in.Goals as goal
 
 pub returns-in-Some : goal.returns-in-Some
 returns-in-Some c =

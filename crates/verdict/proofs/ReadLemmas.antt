@@ -4,7 +4,7 @@ use Rattle.std.proofs.Math.Seq.{drop-cons}
 use Rattle.std.proofs.lemmas.List.{at_drop_all}
 use Rattle.time117.specs.Instant.{read_instant}
 use Rattle.time117.specs.declared.minute.TimeFault.{TimeFault}
-use Rattle.rosterbook.specs.Verdict.{read_instants, then_instant}
+use Rattle.verdict.specs.Verdict.{read_instants, then_instant}
 
 -- the instants so far, and then those of the texts that are left
 abbrev pub followed_by : List ℕ → Result (List ℕ) TimeFault → Result (List ℕ) TimeFault

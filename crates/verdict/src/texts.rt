@@ -9,7 +9,7 @@ pub struct Clock {
 
 impl fmt::Display for Clock {
     ghost use Rattle.std.specs.Prelude.{Some};
-    ghost use Rattle.rosterbook.specs.Texts.{clock_text};
+    ghost use Rattle.verdict.specs.Texts.{clock_text};
 
     ghost output = { λ clock. Some (clock_text clock.minute) };
 
@@ -36,7 +36,7 @@ pub struct Hours {
 
 impl fmt::Display for Hours {
     ghost use Rattle.std.specs.Prelude.{Some};
-    ghost use Rattle.rosterbook.specs.Texts.{hours_text};
+    ghost use Rattle.verdict.specs.Texts.{hours_text};
 
     ghost output = { λ hours. Some (hours_text hours.minutes) };
 

@@ -8,7 +8,7 @@ use Rattle.std.proofs.Common.{length-drop}
 use Rattle.duty.specs.DutiesInForce.{span_of, fdp_times}
 use Rattle.duty.specs.Minutes.{last_in}
 use Rattle.duty.specs.declared.segment.Segment.{Segment}
-use Rattle.rosterbook.specs.FlightDuty.{segments_of, timed, fdp_of, is_block_time_count}
+use Rattle.verdict.specs.FlightDuty.{segments_of, timed, fdp_of, is_block_time_count}
 
 -- a time that is left over makes no segment
 segments_of-short : (times : List ℕ) → length times ≤ 1 → segments_of times ≡ []

@@ -3,7 +3,7 @@ ghost use Rattle.std.specs.List.{sum_by};
 ghost use Rattle.std.specs.Prelude.{◌-◌};
 ghost use Rattle.duty.specs.DutiesInForce.{span_of};
 ghost use Rattle.duty.specs.Minutes.{last_in};
-ghost use Rattle.rosterbook.specs.FlightDuty as spec;
+ghost use Rattle.verdict.specs.FlightDuty as spec;
 
 use duty::{Airport, Fdp, Flight, Segment, Span};
 use std::alloc::{AllocError, Global};

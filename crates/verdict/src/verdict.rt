@@ -1,7 +1,7 @@
 ghost use Rattle.std.specs.Prelude.{◌≡◌, ◌≤◌, ◌⊎◌, nat_lt, length, map, string_bytes, Ok, Err, IfOk, IfErr};
-ghost use Rattle.rosterbook.specs.FlightDuty.{is_block_time_count as is_count};
-ghost use Rattle.rosterbook.specs.Verdict as spec;
-ghost use Rattle.rosterbook.specs.declared.fault.LineFault.TheVariants.{Memory, Time};
+ghost use Rattle.verdict.specs.FlightDuty.{is_block_time_count as is_count};
+ghost use Rattle.verdict.specs.Verdict as spec;
+ghost use Rattle.verdict.specs.declared.fault.LineFault.TheVariants.{Memory, Time};
 
 use crate::fault::LineFault;
 use crate::flight_duty::{flight_minutes, read_fdp};
@@ -141,7 +141,7 @@ impl Outcome {
 
 impl fmt::Display for Verdict {
     ghost use Rattle.std.specs.Prelude.{Some};
-    ghost use Rattle.rosterbook.specs.Verdict.{verdict_text};
+    ghost use Rattle.verdict.specs.Verdict.{verdict_text};
 
     ghost output = { λ verdict. Some (verdict_text verdict) };
 
@@ -161,7 +161,7 @@ impl fmt::Display for Verdict {
 
 impl fmt::Display for Against {
     ghost use Rattle.std.specs.Prelude.{Some};
-    ghost use Rattle.rosterbook.specs.Verdict.{against_text};
+    ghost use Rattle.verdict.specs.Verdict.{against_text};
 
     ghost output = { λ against. Some (against_text against) };
 
@@ -179,7 +179,7 @@ impl fmt::Display for Against {
 
 impl fmt::Display for Outcome {
     ghost use Rattle.std.specs.Prelude.{Some};
-    ghost use Rattle.rosterbook.specs.Verdict.{outcome_text};
+    ghost use Rattle.verdict.specs.Verdict.{outcome_text};
 
     ghost output = { λ outcome. Some (outcome_text outcome) };
 

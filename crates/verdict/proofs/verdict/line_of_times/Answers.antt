@@ -1,5 +1,5 @@
-use Rattle.rosterbook.proofs.SegmentLemmas.{length-fdp_of}
-use Rattle.rosterbook.proofs.verdict.line_of_times.Goals as goal
+use Rattle.verdict.proofs.SegmentLemmas.{length-fdp_of}
+use Rattle.verdict.proofs.verdict.line_of_times.Goals as goal
 
 pub of-verdict-requires : goal.of-verdict-requires
 of-verdict-requires c =

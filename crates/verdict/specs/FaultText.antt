@@ -1,14 +1,10 @@
--- Refusals as they are printed: number, name, and the flight duty period or table where there is one.
+-- Refusals as they are printed: number, name, and the flight duty period where there is one.
 use Rattle.std.specs.Prelude.{◌≡◌, ℕ, List, codes}
 use Rattle.time117.specs.declared.minute.TimeFault.TheVariants.{Malformed, NoSuchTime, OutOfRange}
 use Rattle.time117.specs.declared.zone.ZoneFault.{ZoneFault}
 use Rattle.time117.specs.declared.zone.ZoneFault.TheVariants as zone
-use Rattle.rows.specs.Faults as rows
-use Rattle.loading.specs.Faults.{load_text}
-use Rattle.rosterbook.specs.declared.fault.LineFault.{LineFault}
-use Rattle.rosterbook.specs.declared.fault.LineFault.TheVariants.{Zone, Time, SegmentCount, BadTimes, Memory}
-use Rattle.rosterbook.specs.declared.stop.Stop.{Stop}
-use Rattle.rosterbook.specs.declared.stop.Stop.TheVariants.{Load, Book, Channel}
+use Rattle.verdict.specs.declared.fault.LineFault.{LineFault}
+use Rattle.verdict.specs.declared.fault.LineFault.TheVariants.{Zone, Time, SegmentCount, BadTimes, Memory}
 
 abbrev pub fault_text : LineFault → List ℕ
 fault_text (Time Malformed) = codes "T1 Malformed"
@@ -18,12 +14,6 @@ fault_text Zone = codes "T4 ZoneText"
 fault_text BadTimes = codes "16 BadTimes 1"
 fault_text SegmentCount = codes "19 SegmentCount 1"
 fault_text Memory = codes "91 Memory"
-
--- why the program stops before its end
-abbrev pub stop_text : Stop → List ℕ
-stop_text (Load fault) = load_text fault
-stop_text (Book fault) = rows.fault_text fault
-stop_text Channel = codes "92 Channel"
 
 -- what a zone's fault is on the line
 abbrev pub IsZoneFault : ZoneFault → LineFault → Type 0

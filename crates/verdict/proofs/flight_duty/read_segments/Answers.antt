@@ -1,7 +1,7 @@
 use Rattle.std.proofs.Common.{◌∙◌, ap, [], ◌∷◌, ◌++◌, ◌*◌, ◌+◌, drop, arith, ◌<◌, length}
-use Rattle.rosterbook.specs.FlightDuty.{segments_of}
-use Rattle.rosterbook.proofs.SegmentLemmas.{segments_of-next, segments_of-rest}
-use Rattle.rosterbook.proofs.flight_duty.read_segments.Goals as goal
+use Rattle.verdict.specs.FlightDuty.{segments_of}
+use Rattle.verdict.proofs.SegmentLemmas.{segments_of-next, segments_of-rest}
+use Rattle.verdict.proofs.flight_duty.read_segments.Goals as goal
 
 pub loop-i-preserved : goal.loop-i-preserved
 loop-i-preserved c =

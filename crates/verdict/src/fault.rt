@@ -1,14 +1,13 @@
-ghost use Rattle.std.specs.Prelude.{◌≡◌, ◌≢◌};
+ghost use Rattle.std.specs.Prelude.{◌≡◌};
 
-use crate::status::Status;
 use std::alloc::{AllocError, AllocFailed};
 use std::error::Error;
 use std::fmt;
 use time117::{TimeFault, ZoneFault};
 use values::MemoryFault;
 
-/// Why `duty_line` gives no line; of a zone also why `init` makes no book. It is printed as the program prints a refusal:
-/// its number, its name, and the flight duty period where there is one.
+/// Why `duty_line` gives no line; of a zone also why no book is made. It is printed as each refusal is: its number, its
+/// name, and the flight duty period where there is one.
 #[derive(Clone, Copy, Debug, PartialEq, Eq)]
 pub enum LineFault {
     /// The zone is not 1 to 64 bytes of ASCII that read as a POSIX time zone rule.
@@ -24,22 +23,9 @@ pub enum LineFault {
     Memory,
 }
 
-impl LineFault {
-    /// How the program ends after this fault.
-    pub fn status(self) -> Status
-        ensures failed { self ≡ LineFault.Memory → result ≡ Status.Failed }
-        ensures refused { self ≢ LineFault.Memory → result ≡ Status.Refused }
-    {
-        match self {
-            LineFault::Memory => Status::Failed,
-            _ => Status::Refused,
-        }
-    }
-}
-
 impl fmt::Display for LineFault {
     ghost use Rattle.std.specs.Prelude.{Some};
-    ghost use Rattle.rosterbook.specs.FaultText.{fault_text};
+    ghost use Rattle.verdict.specs.FaultText.{fault_text};
 
     ghost output = { λ fault. Some (fault_text fault) };
 
@@ -59,7 +45,7 @@ impl fmt::Display for LineFault {
 impl Error for LineFault {}
 
 impl From<ZoneFault> for LineFault {
-    ghost use Rattle.rosterbook.specs.FaultText.{IsZoneFault};
+    ghost use Rattle.verdict.specs.FaultText.{IsZoneFault};
 
     ghost from_gives = { IsZoneFault };
 
@@ -72,7 +58,7 @@ impl From<ZoneFault> for LineFault {
 }
 
 impl From<TimeFault> for LineFault {
-    ghost use Rattle.rosterbook.specs.declared.fault.LineFault.TheVariants.{Time};
+    ghost use Rattle.verdict.specs.declared.fault.LineFault.TheVariants.{Time};
 
     ghost from_gives = { λ time fault. fault ≡ Time time };
 
@@ -82,7 +68,7 @@ impl From<TimeFault> for LineFault {
 }
 
 impl From<MemoryFault> for LineFault {
-    ghost use Rattle.rosterbook.specs.declared.fault.LineFault.TheVariants.{Memory};
+    ghost use Rattle.verdict.specs.declared.fault.LineFault.TheVariants.{Memory};
 
     ghost from_gives = { λ _ fault. fault ≡ Memory };
 
@@ -92,7 +78,7 @@ impl From<MemoryFault> for LineFault {
 }
 
 impl From<AllocError> for LineFault {
-    ghost use Rattle.rosterbook.specs.declared.fault.LineFault.TheVariants.{Memory};
+    ghost use Rattle.verdict.specs.declared.fault.LineFault.TheVariants.{Memory};
 
     ghost from_gives = { λ _ fault. fault ≡ Memory };
 
@@ -102,7 +88,7 @@ impl From<AllocError> for LineFault {
 }
 
 impl<T: Drop> From<AllocFailed<T>> for LineFault {
-    ghost use Rattle.rosterbook.specs.declared.fault.LineFault.TheVariants.{Memory};
+    ghost use Rattle.verdict.specs.declared.fault.LineFault.TheVariants.{Memory};
 
     ghost from_gives = { λ _ fault. fault ≡ Memory };
 

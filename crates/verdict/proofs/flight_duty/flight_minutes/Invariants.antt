@@ -1,6 +1,6 @@
 use Rattle.std.proofs.Common.{◌≡◌, ◌≤◌, ◌*◌, ◌-◌, take}
 use Rattle.std.specs.List.{sum_by}
-use Rattle.rosterbook.proofs.flight_duty.flight_minutes.Given as goal
+use Rattle.verdict.proofs.flight_duty.flight_minutes.Given as goal
 
 abbrev pub invariant-loop-segment : goal.invariant-loop-segment
 invariant-loop-segment l = record {

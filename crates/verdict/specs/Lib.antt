@@ -1,0 +1,4 @@
+pub mod FaultText
+pub mod FlightDuty
+pub mod Texts
+pub mod Verdict
