@@ -1,3 +1,4 @@
+use kept::Unread;
 use std::alloc::{AllocError, AllocFailed};
 use values::MemoryFault;
 
@@ -8,6 +9,23 @@ pub enum ScheduleFault {
     Record(usize),
     /// There was no memory.
     Memory,
+}
+
+impl ScheduleFault {
+    ghost use Rattle.std.specs.Prelude.{◌≡◌};
+    ghost use Rattle.kept.specs.declared.part.Unread.TheVariants as unread;
+    ghost use Rattle.codec.specs.declared.fault.ScheduleFault.TheVariants.{Record, Memory};
+
+    /// The fault of a schedule of which this record isn't taken.
+    pub fn of_record(number: usize, why: Unread) -> ScheduleFault
+        ensures memory { why ≡ unread.Memory → result ≡ Memory }
+        ensures refused { why ≡ unread.Refused → result ≡ Record number }
+    {
+        match why {
+            Unread::Refused => ScheduleFault::Record(number),
+            Unread::Memory => ScheduleFault::Memory,
+        }
+    }
 }
 
 impl From<MemoryFault> for ScheduleFault {

@@ -3,12 +3,12 @@ ghost use Rattle.std.specs.Prelude.{◌≡◌, ◌⊎◌, true, false, Some, Non
 ghost use Rattle.std.specs.Str.{is_utf8};
 ghost use Rattle.csv.specs.Records.{fields_of, field_at};
 ghost use Rattle.codec.specs.Records as spec;
-ghost use Rattle.codec.specs.declared.unread.Unread.TheVariants.{Memory};
+ghost use Rattle.kept.specs.declared.part.Unread.TheVariants.{Memory};
 
 use crate::scheduled::{Place, ScheduledSegment};
-use crate::unread::Unread;
 use csv::ByteRecord;
 use duty::{Id, Segment, Shaped};
+use kept::Unread;
 use std::alloc::Global;
 use std::str;
 use time117::Minute;

@@ -5,12 +5,12 @@ ghost use Rattle.codec.specs.Grouping.{Adds, AreGrouped, Extends, Grows, IsFirst
 ghost use Rattle.codec.specs.declared.fault.ScheduleFault.TheVariants as schedule_fault;
 ghost use Rattle.codec.specs.Places.{continues, first_misplaced, may_begin, may_stand};
 ghost use Rattle.codec.specs.Schedule.{is_pairing, periods_segments, schedule_segments, shows};
-ghost use Rattle.codec.specs.declared.unread.Unread.TheVariants.{Memory};
+ghost use Rattle.kept.specs.declared.part.Unread.TheVariants.{Memory};
 
 use crate::fault::ScheduleFault;
 use crate::scheduled::{Place, ScheduledSegment};
-use crate::unread::Unread;
 use duty::{Fdp, Pairing, PairingId, Segment};
+use kept::Unread;
 use std::alloc::Global;
 use time117::Minute;
 use values::{Items, MemoryFault};
@@ -229,7 +229,7 @@ pub fn grouped(alloc: Global, segments: Vec<ScheduledSegment>) -> Result<Vec<Dra
     for it in segments {
         match grouping.with(alloc, number, it) {
             Ok(longer) => grouping = longer,
-            Err(unread) => return Err(unread.of_record(number)),
+            Err(unread) => return Err(ScheduleFault::of_record(number, unread)),
         }
         number += 1;
     }

@@ -11,7 +11,6 @@ mod request_number;
 mod requests;
 mod scheduled;
 mod schedules;
-mod unread;
 
 /// The most bytes of a request's body, and of a schedule.
 pub const MOST_BYTES: usize = 1_048_576;

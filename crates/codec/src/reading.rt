@@ -89,7 +89,7 @@ fn read_all(alloc: Global, rows: &[ByteRecord]) -> Result<Vec<ScheduledSegment>,
     for (index, row) in rows.iter().enumerate() {
         match read_record(alloc, row) {
             Ok(segment) => segments.push(segment)?,
-            Err(unread) => return Err(unread.of_record(index + 2)),
+            Err(unread) => return Err(ScheduleFault::of_record(index + 2, unread)),
         }
     }
     Ok(segments)
