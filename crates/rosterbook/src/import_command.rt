@@ -94,7 +94,7 @@ fn add_all<S: Alter, O: Write>(
     let mut status = Status::Done;
     for index in 0..parts {
         let Some(answer) = import.next(alloc, book) else {
-            break;
+            unreachable!();
         };
         let answer = answer?;
         tell_part(out, index + 1, &answer)?;

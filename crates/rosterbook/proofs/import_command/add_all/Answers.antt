@@ -1,4 +1,4 @@
-use Rattle.std.proofs.Common.{◌≡◌, ◌≤◌, ◌<◌, ◌+◌, ◌-◌, ◌∙◌, Some, Ok, Err, sym, ap, subst, arith, rules, length, slice_get}
+use Rattle.std.proofs.Common.{◌≡◌, ◌<◌, ◌+◌, ◌-◌, ◌∙◌, Some, Ok, Err, sym, ap, subst, arith, rules, length, slice_get}
 use Rattle.roster.specs.Folds.{import}
 use Rattle.book.specs.Answered.{IsAnswered}
 use Rattle.book.specs.Importing.{part_of}
@@ -6,7 +6,6 @@ use Rattle.rosterbook.specs.Asking.{AreStopped}
 use Rattle.rosterbook.proofs.PartsAdded.{all_added, asked_at, length-import, none_yet, one_more}
 use Rattle.rosterbook.proofs.Stopping.{err_told, part_unanswered, part_untold}
 use Rattle.rosterbook.proofs.import_command.add_all.Goals as goal
-use Rattle.rosterbook.proofs.import_command.add_all.Goals.{else-loop-index-test, then-loop-index-test+in_default}
 
 pub loop-index-init : goal.loop-index-init
 loop-index-init g c = record {
@@ -34,21 +33,12 @@ loop-index-preserved g c =
       so_far = rw c.status_with-status.ensures (one_more g.S.Store _ _ _ l i _ _ _ _ asked.0 c.in_ok-answer.answer left place was.so_far answered c.in_ok-tell_part.ensures);
     }
 
-pub returns : goal.returns
-returns g c =
+pub returns-clause-added : goal.returns-clause-added
+returns-clause-added g c =
     let was = c.loop-index.invariant in
     let plans = c.args.pairings.items in
-    elim c.loop-index-test.branch [
-      | else-loop-index-test w ↦
-          let whole : c.loop-index.index ≡ length plans = omega (arith, w.loop-index-test.false, was.within, was.parts) in
-          rw w.book-is (record { added = all_added g.S.Store c.args.book.now c.loop-index.book c.args.number plans c.loop-index.status (g.O.Write.contents c.args.out.now) (g.O.Write.contents c.loop-index.out) (rw whole at was.so_far); stopped = tt })
-      | then-loop-index-test+in_default w ↦
-          let next : c.loop-index.import.next ≡ c.loop-index.index + 1 = ap (λ it. it.next) was.next in
-          let pairings : c.loop-index.import.pairings ≡ plans = ap (λ it. it.pairings) was.next in
-          let left : c.loop-index.import.next ≤ length c.loop-index.import.pairings = rw (next, pairings) (omega (arith, w.loop-index-test.true, was.parts)) in
-          let none = w.in_default.ensures.some left in
-          absurd (cc)
-    ]
+    let whole : c.loop-index.index ≡ length plans = omega (arith, c.loop-index-test.false, was.within, was.parts) in
+    all_added g.S.Store c.args.book.now c.loop-index.book c.args.number plans c.loop-index.status (g.O.Write.contents c.args.out.now) (g.O.Write.contents c.loop-index.out) (rw whole at was.so_far)
 
 pub returns-in_err-answer-clause-stopped : goal.returns-in_err-answer-clause-stopped
 returns-in_err-answer-clause-stopped g c =
