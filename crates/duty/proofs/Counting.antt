@@ -1,23 +1,14 @@
 -- Counting the members of a set of minutes below a minute, and what a window holds.
 use Rattle.std.proofs.Common.{◌≡◌, ℕ, zero, suc, ◌+◌, ◌-◌, ◌<◌, ◌≤◌, Bool, true, false, refl, sym, ap, ◌∙◌, arith, inl, inr, ◌⊎◌}
-use Rattle.std.specs.Prelude.{ℤ, pos, negsuc, ◌+ℤ◌, ◌-ℤ◌, ◌≤ℤ◌, ◌<ℤ◌, if◌then◌else◌}
+use Rattle.std.specs.Prelude.{ℤ, pos, negsuc, ◌+ℤ◌, ◌-ℤ◌, ◌≤ℤ◌, ◌<ℤ◌, int_lt, unsigned_abs, if◌then◌else◌}
 use Rattle.std.proofs.lemmas.Int.{ints}
-use Rattle.std.proofs.lemmas.Bool.{cases_Bool, cases_lt, false≢true}
+use Rattle.std.proofs.lemmas.Bool.{cases_Bool, cases_lt, false≢true, ltb-true}
 use Rattle.duty.specs.Minutes.{count, Meets}
-
--- the natural number of an integer, 0 where it is negative
-abbrev pub natural : ℤ → ℕ
-natural (pos n) = n
-natural (negsuc n) = 0
+pub use Rattle.duty.specs.Sweeps.{below, natural}
 
 -- 1 for a member
 abbrev pub one_if : Bool → ℕ
 one_if b = if b then 1 else 0
-
--- how many minutes from 0 up to, and without, n are members
-unfoldable pub below : (ℕ → Bool) → ℕ → ℕ
-below set zero = 0
-below set (suc n) = below set n + one_if (set n)
 
 pub below-zero : (set : ℕ → Bool) → below set 0 ≡ 0
 unfolding below
@@ -151,14 +142,6 @@ window_end (negsuc n) width minute from to = (
   omega (arith, ints),
 )
 
--- the count over a window between two natural minutes
-pub count-between :
-    (set : ℤ → Bool) (none : (n : ℕ) → set (negsuc n) ≡ false) (from to : ℕ) → from ≤ to →
-    count set (pos from) (to - from) + below (λ n. set (pos n)) from ≡ below (λ n. set (pos n)) to
-count-between set none from to l =
-    let e : from + (to - from) ≡ to = omega arith in
-    rw e at (count-below set none (pos from) (to - from))
-
 -- between two minutes all, or no, minutes are members
 pub below-full : (set : ℕ → Bool) (from to : ℕ) → from ≤ to → ((i : ℕ) → from ≤ i → i < to → set i ≡ true) →
     below set to ≡ below set from + (to - from)
@@ -225,3 +208,54 @@ counted set start (suc width) minute from to member =
 -- a window that meets the set holds some of it
 pub meets-count : (set : ℤ → Bool) (start : ℤ) (width : ℕ) → Meets set start width → 0 < count set start width
 meets-count set start width m = counted set start width m.minute m.from_start m.before_end m.member
+
+pub below-rises : (set : ℕ → Bool) (from to : ℕ) → from ≤ to → below set from ≤ below set to
+below-rises set from to l =
+    let e : from + (to - from) ≡ to = omega arith in
+    rw e at (below-range set from (to - from)).0
+
+pub natural-rises : (a b : ℤ) → a ≤ℤ b → natural a ≤ natural b
+natural-rises (pos a) (pos b) l = omega (arith, ints)
+natural-rises (pos a) (negsuc b) l = absurd (omega (arith, ints))
+natural-rises (negsuc a) (pos b) l = omega arith
+natural-rises (negsuc a) (negsuc b) l = omega arith
+
+abs-of : (z : ℤ) → pos 0 ≤ℤ z → pos (unsigned_abs z) ≡ z
+abs-of (pos n) l = refl
+abs-of (negsuc n) l = absurd (omega (arith, ints))
+
+pub width-pos : (a b : ℤ) → a ≤ℤ b → pos (unsigned_abs (b -ℤ a)) ≡ b -ℤ a
+width-pos a b l = abs-of (b -ℤ a) (omega (arith, ints))
+
+pub width-back : (a b : ℤ) → a ≤ℤ b → a +ℤ pos (unsigned_abs (b -ℤ a)) ≡ b
+width-back a b l = let e = width-pos a b l in rw e (omega (arith, ints))
+
+-- the count over a window between two whole numbers
+pub count-window :
+    (set : ℤ → Bool) (none : (n : ℕ) → set (negsuc n) ≡ false) (from to : ℤ) → from ≤ℤ to →
+    count set from (unsigned_abs (to -ℤ from)) + low set from ≡ low set to
+count-window set none from to l =
+    let e : from +ℤ pos (unsigned_abs (to -ℤ from)) ≡ to = width-back from to l in
+    rw e at (count-below set none from (unsigned_abs (to -ℤ from)))
+
+natural-none : (z : ℤ) → z ≤ℤ pos 0 → natural z ≡ 0
+natural-none (pos n) l = omega (arith, ints)
+natural-none (negsuc n) l = refl
+
+-- before the year 2000 there is none
+pub count-negative :
+    (set : ℤ → Bool) (none : (n : ℕ) → set (negsuc n) ≡ false) (from : ℤ) (width : ℕ) →
+    (from +ℤ pos width) ≤ℤ pos 0 → count set from width ≡ 0
+count-negative set none from width l =
+    let whole = count-below set none from width in
+    let e : low set (from +ℤ pos width) ≡ 0 =
+    ap (below (λ n. set (pos n))) (natural-none (from +ℤ pos width) l) ∙ below-zero (λ n. set (pos n)) in
+    omega arith
+
+pub negative : (z : ℤ) → int_lt z (pos 0) ≡ true → z ≤ℤ pos 0
+negative (pos n) is = absurd (let l : n < 0 = ltb-true n 0 is in omega arith)
+negative (negsuc n) is = omega (arith, ints)
+
+pub not_negative : (z : ℤ) → int_lt z (pos 0) ≡ false → pos (natural z) ≡ z
+not_negative (pos n) is = refl
+not_negative (negsuc n) is = absurd (false≢true (sym is))

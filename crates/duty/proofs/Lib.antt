@@ -1,6 +1,13 @@
+pub mod Absorbing
+pub mod Apart
 pub mod Counting
+pub mod Ending
 pub mod FreeRuns
+pub mod Held
 pub mod ListLemmas
+pub mod Overlapping
 pub mod PlanLemmas
+pub mod Rows
 pub mod Scans
 pub mod SpanFacts
+pub mod Summing

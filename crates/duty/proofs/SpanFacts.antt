@@ -1,15 +1,23 @@
 -- Which minutes a span covers.
-pub use Rattle.duty.specs.Covers.{covers-true, covers-from, no_negative}
-use Rattle.std.proofs.Common.{◌≡◌, ℕ, suc, ◌-◌, ◌<◌, ◌≤◌, true, false, List, [], ◌∷◌, Some, length, sym, ap, ◌∙◌, arith, inl, inr}
-use Rattle.std.specs.Prelude.{pos, slice_get}
+use Rattle.std.proofs.Common.{◌≡◌, ℕ, suc, ◌-◌, ◌<◌, ◌≤◌, Bool, true, false, List, [], ◌∷◌, Some, length, refl, ap, arith, inl, inr}
+use Rattle.std.specs.Prelude.{pos, negsuc, slice_get}
 use Rattle.std.specs.List.{list_any}
-use Rattle.std.proofs.lemmas.Bool.{cases_lt, and_left, and_right, lt-leb, le-ltb, false≢true}
+use Rattle.std.proofs.lemmas.Bool.{and_parts, and_from, and_left, and_right, or_cases, or_left, or_right, leb-true, ltb-true, le-leb, lt-ltb, lt-leb, le-ltb, false≢true}
 use Rattle.duty.specs.declared.span.Span.{Span}
-use Rattle.duty.specs.Minutes.{covers, minutes_of, last_in, spans_of, minutes_in}
-use Rattle.duty.specs.declared.duty_in_force.DutyInForce.{DutyInForce}
-use Rattle.duty.specs.declared.kind.Kind.{Kind}
+use Rattle.duty.specs.Minutes.{covers, minutes_of, last_in}
 use Rattle.duty.specs.Sweeps.{at}
-use Rattle.duty.proofs.Scans.{some_at, Clear, list_any-flat_map}
+use Rattle.duty.proofs.Scans.{some_at}
+
+pub covers-true : (n : ℕ) (s : Span) → covers (pos n) s ≡ true → (s.from ≤ n) × (n < s.to)
+covers-true n s is = let a = and_parts _ _ is in (leb-true _ _ a.0, ltb-true _ _ a.1)
+
+pub covers-from : (n : ℕ) (s : Span) → s.from ≤ n → n < s.to → covers (pos n) s ≡ true
+covers-from n s l h = and_from _ _ (le-leb _ _ l) (lt-ltb _ _ h)
+
+-- no negative minute is covered
+pub no_negative : (spans : List Span) (n : ℕ) → minutes_of spans (negsuc n) ≡ false
+no_negative [] n = refl
+no_negative (s ∷ spans) n = no_negative spans n
 
 pub covers-before : (n : ℕ) (s : Span) → n < s.from → covers (pos n) s ≡ false
 covers-before n s h = and_left _ _ (lt-leb _ _ h)
@@ -31,26 +39,12 @@ last_in-last report (x ∷ y ∷ rest) s is =
     let e : length (x ∷ y ∷ rest) - 1 ≡ suc (length (y ∷ rest) - 1) = omega arith in
     last_in-last x.to (y ∷ rest) s (rw e at is)
 
--- a span that does not begin between the two minutes leaves them clear
-pub span-clear : (s : Span) (from next : ℕ) → (from < s.from → s.from < s.to → next ≤ s.from) →
-    Clear (λ i. covers (pos i) s) from next
-span-clear s from next begins first i l h =
-    elim (cases_lt from s.from) [
-      | inl later ↦ elim (cases_lt s.from s.to) [
-        | inl some ↦ (let b = begins later some in covers-before i s (omega arith))
-        | inr none ↦ elim (cases_lt i s.from) [
-          | inl low ↦ covers-before i s low
-          | inr high ↦
-              covers-past i s (omega arith)
-        ]
-      ]
-      | inr sooner ↦ elim (cases_lt from s.to) [
-        | inl inside ↦ absurd (false≢true (sym first ∙ covers-from from s sooner inside))
-        | inr past ↦ covers-past i s (omega arith)
-      ]
+-- some span of the list passes, with the tests that it passes
+pub some_span : (P : Span → Bool) (spans : List Span) → list_any P spans ≡ true → (s : Span) × (P s ≡ true) ×
+    ((Q : Span → Bool) → Q s ≡ true → list_any Q spans ≡ true)
+some_span P [] is = absurd (false≢true is)
+some_span P (s ∷ spans) is =
+    elim (or_cases _ _ is) [
+      | inl here ↦ (s, here, λ Q q. or_left _ _ q)
+      | inr later ↦ (let r = some_span P spans later in (r.0, r.1, λ Q q. or_right _ _ (r.2 Q q)))
     ]
-
--- a minute of one duty is one of the history, by the place of the duty
-pub by-duty : (kind : Kind) (history : List DutyInForce) (n : ℕ) → at (minutes_in kind history) n ≡ list_any
-    (λ d. at (minutes_of (spans_of kind d)) n) history
-by-duty kind history n = list_any-flat_map (covers (pos n)) (spans_of kind) history

@@ -1,7 +1,9 @@
-pub mod Covers
 pub mod DutiesInForce
 pub mod FaultText
 pub mod FdpTimes
+pub mod Indexes
+pub mod Intervals
+pub mod Merged
 pub mod Minutes
 pub mod Overlaps
 pub mod Pairings

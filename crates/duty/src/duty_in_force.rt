@@ -1,9 +1,9 @@
-ghost use Rattle.std.specs.Prelude.{◌≡◌, ◌<◌, ◌≤◌, length, slice_get, Some, IsTrue, IsFalse, ◌⊎◌};
-ghost use Rattle.duty.specs.Minutes.{minutes_of, spans_of};
-ghost use Rattle.duty.specs.Sweeps.{at, IsFull, IsClear};
+ghost use Rattle.std.specs.Prelude.{◌≡◌, ◌<◌, length, slice_get, Some};
+ghost use Rattle.duty.specs.Minutes.{spans_of};
 
 use super::fdp_in_force::FdpInForce;
 use super::kind::Kind;
+use super::merging::Spans;
 use super::span::Span;
 use std::alloc::Global;
 use values::{Copied, MemoryFault};
@@ -49,36 +49,33 @@ impl DutyInForce {
         }
     }
 
-    /// The end of a span that covers the minute, or the minute.
-    pub(crate) fn covered_from(&self, kind: Kind, minute: u64) -> u64
-        ensures forward { minute ≤ result }
-        ensures covered { IsFull (minutes_of (spans_of kind self.now)) minute result }
-        ensures none { result ≡ minute → IsFalse (at (minutes_of (spans_of kind self.now)) minute) }
+    /// The spans of that kind.
+    pub(crate) fn spans(&self, kind: Kind) -> DutySpans<'_>
+        ensures duty { result.duty.now ≡ self.now }
+        ensures kind { result.kind ≡ kind }
     {
-        for index in 0..self.span_count(kind) {
-            let span = self.span_at(kind, index);
-            let end = span.to.number() as u64;
-            if span.from.number() as u64 <= minute && minute < end {
-                return end;
-            }
-        }
-        minute
+        DutySpans { duty: self, kind }
+    }
+}
+
+/// The spans of one kind of a duty.
+#[derive(Drop)]
+pub(crate) struct DutySpans<'a> {
+    duty: &'a DutyInForce,
+    kind: Kind,
+}
+
+impl Spans for DutySpans<'_> {
+    ghost use Rattle.duty.specs.Minutes.{spans_of};
+
+    ghost spans = { λ it. spans_of it.kind it.duty.now };
+
+    fn count(&self) -> usize {
+        self.duty.span_count(self.kind)
     }
 
-    /// The first minute after `minute` and before `limit` at which a span begins, or `limit`.
-    pub(crate) fn next_after(&self, kind: Kind, minute: u64, limit: u64) -> u64
-        requires { minute < limit }
-        ensures after { minute < result }
-        ensures within { result ≤ limit }
-        ensures clear { IsClear (minutes_of (spans_of kind self.now)) minute result }
-        ensures stops { (result ≡ limit)
-            ⊎ IsTrue (at (minutes_of (spans_of kind self.now)) result) }
-    {
-        let mut next = limit;
-        for index in 0..self.span_count(kind) {
-            next = self.span_at(kind, index).begin_within(minute, next);
-        }
-        next
+    fn span(&self, index: usize) -> Span {
+        self.duty.span_at(self.kind, index)
     }
 }
 

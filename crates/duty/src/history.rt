@@ -1,29 +1,37 @@
-ghost use Rattle.std.specs.Prelude.{◌≡◌, ◌<◌, ◌≤◌, ◌-◌, ◌++◌, ◌∷◌, [], OnOk, OnErr, pos, ◌-ℤ◌, IsFalse, IsTrue, ◌⊎◌, ◌↔◌};
-ghost use Rattle.duty.specs.Minutes.{count, minutes_in, HasFreeRun, Overlap};
+ghost use Rattle.std.specs.Prelude.{◌≡◌, ◌<◌, ◌≤◌, ◌-◌, ◌++◌, ◌∷◌, [], OnOk, OnErr, pos, negsuc, ◌-ℤ◌, ◌≤ℤ◌, unsigned_abs, IsFalse, IsTrue, ◌⊎◌, ◌↔◌};
+ghost use Rattle.duty.specs.Minutes.{count, minutes_in, Meets, HasFreeRun, Overlap};
+ghost use Rattle.duty.specs.declared.kind.Kind.TheVariants.{Flight, FlightDuty, Duty};
+ghost use Rattle.duty.specs.Indexes.{HasMinutes};
 ghost use Rattle.duty.specs.Overlaps.{overlaps as do_overlap};
-ghost use Rattle.duty.specs.Sweeps.{at, IsFull, IsClear};
 
 use super::duty_in_force::DutyInForce;
+use super::intervals::Intervals;
 use super::kind::Kind;
-use super::scan::{SpanTest, any_span};
-use super::span::Span;
+use super::merging::Spans;
 use std::alloc::Global;
 use std::marker::Model;
 use values::{Copied, MemoryFault, copies_of};
 
-/// The duties of a crew member in force, in the order in which they were added. They may overlap.
+/// The duties of a crew member in force, in the order in which they were added. They may overlap. Beside them stand their
+/// minutes of each kind, in order and each minute once.
 #[derive(Drop)]
 pub struct History {
     duties: Vec<DutyInForce>,
+    flying: Intervals,
+    flight_duty: Intervals,
+    on_duty: Intervals,
 }
 
 impl Model for History {
     ghost use Rattle.std.specs.Prelude.{List};
     ghost use Rattle.duty.specs.declared.duty_in_force.DutyInForce.{DutyInForce};
+    ghost use Rattle.duty.specs.Indexes.{AreIndexes};
 
     ghost Value = { List DutyInForce };
 
     ghost view = { λ h. h.duties.items };
+
+    ghost invariant = { λ h. AreIndexes h.duties.items h.flying.spans h.flight_duty.spans h.on_duty.spans };
 }
 
 impl History {
@@ -33,6 +41,9 @@ impl History {
     {
         History {
             duties: Vec::new(alloc),
+            flying: Intervals::empty(alloc),
+            flight_duty: Intervals::empty(alloc),
+            on_duty: Intervals::empty(alloc),
         }
     }
 
@@ -41,6 +52,13 @@ impl History {
         ensures ok { OnOk result (self.new ≡ self.old ++ duty ∷ []) }
         ensures err { OnErr result (self.new ≡ self.old) }
     {
+        self.duties.reserve(1)?;
+        self.flying.reserve(duty.span_count(Kind::Flight))?;
+        self.flight_duty.reserve(duty.span_count(Kind::FlightDuty))?;
+        self.on_duty.reserve(duty.span_count(Kind::Duty))?;
+        self.flying.add_all(&duty.spans(Kind::Flight));
+        self.flight_duty.add_all(&duty.spans(Kind::FlightDuty));
+        self.on_duty.add_all(&duty.spans(Kind::Duty));
         self.duties.push(duty)?;
         Ok(())
     }
@@ -51,6 +69,13 @@ impl History {
         ensures err { OnErr result (self.new ≡ self.old) }
     {
         let mut copies = copies_of(alloc, other.duties())?;
+        self.duties.reserve(copies.len())?;
+        self.flying.reserve(other.flying.count())?;
+        self.flight_duty.reserve(other.flight_duty.count())?;
+        self.on_duty.reserve(other.on_duty.count())?;
+        self.flying.add_all(&other.flying);
+        self.flight_duty.add_all(&other.flight_duty);
+        self.on_duty.add_all(&other.on_duty);
         self.duties.append(&mut copies)?;
         Ok(())
     }
@@ -62,33 +87,30 @@ impl History {
         self.duties.as_slice()
     }
 
+    /// The minutes of that kind.
+    pub fn intervals(&self, kind: Kind) -> &Intervals
+        ensures { HasMinutes result.now.spans kind self.now }
+    {
+        match kind {
+            Kind::Flight => &self.flying,
+            Kind::FlightDuty => &self.flight_duty,
+            Kind::Duty => &self.on_duty,
+        }
+    }
+
     /// How many of the `width` minutes before `end`, a number of minutes since 2000-01-01T00:00Z, are of that kind. A
     /// minute counts once, however many duties hold it. The minutes may begin before the year 2000.
     pub fn minutes_before(&self, kind: Kind, end: u64, width: u64) -> u64
         ensures { result ≡ count (minutes_in kind self.now) (pos end -ℤ pos width) width }
     {
-        self.minutes_between(kind, end.saturating_sub(width), end)
+        self.intervals(kind).minutes_before(end, width)
     }
 
-    /// How many of the minutes from `from` up to, and without, `to` are of that kind.
-    fn minutes_between(&self, kind: Kind, from: u64, to: u64) -> u64
-        requires { from ≤ to }
-        ensures { result ≡ count (minutes_in kind self.now) (pos from) (to - from) }
+    /// Whether some of the `width` minutes before `end` is of that kind.
+    pub fn meets(&self, kind: Kind, end: u64, width: u64) -> bool
+        ensures { IsTrue result ↔ Meets (minutes_in kind self.now) (pos end -ℤ pos width) width }
     {
-        let duties = self.duties();
-        let mut minute = from;
-        let mut held = 0;
-        while minute < to {
-            let end = covered_from(duties, kind, minute);
-            if minute < end {
-                let next = end.min(to);
-                held += next - minute;
-                minute = next;
-            } else {
-                minute = next_after(duties, kind, minute, to);
-            }
-        }
-        held
+        self.intervals(kind).meets(end, width)
     }
 
     /// Whether some `length` minutes in a row, all of them among the `width` minutes before `end`, hold none of that
@@ -98,105 +120,97 @@ impl History {
         ensures { IsTrue result
             ↔ HasFreeRun (minutes_in kind self.now) (pos end -ℤ pos width) width length }
     {
-        let duties = self.duties();
-        let mut minute = end.saturating_sub(width);
-        let mut run = width - (end - minute);
-        if length <= run {
-            return true;
-        }
-        while minute < end {
-            let covered = covered_from(duties, kind, minute);
-            if minute < covered {
-                minute = covered.min(end);
-                run = 0;
-            } else {
-                let next = next_after(duties, kind, minute, end);
-                let gap = next - minute;
-                if length - run <= gap {
-                    return true;
-                }
-                run += gap;
-                minute = next;
-            }
-        }
-        false
+        self.intervals(kind).has_free_run(end, width, length)
+    }
+
+    /// How many minutes from `from` up to, and without, `to` are flight minutes. Minutes before the year 2000 are negative.
+    pub fn flight_minutes(&self, from: i64, to: i64) -> u64
+        requires order { from ≤ℤ to }
+        requires begin { negsuc 99_999_999 ≤ℤ from }
+        requires end { to ≤ℤ pos 100_000_000 }
+        ensures { result ≡ count (minutes_in Flight self.now) from (unsigned_abs (to -ℤ from)) }
+    {
+        self.flying.minutes_between(from, to)
+    }
+
+    /// How many minutes from `from` up to, and without, `to` are minutes of a flight duty period.
+    pub fn fdp_minutes(&self, from: i64, to: i64) -> u64
+        requires order { from ≤ℤ to }
+        requires begin { negsuc 99_999_999 ≤ℤ from }
+        requires end { to ≤ℤ pos 100_000_000 }
+        ensures { result ≡ count (minutes_in FlightDuty self.now) from (unsigned_abs (to -ℤ from)) }
+    {
+        self.flight_duty.minutes_between(from, to)
+    }
+
+    /// How many minutes from `from` up to, and without, `to` are duty minutes.
+    pub fn duty_minutes(&self, from: i64, to: i64) -> u64
+        requires order { from ≤ℤ to }
+        requires begin { negsuc 99_999_999 ≤ℤ from }
+        requires end { to ≤ℤ pos 100_000_000 }
+        ensures { result ≡ count (minutes_in Duty self.now) from (unsigned_abs (to -ℤ from)) }
+    {
+        self.on_duty.minutes_between(from, to)
+    }
+
+    /// Whether some `length` minutes in a row, all of them from `from` up to, and without, `to`, hold no duty minute.
+    pub fn free_run(&self, from: i64, to: i64, length: u32) -> bool
+        requires order { from ≤ℤ to }
+        requires begin { negsuc 99_999_999 ≤ℤ from }
+        requires end { to ≤ℤ pos 100_000_000 }
+        requires length { 0 < length }
+        ensures { IsTrue result
+            ↔ HasFreeRun (minutes_in Duty self.now) from (unsigned_abs (to -ℤ from)) length }
+    {
+        self.on_duty.free_run(from, to, length)
     }
 
     /// Whether some minute is a duty minute of both. A duty that holds no minute overlaps nothing.
-    #[tactic(auto, unfolding(crate::specs::Overlaps::overlaps))]
     pub fn overlaps(&self, other: &History) -> bool
         ensures test { result ≡ do_overlap self.now other.now }
         ensures minute { IsTrue result ↔ Overlap self.now other.now }
     {
-        any_span(self.duties(), Kind::Duty, &MeetsDuty { other })
+        self.on_duty.shares(&other.on_duty)
     }
 }
 
 impl Copied for History {
     fn copy(&self, alloc: Global) -> Result<History, MemoryFault> {
-        let duties = copies_of(alloc, self.duties())?;
-        Ok(History { duties })
+        Ok(History {
+            duties: copies_of(alloc, self.duties())?,
+            flying: self.flying.copy(alloc)?,
+            flight_duty: self.flight_duty.copy(alloc)?,
+            on_duty: self.on_duty.copy(alloc)?,
+        })
     }
 }
 
-/// Whether a span shares a minute with a duty of the history.
-#[derive(Drop)]
-struct MeetsDuty<'a> {
-    other: &'a History,
-}
+#[cfg(test)]
+mod tests {
+    use super::History;
+    use crate::tests::june;
+    use values::MemoryFault;
 
-impl SpanTest for MeetsDuty<'_> {
-    ghost use Rattle.duty.specs.Overlaps.{meets_duty};
-
-    ghost passes = { λ test span. meets_duty test.other.now span };
-
-    fn passes(&self, span: Span) -> bool {
-        any_span(self.other.duties(), Kind::Duty, &MeetsSpan { span })
+    #[test]
+    fn keeps_its_duties_and_three_lists(rt: HostRuntime) -> Result<(), MemoryFault> {
+        let history = june(rt.alloc())?;
+        let History {
+            duties,
+            flying,
+            flight_duty,
+            on_duty,
+        } = &history;
+        assert_eq!(rt; duties.len(), 5);
+        assert_eq!(rt; flying.as_slice().len(), 8);
+        assert_eq!(rt; on_duty.as_slice().len(), 4);
+        let list = flight_duty.as_slice();
+        assert_eq!(rt; list.len(), 4);
+        assert_eq!(rt; list[3].span.from.number(), 13_381_140);
+        assert_eq!(rt; list[3].span.to.number(), 13_382_550);
+        assert_eq!(rt; list[0].total, 720);
+        assert_eq!(rt; list[1].total, 1_440);
+        assert_eq!(rt; list[2].total, 2_190);
+        assert_eq!(rt; list[3].total, 3_600);
+        Ok(())
     }
-}
-
-/// Whether two spans share a minute.
-#[derive(Clone, Copy)]
-struct MeetsSpan {
-    span: Span,
-}
-
-impl SpanTest for MeetsSpan {
-    ghost use Rattle.duty.specs.Overlaps.{meets_span};
-
-    ghost passes = { λ test span. meets_span test.span span };
-
-    fn passes(&self, span: Span) -> bool {
-        self.span.from.max(span.from) < self.span.to.min(span.to)
-    }
-}
-
-/// The end of a span that covers the minute, or the minute.
-fn covered_from(duties: &[DutyInForce], kind: Kind, minute: u64) -> u64
-    ensures forward { minute ≤ result }
-    ensures covered { IsFull (minutes_in kind duties.now) minute result }
-    ensures none { result ≡ minute → IsFalse (at (minutes_in kind duties.now) minute) }
-{
-    for duty in duties {
-        let end = duty.covered_from(kind, minute);
-        if minute < end {
-            return end;
-        }
-    }
-    minute
-}
-
-/// The first minute after `minute` and before `limit` at which a span begins, or `limit`.
-fn next_after(duties: &[DutyInForce], kind: Kind, minute: u64, limit: u64) -> u64
-    requires { minute < limit }
-    ensures after { minute < result }
-    ensures within { result ≤ limit }
-    ensures clear { IsClear (minutes_in kind duties.now) minute result }
-    ensures stops { (result ≡ limit) ⊎ IsTrue (at (minutes_in kind duties.now) result) }
-{
-    let mut next = limit;
-    for duty in duties {
-        next = duty.next_after(kind, minute, next);
-    }
-    next
 }

@@ -11,7 +11,9 @@ mod fdp_in_force;
 mod ground_duty;
 mod history;
 mod id;
+mod intervals;
 mod kind;
+mod merging;
 mod pairing;
 mod placed_duty;
 mod scan;
@@ -19,6 +21,8 @@ mod segment;
 mod shape;
 mod span;
 pub mod tag;
+#[cfg(test)]
+mod tests;
 
 pub use actual::Actual;
 pub use duty_in_force::DutyInForce;
@@ -28,6 +32,7 @@ pub use fdp_in_force::FdpInForce;
 pub use ground_duty::Ground;
 pub use history::History;
 pub use id::{Airport, CrewId, Flight, GroundId, Id, PairingId};
+pub use intervals::{Interval, Intervals};
 pub use kind::Kind;
 pub use pairing::Pairing;
 pub use placed_duty::Duty;

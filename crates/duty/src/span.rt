@@ -1,4 +1,4 @@
-ghost use Rattle.std.specs.Prelude.{◌≡◌, ◌<◌, ◌≤◌, ◌⊎◌};
+ghost use Rattle.std.specs.Prelude.{◌≡◌, ◌<◌, ◌≤◌, ◌⊎◌, IsTrue, IsFalse};
 
 use time117::Minute;
 
@@ -10,6 +10,14 @@ pub struct Span {
 }
 
 impl Span {
+    /// Whether the span holds no minute.
+    pub(crate) fn is_empty(self) -> bool
+        ensures empty { IsTrue result → self.to ≤ self.from }
+        ensures some { IsFalse result → self.from < self.to }
+    {
+        self.to <= self.from
+    }
+
     /// Where the span begins, if it holds a minute and begins after `minute` and before `limit`; else `limit`.
     pub(crate) fn begin_within(self, minute: u64, limit: u64) -> u64
         requires { minute < limit }

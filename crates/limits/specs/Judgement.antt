@@ -11,8 +11,8 @@ abbrev pub all_sections : List Section
 all_sections = FlightTime ∷ FlightDutyPeriod ∷ FlightTime672Hours ∷ FlightTime365Days ∷ FlightDutyPeriods168Hours ∷
     FlightDutyPeriods672Hours ∷ ThirtyHourRest ∷ TenHourRest ∷ []
 
--- those that the new duties break; `breaks` is true exactly where the section's `Rule` holds (`breaks_is` beside it), and
--- a section is in the list exactly there (`broken_is` of Laws/Broken.antt)
+-- those that the new duties break, told by a test of each section's rule. What the list means is a law (Meaning.antt, named
+-- by `laws::broken_is_rules`): a section is in it exactly where its `Rule` holds, and the sections stand in their order
 unfoldable pub Broken : List DutyInForce → List DutyInForce → List Section
 Broken history new = filter (λ section. breaks section history new) all_sections
 

@@ -1,28 +1,17 @@
 ghost use Rattle.std.specs.Prelude.{◌≡◌, ◌<◌, ◌^◌, ◌↔◌, IsTrue};
-ghost use Rattle.std.specs.List.{flat_map};
+ghost use Rattle.std.specs.List.{list_any, flat_map};
 ghost use Rattle.duty.specs.Minutes.{spans_of, minutes_in};
 ghost use Rattle.limits.specs.Rules.{IsOver};
-ghost use Rattle.limits.specs.Laws.Windows.{some_is_over as some_over};
+ghost use Rattle.limits.specs.Laws.Windows.{reaches};
 
 use duty::{History, Kind, Span, SpanTest, any_span};
 
-/// Whether some minute of a span is one of the `width` minutes before `end`.
-#[derive(Drop)]
-pub(crate) struct Reaches {
-    pub(crate) end: u64,
-    pub(crate) width: u32,
-}
-
-impl SpanTest for Reaches {
-    ghost use Rattle.limits.specs.Laws.Windows.{reaches};
-
-    ghost passes = { λ test span. reaches test.end test.width span };
-
-    fn passes(&self, span: Span) -> bool {
-        let from = span.from.number() as u64;
-        let to = span.to.number() as u64;
-        from < to && from < self.end && self.end < to + self.width as u64
-    }
+/// Whether one of the `width` minutes before `end` is a minute of that kind.
+pub(crate) fn is_reached(history: &History, kind: Kind, end: u64, width: u32) -> bool
+    requires { 0 < width }
+    ensures { result ≡ list_any (reaches end width) (flat_map (spans_of kind) history.now) }
+{
+    history.meets(kind, end, width as u64)
 }
 
 /// A rule on windows of `width` minutes: those that meet the new minutes of a kind hold at most `most` of all.
@@ -33,6 +22,7 @@ struct WindowRule<'a> {
     kind: Kind,
     width: u32,
     most: u64,
+    ghost some: { 0 < width },
 }
 
 /// Whether the window that ends where a span ends breaks the rule.
@@ -54,8 +44,8 @@ impl SpanTest for AtEnd<'_> {
         let rule = self.rule;
         let end = span.to.number() as u64;
         let width = rule.width;
-        let is_reached = any_span(rule.new.duties(), rule.kind, &Reaches { end, width });
-        is_reached && rule.most < rule.all.minutes_before(rule.kind, end, width as u64)
+        rule.most < rule.all.minutes_before(rule.kind, end, width as u64)
+            && is_reached(rule.new, rule.kind, end, width)
     }
 }
 
@@ -86,27 +76,26 @@ impl SpanTest for AtEdge<'_> {
 }
 
 /// Whether some `width` minutes in a row meet the new minutes of that kind and hold more than `most` of all. It tries
-/// the windows that end where a span ends, those that end with the first minute of a new span, and those that begin
-/// with its last: where any window breaks the rule, one of these does.
+/// the windows that end where the minutes of an interval end and that the new ones may reach, those that end with the first
+/// minute of a new span, and those that begin with its last: where any window breaks the rule, one of these does.
 pub(crate) fn is_over(all: &History, new: &History, kind: Kind, width: u32, most: u64) -> bool
     requires { 0 < width }
     ensures { IsTrue result
         ↔ IsOver width most (minutes_in kind all.now) (minutes_in kind new.now) }
 {
-    some_is_over(&WindowRule {
+    let Some(hull) = new.intervals(kind).hull() else {
+        return false;
+    };
+    let after = hull.from.number();
+    let before = hull.to.number() as u64 + width as u64;
+    let rule = WindowRule {
         all,
         new,
         kind,
         width,
         most,
-    })
-}
-
-/// Whether some window that is tried breaks the rule.
-fn some_is_over(rule: &WindowRule) -> bool
-    ensures { let r = rule.now in result ≡ some_over (flat_map (spans_of r.kind) r.all.now)
-        (flat_map (spans_of r.kind) r.new.now) r.width r.most }
-{
-    any_span(rule.all.duties(), rule.kind, &AtEnd { rule: &*rule })
-        || any_span(rule.new.duties(), rule.kind, &AtEdge { rule: &*rule })
+    };
+    all.intervals(kind)
+        .any_ending(after, before, &AtEnd { rule: &rule })
+        || any_span(new.duties(), kind, &AtEdge { rule: &rule })
 }

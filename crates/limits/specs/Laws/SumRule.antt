@@ -1,5 +1,6 @@
 -- A sum rule needs to be tried at finitely many windows: those that end where a span of the history ends, and those
 -- that end just past the first minute, or begin at the last minute, of a new span.
+pub use Rattle.duty.proofs.SpanFacts.{some_span}
 use Rattle.std.proofs.Common.{◌≡◌, ℕ, zero, suc, ◌+◌, ◌-◌, ◌<◌, ◌≤◌, Bool, true, false, List, [], ◌∷◌, refl, sym, ap, ◌∙◌, subst, arith, inl, inr, ◌⊎◌, ◌↔◌}
 use Rattle.std.specs.Prelude.{ℤ, pos, negsuc, ◌+ℤ◌, ◌-ℤ◌, ◌≤ℤ◌, ◌<ℤ◌, IsTrue, nat_lt}
 use Rattle.std.specs.List.{list_any}
@@ -146,16 +147,6 @@ found all new width most end minute span covered among from to more =
       | inr last ↦ found_at all new width most at span (omega arith) among (omega arith) (omega arith) last more_at
     ]
 
--- some span of the list passes, with the tests that it passes
-pub some_span : (P : Span → Bool) (spans : List Span) → list_any P spans ≡ true → (s : Span) × (P s ≡ true) ×
-    ((Q : Span → Bool) → Q s ≡ true → list_any Q spans ≡ true)
-some_span P [] is = absurd (false≢true is)
-some_span P (s ∷ spans) is =
-    elim (or_cases _ _ is) [
-      | inl here ↦ (s, here, λ Q q. or_left _ _ q)
-      | inr later ↦ (let r = some_span P spans later in (r.0, r.1, λ Q q. or_right _ _ (r.2 Q q)))
-    ]
-
 -- a window that the tests find breaks the rule
 broken_at :
     (all new : List Span) (width most end minute : ℕ) → members new minute ≡ true → minute < end →
@@ -173,7 +164,7 @@ broken_at all new width most end minute member from to more = record {
   more = rw (count-before (minutes_of all) (no_negative all) end width) more;
 }
 
-sound_end : (all new : List Span) (width most end : ℕ) → 0 < width → list_any (reaches end width) new ≡ true →
+pub sound_end : (all new : List Span) (width most end : ℕ) → 0 < width → list_any (reaches end width) new ≡ true →
     most < before (members all) end width → IsOver width most (minutes_of all) (minutes_of new)
 sound_end all new width most end some reached more =
     let r = some_span (reaches end width) new reached in
@@ -203,7 +194,7 @@ edge-parts all width most s is =
       ],
     )
 
-sound_edge : (all new : List Span) (width most : ℕ) → 0 < width → list_any (edge_is_over all width most) new ≡ true →
+pub sound_edge : (all new : List Span) (width most : ℕ) → 0 < width → list_any (edge_is_over all width most) new ≡ true →
     IsOver width most (minutes_of all) (minutes_of new)
 sound_edge all new width most some is =
     let r = some_span (edge_is_over all width most) new is in

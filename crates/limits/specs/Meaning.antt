@@ -1,0 +1,22 @@
+-- What the judgement means, for all lists of duties: a section is in it exactly where its rule holds, and the sections
+-- stand in it in their order.
+use Rattle.std.specs.Prelude.{◌≡◌, ◌↔◌, nat_lt, true, List, map}
+use Rattle.std.specs.List.{Contains}
+use Rattle.duty.specs.Words.{each_next}
+use Rattle.duty.specs.declared.duty_in_force.DutyInForce.{DutyInForce}
+use Rattle.limits.specs.Judgement.{Broken}
+use Rattle.limits.specs.Rules.{Rule}
+use Rattle.limits.specs.SectionText.{section_number}
+use Rattle.limits.specs.declared.section.Section.{Section}
+
+-- a section is in the list exactly where its rule holds
+abbrev pub BrokenIsRules : Type 0
+BrokenIsRules = (history new : List DutyInForce) (section : Section) → Contains (Broken history new) section ↔ Rule section history new
+
+-- each section has a lower number than the next one: they stand in their order, each once at most
+abbrev pub AreInOrder : List Section → Type 0
+AreInOrder sections = each_next nat_lt (map section_number sections) ≡ true
+
+-- the list is in the sections' order
+abbrev pub BrokenIsInOrder : Type 0
+BrokenIsInOrder = (history new : List DutyInForce) → AreInOrder (Broken history new)
