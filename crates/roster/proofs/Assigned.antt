@@ -11,7 +11,7 @@ use Rattle.command.specs.declared.order.Order.TheVariants.{Assign, AddGround}
 use Rattle.roster.specs.Honest.{IsHonestOf, Honest}
 use Rattle.roster.specs.Places.{Place, period, on_ground, no_place, the_pairing, others, ground_at}
 use Rattle.roster.specs.Refusals.{duties_of}
-use Rattle.roster.specs.State.{State}
+use Rattle.roster.specs.State.{State, zone_of}
 use Rattle.roster.specs.Steps.{after, change_of}
 use Rattle.roster.proofs.Accepted.{inserted}
 use Rattle.roster.proofs.Gaining.{loses, IsOld, IsFresh, Gains, gains}
@@ -36,8 +36,8 @@ module _ (s : State) (key : KeyParts) (honest : Honest s) where
       ])
       (λ _ _ h. h)) (honest who)
 
-  assign_gains : (id crew : List ℕ) → BreaksNone crew (others s crew no_place) (duties_of s id) →
-      Gains s (assigned id crew) crew (the_pairing id) (others s crew no_place) (duties_of s id)
+  assign_gains : (id crew : List ℕ) → BreaksNone crew (others s crew no_place) (duties_of s crew id) →
+      Gains s (assigned id crew) crew (the_pairing id) (others s crew no_place) (duties_of s crew id)
   unfolding after
   assign_gains id crew within = record {
     stay = λ _ _ e. e;
@@ -50,22 +50,22 @@ module _ (s : State) (key : KeyParts) (honest : Honest s) where
       ]
       | on_ground g ↦ λ h _. (h, among_others s crew no_place (on_ground g) d h refl)
     ];
-    fresh = λ place d. elim place as (λ x. IsFresh (assigned id crew) crew (the_pairing id) (duties_of s id) x d) [
+    fresh = λ place d. elim place as (λ x. IsFresh (assigned id crew) crew (the_pairing id) (duties_of s crew id) x d) [
       | period q number ↦ λ h at. elim (seated s s.pairings id crew (Some crew) q h.0 h.1) [
-        | inl new ↦ of_pairing s id new.2 number d new.3 (moved s.zone new.1 (Some crew) new.2 h.0 new.4 number d h.3)
-        | inr old ↦ of_pairing s id h.0 number d (ap (fin.get s.pairings) ((bytes_eq-Decides id q).0 at) ∙ old) h.3
+        | inl new ↦ of_pairing s crew id new.2 number d new.3 (moved (zone_of s crew) new.1 (Some crew) new.2 h.0 new.4 number d h.3)
+        | inr old ↦ of_pairing s crew id h.0 number d (ap (fin.get s.pairings) ((bytes_eq-Decides id q).0 at) ∙ old) h.3
       ]
       | on_ground g ↦ λ h at. absurd (false≢true at)
     ];
-    recorded = none_broken (assigned id crew) crew (the_pairing id) (others s crew no_place) (duties_of s id) within;
+    recorded = none_broken (assigned id crew) crew (the_pairing id) (others s crew no_place) (duties_of s crew id) within;
   }
 
-  pub assign : (id crew : List ℕ) → BreaksNone crew (others s crew no_place) (duties_of s id) → Honest (assigned id crew)
+  pub assign : (id crew : List ℕ) → BreaksNone crew (others s crew no_place) (duties_of s crew id) → Honest (assigned id crew)
   assign id crew within who =
       elim (bytes_eq crew who) as (λ b. bytes_eq crew who ≡ b → IsHonestOf (assigned id crew) who) [
         | false ↦ λ other. assign_other id crew who other
         | true ↦ λ same. subst (IsHonestOf (assigned id crew)) ((bytes_eq-Decides crew who).0 same)
-            (gains s (assigned id crew) crew (the_pairing id) (others s crew no_place) (duties_of s id)
+            (gains s (assigned id crew) crew (the_pairing id) (others s crew no_place) (duties_of s crew id)
             (assign_gains id crew within) (honest crew))
       ] refl
 
@@ -76,7 +76,7 @@ module _ (s : State) (key : KeyParts) (honest : Honest s) where
 
   -- the duty that is added, and its place
   abbrev added : GroundPlan → List DutyInForce
-  added g = (ground_at s.zone (g.id, g)).1 ∷ []
+  added g = (ground_at (g.id, g)).1 ∷ []
 
   abbrev the_ground : List ℕ → Place → Bool
   the_ground id (period _ _) = false
@@ -111,7 +111,7 @@ module _ (s : State) (key : KeyParts) (honest : Honest s) where
     fresh = λ place d. elim place as (λ x. IsFresh (grounded g) g.crew (the_ground g.id) (added g) x d) [
       | period q number ↦ λ h at. absurd (false≢true at)
       | on_ground q ↦ λ h at. elim (inserted s.grounds g.id g q h.0 h.1) [
-        | inl new ↦ is_first _ [] d (ap (λ x. (ground_at s.zone (g.id, x)).1) new.1 ∙ h.3)
+        | inl new ↦ is_first _ [] d (ap (λ x. (ground_at (g.id, x)).1) new.1 ∙ h.3)
         | inr old ↦ absurd (old.0 (sym ((bytes_eq-Decides g.id q).0 at)))
       ]
     ];

@@ -23,7 +23,7 @@ use Rattle.roster.specs.Pairings.{is_held_by, holds, flown, periods_in_force}
 use Rattle.roster.specs.Places.{Place, period, on_ground, Placed, the_period, others}
 use Rattle.roster.specs.Refusals.{planned, refusals}
 use Rattle.roster.specs.Sound.{Sound}
-use Rattle.roster.specs.State.{State, exceedance_name}
+use Rattle.roster.specs.State.{State, exceedance_name, zone_of}
 use Rattle.roster.specs.Steps.{after, change_of, with_actual, flown_duty, broken_by_holder, recorded_by, recorded}
 use Rattle.roster.specs.declared.state.PeriodId.{PeriodId}
 use Rattle.roster.specs.declared.state.Rostered.{Rostered}
@@ -80,17 +80,17 @@ from_map f None y e = cc
 from_map f (Some x) y e = (x, refl, same_Some (f x) y e)
 
 -- the period that is flown is the new duty
-new_period : (s : State) (id : List ℕ) (a : ActualTimes) (f : Found s id a) (r : Rostered) →
-    with_actual a f.rostered ≡ r → (number : ℕ) (d : DutyInForce) → a.period ≡ number → IsPeriod s.zone r number d →
-    Contains (flown_duty s id a) d
-new_period s id a f r is number d same h =
+new_period : (s : State) (who id : List ℕ) (a : ActualTimes) (f : Found s id a) (r : Rostered) →
+    with_actual a f.rostered ≡ r → (number : ℕ) (d : DutyInForce) → a.period ≡ number → IsPeriod (zone_of s who) r number d →
+    Contains (flown_duty s who id a) d
+new_period s who id a f r is number d same h =
     let place : h.place ≡ a.period - 1 = let counted = h.counted in omega arith in
     let pairs = zip f.rostered.plan.periods (slice_set f.rostered.actuals (a.period - 1) (Some a)) in
     let p = from_map flown (slice_get pairs (a.period - 1)) h.fdp
     (sym (slice_get-map flown pairs (a.period - 1)) ∙ ap (slice_get (map flown pairs)) (sym place)
     ∙ ap (λ x. slice_get (periods_in_force x) h.place) is ∙ h.found) in
     let parts = zip_here f.rostered.plan.periods f.rostered.actuals (a.period - 1) (Some a) p.0 p.1 in
-    let at = λ (x : Fdp). in_force s.zone (duty.Fdp x) in
+    let at = λ (x : Fdp). in_force (zone_of s who) (duty.Fdp x) in
     let planned_is : planned s id a.period ≡ Some f.fdp =
     ap (option_and_then (λ (x : Rostered). slice_get x.plan.periods (a.period - 1))) f.there ∙ f.planned in
     let same_fdp = one_value (slice_get f.rostered.plan.periods (a.period - 1)) f.fdp p.0.0 f.planned parts.0 in
@@ -206,7 +206,7 @@ module _ (s : State) (key : KeyParts) (free : fin.get s.requests (key_name key) 
           new.1,
           ap (fin.get s.pairings) new.0 ∙ new.2,
           ap (holds who) new.3 ∙ h.2,
-          still_period s.zone a new.1 h.0 new.3 number d positive (other new.0) h.3,
+          still_period (zone_of s who) a new.1 h.0 new.3 number d positive (other new.0) h.3,
         )
         | inr old ↦ (h.0, old.1, h.2, h.3)
       ] in
@@ -214,7 +214,7 @@ module _ (s : State) (key : KeyParts) (free : fin.get s.requests (key_name key) 
   flown_old who (on_ground g) d h apart = (h, among_others s who this (on_ground g) d h refl)
 
   -- and this one is the new duty
-  flown_fresh : (who : List ℕ) (place : Place) (d : DutyInForce) → IsFresh reflown who this (flown_duty s id a) place d
+  flown_fresh : (who : List ℕ) (place : Place) (d : DutyInForce) → IsFresh reflown who this (flown_duty s who id a) place d
   unfolding after
   flown_fresh who (period q number) d h at =
       let both = and_parts (bytes_eq id q) (a.period == number) at in
@@ -222,17 +222,17 @@ module _ (s : State) (key : KeyParts) (free : fin.get s.requests (key_name key) 
       let new = change_here s.pairings id (with_actual a) ∙ ap (option_map (with_actual a)) f.there in
       let is = one_value (fin.get (changed_at s.pairings id (with_actual a)) id) (with_actual a f.rostered) h.0 new
       (ap (fin.get (changed_at s.pairings id (with_actual a))) pairing ∙ h.1) in
-      new_period s id a f h.0 is number d ((Decides-eqb a.period number).0 both.1) h.3
+      new_period s who id a f h.0 is number d ((Decides-eqb a.period number).0 both.1) h.3
   flown_fresh who (on_ground g) d h at = absurd (false≢true at)
 
   -- what a holder breaks is recorded under this key
   flown_recorded : (who : List ℕ) → holds who f.rostered ≡ true →
-      AreRecorded reflown who this (rest_of who) (flown_duty s id a)
+      AreRecorded reflown who this (rest_of who) (flown_duty s who id a)
   unfolding after
   flown_recorded who held section c some p in_some stands at =
       let e : Exceedance = record { crew = who; section = section } in
       let told = of_holder s id a f.rostered who f.there held e
-      (in_broken who (rest_of who) (flown_duty s id a) section c) in
+      (in_broken who (rest_of who) (flown_duty s who id a) section c) in
       record {
         key = key;
         named = named_now;
@@ -242,7 +242,7 @@ module _ (s : State) (key : KeyParts) (free : fin.get s.requests (key_name key) 
       }
 
   flown_gains : (who : List ℕ) → holds who f.rostered ≡ true → IsHonestOf s who → IsHonestOf reflown who
-  flown_gains who held honest = gains s reflown who this (rest_of who) (flown_duty s id a) (record {
+  flown_gains who held honest = gains s reflown who this (rest_of who) (flown_duty s who id a) (record {
     stay = all_stay;
     old = flown_old who;
     fresh = flown_fresh who;

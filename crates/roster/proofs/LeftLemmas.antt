@@ -21,11 +21,11 @@ left_append out (x ∷ xs) ys =
     ]
 
 -- no ground duty is left out
-pub left_grounds : (out : LeftOut) (zone : List ℕ) (rows : List (List ℕ × GroundPlan)) →
-    all_but (leaves_out out) (map (ground_at zone) rows) ≡ duties (map (ground_at zone) rows)
-left_grounds Nothing zone rows = left_none (map (ground_at zone) rows)
-left_grounds (Pairing id) zone [] = refl
-left_grounds (Pairing id) zone (row ∷ rows) = ap (λ ds. (ground_at zone row).1 ∷ ds) (left_grounds (Pairing id) zone rows)
-left_grounds (Period id number) zone [] = refl
-left_grounds (Period id number) zone (row ∷ rows) =
-    ap (λ ds. (ground_at zone row).1 ∷ ds) (left_grounds (Period id number) zone rows)
+pub left_grounds : (out : LeftOut) (rows : List (List ℕ × GroundPlan)) →
+    all_but (leaves_out out) (map ground_at rows) ≡ duties (map ground_at rows)
+left_grounds Nothing rows = left_none (map ground_at rows)
+left_grounds (Pairing id) [] = refl
+left_grounds (Pairing id) (row ∷ rows) = ap (λ ds. (ground_at row).1 ∷ ds) (left_grounds (Pairing id) rows)
+left_grounds (Period id number) [] = refl
+left_grounds (Period id number) (row ∷ rows) =
+    ap (λ ds. (ground_at row).1 ∷ ds) (left_grounds (Period id number) rows)

@@ -20,3 +20,4 @@ pub mod Sound
 pub mod Standing
 pub mod Swapped
 pub mod WithinLimits
+pub mod Listed

@@ -23,7 +23,7 @@ use Rattle.roster.specs.Laws.{KeepsHonest, KeepsSound, MadeByCommands, StartsSou
 use Rattle.roster.specs.Pairings.{holds}
 use Rattle.roster.specs.Places.{duties, grounds_of, ground_at, history_of, periods_at}
 use Rattle.roster.specs.Sound.{Sound}
-use Rattle.roster.specs.State.{State, empty}
+use Rattle.roster.specs.State.{State, zone_of, empty}
 use Rattle.roster.specs.Steps.{step_of}
 use Rattle.roster.specs.declared.change.Verdict.{Verdict}
 use Rattle.roster.specs.declared.change.Verdict.TheVariants.{Repeat, Accept, Refuse}
@@ -51,9 +51,9 @@ no_entries X = of_no_length _ (sym (fin.len-entries (fin.empty {X = X} {R = name
 
 no_history : (zone who : List ℕ) → history_of (empty zone) who ≡ []
 no_history zone who =
-    ap (λ rows. flat_map (periods_at zone) (filter (λ row. holds who row.1) rows) ++ grounds_of (empty zone) who)
+    ap (λ rows. flat_map (periods_at (zone_of (empty zone) who)) (filter (λ row. holds who row.1) rows) ++ grounds_of (empty zone) who)
     (no_entries _)
-    ∙ ap (λ rows. map (ground_at zone) (filter (λ row. bytes_eq row.1.crew who) rows)) (no_entries _)
+    ∙ ap (λ rows. map ground_at (filter (λ row. bytes_eq row.1.crew who) rows)) (no_entries _)
 
 -- no duties break no rule
 no_minute : (kind : Kind) (start : ℤ) (width : ℕ) → Meets (minutes_in kind []) start width → ⊥

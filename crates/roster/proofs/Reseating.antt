@@ -14,7 +14,7 @@ use Rattle.command.specs.declared.member.Seat.TheVariants.{Captain, FirstOfficer
 use Rattle.roster.specs.Pairings.{with_holder, is_held_by, holds, periods_in_force}
 use Rattle.roster.specs.Places.{Place, period, on_ground, duties, periods_at}
 use Rattle.roster.specs.Refusals.{broken_by, duties_of}
-use Rattle.roster.specs.State.{State}
+use Rattle.roster.specs.State.{State, zone_of}
 use Rattle.roster.specs.Steps.{seat_change, reseated}
 use Rattle.roster.specs.declared.change.SeatChange.{SeatChange}
 use Rattle.roster.specs.declared.state.Rostered.{Rostered}
@@ -93,12 +93,12 @@ seated s m id who new q r e =
 -- a member who isn't put into a seat has a period at no new place
 pub not_gained : (s : State) (who : List ℕ) (new : Option (List ℕ)) (id q : List ℕ) (r : Rostered) (number : ℕ)
     (d : DutyInForce) → is_held_by who new ≡ false → IsReseated s.pairings id new q r → holds who r ≡ true →
-    IsPeriod s.zone r number d → Stands s who (period q number) d
+    IsPeriod (zone_of s who) r number d → Stands s who (period q number) d
 not_gained s who new id q r number d other h held at = (
   h.2,
   ap (fin.get s.pairings) h.0 ∙ h.3,
   held_before h.1 who new h.2 r h.4 other held,
-  moved s.zone h.1 new h.2 r h.4 number d at,
+  moved (zone_of s who) h.1 new h.2 r h.4 number d at,
 )
 
 -- each period and each ground duty was the member's before
@@ -109,11 +109,11 @@ lost s t who periods grounds (period id n) d h = periods id n d h
 lost s t who periods grounds (on_ground id) d h = grounds id d h
 
 -- a period of a pairing is one of its duties
-pub of_pairing : (s : State) (id : List ℕ) (r : Rostered) (number : ℕ) (d : DutyInForce) →
-    fin.get s.pairings id ≡ Some r → IsPeriod s.zone r number d → Contains (duties_of s id) d
-of_pairing s id r number d there h =
-    subst (λ ds. Contains ds d) (ap (λ o. option_map_or (λ r. duties (periods_at s.zone (id, r))) o []) (sym there))
-    (period_of s.zone id r number d h)
+pub of_pairing : (s : State) (who id : List ℕ) (r : Rostered) (number : ℕ) (d : DutyInForce) →
+    fin.get s.pairings id ≡ Some r → IsPeriod (zone_of s who) r number d → Contains (duties_of s who id) d
+of_pairing s who id r number d there h =
+    subst (λ ds. Contains ds d) (ap (λ o. option_map_or (λ r. duties (periods_at (zone_of s who) (id, r))) o []) (sym there))
+    (period_of (zone_of s who) id r number d h)
 
 -- ---- What is broken
 

@@ -12,7 +12,7 @@ use Rattle.duty.specs.declared.fdp.Fdp.{Fdp}
 use Rattle.duty.specs.declared.placed_duty.Duty.TheVariants as duty
 use Rattle.roster.specs.Pairings.{holds, periods_in_force}
 use Rattle.roster.specs.Places.{Place, period, on_ground, Placed, periods_at, ground_at, periods_of, grounds_of, history_of, duties, others}
-use Rattle.roster.specs.State.{State}
+use Rattle.roster.specs.State.{State, zone_of}
 use Rattle.roster.specs.declared.state.Rostered.{Rostered}
 use Rattle.roster.proofs.Members.{in_filter, from_filter, in_map, from_map, in_flat_map, from_flat_map, in_numbers, from_numbers, in_rows, from_rows}
 
@@ -27,9 +27,9 @@ pub record IsPeriod (zone : List ℕ) (r : Rostered) (number : ℕ) (d : DutyInF
 -- the member has the duty at the place
 abbrev pub Stands : State → List ℕ → Place → DutyInForce → Type 0
 Stands s who (period id number) d =
-    (r : Rostered) × (fin.get s.pairings id ≡ Some r) × (holds who r ≡ true) × IsPeriod s.zone r number d
+    (r : Rostered) × (fin.get s.pairings id ≡ Some r) × (holds who r ≡ true) × IsPeriod (zone_of s who) r number d
 Stands s who (on_ground id) d =
-    (g : GroundPlan) × (fin.get s.grounds id ≡ Some g) × (g.crew ≡ who) × ((ground_at s.zone (id, g)).1 ≡ d)
+    (g : GroundPlan) × (fin.get s.grounds id ≡ Some g) × (g.crew ≡ who) × ((ground_at (id, g)).1 ≡ d)
 
 -- a period, by its number
 abbrev placed : List ℕ → List ℕ → ℕ × Fdp → Placed
@@ -60,24 +60,24 @@ pub standing_in : (s : State) (who : List ℕ) (place : Place) (d : DutyInForce)
     Contains (history_of s who) (place, d)
 standing_in s who (period id number) d h =
     Contains-append_left (periods_of s who) (grounds_of s who) (period id number, d)
-    (in_flat_map (periods_at s.zone) (held_by s who) (id, h.0) (period id number, d)
+    (in_flat_map (periods_at (zone_of s who)) (held_by s who) (id, h.0) (period id number, d)
     (in_filter (λ row. holds who row.1) (fin.entries s.pairings) (id, h.0) (in_rows s.pairings id h.0 h.1) h.2)
-    (period_at s.zone id h.0 number d h.3))
+    (period_at (zone_of s who) id h.0 number d h.3))
 standing_in s who (on_ground id) d h =
     Contains-append_right (periods_of s who) (grounds_of s who) (on_ground id, d)
     (subst (λ (x : DutyInForce). Contains (grounds_of s who) (on_ground id, x)) h.3
-    (in_map (ground_at s.zone) (grounds_by s who) (id, h.0)
+    (in_map ground_at (grounds_by s who) (id, h.0)
     (in_filter (λ row. bytes_eq row.1.crew who) (fin.entries s.grounds) (id, h.0) (in_rows s.grounds id h.0 h.1)
     ((bytes_eq-Decides h.0.crew who).1 h.2))))
 
 -- and the history is of what stands
 from_periods : (s : State) (who : List ℕ) (p : Placed) → Contains (periods_of s who) p → Stands s who p.0 p.1
 from_periods s who p c =
-    let row = from_flat_map (periods_at s.zone) (held_by s who) p c in
+    let row = from_flat_map (periods_at (zone_of s who)) (held_by s who) p c in
     let kept = from_filter (λ row. holds who row.1) (fin.entries s.pairings) row.0 row.1 in
     let id = row.0.0 in
     let r = row.0.1 in
-    let at = from_map (placed s.zone id) (enumerate_from 1 (periods_in_force r)) p row.2 in
+    let at = from_map (placed (zone_of s who) id) (enumerate_from 1 (periods_in_force r)) p row.2 in
     let n = from_numbers 1 (periods_in_force r) at.0 at.1 in
     subst (λ (q : Placed). Stands s who q.0 q.1) at.2 (
       r,
@@ -88,7 +88,7 @@ from_periods s who p c =
 
 from_grounds : (s : State) (who : List ℕ) (p : Placed) → Contains (grounds_of s who) p → Stands s who p.0 p.1
 from_grounds s who p c =
-    let row = from_map (ground_at s.zone) (grounds_by s who) p c in
+    let row = from_map ground_at (grounds_by s who) p c in
     let kept = from_filter (λ row. bytes_eq row.1.crew who) (fin.entries s.grounds) row.0 row.1 in
     let id = row.0.0 in
     let g = row.0.1 in

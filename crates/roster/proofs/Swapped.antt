@@ -27,7 +27,7 @@ use Rattle.roster.specs.Pairings.{with_holder, is_held_by, holds}
 use Rattle.roster.specs.Places.{Place, period, on_ground, the_pairing, others}
 use Rattle.roster.specs.Refusals.{is_member, is_pairing, broken_by, duties_of, refusals}
 use Rattle.roster.specs.Sound.{Crew, SoundPairing, Sound}
-use Rattle.roster.specs.State.{State}
+use Rattle.roster.specs.State.{State, zone_of}
 use Rattle.roster.specs.Steps.{after, change_of, seat_change, seats_of, reseated}
 use Rattle.roster.specs.declared.state.Request.{Request}
 use Rattle.roster.specs.declared.state.Rostered.{Rostered}
@@ -107,22 +107,22 @@ module _ (s : State) (new : Pairings) (requests : fin.FinMap name_cmp Request) w
 
       -- the periods of the other are new
       trader_fresh : (place : Place) (d : DutyInForce) →
-          IsFresh swapped me (the_pairing gained) (duties_of s gained) place d
+          IsFresh swapped me (the_pairing gained) (duties_of s me gained) place d
       trader_fresh (period id number) d h at =
           let is = (bytes_eq-Decides gained id).0 at in
           let r_is = one_value (fin.get new gained) _ h.0 traded.got (ap (fin.get new) is ∙ h.1) in
-          of_pairing s gained q number d q_is (moved s.zone other_seat (Some me) q h.0 r_is number d h.3)
+          of_pairing s me gained q number d q_is (moved (zone_of s me) other_seat (Some me) q h.0 r_is number d h.3)
       trader_fresh (on_ground g) d h at = absurd (false≢true at)
 
       -- who gives one and gains the other
-      trader : Sound s → fin.get s.crew me ≡ Some m → AreTwo them me → BreaksNone me rest_of (duties_of s gained) →
+      trader : Sound s → fin.get s.crew me ≡ Some m → AreTwo them me → BreaksNone me rest_of (duties_of s me gained) →
           IsHonestOf s me → IsHonestOf swapped me
       trader sound m_is apart within honest =
-          gains s swapped me (the_pairing gained) rest_of (duties_of s gained) (record {
+          gains s swapped me (the_pairing gained) rest_of (duties_of s me gained) (record {
             stay = λ _ _ e. e;
             old = trader_old sound m_is apart;
             fresh = trader_fresh;
-            recorded = none_broken swapped me (the_pairing gained) rest_of (duties_of s gained) within;
+            recorded = none_broken swapped me (the_pairing gained) rest_of (duties_of s me gained) within;
           }) honest
 
     -- one who is neither
@@ -157,8 +157,8 @@ record Found (s : State) (w : swap.Swap) : Type 0 where
   n_is : fin.get s.crew w.other_crew ≡ Some n
   p_is : fin.get s.pairings w.pairing ≡ Some p
   q_is : fin.get s.pairings w.other_pairing ≡ Some q
-  within : BreaksNone w.crew (others s w.crew (the_pairing w.pairing)) (duties_of s w.other_pairing)
-  other_within : BreaksNone w.other_crew (others s w.other_crew (the_pairing w.other_pairing)) (duties_of s w.pairing)
+  within : BreaksNone w.crew (others s w.crew (the_pairing w.pairing)) (duties_of s w.crew w.other_pairing)
+  other_within : BreaksNone w.other_crew (others s w.other_crew (the_pairing w.other_pairing)) (duties_of s w.other_crew w.pairing)
 
 found : (s : State) (w : swap.Swap) → Passed (refusals s (Swap w)) → Found s w
 unfolding refusals
@@ -169,8 +169,8 @@ found s w passed =
     let n = is_there (fin.get s.crew w.other_crew) members.1 in
     let p = is_there (fin.get s.pairings w.pairing) pairings.0 in
     let q = is_there (fin.get s.pairings w.other_pairing) pairings.1 in
-    let mine = broken_by w.crew (others s w.crew (the_pairing w.pairing)) (duties_of s w.other_pairing) in
-    let theirs = broken_by w.other_crew (others s w.other_crew (the_pairing w.other_pairing)) (duties_of s w.pairing) in
+    let mine = broken_by w.crew (others s w.crew (the_pairing w.pairing)) (duties_of s w.crew w.other_pairing) in
+    let theirs = broken_by w.other_crew (others s w.other_crew (the_pairing w.other_pairing)) (duties_of s w.other_crew w.pairing) in
     let none = passed.1.1.1.1.1.1.0 in
     record {
       m = m.0;

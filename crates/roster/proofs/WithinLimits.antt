@@ -144,14 +144,14 @@ breaks_none : (s : State) (order : Order) → is_assignment order ≡ true →
     ↔ ((gain : Gain) → Contains (gains s order) gain → BreaksNone gain)
 unfolding refusals
 breaks_none s (Assign id who) is =
-    let gain : Gain = record { others = others s who no_place; new = duties_of s id } in
+    let gain : Gain = record { others = others s who no_place; new = duties_of s who id } in
     through (applies (broken_by who gain.others gain.new) [] refl)
     (through (nothing_broken who gain) (one_is BreaksNone gain))
 breaks_none s (Swap w) is =
-    let gain : Gain = record { others = others s w.crew (the_pairing w.pairing); new = duties_of s w.other_pairing } in
+    let gain : Gain = record { others = others s w.crew (the_pairing w.pairing); new = duties_of s w.crew w.other_pairing } in
     let other : Gain = record {
       others = others s w.other_crew (the_pairing w.other_pairing);
-      new = duties_of s w.pairing;
+      new = duties_of s w.other_crew w.pairing;
     } in
     let broken = broken_by w.crew gain.others gain.new in
     let other_broken = broken_by w.other_crew other.others other.new in
@@ -162,7 +162,7 @@ breaks_none s (Swap w) is =
     (through (λ e. (one.0 e.0, two.0 e.1), λ e. (one.1 e.0, two.1 e.1))
     (two_are BreaksNone gain other)))
 breaks_none s (AddGround g) is =
-    let gain : Gain = record { others = others s g.crew no_place; new = (ground_at s.zone (g.id, g)).1 ∷ [] } in
+    let gain : Gain = record { others = others s g.crew no_place; new = (ground_at (g.id, g)).1 ∷ [] } in
     through (applies (broken_by g.crew gain.others gain.new) [] refl)
     (through (nothing_broken g.crew gain) (one_is BreaksNone gain))
 breaks_none s (AddCrew who member) is = absurd (cc)

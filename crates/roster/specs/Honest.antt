@@ -1,5 +1,6 @@
 -- An honest book: whatever some duties of a member break among themselves stands in an exceedance of the member that
 -- names one of them. A duty is known by its place and not by its times, so an old exceedance excuses no later one.
+-- `Broken` has exactly the sections whose rule holds: the law `broken_is_rules` of `limits`.
 use Rattle.std.specs.Prelude.{◌≡◌, ℕ, List, Some}
 use Rattle.std.specs.FinMap as fin
 use Rattle.std.specs.List.{Contains}

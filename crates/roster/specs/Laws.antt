@@ -5,18 +5,20 @@ use Rattle.std.specs.List.{Contains, fold}
 use Rattle.duty.specs.Plans.{Plan}
 use Rattle.duty.specs.Words.{each_next}
 use Rattle.duty.specs.declared.duty_in_force.DutyInForce.{DutyInForce}
+use Rattle.limits.specs.Meaning.{AreInOrder}
 use Rattle.limits.specs.Rules.{Rule}
 use Rattle.limits.specs.declared.section.Section.{Section}
 use Rattle.command.specs.Keys.{KeyParts, key_name}
 use Rattle.command.specs.Orders.{IsMade}
 use Rattle.command.specs.Texts.{refusal_number}
+use Rattle.command.specs.declared.exceedance.Exceedance.{Exceedance}
 use Rattle.command.specs.declared.exceedance.Reply.{Reply}
 use Rattle.command.specs.declared.order.Order.{Order}
 use Rattle.command.specs.declared.order.Order.TheVariants.{Assign, Swap, AddGround}
 use Rattle.roster.specs.Folds.{Asked, Fold, Replies, import}
 use Rattle.roster.specs.Honest.{Honest}
 use Rattle.roster.specs.Places.{no_place, the_pairing, others, ground_at}
-use Rattle.roster.specs.Refusals.{Row, refusals, duties_of}
+use Rattle.roster.specs.Refusals.{Row, refusals, duties_of, broken_by}
 use Rattle.roster.specs.Sound.{Sound}
 use Rattle.roster.specs.State.{State, empty}
 use Rattle.roster.specs.Steps.{step_of, after}
@@ -43,11 +45,11 @@ pub record Gain : Type 0 where
 
 -- of each member who gains duties by an assignment
 abbrev pub gains : State → Order → List Gain
-gains s (Assign id who) = record { others = others s who no_place; new = duties_of s id } ∷ []
-gains s (Swap w) = record { others = others s w.crew (the_pairing w.pairing); new = duties_of s w.other_pairing }
-    ∷ record { others = others s w.other_crew (the_pairing w.other_pairing); new = duties_of s w.pairing }
+gains s (Assign id who) = record { others = others s who no_place; new = duties_of s who id } ∷ []
+gains s (Swap w) = record { others = others s w.crew (the_pairing w.pairing); new = duties_of s w.crew w.other_pairing }
+    ∷ record { others = others s w.other_crew (the_pairing w.other_pairing); new = duties_of s w.other_crew w.pairing }
     ∷ []
-gains s (AddGround g) = record { others = others s g.crew no_place; new = (ground_at s.zone (g.id, g)).1 ∷ [] } ∷ []
+gains s (AddGround g) = record { others = others s g.crew no_place; new = (ground_at (g.id, g)).1 ∷ [] } ∷ []
 gains s order = []
 
 -- a section's rule is broken by the new duties, in some window of minutes
@@ -72,6 +74,17 @@ IsAccepted s key order = (change : Change) × (reply : Reply) × (step_of s key 
 abbrev pub AcceptedWithinLimits : Type 0
 AcceptedWithinLimits = (s : State) (key : KeyParts) (order : Order) → is_assignment order ≡ true → PassesChecks s key order →
     IsAccepted s key order ↔ ((gain : Gain) → Contains (gains s order) gain → (section : Section) → IsBroken gain section → ⊥)
+
+-- ---- The limits that are listed
+
+-- an exceedance is listed exactly where it is the member's and the new duties break its section's rule
+abbrev pub ListsBroken : Type 0
+ListsBroken = (who : List ℕ) (gain : Gain) (e : Exceedance) →
+    Contains (broken_by who gain.others gain.new) e ↔ ((e.crew ≡ who) × IsBroken gain e.section)
+
+-- and the list is in the sections' order, each of them once at most
+abbrev pub ListsInOrder : Type 0
+ListsInOrder = (who : List ℕ) (gain : Gain) → AreInOrder (map (λ e. e.section) (broken_by who gain.others gain.new))
 
 -- ---- Sound and honest books
 

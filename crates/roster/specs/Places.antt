@@ -6,10 +6,11 @@ use Rattle.std.specs.Str.{bytes_eq}
 use Rattle.duty.specs.DutiesInForce.{in_force}
 use Rattle.duty.specs.Plans.{GroundPlan}
 use Rattle.duty.specs.declared.duty_in_force.DutyInForce.{DutyInForce}
+use Rattle.duty.specs.declared.duty_in_force.DutyInForce.TheVariants as times
 use Rattle.duty.specs.declared.fdp.Fdp.{Fdp}
 use Rattle.duty.specs.declared.placed_duty.Duty.TheVariants as duty
 use Rattle.roster.specs.Pairings.{holds, periods_in_force}
-use Rattle.roster.specs.State.{State}
+use Rattle.roster.specs.State.{State, zone_of}
 use Rattle.roster.specs.declared.state.Rostered.{Rostered}
 
 -- a period of a pairing, counted from 1, or a ground duty
@@ -28,16 +29,16 @@ numbered zone id n fdps = map (λ p. (period id p.0, in_force zone (duty.Fdp p.1
 abbrev pub periods_at : List ℕ → List ℕ × Rostered → List Placed
 periods_at zone (id, r) = numbered zone id 1 (periods_in_force r)
 
--- a ground duty
-abbrev pub ground_at : List ℕ → List ℕ × GroundPlan → Placed
-ground_at zone (id, g) = (on_ground id, in_force zone (duty.Ground g))
+-- a ground duty, from its begin to its end: it is the same in every zone
+abbrev pub ground_at : List ℕ × GroundPlan → Placed
+ground_at (id, g) = (on_ground id, times.Ground (record { from = g.begin; to = g.end }))
 
 -- a member's history: the periods of the pairings that the member holds, and the member's ground duties
 abbrev pub periods_of : State → List ℕ → List Placed
-periods_of s who = flat_map (periods_at s.zone) (filter (λ row. holds who row.1) (fin.entries s.pairings))
+periods_of s who = flat_map (periods_at (zone_of s who)) (filter (λ row. holds who row.1) (fin.entries s.pairings))
 
 abbrev pub grounds_of : State → List ℕ → List Placed
-grounds_of s who = map (ground_at s.zone) (filter (λ row. bytes_eq row.1.crew who) (fin.entries s.grounds))
+grounds_of s who = map ground_at (filter (λ row. bytes_eq row.1.crew who) (fin.entries s.grounds))
 
 abbrev pub history_of : State → List ℕ → List Placed
 history_of s who = periods_of s who ++ grounds_of s who

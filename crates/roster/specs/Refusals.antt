@@ -19,7 +19,7 @@ use Rattle.command.specs.declared.refusal.Refusal.{Refusal}
 use Rattle.command.specs.declared.refusal.Refusal.TheVariants.{NoSuchCrew, CrewExists, NoSuchPairing, PairingExists, SeatTaken, WrongSeat, NotAssigned, PairingCrewed, Flown, Overlap, Limits, NoSuchDuty, GroundExists, NoSuchGround, SegmentCount}
 use Rattle.roster.specs.Pairings.{holder, is_held_by, is_flown, is_crewed, is_fully_crewed}
 use Rattle.roster.specs.Places.{duties, no_place, the_pairing, others, periods_at, ground_at}
-use Rattle.roster.specs.State.{State}
+use Rattle.roster.specs.State.{State, zone_of}
 
 -- ---- Facts
 
@@ -63,11 +63,12 @@ planned s id number = option_and_then (λ r. slice_get r.plan.periods (number - 
 abbrev pub is_miscounted : State → List ℕ → ActualTimes → Bool
 is_miscounted s id a = option_map_or (λ fdp. not (length fdp.segments == length a.segments)) (planned s id a.period) false
 
--- the duties of a pairing in force
-abbrev pub duties_of : State → List ℕ → List DutyInForce
-duties_of s id = option_map_or (λ r. duties (periods_at s.zone (id, r))) (fin.get s.pairings id) []
+-- what a pairing gives a member: its duties in force, placed in the member's zone
+abbrev pub duties_of : State → List ℕ → List ℕ → List DutyInForce
+duties_of s who id = option_map_or (λ r. duties (periods_at (zone_of s who) (id, r))) (fin.get s.pairings id) []
 
--- the limits that a member's new duties break, after the member's others
+-- the limits that a member's new duties break, after the member's others: the sections whose rule they break, in order.
+-- That is a law, `broken_by_is_rules`; of `Broken` itself it is `broken_is_rules` of `limits` (Meaning.antt there)
 unfoldable pub broken_by : List ℕ → List DutyInForce → List DutyInForce → List Exceedance
 broken_by who others new = map (λ section. record { crew = who; section = section }) (Broken (others ++ new) new)
 
@@ -81,7 +82,8 @@ Row = Refusal × Bool
 abbrev pub over_limits : List Exceedance → Row
 over_limits broken = (Limits broken, nat_lt 0 (length broken))
 
--- of a swap, by the duties of both pairings: each member loses the own pairing, and the other's duties are new
+-- of a swap, by the duties that each pairing gives the member who takes it: each member loses the own pairing, and the
+-- other's duties are new
 abbrev pub trade_rows : State → swap.Swap → List DutyInForce → List DutyInForce → List Row
 trade_rows s w given taken =
     let rest = others s w.crew (the_pairing w.pairing) in
@@ -101,8 +103,8 @@ refusals s (Assign id who) =
     (NoSuchCrew, not (is_member s who))
     ∷ (NoSuchPairing, not (is_pairing s id))
     ∷ (SeatTaken, is_some (holder_of_own_seat s id who))
-    ∷ (Overlap, overlaps (duties_of s id) (others s who no_place))
-    ∷ over_limits (broken_by who (others s who no_place) (duties_of s id))
+    ∷ (Overlap, overlaps (duties_of s who id) (others s who no_place))
+    ∷ over_limits (broken_by who (others s who no_place) (duties_of s who id))
     ∷ []
 refusals s (Release id who) =
     (NoSuchCrew, not (is_member s who))
@@ -116,9 +118,9 @@ refusals s (Swap w) =
     ∷ (WrongSeat, are_of_two_kinds s w.crew w.other_crew)
     ∷ (NotAssigned, not (is_assigned s w.pairing w.crew && is_assigned s w.other_pairing w.other_crew))
     ∷ (Flown, has_flown s w.pairing || has_flown s w.other_pairing)
-    ∷ trade_rows s w (duties_of s w.pairing) (duties_of s w.other_pairing)
+    ∷ trade_rows s w (duties_of s w.other_crew w.pairing) (duties_of s w.crew w.other_pairing)
 refusals s (AddGround g) =
-    let new = (ground_at s.zone (g.id, g)).1 ∷ [] in
+    let new = (ground_at (g.id, g)).1 ∷ [] in
     (NoSuchCrew, not (is_member s g.crew))
     ∷ (Overlap, overlaps new (others s g.crew no_place))
     ∷ over_limits (broken_by g.crew (others s g.crew no_place) new)

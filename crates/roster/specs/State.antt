@@ -12,6 +12,10 @@ use Rattle.roster.specs.declared.state.Roster.{Roster}
 abbrev pub State : Type 0
 State = Roster
 
+-- the zone in which a member's duties are placed: the book's
+abbrev pub zone_of : State → List ℕ → List ℕ
+zone_of s who = s.zone
+
 -- nothing but the zone
 abbrev pub empty : List ℕ → State
 empty zone = record {

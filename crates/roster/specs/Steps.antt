@@ -18,7 +18,7 @@ use Rattle.command.specs.declared.refusal.Refusal.TheVariants.{NumberUsed}
 use Rattle.roster.specs.Pairings.{unheld, with_holder}
 use Rattle.roster.specs.Places.{others, the_period}
 use Rattle.roster.specs.Refusals.{planned, broken_by, refusal_of}
-use Rattle.roster.specs.State.{State, exceedance_name}
+use Rattle.roster.specs.State.{State, zone_of, exceedance_name}
 use Rattle.roster.specs.declared.change.Change.{Change}
 use Rattle.roster.specs.declared.change.SeatChange.{SeatChange}
 use Rattle.roster.specs.declared.change.Verdict.{Verdict}
@@ -44,14 +44,15 @@ seats_of s order = []
 
 -- ---- Exceedances
 
--- the period with its new times, as the new duty
-abbrev pub flown_duty : State → List ℕ → ActualTimes → List DutyInForce
-flown_duty s id a = option_map_or (λ fdp. in_force s.zone (duty.Fdp (flown_at fdp a)) ∷ []) (planned s id a.period) []
+-- the period with its new times, as a member's new duty
+abbrev pub flown_duty : State → List ℕ → List ℕ → ActualTimes → List DutyInForce
+flown_duty s who id a =
+    option_map_or (λ fdp. in_force (zone_of s who) (duty.Fdp (flown_at fdp a)) ∷ []) (planned s id a.period) []
 
--- what a holder breaks by the new times
+-- what a holder breaks by the new times: which limits are listed is the law `broken_by_is_rules`
 abbrev pub broken_by_holder : State → List ℕ → ActualTimes → Option (List ℕ) → List Exceedance
 broken_by_holder s id a holder =
-    option_map_or (λ who. broken_by who (others s who (the_period id a.period)) (flown_duty s id a)) holder []
+    option_map_or (λ who. broken_by who (others s who (the_period id a.period)) (flown_duty s who id a)) holder []
 
 -- the exceedances that an order records: an actual's, the captain's first
 unfoldable pub recorded_by : State → Order → List Exceedance

@@ -132,7 +132,7 @@ impl Roster {
     {
         for (id, rostered) in self.pairings.iter() {
             if rostered.holds(who) {
-                rostered.add_periods(alloc, &self.zone, id, out, history)?;
+                rostered.add_periods(alloc, self.zone_of(who), id, out, history)?;
             }
         }
         Ok(())
@@ -149,7 +149,7 @@ impl Roster {
     {
         for (_, ground) in self.grounds.iter() {
             if ground.crew() == who {
-                history.insert(alloc, Duty::Ground(ground.copy(alloc)?), &self.zone)?;
+                history.insert(alloc, Duty::Ground(ground.copy(alloc)?), self.zone_of(who))?;
             }
         }
         Ok(())

@@ -1,5 +1,5 @@
 //! What holds of every book. Each of these functions does nothing; its clause is a law.
-ghost use Rattle.roster.specs.Laws.{AcceptedWithinLimits, IsAscending, KeepsHonest, KeepsRecords, KeepsRequests, KeepsSound, MadeByCommands, Repeats, Resumes, StartsSound, StaysHonest, StaysSound};
+ghost use Rattle.roster.specs.Laws.{AcceptedWithinLimits, IsAscending, KeepsHonest, KeepsRecords, KeepsRequests, KeepsSound, ListsBroken, ListsInOrder, MadeByCommands, Repeats, Resumes, StartsSound, StaysHonest, StaysSound};
 
 /// The refusals of each order are looked at in the order of their numbers.
 pub fn refusals_ascend()
@@ -10,6 +10,12 @@ pub fn refusals_ascend()
 /// any window of minutes.
 pub fn accepted_within_limits()
     ensures { AcceptedWithinLimits }
+{}
+
+/// Of a member's new duties exactly those limits are listed whose rule they break, in the sections' order, each once.
+pub fn broken_by_is_rules()
+    ensures rules { ListsBroken }
+    ensures order { ListsInOrder }
 {}
 
 /// An accepted command leaves a sound roster sound.

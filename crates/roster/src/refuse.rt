@@ -5,6 +5,7 @@ ghost use Rattle.command.specs.declared.member.Member.{Member};
 ghost use Rattle.duty.specs.Plans.{Plan};
 ghost use Rattle.roster.specs.Places.{duties, periods_at};
 ghost use Rattle.roster.specs.Refusals.{refusal_of, first_of, over_limits, trade_rows};
+ghost use Rattle.roster.specs.State.{zone_of};
 
 use crate::duties::{LeftOut, is_held_by};
 use crate::state::{Roster, Rostered};
@@ -97,7 +98,7 @@ impl Roster {
         if rostered.holder(member.seat).is_some() {
             return Ok(Some(Refusal::SeatTaken));
         }
-        let new = rostered.duties(alloc, &self.zone, id)?;
+        let new = rostered.duties(alloc, self.zone_of(who), id)?;
         let fit = self.fit(alloc, who, LeftOut::Nothing, &new)?;
         if fit.overlaps {
             return Ok(Some(Refusal::Overlap));
@@ -163,12 +164,12 @@ impl Roster {
         taken: &Rostered,
     ) -> Result<Option<Refusal>, MemoryFault>
         ensures { IfOk result (λ refusal. refusal ≡ first_of (trade_rows self.now swap.now
-            (duties (periods_at self.now.zone (swap.now.pairing, given.now)))
-            (duties (periods_at self.now.zone (swap.now.other_pairing, taken.now))))) }
+            (duties (periods_at (zone_of self.now swap.now.other_crew) (swap.now.pairing, given.now)))
+            (duties (periods_at (zone_of self.now swap.now.crew) (swap.now.other_pairing, taken.now))))) }
     {
-        let new = taken.duties(alloc, &self.zone, &swap.other_pairing)?;
+        let new = taken.duties(alloc, self.zone_of(&swap.crew), &swap.other_pairing)?;
         let fit = self.fit(alloc, &swap.crew, LeftOut::Pairing(&swap.pairing), &new)?;
-        let other_new = given.duties(alloc, &self.zone, &swap.pairing)?;
+        let other_new = given.duties(alloc, self.zone_of(&swap.other_crew), &swap.pairing)?;
         let other_out = LeftOut::Pairing(&swap.other_pairing);
         let other_fit = self.fit(alloc, &swap.other_crew, other_out, &other_new)?;
         if fit.overlaps || other_fit.overlaps {
@@ -189,7 +190,11 @@ impl Roster {
             return Ok(Some(Refusal::NoSuchCrew));
         }
         let mut new = History::empty(alloc);
-        new.insert(alloc, Duty::Ground(ground.copy(alloc)?), &self.zone)?;
+        new.insert(
+            alloc,
+            Duty::Ground(ground.copy(alloc)?),
+            self.zone_of(ground.crew()),
+        )?;
         let fit = self.fit(alloc, ground.crew(), LeftOut::Nothing, &new)?;
         if fit.overlaps {
             return Ok(Some(Refusal::Overlap));

@@ -1,6 +1,6 @@
 ghost use Rattle.std.specs.Prelude.{◌≡◌, ◌-◌, Ok, IfOk, slice_get};
 ghost use Rattle.std.specs.Option.{option_copied};
-ghost use Rattle.roster.specs.State.{empty};
+ghost use Rattle.roster.specs.State.{empty, zone_of};
 ghost use Rattle.roster.specs.Pairings.{holder, is_flown, unheld};
 
 use command::{Command, Key, Member, Reply, Seat};
@@ -66,6 +66,13 @@ impl Roster {
             exceedances: Table::new(alloc),
             requests: Table::new(alloc),
         })
+    }
+
+    /// The zone in which a member's duties are placed.
+    pub fn zone_of(&self, _who: &CrewId) -> &Zone
+        ensures { result.now ≡ zone_of self.now _who.now }
+    {
+        &self.zone
     }
 }
 

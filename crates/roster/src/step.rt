@@ -98,19 +98,24 @@ impl Roster {
         }
     }
 
-    /// The period with its new times.
+    /// The period with its new times, as a duty of the member.
     fn flown_duty(
         &self,
         alloc: Global,
+        who: &CrewId,
         id: &PairingId,
         actual: &Actual,
     ) -> Result<History, MemoryFault>
-        ensures { IfOk result (λ new. new ≡ flown_duty self.now id.now actual.now) }
+        ensures { IfOk result (λ new. new ≡ flown_duty self.now who.now id.now actual.now) }
     {
         let mut new = History::empty(alloc);
         if let Some(rostered) = self.pairings.get(id) {
             if let Some(period) = rostered.planned(actual.period()) {
-                new.insert(alloc, Duty::Fdp(period.flown(alloc, actual)?), &self.zone)?;
+                new.insert(
+                    alloc,
+                    Duty::Fdp(period.flown(alloc, actual)?),
+                    self.zone_of(who),
+                )?;
             }
         }
         Ok(new)
@@ -129,7 +134,7 @@ impl Roster {
         let Some(who) = holder else {
             return Ok(Vec::new(alloc));
         };
-        let new = self.flown_duty(alloc, id, actual)?;
+        let new = self.flown_duty(alloc, who, id, actual)?;
         let fit = self.fit(alloc, who, LeftOut::Period(id, actual.period()), &new)?;
         Ok(fit.broken)
     }

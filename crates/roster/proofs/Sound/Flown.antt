@@ -160,7 +160,7 @@ of_holder s id a seat (Some who) h =
     let m = h who refl in
     let rest = others s who (the_period id a.period) in
     All-map (IsOfMember s.crew) (λ section. record { crew = who; section = section })
-    (Broken (rest ++ flown_duty s id a) (flown_duty s id a)) (λ _ _ _. (m.0, m.1))
+    (Broken (rest ++ flown_duty s who id a) (flown_duty s who id a)) (λ _ _ _. (m.0, m.1))
 
 of_members : (s : State) (id : List ℕ) (a : ActualTimes) (r : Rostered) → fin.get s.pairings id ≡ Some r →
     SoundPairing s.crew id r → All (IsOfMember s.crew) (recorded_by s (Actual id a))
