@@ -1,7 +1,13 @@
 pub mod BodyLemmas
+pub mod Fronts
 pub mod Grouped
 pub mod Loop
 pub mod Marks
+pub mod OneList
+pub mod OneReading
+pub mod OneText
+pub mod Planned
 pub mod RefusalLemmas
 pub mod Rows
+pub mod Stands
 pub mod Text

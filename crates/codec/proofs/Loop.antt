@@ -1,6 +1,6 @@
 -- The grouping of a schedule's segments, one more.
 use Rattle.std.proofs.Common.{◌≡◌, ◌≢◌, ◌∙◌, ◌+◌, ◌≤◌, ◌<◌, refl, sym, ap, subst, ℕ, List, [], ◌∷◌, ◌++◌, Bool, true, false, not, map, length, append_assoc, append-nil, length-append, ltb-true, Option, Some, None, option_map, is_some, Err, if◌then◌else◌, ◌==◌, inl, inr, arith}
-use Rattle.std.specs.List.{list_all, position_from}
+use Rattle.std.specs.List.{list_all, position_from, AllByRecursion}
 use Rattle.std.specs.Result.{result_ok}
 use Rattle.std.proofs.lemmas.Bool.{and_parts, cases_Bool}
 use Rattle.std.proofs.lemmas.List.{map-append, length-map}
@@ -11,7 +11,7 @@ use Rattle.duty.specs.Words.{checked, each_next}
 use Rattle.duty.specs.declared.fault.DutyFault.{DutyFault}
 use Rattle.codec.specs.Grouping.{open_place, told, told_if_open, AreAt, AreGrouped, Adds, Extends, Grows, IsBegun, IsFirstUnmade, IsLonger, IsReading, IsSoFar, last_place, plans_of, told_all, told_open}
 use Rattle.codec.specs.Places.{first_misplaced, goes_on, may_begin, may_stand, standing}
-use Rattle.codec.specs.Schedule.{AreOf, IsUnmade, differ, is_pairing, periods_segments, schedule_segments, shows}
+use Rattle.codec.specs.Schedule.{AreOf, IsPlanned, IsUnmade, differ, is_pairing, periods_segments, schedule_segments, shows}
 use Rattle.codec.specs.declared.grouping.Draft.{Draft}
 use Rattle.codec.specs.declared.grouping.Grouping.{Grouping}
 use Rattle.codec.specs.declared.grouping.OpenPairing.{OpenPairing}
@@ -221,5 +221,6 @@ grows_away number it old new tolds away e adds = rw away (subst (λ (ts : List (
 pub told_closed : (ds : List Draft) (d : Draft) (t : ℕ × Plan) → told d ≡ t → map told (ds ++ d ∷ []) ≡ map told ds ++ t ∷ []
 told_closed ds d t e = map-append told ds (d ∷ []) ∙ ap (λ u. map told ds ++ u ∷ []) e
 
-pub are_of : (tolds : List (ℕ × Plan)) (segments : List ScheduledSegment) → schedule_segments (plans_of tolds) ≡ segments → AreGrouped tolds → AreOf (plans_of tolds) segments
-are_of tolds segments e (shown, apart, few, at) = (e, shown, apart, rw (length-map tolds (λ (t : ℕ × Plan). t.1)) few)
+pub are_of : (tolds : List (ℕ × Plan)) (segments : List ScheduledSegment) → schedule_segments (plans_of tolds) ≡ segments → AreGrouped tolds →
+    AllByRecursion IsPlanned (plans_of tolds) → AreOf (plans_of tolds) segments
+are_of tolds segments e (shown, apart, few, at) planned = (e, shown, planned, apart, rw (length-map tolds (λ (t : ℕ × Plan). t.1)) few)

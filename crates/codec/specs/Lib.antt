@@ -1,5 +1,6 @@
 pub mod Bounds
 pub mod Grouping
+pub mod Laws
 pub mod Places
 pub mod Records
 pub mod RefusalText

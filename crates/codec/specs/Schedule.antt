@@ -1,11 +1,11 @@
 -- Which pairings a schedule in CSV tells of, and which record of a schedule is at fault.
 use Rattle.std.specs.Prelude.{◌≡◌, ◌<◌, ◌≤◌, ◌⊎◌, ◌≢◌, ℕ, ◌+◌, List, [], ◌∷◌, ◌++◌, map, length, Bool, true, not, ◌&&◌, nat_lt, Some, None, is_some}
-use Rattle.std.specs.List.{list_all}
+use Rattle.std.specs.List.{list_all, AllByRecursion}
 use Rattle.std.specs.Str.{bytes_eq}
 use Rattle.csv.specs.Reading.{AreRecords, default_config, strip_bom}
 use Rattle.csv.specs.declared.parser.State.TheVariants.{StartRecord}
 use Rattle.duty.specs.Pairings.{pairing_fault}
-use Rattle.duty.specs.Plans.{Plan}
+use Rattle.duty.specs.Plans.{Plan, as_planned}
 use Rattle.duty.specs.Words.{each_next}
 use Rattle.duty.specs.declared.fdp.Fdp.{Fdp}
 use Rattle.codec.specs.Bounds.{most_bytes}
@@ -39,10 +39,15 @@ shows p = nat_lt 0 (length p.periods) && list_all (λ f. nat_lt 0 (length f.segm
 abbrev pub differ : Plan → Plan → Bool
 differ p q = not (bytes_eq p.id q.id)
 
+-- each of its periods is planned at its report: a schedule tells of no other
+abbrev pub IsPlanned : Plan → Type 0
+IsPlanned p = map as_planned p.periods ≡ p.periods
+
 -- these segments are those of these pairings, one after the other, and of no others
 abbrev pub AreOf : List Plan → List ScheduledSegment → Type 0
 AreOf plans segments =
-    (schedule_segments plans ≡ segments) × (list_all shows plans ≡ true) × (each_next differ plans ≡ true) × (length plans ≤ 10_000)
+    (schedule_segments plans ≡ segments) × (list_all shows plans ≡ true) × AllByRecursion IsPlanned plans
+    × (each_next differ plans ≡ true) × (length plans ≤ 10_000)
 
 -- these are the records of a text, one byte order mark at its start aside
 abbrev pub HasRecords : List ℕ → List (List (List ℕ)) → Type 0

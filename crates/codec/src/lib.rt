@@ -5,6 +5,7 @@
 mod fault;
 mod fields;
 mod grouping;
+pub mod laws;
 mod reading;
 mod refusal_text;
 mod request_number;

@@ -6,6 +6,7 @@ use Rattle.csv.specs.declared.parser.State.TheVariants.{StartRecord}
 use Rattle.codec.specs.Grouping.{plans_of, told}
 use Rattle.codec.specs.Schedule.{HasRecords, Holds}
 use Rattle.codec.proofs.Loop.{are_of, unmade}
+use Rattle.codec.proofs.Planned.{all_planned}
 use Rattle.codec.proofs.reading.schedule_of_csv.Goals as goal
 
 pub returns-clause-refused : goal.returns-clause-refused
@@ -20,7 +21,7 @@ returns-clause-refused c =
     let records : HasRecords text (rows.0 ∷ rows.1) = subst (λ (rs : List (List (List ℕ))). HasRecords text rs) all read in
     let holds : Holds text segments = (is_text.1, rows.1, rows.0, records, rows.3, rows.4) in
     let grouped = c.in_ok-grouped.ensures.grouped in
-    let are = are_of tolds segments grouped.0 grouped.1 in
+    let are = are_of tolds segments grouped.0 grouped.1 (all_planned c.in_ok-grouped.field-0.items) in
     let placed = c.in_ok-grouped.ensures.placed in
     IfErr-weaker c.made.result _ _ (λ fault refused. elim refused [
       | inl memory ↦ inl memory

@@ -1,0 +1,16 @@
+-- What holds of every text that a schedule is read from.
+use Rattle.std.specs.Prelude.{◌≡◌, ℕ, List}
+use Rattle.duty.specs.Plans.{Plan}
+use Rattle.codec.specs.Schedule.{IsAtFault, IsSchedule}
+
+-- a text is a schedule of one list of pairings alone
+abbrev pub IsOfOneList : Type 0
+IsOfOneList = (text : List ℕ) (plans other : List Plan) → IsSchedule text plans → IsSchedule text other → plans ≡ other
+
+-- a text that is a schedule has no record at fault
+abbrev pub HasNoFault : Type 0
+HasNoFault = (text : List ℕ) (plans : List Plan) (n : ℕ) → IsSchedule text plans → ¬ (IsAtFault text n)
+
+-- a text has one record at fault at most
+abbrev pub HasOneFault : Type 0
+HasOneFault = (text : List ℕ) (n m : ℕ) → IsAtFault text n → IsAtFault text m → n ≡ m
