@@ -22,3 +22,4 @@ pub mod ReadSegments
 pub mod PlanStates
 pub mod RightSound
 pub mod ReadPairings
+pub mod OneRefusal

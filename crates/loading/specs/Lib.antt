@@ -5,3 +5,4 @@ pub mod Faults
 pub mod Loading
 pub mod Reading
 pub mod Keyed
+pub mod Refusals

@@ -1,4 +1,5 @@
-//! What holds of the rows of every state. Each of these functions does nothing; its clause is a law.
+//! What holds of every database, and of the rows of every state. Each of these functions does nothing; its clause is a law.
+ghost use Rattle.loading.specs.Refusals.{IsNotRefused, IsOneRefusal};
 ghost use Rattle.loading.specs.SameRows.{RowsSayAll, HoldsOneState};
 
 /// Sound states with the same rows are equal.
@@ -9,4 +10,14 @@ pub fn rows_say_all()
 /// One database holds the rows of one sound state at most.
 pub fn database_holds_one_state()
     ensures { HoldsOneState }
+{}
+
+/// Of one database at most one of the refusals 40, 41 and 42 is true, and 41 of one table.
+pub fn one_refusal_is_true()
+    ensures { IsOneRefusal }
+{}
+
+/// Of a database in which each table is right none of them is true.
+pub fn right_is_not_refused()
+    ensures { IsNotRefused }
 {}
