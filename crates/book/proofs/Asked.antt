@@ -1,5 +1,6 @@
 -- From what one command did to what is told of it.
-use Rattle.std.proofs.Common.{◌≡◌, refl, sym, ap, subst, ◌∙◌, false, Result, Ok, Err, OnOk, OnErr, IfOk}
+use Rattle.std.proofs.Common.{◌≡◌, ◌≤◌, arith, inl, refl, sym, ap, subst, ◌∙◌, false, Result, Ok, Err, OnOk, OnErr, IfOk}
+use Rattle.sqlite_trees.specs.Tree.{Trees}
 use Rattle.sqlite.specs.State as conn
 use Rattle.sqlite.specs.State.{HasCleanDisk}
 use Rattle.kept.specs.Laws.{IsCommand}
@@ -8,23 +9,29 @@ use Rattle.roster.specs.Steps.{after}
 use Rattle.roster.specs.declared.change.Change.{Change}
 use Rattle.rows.specs.declared.fault.StoreFault.{StoreFault}
 use Rattle.rows.specs.declared.fault.StoreFault.TheVariants.{Store, Memory}
+use Rattle.writing.specs.Kept.{KeepOthers}
 use Rattle.writing.specs.Next.{IsNext}
-use Rattle.writing.specs.Outcomes.{HoldsNow, Leaves, LeavesSome, StillShows, either, one}
+use Rattle.writing.specs.Outcomes.{AddsOnly, HoldsNow, Leaves, LeavesSome, StaysOpen, StillShows, either, one}
 use Rattle.book.specs.Asking.{Did, Done}
 use Rattle.book.specs.Kept.{Keeps, StillHolds, either_kept, is_store_fault}
 use Rattle.book.proofs.States.{both_kept, kept_after, shows_still, shown_still, shown_before, keeps_as, shows_as, either_as, still_as, same_state}
 
 -- ---- A change
 
+-- what was not touched leaves what it left before
+pub adds_none : (now : conn.State) (P : Trees → Type 0) → AddsOnly now now P
+adds_none now P = record { crash = λ clean trees may. inl may }
+
 -- nothing was done
 pub did_nothing : {A : Type 0} (now : conn.State) (was wanted : State) → Keeps now was → Did {A = A} now now was was wanted (Err Memory)
-did_nothing now was wanted keeps = record { clean = λ clean. clean; some = keeps.some; done = (refl, keeps, shows_still now was) }
+did_nothing now was wanted keeps = record { clean = λ clean. clean; some = keeps.some; others = adds_none now _; counts = omega arith; still_open = λ _ clean is. inl is; done = (refl, keeps, shows_still now was) }
 
 -- it was answered with the same state
 pub did_answer : {A : Type 0} (now : conn.State) (was wanted : State) (a : A) → Keeps now was → wanted ≡ was → Did now now was was wanted (Ok a)
-did_answer now was wanted a keeps same = record { clean = λ clean. clean; some = keeps.some; done = (sym same, keeps, λ shown. shown) }
+did_answer now was wanted a keeps same = record { clean = λ clean. clean; some = keeps.some; others = adds_none now _; counts = omega arith; still_open = λ is. absurd (cc); done = (sym same, keeps, λ shown. shown) }
 
-module _ (old new : conn.State) (was : State) (change : Change) (keeps : Keeps old was) (next : HasCleanDisk old → IsNext was change) (clean : HasCleanDisk new → HasCleanDisk old) (some : LeavesSome new) where
+module _ (old new : conn.State) (was : State) (change : Change) (keeps : Keeps old was) (next : HasCleanDisk old → IsNext was change) (clean : HasCleanDisk new → HasCleanDisk old) (some : LeavesSome new)
+    (others : AddsOnly old new (KeepOthers old.now)) (counts : old.faults ≤ new.faults) where
   -- it was kept
   pub did_keep : {A : Type 0} (roster : State) (a : A) → roster ≡ after was change → IsCommand change.command →
       (IsNext was change → Leaves old (one was) → Leaves new (one (after was change))) →
@@ -39,6 +46,9 @@ module _ (old new : conn.State) (was : State) (change : Change) (keeps : Keeps o
       record {
         clean = clean;
         some = some;
+        others = others;
+        counts = counts;
+        still_open = λ no. absurd (cc);
         done = (is, subst (λ (x : State). Keeps new x) (sym is) kept, λ _. subst (λ (x : State). HoldsNow new x) (sym is) shown);
       }
 
@@ -46,19 +56,26 @@ module _ (old new : conn.State) (was : State) (change : Change) (keeps : Keeps o
   pub did_fail : {A B : Type 0} (fault : StoreFault) →
       (Leaves old (one was) → ◌≡◌ {A = Result B StoreFault} (Err fault) (Err Memory) → Leaves new (one was)) →
       (IsNext was change → Leaves old (one was) → ◌≡◌ {A = Result B StoreFault} (Err fault) (Err Store) → Leaves new (either was (after was change))) →
-      (◌≡◌ {A = Result B StoreFault} (Err fault) (Err Store) → IsCommand change.command) → StillShows old new → Did {A = A} old new was was (after was change) (Err fault)
-  did_fail Memory memory store command shown = record {
+      (◌≡◌ {A = Result B StoreFault} (Err fault) (Err Store) → IsCommand change.command) → StillShows old new →
+      (◌≡◌ {A = Result B StoreFault} (Err fault) (Err Memory) → StaysOpen old new) → Did {A = A} old new was was (after was change) (Err fault)
+  did_fail Memory memory store command shown still_open = record {
     clean = clean;
     some = some;
+    others = others;
+    counts = counts;
+    still_open = λ _. still_open refl;
     done = (
       refl,
       record { kept = λ c. keeps.kept (clean c); leaves = memory keeps.leaves refl; some = some },
       shown_still old new was clean shown,
     );
   }
-  did_fail Store memory store command shown = record {
+  did_fail Store memory store command shown still_open = record {
     clean = clean;
     some = some;
+    others = others;
+    counts = counts;
+    still_open = λ no. absurd (cc);
     done = (
       record {
         crash = λ c trees may.
@@ -78,11 +95,11 @@ did_as old new was roster wanted other result same did = subst (λ (x : State). 
 
 -- and the answer is another
 pub did_with : {A B : Type 0} (old new : conn.State) (was roster wanted : State) (a : A) (b : B) → Did old new was roster wanted (Ok a) → Did old new was roster wanted (Ok b)
-did_with old new was roster wanted a b did = record { clean = did.clean; some = did.some; done = did.done }
+did_with old new was roster wanted a b did = record { clean = did.clean; some = did.some; others = did.others; counts = did.counts; still_open = λ no. absurd (cc); done = did.done }
 
 pub did_with_fault : {A B : Type 0} (old new : conn.State) (was other wanted : State) (fault : StoreFault) → Did {A = A} old new was other wanted (Err fault) → Did {A = B} old new was other wanted (Err fault)
-did_with_fault old new was other wanted Memory did = record { clean = did.clean; some = did.some; done = did.done }
-did_with_fault old new was other wanted Store did = record { clean = did.clean; some = did.some; done = did.done }
+did_with_fault old new was other wanted Memory did = record { clean = did.clean; some = did.some; others = did.others; counts = did.counts; still_open = λ _. did.still_open refl; done = did.done }
+did_with_fault old new was other wanted Store did = record { clean = did.clean; some = did.some; others = did.others; counts = did.counts; still_open = λ no. absurd (cc); done = did.done }
 
 -- ---- What is told
 

@@ -3,4 +3,7 @@ pub mod Asked
 pub mod Opened
 pub mod Runs
 pub mod SessionLemmas
+pub mod Holding
+pub mod Untouched
+pub mod Sparing
 pub mod Parts

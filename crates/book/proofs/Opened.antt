@@ -1,24 +1,22 @@
 -- A book that is opened is what its files mean.
-use Rattle.std.proofs.Common.{◌≡◌, ◌∙◌, subst, Result, Ok, Err, IfOk}
+use Rattle.std.proofs.Common.{subst, Result, Ok, Err, IfOk}
 use Rattle.sqlite_wal.specs.Recovery.{Image}
 use Rattle.sqlite.specs.Start.{FindsIn}
 use Rattle.sqlite.specs.State as conn
 use Rattle.sqlite.specs.State.{HasCleanDisk, IsUnchanged, Opens}
 use Rattle.sqlite.specs.Effect.{Database}
-use Rattle.writing.specs.Kept.{IsBookOf}
+use Rattle.store.specs.Found.{IsFound}
 use Rattle.writing.specs.Outcomes.{AddsNothing}
 use Rattle.book.specs.Kept.{Means}
 use Rattle.book.specs.Found.{MeansWhatIsIn}
 
 pub opened : (image : Image) (old new : conn.State) → FindsIn image old → Opens old → Means old new → IsUnchanged old new → HasCleanDisk new → MeansWhatIsIn image new
 opened image old new finds opens means unchanged clean =
-    let shown = means.shown clean in
-    let same : new.now ≡ old.committed = unchanged.0.now_is ∙ opens.clean in
     record {
       it = means.it;
       trees = old.committed.trees;
       in_files = finds.reads;
-      held = (old.committed.schema, subst (λ (db : Database). IsBookOf means.it db) same shown.1);
+      found = (old.committed.schema, subst (λ (db : Database). IsFound means.it db) opens.clean (means.found clean));
       shown = means.shown;
       keeps = means.keeps;
     }

@@ -1,5 +1,5 @@
 -- The part of an import, and a book that wasn't asked.
-use Rattle.std.proofs.Common.{◌≡◌, ◌∙◌, ◌≤◌, ◌<◌, ◌-◌, refl, sym, ap, subst, arith, ℕ, zero, suc, ◌+◌, true, false, List, [], ◌∷◌, Option, Some, None, Err, option_map, MatchOption, length, slice_get, slice_index_or}
+use Rattle.std.proofs.Common.{◌≡◌, inl, ◌∙◌, ◌≤◌, ◌<◌, ◌-◌, refl, sym, ap, subst, arith, ℕ, zero, suc, ◌+◌, true, false, List, [], ◌∷◌, Option, Some, None, Err, option_map, MatchOption, length, slice_get, slice_index_or}
 use Rattle.std.specs.List.{enumerate_from}
 use Rattle.std.proofs.lemmas.Option.{slice_get-map, slice_get_past, slice_get_read}
 use Rattle.sqlite_trees.specs.declared.store.Store.{Ghosts}
@@ -13,6 +13,8 @@ use Rattle.book.specs.Answered.{IsAnswered}
 use Rattle.book.specs.Importing.{Importing, part_of}
 use Rattle.book.specs.Kept.{Kept}
 use Rattle.book.specs.declared.answer.Answer.{Answer}
+use Rattle.book.proofs.Asked.{adds_none}
+use Rattle.book.proofs.Holding.{still_held}
 use Rattle.book.proofs.Runs.{one_honest}
 use Rattle.book.proofs.SessionLemmas.{adds_one}
 use Rattle.book.proofs.States.{one_of_either, shows_still}
@@ -78,6 +80,15 @@ module _ {S : Type 0} (g : Ghosts S) (book : Kept S) (asked : Asked) (some : Lea
     sessions = λ s before at. adds_one {A = Answer} (state g book.held) s before asked (Err Store) tt (λ is. absurd (cc)) (λ _. one_of_either (state g book.held) _ _ at);
     shown = λ s at has. shows_still (state g book.held) s has;
     honest = λ s at honest. one_honest (state g book.held) s at.leaves honest;
+    within_limits = λ s at clean is passes. tt;
+    repeats = λ s reply at clean held. (refl, tt);
+    holds = λ s reply at. tt;
+    held = λ s at. still_held (state g book.held) s at;
+    refused = tt;
+    alone = tt;
+    others = adds_none (state g book.held) _;
+    counts = omega arith;
+    still_open = λ is. absurd (cc);
   }
 
   -- for want of memory
@@ -95,4 +106,13 @@ module _ {S : Type 0} (g : Ghosts S) (book : Kept S) (asked : Asked) (some : Lea
     sessions = λ s before at. adds_one {A = Answer} (state g book.held) s before asked (Err Memory) tt (λ _. at) (λ is. absurd (cc));
     shown = λ s at has. shows_still (state g book.held) s has;
     honest = λ s at honest. one_honest (state g book.held) s at.leaves honest;
+    within_limits = λ s at clean is passes. tt;
+    repeats = λ s reply at clean held. (refl, tt);
+    holds = λ s reply at. tt;
+    held = λ s at. still_held (state g book.held) s at;
+    refused = tt;
+    alone = tt;
+    others = adds_none (state g book.held) _;
+    counts = omega arith;
+    still_open = λ _ clean is. inl is;
   }

@@ -120,7 +120,7 @@ module _ (now : conn.State) (s : State) (before : List Session) (l : List Asked)
 -- ---- One command
 
 module _ (now : conn.State) (s : State) (a : Asked) where
-  one_ends : {A : Type 0} (result : Result A StoreFault) → OnOk result (Keeps now (next s a)) → (result ≡ Err Memory → Keeps now s) → (result ≡ Err Store → Leaves now (either_kept s (next s a))) →
+  pub one_ends : {A : Type 0} (result : Result A StoreFault) → OnOk result (Keeps now (next s a)) → (result ≡ Err Memory → Keeps now s) → (result ≡ Err Store → Leaves now (either_kept s (next s a))) →
       Ends now s (a ∷ []) (count_of result) (fault_of result)
   one_ends (Ok x) answered memory store = answered
   one_ends (Err Memory) answered memory store = memory refl

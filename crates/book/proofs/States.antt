@@ -37,6 +37,7 @@ use Rattle.roster.specs.declared.change.Verdict.TheVariants.{Accept, Refuse, Rep
 use Rattle.roster.specs.declared.state.Request.{Request}
 use Rattle.loading.specs.SameRows.{HasInstants}
 use Rattle.loading.proofs.SameStates.{database_holds_one_state}
+use Rattle.store.specs.Found.{IsFound}
 use Rattle.writing.specs.Kept.{IsBookOf, Holds}
 use Rattle.writing.specs.Outcomes.{AddsNothing, HoldsNow, Leaves, LeavesSome, StillShows, either, one}
 use Rattle.book.specs.Kept.{IsKept, Keeps, StillHolds, either_kept}
@@ -89,9 +90,9 @@ still_keeps old new s left some keeps = record {
 }
 
 -- what was loaded
-pub loaded : (now : conn.State) (s : State) → (HasCleanDisk now → Sound s × HasInstants s) → Leaves now (one s) → LeavesSome now → Keeps now s
-loaded now s sound leaves some = record {
-  kept = λ clean. record { sound = (sound clean).0; instants = (sound clean).1 };
+pub loaded : (now : conn.State) (s : State) {db : Database} → (HasCleanDisk now → IsFound s db) → Leaves now (one s) → LeavesSome now → Keeps now s
+loaded now s found leaves some = record {
+  kept = λ clean. record { sound = (found clean).sound; instants = (found clean).instants };
   leaves = leaves;
   some = some;
 }

@@ -1,11 +1,12 @@
 -- What the functions that answer a command say to one another. No public clause names these.
-use Rattle.std.specs.Prelude.{◌≡◌, Result, Ok, Err}
+use Rattle.std.specs.Prelude.{◌≡◌, ◌≤◌, Result, Ok, Err}
 use Rattle.sqlite.specs.State as conn
 use Rattle.sqlite.specs.State.{HasCleanDisk}
 use Rattle.roster.specs.State.{State}
 use Rattle.rows.specs.declared.fault.StoreFault.{StoreFault}
 use Rattle.rows.specs.declared.fault.StoreFault.TheVariants.{Store, Memory}
-use Rattle.writing.specs.Outcomes.{Leaves, LeavesSome, HoldsNow}
+use Rattle.writing.specs.Kept.{KeepOthers}
+use Rattle.writing.specs.Outcomes.{AddsOnly, Leaves, LeavesSome, HoldsNow, StaysOpen}
 use Rattle.book.specs.Kept.{Keeps, StillHolds, either_kept}
 
 -- the roster became this state and so did the tables, neither changed, or the tables are of one of the two
@@ -17,4 +18,7 @@ Done old new was roster wanted (Err Store) = Leaves new (either_kept was wanted)
 pub record Did {A : Type 0} (old new : conn.State) (was roster wanted : State) (result : Result A StoreFault) : Type 0 where
   pub clean : HasCleanDisk new → HasCleanDisk old
   pub some : LeavesSome new
+  pub others : AddsOnly old new (KeepOthers old.now)
+  pub counts : old.faults ≤ new.faults
+  pub still_open : result ≡ Err Memory → StaysOpen old new
   pub done : Done old new was roster wanted result

@@ -4,15 +4,15 @@ use Rattle.sqlite_trees.specs.Tree.{Trees}
 use Rattle.sqlite.specs.Files.{AreFoundIn}
 use Rattle.sqlite.specs.State as conn
 use Rattle.roster.specs.State.{State}
-use Rattle.writing.specs.Kept.{Holds}
+use Rattle.store.specs.Found.{IsFoundIn}
 use Rattle.writing.specs.Outcomes.{HoldsNow}
 use Rattle.book.specs.Kept.{Keeps}
 
--- the files hold tables that mean a state; those that are shown mean it too, and a crash leaves it and nothing else
+-- a book in some state is found in the files; it is what is shown, and a crash leaves that state and nothing else
 pub record MeansWhatIsIn (image : Image) (now : conn.State) : Type 0 where
   pub it : State
   pub trees : Trees
   pub in_files : AreFoundIn image trees
-  pub held : Holds trees it
+  pub found : IsFoundIn it trees
   pub shown : HoldsNow now it
   pub keeps : Keeps now it

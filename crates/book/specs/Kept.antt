@@ -10,11 +10,10 @@ use Rattle.command.specs.declared.refusal.Refusal.{Refusal}
 use Rattle.roster.specs.Folds.{Asked, Fold}
 use Rattle.roster.specs.Sound.{Sound}
 use Rattle.roster.specs.State.{State}
-use Rattle.loading.specs.Loading.{IsRight}
-use Rattle.rows.specs.Rows.{request}
 use Rattle.loading.specs.SameRows.{HasInstants}
 use Rattle.rows.specs.declared.fault.StoreFault.{StoreFault}
 use Rattle.rows.specs.declared.fault.StoreFault.TheVariants.{Store, Memory}
+use Rattle.store.specs.Found.{IsFound}
 use Rattle.writing.specs.Kept.{IsBookOf}
 use Rattle.writing.specs.Outcomes.{Leaves, LeavesSome, HoldsNow, one, either}
 use Rattle.book.specs.declared.answer.Answer.{Answer}
@@ -69,10 +68,10 @@ module _ {S : Type 0} (g : Ghosts S) (book : Kept S) where
   abbrev pub StillHasTables : State → Type 0
   StillHasTables s = StillHolds (state g book.held) s
 
--- the tables that were found mean a state; they still do, and a crash leaves it and nothing else
-pub record Means (found now : conn.State) : Type 0 where
+-- a book in some state was found; it is shown still, and a crash leaves that state and nothing else
+pub record Means (old now : conn.State) : Type 0 where
   pub it : State
-  pub right : HasCleanDisk now → IsRight request it found.now
+  pub found : HasCleanDisk now → IsFound it old.now
   pub shown : HoldsNow now it
   pub keeps : Keeps now it
 

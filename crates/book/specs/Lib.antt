@@ -1,4 +1,5 @@
 pub mod Kept
+pub mod Headline
 pub mod Asking
 pub mod Answered
 pub mod Found

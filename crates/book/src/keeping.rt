@@ -1,20 +1,23 @@
-ghost use Rattle.std.specs.Prelude.{◌≡◌, ◌<◌, ◌≤◌, ◌⊎◌, ◌||◌, false, [], ◌∷◌, Err, IfErr, IfOk, IsErrAnd, IsSome, IsTrue, List, None, OnErr, OnOk, Some, length, map, take};
+ghost use Rattle.std.specs.Prelude.{◌≡◌, ◌<◌, ◌≤◌, ◌⊎◌, ◌||◌, ◌↔◌, true, false, [], ◌∷◌, Err, IfErr, IfOk, IsErrAnd, IsSome, IsTrue, List, None, OnErr, OnOk, Some, length, map, take};
 ghost use Rattle.std.specs.FinMap as fin;
 ghost use Rattle.sqlite.specs.Held.{state};
 ghost use Rattle.sqlite.specs.State.{HasCleanDisk, IsUnchanged};
 ghost use Rattle.command.specs.Keys.{key_name};
+ghost use Rattle.command.specs.declared.exceedance.Reply.{Reply};
 ghost use Rattle.roster.specs.Folds.{Fold, Replies, Session, Stopped, answer_of, next};
 ghost use Rattle.roster.specs.Honest.{Honest};
+ghost use Rattle.roster.specs.Laws.{PassesChecks, is_assignment};
 ghost use Rattle.roster.specs.Sound.{Sound};
 ghost use Rattle.roster.specs.State.{State, empty};
 ghost use Rattle.roster.specs.Steps.{after, step_of};
 ghost use Rattle.loading.specs.Loading.{Says};
 ghost use Rattle.writing.specs.Next.{IsNext};
-ghost use Rattle.writing.specs.Kept.{KeepPlain};
+ghost use Rattle.writing.specs.Kept.{KeepOthers, KeepPlain};
 ghost use Rattle.writing.specs.Making.{IsFree};
-ghost use Rattle.writing.specs.Outcomes.{AddsNothing, AddsOnly, IsOutside, Leaves, LeavesOnly, LeavesSome, MayAdd};
+ghost use Rattle.writing.specs.Outcomes.{AddsNothing, AddsOnly, IsOutside, Leaves, LeavesOnly, LeavesSome, MayAdd, ShowsOnly, StaysOpen};
 ghost use Rattle.book.specs.Answered.{IsAnswered};
 ghost use Rattle.book.specs.Asking.{Did};
+ghost use Rattle.book.specs.Headline.{BreaksNoLimit, IsAcceptance, IsHeld, IsRefusal, KeepsHeld, SparesOthers, StaysHeld};
 ghost use Rattle.book.specs.Sessions.{IsAfter, count_of, fault_of};
 ghost use Rattle.book.specs.Kept.{Ends, HasTables, IsAt, IsClean, IsInDoubt, Keeps, Means, StillHasTables, is_store_fault, is_some_store_fault, result_of};
 
@@ -82,6 +85,8 @@ impl<S: Alter> Book<S> {
         ensures others { IfErr result (λ e. AddsOnly (state S.Store conn) (state S.Store e.1) (KeepPlain (state S.Store conn).now)) }
         ensures outside { IfErr result (λ e. IsOutside (state S.Store e.1)) }
         ensures some_left { IfErr result (λ e. LeavesSome (state S.Store e.1)) }
+        ensures spared { IfOk result (λ b. ShowsOnly (state S.Store b.held) (KeepPlain (state S.Store conn).now)) }
+        ensures still_open { IfErr result (λ e. StaysOpen (state S.Store conn) (state S.Store e.1)) }
     {
         let Ok(roster) = Roster::empty(alloc, zone) else {
             return Err((CreateFault::Fault(StoreFault::Memory), conn));
@@ -105,6 +110,7 @@ impl<S: Alter> Book<S> {
         ensures kept { IfErr result (λ e. AddsNothing (state S.Store conn) (state S.Store e.1)) }
         ensures outside { IfErr result (λ e. IsOutside (state S.Store e.1)) }
         ensures again { (s : State) → Keeps (state S.Store conn) s → IfErr result (λ e. Keeps (state S.Store e.1) s) }
+        ensures still_open { IfErr result (λ e. StaysOpen (state S.Store conn) (state S.Store e.1)) }
     {
         match Store::load(alloc, conn) {
             Ok((store, roster)) => Ok(Book {
@@ -149,8 +155,9 @@ impl<S: Alter> Book<S> {
         store.into_connection()
     }
 
-    /// Answers a command. After want of memory (91) nothing is changed; after a fault of the store (90) it is kept or not,
-    /// and each later call answers 90.
+    /// Answers a command. One that is kept already is answered as it was, and changes nothing. After want of memory (91)
+    /// nothing is changed, and the call may be made again; after a fault of the store (90) it is kept or not, and each later
+    /// call answers 90.
     pub fn ask(&mut self, alloc: Global, key: Key, command: &Command) -> Result<Answer, StoreFault>
         ensures failed { self.new.failed ≡ (self.old.failed || is_store_fault result) }
         ensures shut { IsTrue self.old.failed → (result ≡ Err StoreFault.Store) × (self.new ≡ self.old) }
@@ -164,6 +171,15 @@ impl<S: Alter> Book<S> {
         ensures sessions { (s : State) (before : List Session) → IsAt S.Store self.old (Stopped s before) → Leaves (state S.Store self.new.held) (IsAfter s before ((key, command.now) ∷ []) (count_of result) (fault_of result)) }
         ensures shown { (s : State) → IsAt S.Store self.old s → HasTables S.Store self.old s → OnErr result (StillHasTables S.Store self.new s) }
         ensures honest { (s : State) → IsAt S.Store self.old s → Honest s → Leaves (state S.Store self.new.held) Honest }
+        ensures within_limits { (s : State) → IsAt S.Store self.old s → IsClean S.Store self.new → is_assignment command.now ≡ true → PassesChecks s key command.now → IfOk result (λ a. IsAcceptance a ↔ BreaksNoLimit s command.now) }
+        ensures repeats { (s : State) (reply : Reply) → IsAt S.Store self.old s → IsClean S.Store self.old → IsHeld s (key, command.now) reply → (self.new ≡ self.old) × IfOk result (λ a. a ≡ Answer.Accepted reply) }
+        ensures holds { (s : State) (reply : Reply) → IsAt S.Store self.old s → IfOk result (λ a. a ≡ Answer.Accepted reply → StaysHeld (state S.Store self.new.held) (key, command.now) reply) }
+        ensures held { (s : State) → IsAt S.Store self.old s → KeepsHeld (state S.Store self.new.held) s }
+        ensures refused { IfOk result (λ a. IsRefusal a → self.new ≡ self.old) }
+        ensures alone { OnOk result ((self.new ≡ self.old) ⊎ SparesOthers (state S.Store self.old.held) (state S.Store self.new.held)) }
+        ensures others { AddsOnly (state S.Store self.old.held) (state S.Store self.new.held) (KeepOthers (state S.Store self.old.held).now) }
+        ensures counts { (state S.Store self.old.held).faults ≤ (state S.Store self.new.held).faults }
+        ensures still_open { result ≡ Err StoreFault.Memory → StaysOpen (state S.Store self.old.held) (state S.Store self.new.held) }
     {
         // It has no fault, which what is honest afterwards rests on.
         let _made = command.order();
@@ -210,6 +226,10 @@ impl<S: Alter> Book<S> {
         ensures stopped { IsSome result.fault → (result.answers.items ≡ []) ⊎ (length result.answers.items < length commands.now) }
         ensures honest { (s : State) → IsAt S.Store self.old s → Honest s → Leaves (state S.Store self.new.held) Honest }
         ensures sessions { (s : State) (before : List Session) → IsAt S.Store self.old (Stopped s before) → Leaves (state S.Store self.new.held) (IsAfter s before commands.now (length result.answers.items) result.fault) }
+        ensures held { (s : State) → IsAt S.Store self.old s → KeepsHeld (state S.Store self.new.held) s }
+        ensures alone { result.fault ≡ None → (self.new ≡ self.old) ⊎ SparesOthers (state S.Store self.old.held) (state S.Store self.new.held) }
+        ensures others { AddsOnly (state S.Store self.old.held) (state S.Store self.new.held) (KeepOthers (state S.Store self.old.held).now) }
+        ensures still_open { result.fault ≡ Some StoreFault.Memory → StaysOpen (state S.Store self.old.held) (state S.Store self.new.held) }
     {
         self.answer_all(alloc, commands)
     }
@@ -228,6 +248,9 @@ impl<S: Alter> Book<S> {
         ensures shown { (s : State) → IsAt S.Store self.old s → HasTables S.Store self.old s → IsSome result.fault → StillHasTables S.Store self.new (Fold s (take (length result.answers.items) commands.now)) }
         ensures stopped { IsSome result.fault → (result.answers.items ≡ []) ⊎ (length result.answers.items < length commands.now) }
         ensures honest { (s : State) → IsAt S.Store self.old s → Honest s → Leaves (state S.Store self.new.held) Honest }
+        ensures alone { result.fault ≡ None → (self.new ≡ self.old) ⊎ SparesOthers (state S.Store self.old.held) (state S.Store self.new.held) }
+        ensures others { AddsOnly (state S.Store self.old.held) (state S.Store self.new.held) (KeepOthers (state S.Store self.old.held).now) }
+        ensures still_open { result.fault ≡ Some StoreFault.Memory → StaysOpen (state S.Store self.old.held) (state S.Store self.new.held) }
     {
         if self.failed {
             return stopped(Vec::new(alloc), StoreFault::Store);
@@ -293,6 +316,9 @@ fn answer<S: Alter>(
     requires { Keeps (state S.Store store.old) roster.old }
     ensures did { Did (state S.Store store.old) (state S.Store store.new) roster.old roster.new (next roster.old (key, command.now)) result }
     ensures reply { IfOk result (λ a. result_of a ≡ answer_of (step_of roster.old key command.now)) }
+    ensures repeated { (reply : Reply) → step_of roster.old key command.now ≡ Verdict.Repeat reply → (store.new ≡ store.old) × (is_store_fault result ≡ false) × IfOk result (λ a. a ≡ Answer.Accepted reply) }
+    ensures refused { IfOk result (λ a. IsRefusal a → store.new ≡ store.old) }
+    ensures alone { OnOk result ((store.new ≡ store.old) ⊎ SparesOthers (state S.Store store.old) (state S.Store store.new)) }
 {
     match roster.step(alloc, key, command) {
         Ok(Verdict::Repeat(reply)) => Ok(Answer::Accepted(reply)),
@@ -320,7 +346,8 @@ fn keep<S: Alter>(
     requires keeps { Keeps (state S.Store store.old) roster.old }
     requires next { HasCleanDisk (state S.Store store.old) → IsNext roster.old change.now }
     requires free { fin.get roster.old.requests (key_name change.now.key) ≡ None }
-    ensures { Did (state S.Store store.old) (state S.Store store.new) roster.old roster.new (after roster.old change.now) result }
+    ensures did { Did (state S.Store store.old) (state S.Store store.new) roster.old roster.new (after roster.old change.now) result }
+    ensures alone { OnOk result (SparesOthers (state S.Store store.old) (state S.Store store.new)) }
 {
     let Ok(changed) = changed(alloc, roster, change) else {
         return Err(StoreFault::Memory);

@@ -16,6 +16,8 @@ use Rattle.rows.specs.Rows.{request}
 use Rattle.writing.proofs.Ending.{of_trees}
 use Rattle.store.proofs.ReadBooks.{read_book_of}
 use Rattle.loading.proofs.Telling.{clean_before}
+use Rattle.loading.proofs.RightSound.{right_sound, right_instants}
+use Rattle.store.specs.Found.{IsFound}
 use Rattle.loading.specs.declared.fault.LoadFault.{LoadFault}
 
 -- what a call comes to that reads some tables
@@ -62,6 +64,18 @@ module _ {S : Type 0} (g : Ghosts S) (old : State) (new : Held S) (r : roster.St
 
   pub loaded_now : HoldsNow (state g new) r
   loaded_now clean = ((told clean).0.0.is_open, loaded_book clean)
+
+  -- and it is what was found
+  pub loaded_found : HasCleanDisk (state g new) → IsFound r old.now
+  loaded_found clean =
+      let it = told clean in
+      let right = it.1.right in
+      record {
+        book = subst (IsBookOf r) it.0.0.now_is (loaded_book clean);
+        right = right;
+        sound = right_sound r old.now right;
+        instants = right_instants r old.now right;
+      }
 
   pub loaded_over : IsOverBook (state g new)
   loaded_over clean _ = let book = loaded_book clean in (book.tables, book.stored)

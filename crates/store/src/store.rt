@@ -1,18 +1,17 @@
-ghost use Rattle.std.specs.Prelude.{◌≡◌, IfOk, IfErr, IsErrAnd, OnOk, OnErr, Err};
+ghost use Rattle.std.specs.Prelude.{◌≡◌, ◌≤◌, IfOk, IfErr, IsErrAnd, OnOk, OnErr, Err};
 ghost use Rattle.sqlite.specs.State.{HasCleanDisk, IsUnchanged};
 ghost use Rattle.sqlite.specs.Held.{state};
 ghost use Rattle.kept.specs.Laws.{IsCommand};
-ghost use Rattle.roster.specs.Sound.{Sound};
 ghost use Rattle.roster.specs.State.{State, empty};
 ghost use Rattle.roster.specs.Steps.{after};
 ghost use Rattle.writing.specs.Kept.{KeepOthers, KeepPlain};
-ghost use Rattle.loading.specs.Loading.{IsRight, Says};
+ghost use Rattle.loading.specs.Loading.{Says};
 ghost use Rattle.writing.specs.Making.{IsFree};
 ghost use Rattle.writing.specs.Next.{IsNext};
-ghost use Rattle.writing.specs.Outcomes.{Leaves, LeavesSome, LeavesOnly, AddsOnly, AddsNothing, MayAdd, HoldsNow, IsOutside, IsOverBook, StillShows, one, either};
+ghost use Rattle.writing.specs.Outcomes.{Leaves, LeavesSome, LeavesOnly, AddsOnly, AddsNothing, MayAdd, HoldsNow, IsOutside, IsOverBook, ShowsOnly, StaysOpen, StillShows, one, either};
 ghost use Rattle.loading.specs.Reading.{IsReadTo, Saw};
 ghost use Rattle.rows.specs.Rows.{request};
-ghost use Rattle.loading.specs.SameRows.{HasInstants};
+ghost use Rattle.store.specs.Found.{IsFound};
 
 use loading::{LoadFault, read_all};
 use roster::{Change, Roster};
@@ -20,9 +19,8 @@ use rows::StoreFault;
 use sqlite::{Alter, Connection};
 use std::alloc::Global;
 use std::marker::Model;
-use tables::transaction::rollback;
 use time117::Zone;
-use writing::{CreateFault, commit_change, make_book};
+use writing::{CreateFault, commit_change, make_book, take_back};
 
 /// The tables of a book. Contracts see what its connection holds.
 pub struct Store<S: Alter> {
@@ -66,7 +64,9 @@ impl<S: Alter> Store<S> {
         ensures memory { IfErr result (λ e. e.0 ≡ CreateFault.Fault StoreFault.Memory → AddsNothing (state S.Store conn) (state S.Store e.1)) }
         ensures store { IfErr result (λ e. MayAdd (state S.Store conn) (state S.Store e.1) (empty zone.now)) }
         ensures alone { IfOk result (λ it. LeavesOnly (state S.Store it) (KeepPlain (state S.Store conn).now)) }
+        ensures spared { IfOk result (λ it. ShowsOnly (state S.Store it) (KeepPlain (state S.Store conn).now)) }
         ensures others { IfErr result (λ e. AddsOnly (state S.Store conn) (state S.Store e.1) (KeepPlain (state S.Store conn).now)) }
+        ensures open { IfErr result (λ e. StaysOpen (state S.Store conn) (state S.Store e.1)) }
         ensures outside { IfErr result (λ e. IsOutside (state S.Store e.1)) }
         ensures some_left { IfErr result (λ e. LeavesSome (state S.Store e.1)) }
     {
@@ -84,8 +84,7 @@ impl<S: Alter> Store<S> {
         mut conn: Connection<S>,
     ) -> Result<(Store<S>, Roster), (LoadFault, Connection<S>)>
         requires { IsOutside (state S.Store conn) }
-        ensures right { IfOk result (λ it. HasCleanDisk (state S.Store it.0) → IsRight request it.1 (state S.Store conn).now) }
-        ensures sound { IfOk result (λ it. HasCleanDisk (state S.Store it.0) → Sound it.1 × HasInstants it.1) }
+        ensures found { IfOk result (λ it. HasCleanDisk (state S.Store it.0) → IsFound it.1 (state S.Store conn).now) }
         ensures ok { IfOk result (λ it. Leaves (state S.Store it.0) (one it.1)) }
         ensures now { IfOk result (λ it. HoldsNow (state S.Store it.0) it.1) }
         ensures some { IfOk result (λ it. LeavesSome (state S.Store it.0)) }
@@ -93,6 +92,7 @@ impl<S: Alter> Store<S> {
         ensures left { IfOk result (λ it. AddsNothing (state S.Store conn) (state S.Store it.0)) }
         ensures refused { IfErr result (λ e. HasCleanDisk (state S.Store e.1) → Says e.0 (state S.Store conn).now) }
         ensures kept { IfErr result (λ e. AddsNothing (state S.Store conn) (state S.Store e.1)) }
+        ensures open { IfErr result (λ e. StaysOpen (state S.Store conn) (state S.Store e.1)) }
         ensures outside { IfErr result (λ e. IsOutside (state S.Store e.1)) }
         ensures some_left { IfErr result (λ e. LeavesSome (state S.Store e.1)) }
     {
@@ -103,17 +103,21 @@ impl<S: Alter> Store<S> {
     }
 
     /// Writes a change that the step gave of the state that the tables hold, in one transaction. After want of memory (91)
-    /// nothing is changed; after a store's fault (90) all of the change is kept, or nothing of it.
+    /// nothing is changed, and the connection is still open, unless the disk failed meanwhile; after a store's fault (90) all
+    /// of the change is kept, or nothing of it.
     pub fn commit(&mut self, alloc: Global, change: &Change) -> Result<(), StoreFault>
         ensures ok { (s : State) → IsNext s change.now → Leaves (state S.Store self.old) (one s) → OnOk result (Leaves (state S.Store self.new) (one (after s change.now))) }
         ensures made { (s : State) → IsNext s change.now → Leaves (state S.Store self.old) (one s) → OnOk result (HoldsNow (state S.Store self.new) (after s change.now)) }
         ensures memory { (s : State) → Leaves (state S.Store self.old) (one s) → result ≡ Err StoreFault.Memory → Leaves (state S.Store self.new) (one s) }
         ensures store { (s : State) → IsNext s change.now → Leaves (state S.Store self.old) (one s) → result ≡ Err StoreFault.Store → Leaves (state S.Store self.new) (either s (after s change.now)) }
         ensures alone { OnOk result (LeavesOnly (state S.Store self.new) (KeepOthers (state S.Store self.old).now)) }
+        ensures spared { OnOk result (ShowsOnly (state S.Store self.new) (KeepOthers (state S.Store self.old).now)) }
         ensures others { AddsOnly (state S.Store self.old) (state S.Store self.new) (KeepOthers (state S.Store self.old).now) }
         ensures command { OnOk result (IsCommand change.now.command) }
         ensures in_doubt { result ≡ Err StoreFault.Store → IsCommand change.now.command }
         ensures shown { OnErr result (StillShows (state S.Store self.old) (state S.Store self.new)) }
+        ensures open { result ≡ Err StoreFault.Memory → StaysOpen (state S.Store self.old) (state S.Store self.new) }
+        ensures counts { (state S.Store self.old).faults ≤ (state S.Store self.new).faults }
         ensures some { LeavesSome (state S.Store self.new) }
         ensures honest { HasCleanDisk (state S.Store self.new) → HasCleanDisk (state S.Store self.old) }
     {
@@ -130,11 +134,11 @@ impl<S: Alter> Store<S> {
     }
 }
 
-/// Reads a book, and leaves no transaction open.
+/// Reads a book, and leaves no transaction open: where it can't be taken back, that is the fault (90).
 fn read<S: Alter>(alloc: Global, conn: &mut Connection<S>) -> Result<Roster, LoadFault>
     requires { IsOutside (state S.Store conn.old) }
     ensures saw { Saw (λ r. IsReadTo request r (state S.Store conn.old).now) (λ fault. Says fault (state S.Store conn.old).now) (state S.Store conn.old) (state S.Store conn.new) result }
-    ensures sound { IfOk result (λ r. HasCleanDisk (state S.Store conn.new) → Sound r × HasInstants r) }
+    ensures found { IfOk result (λ r. HasCleanDisk (state S.Store conn.new) → IsFound r (state S.Store conn.old).now) }
     ensures ok { IfOk result (λ r. Leaves (state S.Store conn.new) (one r)) }
     ensures now { IfOk result (λ r. HoldsNow (state S.Store conn.new) r) }
     ensures over { IfOk result (λ _. IsOverBook (state S.Store conn.new)) }
@@ -146,7 +150,9 @@ fn read<S: Alter>(alloc: Global, conn: &mut Connection<S>) -> Result<Roster, Loa
     let _live = conn.schema();
     let _settled = conn.is_autocommit();
     if read.is_err() {
-        let _undone = rollback(conn);
+        if let Err(fault) = take_back(conn) {
+            return Err(LoadFault::Fault(fault));
+        }
     }
     read
 }

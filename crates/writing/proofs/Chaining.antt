@@ -1,10 +1,10 @@
 -- Calls in a transaction, one after the other.
-use Rattle.std.proofs.Common.{ℕ, zero, suc, ◌+◌, List, [], ◌∷◌, take, Some, slice_get, ◌≡◌, inl, inr, refl, sym, subst, ◌∙◌, arith, true, cond, IsTrue, Result, IsErr, Ok, Err}
+use Rattle.std.proofs.Common.{ℕ, zero, suc, ◌+◌, List, [], ◌∷◌, take, Some, slice_get, ◌≡◌, inl, inr, refl, sym, subst, ◌∙◌, arith, true, cond, IsTrue, Result, Ok, Err}
 use Rattle.std.proofs.lemmas.Bool.{true≢false}
 use Rattle.sqlite.specs.Effect.{Database}
-use Rattle.sqlite.specs.State.{State, HasCleanDisk, Shows, IsRolledBack, KeepsCommit}
+use Rattle.sqlite.specs.State.{State, HasCleanDisk, Shows, KeepsCommit}
 use Rattle.sqlite.proofs.StateLemmas.{survives_then, survives_weaker}
-use Rattle.tables.specs.Calls.{Ran, Gave, MayLeave, Leaves, LeavesNothing}
+use Rattle.tables.specs.Calls.{Ran, MayLeave, Leaves, LeavesNothing}
 use Rattle.tables.specs.declared.table_fault.TableFault.{TableFault}
 use Rattle.writing.specs.Calls.{IsInside, Changed, Then, Each, Fitting, IsFit, IsReady, Wrote}
 
@@ -16,15 +16,6 @@ shown_keeps old new now shows = record { was_open = λ _. shows.was_open; commit
 pub left_keeps : (old new : State) → Leaves old new → KeepsCommit old new
 left_keeps old new (inl same) = record { was_open = λ _. same.0.was_open; committed = λ _. same.0.committed_is }
 left_keeps old new (inr back) = record { was_open = back.was_open; committed = λ o. (back.undone o).1 }
-
--- so it is where a call that ends a transaction takes it back or fails
-pub undone_keeps : {A : Type 0} (old new : State) (result : Result A TableFault) → Gave (IsRolledBack old new) old new result → HasCleanDisk new → KeepsCommit old new
-undone_keeps old new (Ok a) gave clean = left_keeps old new (inr (gave clean))
-undone_keeps old new (Err fault) gave clean = left_keeps old new (gave clean).0
-
-pub failed_keeps : {A : Type 0} (Is : Type 0) (old new : State) (result : Result A TableFault) → IsErr result → Gave Is old new result → HasCleanDisk new → KeepsCommit old new
-failed_keeps Is old new (Ok a) failed gave clean = absurd (cc)
-failed_keeps Is old new (Err fault) failed gave clean = left_keeps old new (gave clean).0
 
 pub keeps_then : (a b c : State) → KeepsCommit a b → KeepsCommit b c → KeepsCommit a c
 keeps_then a b c one two = record {

@@ -1,5 +1,5 @@
 -- From what a crash leaves at entry to what it leaves at the end of a commit.
-use Rattle.std.proofs.Common.{◌≡◌, inl, inr, refl, sym, subst, ◌∙◌, arith, IsTrue, Result, Ok, Err, OnOk, OnErr, IsOk, IsErr}
+use Rattle.std.proofs.Common.{◌≡◌, inl, inr, refl, sym, subst, ◌∙◌, arith, IsTrue, Result, Ok, Err, OnOk, OnErr, IsOk}
 use Rattle.sqlite_schema.specs.declared.schema.Schema.{Schema}
 use Rattle.sqlite_trees.specs.Objects.{catalog_tree}
 use Rattle.sqlite_trees.specs.declared.store.Store.{Ghosts}
@@ -130,9 +130,9 @@ pub on_err_of : {A E D P Q : Type 0} (r : Result A E) → (D → OnErr r P) → 
 on_err_of (Ok a) kept f = tt
 on_err_of (Err e) kept f = f kept
 
-pub none_done : {A E : Type 0} (r : Result A E) → IsErr r → IsOk r → ⊥
-none_done (Ok a) failed is = absurd (cc)
-none_done (Err e) failed is = absurd (cc)
+pub none_done : {A E : Type 0} (r : Result A E) (e : E) → r ≡ Err e → IsOk r → ⊥
+none_done (Ok a) e same is = absurd (cc)
+none_done (Err x) e same is = absurd (cc)
 
 pub weaker : (new : State) (s t : roster.State) → Leaves new (one s) → Leaves new (either s t)
 weaker new s t leaves = record { crash = λ clean trees may. let it = leaves.crash clean trees may in (it.0, inl it.1, it.2) }

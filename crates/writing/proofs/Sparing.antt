@@ -24,7 +24,7 @@ use Rattle.tables.specs.Schema.{BookTable, IsTable, book_table, table_found, tab
 use Rattle.writing.specs.Calls.{Changed, Each, IsFit, IsReady, Then, Wrote}
 use Rattle.writing.specs.Kept.{IsOther, KeepOthers, KeepPlain}
 use Rattle.writing.specs.Making.{Grows, IsFree, all_tables}
-use Rattle.writing.specs.Outcomes.{LeavesOnly, AddsOnly}
+use Rattle.writing.specs.Outcomes.{LeavesOnly, AddsOnly, ShowsOnly}
 use Rattle.rows.specs.Rows.{TableName, table, crew, pairing, period, segment, seat, ground_duty, exceedance, request, row_of_member, row_of_pairing, row_of_period, row_of_segment, row_of_seat, row_of_ground, row_of_exceedance, row_of_request, seat_number}
 use Rattle.writing.specs.Writing.{AddsPeriods, AddsSegmentOf, AddsSegmentsOf, AddsSegments, FreesSeat, Seats, Reseats, FliesPeriod, FliesSegment, FliesSegments, Records, RecordsAll, Writes, WritesOrder}
 use Rattle.writing.proofs.Tables.{fit_after}
@@ -195,3 +195,8 @@ leaves_only g last new P ended keeps law = record {
       let same : trees ≡ (state g new).committed.trees = law new.store trees shows.is_open may in
       subst P (sym same) (subst (λ (db : Database). P db.trees) (sym shows.committed_is) (keeps clean));
 }
+
+-- ---- What is shown at the end
+
+pub shows_only : (last new : State) (P : Trees → Type 0) → (HasCleanDisk new → Committed last new) → (HasCleanDisk new → P last.now.trees) → ShowsOnly new P
+shows_only last new P ended keeps clean = subst (λ (db : Database). P db.trees) (sym (ended clean).1.now_is) (keeps clean)

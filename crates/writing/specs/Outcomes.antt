@@ -1,5 +1,6 @@
 -- What a crash may leave of the tables.
 use Rattle.std.specs.Prelude.{◌≡◌, ◌⊎◌, false, IsTrue}
+use Rattle.sqlite_disk.specs.Disk.{MoreFaults}
 use Rattle.sqlite_trees.specs.Tree.{Trees}
 use Rattle.sqlite.specs.State.{State, HasCleanDisk}
 use Rattle.roster.specs.State as roster
@@ -40,6 +41,10 @@ pub record LeavesOnly (now : State) (P : Trees → Type 0) : Type 0 where
 pub record AddsOnly (old now : State) (P : Trees → Type 0) : Type 0 where
   pub crash : HasCleanDisk now → (trees : Trees) → now.may_leave trees → old.may_leave trees ⊎ P trees
 
+-- it shows trees of which P holds
+abbrev pub ShowsOnly : State → (Trees → Type 0) → Type 0
+ShowsOnly now P = HasCleanDisk now → P now.now.trees
+
 -- no transaction is begun
 abbrev pub IsOutside : State → Type 0
 IsOutside s = HasCleanDisk s → s.in_transaction ≡ false
@@ -55,3 +60,7 @@ HoldsNow now s = HasCleanDisk now → IsTrue now.is_open × IsBookOf s now.now
 -- while it is open, it shows the database that it showed before
 abbrev pub StillShows : State → State → Type 0
 StillShows old now = HasCleanDisk now → IsTrue now.is_open → IsTrue old.is_open × (now.now ≡ old.now)
+
+-- a connection that was open still is, unless the disk failed or refused a call meanwhile
+abbrev pub StaysOpen : State → State → Type 0
+StaysOpen old now = HasCleanDisk now → IsTrue old.is_open → IsTrue now.is_open ⊎ MoreFaults old.faults now.faults

@@ -1,6 +1,6 @@
 //! What is committed: a book that is made, and a change, each in one transaction.
 
-ghost use Rattle.std.specs.Prelude.{◌≡◌, OnOk, OnErr, Err};
+ghost use Rattle.std.specs.Prelude.{◌≡◌, ◌≤◌, OnOk, OnErr, Err};
 ghost use Rattle.sqlite.specs.State.{HasCleanDisk};
 ghost use Rattle.sqlite.specs.Held.{state};
 ghost use Rattle.kept.specs.Laws.{IsCommand};
@@ -9,7 +9,7 @@ ghost use Rattle.roster.specs.Steps.{after};
 ghost use Rattle.writing.specs.Kept.{KeepOthers, KeepPlain};
 ghost use Rattle.writing.specs.Making.{IsFree};
 ghost use Rattle.writing.specs.Next.{IsNext};
-ghost use Rattle.writing.specs.Outcomes.{Leaves, LeavesSome, LeavesOnly, AddsOnly, AddsNothing, MayAdd, HoldsNow, IsOutside, IsOverBook, StillShows, one, either};
+ghost use Rattle.writing.specs.Outcomes.{Leaves, LeavesSome, LeavesOnly, AddsOnly, AddsNothing, MayAdd, HoldsNow, IsOutside, IsOverBook, ShowsOnly, StaysOpen, StillShows, one, either};
 
 use crate::fault::CreateFault;
 use crate::making::{is_free, make_tables};
@@ -41,7 +41,9 @@ pub fn make_book<S: Alter>(
     ensures memory { result ≡ Err (CreateFault.Fault StoreFault.Memory) → AddsNothing (state S.Store conn.old) (state S.Store conn.new) }
     ensures store { OnErr result (MayAdd (state S.Store conn.old) (state S.Store conn.new) (empty zone.now)) }
     ensures alone { OnOk result (LeavesOnly (state S.Store conn.new) (KeepPlain (state S.Store conn.old).now)) }
+    ensures spared { OnOk result (ShowsOnly (state S.Store conn.new) (KeepPlain (state S.Store conn.old).now)) }
     ensures others { OnErr result (AddsOnly (state S.Store conn.old) (state S.Store conn.new) (KeepPlain (state S.Store conn.old).now)) }
+    ensures open { OnErr result (StaysOpen (state S.Store conn.old) (state S.Store conn.new)) }
     ensures outside { IsOutside (state S.Store conn.new) }
 {
     if !is_free(conn) {
@@ -70,10 +72,13 @@ pub fn commit_change<S: Alter>(
     ensures memory { (s : State) → Leaves (state S.Store conn.old) (one s) → result ≡ Err StoreFault.Memory → Leaves (state S.Store conn.new) (one s) }
     ensures store { (s : State) → IsNext s change.now → Leaves (state S.Store conn.old) (one s) → result ≡ Err StoreFault.Store → Leaves (state S.Store conn.new) (either s (after s change.now)) }
     ensures alone { OnOk result (LeavesOnly (state S.Store conn.new) (KeepOthers (state S.Store conn.old).now)) }
+    ensures spared { OnOk result (ShowsOnly (state S.Store conn.new) (KeepOthers (state S.Store conn.old).now)) }
     ensures others { AddsOnly (state S.Store conn.old) (state S.Store conn.new) (KeepOthers (state S.Store conn.old).now) }
     ensures command { OnOk result (IsCommand change.now.command) }
     ensures in_doubt { result ≡ Err StoreFault.Store → IsCommand change.now.command }
     ensures shown { OnErr result (StillShows (state S.Store conn.old) (state S.Store conn.new)) }
+    ensures open { result ≡ Err StoreFault.Memory → StaysOpen (state S.Store conn.old) (state S.Store conn.new) }
+    ensures counts { (state S.Store conn.old).faults ≤ (state S.Store conn.new).faults }
     ensures some { LeavesSome (state S.Store conn.new) }
     ensures honest { HasCleanDisk (state S.Store conn.new) → HasCleanDisk (state S.Store conn.old) }
     ensures outside { IsOutside (state S.Store conn.new) }

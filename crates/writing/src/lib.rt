@@ -10,3 +10,4 @@ mod writing;
 
 pub use commits::{commit_change, make_book};
 pub use fault::CreateFault;
+pub use transaction::take_back;

@@ -1,16 +1,40 @@
 //! The end of a transaction.
 
-ghost use Rattle.std.specs.Prelude.{◌≡◌, IsOk, IsErr, IsTrue, Err, OnOk, OnErr};
+ghost use Rattle.std.specs.Prelude.{◌≡◌, ◌⊎◌, false, IfErr, IsErr, IsOk, IsTrue, Err, OnOk, OnErr};
+ghost use Rattle.sqlite_disk.specs.Disk.{MoreFaults};
 ghost use Rattle.sqlite.specs.State.{HasCleanDisk, IsLive, KeepsCommit, Survives};
 ghost use Rattle.sqlite.specs.Held.{state};
-ghost use Rattle.tables.specs.Calls.{Committed};
+ghost use Rattle.tables.specs.Calls.{Committed, LeavesNothing};
 ghost use Rattle.writing.specs.Outcomes.{IsOutside};
 
 use rows::StoreFault;
 use sqlite::{Alter, Connection};
+use tables::TableFault;
 use tables::transaction::{commit, rollback};
 
-/// Commits what was done in a transaction, or takes it back. Where the commit fails, it is committed or lost.
+/// Takes back what a transaction changed, if one is still begun: a statement that failed has undone it already. Only the store
+/// is an error here (90), since a ROLLBACK that finds no memory undoes it all the same.
+pub fn take_back<S: Alter>(conn: &mut Connection<S>) -> Result<(), StoreFault>
+    ensures outside { IsOutside (state S.Store conn.new) }
+    ensures settled { HasCleanDisk (state S.Store conn.new) → IsTrue (state S.Store conn.new).is_open → (state S.Store conn.new).now ≡ (state S.Store conn.new).committed }
+    ensures kept { HasCleanDisk (state S.Store conn.new) → KeepsCommit (state S.Store conn.old) (state S.Store conn.new) }
+    ensures store { IfErr result (λ fault. fault ≡ StoreFault.Store) }
+    ensures cause { HasCleanDisk (state S.Store conn.new) → IsErr result → MoreFaults (state S.Store conn.old).faults (state S.Store conn.new).faults ⊎ ((state S.Store conn.old).is_open ≡ false) }
+    ensures crash { LeavesNothing (state S.Store conn.old) (state S.Store conn.new) }
+{
+    if conn.is_autocommit() {
+        return Ok(());
+    }
+    let undone = rollback(conn);
+    let _settled = conn.is_autocommit();
+    match undone {
+        Ok(()) | Err(TableFault::Memory) => Ok(()),
+        Err(_) => Err(StoreFault::Store),
+    }
+}
+
+/// Commits what was done in a transaction, or takes it back. Where the commit fails, it is committed or lost. The fault is 90
+/// wherever a call was refused for another cause than memory, the ROLLBACK too.
 pub(crate) fn end<S: Alter>(
     conn: &mut Connection<S>,
     done: Result<(), StoreFault>,
@@ -21,7 +45,9 @@ pub(crate) fn end<S: Alter>(
     ensures whole { OnOk result (IsOk done) }
     ensures ok { HasCleanDisk (state S.Store conn.new) → OnOk result (Committed (state S.Store conn.old) (state S.Store conn.new)) }
     ensures kept { HasCleanDisk (state S.Store conn.new) → OnErr result (KeepsCommit (state S.Store conn.old) (state S.Store conn.new)) }
-    ensures memory { result ≡ Err StoreFault.Memory → IsErr done }
+    ensures store { done ≡ Err StoreFault.Store → result ≡ Err StoreFault.Store }
+    ensures memory { result ≡ Err StoreFault.Memory → done ≡ Err StoreFault.Memory }
+    ensures cause { HasCleanDisk (state S.Store conn.new) → done ≡ Err StoreFault.Memory → result ≡ Err StoreFault.Store → MoreFaults (state S.Store conn.old).faults (state S.Store conn.new).faults ⊎ ((state S.Store conn.old).is_open ≡ false) }
     ensures crash { Survives (state S.Store conn.old) (state S.Store conn.new) (λ trees. IsOk done × (trees ≡ (state S.Store conn.old).now.trees)) }
 {
     let _live = conn.schema();
@@ -32,7 +58,6 @@ pub(crate) fn end<S: Alter>(
         },
         Err(fault) => fault,
     };
-    let _undone = rollback(conn);
-    let _settled = conn.is_autocommit();
+    take_back(conn)?;
     Err(fault)
 }

@@ -26,11 +26,11 @@ returns-in-Ok-clause-did g c =
     let verdict = rw c.in-Ok-Accept.field-0-is at c.in-Ok-Accept.ensures.verdict in
     let same = next_accepted c.args.roster.now c.args.key c.args.command.now _ _ verdict in
     did_as (state g.S.Store c.args.store.now) (state g.S.Store c.keep-kept.new.store) c.args.roster.now c.keep-kept.new.roster (after c.args.roster.now c.in-Ok-Accept.change) (next c.args.roster.now (c.args.key, c.args.command.now)) _ (sym same)
-    (did_with (state g.S.Store c.args.store.now) (state g.S.Store c.keep-kept.new.store) c.args.roster.now c.keep-kept.new.roster (after c.args.roster.now c.in-Ok-Accept.change) _ _ c.in-Ok.ensures)
+    (did_with (state g.S.Store c.args.store.now) (state g.S.Store c.keep-kept.new.store) c.args.roster.now c.keep-kept.new.roster (after c.args.roster.now c.in-Ok-Accept.change) _ _ c.in-Ok.ensures.did)
 
 pub returns-in-Err-kept-clause-did : goal.returns-in-Err-kept-clause-did
 returns-in-Err-kept-clause-did g c =
     let verdict = rw c.in-Ok-Accept.field-0-is at c.in-Ok-Accept.ensures.verdict in
     let same = next_accepted c.args.roster.now c.args.key c.args.command.now _ _ verdict in
     did_as (state g.S.Store c.args.store.now) (state g.S.Store c.keep-kept.new.store) c.args.roster.now c.keep-kept.new.roster (after c.args.roster.now c.in-Ok-Accept.change) (next c.args.roster.now (c.args.key, c.args.command.now)) _ (sym same)
-    (did_with_fault (state g.S.Store c.args.store.now) (state g.S.Store c.keep-kept.new.store) c.args.roster.now c.keep-kept.new.roster (after c.args.roster.now c.in-Ok-Accept.change) c.in-Err-kept.fault c.in-Err-kept.ensures)
+    (did_with_fault (state g.S.Store c.args.store.now) (state g.S.Store c.keep-kept.new.store) c.args.roster.now c.keep-kept.new.roster (after c.args.roster.now c.in-Ok-Accept.change) c.in-Err-kept.fault c.in-Err-kept.ensures.did)

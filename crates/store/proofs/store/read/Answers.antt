@@ -1,22 +1,21 @@
 use Rattle.std.proofs.Common.{ap, not, ◌∙◌}
 use Rattle.sqlite.specs.Held.{state}
 use Rattle.sqlite.specs.State.{HasCleanDisk}
-use Rattle.roster.specs.Sound.{Sound}
 use Rattle.loading.specs.Loading.{Says}
 use Rattle.writing.specs.Outcomes.{HoldsNow, IsOverBook, Leaves, one}
 use Rattle.loading.specs.Reading.{IsReadTo}
 use Rattle.rows.specs.Rows.{request}
-use Rattle.loading.specs.SameRows.{HasInstants}
-use Rattle.store.proofs.Loads.{on_read, loaded_leaves, loaded_now, loaded_over}
-use Rattle.loading.proofs.RightSound.{right_sound, right_instants}
+use Rattle.store.specs.Found.{IsFound}
+use Rattle.store.proofs.Loads.{on_read, loaded_found, loaded_leaves, loaded_now, loaded_over}
 use Rattle.store.proofs.store.read.Goals as goal
 
-pub returns-else-is_err-clause-sound : goal.returns-else-is_err-clause-sound
-returns-else-is_err-clause-sound g c =
-    let old = state g.S.Store c.args.conn.now in
-    let new = state g.S.Store c.read_all-read.new.conn in
-    on_read (λ r. IsReadTo request r old.now) (λ r. HasCleanDisk new → Sound r × HasInstants r) (λ fault. Says fault old.now) old new c.read_all-read.result c.read_all-read.ensures.read
-    (λ r told clean. let right = (told clean).1.right in (right_sound r old.now right, right_instants r old.now right))
+pub returns-else-is_err-clause-found : goal.returns-else-is_err-clause-found
+returns-else-is_err-clause-found g c =
+    let G = g.S.Store in
+    let old = state G c.args.conn.now in
+    let new = state G c.read_all-read.new.conn in
+    on_read (λ r. IsReadTo request r old.now) (λ r. HasCleanDisk new → IsFound r old.now) (λ fault. Says fault old.now) old new c.read_all-read.result c.read_all-read.ensures.read
+    (λ r told. loaded_found G old c.read_all-read.new.conn r told c.schema-live.ensures.live c.requires)
 
 pub returns-else-is_err-clause-ok : goal.returns-else-is_err-clause-ok
 returns-else-is_err-clause-ok g c =

@@ -7,7 +7,7 @@ use Rattle.writing.specs.Outcomes.{Leaves, one}
 use Rattle.writing.proofs.Committing.{begun_ready, begun_holds, written_holds, kept_leaves, either_leaves, ended_fit, undone_fit, none_done, over_at_end, unbegun_over, unbegun_shows, undone_shows, on_err_of, weaker}
 use Rattle.writing.proofs.Ending.{on_ok, on_err, ended_leaves, ended_now}
 use Rattle.writing.specs.Kept.{KeepOthers}
-use Rattle.writing.proofs.Sparing.{adds_nothing, leaves_only, may_add, written_keeps}
+use Rattle.writing.proofs.Sparing.{adds_nothing, leaves_only, may_add, shows_only, written_keeps}
 use Rattle.writing.proofs.commits.commit_change.Goals as goal
 
 pub returns-in_err-begin-clause-memory : goal.returns-in_err-begin-clause-memory
@@ -57,7 +57,7 @@ returns-clause-memory g c s leaves e =
     let last = state G c.write_change-done.new.conn in
     let new = state G c.end.new.conn in
     let first = survives_then old begun last _ _ _ (λ _ _ none. none) (λ _ _ none. none) c.in_ok-begin.ensures.crash c.write_change-done.ensures.changed.left in
-    let ending = survives_weaker last new _ _ (λ _ _ reached. none_done c.write_change-done.result (c.end.ensures.memory e) reached.0) c.end.ensures.crash in
+    let ending = survives_weaker last new _ _ (λ _ _ reached. none_done c.write_change-done.result _ (c.end.ensures.memory e) reached.0) c.end.ensures.crash in
     kept_leaves old new (one s) (survives_then old last new _ _ _ (λ _ _ none. none) (λ _ _ none. none) first ending) leaves
 
 pub returns-clause-store : goal.returns-clause-store
@@ -160,3 +160,35 @@ returns-clause-shown g c =
     let late = λ (clean : HasCleanDisk new). let d : HasCleanDisk last = omega (arith, c.end.ensures.crash.clean) in d in
     on_err_of c.end.result c.end.ensures.kept
     (λ kept. undone_shows old begun last new c.write_change-done.result c.write_change-done.ensures late before settled c.in_ok-begin.ensures.gave kept c.end.ensures.settled)
+
+pub returns-clause-spared : goal.returns-clause-spared
+returns-clause-spared g c =
+    let G = g.S.Store in
+    let old = state G c.args.conn.now in
+    let begun = state G c.begin.new.conn in
+    let last = state G c.write_change-done.new.conn in
+    let new = state G c.end.new.conn in
+    let before = λ (clean : HasCleanDisk begun). let d : HasCleanDisk old = omega (arith, c.in_ok-begin.ensures.crash.clean) in d in
+    let ready = begun_ready old begun before c.requires.over c.in_ok-begin.ensures.gave in
+    let keeps = λ (clean : HasCleanDisk new) (is : IsOk c.write_change-done.result).
+    written_keeps c.args.change.now old begun last c.write_change-done.result c.write_change-done.ensures ready c.in_ok-begin.ensures.gave c.end.ensures.live (omega (arith, c.end.ensures.crash.clean)) is in
+    on_ok c.end.result c.end.ensures.whole c.end.ensures.ok (λ is ended. shows_only last new (KeepOthers old.now) ended (λ clean. keeps clean is))
+
+pub returns-in_err-begin-clause-open : goal.returns-in_err-begin-clause-open
+returns-in_err-begin-clause-open g c _ = c.in_err-begin.ensures.crash.closes
+
+pub returns-clause-open : goal.returns-clause-open
+returns-clause-open g c _ =
+    let G = g.S.Store in
+    let old = state G c.args.conn.now in
+    let begun = state G c.begin.new.conn in
+    let last = state G c.write_change-done.new.conn in
+    let new = state G c.end.new.conn in
+    let first = survives_then old begun last _ _ _ (λ _ _ none. none) (λ _ _ none. none) c.in_ok-begin.ensures.crash c.write_change-done.ensures.changed.left in
+    (survives_then old last new _ _ _ (λ _ _ none. absurd none) (λ _ _ reached. reached) first c.end.ensures.crash).closes
+
+pub returns-in_err-begin-clause-counts : goal.returns-in_err-begin-clause-counts
+returns-in_err-begin-clause-counts g c = c.in_err-begin.ensures.crash.counts
+
+pub returns-clause-counts : goal.returns-clause-counts
+returns-clause-counts g c = omega (arith, c.in_ok-begin.ensures.crash.counts, c.write_change-done.ensures.changed.left.counts, c.end.ensures.crash.counts)

@@ -9,7 +9,7 @@ use Rattle.writing.proofs.Growth.{unreferenced}
 use Rattle.writing.proofs.EmptyBook.{made_holds}
 use Rattle.writing.proofs.Ending.{on_err, ended_leaves, ended_now, ended_over, ended_adds}
 use Rattle.writing.specs.Kept.{KeepPlain}
-use Rattle.writing.proofs.Sparing.{adds_nothing, leaves_only, made_keeps, may_add}
+use Rattle.writing.proofs.Sparing.{adds_nothing, leaves_only, made_keeps, may_add, shows_only}
 use Rattle.writing.proofs.commits.make_book.Goals as goal
 
 pub returns-clause-ok : goal.returns-clause-ok
@@ -102,3 +102,29 @@ returns-in_err-end-clause-others g c =
 pub returns-in_err-begin-clause-others : goal.returns-in_err-begin-clause-others
 returns-in_err-begin-clause-others g c =
     on_err _ (adds_nothing (state g.S.Store c.args.conn.now) (state g.S.Store c.begin.new.conn) (KeepPlain (state g.S.Store c.args.conn.now).now) c.in_err-begin.ensures.crash)
+
+pub returns-clause-spared : goal.returns-clause-spared
+returns-clause-spared g c =
+    let G = g.S.Store in
+    let old = state G c.args.conn.now in
+    let begun = state G c.begin.new.conn in
+    let last = state G c.make_tables-done.new.conn in
+    let new = state G c.end.new.conn in
+    let free : IsFree old.now.schema = search rules in
+    let before = λ (clean : HasCleanDisk new). let d : HasCleanDisk last = omega (arith, c.end.ensures.crash.clean) in d in
+    let keeps = λ (clean : HasCleanDisk new).
+    made_keeps _ old begun last c.make_tables-done.result free c.in_ok-begin.ensures.gave c.make_tables-done.ensures c.end.ensures.live (before clean) c.in_ok-end.ensures.whole in
+    shows_only last new (KeepPlain old.now) c.in_ok-end.ensures.ok keeps
+
+pub returns-in_err-begin-clause-open : goal.returns-in_err-begin-clause-open
+returns-in_err-begin-clause-open g c = on_err _ c.in_err-begin.ensures.crash.closes
+
+pub returns-in_err-end-clause-open : goal.returns-in_err-end-clause-open
+returns-in_err-end-clause-open g c =
+    let G = g.S.Store in
+    let old = state G c.args.conn.now in
+    let begun = state G c.begin.new.conn in
+    let last = state G c.make_tables-done.new.conn in
+    let new = state G c.end.new.conn in
+    let first = survives_then old begun last _ _ _ (λ _ _ none. none) (λ _ _ none. none) c.in_ok-begin.ensures.crash c.make_tables-done.ensures.left in
+    on_err _ (survives_then old last new _ _ _ (λ _ _ none. absurd none) (λ _ _ reached. reached) first c.end.ensures.crash).closes

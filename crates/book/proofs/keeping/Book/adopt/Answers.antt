@@ -2,14 +2,14 @@ use Rattle.book.proofs.States.{loaded, still_keeps}
 use Rattle.book.proofs.keeping.Book.adopt.Goals as goal
 
 pub invariant_of-result : goal.invariant_of-result
-invariant_of-result g c = (c.in-Ok.ensures.some, λ _. loaded _ _ c.in-Ok.ensures.sound c.in-Ok.ensures.ok c.in-Ok.ensures.some)
+invariant_of-result g c = (c.in-Ok.ensures.some, λ _. loaded _ _ c.in-Ok.ensures.found c.in-Ok.ensures.ok c.in-Ok.ensures.some)
 
 pub returns-in-Ok-clause-means : goal.returns-in-Ok-clause-means
 returns-in-Ok-clause-means g c = record {
   it = _;
-  right = c.in-Ok.ensures.right;
+  found = c.in-Ok.ensures.found;
   shown = c.in-Ok.ensures.now;
-  keeps = loaded _ _ c.in-Ok.ensures.sound c.in-Ok.ensures.ok c.in-Ok.ensures.some;
+  keeps = loaded _ _ c.in-Ok.ensures.found c.in-Ok.ensures.ok c.in-Ok.ensures.some;
 }
 
 pub returns-in-Err-clause-again : goal.returns-in-Err-clause-again

@@ -9,6 +9,8 @@ use Rattle.writing.specs.Outcomes.{Leaves}
 use Rattle.book.specs.Kept.{Ends, result_of}
 use Rattle.book.proofs.States.{honest_next, one_of_either, shows_still}
 use Rattle.book.proofs.Runs.{answer_in, fold_more, replies_more, one_honest, either_honest}
+use Rattle.book.proofs.Asked.{adds_none}
+use Rattle.book.proofs.Sparing.{adds_then, spared_adds, spared_open, spared_then}
 use Rattle.book.proofs.keeping.Book.answer_all.Goals as goal
 
 pub returns-in-Err-clause-outcome : goal.returns-in-Err-clause-outcome
@@ -75,6 +77,8 @@ loop-key-preserved g c =
       unfailed = c.in-Ok-ask.ensures.failed ∙ ap (λ b. b || false) was.unfailed;
       clean = λ clean. was.clean (c.ask.ensures.clean clean);
       some = c.ask.ensures.some;
+      spared = spared_then g.S.Store c.args.self.now c.loop-key.self c.ask.new.self c.ask.ensures.clean was.spared c.in-Ok-ask.ensures.alone;
+      counts = omega (arith, was.counts, c.ask.ensures.counts);
       replies = λ s at clean.
           let so_far = Fold s (take i xs) in
           let reply : result_of c.in-Ok-ask.answer ≡ answer_in so_far a = c.in-Ok-ask.ensures.reply so_far (was.outcome s at) clean in
@@ -117,3 +121,21 @@ returns-clause-honest g c s at honest = record {
       let first = was.honest s (at.kept (was.clean clean)).sound honest in
       (one_honest _ (Fold s (take c.loop-key.key-index c.args.commands.now)) (was.outcome s at).leaves first.1).crash clean trees may;
 }
+
+pub returns-in-Err-clause-others : goal.returns-in-Err-clause-others
+returns-in-Err-clause-others g c = adds_then g.S.Store c.args.self.now c.loop-key.self c.ask.new.self c.ask.ensures.clean c.loop-key.invariant.spared c.ask.ensures.others
+
+pub returns-clause-others : goal.returns-clause-others
+returns-clause-others g c = spared_adds g.S.Store c.args.self.now c.loop-key.self c.loop-key.invariant.spared
+
+pub returns-then-self-clause-others : goal.returns-then-self-clause-others
+returns-then-self-clause-others g c = adds_none (state g.S.Store c.args.self.now.held) _
+
+pub returns-in_default-clause-others : goal.returns-in_default-clause-others
+returns-in_default-clause-others g c = adds_none (state g.S.Store c.args.self.now.held) _
+
+pub returns-in-Err-clause-still_open : goal.returns-in-Err-clause-still_open
+returns-in-Err-clause-still_open g c is =
+    let fault : Some c.in-Err.fault ≡ Some Memory = rw (← c.stopped-in-Err.ensures.fault) is in
+    let was = c.loop-key.invariant in
+    spared_open g.S.Store c.args.self.now c.loop-key.self c.ask.new.self c.ask.ensures.clean was.counts was.spared (c.ask.ensures.still_open (c.in-Err.is ∙ (let same : c.in-Err.fault ≡ Memory = cc in ap Err same)))

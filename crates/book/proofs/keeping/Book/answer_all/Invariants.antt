@@ -7,6 +7,7 @@ use Rattle.roster.specs.Sound.{Sound}
 use Rattle.roster.specs.State.{State}
 use Rattle.writing.specs.Outcomes.{LeavesSome}
 use Rattle.book.specs.Kept.{HasTables, IsAt, IsClean, result_of}
+use Rattle.book.proofs.Sparing.{SameOrSpares}
 use Rattle.book.proofs.keeping.Book.answer_all.Given as goal
 
 abbrev pub invariant-loop-key : goal.invariant-loop-key
@@ -19,5 +20,7 @@ invariant-loop-key g l = record {
   replies : (s : State) → IsAt g.S.Store l.initial.self s → IsClean g.S.Store l.self → map result_of l.answers.items ≡ take l.key-index (Replies s l.commands);
   outcome : (s : State) → IsAt g.S.Store l.initial.self s → IsAt g.S.Store l.self (Fold s (take l.key-index l.commands));
   tables : (s : State) → IsAt g.S.Store l.initial.self s → HasTables g.S.Store l.initial.self s → HasTables g.S.Store l.self (Fold s (take l.key-index l.commands));
+  spared : SameOrSpares g.S.Store l.initial.self l.self;
+  counts : (state g.S.Store l.initial.self.held).faults ≤ (state g.S.Store l.self.held).faults;
   honest : (s : State) → Sound s → Honest s → Sound (Fold s (take l.key-index l.commands)) × Honest (Fold s (take l.key-index l.commands));
 }

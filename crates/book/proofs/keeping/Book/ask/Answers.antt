@@ -5,8 +5,10 @@ use Rattle.roster.specs.State.{State}
 use Rattle.roster.specs.Steps.{step_of}
 use Rattle.book.specs.Kept.{result_of}
 use Rattle.book.proofs.Runs.{honest_left, one_honest}
-use Rattle.book.proofs.States.{honest_next, one_of_either, shows_still}
-use Rattle.book.proofs.Asked.{closes, told_ok, told_tables, told_memory, told_store, told_shown, told_reply}
+use Rattle.book.proofs.States.{honest_next, one_of_either, same_state, shows_still}
+use Rattle.book.proofs.Holding.{accepts_within, now_holds, one_held_still, step_repeats, still_held}
+use Rattle.book.proofs.Untouched.{answered_same, same_book, same_or}
+use Rattle.book.proofs.Asked.{adds_none, closes, told_ok, told_tables, told_memory, told_store, told_shown, told_reply}
 use Rattle.book.proofs.SessionLemmas.{adds_one}
 use Rattle.book.proofs.keeping.Book.ask.Goals as goal
 
@@ -82,3 +84,42 @@ returns-clause-sessions g c s before at =
 pub returns-then-self-clause-sessions : goal.returns-then-self-clause-sessions
 returns-then-self-clause-sessions g c s before at =
     adds_one _ s before (c.args.key, c.args.command.now) _ tt (λ is. absurd (cc)) (returns-then-self-clause-store g c (Stopped s before) at)
+
+pub returns-clause-within_limits : goal.returns-clause-within_limits
+returns-clause-within_limits g c s at clean is passes =
+    accepts_within s c.args.key c.args.command.now is passes c.answer-answer.result (returns-clause-reply g c s at clean)
+
+pub returns-clause-holds : goal.returns-clause-holds
+returns-clause-holds g c s reply at =
+    now_holds _ s (c.args.key, c.args.command.now) reply c.answer-answer.result (returns-clause-reply g c s at) (returns-clause-answered g c s at)
+
+pub returns-clause-held : goal.returns-clause-held
+returns-clause-held g c s at =
+    one_held_still _ s (c.args.key, c.args.command.now) c.answer-answer.result (returns-clause-answered g c s at) (returns-clause-memory g c s at) (returns-clause-store g c s at)
+
+pub returns-then-self-clause-held : goal.returns-then-self-clause-held
+returns-then-self-clause-held g c s at = still_held _ s at
+
+pub returns-clause-repeats : goal.returns-clause-repeats
+returns-clause-repeats g c = rw (← c.self.view_is) (λ s reply at clean held.
+    let same = same_state (state g.S.Store c.self.inside.store) c.self.inside.roster s (c.self.invariant.1 c.if-self.false) at clean in
+    let it = c.answer-answer.ensures.repeated reply (step_repeats s c.self.inside.roster (c.args.key, c.args.command.now) reply same held) in
+    (same_book _ _ it.0 (c.is_of_store-self-inside.ensures ∙ it.1 ∙ sym c.if-self.false), it.2))
+
+pub returns-clause-refused : goal.returns-clause-refused
+returns-clause-refused g c = rw (← c.self.view_is) (answered_same _ _ c.answer-answer.result c.is_of_store-self-inside.ensures c.if-self.false c.answer-answer.ensures.refused)
+
+pub returns-clause-alone : goal.returns-clause-alone
+returns-clause-alone g c = rw (← c.self.view_is) (same_or _ _ _ c.answer-answer.result c.is_of_store-self-inside.ensures c.if-self.false c.answer-answer.ensures.alone)
+
+pub returns-clause-others : goal.returns-clause-others
+returns-clause-others g c = rw (← c.self.view_is) c.answer-answer.ensures.did.others
+
+pub returns-then-self-clause-others : goal.returns-then-self-clause-others
+returns-then-self-clause-others g c = adds_none (state g.S.Store c.args.self.now.held) _
+
+pub returns-clause-still_open : goal.returns-clause-still_open
+returns-clause-still_open g c = rw (← c.self.view_is) c.answer-answer.ensures.did.still_open
+
+pub returns-clause-counts : goal.returns-clause-counts
+returns-clause-counts g c = rw (← c.self.view_is) c.answer-answer.ensures.did.counts

@@ -1,0 +1,58 @@
+-- What is asked of a book first: that it accepts just what breaks no limit, that each command acts once, and what it leaves alone.
+use Rattle.std.specs.Prelude.{◌≡◌, IsTrue, Some}
+use Rattle.std.specs.FinMap as fin
+use Rattle.std.specs.List.{Contains}
+use Rattle.sqlite.specs.State as conn
+use Rattle.sqlite.specs.State.{HasCleanDisk}
+use Rattle.limits.specs.declared.section.Section.{Section}
+use Rattle.command.specs.Keys.{key_name}
+use Rattle.command.specs.declared.exceedance.Reply.{Reply}
+use Rattle.command.specs.declared.order.Order.{Order}
+use Rattle.command.specs.declared.refusal.Refusal.{Refusal}
+use Rattle.roster.specs.Folds.{Asked}
+use Rattle.roster.specs.Laws.{Gain, IsBroken, gains}
+use Rattle.roster.specs.State.{State}
+use Rattle.writing.specs.Kept.{KeepOthers}
+use Rattle.writing.specs.Outcomes.{Leaves, LeavesOnly, ShowsOnly}
+use Rattle.book.specs.declared.answer.Answer.{Answer}
+use Rattle.book.specs.declared.answer.Answer.TheVariants.{Accepted, Refused}
+
+-- ---- Answers
+
+-- it was accepted, with some reply
+abbrev pub IsAcceptance : Answer → Type 0
+IsAcceptance answer = (reply : Reply) × (answer ≡ Accepted reply)
+
+-- it was refused, for some reason
+abbrev pub IsRefusal : Answer → Type 0
+IsRefusal answer = (refusal : Refusal) × (answer ≡ Refused refusal)
+
+-- ---- Limits
+
+-- of the duties that members gain by this order, none breaks any of the eight limits, in any window of minutes
+abbrev pub BreaksNoLimit : State → Order → Type 0
+BreaksNoLimit s order = (gain : Gain) → Contains (gains s order) gain → (section : Section) → IsBroken gain section → ⊥
+
+-- ---- Each command acts once
+
+-- the key of the command holds it, with this reply
+abbrev pub IsHeld : State → Asked → Reply → Type 0
+IsHeld s asked reply = fin.get s.requests (key_name asked.0) ≡ Some (record { command = asked.1; reply = reply })
+
+-- in every state that a crash may leave, the key of the command holds it, with this reply
+abbrev pub StaysHeld : conn.State → Asked → Reply → Type 0
+StaysHeld now asked reply = Leaves now (λ s. IsHeld s asked reply)
+
+-- each command that this state holds stays held
+abbrev pub KeepsHeld : conn.State → State → Type 0
+KeepsHeld now s = (asked : Asked) (reply : Reply) → IsHeld s asked reply → StaysHeld now asked reply
+
+-- ---- Other tables
+
+-- a crash leaves the schema that was there, and each table that isn't the book's with the rows that it had; and that is what is shown,
+-- on a connection that is open
+pub record SparesOthers (old now : conn.State) : Type 0 where
+  pub leaves : LeavesOnly now (KeepOthers old.now)
+  pub shows : ShowsOnly now (KeepOthers old.now)
+  pub schema : HasCleanDisk now → now.now.schema ≡ old.now.schema
+  pub is_open : HasCleanDisk now → IsTrue now.is_open
