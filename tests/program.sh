@@ -54,6 +54,23 @@ untold() {
     holds "$name, $stream: $got" [ "$? $got" = '3 ' ]
 }
 
+# starved NAME OUT WORDS..: of a MiB of zeros, and of memory that is limited to ever more MiB: first the program can't begin,
+# then it finds too little, and then it answers OUT, with status 1.
+starved() {
+    local name=$1 out=$2 mib got told=
+    shift 2
+    for ((mib = 4; mib <= 256; mib++)); do
+        got=$( (ulimit -v $((mib * 1024)) && exec crates/rosterbook_main/out/rosterbook_main "$@") 2>&1 <"$room/zeros")
+        got="$? $got"
+        case $got in
+            '3 refused 91 Memory') told=$got ;;
+            "1 $out") break ;;
+            *) [ -z "$told" ] || break ;;
+        esac
+    done
+    holds "$name: ${told:-no want of memory}, $got" [ "$told, $got" = "3 refused 91 Memory, 1 $out" ]
+}
+
 # missing ARGUMENTS WORDS..: the command line lacks these arguments, one a line.
 missing() {
     local list=${1//$'\n'/$'\n  '}
@@ -158,6 +175,14 @@ books() {
     fi
 }
 
+little_memory() {
+    local book=$room/starved.db
+    head -c 1048576 /dev/zero >"$room/zeros"
+    case_of init_before_memory_is_limited 0 ready '' init "$book" "$zone"
+    starved do_of_little_memory '{"field":"body","name":"BadJson","refusal":31,"result":"refused"}' 'do' "$book"
+    starved import_of_little_memory 'refused 30 BadCsv 1' import "$book" 1
+}
+
 room=$(mktemp -d) || exit 2
 trap 'rm -rf "$room"' EXIT
 ./rosterbook --version >/dev/null || failed=$((failed + 1))
@@ -171,4 +196,5 @@ command_lines
 helps
 failing_outputs
 books
+little_memory
 echo "$passed passed, $failed failed"

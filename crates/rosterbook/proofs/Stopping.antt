@@ -1,5 +1,5 @@
 -- Where the program stops among the commands that it asks.
-use Rattle.std.proofs.Common.{◌≡◌, ◌⊎◌, inl, inr, ◌<◌, ◌≤◌, ℕ, ◌+◌, ◌||◌, true, false, Bool, List, [], ◌∷◌, ◌++◌, length, take, get_or, slice_get, refl, ap, sym, subst, arith, Some, Result, Ok, Err, IfErr, IsErrAnd, IsTrue}
+use Rattle.std.proofs.Common.{◌≡◌, inl, inr, ◌<◌, ◌≤◌, ℕ, ◌+◌, ◌||◌, true, false, Bool, List, [], ◌∷◌, ◌++◌, length, take, get_or, slice_get, refl, ap, sym, subst, arith, Some, Result, Ok, Err, IfErr, IsErrAnd, IsTrue}
 use Rattle.std.proofs.lemmas.Option.{get_or_from_slice_get}
 use Rattle.sqlite_trees.specs.declared.store.Store.{Ghosts}
 use Rattle.duty.specs.Plans.{Plan}
@@ -14,27 +14,24 @@ use Rattle.book.specs.Answered.{IsAnswered}
 use Rattle.book.specs.Kept.{IsAt, IsClean, IsInDoubt, Kept, is_store_fault, result_of}
 use Rattle.book.specs.declared.answer.Answer.{Answer}
 use Rattle.book.proofs.Runs.{fold_more}
-use Rattle.rosterbook.specs.Asking.{Answered, Answers, AreStopped, IsAskStopped, IsLeft, IsStoppedIn, Request, commands_of, left_by}
+use Rattle.rosterbook.specs.Asking.{Answered, Answers, AreStopped, IsAskStopped, IsLeft, IsOfBook, IsStoppedIn, Request, commands_of, left_by}
 use Rattle.rosterbook.specs.Streams.{Held, IsOfChannel, Reads}
 use Rattle.rosterbook.specs.declared.status.Status.{Status}
 use Rattle.rosterbook.specs.declared.stop.Stop.{Stop}
+use Rattle.rosterbook.specs.declared.stop.Stop.TheVariants as stops
 use Rattle.rosterbook.specs.declared.stop.Stop.TheVariants.{Book}
 use Rattle.rosterbook.proofs.PartsAdded.{AreAsked, AreSoFar, one_asked}
 
--- a reader or a writer doesn't fail as the store does
-pub no_fault_of_store : (stop : Stop) → IsOfChannel stop → stop ≡ Book Store → ⊥
-no_fault_of_store stop (inl memory) is = absurd (cc)
-no_fault_of_store stop (inr channel) is = absurd (cc)
+-- a reader or a writer doesn't fail as the book does
+pub no_fault_of_book : (stop : Stop) → IsOfChannel stop → IsOfBook stop → ⊥
+no_fault_of_book stop (inl memory) (fault, is) = absurd (cc)
+no_fault_of_book stop (inr channel) (fault, is) = absurd (cc)
 
 -- ---- Among commands
 
 or_true : (b : Bool) → IsTrue (b || true)
 or_true true = refl
 or_true false = refl
-
-told_as : (fault : StoreFault) → (Book fault ≡ Book Store) ⊎ IsOfChannel (Book fault)
-told_as Store = inl refl
-told_as Memory = inr (inl refl)
 
 -- the book has failed where the store has
 has_failed : (fault : StoreFault) (was is : Bool) → is ≡ (was || is_store_fault {A = Answer} (Err fault)) → Book fault ≡ Book Store → IsTrue is
@@ -50,7 +47,7 @@ module _ {S : Type 0} (g : Ghosts S) (old now new : Kept S) (asked : List Asked)
   untold stop (inl is) within each answered left = subst (IsStoppedIn g old new asked answers) (sym is) (record {
     told = inr (inl refl);
     few = omega (arith, each, within);
-    unanswered = λ no. absurd (cc);
+    unanswered = λ no. absurd (no_fault_of_book stops.Memory (inl refl) no);
     failed = λ no. absurd (cc);
     answered = λ s at clean. rw each (answered s at clean);
     left = λ s at. rw each (left s at);
@@ -58,7 +55,7 @@ module _ {S : Type 0} (g : Ghosts S) (old now new : Kept S) (asked : List Asked)
   untold stop (inr is) within each answered left = subst (IsStoppedIn g old new asked answers) (sym is) (record {
     told = inr (inr refl);
     few = omega (arith, each, within);
-    unanswered = λ no. absurd (cc);
+    unanswered = λ no. absurd (no_fault_of_book stops.Channel (inr refl) no);
     failed = λ no. absurd (cc);
     answered = λ s at clean. rw each (answered s at clean);
     left = λ s at. rw each (left s at);
@@ -82,7 +79,7 @@ module _ {S : Type 0} (g : Ghosts S) (old now new : Kept S) (asked : List Asked)
       let each = was.each in
       let is_a : get_or asked count a ≡ a = get_or_from_slice_get asked count a a at_count in
       record {
-        told = told_as fault;
+        told = inl (fault, refl);
         few = omega (arith, each, within);
         unanswered = λ is. omega (arith, each, within);
         failed = has_failed fault now.failed new.failed failed;
@@ -94,8 +91,8 @@ module _ {S : Type 0} (g : Ghosts S) (old now new : Kept S) (asked : List Asked)
       }
 
 -- want of memory, before anything was asked
-pub unasked : {S : Type 0} (g : Ghosts S) (book : Kept S) (asked : List Asked) → IsStoppedIn g book book asked [] (Book Memory)
-unasked g book asked = untold g book book book asked 0 [] (Book Memory) (inl refl) (omega arith) refl (λ s at clean. refl) (λ s at. at)
+pub unasked : {S : Type 0} (g : Ghosts S) (book : Kept S) (asked : List Asked) → IsStoppedIn g book book asked [] stops.Memory
+unasked g book asked = untold g book book book asked 0 [] stops.Memory (inl refl) (omega arith) refl (λ s at clean. refl) (λ s at. at)
 
 -- what is known of the fault of a call, by which another is returned
 pub err_told : {A E : Type 0} (r : Result A E) (P Q : E → Type 0) → IsErrAnd r P → ((e : E) → P e → Q e) → IfErr r Q
@@ -148,5 +145,5 @@ module _ {S : Type 0} (g : Ghosts S) (old now new : Kept S) (number : ℕ) (plan
     asked =
         let now_asked = one_asked g old now new parts count was.answers a (result_of answer) within at_count was.asked_so_far answered.clean answered.reply answered.answered in
         untold g old now new parts (count + 1) _ stop which (omega (arith, within)) now_asked.each now_asked.answered now_asked.left;
-    printed = λ is. absurd (no_fault_of_store stop which is);
+    printed = λ is. absurd (no_fault_of_book stop which is);
   }

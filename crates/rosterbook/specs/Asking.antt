@@ -16,6 +16,7 @@ use Rattle.codec.specs.Requests.{read_request}
 use Rattle.codec.specs.RefusalText as json
 use Rattle.kept.specs.ReplyText.{reply_text}
 use Rattle.kept.specs.declared.fault.CodecFault.{CodecFault}
+use Rattle.rows.specs.declared.fault.StoreFault.{StoreFault}
 use Rattle.rows.specs.declared.fault.StoreFault.TheVariants.{Store}
 use Rattle.book.specs.Kept.{IsAt, IsClean, IsInDoubt, Kept}
 use Rattle.rosterbook.specs.Streams.{Held, IsOfChannel, Prints, Reads, line_end, refused}
@@ -34,6 +35,10 @@ status_of (Err refusal) = Refused
 
 -- ---- Where the program stops
 
+-- the book met a fault: of its store (90), or want of memory (91)
+abbrev pub IsOfBook : Stop → Type 0
+IsOfBook stop = (fault : StoreFault) × (stop ≡ Book fault)
+
 module _ {S : Type 0} (g : Ghosts S) where
   -- what is left where so many commands were answered: after a fault of the store (90) the one after them is in doubt
   abbrev pub IsLeft : Kept S → State → List Asked → ℕ → Stop → Type 0
@@ -42,9 +47,9 @@ module _ {S : Type 0} (g : Ghosts S) where
 
   -- these commands were asked in turn, and got these answers before the program stopped
   pub record IsStoppedIn (old new : Kept S) (asked : List Asked) (answers : List Answered) (stop : Stop) : Type 0 where
-    pub told : (stop ≡ Book Store) ⊎ IsOfChannel stop
+    pub told : IsOfBook stop ⊎ IsOfChannel stop
     pub few : length answers ≤ length asked
-    pub unanswered : stop ≡ Book Store → length answers < length asked
+    pub unanswered : IsOfBook stop → length answers < length asked
     pub failed : stop ≡ Book Store → IsTrue new.failed
     pub answered : (s : State) → IsAt g old s → IsClean g new → answers ≡ take (length answers) (Replies s asked)
     pub left : (s : State) → IsAt g old s → IsLeft new s asked (length answers) stop
@@ -164,11 +169,11 @@ pub record IsImported {S : Type 0} (g : Ghosts S) (old new : Kept S) (number : �
   pub done : (IsNoSchedule text status out out' err err' × (new ≡ old))
       ⊎ ((plans : List Plan) × IsSchedule text plans × AreAdded g old new number plans status out out' × (err' ≡ err))
 
--- the program stopped among these pairings: at a fault of the store (90) the answers were told, and no more
+-- the program stopped among these pairings: at a fault of the book (90, 91) just the lines of what was answered were printed
 pub record AreStopped {S : Type 0} (g : Ghosts S) (old new : Kept S) (number : ℕ) (plans : List Plan) (out out' : Held) (stop : Stop) : Type 0 where
   pub answers : List Answered
   pub asked : IsStoppedIn g old new (import number plans) answers stop
-  pub printed : stop ≡ Book Store → Appends out out' (part_lines 1 answers)
+  pub printed : IsOfBook stop → Appends out out' (part_lines 1 answers)
 
 -- the program stopped before it added anything, or among the pairings of the schedule that was read
 abbrev pub IsImportStopped : {S : Type 0} → Ghosts S → Kept S → Kept S → ℕ → Held → Held → Held → Held → Held → Stop → Type 0

@@ -2,10 +2,9 @@
 use Rattle.std.specs.Prelude.{◌≡◌, ◌⊎◌, ⊤, ℕ, List, [], ◌∷◌, ◌++◌, ◌+◌, take, codes, Option, Some, None}
 use Rattle.std.specs.Io.KnownBytes.{Appends}
 use Rattle.codec.specs.Bounds.{most_bytes}
-use Rattle.rows.specs.declared.fault.StoreFault.TheVariants.{Memory}
 use Rattle.rosterbook.specs.declared.status.Status.{Status}
 use Rattle.rosterbook.specs.declared.stop.Stop.{Stop}
-use Rattle.rosterbook.specs.declared.stop.Stop.TheVariants.{Book, Channel}
+use Rattle.rosterbook.specs.declared.stop.Stop.TheVariants.{Memory, Channel}
 
 -- the bytes that a writer holds, or that a reader has, where they are known
 abbrev pub Held : Type 0
@@ -27,6 +26,6 @@ refused fault = codes "refused " ++ fault ++ line_end
 abbrev pub Prints : Status × List ℕ → Status → Held → Held → Type 0
 Prints told status out out' = (status ≡ told.0) × Appends out out' (told.1 ++ line_end)
 
--- how the program stops where a reader or a writer fails: for want of memory, or not
+-- how the program stops where a reader or a writer fails, or the program itself finds no memory
 abbrev pub IsOfChannel : Stop → Type 0
-IsOfChannel stop = (stop ≡ Book Memory) ⊎ (stop ≡ Channel)
+IsOfChannel stop = (stop ≡ Memory) ⊎ (stop ≡ Channel)

@@ -10,7 +10,7 @@ ghost use Rattle.rosterbook.specs.Asking as spec;
 use crate::lines::{read_input, write_line};
 use crate::status::Status;
 use crate::stop::Stop;
-use book::{Answer, Book, BookFault, FileBook};
+use book::{Answer, Book, FileBook};
 use codec::{CodecFault, command_of_json, fault_to_json, refusal_to_json, reply_to_json};
 use command::{Command, Key};
 use sqlite::{Alter, FileStore};
@@ -71,12 +71,12 @@ pub fn ask_json<S: Alter, R: Read, O: Write>(
 }
 
 /// What a book answers the body of a request.
-fn ask_body<S: Alter>(alloc: Global, book: &mut Book<S>, body: &[u8]) -> Result<Told, BookFault>
+fn ask_body<S: Alter>(alloc: Global, book: &mut Book<S>, body: &[u8]) -> Result<Told, Stop>
     ensures told { IfOk result (λ told. (answer : spec.Answered)
         × ((told.status, string_bytes told.line) ≡ spec.told_json (read_request body.now) answer)
         × ((s : State) → IsAt S.Store book.old s → IsClean S.Store book.new → spec.Answers s (read_request body.now) answer)
         × ((s : State) → IsAt S.Store book.old s → IsAt S.Store book.new (spec.left_by s (read_request body.now)))) }
-    ensures stopped { IfErr result (λ fault. (answers : List spec.Answered) × spec.IsStoppedIn S.Store book.old book.new (spec.commands_of (read_request body.now)) answers (Stop.Book fault)) }
+    ensures stopped { IfErr result (λ stop. (answers : List spec.Answered) × spec.IsStoppedIn S.Store book.old book.new (spec.commands_of (read_request body.now)) answers stop) }
 {
     match command_of_json(alloc, body) {
         Ok((number, command)) => {
@@ -85,7 +85,7 @@ fn ask_body<S: Alter>(alloc: Global, book: &mut Book<S>, body: &[u8]) -> Result<
             drop(command);
             told
         }
-        Err(CodecFault::Memory) => Err(BookFault::Memory),
+        Err(CodecFault::Memory) => Err(Stop::Memory),
         Err(fault) => Ok(refused(fault_to_json(alloc, fault)?)),
     }
 }
@@ -96,13 +96,13 @@ fn ask_command<S: Alter>(
     book: &mut Book<S>,
     key: Key,
     command: &Command,
-) -> Result<Told, BookFault>
+) -> Result<Told, Stop>
     ensures told { IfOk result (λ told. (answer : spec.Answered)
         × (told.status ≡ spec.status_of answer)
         × (string_bytes told.line ≡ spec.answer_json answer)
         × ((s : State) → IsAt S.Store book.old s → IsClean S.Store book.new → answer ≡ answer_of (step_of s key command.now))
         × ((s : State) → IsAt S.Store book.old s → IsAt S.Store book.new (next s (key, command.now)))) }
-    ensures stopped { IfErr result (λ fault. (answers : List spec.Answered) × spec.IsStoppedIn S.Store book.old book.new ((key, command.now) ∷ []) answers (Stop.Book fault)) }
+    ensures stopped { IfErr result (λ stop. (answers : List spec.Answered) × spec.IsStoppedIn S.Store book.old book.new ((key, command.now) ∷ []) answers stop) }
 {
     let answer = book.ask(alloc, key, command)?;
     Ok(line_of(alloc, &answer)?)

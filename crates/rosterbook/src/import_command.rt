@@ -7,7 +7,7 @@ ghost use Rattle.rosterbook.specs.Asking as spec;
 use crate::lines::{read_input, refuse};
 use crate::status::Status;
 use crate::stop::Stop;
-use book::{Answer, Book, BookFault, FileBook, Import};
+use book::{Answer, Book, FileBook, Import};
 use codec::{CodecFault, RequestNumber, schedule_of_csv};
 use duty::Pairing;
 use sqlite::{Alter, FileStore};
@@ -69,7 +69,7 @@ pub fn import_csv<S: Alter, R: Read, O: Write, E: Write>(
     let text = read_input(alloc, reader)?;
     match schedule_of_csv(alloc, &text) {
         Ok(pairings) => add_all(alloc, book, number, pairings, out),
-        Err(CodecFault::Memory) => Err(Stop::Book(BookFault::Memory)),
+        Err(CodecFault::Memory) => Err(Stop::Memory),
         Err(fault) => {
             refuse(err, &fault)?;
             Ok(Status::Refused)

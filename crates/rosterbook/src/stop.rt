@@ -9,8 +9,10 @@ use values::MemoryFault;
 pub enum Stop {
     /// The book is not taken up.
     Load(LoadFault),
-    /// The store or memory fails.
+    /// The book meets a fault: of its store, or want of memory.
     Book(BookFault),
+    /// The program finds no memory, beside the book.
+    Memory,
     /// A reader or a writer fails.
     Channel,
 }
@@ -25,6 +27,7 @@ impl fmt::Display for Stop {
         match self {
             Stop::Load(fault) => write!(f, "{fault}"),
             Stop::Book(fault) => write!(f, "{fault}"),
+            Stop::Memory => f.write_str("91 Memory"),
             Stop::Channel => f.write_str("92 Channel"),
         }
     }
@@ -56,13 +59,12 @@ impl From<BookFault> for Stop {
 
 impl From<MemoryFault> for Stop {
     ghost use Rattle.std.specs.Prelude.{◌≡◌};
-    ghost use Rattle.rows.specs.declared.fault.StoreFault.TheVariants.{Memory};
-    ghost use Rattle.rosterbook.specs.declared.stop.Stop.TheVariants.{Book};
+    ghost use Rattle.rosterbook.specs.declared.stop.Stop.TheVariants.{Memory};
 
-    ghost from_gives = { λ _ stop. stop ≡ Book Memory };
+    ghost from_gives = { λ _ stop. stop ≡ Memory };
 
     fn from(_fault: MemoryFault) -> Stop {
-        Stop::Book(BookFault::Memory)
+        Stop::Memory
     }
 }
 
@@ -73,7 +75,7 @@ impl From<io::Error> for Stop {
 
     fn from(error: io::Error) -> Stop {
         match error.kind() {
-            io::ErrorKind::OutOfMemory => Stop::Book(BookFault::Memory),
+            io::ErrorKind::OutOfMemory => Stop::Memory,
             _ => Stop::Channel,
         }
     }
