@@ -15,7 +15,7 @@ use std::test::Fail;
 /// The place of a run among the states.
 fn place(reached: Reached) -> usize {
     match reached {
-        Reached::NoBook => 0,
+        Reached::NoBook | Reached::ToldOtherwise => 0,
         Reached::Accepted(count) => count.saturating_add(1),
     }
 }
@@ -40,6 +40,9 @@ fn calls_of<D: Stops>(
     let whole = Reached::Accepted(list.len());
     for calls in first..first.saturating_add(1_000) {
         let (reached, files) = play::<D>(alloc, taking(alloc, stopped, calls), list);
+        if reached == Reached::ToldOtherwise {
+            return Err(Fail::from("a stop that is not told as 90"));
+        }
         let held = reopened::<D>(alloc, restarted(alloc, files, left))?;
         if !is_left(held.as_str(), states, reached, reached == whole) {
             return Err(Fail::from("what no stop may leave"));

@@ -8,24 +8,27 @@ use command::{Command, Key};
 use sqlite::{Alter, Connection, Files, Options};
 use sqlite_disk::Disk;
 use std::alloc::Global;
+use store::StoreFault;
 
-/// How far a run came: no book, or one that accepted so many requests.
+/// How far a run came: no book, or one that accepted so many requests, and told the stop as 90.
 #[derive(Clone, Copy, PartialEq, Eq)]
 pub enum Reached {
     NoBook,
     Accepted(usize),
+    ToldOtherwise,
 }
 
-/// How many requests a book accepts in turn, up to the first that it doesn't.
-fn accepted<S: Alter>(alloc: Global, book: &mut Book<S>, list: &[(Key, Command)]) -> usize {
+/// How far a book comes with requests in turn, up to the first that it doesn't accept.
+fn asked<S: Alter>(alloc: Global, book: &mut Book<S>, list: &[(Key, Command)]) -> Reached {
     let mut count = 0usize;
     for (key, command) in list {
         match book.ask(alloc, *key, command) {
             Ok(Answer::Accepted(_)) => count = count.saturating_add(1),
-            _ => return count,
+            Err(StoreFault::Store) => return Reached::Accepted(count),
+            _ => return Reached::ToldOtherwise,
         }
     }
-    count
+    Reached::Accepted(count)
 }
 
 /// What is done with a database in files while they are open.
@@ -51,8 +54,8 @@ impl<'a> Act for Asking<'a> {
     fn act<S: Alter + Drop>(self, alloc: Global, conn: Connection<S>) -> (Reached, Connection<S>) {
         match create(alloc, conn) {
             Ok(mut book) => {
-                let count = accepted(alloc, &mut book, self.list);
-                (Reached::Accepted(count), book.into_connection())
+                let reached = asked(alloc, &mut book, self.list);
+                (reached, book.into_connection())
             }
             Err((_told, conn)) => (Reached::NoBook, conn),
         }
