@@ -55,7 +55,7 @@ pub(crate) fn is_held_by(who: &CrewId, holder: &Option<CrewId>) -> bool
 }
 
 /// A period with its actual times, if it has them, else as it is planned.
-fn in_force(alloc: Global, period: &Fdp, actual: &Option<Actual>) -> Result<Fdp, MemoryFault>
+pub fn in_force(alloc: Global, period: &Fdp, actual: &Option<Actual>) -> Result<Fdp, MemoryFault>
     ensures { IfOk result (λ fdp. fdp ≡ flown (period.now, actual.now)) }
 {
     match actual {
@@ -66,7 +66,7 @@ fn in_force(alloc: Global, period: &Fdp, actual: &Option<Actual>) -> Result<Fdp,
 
 impl Rostered {
     /// Whether the member holds a seat.
-    pub(crate) fn holds(&self, who: &CrewId) -> bool
+    pub fn holds(&self, who: &CrewId) -> bool
         ensures { result ≡ holds who.now self.now }
     {
         is_held_by(who, &self.captain) || is_held_by(who, &self.first_officer)

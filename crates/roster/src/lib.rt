@@ -11,5 +11,6 @@ mod state;
 mod step;
 
 pub use change::{Change, SeatChange, Verdict};
+pub use duties::in_force;
 pub use put::Entry;
 pub use state::{ExceedanceId, PeriodId, Request, Roster, Rostered};

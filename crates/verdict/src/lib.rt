@@ -7,4 +7,5 @@ mod texts;
 mod verdict;
 
 pub use fault::LineFault;
+pub use texts::Hours;
 pub use verdict::duty_line;
