@@ -1,4 +1,4 @@
-ghost use Rattle.std.specs.Prelude.{◌≡◌, ◌<◌, length, slice_get, Some};
+ghost use Rattle.std.specs.Prelude.{◌≡◌, ◌<◌, ◌++◌, length, slice_get, Some, OnOk};
 ghost use Rattle.duty.specs.Minutes.{spans_of};
 
 use super::fdp_in_force::FdpInForce;
@@ -47,6 +47,16 @@ impl DutyInForce {
             },
             DutyInForce::Ground(span) => *span,
         }
+    }
+
+    /// Appends the spans of that kind.
+    pub(crate) fn append_spans(&self, kind: Kind, spans: &mut Vec<Span>) -> Result<(), MemoryFault>
+        ensures { OnOk result (spans.new.items ≡ spans.old.items ++ spans_of kind self.now) }
+    {
+        for index in 0..self.span_count(kind) {
+            spans.push(self.span_at(kind, index))?;
+        }
+        Ok(())
     }
 
     /// The spans of that kind.

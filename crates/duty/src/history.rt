@@ -1,5 +1,7 @@
-ghost use Rattle.std.specs.Prelude.{◌≡◌, ◌<◌, ◌≤◌, ◌-◌, ◌++◌, ◌∷◌, [], OnOk, OnErr, pos, negsuc, ◌-ℤ◌, ◌≤ℤ◌, unsigned_abs, IsFalse, IsTrue, ◌⊎◌, ◌↔◌};
-ghost use Rattle.duty.specs.Minutes.{count, minutes_in, Meets, HasFreeRun, Overlap};
+//! The duties of a crew member, with their minutes in order of time.
+ghost use Rattle.std.specs.Prelude.{◌≡◌, ◌<◌, ◌≤◌, ◌-◌, ◌++◌, ◌∷◌, [], IfOk, OnOk, OnErr, pos, negsuc, ◌-ℤ◌, ◌≤ℤ◌, unsigned_abs, IsFalse, IsTrue, ◌⊎◌, ◌↔◌};
+ghost use Rattle.std.specs.List.{flat_map};
+ghost use Rattle.duty.specs.Minutes.{count, minutes_in, spans_of, Meets, HasFreeRun, Overlap};
 ghost use Rattle.duty.specs.declared.kind.Kind.TheVariants.{Flight, FlightDuty, Duty};
 ghost use Rattle.duty.specs.Indexes.{HasMinutes};
 ghost use Rattle.duty.specs.Overlaps.{overlaps as do_overlap};
@@ -8,6 +10,7 @@ use super::duty_in_force::DutyInForce;
 use super::intervals::Intervals;
 use super::kind::Kind;
 use super::merging::Spans;
+use super::span::Span;
 use std::alloc::Global;
 use std::marker::Model;
 use values::{Copied, MemoryFault, copies_of};
@@ -45,6 +48,21 @@ impl History {
             flight_duty: Intervals::empty(alloc),
             on_duty: Intervals::empty(alloc),
         }
+    }
+
+    /// These duties, in this order. Their minutes are sorted once, so that it takes about as long in any order.
+    pub fn of(alloc: Global, duties: Vec<DutyInForce>) -> Result<Self, MemoryFault>
+        ensures { IfOk result (λ history. history ≡ duties.items) }
+    {
+        let flying = minutes_held(alloc, Kind::Flight, duties.as_slice())?;
+        let flight_duty = minutes_held(alloc, Kind::FlightDuty, duties.as_slice())?;
+        let on_duty = minutes_held(alloc, Kind::Duty, duties.as_slice())?;
+        Ok(History {
+            duties,
+            flying,
+            flight_duty,
+            on_duty,
+        })
     }
 
     /// Adds the duty last.
@@ -172,6 +190,26 @@ impl History {
     {
         self.on_duty.shares(&other.on_duty)
     }
+}
+
+/// The minutes of that kind that the duties hold.
+fn minutes_held(alloc: Global, kind: Kind, duties: &[DutyInForce]) -> Result<Intervals, MemoryFault>
+    ensures { IfOk result (λ minutes. HasMinutes minutes.spans kind duties.now) }
+{
+    let mut spans = spans_held(alloc, kind, duties)?;
+    spans.sort_unstable_by_key(|span| span.from);
+    Intervals::of(alloc, &spans)
+}
+
+/// The spans of that kind, duty after duty.
+fn spans_held(alloc: Global, kind: Kind, duties: &[DutyInForce]) -> Result<Vec<Span>, MemoryFault>
+    ensures { IfOk result (λ spans. spans.items ≡ flat_map (spans_of kind) duties.now) }
+{
+    let mut spans = Vec::new(alloc);
+    for duty in duties {
+        duty.append_spans(kind, &mut spans)?;
+    }
+    Ok(spans)
 }
 
 impl Copied for History {

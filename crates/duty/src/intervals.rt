@@ -1,3 +1,4 @@
+//! Minutes as a sorted list of disjoint intervals with running sums, and what is asked of it.
 ghost use Rattle.std.specs.Prelude.{◌≡◌, ℕ, ◌<◌, ◌≤◌, ◌+◌, ◌^◌, [], length, slice_index_or, slice_range, OnOk, IfOk, ◌||◌, ℤ, nat_lt, IsTrue, IsFalse, IfSome, IfNone, pos, negsuc, ◌-ℤ◌, ◌≤ℤ◌, unsigned_abs, ◌↔◌, ◌⊎◌, ◌&&◌};
 ghost use Rattle.std.specs.List.{list_any};
 ghost use Rattle.duty.specs.Intervals.{AreApart, IsIndex, spans_in};
@@ -50,6 +51,16 @@ impl Intervals {
         Intervals {
             intervals: Vec::new(alloc),
         }
+    }
+
+    /// The minutes of spans.
+    pub(crate) fn of<S: Spans>(alloc: Global, spans: &S) -> Result<Self, MemoryFault>
+        ensures { IfOk result (λ it. (minute : ℤ) → minutes_of it.spans minute ≡ minutes_of (S.spans spans.now) minute) }
+    {
+        let mut intervals = Intervals::empty(alloc);
+        intervals.reserve(spans.count())?;
+        intervals.add_all(spans);
+        Ok(intervals)
     }
 
     /// How many of the `width` minutes before `end`, a number of minutes since 2000-01-01T00:00Z, there are. They may begin

@@ -24,6 +24,18 @@ pub(crate) trait Spans {
         ensures { slice_get (spans self.now) index ≡ Some result };
 }
 
+impl Spans for Vec<Span> {
+    ghost spans = { λ it. it.items };
+
+    fn count(&self) -> usize {
+        self.len()
+    }
+
+    fn span(&self, index: usize) -> Span {
+        self[index]
+    }
+}
+
 /// The place of the first interval that ends at `minute` or later, or their number.
 pub(crate) fn first_ending_from(intervals: &[Interval], minute: u64) -> usize
     requires { AreApart 0 (spans_in intervals.now) }

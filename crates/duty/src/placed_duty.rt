@@ -32,8 +32,9 @@ impl History {
 }
 
 impl Duty {
-    /// The duty with its times in force.
-    fn in_force(&self, alloc: Global, zone: &Zone) -> Result<DutyInForce, MemoryFault>
+    /// The duty with its times in force. A flight duty period's planned report is read on the clock of `zone`, the
+    /// acclimated one.
+    pub fn in_force(&self, alloc: Global, zone: &Zone) -> Result<DutyInForce, MemoryFault>
         ensures { IfOk result (λ duty. duty ≡ spec.in_force zone.now self.now) }
     {
         match self {

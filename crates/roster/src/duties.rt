@@ -8,7 +8,7 @@ ghost use Rattle.roster.specs.Refusals.{broken_by};
 
 use crate::state::{Roster, Rostered};
 use command::Exceedance;
-use duty::{Actual, CrewId, Duty, Fdp, History, PairingId};
+use duty::{Actual, CrewId, Duty, DutyInForce, Fdp, History, PairingId};
 use limits::{Section, judge};
 use std::alloc::Global;
 use time117::Zone;
@@ -90,14 +90,14 @@ impl Rostered {
         zone: &Zone,
         id: &PairingId,
         out: LeftOut,
-        history: &mut History,
+        list: &mut Vec<DutyInForce>,
     ) -> Result<(), MemoryFault>
-        ensures { OnOk result (history.new ≡ history.old ++ all_but (leaves_out out.entry) (periods_at zone.now (id.now, self.now))) }
+        ensures { OnOk result (list.new.items ≡ list.old.items ++ all_but (leaves_out out.entry) (periods_at zone.now (id.now, self.now))) }
     {
         let fdps = self.periods_in_force(alloc)?;
         for (index, fdp) in fdps.iter().enumerate() {
             if !out.leaves_out(id, index + 1) {
-                history.insert(alloc, Duty::Fdp(fdp.copy(alloc)?), zone)?;
+                list.push(Duty::Fdp(fdp.copy(alloc)?).in_force(alloc, zone)?)?;
             }
         }
         Ok(())
@@ -113,9 +113,9 @@ impl Rostered {
     ) -> Result<History, MemoryFault>
         ensures { IfOk result (λ history. history ≡ duties (periods_at zone.now (id.now, self.now))) }
     {
-        let mut history = History::empty(alloc);
-        self.add_periods(alloc, zone, id, LeftOut::Nothing, &mut history)?;
-        Ok(history)
+        let mut duties = Vec::new(alloc);
+        self.add_periods(alloc, zone, id, LeftOut::Nothing, &mut duties)?;
+        History::of(alloc, duties)
     }
 }
 
@@ -126,13 +126,13 @@ impl Roster {
         alloc: Global,
         who: &CrewId,
         out: LeftOut,
-        history: &mut History,
+        list: &mut Vec<DutyInForce>,
     ) -> Result<(), MemoryFault>
-        ensures { OnOk result (history.new ≡ history.old ++ all_but (leaves_out out.entry) (periods_of self.now who.now)) }
+        ensures { OnOk result (list.new.items ≡ list.old.items ++ all_but (leaves_out out.entry) (periods_of self.now who.now)) }
     {
         for (id, rostered) in self.pairings.iter() {
             if rostered.holds(who) {
-                rostered.add_periods(alloc, self.zone_of(who), id, out, history)?;
+                rostered.add_periods(alloc, self.zone_of(who), id, out, list)?;
             }
         }
         Ok(())
@@ -143,13 +143,13 @@ impl Roster {
         &self,
         alloc: Global,
         who: &CrewId,
-        history: &mut History,
+        list: &mut Vec<DutyInForce>,
     ) -> Result<(), MemoryFault>
-        ensures { OnOk result (history.new ≡ history.old ++ duties (grounds_of self.now who.now)) }
+        ensures { OnOk result (list.new.items ≡ list.old.items ++ duties (grounds_of self.now who.now)) }
     {
         for (_, ground) in self.grounds.iter() {
             if ground.crew() == who {
-                history.insert(alloc, Duty::Ground(ground.copy(alloc)?), self.zone_of(who))?;
+                list.push(Duty::Ground(ground.copy(alloc)?).in_force(alloc, self.zone_of(who))?)?;
             }
         }
         Ok(())
@@ -160,10 +160,10 @@ impl Roster {
     fn others(&self, alloc: Global, who: &CrewId, out: LeftOut) -> Result<History, MemoryFault>
         ensures { IfOk result (λ history. history ≡ others self.now who.now (leaves_out out.entry)) }
     {
-        let mut history = History::empty(alloc);
-        self.add_periods_of(alloc, who, out, &mut history)?;
-        self.add_grounds_of(alloc, who, &mut history)?;
-        Ok(history)
+        let mut duties = Vec::new(alloc);
+        self.add_periods_of(alloc, who, out, &mut duties)?;
+        self.add_grounds_of(alloc, who, &mut duties)?;
+        History::of(alloc, duties)
     }
 
     /// What new duties do beside the member's others.

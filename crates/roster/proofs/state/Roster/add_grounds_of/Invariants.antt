@@ -7,5 +7,5 @@ use Rattle.roster.proofs.state.Roster.add_grounds_of.Given as goal
 
 abbrev pub invariant-loop-ground : goal.invariant-loop-ground
 invariant-loop-ground l =
-    l.history ++ duties (map ground_at (filter (λ row. bytes_eq row.1.crew l.who) (rows_of (λ id. id) l.ground-iterator)))
-    ≡ l.initial.history ++ duties (grounds_of l.self l.who)
+    l.list.items ++ duties (map ground_at (filter (λ row. bytes_eq row.1.crew l.who) (rows_of (λ id. id) l.ground-iterator)))
+    ≡ l.initial.list.items ++ duties (grounds_of l.self l.who)

@@ -9,5 +9,5 @@ use Rattle.roster.proofs.state.Roster.add_periods_of.Given as goal
 
 abbrev pub invariant-loop-id : goal.invariant-loop-id
 invariant-loop-id l =
-    l.history ++ all_but (leaves_out l.out) (flat_map (periods_at (zone_of l.self l.who)) (filter (λ row. holds l.who row.1) (rows_of (λ id. id) l.id-iterator)))
-    ≡ l.initial.history ++ all_but (leaves_out l.out) (periods_of l.self l.who)
+    l.list.items ++ all_but (leaves_out l.out) (flat_map (periods_at (zone_of l.self l.who)) (filter (λ row. holds l.who row.1) (rows_of (λ id. id) l.id-iterator)))
+    ≡ l.initial.list.items ++ all_but (leaves_out l.out) (periods_of l.self l.who)

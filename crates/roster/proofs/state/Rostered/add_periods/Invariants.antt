@@ -5,5 +5,5 @@ use Rattle.roster.proofs.state.Rostered.add_periods.Given as goal
 
 abbrev pub invariant-loop-index : goal.invariant-loop-index
 invariant-loop-index l =
-    l.history ++ all_but (leaves_out l.out) (numbered l.zone l.id (l.index + 1) (drop l.index l.fdp-items))
-    ≡ l.initial.history ++ all_but (leaves_out l.out) (numbered l.zone l.id 1 l.fdp-items)
+    l.list.items ++ all_but (leaves_out l.out) (numbered l.zone l.id (l.index + 1) (drop l.index l.fdp-items))
+    ≡ l.initial.list.items ++ all_but (leaves_out l.out) (numbered l.zone l.id 1 l.fdp-items)
