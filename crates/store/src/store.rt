@@ -66,7 +66,7 @@ impl<S: Alter> Store<S> {
         ensures alone { IfOk result (λ it. LeavesOnly (state S.Store it) (KeepPlain (state S.Store conn).now)) }
         ensures spared { IfOk result (λ it. ShowsOnly (state S.Store it) (KeepPlain (state S.Store conn).now)) }
         ensures others { IfErr result (λ e. AddsOnly (state S.Store conn) (state S.Store e.1) (KeepPlain (state S.Store conn).now)) }
-        ensures open { IfErr result (λ e. StaysOpen (state S.Store conn) (state S.Store e.1)) }
+        ensures still_open { IfErr result (λ e. StaysOpen (state S.Store conn) (state S.Store e.1)) }
         ensures outside { IfErr result (λ e. IsOutside (state S.Store e.1)) }
         ensures some_left { IfErr result (λ e. LeavesSome (state S.Store e.1)) }
     {
@@ -92,7 +92,7 @@ impl<S: Alter> Store<S> {
         ensures left { IfOk result (λ it. AddsNothing (state S.Store conn) (state S.Store it.0)) }
         ensures refused { IfErr result (λ e. HasCleanDisk (state S.Store e.1) → Says e.0 (state S.Store conn).now) }
         ensures kept { IfErr result (λ e. AddsNothing (state S.Store conn) (state S.Store e.1)) }
-        ensures open { IfErr result (λ e. StaysOpen (state S.Store conn) (state S.Store e.1)) }
+        ensures still_open { IfErr result (λ e. StaysOpen (state S.Store conn) (state S.Store e.1)) }
         ensures outside { IfErr result (λ e. IsOutside (state S.Store e.1)) }
         ensures some_left { IfErr result (λ e. LeavesSome (state S.Store e.1)) }
     {
@@ -116,7 +116,7 @@ impl<S: Alter> Store<S> {
         ensures command { OnOk result (IsCommand change.now.command) }
         ensures in_doubt { result ≡ Err StoreFault.Store → IsCommand change.now.command }
         ensures shown { OnErr result (StillShows (state S.Store self.old) (state S.Store self.new)) }
-        ensures open { result ≡ Err StoreFault.Memory → StaysOpen (state S.Store self.old) (state S.Store self.new) }
+        ensures still_open { result ≡ Err StoreFault.Memory → StaysOpen (state S.Store self.old) (state S.Store self.new) }
         ensures counts { (state S.Store self.old).faults ≤ (state S.Store self.new).faults }
         ensures some { LeavesSome (state S.Store self.new) }
         ensures honest { HasCleanDisk (state S.Store self.new) → HasCleanDisk (state S.Store self.old) }

@@ -43,7 +43,7 @@ pub fn make_book<S: Alter>(
     ensures alone { OnOk result (LeavesOnly (state S.Store conn.new) (KeepPlain (state S.Store conn.old).now)) }
     ensures spared { OnOk result (ShowsOnly (state S.Store conn.new) (KeepPlain (state S.Store conn.old).now)) }
     ensures others { OnErr result (AddsOnly (state S.Store conn.old) (state S.Store conn.new) (KeepPlain (state S.Store conn.old).now)) }
-    ensures open { OnErr result (StaysOpen (state S.Store conn.old) (state S.Store conn.new)) }
+    ensures still_open { OnErr result (StaysOpen (state S.Store conn.old) (state S.Store conn.new)) }
     ensures outside { IsOutside (state S.Store conn.new) }
 {
     if !is_free(conn) {
@@ -77,7 +77,7 @@ pub fn commit_change<S: Alter>(
     ensures command { OnOk result (IsCommand change.now.command) }
     ensures in_doubt { result ≡ Err StoreFault.Store → IsCommand change.now.command }
     ensures shown { OnErr result (StillShows (state S.Store conn.old) (state S.Store conn.new)) }
-    ensures open { result ≡ Err StoreFault.Memory → StaysOpen (state S.Store conn.old) (state S.Store conn.new) }
+    ensures still_open { result ≡ Err StoreFault.Memory → StaysOpen (state S.Store conn.old) (state S.Store conn.new) }
     ensures counts { (state S.Store conn.old).faults ≤ (state S.Store conn.new).faults }
     ensures some { LeavesSome (state S.Store conn.new) }
     ensures honest { HasCleanDisk (state S.Store conn.new) → HasCleanDisk (state S.Store conn.old) }

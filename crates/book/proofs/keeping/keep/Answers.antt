@@ -12,7 +12,7 @@ returns-in-Ok-commit-clause-did g c =
 pub returns-in-Err-clause-did : goal.returns-in-Err-clause-did
 returns-in-Err-clause-did g c =
     did_fail (state g.S.Store c.args.store.now) (state g.S.Store c.commit.new.self) c.args.roster.now c.args.change.now c.requires.keeps c.requires.next c.commit.ensures.honest c.commit.ensures.some c.commit.ensures.others c.commit.ensures.counts c.in-Err.fault
-    (c.in-Err.ensures.memory c.args.roster.now) (c.in-Err.ensures.store c.args.roster.now) c.in-Err.ensures.in_doubt c.in-Err.ensures.shown c.in-Err.ensures.«open»
+    (c.in-Err.ensures.memory c.args.roster.now) (c.in-Err.ensures.store c.args.roster.now) c.in-Err.ensures.in_doubt c.in-Err.ensures.shown c.in-Err.ensures.still_open
 
 pub returns-in-Ok-commit-clause-alone : goal.returns-in-Ok-commit-clause-alone
 returns-in-Ok-commit-clause-alone g c =

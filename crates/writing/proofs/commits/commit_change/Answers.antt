@@ -174,11 +174,11 @@ returns-clause-spared g c =
     written_keeps c.args.change.now old begun last c.write_change-done.result c.write_change-done.ensures ready c.in_ok-begin.ensures.gave c.end.ensures.live (omega (arith, c.end.ensures.crash.clean)) is in
     on_ok c.end.result c.end.ensures.whole c.end.ensures.ok (λ is ended. shows_only last new (KeepOthers old.now) ended (λ clean. keeps clean is))
 
-pub returns-in_err-begin-clause-open : goal.returns-in_err-begin-clause-open
-returns-in_err-begin-clause-open g c _ = c.in_err-begin.ensures.crash.closes
+pub returns-in_err-begin-clause-still_open : goal.returns-in_err-begin-clause-still_open
+returns-in_err-begin-clause-still_open g c _ = c.in_err-begin.ensures.crash.closes
 
-pub returns-clause-open : goal.returns-clause-open
-returns-clause-open g c _ =
+pub returns-clause-still_open : goal.returns-clause-still_open
+returns-clause-still_open g c _ =
     let G = g.S.Store in
     let old = state G c.args.conn.now in
     let begun = state G c.begin.new.conn in

@@ -116,11 +116,11 @@ returns-clause-spared g c =
     made_keeps _ old begun last c.make_tables-done.result free c.in_ok-begin.ensures.gave c.make_tables-done.ensures c.end.ensures.live (before clean) c.in_ok-end.ensures.whole in
     shows_only last new (KeepPlain old.now) c.in_ok-end.ensures.ok keeps
 
-pub returns-in_err-begin-clause-open : goal.returns-in_err-begin-clause-open
-returns-in_err-begin-clause-open g c = on_err _ c.in_err-begin.ensures.crash.closes
+pub returns-in_err-begin-clause-still_open : goal.returns-in_err-begin-clause-still_open
+returns-in_err-begin-clause-still_open g c = on_err _ c.in_err-begin.ensures.crash.closes
 
-pub returns-in_err-end-clause-open : goal.returns-in_err-end-clause-open
-returns-in_err-end-clause-open g c =
+pub returns-in_err-end-clause-still_open : goal.returns-in_err-end-clause-still_open
+returns-in_err-end-clause-still_open g c =
     let G = g.S.Store in
     let old = state G c.args.conn.now in
     let begun = state G c.begin.new.conn in
