@@ -1,5 +1,5 @@
 //! Tests over databases in memory: a crew office that asks its book, what it is answered and which rows are then in the tables;
-//! what the tables find by key; and a book stopped at each call on its files.
+//! what the tables find by key; a book stopped at each call on its files; and a transaction that can't be taken back.
 #![tactic(auto)]
 
 #[cfg(test)]
@@ -32,3 +32,5 @@ mod reopening;
 mod requests;
 #[cfg(test)]
 mod stops;
+#[cfg(test)]
+mod undoing;

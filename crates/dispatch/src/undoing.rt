@@ -1,0 +1,30 @@
+//! What is told where a transaction is taken back, as after want of memory.
+
+mod shutting;
+
+use crate::undoing::shutting::shutting_behind;
+use sqlite::{Alter, Connection};
+use std::alloc::Global;
+use std::test::Fail;
+use store::StoreFault;
+use writing::take_back;
+
+/// What is told of a transaction that is begun and has one savepoint, where the store shuts behind so many of them.
+fn told(alloc: Global, savepoints: u64) -> Option<Result<(), StoreFault>> {
+    let mut conn = shutting_behind(alloc, savepoints)?;
+    begun(&mut conn)?;
+    Some(take_back(&mut conn))
+}
+
+fn begun<S: Alter>(conn: &mut Connection<S>) -> Option<()> {
+    conn.execute("BEGIN", &[]).ok()?;
+    conn.execute("SAVEPOINT one", &[]).ok()?;
+    Some(())
+}
+
+#[test]
+fn a_rollback_that_is_refused_is_told_as_90(rt: HostRuntime) -> Result<(), Fail> {
+    assert!(rt; told(rt.alloc(), 2) == Some(Ok(())));
+    assert!(rt; told(rt.alloc(), 1) == Some(Err(StoreFault::Store)));
+    Ok(())
+}
