@@ -112,12 +112,20 @@ command_lines() {
     missing '<FILE>' 'do'
     missing $'<FILE>\n<NUMBER>' import
     missing '<NUMBER>' import "$room/unmade"
+    missing $'<FILE>\n<CREW>' roster
+    missing '<CREW>' roster "$room/unmade"
+    missing $'<FILE>\n<PAIRING>' pairing
+    missing '<PAIRING>' pairing "$room/unmade"
+    missing '<FILE>' exceedances
     unexpected duty "$zone" "$report" --late
     unexpected init "$room/unmade" "$zone" x
     unexpected init "$room/unmade" --new
     unexpected 'do' "$room/unmade" "$room/unmade"
     unexpected import "$room/unmade" 500 501
     unexpected import "$room/unmade" -1
+    unexpected roster "$room/unmade" C1 C2
+    unexpected pairing "$room/unmade" P1 P2
+    unexpected exceedances "$room/unmade" C1
     no_number 0 '0 is not in 1..=9223372036854775807'
     no_number 9223372036854775808 '9223372036854775808 is not in 1..=9223372036854775807'
     no_number 18446744073709551616 'number too large to fit in target type'
@@ -129,12 +137,15 @@ command_lines() {
 
 helps() {
     case_of help 0 'The roster book*' '' --help
-    help_of '' duty init 'do' import FILE ZONE NUMBER REPORT TIME "$zone" "$report"
+    help_of '' duty init 'do' import roster pairing exceedances FILE ZONE NUMBER CREW PAIRING REPORT TIME "$zone" "$report"
     help_of duty duty ZONE REPORT TIME "$zone" "$report" 'UTC instant' Example:
     help_of init init FILE ZONE "$zone" UTC 'new or empty' Example:
     help_of 'do' 'do' FILE 'JSON on standard input' '"number":1' add-crew actual '90 Store' 'Exit status'
     help_of import import FILE NUMBER 'CSV on standard input' 'from 1 to 9223372036854775807' '  pairing,period,report,release,flight,from,out,to,in' \
         'record 1' '90 Store' 'Exit status'
+    help_of roster roster FILE CREW 'rosterbook roster roster.db C1' 'hours and minutes' 'Exit status'
+    help_of pairing pairing FILE PAIRING 'rosterbook pairing roster.db B101' 'Exit status'
+    help_of exceedances exceedances FILE 'rosterbook exceedances roster.db' 'Exit status'
 }
 
 failing_outputs() {
@@ -167,6 +178,13 @@ books() {
     case_of init_of_a_text 3 '' 'refused 90 Store' init "$text" "$zone"
     holds unmade [ ! -e "$room/unmade" ]
     holds text_kept [ "$(seq 1000)" = "$(cat "$text")" ]
+    case_of exceedances_of_an_empty_book 0 'EXCEEDANCES 0' '' exceedances "$book"
+    case_of roster_of_nobody 1 '' 'refused 2 NoSuchCrew' roster "$book" C1
+    case_of pairing_of_no_text 1 '' 'refused 4 NoSuchPairing' pairing "$book" ''
+    case_of roster_in_no_folder 3 '' 'refused 40 NotABook' roster "$room/unmade/roster.db" C1
+    case_of exceedances_of_a_text 3 '' 'refused 90 Store' exceedances "$text"
+    lost exceedances full exceedances "$book"
+    untold roster_of_nobody full roster "$book" C1
     # A book is made before that is told.
     lost init full init "$room/untold" "$zone"
     case_of init_after_a_full_disk 3 '' 'refused 43 NotEmpty' init "$room/untold" "$zone"

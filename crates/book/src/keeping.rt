@@ -1,4 +1,4 @@
-ghost use Rattle.std.specs.Prelude.{◌≡◌, ◌<◌, ◌≤◌, ◌⊎◌, ◌||◌, ◌↔◌, true, false, [], ◌∷◌, Err, IfErr, IfOk, IsErrAnd, IsSome, IsTrue, List, None, OnErr, OnOk, Some, length, map, take};
+ghost use Rattle.std.specs.Prelude.{ℕ, Option, ◌≡◌, ◌<◌, ◌≤◌, ◌⊎◌, ◌||◌, ◌↔◌, true, false, [], ◌∷◌, Err, IfErr, IfOk, IsErrAnd, IsSome, IsTrue, List, None, OnErr, OnOk, Some, length, map, take};
 ghost use Rattle.std.specs.FinMap as fin;
 ghost use Rattle.sqlite.specs.Held.{state};
 ghost use Rattle.sqlite.specs.State.{HasCleanDisk, IsUnchanged};
@@ -14,14 +14,15 @@ ghost use Rattle.loading.specs.Loading.{Says};
 ghost use Rattle.writing.specs.Next.{IsNext};
 ghost use Rattle.writing.specs.Kept.{KeepOthers, KeepPlain};
 ghost use Rattle.writing.specs.Making.{IsFree};
-ghost use Rattle.writing.specs.Outcomes.{AddsNothing, AddsOnly, IsOutside, Leaves, LeavesOnly, LeavesSome, MayAdd, ShowsOnly, StaysOpen};
+ghost use Rattle.writing.specs.Outcomes.{AddsNothing, AddsOnly, IsOutside, Leaves, LeavesOnly, LeavesSome, MayAdd, ShowsOnly, StaysOpen, StillShows};
 ghost use Rattle.book.specs.Answered.{IsAnswered};
 ghost use Rattle.book.specs.Asking.{Did};
 ghost use Rattle.book.specs.Headline.{BreaksNoLimit, IsAcceptance, IsHeld, IsRefusal, KeepsHeld, SparesOthers, StaysHeld};
+ghost use Rattle.book.specs.Shown.{IsShown};
 ghost use Rattle.book.specs.Sessions.{IsAfter, count_of, fault_of};
 ghost use Rattle.book.specs.Kept.{Ends, HasTables, IsAt, IsClean, IsInDoubt, Keeps, Means, StillHasTables, is_store_fault, is_some_store_fault, result_of};
 
-use crate::answer::{Answer, Run};
+use crate::answer::{Answer, Run, Show};
 use command::{Command, Key, Order};
 use duty::Pairing;
 use roster::{Change, Roster, Verdict};
@@ -140,6 +141,27 @@ impl<S: Alter> Book<S> {
         ensures { result ≡ self.now.failed }
     {
         self.failed
+    }
+
+    /// A roster with at least what the text of a member, of a pairing or of the exceedances needs: that text of it is the text of
+    /// the state that the tables mean. No table is changed. After want of memory (91) the call may be made again; after a fault
+    /// of the store (90) each later call answers 90.
+    pub fn show(&mut self, alloc: Global, what: &Show) -> Result<Roster, StoreFault>
+        ensures failed { self.new.failed ≡ (self.old.failed || is_store_fault result) }
+        ensures shut { IsTrue self.old.failed → (result ≡ Err StoreFault.Store) × (self.new ≡ self.old) }
+        ensures clean { IsClean S.Store self.new → IsClean S.Store self.old }
+        ensures some { LeavesSome (state S.Store self.new.held) }
+        ensures text { (s : State) → IsAt S.Store self.old s → IsClean S.Store self.new → IfOk result (λ roster. (shown : Option (List ℕ)) → IsShown roster what.now shown ↔ IsShown s what.now shown) }
+        ensures same { (s : State) → IsAt S.Store self.old s → IsAt S.Store self.new s }
+        ensures tables { (s : State) → IsAt S.Store self.old s → HasTables S.Store self.old s → OnOk result (HasTables S.Store self.new s) }
+        ensures shown { StillShows (state S.Store self.old.held) (state S.Store self.new.held) }
+        ensures left { AddsNothing (state S.Store self.old.held) (state S.Store self.new.held) }
+        ensures still_open { result ≡ Err StoreFault.Memory → StaysOpen (state S.Store self.old.held) (state S.Store self.new.held) }
+    {
+        if self.failed {
+            return Err(StoreFault::Store);
+        }
+        copy_of(alloc, &self.roster)
     }
 
     /// The connection, with nothing changed.
@@ -369,4 +391,15 @@ fn changed(alloc: Global, roster: &Roster, change: &Change) -> Result<Roster, Me
     let mut changed = roster.copy(alloc)?;
     changed.apply(alloc, change)?;
     Ok(changed)
+}
+
+/// A copy of a roster.
+fn copy_of(alloc: Global, roster: &Roster) -> Result<Roster, StoreFault>
+    ensures copy { IfOk result (λ copy. copy ≡ roster.now) }
+    ensures memory { is_store_fault result ≡ false }
+{
+    match roster.copy(alloc) {
+        Ok(copy) => Ok(copy),
+        Err(_) => Err(StoreFault::Memory),
+    }
 }

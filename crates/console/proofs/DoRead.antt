@@ -18,7 +18,7 @@ use Rattle.console.proofs.PlainWords.{at, plain_fault, plain_walked, row}
 use Rattle.console.specs.CommandLine.{MeetsDo, States, command_line, do_one}
 use Rattle.console.specs.Plain.{IsDo, do_words, is_plain}
 use Rattle.console.specs.declared.actions.Action.{Action}
-use Rattle.console.specs.declared.actions.Action.TheVariants.{Duty, Init, Do, Import}
+use Rattle.console.specs.declared.actions.Action.TheVariants.{Duty, Init, Do, Import, Roster, Pairing, Exceedances}
 
 abbrev leaf : Shape
 leaf = as_built command_line do_one.top
@@ -81,6 +81,9 @@ same_do (Do f) file met h k = same_text _ _ _ h.1 k.1
 same_do (Duty z r ts) file met h k = absurd (one_name _ _ _ k.0 h.0 refl)
 same_do (Init f z) file met h k = absurd (one_name _ _ _ k.0 h.0 refl)
 same_do (Import f n) file met h k = absurd (one_name _ _ _ k.0 h.0 refl)
+same_do (Roster f c) file met h k = absurd (one_name _ _ _ k.0 h.0 refl)
+same_do (Pairing f i) file met h k = absurd (one_name _ _ _ k.0 h.0 refl)
+same_do (Exceedances f) file met h k = absurd (one_name _ _ _ k.0 h.0 refl)
 
 -- what reads a line as `clap` does reads a plain line of `do`
 pub do_read : (read : Result Action Error) (words : List Text)

@@ -22,7 +22,7 @@ use Rattle.console.proofs.PlainWords.{at, plain_fault, plain_walked, row}
 use Rattle.console.specs.CommandLine.{MeetsDuty, States, command_line, duty}
 use Rattle.console.specs.Plain.{IsDuty, duty_words, is_plain}
 use Rattle.console.specs.declared.actions.Action.{Action}
-use Rattle.console.specs.declared.actions.Action.TheVariants.{Duty, Init, Do, Import}
+use Rattle.console.specs.declared.actions.Action.TheVariants.{Duty, Init, Do, Import, Roster, Pairing, Exceedances}
 
 abbrev leaf : Shape
 leaf = as_built command_line duty.top
@@ -218,6 +218,9 @@ same_duty (Duty z r ts) zone report times met h k =
 same_duty (Init f z) zone report times met h k = absurd (one_name _ _ _ k.0 h.0 refl)
 same_duty (Do f) zone report times met h k = absurd (one_name _ _ _ k.0 h.0 refl)
 same_duty (Import f n) zone report times met h k = absurd (one_name _ _ _ k.0 h.0 refl)
+same_duty (Roster f c) zone report times met h k = absurd (one_name _ _ _ k.0 h.0 refl)
+same_duty (Pairing f i) zone report times met h k = absurd (one_name _ _ _ k.0 h.0 refl)
+same_duty (Exceedances f) zone report times met h k = absurd (one_name _ _ _ k.0 h.0 refl)
 
 -- what reads a line as `clap` does reads a plain line of `duty`
 pub duty_read : (read : Result Action Error) (words : List Text)

@@ -18,7 +18,7 @@ use Rattle.console.proofs.WalkKeeps.{none_of}
 use Rattle.console.proofs.Filled.{Filled, takes_one, NoneMissing, check_none, checks_passed}
 use Rattle.console.proofs.Filled.{first_there, given_all, given_first, rows_filled, was_given}
 use Rattle.console.proofs.NumberRead.{is_checked, number_there, rows_read}
-use Rattle.console.specs.CommandLine.{command_line, do_one, duty, import, init}
+use Rattle.console.specs.CommandLine.{command_line, do_one, duty, exceedances, import, init, pairing, roster}
 use Rattle.console.specs.Arguments.{HasArguments}
 
 -- each subcommand gives Q of what it found of words at which it met no fault
@@ -154,13 +154,57 @@ import_gives s name rules negates words none =
     let p = first_there _ _ there in
     let q = first_there _ _ p.1 in
     let checked = rows_read s words (ap (list_all is_checked) rules) none in
-    inr (inr (inr (
+    inr (inr (inr (inl (
       name,
       record {
         file = given_first (codes "file") rows found.0 (was_given _ p.0);
         number = number_there rows checked found.0 (was_given _ q.0);
       },
-    )))
+    ))))
+
+roster_gives : (s : Shape) → s.name ≡ codes "roster" → s.rules ≡ rules_of roster → s.subcommand_negates_reqs ≡ false
+    → (words : List Text)
+    → level_fault s [] nothing_held words false [] ≡ [] → IsMet (rows_at s words)
+roster_gives s name rules negates words none =
+    let rows = rows_after s.rules [] words in
+    let found = rows_there s (rules_of roster) rules refl negates words none in
+    let there : NoneMissing (rules_of roster) rows = found.1 in
+    let p = first_there _ _ there in
+    let q = first_there _ _ p.1 in
+    inr (inr (inr (inr (inl (
+      name,
+      record {
+        file = given_first (codes "file") rows found.0 (was_given _ p.0);
+        crew = given_first (codes "crew") rows found.0 (was_given _ q.0);
+      },
+    )))))
+
+pairing_gives : (s : Shape) → s.name ≡ codes "pairing" → s.rules ≡ rules_of pairing → s.subcommand_negates_reqs ≡ false
+    → (words : List Text)
+    → level_fault s [] nothing_held words false [] ≡ [] → IsMet (rows_at s words)
+pairing_gives s name rules negates words none =
+    let rows = rows_after s.rules [] words in
+    let found = rows_there s (rules_of pairing) rules refl negates words none in
+    let there : NoneMissing (rules_of pairing) rows = found.1 in
+    let p = first_there _ _ there in
+    let q = first_there _ _ p.1 in
+    inr (inr (inr (inr (inr (inl (
+      name,
+      record {
+        file = given_first (codes "file") rows found.0 (was_given _ p.0);
+        pairing = given_first (codes "pairing") rows found.0 (was_given _ q.0);
+      },
+    ))))))
+
+exceedances_gives : (s : Shape) → s.name ≡ codes "exceedances" → s.rules ≡ rules_of exceedances
+    → s.subcommand_negates_reqs ≡ false → (words : List Text)
+    → level_fault s [] nothing_held words false [] ≡ [] → IsMet (rows_at s words)
+exceedances_gives s name rules negates words none =
+    let rows = rows_after s.rules [] words in
+    let found = rows_there s (rules_of exceedances) rules refl negates words none in
+    let there : NoneMissing (rules_of exceedances) rows = found.1 in
+    let p = first_there _ _ there in
+    inr (inr (inr (inr (inr (inr (name, record { file = given_first (codes "file") rows found.0 (was_given _ p.0) }))))))
 
 is_met : (words : List Text) → fault_of command_line words ≡ [] → IsSomeAnd (subcommand_of command_line words) IsMet
 is_met words none = line_gives IsMet (built command_line) words (
@@ -169,7 +213,16 @@ is_met words none = line_gives IsMet (built command_line) words (
     init_gives (as_built command_line init.top) refl refl refl,
     (
       do_gives (as_built command_line do_one.top) refl refl refl,
-      (import_gives (as_built command_line import.top) refl refl refl, tt),
+      (
+        import_gives (as_built command_line import.top) refl refl refl,
+        (
+          roster_gives (as_built command_line roster.top) refl refl refl,
+          (
+            pairing_gives (as_built command_line pairing.top) refl refl refl,
+            (exceedances_gives (as_built command_line exceedances.top) refl refl refl, tt),
+          ),
+        ),
+      ),
     ),
   ),
 ) refl none

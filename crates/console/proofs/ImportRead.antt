@@ -25,7 +25,7 @@ use Rattle.console.proofs.PlainWords.{at, plain_fault, plain_walked, row}
 use Rattle.console.specs.CommandLine.{MeetsImport, States, command_line, import, last_number, request_number}
 use Rattle.console.specs.Plain.{IsImport, import_words, is_plain}
 use Rattle.console.specs.declared.actions.Action.{Action}
-use Rattle.console.specs.declared.actions.Action.TheVariants.{Duty, Init, Do, Import}
+use Rattle.console.specs.declared.actions.Action.TheVariants.{Duty, Init, Do, Import, Roster, Pairing, Exceedances}
 
 abbrev leaf : Shape
 leaf = as_built command_line import.top
@@ -154,6 +154,9 @@ same_import (Import f n) file number met h k =
 same_import (Duty z r ts) file number met h k = absurd (one_name _ _ _ k.0 h.0 refl)
 same_import (Init f z) file number met h k = absurd (one_name _ _ _ k.0 h.0 refl)
 same_import (Do f) file number met h k = absurd (one_name _ _ _ k.0 h.0 refl)
+same_import (Roster f c) file number met h k = absurd (one_name _ _ _ k.0 h.0 refl)
+same_import (Pairing f i) file number met h k = absurd (one_name _ _ _ k.0 h.0 refl)
+same_import (Exceedances f) file number met h k = absurd (one_name _ _ _ k.0 h.0 refl)
 
 -- what reads a line as `clap` does reads a plain line of `import` with a number
 pub import_read : (read : Result Action Error) (words : List Text)

@@ -2,11 +2,14 @@ pub mod Commands
 pub mod DoRead
 pub mod DutyRead
 pub mod Entered
+pub mod ExceedancesRead
 pub mod Filled
 pub mod Getters
 pub mod ImportRead
 pub mod InitRead
 pub mod NumberRead
+pub mod PairingRead
 pub mod PlainLine
 pub mod PlainWords
+pub mod RosterRead
 pub mod WalkKeeps

@@ -28,9 +28,25 @@ pub record HasImport (rows : List Row) : Type 0 where
   pub file : is_some (first_of (codes "file") rows) ≡ true
   pub number : HasNumber (codes "number") rows
 
+-- `roster` has its arguments
+pub record HasRoster (rows : List Row) : Type 0 where
+  pub file : is_some (first_of (codes "file") rows) ≡ true
+  pub crew : is_some (first_of (codes "crew") rows) ≡ true
+
+-- `pairing` has its arguments
+pub record HasPairing (rows : List Row) : Type 0 where
+  pub file : is_some (first_of (codes "file") rows) ≡ true
+  pub pairing : is_some (first_of (codes "pairing") rows) ≡ true
+
+-- `exceedances` has its argument
+pub record HasExceedances (rows : List Row) : Type 0 where
+  pub file : is_some (first_of (codes "file") rows) ≡ true
+
 -- the subcommand that was met is one of the program's, with its arguments
 abbrev pub HasArguments : Option (Text × List Row) → Type 0
 HasArguments None = ⊥
 HasArguments (Some met) =
     ((met.0 ≡ codes "duty") × HasDuty met.1) ⊎ (((met.0 ≡ codes "init") × HasInit met.1)
-    ⊎ (((met.0 ≡ codes "do") × HasDo met.1) ⊎ ((met.0 ≡ codes "import") × HasImport met.1)))
+    ⊎ (((met.0 ≡ codes "do") × HasDo met.1) ⊎ (((met.0 ≡ codes "import") × HasImport met.1)
+    ⊎ (((met.0 ≡ codes "roster") × HasRoster met.1) ⊎ (((met.0 ≡ codes "pairing") × HasPairing met.1)
+    ⊎ ((met.0 ≡ codes "exceedances") × HasExceedances met.1))))))

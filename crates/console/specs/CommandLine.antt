@@ -11,7 +11,7 @@ use Rattle.clap.specs.declared.builder.command.Command.{Command}
 use Rattle.clap.specs.declared.builder.command.Command.TheViews.{out-Command}
 use Rattle.clap.specs.declared.builder.value_parser.ValueParser.TheVariants.{Unsigned}
 use Rattle.console.specs.declared.actions.Action.{Action}
-use Rattle.console.specs.declared.actions.Action.TheVariants.{Duty, Init, Do, Import}
+use Rattle.console.specs.declared.actions.Action.TheVariants.{Duty, Init, Do, Import, Roster, Pairing, Exceedances}
 
 -- an argument by its place that must be there, with a name in help
 abbrev pub wanted : Text → Rule
@@ -46,6 +46,18 @@ do_one = with_rule (new_app (codes "do")) (wanted (codes "file"))
 abbrev pub import : App
 import = with_rule (with_rule (new_app (codes "import")) (wanted (codes "file"))) (wanted_number (codes "number"))
 
+-- `roster FILE CREW`
+abbrev pub roster : App
+roster = with_rule (with_rule (new_app (codes "roster")) (wanted (codes "file"))) (wanted (codes "crew"))
+
+-- `pairing FILE PAIRING`
+abbrev pub pairing : App
+pairing = with_rule (with_rule (new_app (codes "pairing")) (wanted (codes "file"))) (wanted (codes "pairing"))
+
+-- `exceedances FILE`
+abbrev pub exceedances : App
+exceedances = with_rule (new_app (codes "exceedances")) (wanted (codes "file"))
+
 -- the program without its subcommands: one is wanted, and where there is no word help is shown
 abbrev pub bare : App
 bare = on_top (λ s. record s {
@@ -59,7 +71,8 @@ bare = on_top (λ s. record s {
 -- the program's command line
 abbrev pub command_line : App
 command_line =
-    with_subcommand (with_subcommand (with_subcommand (with_subcommand bare duty.top) init.top) do_one.top) import.top
+    with_subcommand (with_subcommand (with_subcommand (with_subcommand (with_subcommand (with_subcommand (with_subcommand bare
+    duty.top) init.top) do_one.top) import.top) roster.top) pairing.top) exceedances.top
 
 -- the command is built as `app` says
 abbrev pub IsCommand : App → Command → Type 0
@@ -90,6 +103,20 @@ abbrev pub MeetsImport : Text → ℕ → Text × List Row → Type 0
 MeetsImport file number met = (met.0 ≡ codes "import") × (first_of (codes "file") met.1 ≡ Some file)
     × (option_and_then request_number (first_of (codes "number") met.1) ≡ Some number)
 
+-- `roster` was met, with these arguments
+abbrev pub MeetsRoster : Text → Text → Text × List Row → Type 0
+MeetsRoster file crew met = (met.0 ≡ codes "roster")
+    × (first_of (codes "file") met.1 ≡ Some file) × (first_of (codes "crew") met.1 ≡ Some crew)
+
+-- `pairing` was met, with these arguments
+abbrev pub MeetsPairing : Text → Text → Text × List Row → Type 0
+MeetsPairing file id met = (met.0 ≡ codes "pairing")
+    × (first_of (codes "file") met.1 ≡ Some file) × (first_of (codes "pairing") met.1 ≡ Some id)
+
+-- `exceedances` was met, with this argument
+abbrev pub MeetsExceedances : Text → Text × List Row → Type 0
+MeetsExceedances file met = (met.0 ≡ codes "exceedances") × (first_of (codes "file") met.1 ≡ Some file)
+
 -- the action is the subcommand that was met, with the arguments that were found for it
 abbrev pub States : Action → Text × List Row → Type 0
 States (Duty zone report times) met =
@@ -97,3 +124,6 @@ States (Duty zone report times) met =
 States (Init file zone) met = MeetsInit (string_bytes file) (string_bytes zone) met
 States (Do file) met = MeetsDo (string_bytes file) met
 States (Import file number) met = MeetsImport (string_bytes file) number met
+States (Roster file crew) met = MeetsRoster (string_bytes file) (string_bytes crew) met
+States (Pairing file id) met = MeetsPairing (string_bytes file) (string_bytes id) met
+States (Exceedances file) met = MeetsExceedances (string_bytes file) met

@@ -2,7 +2,7 @@
 use Rattle.std.specs.Prelude.{◌≡◌, ◌==◌, ℕ, Bool, true, not, List, [], ◌∷◌, map, codes, string_bytes}
 use Rattle.clap.specs.Walk.{Text}
 use Rattle.console.specs.declared.actions.Action.{Action}
-use Rattle.console.specs.declared.actions.Action.TheVariants.{Duty, Init, Do, Import}
+use Rattle.console.specs.declared.actions.Action.TheVariants.{Duty, Init, Do, Import, Roster, Pairing, Exceedances}
 
 -- a word that begins with no hyphen (45)
 abbrev pub is_plain : Text → Bool
@@ -45,3 +45,30 @@ import_words file number = codes "import" ∷ file ∷ number ∷ []
 abbrev pub IsImport : Text → ℕ → Action → Type 0
 IsImport file number (Import f n) = (string_bytes f ≡ file) × (n ≡ number)
 IsImport file number _ = ⊥
+
+-- `roster FILE CREW`
+abbrev pub roster_words : Text → Text → List Text
+roster_words file crew = codes "roster" ∷ file ∷ crew ∷ []
+
+-- the action is `roster` with exactly these arguments
+abbrev pub IsRoster : Text → Text → Action → Type 0
+IsRoster file crew (Roster f c) = (string_bytes f ≡ file) × (string_bytes c ≡ crew)
+IsRoster file crew _ = ⊥
+
+-- `pairing FILE PAIRING`
+abbrev pub pairing_words : Text → Text → List Text
+pairing_words file id = codes "pairing" ∷ file ∷ id ∷ []
+
+-- the action is `pairing` with exactly these arguments
+abbrev pub IsPairing : Text → Text → Action → Type 0
+IsPairing file id (Pairing f i) = (string_bytes f ≡ file) × (string_bytes i ≡ id)
+IsPairing file id _ = ⊥
+
+-- `exceedances FILE`
+abbrev pub exceedances_words : Text → List Text
+exceedances_words file = codes "exceedances" ∷ file ∷ []
+
+-- the action is `exceedances` with exactly this argument
+abbrev pub IsExceedances : Text → Action → Type 0
+IsExceedances file (Exceedances f) = string_bytes f ≡ file
+IsExceedances file _ = ⊥

@@ -33,4 +33,23 @@ pub enum Action {
         /// The number of the request that the pairings are parts of.
         number: RequestNumber,
     },
+    /// `roster FILE CREW`: print a member's roster.
+    Roster {
+        /// The path of the book's file.
+        file: String,
+        /// The id of the member.
+        crew: String,
+    },
+    /// `pairing FILE PAIRING`: print a pairing, and who flies it.
+    Pairing {
+        /// The path of the book's file.
+        file: String,
+        /// The id of the pairing.
+        pairing: String,
+    },
+    /// `exceedances FILE`: print the exceedances.
+    Exceedances {
+        /// The path of the book's file.
+        file: String,
+    },
 }

@@ -6,11 +6,13 @@ ghost use Rattle.clap.specs.Walk.{Text, texts};
 ghost use Rattle.clap.specs.Words.{FailsBy, HasKind, all_of, fault_of, first_of, found_of, kind_of, rows_of};
 ghost use Rattle.clap.specs.Words.{rule_of, subcommand_of, subcommand_rows_of};
 ghost use Rattle.clap.specs.declared.error.kind.ErrorKind.TheVariants.{OutOfMemory, ValueValidation};
-ghost use Rattle.console.specs.Arguments.{HasArguments, HasDo, HasDuty, HasImport, HasInit, HasNumber};
-ghost use Rattle.console.specs.CommandLine.{IsCommand, States, bare, command_line, do_one, duty, import, init};
-ghost use Rattle.console.specs.CommandLine.{request_number, wanted};
-ghost use Rattle.console.specs.Plain.{IsDo, IsDuty, IsImport, IsInit, do_words, duty_words, import_words};
-ghost use Rattle.console.specs.Plain.{init_words, is_plain};
+ghost use Rattle.console.specs.Arguments.{HasArguments, HasDo, HasDuty, HasExceedances, HasImport, HasInit};
+ghost use Rattle.console.specs.Arguments.{HasNumber, HasPairing, HasRoster};
+ghost use Rattle.console.specs.CommandLine.{IsCommand, States, bare, command_line, do_one, duty, exceedances, import, init};
+ghost use Rattle.console.specs.CommandLine.{pairing, request_number, roster, wanted};
+ghost use Rattle.console.specs.Plain.{IsDo, IsDuty, IsExceedances, IsImport, IsInit, IsPairing, IsRoster, do_words};
+ghost use Rattle.console.specs.Plain.{duty_words, exceedances_words, import_words, init_words, is_plain};
+ghost use Rattle.console.specs.Plain.{pairing_words, roster_words};
 
 use crate::actions::Action;
 use clap::{Arg, ArgAction, ArgMatches, Command, Error, value_parser};
@@ -19,11 +21,13 @@ use std::alloc::{AllocError, Global};
 
 const ARGUMENTS: &str = "\
 Arguments of the commands:
-  FILE    file of the book
-  ZONE    time zone of the crew, a POSIX rule such as EST5EDT,M3.2.0,M11.1.0
-  NUMBER  number of the request, 1 to 9223372036854775807
-  REPORT  report, a UTC instant such as 2025-06-10T15:59Z
-  TIME    block-out and block-in in turn, UTC instants such as 2025-06-10T16:30Z
+  FILE     file of the book
+  ZONE     time zone of the crew, a POSIX rule such as EST5EDT,M3.2.0,M11.1.0
+  NUMBER   number of the request, 1 to 9223372036854775807
+  CREW     id of a crew member, such as C1
+  PAIRING  id of a pairing, such as B101
+  REPORT   report, a UTC instant such as 2025-06-10T15:59Z
+  TIME     block-out and block-in in turn, UTC instants as 2025-06-10T16:30Z
 
 'rosterbook COMMAND --help' says more of a command.";
 
@@ -72,6 +76,36 @@ Exit status: 0 all accepted, 1 the schedule or a part is refused, 2 a mistake
 in the command line, 3 there is no book in the file, or the file, memory, the
 input or the output fails";
 
+const ROSTER_EXAMPLE: &str = "\
+Example:
+  rosterbook roster roster.db C1
+
+The member's id, seat and name, and then the duties in order of time, which is
+UTC: 'plan' as planned, 'actual' as flown. Lengths are hours and minutes.
+
+Exit status: 0 done, 1 there is no such member, 2 a mistake in the command line,
+3 there is no book in the file, or the file, memory or the output fails";
+
+const PAIRING_EXAMPLE: &str = "\
+Example:
+  rosterbook pairing roster.db B101
+
+Who holds the seats (a free one has '-'), and then the periods with their
+segments, in UTC: 'plan' as planned, 'actual' as flown.
+
+Exit status: 0 done, 1 there is no such pairing, 2 a mistake in the command
+line, 3 there is no book in the file, or the file, memory or the output fails";
+
+const EXCEEDANCES_EXAMPLE: &str = "\
+Example:
+  rosterbook exceedances roster.db
+
+How many there are, and a line each: the number of the request that recorded it,
+the member, the section of 14 CFR Part 117, and the period of the pairing.
+
+Exit status: 0 done, 2 a mistake in the command line, 3 there is no book in the
+file, or the file, memory or the output fails";
+
 const NEW_FILE_HELP: &str = "File of the book, new or empty";
 
 const FILE_HELP: &str = "File of the book";
@@ -79,6 +113,10 @@ const FILE_HELP: &str = "File of the book";
 const NUMBER_HELP: &str = "\
 Number of the request whose parts the pairings are,
 a whole number from 1 to 9223372036854775807";
+
+const CREW_HELP: &str = "Id of the crew member";
+
+const PAIRING_HELP: &str = "Id of the pairing";
 
 const ZONE_HELP: &str = "\
 Time zone of the acclimated crew, a POSIX rule, which gives the
@@ -112,6 +150,14 @@ pub fn action(alloc: Global, words: &[&str]) -> Result<Action, Error>
         → texts words.now ≡ import_words file number
         → list_all is_plain (file ∷ number ∷ []) ≡ true → request_number number ≡ Some n
         → MatchResult result (IsImport file n) (λ e. kind_of e ≡ OutOfMemory) }
+    ensures roster { (file crew : Text) → texts words.now ≡ roster_words file crew
+        → list_all is_plain (file ∷ crew ∷ []) ≡ true
+        → MatchResult result (IsRoster file crew) (λ e. kind_of e ≡ OutOfMemory) }
+    ensures pairing { (file id : Text) → texts words.now ≡ pairing_words file id
+        → list_all is_plain (file ∷ id ∷ []) ≡ true
+        → MatchResult result (IsPairing file id) (λ e. kind_of e ≡ OutOfMemory) }
+    ensures exceedances { (file : Text) → texts words.now ≡ exceedances_words file → is_plain file ≡ true
+        → MatchResult result (IsExceedances file) (λ e. kind_of e ≡ OutOfMemory) }
     ensures import_number { (file number : Text)
         → texts words.now ≡ import_words file number
         → list_all is_plain (file ∷ number ∷ []) ≡ true → request_number number ≡ None
@@ -137,7 +183,10 @@ fn command<'a>(alloc: Global) -> Result<Command<'a>, AllocError>
         .subcommand(duty_command(alloc)?)?
         .subcommand(init_command(alloc)?)?
         .subcommand(do_command(alloc)?)?
-        .subcommand(import_command(alloc)?)
+        .subcommand(import_command(alloc)?)?
+        .subcommand(roster_command(alloc)?)?
+        .subcommand(pairing_command(alloc)?)?
+        .subcommand(exceedances_command(alloc)?)
 }
 
 /// The program without its subcommands.
@@ -211,6 +260,43 @@ fn import_command<'a>(alloc: Global) -> Result<Command<'a>, AllocError>
         .arg(number)
 }
 
+/// The subcommand `roster`.
+fn roster_command<'a>(alloc: Global) -> Result<Command<'a>, AllocError>
+    ensures { IfOk result (IsCommand roster) }
+{
+    let file = positional(alloc, "file", "FILE").help(FILE_HELP);
+    let crew = positional(alloc, "crew", "CREW").help(CREW_HELP);
+    Command::new(alloc, "roster")
+        .about("Print a member's roster: each duty, as planned or as flown")
+        .after_help(ROSTER_EXAMPLE)
+        .arg(file)?
+        .arg(crew)
+}
+
+/// The subcommand `pairing`.
+fn pairing_command<'a>(alloc: Global) -> Result<Command<'a>, AllocError>
+    ensures { IfOk result (IsCommand pairing) }
+{
+    let file = positional(alloc, "file", "FILE").help(FILE_HELP);
+    let id = positional(alloc, "pairing", "PAIRING").help(PAIRING_HELP);
+    Command::new(alloc, "pairing")
+        .about("Print a pairing: who flies it, its periods and segments")
+        .after_help(PAIRING_EXAMPLE)
+        .arg(file)?
+        .arg(id)
+}
+
+/// The subcommand `exceedances`.
+fn exceedances_command<'a>(alloc: Global) -> Result<Command<'a>, AllocError>
+    ensures { IfOk result (IsCommand exceedances) }
+{
+    let file = positional(alloc, "file", "FILE").help(FILE_HELP);
+    Command::new(alloc, "exceedances")
+        .about("Print which flown duties went over a limit, and over which")
+        .after_help(EXCEEDANCES_EXAMPLE)
+        .arg(file)
+}
+
 /// An argument by its place that must be there.
 fn positional<'a>(alloc: Global, id: &'a str, value_name: &'a str) -> Arg<'a>
     ensures rule { rule_of result ≡ wanted id.entry.now }
@@ -230,6 +316,9 @@ fn action_of(alloc: Global, matches: &ArgMatches<'_>) -> Result<Action, AllocErr
         "init" => init_of(alloc, arguments),
         "do" => do_of(alloc, arguments),
         "import" => import_of(alloc, arguments),
+        "roster" => roster_of(alloc, arguments),
+        "pairing" => pairing_of(alloc, arguments),
+        "exceedances" => exceedances_of(alloc, arguments),
         _ => unreachable!(),
     }
 }
@@ -273,6 +362,35 @@ fn import_of(alloc: Global, matches: &ArgMatches<'_>) -> Result<Action, AllocErr
     let file = text_of(alloc, matches, "file")?;
     let number = number_of(matches, "number");
     Ok(Action::Import { file, number })
+}
+
+/// The arguments of `roster`.
+fn roster_of(alloc: Global, matches: &ArgMatches<'_>) -> Result<Action, AllocError>
+    requires { HasRoster (rows_of (found_of matches.now)) }
+    ensures { IfOk result (λ a. States a (codes "roster", rows_of (found_of matches.now))) }
+{
+    let file = text_of(alloc, matches, "file")?;
+    let crew = text_of(alloc, matches, "crew")?;
+    Ok(Action::Roster { file, crew })
+}
+
+/// The arguments of `pairing`.
+fn pairing_of(alloc: Global, matches: &ArgMatches<'_>) -> Result<Action, AllocError>
+    requires { HasPairing (rows_of (found_of matches.now)) }
+    ensures { IfOk result (λ a. States a (codes "pairing", rows_of (found_of matches.now))) }
+{
+    let file = text_of(alloc, matches, "file")?;
+    let pairing = text_of(alloc, matches, "pairing")?;
+    Ok(Action::Pairing { file, pairing })
+}
+
+/// The arguments of `exceedances`.
+fn exceedances_of(alloc: Global, matches: &ArgMatches<'_>) -> Result<Action, AllocError>
+    requires { HasExceedances (rows_of (found_of matches.now)) }
+    ensures { IfOk result (λ a. States a (codes "exceedances", rows_of (found_of matches.now))) }
+{
+    let file = text_of(alloc, matches, "file")?;
+    Ok(Action::Exceedances { file })
 }
 
 /// The value of an argument that is a request's number.

@@ -2,4 +2,5 @@ pub mod Answering
 pub mod PartsAdded
 pub mod Reading
 pub mod RefusalLemmas
+pub mod Showing
 pub mod Stopping

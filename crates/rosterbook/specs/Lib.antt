@@ -1,5 +1,6 @@
 pub mod Asking
 pub mod Program
 pub mod Refusal
+pub mod Showing
 pub mod StopText
 pub mod Streams

@@ -8,6 +8,7 @@ mod init_command;
 mod lines;
 mod program;
 mod refusal;
+mod show_command;
 mod status;
 mod stop;
 
@@ -16,6 +17,7 @@ pub use do_command::ask_json;
 pub use import_command::import_csv;
 pub use program::perform;
 pub use refusal::tell_refusal;
+pub use show_command::show_text;
 pub use status::Status;
 pub use stop::Stop;
 pub use verdict::{LineFault, duty_line};

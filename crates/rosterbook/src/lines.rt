@@ -29,6 +29,14 @@ pub(crate) fn write_line<W: Write>(writer: &mut W, line: &str) -> io::Result<()>
     writer.flush()
 }
 
+/// Writes a text of lines at once.
+pub(crate) fn write_text<W: Write>(writer: &mut W, text: &str) -> io::Result<()>
+    ensures { OnOk result (Appends (W.contents writer.old) (W.contents writer.new) text.now) }
+{
+    write!(writer, "{text}")?;
+    writer.flush()
+}
+
 /// Writes the line of a refusal at once.
 pub(crate) fn refuse<W: Write, F: Display>(writer: &mut W, fault: &F) -> io::Result<()>
     ensures { IfSome (F.output fault.now) (λ text. OnOk result (Appends (W.contents writer.old) (W.contents writer.new) (spec.refused text))) }

@@ -7,6 +7,7 @@ use crate::duty_command::answer_duty;
 use crate::import_command::answer_import;
 use crate::init_command::answer_init;
 use crate::lines::refuse;
+use crate::show_command::{answer_exceedances, answer_pairing, answer_roster};
 use crate::status::Status;
 use crate::stop::Stop;
 use console::Action;
@@ -48,6 +49,9 @@ fn answer<R: Read, O: Write, E: Write>(
         Action::Init { file, zone } => Ok(answer_init(rt, file, zone, out, err)?),
         Action::Do { file } => answer_do(rt, file, reader, out),
         Action::Import { file, number } => answer_import(rt, file, *number, reader, out, err),
+        Action::Roster { file, crew } => answer_roster(rt, file, crew, out, err),
+        Action::Pairing { file, pairing } => answer_pairing(rt, file, pairing, out, err),
+        Action::Exceedances { file } => answer_exceedances(rt, file, out, err),
     }
 }
 

@@ -1,7 +1,7 @@
 //! A store that shuts itself behind an answer.
 #![tactic(auto, unfolding(sqlite_trees::specs::View::doubt))]
 
-ghost use Rattle.std.specs.Prelude.{◌≡◌, [], None, true, false, refl, IsTrue};
+ghost use Rattle.std.specs.Prelude.{◌≡◌, [], Some, true, false, refl, IsTrue};
 ghost use Rattle.std.proofs.Common.{sym, true≢false};
 ghost use Rattle.sqlite_trees.specs.Tree.{no_trees};
 ghost use Rattle.sqlite_trees.specs.View.{View};
@@ -30,7 +30,7 @@ impl Store for Shutting {
     ghost view = { λ _. record {
       trees = no_trees;
       committed = no_trees;
-      cursors = λ _. None;
+      cursors = λ _. Some [];
       shape = λ _. Absent;
       reals = λ _. 0;
       committed_shape = λ _. Absent;

@@ -1,8 +1,11 @@
 use Rattle.clap.specs.Walk.{texts}
 use Rattle.console.proofs.DoRead.{do_read}
 use Rattle.console.proofs.DutyRead.{duty_read}
+use Rattle.console.proofs.ExceedancesRead.{exceedances_read}
 use Rattle.console.proofs.ImportRead.{import_read, import_refused}
 use Rattle.console.proofs.InitRead.{init_read}
+use Rattle.console.proofs.PairingRead.{pairing_read}
+use Rattle.console.proofs.RosterRead.{roster_read}
 use Rattle.console.proofs.command_line.action.Goals as goal
 
 pub returns-clause-duty : goal.returns-clause-duty
@@ -19,3 +22,12 @@ returns-clause-import c = import_read c.read.result (texts c.args.words.now) c.r
 
 pub returns-clause-import_number : goal.returns-clause-import_number
 returns-clause-import_number c = import_refused c.read.result (texts c.args.words.now) c.read.ensures.refused
+
+pub returns-clause-roster : goal.returns-clause-roster
+returns-clause-roster c = roster_read c.read.result (texts c.args.words.now) c.read.ensures.ok c.read.ensures.refused
+
+pub returns-clause-pairing : goal.returns-clause-pairing
+returns-clause-pairing c = pairing_read c.read.result (texts c.args.words.now) c.read.ensures.ok c.read.ensures.refused
+
+pub returns-clause-exceedances : goal.returns-clause-exceedances
+returns-clause-exceedances c = exceedances_read c.read.result (texts c.args.words.now) c.read.ensures.ok c.read.ensures.refused

@@ -1,0 +1,6 @@
+pub mod AsciiInstants
+pub mod ExceedanceRows
+pub mod FewSegments
+pub mod InOrder
+pub mod OneOrder
+pub mod OneText

@@ -1,0 +1,8 @@
+use Rattle.report.proofs.InOrder.{sorted_by_key}
+use Rattle.report.proofs.line.in_order.Goals as goal
+
+pub returns : goal.returns
+returns c = record {
+  same = c.sort.ensures.permutation;
+  order = sorted_by_key c.sort.new.self.items c.in_ok-sort.ensures.sorted;
+}

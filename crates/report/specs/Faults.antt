@@ -1,0 +1,9 @@
+-- Why there is no text, as it is printed: number and name.
+use Rattle.std.specs.Prelude.{ℕ, List, codes}
+use Rattle.report.specs.declared.fault.ReportFault.{ReportFault}
+use Rattle.report.specs.declared.fault.ReportFault.TheVariants.{NoSuchCrew, NoSuchPairing, Memory}
+
+abbrev pub fault_text : ReportFault → List ℕ
+fault_text NoSuchCrew = codes "2 NoSuchCrew"
+fault_text NoSuchPairing = codes "4 NoSuchPairing"
+fault_text Memory = codes "91 Memory"

@@ -1,0 +1,13 @@
+-- What holds of the texts of each state.
+use Rattle.std.specs.Prelude.{◌≡◌, ℕ, List}
+use Rattle.roster.specs.State.{State}
+use Rattle.report.specs.ExceedanceText.{IsExceedanceText}
+use Rattle.report.specs.RosterText.{IsRosterText}
+
+-- a member has no second roster, for one order of the lines alone is theirs
+abbrev pub HasOneRoster : Type 0
+HasOneRoster = (s : State) (who a b : List ℕ) → IsRosterText s who a → IsRosterText s who b → a ≡ b
+
+-- and the exceedances no second text
+abbrev pub HasOneExceedanceText : Type 0
+HasOneExceedanceText = (s : State) (a b : List ℕ) → IsExceedanceText s a → IsExceedanceText s b → a ≡ b

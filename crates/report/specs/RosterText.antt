@@ -1,0 +1,77 @@
+-- A member's roster as a text.
+use Rattle.std.specs.Prelude.{◌≡◌, ℕ, List, ◌++◌, map, codes, Some}
+use Rattle.std.specs.Fmt.{decimal}
+use Rattle.std.specs.FinMap as fin
+use Rattle.std.specs.List.{filter, flat_map, enumerate_from}
+use Rattle.std.specs.Str.{bytes_eq}
+use Rattle.time117.specs.Instant.{written}
+use Rattle.duty.specs.Plans.{GroundPlan}
+use Rattle.duty.specs.declared.fdp.Fdp.{Fdp}
+use Rattle.command.specs.Texts.{seat_text}
+use Rattle.command.specs.declared.member.Member.{Member}
+use Rattle.roster.specs.Pairings.{holds}
+use Rattle.roster.specs.State.{State}
+use Rattle.roster.specs.declared.state.Rostered.{Rostered}
+use Rattle.verdict.specs.Texts.{hours_text}
+use Rattle.report.specs.Lines.{IsInOrder}
+use Rattle.report.specs.Periods.{periods_of, word, length_of, flight_time_of}
+use Rattle.report.specs.declared.line.Line.{Line}
+use Rattle.report.specs.declared.line.Place.TheVariants.{Period, Ground}
+use Rattle.report.specs.declared.periods.PeriodInForce.{PeriodInForce}
+
+-- ---- The lines
+
+-- from when to when
+abbrev pub span_text : ℕ → ℕ → List ℕ
+span_text begin end = written begin ++ codes " " ++ written end
+
+-- the length of a period, and the flight time in it
+abbrev pub lengths_text : Fdp → List ℕ
+lengths_text f = codes " fdp " ++ hours_text (length_of f) ++ codes " flight " ++ hours_text (flight_time_of f) ++ codes "\n"
+
+-- a period of a pairing runs to its release
+abbrev pub period_line : List ℕ → ℕ × PeriodInForce → Line
+period_line id (number, p) = record {
+  begin = p.fdp.report;
+  end = p.fdp.release;
+  place = Period id number;
+  text = span_text p.fdp.report p.fdp.release
+      ++ (codes " pairing " ++ id ++ codes "/" ++ decimal number ++ codes " " ++ word p) ++ lengths_text p.fdp;
+}
+
+abbrev pub ground_line : List ℕ × GroundPlan → Line
+ground_line (id, g) = record {
+  begin = g.begin;
+  end = g.end;
+  place = Ground id;
+  text = span_text g.begin g.end ++ codes " ground " ++ id ++ codes " " ++ g.task ++ codes "\n";
+}
+
+-- ---- A member's lines
+
+abbrev pub period_lines : List ℕ × Rostered → List Line
+period_lines (id, r) = map (period_line id) (enumerate_from 1 (periods_of r))
+
+abbrev pub ground_lines : State → List ℕ → List Line
+ground_lines s who = map ground_line (filter (λ row. bytes_eq row.1.crew who) (fin.entries s.grounds))
+
+-- the periods of the pairings that the member holds, and the member's ground duties
+abbrev pub lines_of : State → List ℕ → List Line
+lines_of s who = flat_map period_lines (filter (λ row. holds who row.1) (fin.entries s.pairings)) ++ ground_lines s who
+
+-- ---- The text
+
+abbrev pub header : List ℕ → Member → List ℕ
+header who member = codes "ROSTER " ++ who ++ codes " " ++ seat_text member.seat ++ codes " " ++ member.name ++ codes "\n"
+
+-- the member, and then the lines in their order
+pub record IsTextOf (s : State) (who : List ℕ) (member : Member) (text : List ℕ) : Type 0 where
+  pub lines : List Line
+  pub in_order : IsInOrder (lines_of s who) lines
+  pub is : text ≡ header who member ++ flat_map (λ line. line.text) lines
+
+-- the same, of a member who is there
+pub record IsRosterText (s : State) (who text : List ℕ) : Type 0 where
+  pub member : Member
+  pub is_there : fin.get s.crew who ≡ Some member
+  pub told : IsTextOf s who member text

@@ -1,0 +1,16 @@
+ghost use Rattle.std.specs.Prelude.{◌≡◌, IfOk, string_bytes};
+ghost use Rattle.time117.specs.Instant.{written};
+
+use std::alloc::Global;
+use time117::Minute;
+use values::MemoryFault;
+
+/// An instant as `YYYY-MM-DDThh:mmZ`.
+pub fn instant(alloc: Global, minute: Minute) -> Result<String, MemoryFault>
+    ensures { IfOk result (λ text. string_bytes text ≡ written minute) }
+{
+    let _in_range = minute.number();
+    let mut text = Vec::new(alloc);
+    minute.write(&mut text)?;
+    Ok(String::from_utf8(text).unwrap())
+}

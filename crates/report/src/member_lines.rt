@@ -1,0 +1,160 @@
+//! A member's roster.
+ghost use Rattle.std.specs.Prelude.{◌≡◌, ◌≤◌, ◌↔◌, ◌⊎◌, ◌++◌, Err, None, IfOk, IfErr, OnOk, codes, length, string_bytes};
+ghost use Rattle.std.specs.Fmt.{decimal};
+ghost use Rattle.std.specs.FinMap as fin;
+ghost use Rattle.time117.specs.Instant.{written};
+ghost use Rattle.verdict.specs.Texts.{hours_text};
+ghost use Rattle.report.specs.RosterText as spec;
+ghost use Rattle.report.specs.Periods.{word};
+
+use crate::fault::ReportFault;
+use crate::instant::instant;
+use crate::line::{Line, Place, in_order, text_of};
+use crate::periods::{PeriodInForce, periods_of};
+use command::Member;
+use duty::{CrewId, Ground, GroundId, PairingId};
+use roster::{Roster, Rostered};
+use std::alloc::Global;
+use time117::Minute;
+use values::{Copied, MemoryFault, Text};
+use verdict::Hours;
+
+/// A member's roster: the member, and then a line for each duty in force, in order of begin, end, periods before ground
+/// duties, id in byte order, and period. Times are those in force, as UTC instants; lengths are hours and minutes.
+pub fn roster_text(alloc: Global, roster: &Roster, who: &CrewId) -> Result<String, ReportFault>
+    ensures text { IfOk result (λ text. spec.IsRosterText roster.now who.now (string_bytes text)) }
+    ensures absent { (result ≡ Err ReportFault.NoSuchCrew) ↔ (fin.get roster.now.crew who.now ≡ None) }
+    ensures refused { IfErr result (λ fault. (fault ≡ ReportFault.NoSuchCrew) ⊎ (fault ≡ ReportFault.Memory)) }
+{
+    let Some(member) = roster.crew.get(who) else {
+        return Err(ReportFault::NoSuchCrew);
+    };
+    Ok(member_text(alloc, roster, who, member)?)
+}
+
+/// The roster of a member who is there.
+fn member_text(
+    alloc: Global,
+    roster: &Roster,
+    who: &CrewId,
+    member: &Member,
+) -> Result<String, MemoryFault>
+    ensures { IfOk result (λ text. spec.IsTextOf roster.now who.now member.now (string_bytes text)) }
+{
+    let lines = in_order(lines_of(alloc, roster, who)?)?;
+    text_of(header(alloc, who, member)?, &lines)
+}
+
+/// The first line: the member's id, seat and name.
+fn header(alloc: Global, who: &CrewId, member: &Member) -> Result<String, MemoryFault>
+    ensures { IfOk result (λ text. string_bytes text ≡ spec.header who.now member.now) }
+{
+    let mut text = format!(in alloc; "ROSTER {} {}", who.as_str(), member.seat)?;
+    text.push_str(&format!(in alloc; " {}\n", member.name.as_str())?)?;
+    Ok(text)
+}
+
+/// A line for each duty of the member, in no order.
+fn lines_of(alloc: Global, roster: &Roster, who: &CrewId) -> Result<Vec<Line>, MemoryFault>
+    ensures { IfOk result (λ lines. lines.items ≡ spec.lines_of roster.now who.now) }
+{
+    let mut lines = Vec::new(alloc);
+    for (id, rostered) in roster.pairings.iter() {
+        if rostered.holds(who) {
+            add_periods(alloc, id, rostered, &mut lines)?;
+        }
+    }
+    add_grounds(alloc, roster, who, &mut lines)?;
+    Ok(lines)
+}
+
+/// Adds a line for each period of a pairing.
+fn add_periods(
+    alloc: Global,
+    id: &PairingId,
+    rostered: &Rostered,
+    lines: &mut Vec<Line>,
+) -> Result<(), MemoryFault>
+    ensures { OnOk result (lines.new.items ≡ lines.old.items ++ spec.period_lines (id.now, rostered.now)) }
+{
+    let periods = periods_of(alloc, rostered)?;
+    for (index, period) in periods.iter().enumerate() {
+        lines.push(period_line(alloc, id, index + 1, period)?)?;
+    }
+    Ok(())
+}
+
+/// Adds a line for each ground duty of the member.
+fn add_grounds(
+    alloc: Global,
+    roster: &Roster,
+    who: &CrewId,
+    lines: &mut Vec<Line>,
+) -> Result<(), MemoryFault>
+    ensures { OnOk result (lines.new.items ≡ lines.old.items ++ spec.ground_lines roster.now who.now) }
+{
+    for (id, duty) in roster.grounds.iter() {
+        if duty.crew() == who {
+            lines.push(ground_line(alloc, id, duty)?)?;
+        }
+    }
+    Ok(())
+}
+
+fn period_line(
+    alloc: Global,
+    id: &PairingId,
+    number: usize,
+    period: &PeriodInForce,
+) -> Result<Line, MemoryFault>
+    requires { length period.now.fdp.segments ≤ 12 }
+    ensures { IfOk result (λ line. line ≡ spec.period_line id.now (number, period.now)) }
+{
+    let (begin, end) = (period.fdp.report, period.fdp.release);
+    let mut text = span_text(alloc, begin, end)?;
+    text.push_str(&format!(in alloc; " pairing {}/{number} {}", id.as_str(), period.word())?)?;
+    text.push_str(&lengths_text(alloc, period)?)?;
+    Ok(Line {
+        begin,
+        end,
+        place: Place::Period(id.copy(alloc)?, number),
+        text: Text::new(text),
+    })
+}
+
+/// The length of a period and the flight time in it.
+fn lengths_text(alloc: Global, period: &PeriodInForce) -> Result<String, MemoryFault>
+    requires { length period.now.fdp.segments ≤ 12 }
+    ensures { IfOk result (λ text. string_bytes text ≡ spec.lengths_text period.now.fdp) }
+{
+    let length = Hours {
+        minutes: period.length(),
+    };
+    let flight = Hours {
+        minutes: period.flight_time(),
+    };
+    Ok(format!(in alloc; " fdp {length} flight {flight}\n")?)
+}
+
+fn ground_line(alloc: Global, id: &GroundId, duty: &Ground) -> Result<Line, MemoryFault>
+    ensures { IfOk result (λ line. line ≡ spec.ground_line (id.now, duty.now)) }
+{
+    let (begin, end) = (duty.begin(), duty.end());
+    let mut text = span_text(alloc, begin, end)?;
+    text.push_str(&format!(in alloc; " ground {} {}\n", id.as_str(), duty.task().as_str())?)?;
+    Ok(Line {
+        begin,
+        end,
+        place: Place::Ground(id.copy(alloc)?),
+        text: Text::new(text),
+    })
+}
+
+/// When a duty begins and ends.
+fn span_text(alloc: Global, begin: Minute, end: Minute) -> Result<String, MemoryFault>
+    ensures { IfOk result (λ text. string_bytes text ≡ spec.span_text begin end) }
+{
+    let begin = instant(alloc, begin)?;
+    let end = instant(alloc, end)?;
+    Ok(format!(in alloc; "{begin} {end}")?)
+}

@@ -1,0 +1,82 @@
+//! The periods of a pairing with their times in force.
+ghost use Rattle.std.specs.Prelude.{◌≡◌, ◌≤◌, IfOk, length, map};
+ghost use Rattle.std.specs.List.{All};
+ghost use Rattle.duty.specs.DutiesInForce.{span_of};
+ghost use Rattle.duty.specs.Minutes.{last_in};
+ghost use Rattle.report.specs.Periods as spec;
+
+use duty::{Fdp, Segment};
+use roster::{Rostered, in_force};
+use std::alloc::Global;
+use time117::Minute;
+use values::MemoryFault;
+
+/// A flight duty period (14 CFR 117.3) with its times in force: those of its actual, if it has one, else the planned ones.
+#[derive(Drop)]
+pub struct PeriodInForce {
+    pub fdp: Fdp,
+    /// Whether it has an actual.
+    pub is_flown: bool,
+}
+
+impl PeriodInForce {
+    /// `actual` or `plan`, by where its times come from.
+    pub fn word(&self) -> &'static str
+        ensures { result.now ≡ spec.word self.now }
+    {
+        if self.is_flown { "actual" } else { "plan" }
+    }
+
+    /// The length in minutes, from report to the last block-in.
+    pub fn length(&self) -> u32
+        ensures { result ≡ spec.length_of self.now.fdp }
+    {
+        let end = last_block_in(self.fdp.report, self.fdp.segments.as_slice());
+        end.number().saturating_sub(self.fdp.report.number())
+    }
+
+    /// The flight time in minutes, from block-out to block-in of each segment (14 CFR 1.1).
+    pub fn flight_time(&self) -> u32
+        requires { length self.now.fdp.segments ≤ 12 }
+        ensures { result ≡ spec.flight_time_of self.now.fdp }
+    {
+        let mut minutes = 0;
+        for segment in self.fdp.segments.as_slice() {
+            minutes += segment
+                .block_in
+                .number()
+                .saturating_sub(segment.block_out.number());
+        }
+        minutes
+    }
+}
+
+/// The last block-in, or the report where there is no segment.
+fn last_block_in(report: Minute, segments: &[Segment]) -> Minute
+    ensures { result ≡ last_in report (map span_of segments.now) }
+{
+    match segments.last() {
+        Some(segment) => segment.block_in,
+        None => report,
+    }
+}
+
+/// The periods of a pairing in turn.
+pub fn periods_of(alloc: Global, rostered: &Rostered) -> Result<Vec<PeriodInForce>, MemoryFault>
+    ensures periods { IfOk result (λ periods. periods.items ≡ spec.periods_of rostered.now) }
+    ensures few { IfOk result (λ periods. All (λ period. length period.fdp.segments ≤ 12) periods.items) }
+{
+    let mut periods = Vec::new(alloc);
+    for (period, actual) in rostered
+        .plan
+        .periods()
+        .iter()
+        .zip(rostered.actuals.as_slice())
+    {
+        periods.push(PeriodInForce {
+            fdp: in_force(alloc, period, actual)?,
+            is_flown: actual.is_some(),
+        })?;
+    }
+    Ok(periods)
+}

@@ -1,0 +1,49 @@
+-- What `roster`, `pairing` and `exceedances` tell, and where they stop.
+use Rattle.std.specs.Prelude.{◌≡◌, ◌⊎◌, IsTrue, ℕ, List, string_bytes, Option, Some, None, Result, Ok, Err}
+use Rattle.std.specs.Io.KnownBytes.{Appends}
+use Rattle.std.specs.Global.{Global}
+use Rattle.std.specs.Prelude.{String}
+use Rattle.roster.specs.State.{State}
+use Rattle.rows.specs.declared.fault.StoreFault.TheVariants.{Store}
+use Rattle.report.specs.Faults.{fault_text}
+use Rattle.report.specs.declared.fault.ReportFault.{ReportFault}
+use Rattle.report.specs.declared.fault.ReportFault.TheVariants.{NoSuchCrew, NoSuchPairing, Memory}
+use Rattle.book.specs.Kept.{Kept}
+use Rattle.book.specs.Shown.{IsShown}
+use Rattle.book.specs.declared.answer.Show.{Show}
+use Rattle.book.specs.declared.answer.Show.TheVariants.{Crew, Pairing, Exceedances}
+use Rattle.rosterbook.specs.Streams.{Held, IsOfChannel, refused}
+use Rattle.rosterbook.specs.Asking.{IsOfBook}
+use Rattle.rosterbook.specs.declared.status.Status.{Status}
+use Rattle.rosterbook.specs.declared.status.Status.TheVariants.{Done, Refused}
+use Rattle.rosterbook.specs.declared.stop.Stop.{Stop}
+use Rattle.rosterbook.specs.declared.stop.Stop.TheVariants.{Book}
+
+-- why there is nothing to show: the member or the pairing isn't there
+abbrev pub IsAbsence : Show → ReportFault → Type 0
+IsAbsence (Crew who) fault = fault ≡ NoSuchCrew
+IsAbsence (Pairing id) fault = fault ≡ NoSuchPairing
+IsAbsence Exceedances fault = ⊥
+
+-- a text is printed, and that there is none is told
+abbrev pub Tells : Show → Option (List ℕ) → Status → Held → Held → Held → Held → Type 0
+Tells what (Some text) status out out' err err' = (status ≡ Done) × Appends out out' text × (err' ≡ err)
+Tells what None status out out' err err' =
+    (status ≡ Refused) × (out' ≡ out) × ((fault : ReportFault) × IsAbsence what fault × Appends err err' (refused (fault_text fault)))
+
+-- what a state shows was told
+pub record IsToldOf (s : State) (what : Show) (status : Status) (out out' err err' : Held) : Type 0 where
+  pub shown : Option (List ℕ)
+  pub is : IsShown s what shown
+  pub told : Tells what shown status out out' err err'
+
+-- a text is what a state shows; there is none where it shows nothing, or for want of memory
+abbrev pub IsTextOf : State → Show → Result (String Global) ReportFault → Type 0
+IsTextOf s what (Ok text) = IsShown s what (Some (string_bytes text))
+IsTextOf s what (Err fault) = (fault ≡ Memory) ⊎ (IsShown s what None × IsAbsence what fault)
+
+-- the program stopped: nothing was printed before the text was there
+pub record IsShowStopped {S : Type 0} (new : Kept S) (out out' : Held) (stop : Stop) : Type 0 where
+  pub told : IsOfBook stop ⊎ IsOfChannel stop
+  pub silent : IsOfBook stop → out' ≡ out
+  pub failed : stop ≡ Book Store → IsTrue new.failed

@@ -1,0 +1,158 @@
+//! `rosterbook roster`, `pairing` and `exceedances`.
+ghost use Rattle.std.specs.Prelude.{◌≡◌, ◌≢◌, IfErr, IfOk, IsTrue, string_bytes};
+ghost use Rattle.std.specs.Io.KnownBytes.{Appends};
+ghost use Rattle.report.specs.Faults.{fault_text};
+ghost use Rattle.roster.specs.State.{State};
+ghost use Rattle.book.specs.Kept.{IsAt, IsClean};
+ghost use Rattle.book.specs.declared.answer.Show.TheVariants as show;
+ghost use Rattle.rosterbook.specs.Showing as spec;
+ghost use Rattle.rosterbook.specs.Streams.{IsOfChannel, refused};
+
+use crate::lines::{refuse, write_text};
+use crate::status::Status;
+use crate::stop::Stop;
+use book::{Book, BookFault, FileBook, Show};
+use duty::{CrewId, PairingId};
+use report::{ReportFault, exceedance_text, pairing_text, roster_text};
+use roster::Roster;
+use sqlite::{Alter, FileStore};
+use sqlite_disk::Disk;
+use std::alloc::Global;
+use std::io::Write;
+use values::{MemoryFault, Text};
+
+/// Answers `rosterbook roster`.
+pub(crate) fn answer_roster<O: Write, E: Write>(
+    rt: &HostRuntime,
+    file: &str,
+    crew: &str,
+    out: &mut O,
+    err: &mut E,
+) -> Result<Status, Stop>
+    ensures { IfOk result (λ status. (s : State) × spec.IsToldOf s (show.Crew crew.now) status (O.contents out.old) (O.contents out.new) (E.contents err.old) (E.contents err.new)) }
+{
+    let who = CrewId::new(copy_of(rt.alloc(), crew)?);
+    show_file(rt, file, &Show::Crew(who), out, err)
+}
+
+/// Answers `rosterbook pairing`.
+pub(crate) fn answer_pairing<O: Write, E: Write>(
+    rt: &HostRuntime,
+    file: &str,
+    pairing: &str,
+    out: &mut O,
+    err: &mut E,
+) -> Result<Status, Stop>
+    ensures { IfOk result (λ status. (s : State) × spec.IsToldOf s (show.Pairing pairing.now) status (O.contents out.old) (O.contents out.new) (E.contents err.old) (E.contents err.new)) }
+{
+    let id = PairingId::new(copy_of(rt.alloc(), pairing)?);
+    show_file(rt, file, &Show::Pairing(id), out, err)
+}
+
+/// Answers `rosterbook exceedances`.
+pub(crate) fn answer_exceedances<O: Write, E: Write>(
+    rt: &HostRuntime,
+    file: &str,
+    out: &mut O,
+    err: &mut E,
+) -> Result<Status, Stop>
+    ensures { IfOk result (λ status. (s : State) × spec.IsToldOf s show.Exceedances status (O.contents out.old) (O.contents out.new) (E.contents err.old) (E.contents err.new)) }
+{
+    show_file(rt, file, &Show::Exceedances, out, err)
+}
+
+/// A copy of a text.
+fn copy_of(alloc: Global, text: &str) -> Result<Text, MemoryFault>
+    ensures { IfOk result (λ copy. copy ≡ text.now) }
+{
+    Ok(Text::new(String::from_str(alloc, text)?))
+}
+
+/// Opens a book and shows it.
+fn show_file<O: Write, E: Write>(
+    rt: &HostRuntime,
+    file: &str,
+    what: &Show,
+    out: &mut O,
+    err: &mut E,
+) -> Result<Status, Stop>
+    ensures { IfOk result (λ status. (s : State) × spec.IsToldOf s what.now status (O.contents out.old) (O.contents out.new) (E.contents err.old) (E.contents err.new)) }
+{
+    show_once(rt.alloc(), FileBook::open(rt, file)?, what, out, err)
+}
+
+/// Shows a book, and lets go of its files as they are: to close them would copy the log into the database.
+fn show_once<D: Disk + Drop, O: Write, E: Write>(
+    alloc: Global,
+    mut book: Book<FileStore<D>>,
+    what: &Show,
+    out: &mut O,
+    err: &mut E,
+) -> Result<Status, Stop>
+    ensures { IfOk result (λ status. (s : State) × spec.IsToldOf s what.now status (O.contents out.old) (O.contents out.new) (E.contents err.old) (E.contents err.new)) }
+{
+    show_text(alloc, &mut book, what, out, err)
+}
+
+/// Prints the text of a member, of a pairing or of the exceedances by what a book shows, or tells that the member or the pairing
+/// isn't there (2, 4). An id outside its shape names nothing. The book is as it was.
+pub fn show_text<S: Alter, O: Write, E: Write>(
+    alloc: Global,
+    book: &mut Book<S>,
+    what: &Show,
+    out: &mut O,
+    err: &mut E,
+) -> Result<Status, Stop>
+    ensures some { IfOk result (λ status. (s : State) × spec.IsToldOf s what.now status (O.contents out.old) (O.contents out.new) (E.contents err.old) (E.contents err.new)) }
+    ensures told { (s : State) → IsAt S.Store book.old s → IsClean S.Store book.new → IfOk result (λ status. spec.IsToldOf s what.now status (O.contents out.old) (O.contents out.new) (E.contents err.old) (E.contents err.new)) }
+    ensures same { (s : State) → IsAt S.Store book.old s → IsAt S.Store book.new s }
+    ensures stopped { IfErr result (λ stop. spec.IsShowStopped book.new (O.contents out.old) (O.contents out.new) stop) }
+{
+    match shown_by(alloc, book, what)? {
+        Ok(text) => {
+            write_text(out, &text)?;
+            Ok(Status::Done)
+        }
+        Err(fault) => tell_absence(fault, err),
+    }
+}
+
+/// Tells that the member or the pairing isn't there, or stops for want of memory.
+fn tell_absence<E: Write>(fault: ReportFault, err: &mut E) -> Result<Status, Stop>
+    ensures told { IfOk result (λ status. (status ≡ Status.Refused) × (fault ≢ ReportFault.Memory) × Appends (E.contents err.old) (E.contents err.new) (refused (fault_text fault))) }
+    ensures stopped { IfErr result IsOfChannel }
+{
+    match fault {
+        ReportFault::Memory => Err(Stop::Memory),
+        ReportFault::NoSuchCrew | ReportFault::NoSuchPairing => {
+            refuse(err, &fault)?;
+            Ok(Status::Refused)
+        }
+    }
+}
+
+/// A text by what a book shows.
+fn shown_by<S: Alter>(
+    alloc: Global,
+    book: &mut Book<S>,
+    what: &Show,
+) -> Result<Result<String, ReportFault>, BookFault>
+    ensures some { IfOk result (λ text. (s : State) × spec.IsTextOf s what.now text) }
+    ensures text { (s : State) → IsAt S.Store book.old s → IsClean S.Store book.new → IfOk result (λ text. spec.IsTextOf s what.now text) }
+    ensures same { (s : State) → IsAt S.Store book.old s → IsAt S.Store book.new s }
+    ensures failed { IfErr result (λ fault. fault ≡ BookFault.Store → IsTrue book.new.failed) }
+{
+    let roster = book.show(alloc, what)?;
+    Ok(text_of(alloc, &roster, what))
+}
+
+/// A text of a roster.
+fn text_of(alloc: Global, roster: &Roster, what: &Show) -> Result<String, ReportFault>
+    ensures { spec.IsTextOf roster.now what.now result }
+{
+    match what {
+        Show::Crew(who) => roster_text(alloc, roster, who),
+        Show::Pairing(id) => pairing_text(alloc, roster, id),
+        Show::Exceedances => exceedance_text(alloc, roster),
+    }
+}

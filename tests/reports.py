@@ -1,0 +1,317 @@
+#!/usr/bin/env python3
+"""Prints reports of books by the program, and compares them with texts that were worked out.
+
+    tests/reports.py [NAME..]
+
+A case is a few lines, which tests/office.py has, each of which has to be accepted, on a book of the captain C1 and the first
+officer F1; and what `roster`, `pairing` and `exceedances` then print, by their words. No report may change a byte of the book or
+of its log. What differs is told on standard error. The last line is 'N passed, M failed', and the exit status 1 where M isn't 0.
+"""
+
+import sqlite3
+import sys
+import tempfile
+from contextlib import closing
+from pathlib import Path
+
+from office import Book, Ran, build, compact, order, rosterbook, told
+
+MEMBERS = """
+    hire C1 captain: Ada Ray
+    hire F1 first-officer: Zoë Roy
+"""
+
+# ---- The reports of a small book.
+
+ONE_PAIRING = """
+    plan P1 10: 11:00 | 12:00-19:30 | 20:00
+    assign P1 C1
+"""
+
+# C1 flies on 6, 7 and 8 June, P13A together with F1, and P13B ten hours after it. P13A is flown eleven hours late.
+A_LATE_PERIOD = """
+    plan P06 6: 12:00 | 13:00-15:00, 21:00-+1 00:00 | +1 00:00
+    assign P06 C1
+    plan P07 7: 12:00 | 13:00-15:00, 21:00-+1 00:00 | +1 00:00
+    assign P07 C1
+    plan P08 8: 12:00 | 13:00-15:00, 21:00-+1 00:30 | +1 00:30
+    assign P08 C1
+    plan P13A 10: 11:00 | 12:00-20:00 | 20:30
+    assign P13A C1
+    assign P13A F1
+    plan P13B 11: 06:30 | 07:30-10:30 | 11:00
+    assign P13B C1
+    113 fly P13A 1 10: 11:00 | 23:00-+1 07:00 | +1 07:30
+"""
+
+# Two periods of P3, which are flown in the other order.
+SWAPPED = """
+    plan P3 10: 11:00 | 12:00-14:00 | 15:00; 12: 11:00 | 12:00-13:00, 14:00-14:30 | 15:00
+    assign P3 C1
+    assign P3 F1
+    fly P3 1 14: 11:00 | 12:00-14:00 | 15:00
+"""
+
+# All of these are flown at the times of one another, or of a ground duty.
+AT_ONE_TIME = """
+    plan P9 10: 11:00 | 12:00-14:00 | 15:00
+    plan P10 12: 11:00 | 12:00-14:00 | 15:00
+    plan PA 14: 11:00 | 12:00-14:00 | 15:00
+    plan PB 16: 11:00 | 12:00-14:00 | 15:00
+    assign P9 C1
+    assign P9 F1
+    assign P10 C1
+    assign P10 F1
+    assign PA C1
+    assign PA F1
+    assign PB C1
+    assign PB F1
+    {"do":"add-ground","ground":"A","crew":"C1","begin":"2025-06-20T11:00Z","end":"2025-06-20T15:00Z","task":"Übung"}
+    {"do":"add-ground","ground":"B","crew":"C1","begin":"2025-06-20T15:00Z","end":"2025-06-20T16:00Z","task":"a, \\"b\\""}
+    {"do":"add-ground","ground":"C","crew":"F1","begin":"2025-06-20T11:00Z","end":"2025-06-20T15:00Z","task":"Checks"}
+    fly P9 1 20: 11:00 | 12:00-14:00 | 15:00
+    fly P10 1 20: 11:00 | 12:00-14:00 | 15:00
+    fly PA 1 20: 11:00 | 12:00-14:00 | 14:30
+    fly PB 1 20: 10:59 | 12:00-14:00 | 18:00
+"""
+
+CASES = {
+    "a_fresh_member_has_one_line": ["", {
+        "roster C1": "ROSTER C1 captain Ada Ray",
+        "roster F1": "ROSTER F1 first officer Zoë Roy",
+        "exceedances": "EXCEEDANCES 0",
+    }],
+    "a_pairing_and_its_captain": [ONE_PAIRING, {
+        "roster C1": """
+            ROSTER C1 captain Ada Ray
+            2025-06-10T11:00Z 2025-06-10T20:00Z pairing P1/1 plan fdp 8:30 flight 7:30
+        """,
+        "roster F1": "ROSTER F1 first officer Zoë Roy",
+        "pairing P1": """
+            PAIRING P1
+            captain C1
+            first officer -
+            1 plan report 2025-06-10T11:00Z release 2025-06-10T20:00Z
+            1.1 RB1 BOS 2025-06-10T12:00Z IAD 2025-06-10T19:30Z
+        """,
+    }],
+    "a_late_period_is_shown_as_flown": [A_LATE_PERIOD, {
+        "exceedances": """
+            EXCEEDANCES 3
+            113 C1 117.13(a) P13A/1
+            113 C1 117.25(e) P13A/1
+            113 F1 117.13(a) P13A/1
+        """,
+        "roster C1": """
+            ROSTER C1 captain Ada Ray
+            2025-06-06T12:00Z 2025-06-07T00:00Z pairing P06/1 plan fdp 12:00 flight 5:00
+            2025-06-07T12:00Z 2025-06-08T00:00Z pairing P07/1 plan fdp 12:00 flight 5:00
+            2025-06-08T12:00Z 2025-06-09T00:30Z pairing P08/1 plan fdp 12:30 flight 5:30
+            2025-06-10T11:00Z 2025-06-11T07:30Z pairing P13A/1 actual fdp 20:00 flight 8:00
+            2025-06-11T06:30Z 2025-06-11T11:00Z pairing P13B/1 plan fdp 4:00 flight 3:00
+        """,
+        "roster F1": """
+            ROSTER F1 first officer Zoë Roy
+            2025-06-10T11:00Z 2025-06-11T07:30Z pairing P13A/1 actual fdp 20:00 flight 8:00
+        """,
+        "pairing P13A": """
+            PAIRING P13A
+            captain C1
+            first officer F1
+            1 actual report 2025-06-10T11:00Z release 2025-06-11T07:30Z
+            1.1 RB1 BOS 2025-06-10T23:00Z IAD 2025-06-11T07:00Z
+        """,
+        "pairing P06": """
+            PAIRING P06
+            captain C1
+            first officer -
+            1 plan report 2025-06-06T12:00Z release 2025-06-07T00:00Z
+            1.1 RB1 BOS 2025-06-06T13:00Z IAD 2025-06-06T15:00Z
+            1.2 RB2 IAD 2025-06-06T21:00Z BOS 2025-06-07T00:00Z
+        """,
+    }],
+    "periods_that_were_flown_in_the_other_order": [SWAPPED, {
+        "roster C1": """
+            ROSTER C1 captain Ada Ray
+            2025-06-12T11:00Z 2025-06-12T15:00Z pairing P3/2 plan fdp 3:30 flight 1:30
+            2025-06-14T11:00Z 2025-06-14T15:00Z pairing P3/1 actual fdp 3:00 flight 2:00
+        """,
+        "pairing P3": """
+            PAIRING P3
+            captain C1
+            first officer F1
+            1 actual report 2025-06-14T11:00Z release 2025-06-14T15:00Z
+            1.1 RB1 BOS 2025-06-14T12:00Z IAD 2025-06-14T14:00Z
+            2 plan report 2025-06-12T11:00Z release 2025-06-12T15:00Z
+            2.1 RB2 IAD 2025-06-12T12:00Z BOS 2025-06-12T13:00Z
+            2.2 RB3 BOS 2025-06-12T14:00Z IAD 2025-06-12T14:30Z
+        """,
+    }],
+    "duties_at_one_time": [AT_ONE_TIME, {
+        "roster C1": """
+            ROSTER C1 captain Ada Ray
+            2025-06-20T10:59Z 2025-06-20T18:00Z pairing PB/1 actual fdp 3:01 flight 2:00
+            2025-06-20T11:00Z 2025-06-20T14:30Z pairing PA/1 actual fdp 3:00 flight 2:00
+            2025-06-20T11:00Z 2025-06-20T15:00Z pairing P10/1 actual fdp 3:00 flight 2:00
+            2025-06-20T11:00Z 2025-06-20T15:00Z pairing P9/1 actual fdp 3:00 flight 2:00
+            2025-06-20T11:00Z 2025-06-20T15:00Z ground A Übung
+            2025-06-20T15:00Z 2025-06-20T16:00Z ground B a, "b"
+        """,
+    }],
+    "a_period_of_more_than_99_hours": ["""
+        plan P1 10: 11:00 | 12:00-19:30 | 20:00
+        assign P1 C1
+        assign P1 F1
+        fly P1 1 10: 11:00 | 12:00-+4 15:05 | +4 16:00
+    """, {
+        "roster F1": """
+            ROSTER F1 first officer Zoë Roy
+            2025-06-10T11:00Z 2025-06-14T16:00Z pairing P1/1 actual fdp 100:05 flight 99:05
+        """,
+    }],
+}  # fmt: skip
+
+
+def lines_of(page):
+    return [line for line in map(str.strip, page.splitlines()) if line]
+
+
+def text_of(page):
+    return "".join(f"{line}\n" for line in lines_of(page))
+
+
+def carry_out(book, page):
+    """Has each line accepted; one may begin with the number of its request. Returns what differs."""
+    for line in lines_of(page):
+        number, _, rest = line.partition(" ")
+        answer = told(book.do(int(number), order(rest))) if number.isdigit() else book.settle(line)
+        if not answer.startswith("accepted"):
+            return [f"{line}: {answer}"]
+    return []
+
+
+def bytes_of(book):
+    """The bytes of each file in the folder of a book."""
+    return {path.name: path.read_bytes() for path in book.folder.iterdir()}
+
+
+def shown(book, words):
+    """What a report of the book is, and whether it changed a file."""
+    command, *ids = words.split(" ")
+    before = bytes_of(book)
+    ran = rosterbook(command, book.file, *ids)
+    after = {name: held for name, held in bytes_of(book).items() if held or name in before}
+    return ran, after == before
+
+
+def differs(book, words, wanted):
+    ran, is_same = shown(book, words)
+    if not is_same:
+        return [f"{words}: a file has changed"]
+    return [] if ran == wanted else [f"{words}: wanted {wanted}, and got {ran}"]
+
+
+def tried(room, page, reports):
+    book = Book.made(room)
+    bad = carry_out(book, MEMBERS + page)
+    for words, text in reports.items():
+        bad += differs(book, words, Ran(0, text_of(text), ""))
+    return bad
+
+
+# ---- What a text can't say.
+
+
+def two_hundred_periods(room):
+    """C1 flies from noon to one on each other day for 400 days, and so does nobody else."""
+    book = Book.made(room)
+    bad = carry_out(book, MEMBERS)
+    days = [f"day-{1 + 2 * period}" for period in range(200)]
+    plans = [f"plan P{day[4:]} {day}: 11:00 | 12:00-13:00 | 13:30" for day in days]
+    answer = book.settle_all(plans)
+    bad += [] if answer == "accepted" else [answer]
+    for day in days:
+        bad += carry_out(book, f"assign P{day[4:]} C1")
+    lines = [
+        f"{order(plan)['periods'][0]['report']} {order(plan)['periods'][0]['release']} pairing P{day[4:]}/1 plan fdp 2:00 flight 1:00"
+        for day, plan in zip(days, plans)
+    ]
+    text = "".join(f"{line}\n" for line in ["ROSTER C1 captain Ada Ray", *lines])
+    return bad + differs(book, "roster C1", Ran(0, text, ""))
+
+
+def whoever_is_not_there_is_refused(room):
+    book = Book.made(room)
+    bad = carry_out(book, MEMBERS + ONE_PAIRING)
+    for who in ("C9", "c1", "P1", "", "C1 ", "É", "C" * 13):
+        bad += differs_of_words(book, ["roster", book.file, who], Ran(1, "", "refused 2 NoSuchCrew\n"))
+    for pairing in ("P9", "p1", "C1", "", "P1/1"):
+        bad += differs_of_words(book, ["pairing", book.file, pairing], Ran(1, "", "refused 4 NoSuchPairing\n"))
+    return bad
+
+
+def differs_of_words(book, words, wanted):
+    before = bytes_of(book)
+    ran = rosterbook(*words)
+    same = {name: held for name, held in bytes_of(book).items() if held or name in before} == before
+    return [] if ran == wanted and same else [f"{words}: wanted {wanted}, and got {ran}"]
+
+
+def no_book_is_no_report(room):
+    folder = Path(tempfile.mkdtemp(dir=room))
+    bad = []
+    with closing(sqlite3.connect(folder / "other.db")) as tables:
+        tables.execute("CREATE TABLE other (x)")
+        tables.commit()
+    for words in (["roster", "C1"], ["pairing", "P1"], ["exceedances"]):
+        for name, wanted in (("none.db", "refused 40 NotABook\n"), ("other.db", "refused 40 NotABook\n")):
+            ran = rosterbook(words[0], folder / name, *words[1:])
+            bad += [] if ran == Ran(3, "", wanted) else [f"{words} of {name}: {ran}"]
+    return bad + ([] if not (folder / "none.db").exists() else ["a file was made"])
+
+
+def a_log_stays_as_it_is(room):
+    """What a stopped program left in the log beside the book is shown, and stays there."""
+    book = Book.made(room)
+    bad = carry_out(book, MEMBERS + ONE_PAIRING)
+    left = Book(Path(tempfile.mkdtemp(dir=room)))
+    with closing(sqlite3.connect(book.file)) as tables:
+        tables.execute("PRAGMA journal_mode = wal")
+        tables.execute("PRAGMA wal_autocheckpoint = 0")
+        tables.execute("UPDATE crew SET name = 'Ann Oh' WHERE id = 'C1'")
+        tables.commit()
+        for name in ("roster.db", "roster.db-wal"):
+            (left.folder / name).write_bytes((book.folder / name).read_bytes())
+    if b"Ann Oh" in left.file.read_bytes():
+        bad += ["the log was copied into the book"]
+    for _ in range(2):
+        bad += differs(left, "roster C1", Ran(0, text_of("""
+            ROSTER C1 captain Ann Oh
+            2025-06-10T11:00Z 2025-06-10T20:00Z pairing P1/1 plan fdp 8:30 flight 7:30
+        """), ""))  # fmt: skip
+    answer = left.settle("release P1 C1")
+    bad += [] if answer == "accepted" else [answer]
+    return bad + differs(left, "roster C1", Ran(0, "ROSTER C1 captain Ann Oh\n", ""))
+
+
+OTHERS = (two_hundred_periods, whoever_is_not_there_is_refused, no_book_is_no_report, a_log_stays_as_it_is)
+
+
+def main(names):
+    if not build():
+        return 3
+    cases = {name: (tried, *case) for name, case in CASES.items()} | {case.__name__: (case,) for case in OTHERS}
+    failed = 0
+    with tempfile.TemporaryDirectory() as room:
+        for name in names or cases:
+            case, *arguments = cases[name]
+            bad = case(room, *arguments)
+            failed += bool(bad)
+            for line in bad:
+                print(f"tests/reports.py: {name}: {line}", file=sys.stderr)
+    print(f"{len(names or cases) - failed} passed, {failed} failed")
+    return 1 if failed else 0
+
+
+if __name__ == "__main__":
+    sys.exit(main(sys.argv[1:]))
