@@ -82,6 +82,7 @@ module _ {S : Type 0} (g : Ghosts S) (book : Kept S) (asked : Asked) (some : Lea
     honest = λ s at honest. one_honest (state g book.held) s at.leaves honest;
     within_limits = λ s at clean is passes. tt;
     repeats = λ s reply at clean held. (refl, tt);
+    turned_down = λ s refusal at clean refused. (refl, tt);
     holds = λ s reply at. tt;
     held = λ s at. still_held (state g book.held) s at;
     refused = tt;
@@ -108,6 +109,7 @@ module _ {S : Type 0} (g : Ghosts S) (book : Kept S) (asked : Asked) (some : Lea
     honest = λ s at honest. one_honest (state g book.held) s at.leaves honest;
     within_limits = λ s at clean is passes. tt;
     repeats = λ s reply at clean held. (refl, tt);
+    turned_down = λ s refusal at clean refused. (refl, tt);
     holds = λ s reply at. tt;
     held = λ s at. still_held (state g book.held) s at;
     refused = tt;

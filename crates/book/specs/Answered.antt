@@ -7,7 +7,9 @@ use Rattle.roster.specs.Folds.{Asked, Session, Stopped, answer_of, next}
 use Rattle.roster.specs.Honest.{Honest}
 use Rattle.roster.specs.Laws.{PassesChecks, is_assignment}
 use Rattle.roster.specs.State.{State}
+use Rattle.command.specs.declared.refusal.Refusal.{Refusal}
 use Rattle.roster.specs.Steps.{step_of}
+use Rattle.roster.specs.declared.change.Verdict.TheVariants.{Refuse}
 use Rattle.rows.specs.declared.fault.StoreFault.{StoreFault}
 use Rattle.rows.specs.declared.fault.StoreFault.TheVariants.{Store, Memory}
 use Rattle.writing.specs.Kept.{KeepOthers}
@@ -16,7 +18,7 @@ use Rattle.book.specs.Headline.{BreaksNoLimit, IsAcceptance, IsHeld, IsRefusal, 
 use Rattle.book.specs.Kept.{HasTables, IsAt, IsClean, IsInDoubt, Kept, StillHasTables, is_store_fault, result_of}
 use Rattle.book.specs.Sessions.{IsAfter, count_of, fault_of}
 use Rattle.book.specs.declared.answer.Answer.{Answer}
-use Rattle.book.specs.declared.answer.Answer.TheVariants.{Accepted}
+use Rattle.book.specs.declared.answer.Answer.TheVariants.{Accepted, Refused}
 
 -- the book was asked a command under its key, and gave this result
 pub record IsAnswered {S : Type 0} (g : Ghosts S) (old new : Kept S) (asked : Asked) (result : Result Answer StoreFault) : Type 0 where
@@ -34,6 +36,7 @@ pub record IsAnswered {S : Type 0} (g : Ghosts S) (old new : Kept S) (asked : As
   pub honest : (s : State) → IsAt g old s → Honest s → Leaves (state g new.held) Honest
   pub within_limits : (s : State) → IsAt g old s → IsClean g new → is_assignment asked.1 ≡ true → PassesChecks s asked.0 asked.1 → IfOk result (λ a. IsAcceptance a ↔ BreaksNoLimit s asked.1)
   pub repeats : (s : State) (reply : Reply) → IsAt g old s → IsClean g old → IsHeld s asked reply → (new ≡ old) × IfOk result (λ a. a ≡ Accepted reply)
+  pub turned_down : (s : State) (refusal : Refusal) → IsAt g old s → IsClean g old → step_of s asked.0 asked.1 ≡ Refuse refusal → (new ≡ old) × IfOk result (λ a. a ≡ Refused refusal)
   pub holds : (s : State) (reply : Reply) → IsAt g old s → IfOk result (λ a. a ≡ Accepted reply → StaysHeld (state g new.held) asked reply)
   pub held : (s : State) → IsAt g old s → KeepsHeld (state g new.held) s
   pub refused : IfOk result (λ a. IsRefusal a → new ≡ old)

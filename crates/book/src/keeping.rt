@@ -4,6 +4,7 @@ ghost use Rattle.sqlite.specs.Held.{state};
 ghost use Rattle.sqlite.specs.State.{HasCleanDisk, IsUnchanged};
 ghost use Rattle.command.specs.Keys.{key_name};
 ghost use Rattle.command.specs.declared.exceedance.Reply.{Reply};
+ghost use Rattle.command.specs.declared.refusal.Refusal.{Refusal};
 ghost use Rattle.roster.specs.Folds.{Fold, Replies, Session, Stopped, answer_of, next};
 ghost use Rattle.roster.specs.Honest.{Honest};
 ghost use Rattle.roster.specs.Laws.{PassesChecks, is_assignment};
@@ -177,7 +178,8 @@ impl<S: Alter> Book<S> {
         store.into_connection()
     }
 
-    /// Answers a command. One that is kept already is answered as it was, and changes nothing. After want of memory (91)
+    /// Answers a command. One that is kept already is answered as it was, and changes nothing. One that the machine refuses is
+    /// refused so, and changes nothing; no call is made to the store for it. After want of memory (91)
     /// nothing is changed, and the call may be made again; after a fault of the store (90) it is kept or not, and each later
     /// call answers 90.
     pub fn ask(&mut self, alloc: Global, key: Key, command: &Command) -> Result<Answer, StoreFault>
@@ -195,6 +197,7 @@ impl<S: Alter> Book<S> {
         ensures honest { (s : State) → IsAt S.Store self.old s → Honest s → Leaves (state S.Store self.new.held) Honest }
         ensures within_limits { (s : State) → IsAt S.Store self.old s → IsClean S.Store self.new → is_assignment command.now ≡ true → PassesChecks s key command.now → IfOk result (λ a. IsAcceptance a ↔ BreaksNoLimit s command.now) }
         ensures repeats { (s : State) (reply : Reply) → IsAt S.Store self.old s → IsClean S.Store self.old → IsHeld s (key, command.now) reply → (self.new ≡ self.old) × IfOk result (λ a. a ≡ Answer.Accepted reply) }
+        ensures turned_down { (s : State) (refusal : Refusal) → IsAt S.Store self.old s → IsClean S.Store self.old → step_of s key command.now ≡ Verdict.Refuse refusal → (self.new ≡ self.old) × IfOk result (λ a. a ≡ Answer.Refused refusal) }
         ensures holds { (s : State) (reply : Reply) → IsAt S.Store self.old s → IfOk result (λ a. a ≡ Answer.Accepted reply → StaysHeld (state S.Store self.new.held) (key, command.now) reply) }
         ensures held { (s : State) → IsAt S.Store self.old s → KeepsHeld (state S.Store self.new.held) s }
         ensures refused { IfOk result (λ a. IsRefusal a → self.new ≡ self.old) }
@@ -339,6 +342,7 @@ fn answer<S: Alter>(
     ensures did { Did (state S.Store store.old) (state S.Store store.new) roster.old roster.new (next roster.old (key, command.now)) result }
     ensures reply { IfOk result (λ a. result_of a ≡ answer_of (step_of roster.old key command.now)) }
     ensures repeated { (reply : Reply) → step_of roster.old key command.now ≡ Verdict.Repeat reply → (store.new ≡ store.old) × (is_store_fault result ≡ false) × IfOk result (λ a. a ≡ Answer.Accepted reply) }
+    ensures turned_down { (refusal : Refusal) → step_of roster.old key command.now ≡ Verdict.Refuse refusal → (store.new ≡ store.old) × (is_store_fault result ≡ false) × IfOk result (λ a. a ≡ Answer.Refused refusal) }
     ensures refused { IfOk result (λ a. IsRefusal a → store.new ≡ store.old) }
     ensures alone { OnOk result ((store.new ≡ store.old) ⊎ SparesOthers (state S.Store store.old) (state S.Store store.new)) }
 {

@@ -28,6 +28,7 @@ returns g c =
       honest = told.honest;
       within_limits = told.within_limits;
       repeats = told.repeats;
+      turned_down = told.turned_down;
       holds = told.holds;
       held = told.held;
       refused = told.refused;

@@ -1,4 +1,4 @@
-use Rattle.std.proofs.Common.{◌∙◌, sym}
+use Rattle.std.proofs.Common.{◌∙◌, ap, sym}
 use Rattle.sqlite.specs.Held.{state}
 use Rattle.roster.specs.Folds.{Stopped, answer_of, next}
 use Rattle.roster.specs.State.{State}
@@ -104,6 +104,12 @@ pub returns-clause-repeats : goal.returns-clause-repeats
 returns-clause-repeats g c = rw (← c.self.view_is) (λ s reply at clean held.
     let same = same_state (state g.S.Store c.self.inside.store) c.self.inside.roster s (c.self.invariant.1 c.if-self.false) at clean in
     let it = c.answer-answer.ensures.repeated reply (step_repeats s c.self.inside.roster (c.args.key, c.args.command.now) reply same held) in
+    (same_book _ _ it.0 (c.is_of_store-self-inside.ensures ∙ it.1 ∙ sym c.if-self.false), it.2))
+
+pub returns-clause-turned_down : goal.returns-clause-turned_down
+returns-clause-turned_down g c = rw (← c.self.view_is) (λ s refusal at clean refused.
+    let same = same_state (state g.S.Store c.self.inside.store) c.self.inside.roster s (c.self.invariant.1 c.if-self.false) at clean in
+    let it = c.answer-answer.ensures.turned_down refusal (ap (λ (x : State). step_of x c.args.key c.args.command.now) same ∙ refused) in
     (same_book _ _ it.0 (c.is_of_store-self-inside.ensures ∙ it.1 ∙ sym c.if-self.false), it.2))
 
 pub returns-clause-refused : goal.returns-clause-refused
