@@ -1,0 +1,18 @@
+-- What a reader has where a body of so many bytes is looked for.
+use Rattle.std.specs.Prelude.{◌≡◌, ◌≤◌, ◌<◌, ⊤, ℕ, List, length, take, drop, Option, Some, None}
+use Rattle.http_exchange.specs.declared.body.BodyRead.{BodyRead}
+use Rattle.http_exchange.specs.declared.body.BodyRead.TheVariants.{Whole, Cut}
+
+-- the body is so many bytes of the input, and what stands after it is left
+abbrev pub IsWholeAt : ℕ → Option (List ℕ) → Option (List ℕ) → List ℕ → Type 0
+IsWholeAt n None left body = ⊤
+IsWholeAt n (Some input) left body = (n ≤ length input) × (body ≡ take n input) × (left ≡ Some (drop n input))
+
+-- the input has fewer, and none is left
+abbrev pub IsCutAt : ℕ → Option (List ℕ) → Option (List ℕ) → Type 0
+IsCutAt n None left = ⊤
+IsCutAt n (Some input) left = (length input < n) × (left ≡ Some (drop n input))
+
+abbrev pub IsRead : ℕ → Option (List ℕ) → Option (List ℕ) → BodyRead → Type 0
+IsRead n had left (Whole body) = IsWholeAt n had left body.items
+IsRead n had left Cut = IsCutAt n had left

@@ -1,0 +1,33 @@
+-- What a handler is asked, and what it answers.
+use Rattle.std.specs.Prelude.{ℕ, List, Result, Ok, Err, string_bytes}
+use Rattle.http_message.specs.Plan.{Subject, subject}
+use Rattle.http_message.specs.declared.plan.Submission.{Submission}
+use Rattle.http_message.specs.declared.responses.MediaType.{MediaType}
+use Rattle.http_exchange.specs.declared.handler.Request.{Request}
+use Rattle.http_exchange.specs.declared.handler.Request.TheVariants as rust
+use Rattle.http_exchange.specs.declared.handler.Response.{Response}
+use Rattle.http_exchange.specs.declared.handler.HandlerFault.{HandlerFault}
+
+-- to do what a body says, or to show a report
+pub data Asked : Type 0 where
+  submit : Submission → List ℕ → Asked
+  show : Subject → Asked
+
+-- a status, and a text of this type
+pub record Answer : Type 0 where
+  pub status : ℕ
+  pub media_type : MediaType
+  pub text : List ℕ
+
+-- ---- as the program holds them
+
+abbrev pub asked : Request → Asked
+asked (rust.Submit to body) = submit to body.now
+asked (rust.Show report) = show (subject report)
+
+abbrev pub answer : Response → Answer
+answer r = record { status = r.status; media_type = r.media_type; text = string_bytes r.text }
+
+abbrev pub answer_of : Result Response HandlerFault → Result Answer HandlerFault
+answer_of (Ok r) = Ok (answer r)
+answer_of (Err fault) = Err fault

@@ -1,0 +1,4 @@
+pub mod Handler
+pub mod Body
+pub mod Final
+pub mod Exchange

@@ -1,0 +1,143 @@
+//! One exchange.
+ghost use Rattle.std.specs.Prelude.{◌≡◌, IfErr, IfOk, MatchResult};
+ghost use Rattle.std.specs.Io.KnownBytes.{Appends};
+ghost use Rattle.http_message.specs.Plan.{plan, planned};
+ghost use Rattle.http_exchange.specs.Handler.{asked};
+ghost use Rattle.http_exchange.specs.Exchange as spec;
+ghost use Rattle.http_exchange.specs.declared.sending.ChannelFault.TheVariants.{Writer};
+
+use crate::body::{BodyRead, read_body};
+use crate::handler::{Handler, Request};
+use crate::sending::{ChannelFault, send, send_answer, send_fault, send_no_memory};
+use http::StatusCode;
+use http_message::{
+    Action, CONTINUE, ExpectedBody, Head, HeadRead, Plan, ReadFault, RequestFault, plan_of,
+    read_head,
+};
+use std::alloc::Global;
+use std::io::{Read, Write};
+
+/// What was served.
+#[derive(Clone, Copy, Debug, PartialEq, Eq)]
+pub enum Served {
+    /// A response, of this status in the end.
+    Answered(StatusCode),
+    /// Nothing: the input ended before its first byte.
+    Nothing,
+}
+
+/// Reads a request, has the handler answer it, and writes the response. Nothing is read past the head and the body that it
+/// announces, and of an exchange no other comes after it on the connection.
+pub fn exchange<R: Read, W: Write, H: Handler>(
+    alloc: Global,
+    reader: &mut R,
+    writer: &mut W,
+    handler: &mut H,
+) -> Result<Served, ChannelFault>
+    ensures served { IfOk result (λ it. spec.IsServed H.handles (R.remaining reader.old) (R.remaining reader.new) (W.contents writer.old) (W.contents writer.new) handler.old handler.new it) }
+    ensures failed { IfErr result (λ fault. spec.IsBrokenOff H.handles (R.remaining reader.old) handler.old handler.new fault) }
+    ensures once { spec.AsksOnce H.handles handler.old handler.new }
+{
+    match read_head(alloc, reader) {
+        Ok(HeadRead::Nothing) => Ok(Served::Nothing),
+        Ok(HeadRead::NoHead) => {
+            let status = send_fault(alloc, writer, RequestFault::NoHead, false)?;
+            Ok(Served::Answered(status))
+        }
+        Ok(HeadRead::Whole(head)) => {
+            let status = answer(alloc, reader, writer, handler, &head)?;
+            Ok(Served::Answered(status))
+        }
+        Err(ReadFault::Memory) => Ok(Served::Answered(send_no_memory(writer, false)?)),
+        Err(ReadFault::Reader) => Err(ChannelFault::Reader),
+    }
+}
+
+/// Answers a request whose head was read.
+fn answer<R: Read, W: Write, H: Handler>(
+    alloc: Global,
+    reader: &mut R,
+    writer: &mut W,
+    handler: &mut H,
+    head: &Head,
+) -> Result<StatusCode, ChannelFault>
+    ensures answered { IfOk result (λ status. spec.Answers H.handles (plan head.now) (R.remaining reader.old) (R.remaining reader.new) (W.contents writer.old) (W.contents writer.new) handler.old handler.new status) }
+    ensures broken { IfErr result (λ fault. spec.BreaksOff H.handles (plan head.now) (R.remaining reader.old) handler.old handler.new fault) }
+    ensures once { spec.AsksOnce H.handles handler.old handler.new }
+{
+    match plan_of(alloc, head) {
+        Ok(plan) => follow(alloc, reader, writer, handler, plan),
+        Err(_) => send_no_memory(writer, head.is_for_head()),
+    }
+}
+
+/// Does what is planned.
+fn follow<R: Read, W: Write, H: Handler>(
+    alloc: Global,
+    reader: &mut R,
+    writer: &mut W,
+    handler: &mut H,
+    plan: Plan<'_>,
+) -> Result<StatusCode, ChannelFault>
+    ensures answered { IfOk result (λ status. spec.Answers H.handles (planned plan.entry) (R.remaining reader.old) (R.remaining reader.new) (W.contents writer.old) (W.contents writer.new) handler.old handler.new status) }
+    ensures broken { IfErr result (λ fault. spec.BreaksOff H.handles (planned plan.entry) (R.remaining reader.old) handler.old handler.new fault) }
+    ensures once { spec.AsksOnce H.handles handler.old handler.new }
+{
+    let is_head = plan.is_head;
+    match plan.action {
+        Action::Refuse(fault) => send_fault(alloc, writer, fault, is_head),
+        Action::Show(report) => ask(alloc, writer, handler, Request::Show(report), is_head),
+        Action::Receive(expected) => take_in(alloc, reader, writer, handler, expected, is_head),
+    }
+}
+
+/// Asks the handler, and writes what it answers.
+fn ask<W: Write, H: Handler>(
+    alloc: Global,
+    writer: &mut W,
+    handler: &mut H,
+    request: Request<'_>,
+    is_head: bool,
+) -> Result<StatusCode, ChannelFault>
+    ensures { spec.IsAsked H.handles (asked request.entry) (W.contents writer.old) (W.contents writer.new) handler.old handler.new is_head result }
+{
+    let answer = handler.handle(alloc, request);
+    send_answer(alloc, writer, answer, is_head)
+}
+
+/// Takes in a body, and has the handler answer it. Room for the body is made before a client is told to go on.
+fn take_in<R: Read, W: Write, H: Handler>(
+    alloc: Global,
+    reader: &mut R,
+    writer: &mut W,
+    handler: &mut H,
+    expected: ExpectedBody,
+    is_head: bool,
+) -> Result<StatusCode, ChannelFault>
+    ensures answered { IfOk result (λ status. spec.Answers H.handles (spec.receiving expected is_head) (R.remaining reader.old) (R.remaining reader.new) (W.contents writer.old) (W.contents writer.new) handler.old handler.new status) }
+    ensures broken { IfErr result (λ fault. spec.BreaksOff H.handles (spec.receiving expected is_head) (R.remaining reader.old) handler.old handler.new fault) }
+    ensures once { spec.AsksOnce H.handles handler.old handler.new }
+{
+    let Ok(room) = Vec::with_capacity(alloc, expected.length) else {
+        return send_no_memory(writer, is_head);
+    };
+    go_on(writer, expected.continues)?;
+    match read_body(reader, room, expected.length) {
+        Ok(BodyRead::Whole(body)) => {
+            let request = Request::Submit(expected.to, &body);
+            ask(alloc, writer, handler, request, is_head)
+        }
+        Ok(BodyRead::Cut) => send_fault(alloc, writer, RequestFault::CutBody, is_head),
+        Err(_) => Err(ChannelFault::Reader),
+    }
+}
+
+/// Tells a client that waits for it to go on and send the body.
+fn go_on<W: Write>(writer: &mut W, waits: bool) -> Result<(), ChannelFault>
+    ensures { MatchResult result (λ _. Appends (W.contents writer.old) (W.contents writer.new) (spec.interim_bytes waits)) (λ fault. fault ≡ Writer) }
+{
+    if waits {
+        send(writer, CONTINUE)?;
+    }
+    Ok(())
+}

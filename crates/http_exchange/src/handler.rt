@@ -1,0 +1,48 @@
+//! What answers the requests of exchanges.
+ghost use Rattle.std.specs.Prelude.{Result};
+ghost use Rattle.http_exchange.specs.Handler as spec;
+
+use http::StatusCode;
+use http_message::{MediaType, Report, Submission};
+use std::alloc::Global;
+
+/// What is asked of a handler.
+#[derive(Clone, Copy)]
+pub enum Request<'a> {
+    /// To do what a body says.
+    Submit(Submission, &'a [u8]),
+    /// To show a report.
+    Show(Report<'a>),
+}
+
+/// What a handler answers.
+#[derive(Drop)]
+pub struct Response {
+    /// The status, which is not an interim one (RFC 9110, section 15).
+    pub status: StatusCode,
+    /// What the text is.
+    pub media_type: MediaType,
+    /// The text.
+    pub text: String,
+}
+
+/// Why a handler doesn't answer. Either is told as 503.
+#[derive(Clone, Copy, Debug, PartialEq, Eq)]
+pub enum HandlerFault {
+    /// Its store failed.
+    Store,
+    /// There was no memory.
+    Memory,
+}
+
+/// What answers the requests of exchanges.
+pub trait Handler {
+    ghost use Rattle.http_exchange.specs.declared.handler.HandlerFault.{HandlerFault};
+
+    // the handler was so before, and so after it was asked this and gave this answer
+    ghost handles: { Self → Self → spec.Asked → Result spec.Answer HandlerFault → Type 0 };
+
+    /// Answers a request.
+    fn handle(&mut self, alloc: Global, request: Request<'_>) -> Result<Response, HandlerFault>
+        ensures { handles self.old self.new (spec.asked request.entry) (spec.answer_of result) };
+}

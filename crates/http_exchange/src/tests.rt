@@ -1,0 +1,54 @@
+//! Exchanges over memory.
+mod channel;
+mod clerk;
+mod heads;
+mod rows;
+
+use crate::exchanges::{Served, exchange};
+use crate::sending::ChannelFault;
+use crate::tests::channel::{Input, Output};
+use crate::tests::clerk::Clerk;
+use std::alloc::Global;
+use std::test::Fail;
+
+/// What came of an exchange.
+#[derive(Drop)]
+struct Outcome {
+    served: Result<Served, ChannelFault>,
+    /// How many bytes of the input are unread.
+    unread: usize,
+    /// What was asked, or nothing.
+    asked: String,
+    /// What was written and handed on.
+    written: Vec<u8>,
+    /// What was written and not handed on.
+    waiting: Vec<u8>,
+}
+
+/// Serves an input by a writer that takes so many bytes; where the reader fails, it does at the input's end.
+fn served(alloc: Global, input: &[u8], fails: bool, room: usize) -> Outcome {
+    let mut reader = Input::new(input, fails);
+    let mut writer = Output::new(alloc, room);
+    let mut clerk = Clerk::new(alloc);
+    let served = exchange(alloc, &mut reader, &mut writer, &mut clerk);
+    Outcome {
+        served,
+        unread: reader.unread(),
+        asked: clerk.asked,
+        written: writer.flushed,
+        waiting: writer.waiting,
+    }
+}
+
+/// A text whose line ends stand as `|`.
+fn with_line_ends(alloc: Global, text: &str) -> Result<Vec<u8>, Fail> {
+    let mut bytes = Vec::new(alloc);
+    for byte in text.bytes() {
+        if byte == b'|' {
+            bytes.extend_from_slice(b"\r\n")?;
+        } else {
+            bytes.push(byte)?;
+        }
+    }
+    Ok(bytes)
+}

@@ -1,0 +1,108 @@
+//! A handler for tests.
+use crate::handler::{Handler, HandlerFault, Request, Response};
+use http::StatusCode;
+use http_message::{MediaType, Report, Submission};
+use std::alloc::{AllocError, Global};
+use std::str::from_utf8;
+
+/// A handler that notes what it is asked, and answers as a book without crew does.
+#[derive(Drop)]
+pub struct Clerk {
+    pub asked: String,
+}
+
+impl Clerk {
+    pub fn new(alloc: Global) -> Clerk {
+        Clerk {
+            asked: String::new(alloc),
+        }
+    }
+}
+
+impl Handler for Clerk {
+    ghost use Rattle.std.specs.Prelude.{⊤};
+
+    ghost handles = { λ _ _ _ _. ⊤ };
+
+    fn handle(&mut self, alloc: Global, request: Request<'_>) -> Result<Response, HandlerFault> {
+        let Ok(note) = noted(alloc, request) else {
+            return Err(HandlerFault::Memory);
+        };
+        if self.asked.push_str(&note).is_err() {
+            return Err(HandlerFault::Memory);
+        }
+        answer_to(alloc, &note)
+    }
+}
+
+/// What is asked, in words.
+fn noted(alloc: Global, request: Request<'_>) -> Result<String, AllocError> {
+    match request {
+        Request::Submit(Submission::Command, body) => {
+            format!(in alloc; "command {}", text_of(body))
+        }
+        Request::Submit(Submission::Import(number), body) => {
+            format!(in alloc; "import {number} {}", text_of(body))
+        }
+        Request::Show(Report::Crew(id)) => format!(in alloc; "crew {}", text_of(id)),
+        Request::Show(Report::Pairing(id)) => format!(in alloc; "pairing {}", text_of(id)),
+        Request::Show(Report::Exceedances) => String::from_str(alloc, "exceedances"),
+    }
+}
+
+fn text_of(bytes: &[u8]) -> &str {
+    from_utf8(bytes).unwrap_or("no text")
+}
+
+fn answer_to(alloc: Global, note: &str) -> Result<Response, HandlerFault> {
+    match note {
+        "exceedances" => told(
+            alloc,
+            StatusCode::OK,
+            MediaType::PlainText,
+            "EXCEEDANCES 0\n",
+        ),
+        "crew C9" => told(
+            alloc,
+            StatusCode::NOT_FOUND,
+            MediaType::Json,
+            "{\"name\":\"NoSuchCrew\",\"refusal\":2,\"result\":\"refused\"}",
+        ),
+        "command {\"number\":1,\"do\":\"cancel-ground\",\"ground\":\"G1\"}" => told(
+            alloc,
+            StatusCode::CONFLICT,
+            MediaType::Json,
+            "{\"name\":\"NoSuchGround\",\"refusal\":15,\"result\":\"refused\"}",
+        ),
+        "command " => told(
+            alloc,
+            StatusCode::UNPROCESSABLE_ENTITY,
+            MediaType::Json,
+            "{\"field\":\"body\",\"name\":\"BadJson\",\"refusal\":31,\"result\":\"refused\"}",
+        ),
+        "command store" => Err(HandlerFault::Store),
+        "command memory" => Err(HandlerFault::Memory),
+        _ => told(
+            alloc,
+            StatusCode::OK,
+            MediaType::Json,
+            "{\"exceedances\":[],\"result\":\"accepted\"}",
+        ),
+    }
+}
+
+fn told(
+    alloc: Global,
+    status: StatusCode,
+    media_type: MediaType,
+    text: &str,
+) -> Result<Response, HandlerFault> {
+    match String::from_str(alloc, text) {
+        Ok(text) => Ok(Response {
+            status,
+            media_type,
+            text,
+        }),
+        Err(_) => Err(HandlerFault::Memory),
+    }
+}

@@ -1,0 +1,139 @@
+//! What heads and lengths come to.
+use crate::exchanges::Served;
+use crate::tests::{served, with_line_ends};
+use http::StatusCode;
+use std::alloc::Global;
+use std::test::Fail;
+
+/// Inputs with line ends as `|`, and after ` => ` the status, how many bytes are left unread, and what is asked.
+const INPUTS: &str = "\
+|| => 400 - 
+ => 0 0 
+||GET /exceedances HTTP/1.1|Host: x||more => 200 4 exceedances
+GET /exceedances HTTP/1.1|hOsT:x|| => 200 0 exceedances
+GET /exceedances HTTP/1.1|Host: x|A: b| c|| => 400 - 
+GET /exceedances HTTP/1.1|Host : x|| => 400 - 
+GET /exceedances HTTP/1.1|Host: x| => 400 - 
+GET /exceedances HTTP/1.1|| => 400 - 
+GET /exceedances HTTP/1.1|Host: x|Host: x|| => 400 - 
+GET /exceedances HTTP/1.0|| => 200 0 exceedances
+GET /exceedances HTTP/1.0|Host: x|Host: y|| => 200 0 exceedances
+GET /exceedances HTTP/1.2|Host: x|| => 400 - 
+GET /exceedances|Host: x|| => 400 - 
+POST /requests HTTP/1.1|Transfer-Encoding: chunked|| => 400 - 
+DELETE /nothing HTTP/1.1|Host: x|transfer-encoding: gzip|| => 501 0 
+GET http://a.b:80/crew/C9?x=/y HTTP/1.1|Host: x|| => 404 0 crew C9
+GET HTTP://a.b/exceedances HTTP/1.1|Host: x|| => 200 0 exceedances
+GET http://a.b HTTP/1.1|Host: x|| => 404 0 
+GET http://a.b?/exceedances HTTP/1.1|Host: x|| => 404 0 
+GET https://a.b/exceedances HTTP/1.1|Host: x|| => 404 0 
+GET /exceedances?of=C9 HTTP/1.1|Host: x|| => 200 0 exceedances
+GET /crew/%439 HTTP/1.1|Host: x|| => 200 0 crew %439
+GET /crew/C9/ HTTP/1.1|Host: x|| => 404 0 
+GET /crew/ HTTP/1.1|Host: x|| => 404 0 
+GET /crew HTTP/1.1|Host: x|| => 404 0 
+GET //crew/C9 HTTP/1.1|Host: x|| => 404 0 
+GET /crew/C9/x HTTP/1.1|Host: x|| => 404 0 
+GET /exceedances/ HTTP/1.1|Host: x|| => 404 0 
+GET /pairings/P1 HTTP/1.1|Host: x|Content-Length: 3||abc => 200 3 pairing P1
+get /exceedances HTTP/1.1|Host: x|| => 405 0 
+POST /crew/C9 HTTP/1.1|Host: x|| => 405 0 
+GET /imports/1 HTTP/1.1|Host: x|| => 405 0 
+GET /imports/01 HTTP/1.1|Host: x|| => 404 0 
+DELETE /nothing HTTP/1.1|Host: x|| => 404 0 
+POST /imports/0 HTTP/1.1|Host: x|| => 404 0 
+POST /imports/01 HTTP/1.1|Host: x|| => 404 0 
+POST /imports/+1 HTTP/1.1|Host: x|| => 404 0 
+POST /imports/9223372036854775808 HTTP/1.1|Host: x|| => 404 0 
+POST /imports/99999999999999999999 HTTP/1.1|Host: x|| => 404 0 
+POST /imports/9223372036854775807 HTTP/1.1|Host: x|Content-Length: 3||a,brest => 200 4 import 9223372036854775807 a,b
+POST /requests HTTP/1.1|Host: x|Content-Length: \t 002\t ||abcd => 200 2 command ab
+POST /requests HTTP/1.0|Content-Length: 0000000000000000000000000000000000000005||store => 503 0 command store
+POST /requests HTTP/1.1|Host: x|Content-Length: 9999999999999999999999999999999999999999||ab => 413 2 
+POST /requests HTTP/1.1|Host: x|Content-Length: 1048577||ab => 413 2 
+POST /requests HTTP/1.1|Host: x|Content-Length: 1048576||ab => 400 - 
+POST /requests HTTP/1.1|Host: x|Content-Length: 5, 5||abcde => 400 - 
+POST /requests HTTP/1.1|Host: x|Content-Length: +5||abcde => 400 - 
+POST /requests HTTP/1.1|Host: x|Content-Length: -5||abcde => 400 - 
+POST /requests HTTP/1.1|Host: x|Content-Length: 5 5||abcde => 400 - 
+POST /requests HTTP/1.1|Host: x|Content-Length:||abcde => 400 - 
+POST /requests HTTP/1.1|Host: x|Content-Length: 5|Content-Length: 5||abcde => 400 - 
+POST /requests HTTP/1.1|Host: x|Content-Length: 0|| => 422 0 command 
+POST /requests HTTP/1.1|Host: x||ab => 411 2 
+";
+
+/// What an input comes to, in words. At 400 it isn't stated what of a bad head is left unread.
+fn told(alloc: Global, input: &[u8]) -> Result<String, Fail> {
+    let outcome = served(alloc, input, false, 1_000);
+    let asked = &outcome.asked;
+    match outcome.served {
+        Ok(Served::Answered(StatusCode::BAD_REQUEST)) => Ok(format!(in alloc; "400 - {asked}")?),
+        Ok(Served::Answered(status)) => {
+            Ok(format!(in alloc; "{} {} {asked}", status.as_u16(), outcome.unread)?)
+        }
+        Ok(Served::Nothing) => Ok(format!(in alloc; "0 {} {asked}", outcome.unread)?),
+        Err(fault) => Ok(format!(in alloc; "{fault:?}")?),
+    }
+}
+
+#[test]
+fn each_head_and_length_comes_to_what_is_stated(rt: HostRuntime) -> Result<(), Fail> {
+    for line in INPUTS.lines() {
+        let Some((input, want)) = line.split_once(" => ") else {
+            return Err(Fail::from("a line without an answer"));
+        };
+        let input_bytes = with_line_ends(rt.alloc(), input)?;
+        assert_eq!(rt;
+            told(rt.alloc(), &input_bytes)?.as_str(),
+            want,
+            "at {input}"
+        );
+    }
+    Ok(())
+}
+
+#[test]
+fn bytes_that_are_no_text_come_to_what_is_stated(rt: HostRuntime) -> Result<(), Fail> {
+    let alloc = rt.alloc();
+    let feeds = b"GET /exceedances HTTP/1.1\nHost: x\n\nmore".as_slice();
+    assert_eq!(rt; told(alloc, feeds)?.as_str(), "200 4 exceedances");
+    let nul = b"GET /exceedances HTTP/1.1\r\nHost: x\0\r\n\r\n".as_slice();
+    assert_eq!(rt; told(alloc, nul)?.as_str(), "400 - ");
+    let no_text = b"GET /crew/\xff HTTP/1.1\r\nHost: x\r\n\r\n".as_slice();
+    assert_eq!(rt; told(alloc, no_text)?.as_str(), "400 - ");
+    Ok(())
+}
+
+/// A head with a field whose value has so many bytes, and so many fields beside it.
+fn head(alloc: Global, length: usize, fields: usize) -> Result<Vec<u8>, Fail> {
+    let mut bytes = with_line_ends(alloc, "GET /exceedances HTTP/1.0|A: ")?;
+    for _ in 0..length {
+        bytes.push(b'a')?;
+    }
+    for _ in 0..fields {
+        bytes.extend_from_slice(b"\r\nB:")?;
+    }
+    bytes.extend_from_slice(b"\r\n\r\n")?;
+    Ok(bytes)
+}
+
+#[test]
+fn a_head_has_at_most_16_384_bytes_and_64_fields(rt: HostRuntime) -> Result<(), Fail> {
+    let alloc = rt.alloc();
+    let around = head(alloc, 0, 0)?.len();
+    for (length, fields, want) in [
+        (16_384usize.saturating_sub(around), 0, "200 0 exceedances"),
+        (16_385usize.saturating_sub(around), 0, "400 - "),
+        (20_000, 0, "400 - "),
+        (1, 63, "200 0 exceedances"),
+        (1, 64, "400 - "),
+    ] {
+        let input = head(alloc, length, fields)?;
+        assert_eq!(rt;
+            told(alloc, &input)?.as_str(),
+            want,
+            "{length} bytes and {fields} fields"
+        );
+    }
+    Ok(())
+}

@@ -1,0 +1,189 @@
+//! Whole exchanges, byte for byte, whole and cut, and over channels that fail.
+use crate::exchanges::Served;
+use crate::sending::ChannelFault;
+use crate::tests::{served, with_line_ends};
+use std::alloc::Global;
+use std::test::Fail;
+
+/// Exchanges, with line ends as `|`: what is sent and, a line below, what is written.
+const EXCHANGES: &str = "\
+GET /exceedances HTTP/1.1|Host: x||
+HTTP/1.1 200 OK|Content-Type: text/plain; charset=utf-8|Content-Length: 14|Connection: close||EXCEEDANCES 0_
+HEAD /exceedances HTTP/1.1|Host: x||
+HTTP/1.1 200 OK|Content-Type: text/plain; charset=utf-8|Content-Length: 14|Connection: close||
+POST /requests HTTP/1.1|Host: x|Content-Length: 47||{\"number\":1,\"do\":\"cancel-ground\",\"ground\":\"G1\"}
+HTTP/1.1 409 Conflict|Content-Type: application/json|Content-Length: 55|Connection: close||{\"name\":\"NoSuchGround\",\"refusal\":15,\"result\":\"refused\"}
+POST /requests HTTP/1.1|Host: x|Content-Length: 47||{\"number\":1,\"do\":\"cancel-ground\",\"ground\":\"G1\"
+HTTP/1.1 400 Bad Request|Content-Type: application/json|Content-Length: 31|Connection: close||{\"result\":\"error\",\"status\":400}
+POST /requests HTTP/1.1|Host: x|Transfer-Encoding: chunked||
+HTTP/1.1 501 Not Implemented|Content-Type: application/json|Content-Length: 31|Connection: close||{\"result\":\"error\",\"status\":501}
+GET /requests HTTP/1.1|Host: x||
+HTTP/1.1 405 Method Not Allowed|Content-Type: application/json|Content-Length: 31|Allow: POST|Connection: close||{\"result\":\"error\",\"status\":405}
+HEAD /requests HTTP/1.1|Host: x||
+HTTP/1.1 405 Method Not Allowed|Content-Type: application/json|Content-Length: 31|Allow: POST|Connection: close||
+PUT /pairings/P1 HTTP/1.1|Host: x||
+HTTP/1.1 405 Method Not Allowed|Content-Type: application/json|Content-Length: 31|Allow: GET, HEAD|Connection: close||{\"result\":\"error\",\"status\":405}
+GET /crew/C9 HTTP/1.1|Host: x||
+HTTP/1.1 404 Not Found|Content-Type: application/json|Content-Length: 52|Connection: close||{\"name\":\"NoSuchCrew\",\"refusal\":2,\"result\":\"refused\"}
+HEAD /crew/C9 HTTP/1.1|Host: x||
+HTTP/1.1 404 Not Found|Content-Type: application/json|Content-Length: 52|Connection: close||
+HEAD /nothing HTTP/1.1|Host: x||
+HTTP/1.1 404 Not Found|Content-Type: application/json|Content-Length: 31|Connection: close||
+POST /requests HTTP/1.1|Host: x||
+HTTP/1.1 411 Length Required|Content-Type: application/json|Content-Length: 31|Connection: close||{\"result\":\"error\",\"status\":411}
+POST /requests HTTP/1.1|Host: x|Content-Length: 1048577||
+HTTP/1.1 413 Payload Too Large|Content-Type: application/json|Content-Length: 31|Connection: close||{\"result\":\"error\",\"status\":413}
+POST /requests HTTP/1.1|Host: x|Content-Length: 0||
+HTTP/1.1 422 Unprocessable Entity|Content-Type: application/json|Content-Length: 65|Connection: close||{\"field\":\"body\",\"name\":\"BadJson\",\"refusal\":31,\"result\":\"refused\"}
+POST /requests HTTP/1.1|Host: x|Expect: 100-CONTINUE|Content-Length: 47||{\"number\":1,\"do\":\"cancel-ground\",\"ground\":\"G1\"}
+HTTP/1.1 100 Continue||HTTP/1.1 409 Conflict|Content-Type: application/json|Content-Length: 55|Connection: close||{\"name\":\"NoSuchGround\",\"refusal\":15,\"result\":\"refused\"}
+POST /requests HTTP/1.1|Host: x|Expect: 100-continue|Content-Length: 5||stor
+HTTP/1.1 100 Continue||HTTP/1.1 400 Bad Request|Content-Type: application/json|Content-Length: 31|Connection: close||{\"result\":\"error\",\"status\":400}
+GET /exceedances HTTP/1.1|Host: x|Expect: 100-continue|Content-Length: 5||
+HTTP/1.1 200 OK|Content-Type: text/plain; charset=utf-8|Content-Length: 14|Connection: close||EXCEEDANCES 0_
+POST /requests HTTP/1.1|Host: x|Expect: 100-continue|Content-Length: 5||store
+HTTP/1.1 100 Continue||HTTP/1.1 503 Service Unavailable|Content-Type: application/json|Content-Length: 48|Connection: close||{\"name\":\"Store\",\"refusal\":90,\"result\":\"refused\"}
+POST /requests HTTP/1.1|Host: x|Content-Length: 6||memory
+HTTP/1.1 503 Service Unavailable|Content-Type: application/json|Content-Length: 49|Connection: close||{\"name\":\"Memory\",\"refusal\":91,\"result\":\"refused\"}
+";
+
+const CONTINUE: &str = "HTTP/1.1 100 Continue||";
+
+const CUT: &str =
+    "HTTP/1.1 400 Bad Request|Content-Type: application/json|Content-Length: 31|Connection: close||{\"result\":\"error\",\"status\":400}";
+
+/// An exchange in bytes.
+#[derive(Drop)]
+struct Sample {
+    sent: Vec<u8>,
+    /// How many bytes of it are the head.
+    head: usize,
+    /// What is written before a body is read.
+    interim: &'static str,
+    written: Vec<u8>,
+}
+
+/// The bytes of an exchange; a `_` at the end of what is written stands for LF.
+fn row(alloc: Global, sent: &str, written: &str) -> Result<Sample, Fail> {
+    let Some((head, _body)) = sent.split_once("||") else {
+        return Err(Fail::from("no head"));
+    };
+    let mut response = with_line_ends(alloc, written)?;
+    if response.last() == Some(&b'_') {
+        response.pop();
+        response.push(b'\n')?;
+    }
+    Ok(Sample {
+        sent: with_line_ends(alloc, sent)?,
+        head: with_line_ends(alloc, head)?.len().saturating_add(4),
+        interim: if written.starts_with(CONTINUE) {
+            CONTINUE
+        } else {
+            ""
+        },
+        written: response,
+    })
+}
+
+/// All exchanges.
+fn rows(alloc: Global) -> Result<Vec<Sample>, Fail> {
+    let mut rows = Vec::new(alloc);
+    let mut lines = EXCHANGES.lines();
+    for _ in 0..100 {
+        let (Some(sent), Some(written)) = (lines.next(), lines.next()) else {
+            break;
+        };
+        rows.push(row(alloc, sent, written)?)?;
+    }
+    Ok(rows)
+}
+
+#[test]
+fn exchanges_byte_for_byte(rt: HostRuntime) -> Result<(), Fail> {
+    for (place, row) in rows(rt.alloc())?.iter().enumerate() {
+        let outcome = served(rt.alloc(), &row.sent, false, 1_000);
+        assert_eq!(rt; outcome.written, row.written, "row {place}");
+        assert_eq!(rt; outcome.unread, 0, "row {place}");
+    }
+    Ok(())
+}
+
+/// What is written of a row that ends after so many bytes.
+fn cut_response(alloc: Global, row: &Sample, length: usize) -> Result<Vec<u8>, Fail> {
+    let mut bytes = interim_response(alloc, row, length)?;
+    if length > 0 {
+        bytes.extend_from_slice(&with_line_ends(alloc, CUT)?)?;
+    }
+    Ok(bytes)
+}
+
+/// What is written of a row before its body is read, if so many bytes of it come.
+fn interim_response(alloc: Global, row: &Sample, length: usize) -> Result<Vec<u8>, Fail> {
+    with_line_ends(alloc, if length < row.head { "" } else { row.interim })
+}
+
+#[test]
+fn a_cut_request_asks_nothing(rt: HostRuntime) -> Result<(), Fail> {
+    let alloc = rt.alloc();
+    for (place, row) in rows(alloc)?.iter().enumerate() {
+        for length in 0..row.sent.len() {
+            let cut = &row.sent[..length];
+            let ended = served(alloc, cut, false, 1_000);
+            assert_eq!(rt;
+                ended.written,
+                cut_response(alloc, row, length)?,
+                "row {place} at {length}"
+            );
+            assert_eq!(rt; ended.served == Ok(Served::Nothing), length == 0);
+            assert_eq!(rt; ended.asked.as_str(), "", "row {place} at {length}");
+            let failed = served(alloc, cut, true, 1_000);
+            assert_eq!(rt;
+                failed.served,
+                Err(ChannelFault::Reader),
+                "row {place} at {length}"
+            );
+            assert_eq!(rt;
+                failed.written,
+                interim_response(alloc, row, length)?,
+                "row {place} at {length}"
+            );
+            assert_eq!(rt; failed.asked.as_str(), "", "row {place} at {length}");
+        }
+    }
+    Ok(())
+}
+
+#[test]
+fn a_failing_writer_has_the_front_of_the_response(rt: HostRuntime) -> Result<(), Fail> {
+    let alloc = rt.alloc();
+    for (place, row) in rows(alloc)?.iter().enumerate() {
+        let whole = served(alloc, &row.sent, false, row.written.len());
+        assert_eq!(rt; whole.written, row.written, "row {place}");
+        let interim = with_line_ends(alloc, row.interim)?.len();
+        for room in 0..row.written.len() {
+            let outcome = served(alloc, &row.sent, false, room);
+            assert_eq!(rt;
+                outcome.served,
+                Err(ChannelFault::Writer),
+                "row {place} at {room}"
+            );
+            if room < interim {
+                assert_eq!(rt; outcome.asked.as_str(), "", "row {place} at {room}");
+            } else {
+                assert_eq!(rt;
+                    outcome.asked.as_str(),
+                    whole.asked.as_str(),
+                    "row {place} at {room}"
+                );
+            }
+            let mut taken = outcome.written;
+            taken.extend_from_slice(&outcome.waiting)?;
+            assert_eq!(rt;
+                taken.as_slice(),
+                &row.written[..room],
+                "row {place} at {room}"
+            );
+        }
+    }
+    Ok(())
+}

@@ -1,0 +1,10 @@
+pub mod Heading
+pub mod Reading
+pub mod Routes
+pub mod Refusals
+pub mod Fields
+pub mod Numbers
+pub mod Target
+pub mod Plan
+pub mod Response
+pub mod Laws

@@ -1,0 +1,110 @@
+-- What a head asks for: each check in its order, the first that applies.
+use Rattle.std.specs.Prelude.{ℕ, Bool, ◌&&◌, ◌||◌, not, List, [], ◌∷◌, length, codes, bytes_eq, if◌then◌else◌, ◌==◌, nat_lt, Option, Some, None}
+use Rattle.std.specs.Str.{is_utf8}
+use Rattle.http_message.specs.Fields.{values, has}
+use Rattle.http_message.specs.Heading.{Heading}
+use Rattle.http_message.specs.Numbers.{length_of, import_number}
+use Rattle.http_message.specs.Routes.{place}
+use Rattle.http_message.specs.Target.{path_of}
+use Rattle.http_message.specs.declared.routes.Route.{Route}
+use Rattle.http_message.specs.declared.routes.Route.TheVariants as route
+use Rattle.http_message.specs.declared.refusals.RequestFault.{RequestFault}
+use Rattle.http_message.specs.declared.refusals.RequestFault.TheVariants.{NotOneHost, TransferCoding, NoResource, NoMethod, NoLength, BadLength, TooLong}
+use Rattle.http_message.specs.declared.refusals.Methods.TheVariants as methods
+use Rattle.http_message.specs.declared.plan.Plan.{Plan}
+use Rattle.http_message.specs.declared.plan.Action.{Action}
+use Rattle.http_message.specs.declared.plan.Action.TheVariants as rust
+use Rattle.http_message.specs.declared.plan.ExpectedBody.{ExpectedBody}
+use Rattle.http_message.specs.declared.plan.Submission.{Submission}
+use Rattle.http_message.specs.declared.plan.Submission.TheVariants.{Command, Import}
+use Rattle.http_message.specs.declared.plan.Report.{Report}
+use Rattle.http_message.specs.declared.plan.Report.TheVariants as report
+
+-- what a report is on: a crew member, a pairing, or all exceedances
+pub data Subject : Type 0 where
+  crew pairing : List ℕ → Subject
+  exceedances : Subject
+
+-- to refuse, to receive a body, or to show a report
+pub data Step : Type 0 where
+  refuse : RequestFault → Step
+  receive : ExpectedBody → Step
+  show : Subject → Step
+
+pub record Planned : Type 0 where
+  pub is_head : Bool
+  pub step : Step
+
+module _ (h : Heading) where
+  abbrev pub is_method : List ℕ → Bool
+  is_method name = bytes_eq h.method name
+
+  -- the values of the fields of this name
+  abbrev pub field : List ℕ → List (List ℕ)
+  field name = values name h.fields
+
+  -- ---- the method, the length and the expectation
+
+  abbrev pub shown : Subject → Step
+  shown what = if is_method (codes "GET") || is_method (codes "HEAD") then show what else refuse (NoMethod methods.GetAndHead)
+
+  abbrev pub continues : ℕ → Bool
+  continues n = h.minor == 1 && (nat_lt 0 n && has (codes "100-continue") (field (codes "expect")))
+
+  abbrev pub with_length : Submission → Option ℕ → Step
+  with_length to None = refuse BadLength
+  with_length to (Some n) = if nat_lt 1_048_576 n then refuse TooLong else receive (record { to = to; length = n; continues = continues n })
+
+  abbrev pub with_lengths : Submission → List (List ℕ) → Step
+  with_lengths to [] = refuse NoLength
+  with_lengths to (value ∷ []) = with_length to (length_of value)
+  with_lengths to (value ∷ other ∷ more) = refuse BadLength
+
+  abbrev pub posted : Submission → Step
+  posted to = if is_method (codes "POST") then with_lengths to (field (codes "content-length")) else refuse (NoMethod methods.Post)
+
+  -- ---- the path
+
+  abbrev pub imported : Option ℕ → Step
+  imported None = refuse NoResource
+  imported (Some number) = posted (Import number)
+
+  abbrev pub at_place : Option (Route × List ℕ) → Step
+  at_place None = refuse NoResource
+  at_place (Some (route.Requests, id)) = posted Command
+  at_place (Some (route.Import, id)) = imported (import_number id)
+  at_place (Some (route.Crew, id)) = shown (crew id)
+  at_place (Some (route.Pairing, id)) = shown (pairing id)
+  at_place (Some (route.Exceedances, id)) = shown exceedances
+
+  abbrev pub at_path : List ℕ → Step
+  at_path path = if is_utf8 path then at_place (place path) else refuse NoResource
+
+  -- ---- from the first check on: the host, a transfer coding, the path
+
+  abbrev pub lacks_host : Bool
+  lacks_host = h.minor == 1 && not (length (field (codes "host")) == 1)
+
+  abbrev pub checked : Step
+  checked =
+      if lacks_host then refuse NotOneHost
+      else (if nat_lt 0 (length (field (codes "transfer-encoding"))) then refuse TransferCoding
+      else at_path (path_of h.target))
+
+  abbrev pub plan : Planned
+  plan = record { is_head = is_method (codes "HEAD"); step = checked }
+
+-- ---- as the program holds it
+
+abbrev pub subject : Report → Subject
+subject (report.Crew id) = crew id.now
+subject (report.Pairing id) = pairing id.now
+subject report.Exceedances = exceedances
+
+abbrev pub step : Action → Step
+step (rust.Refuse fault) = refuse fault
+step (rust.Receive expected) = receive expected
+step (rust.Show what) = show (subject what)
+
+abbrev pub planned : Plan → Planned
+planned p = record { is_head = p.is_head; step = step p.action }

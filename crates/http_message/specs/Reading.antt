@@ -1,0 +1,60 @@
+-- What a reader has where a head is looked for.
+use Rattle.std.specs.Prelude.{◌≡◌, ◌≤◌, ◌<◌, ⊤, ℕ, Bool, ◌||◌, ◌==◌, List, [], drop, length, Option, Some, None}
+use Rattle.httparse.specs.Grammar.{RequestHead, ReadsRequest, HasNoRequest, print_request}
+use Rattle.httparse.specs.Spans.{IsRequestAt, IsRequestWithin, RequestOverflows}
+use Rattle.httparse.specs.declared.spans.HeaderSpan.{HeaderSpan}
+use Rattle.http_message.specs.declared.reading.Parsed.{Parsed}
+use Rattle.http_message.specs.declared.reading.Parsed.TheVariants as parsed
+use Rattle.http_message.specs.Heading.{Heading, heading}
+use Rattle.http_message.specs.declared.reading.HeadRead.{HeadRead}
+use Rattle.http_message.specs.declared.reading.HeadRead.TheVariants.{Nothing, NoHead, Whole}
+use Rattle.http_message.specs.declared.reading.ReadFault.{ReadFault}
+use Rattle.http_message.specs.declared.reading.ReadFault.TheVariants.{Memory, Reader}
+
+-- the input begins with this head, which isn't too long, and goes on with the rest
+pub record HasHead (input : List ℕ) (h : RequestHead) (rest : List ℕ) : Type 0 where
+  pub reads : ReadsRequest input h rest
+  pub short : length (print_request h) ≤ 16_384
+  pub few : length h.fields ≤ 64
+
+-- it begins with no whole head
+abbrev pub HasNoHead : List ℕ → Type 0
+HasNoHead input = (h : RequestHead) (rest : List ℕ) → ¬ (HasHead input h rest)
+
+-- it begins with a head of these parts, and what stands after it is left
+abbrev pub IsReadWhole : Option (List ℕ) → Option (List ℕ) → Heading → Type 0
+IsReadWhole None left head = ⊤
+IsReadWhole (Some input) left head = (h : RequestHead) × (rest : List ℕ) × HasHead input h rest × (head ≡ heading h) × (left ≡ Some rest)
+
+abbrev pub IsReadBad : Option (List ℕ) → Type 0
+IsReadBad None = ⊤
+IsReadBad (Some input) = (0 < length input) × HasNoHead input
+
+abbrev pub IsReadEmpty : Option (List ℕ) → Type 0
+IsReadEmpty None = ⊤
+IsReadEmpty (Some input) = input ≡ []
+
+-- what a reader had and has left, where that is known
+abbrev pub IsRead : Option (List ℕ) → Option (List ℕ) → HeadRead → Type 0
+IsRead had left Nothing = IsReadEmpty had
+IsRead had left NoHead = IsReadBad had
+IsRead had left (Whole head) = IsReadWhole had left head
+
+-- where there was no memory, one byte was read
+abbrev pub IsUnread : ReadFault → Option (List ℕ) → Option (List ℕ) → Type 0
+IsUnread Memory None left = ⊤
+IsUnread Memory (Some input) left = (0 < length input) × (left ≡ Some (drop 1 input))
+IsUnread Reader had left = ⊤
+
+-- ---- what the reading of a head tells itself
+
+-- CR or LF
+abbrev pub is_line_end : ℕ → Bool
+is_line_end byte = byte == 13 || byte == 10
+
+-- the bytes are a head and what follows it, no head yet, or never one of at most 64 fields
+abbrev pub IsParsed : List ℕ → List HeaderSpan → Parsed → Type 0
+IsParsed bytes fields (parsed.Whole spans) =
+    (h : RequestHead) × IsRequestAt bytes fields spans h × IsRequestWithin bytes fields spans
+IsParsed bytes fields parsed.Unfinished = HasNoRequest bytes
+IsParsed bytes fields parsed.Hopeless = RequestOverflows 64 bytes

@@ -1,0 +1,59 @@
+-- The resources of a book, by their paths.
+use Rattle.std.specs.Prelude.{ℕ, Bool, false, not, List, [], ◌∷◌, ◌++◌, codes, bytes_eq, if◌then◌else◌, ◌==◌, Option, Some, None, option_map}
+use Rattle.std.specs.List.{list_any}
+use Rattle.matchit.specs.Rows.{RowsOf}
+use Rattle.matchit.specs.Router.{RouteOf}
+use Rattle.http_message.specs.declared.routes.Route.{Route}
+use Rattle.http_message.specs.declared.routes.Route.TheVariants.{Requests, Import, Crew, Pairing, Exceedances}
+
+-- an id in a path is one or more bytes without a slash
+abbrev pub is_id : List ℕ → Bool
+is_id [] = false
+is_id (b ∷ id) = not (list_any (λ b. b == 47) (b ∷ id))
+
+-- the id that follows these bytes
+abbrev pub id_after : List ℕ → List ℕ → Option (List ℕ)
+id_after [] path = if is_id path then Some path else None
+id_after (a ∷ front) [] = None
+id_after (a ∷ front) (b ∷ path) = if a == b then id_after front path else None
+
+abbrev pub first_of : {A : Type 0} → Option A → Option A → Option A
+first_of (Some a) other = Some a
+first_of None other = other
+
+-- the path is these bytes
+abbrev pub exactly : List ℕ → List ℕ → Option (List ℕ)
+exactly name path = if bytes_eq name path then Some [] else None
+
+-- the resource with its id, by the paths of the table
+abbrev pub at : Route → Option (List ℕ) → Option (Route × List ℕ)
+at route id = option_map (λ id. (route, id)) id
+
+abbrev pub place : List ℕ → Option (Route × List ℕ)
+place path =
+    first_of (at Requests (exactly (codes "/requests") path))
+    (first_of (at Import (id_after (codes "/imports/") path))
+    (first_of (at Crew (id_after (codes "/crew/") path))
+    (first_of (at Pairing (id_after (codes "/pairings/") path))
+    (at Exceedances (exactly (codes "/exceedances") path)))))
+
+-- ---- What the router says to itself
+
+abbrev pub prefix_len : Route → ℕ
+prefix_len Requests = 9
+prefix_len Import = 9
+prefix_len Crew = 6
+prefix_len Pairing = 10
+prefix_len Exceedances = 12
+
+abbrev pub row : List ℕ → List ℕ → List (ℕ × ℕ) → Route → List ℕ × RouteOf Route
+row pattern text names route = (pattern, record { pattern = pattern; text = text; names = names; value = route })
+
+abbrev pub table : RowsOf (RouteOf Route)
+table =
+    row (codes "/crew/" ++ 256 ∷ []) (codes "/crew/{id}") ((7, 9) ∷ []) Crew
+    ∷ row (codes "/exceedances") (codes "/exceedances") [] Exceedances
+    ∷ row (codes "/imports/" ++ 256 ∷ []) (codes "/imports/{number}") ((10, 16) ∷ []) Import
+    ∷ row (codes "/pairings/" ++ 256 ∷ []) (codes "/pairings/{id}") ((11, 13) ∷ []) Pairing
+    ∷ row (codes "/requests") (codes "/requests") [] Requests
+    ∷ []

@@ -1,0 +1,82 @@
+//! Numbers in a head, which are plain decimals (RFC 9110, section 8.6).
+ghost use Rattle.std.specs.Prelude.{◌≡◌, min, true};
+ghost use Rattle.std.specs.Char.{is_ascii_digit};
+ghost use Rattle.std.specs.List.{list_all};
+ghost use Rattle.std.specs.Str.Parse.{digits_value};
+ghost use Rattle.http_message.specs.Numbers as spec;
+
+/// The most bytes of a body.
+pub(crate) const MOST_BODY: usize = 1_048_576;
+
+/// The length that a field's value tells, up to one byte more than a body may have.
+pub(crate) fn length_of(value: &[u8]) -> Option<usize>
+    ensures { result ≡ spec.length_of value.now }
+{
+    if is_number(value) {
+        Some(saturated(value))
+    } else {
+        None
+    }
+}
+
+/// One decimal digit or more.
+fn is_number(text: &[u8]) -> bool
+    ensures { result ≡ spec.is_number text.now }
+{
+    !text.is_empty() && are_digits(text)
+}
+
+/// Whether each byte is a decimal digit.
+fn are_digits(text: &[u8]) -> bool
+    ensures { result ≡ list_all is_ascii_digit text.now }
+{
+    text.iter().all(|b| is_digit(*b))
+}
+
+/// Whether a byte is a decimal digit.
+fn is_digit(byte: u8) -> bool
+    ensures { result ≡ is_ascii_digit byte }
+{
+    byte.is_ascii_digit()
+}
+
+/// The number of these digits, up to one byte more than a body may have.
+fn saturated(text: &[u8]) -> usize
+    requires { spec.is_number text.now ≡ true }
+    ensures { result ≡ min (digits_value 10 text.now) 1_048_577 }
+{
+    let mut number = 0usize;
+    for digit in text {
+        number = (number * 10 + usize::from(digit.wrapping_sub(b'0'))).min(MOST_BODY + 1);
+    }
+    number
+}
+
+/// The number of an import in a path.
+pub(crate) fn import_number(text: &[u8]) -> Option<u64>
+    ensures { result ≡ spec.import_number text.now }
+{
+    if !is_number(text) || text[0] == b'0' {
+        return None;
+    }
+    let number = saturated_long(text);
+    if number <= 9_223_372_036_854_775_807 {
+        Some(number)
+    } else {
+        None
+    }
+}
+
+/// The number of these digits, up to the greatest of its type.
+fn saturated_long(text: &[u8]) -> u64
+    requires { spec.is_number text.now ≡ true }
+    ensures { result ≡ min (digits_value 10 text.now) 18_446_744_073_709_551_615 }
+{
+    let mut number = 0u64;
+    for digit in text {
+        number = number
+            .saturating_mul(10)
+            .saturating_add(u64::from(digit.wrapping_sub(b'0')));
+    }
+    number
+}

@@ -1,0 +1,163 @@
+//! A response as bytes.
+ghost use Rattle.std.specs.Prelude.{◌≡◌, ◌++◌, IfOk, string_bytes};
+ghost use Rattle.http_message.specs.Response as spec;
+
+use crate::refusals::{Methods, RequestFault};
+use http::StatusCode;
+use std::alloc::Global;
+use values::MemoryFault;
+
+/// The interim response that asks for a body (RFC 9110, section 15.2.1).
+pub const CONTINUE: &[u8] = b"HTTP/1.1 100 Continue\r\n\r\n";
+
+/// What a text is (RFC 9110, section 8.3).
+#[derive(Clone, Copy, Debug, PartialEq, Eq)]
+pub enum MediaType {
+    /// JSON.
+    Json,
+    /// A report.
+    PlainText,
+}
+
+/// A response with a text, which to `HEAD` is left out.
+pub fn response(
+    alloc: Global,
+    status: StatusCode,
+    media_type: MediaType,
+    text: &str,
+    is_head: bool,
+) -> Result<String, MemoryFault>
+    ensures { IfOk result (λ it. string_bytes it ≡ spec.response status media_type text.now is_head) }
+{
+    message(alloc, status, media_type, None, text, is_head)
+}
+
+/// The response to a request that is refused: its status, in JSON too.
+pub fn fault_response(
+    alloc: Global,
+    fault: RequestFault,
+    is_head: bool,
+) -> Result<String, MemoryFault>
+    ensures { IfOk result (λ it. string_bytes it ≡ spec.fault_response fault is_head) }
+{
+    let status = fault.status();
+    let text = fault_text(alloc, status.as_u16())?;
+    message(
+        alloc,
+        status,
+        MediaType::Json,
+        fault.allow(),
+        &text,
+        is_head,
+    )
+}
+
+/// The response where no memory is left, which takes none.
+pub fn no_memory_response(is_head: bool) -> &'static [u8]
+    ensures { result.now ≡ spec.no_memory is_head }
+{
+    if is_head {
+        b"HTTP/1.1 503 Service Unavailable\r\nContent-Type: application/json\r\nContent-Length: 49\r\nConnection: close\r\n\r\n"
+    } else {
+        b"HTTP/1.1 503 Service Unavailable\r\nContent-Type: application/json\r\nContent-Length: 49\r\nConnection: close\r\n\r\n{\"name\":\"Memory\",\"refusal\":91,\"result\":\"refused\"}"
+    }
+}
+
+/// The response where the store failed, which takes no memory either: for want of it 91 would be told of a store that failed.
+pub fn no_store_response(is_head: bool) -> &'static [u8]
+    ensures { result.now ≡ spec.no_store is_head }
+{
+    if is_head {
+        b"HTTP/1.1 503 Service Unavailable\r\nContent-Type: application/json\r\nContent-Length: 48\r\nConnection: close\r\n\r\n"
+    } else {
+        b"HTTP/1.1 503 Service Unavailable\r\nContent-Type: application/json\r\nContent-Length: 48\r\nConnection: close\r\n\r\n{\"name\":\"Store\",\"refusal\":90,\"result\":\"refused\"}"
+    }
+}
+
+/// Head and text of a response.
+fn message(
+    alloc: Global,
+    status: StatusCode,
+    media_type: MediaType,
+    allow: Option<Methods>,
+    text: &str,
+    is_head: bool,
+) -> Result<String, MemoryFault>
+    ensures { IfOk result (λ it. string_bytes it ≡ spec.message status media_type allow text.now is_head) }
+{
+    let mut out = head(alloc, status, media_type, allow, text.len())?;
+    if !is_head {
+        out.push_str(text)?;
+    }
+    Ok(out)
+}
+
+/// The head of a response to a text of so many bytes.
+fn head(
+    alloc: Global,
+    status: StatusCode,
+    media_type: MediaType,
+    allow: Option<Methods>,
+    length: usize,
+) -> Result<String, MemoryFault>
+    ensures { IfOk result (λ it. string_bytes it ≡ spec.head status media_type allow length) }
+{
+    let mut out = status_line(alloc, status)?;
+    out.push_str(type_line(media_type))?;
+    out.push_str(&length_line(alloc, length)?)?;
+    out.push_str(allow_line(allow))?;
+    out.push_str(close_line())?;
+    Ok(out)
+}
+
+/// The status with its phrase (RFC 9112, section 4).
+#[tactic(auto, unfolding(crate::specs::Response::status_line))]
+fn status_line(alloc: Global, status: StatusCode) -> Result<String, MemoryFault>
+    ensures { IfOk result (λ it. string_bytes it ≡ spec.status_line status) }
+{
+    Ok(format!(in alloc; "HTTP/1.1 {status}\r\n")?)
+}
+
+#[tactic(auto, unfolding(crate::specs::Response::type_line))]
+fn type_line(media_type: MediaType) -> &'static str
+    ensures { result.now ≡ spec.type_line media_type }
+{
+    match media_type {
+        MediaType::Json => "Content-Type: application/json\r\n",
+        MediaType::PlainText => "Content-Type: text/plain; charset=utf-8\r\n",
+    }
+}
+
+#[tactic(auto, unfolding(crate::specs::Response::length_line))]
+fn length_line(alloc: Global, length: usize) -> Result<String, MemoryFault>
+    ensures { IfOk result (λ it. string_bytes it ≡ spec.length_line length) }
+{
+    Ok(format!(in alloc; "Content-Length: {length}\r\n")?)
+}
+
+#[tactic(auto, unfolding(crate::specs::Response::allow_line))]
+fn allow_line(allow: Option<Methods>) -> &'static str
+    ensures { result.now ≡ spec.allow_line allow }
+{
+    match allow {
+        None => "",
+        Some(Methods::Post) => "Allow: POST\r\n",
+        Some(Methods::GetAndHead) => "Allow: GET, HEAD\r\n",
+    }
+}
+
+/// The last field, and the empty line that ends the head.
+#[tactic(auto, unfolding(crate::specs::Response::close_line))]
+fn close_line() -> &'static str
+    ensures { result.now ≡ spec.close_line ++ spec.crlf }
+{
+    "Connection: close\r\n\r\n"
+}
+
+/// The text that tells a status in JSON.
+#[tactic(auto, unfolding(crate::specs::Response::fault_text))]
+fn fault_text(alloc: Global, status: u16) -> Result<String, MemoryFault>
+    ensures { IfOk result (λ it. string_bytes it ≡ spec.fault_text status) }
+{
+    Ok(format!(in alloc; "{{\"result\":\"error\",\"status\":{status}}}")?)
+}

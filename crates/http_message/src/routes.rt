@@ -1,0 +1,71 @@
+//! The resources of a book, by their paths.
+ghost use Rattle.std.specs.Prelude.{◌≡◌, ◌≤◌, IfOk, drop, length, option_map};
+ghost use Rattle.http_message.specs.Routes as spec;
+
+use matchit::{InsertError, Router};
+use std::alloc::Global;
+use values::MemoryFault;
+
+/// What a path names.
+#[derive(Clone, Copy, PartialEq, Eq)]
+pub enum Route {
+    /// Commands.
+    Requests,
+    /// The import of a number.
+    Import,
+    /// A member's roster.
+    Crew,
+    /// A pairing.
+    Pairing,
+    /// The exceedances.
+    Exceedances,
+}
+
+/// What a path names, and the id or the number in it.
+pub fn route_of<'p>(alloc: Global, path: &'p str) -> Result<Option<(Route, &'p [u8])>, MemoryFault>
+    ensures { IfOk result (λ it. option_map (λ found. (found.0, found.1.now)) it ≡ spec.place path.now) }
+{
+    let Ok(router) = router(alloc) else {
+        return Err(MemoryFault);
+    };
+    let Ok(found) = router.at(path) else {
+        return Ok(None);
+    };
+    let route = *found.value;
+    Ok(Some((route, id_of(route, path))))
+}
+
+/// What stands in the path of a resource after its name.
+fn id_of(route: Route, path: &str) -> &[u8]
+    requires { spec.prefix_len route ≤ length path.now }
+    ensures { result.now ≡ drop (spec.prefix_len route) path.now }
+{
+    let name = prefix_len(route);
+    &path.as_bytes()[name..]
+}
+
+/// How long the path of a resource is before its id.
+fn prefix_len(route: Route) -> usize
+    ensures { result ≡ spec.prefix_len route }
+{
+    match route {
+        Route::Requests => "/requests".len(),
+        Route::Import => "/imports/".len(),
+        Route::Crew => "/crew/".len(),
+        Route::Pairing => "/pairings/".len(),
+        Route::Exceedances => "/exceedances".len(),
+    }
+}
+
+/// The table of the resources.
+fn router(alloc: Global) -> Result<Router<Route>, InsertError>
+    ensures { IfOk result (λ router. router ≡ spec.table) }
+{
+    let mut router = Router::new(alloc);
+    router.insert("/requests", Route::Requests)?;
+    router.insert("/imports/{number}", Route::Import)?;
+    router.insert("/crew/{id}", Route::Crew)?;
+    router.insert("/pairings/{id}", Route::Pairing)?;
+    router.insert("/exceedances", Route::Exceedances)?;
+    Ok(router)
+}
