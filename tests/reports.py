@@ -5,7 +5,8 @@
 
 A case is a few lines, which tests/office.py has, each of which has to be accepted, on a book of the captain C1 and the first
 officer F1; and what `roster`, `pairing` and `exceedances` then print, by their words. No report may change a byte of the book's
-file, nor of what its log holds. What differs is told on standard error. The last line is 'N passed, M failed', and the exit status 1 where M isn't 0.
+file, nor of what its log holds. What differs is told on standard error. The last line is 'N passed, M failed', and the exit
+status 1 where M isn't 0.
 """
 
 import sqlite3
@@ -14,7 +15,7 @@ import tempfile
 from contextlib import closing
 from pathlib import Path
 
-from office import Book, Ran, build, compact, order, rosterbook, told
+from office import Book, Ran, build, order, rosterbook, told
 
 # A log with a frame has its header's 32 bytes, the frame's 24 and a page. One without is written anew where a book is opened.
 WITH_A_FRAME = 32 + 24 + 4096
