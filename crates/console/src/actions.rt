@@ -52,4 +52,13 @@ pub enum Action {
         /// The path of the book's file.
         file: String,
     },
+    /// `serve FILE PORT --connections N`: answer requests of HTTP on 127.0.0.1.
+    Serve {
+        /// The path of the book's file.
+        file: String,
+        /// The port that is listened on, from 1 to 65,535.
+        port: u16,
+        /// How many connections are served, one after the other: 1 to 1,000,000.
+        connections: u32,
+    },
 }
