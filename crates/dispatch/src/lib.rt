@@ -9,6 +9,8 @@ mod asking;
 #[cfg(test)]
 mod contents;
 #[cfg(test)]
+mod exchanges;
+#[cfg(test)]
 mod fault;
 #[cfg(test)]
 mod importing;

@@ -30,37 +30,37 @@ answer_told_after : (front : List ℕ) (out mid out' : Held) (code : ℕ) (answe
 answer_told_after front out mid out' code (Ok a) is_head first told = told_after front out mid out' code (of_answer (Ok a) is_head) is_head first told
 answer_told_after front out mid out' code (Err fault) is_head first sent = (sent.0, Appends-trans out mid out' front (of_answer (Err fault) is_head).bytes first sent.1)
 
-module _ {H : Type 0} (handles : H → H → Asked → Result Answer HandlerFault → Type 0) where
-  may_stay : (a : Result Asked RequestFault) (old : H) → MayHaveAsked handles a old old
+module _ {K : Type 0} (handles : K → K → Asked → Result Answer HandlerFault → Type 0) where
+  may_stay : (a : Result Asked RequestFault) (old : K) → MayHaveAsked handles a old old
   may_stay (Ok asked) old = inl refl
   may_stay (Err fault) old = refl
 
-  unasked_broken : (p : Planned) (had : Held) (old : H) (fault : ChannelFault) → BreaksOff handles p had old old fault
+  unasked_broken : (p : Planned) (had : Held) (old : K) (fault : ChannelFault) → BreaksOff handles p had old old fault
   unasked_broken p had old Reader = refl
   unasked_broken p None old Writer = tt
   unasked_broken p (Some rest) old Writer = may_stay (asks p.step rest) old
 
-  pub unasked : (p : Planned) (had : Held) (old : H) (r : Result ℕ ChannelFault) → IfErr r (λ fault. BreaksOff handles p had old old fault)
+  pub unasked : (p : Planned) (had : Held) (old : K) (r : Result ℕ ChannelFault) → IfErr r (λ fault. BreaksOff handles p had old old fault)
   unasked p had old (Ok code) = tt
   unasked p had old (Err fault) = unasked_broken p had old fault
 
   -- ---- a head
 
-  pub refused : (fault : RequestFault) (is_head : Bool) (had out out' : Held) (old : H) (r : Result ℕ ChannelFault)
+  pub refused : (fault : RequestFault) (is_head : Bool) (had out out' : Held) (old : K) (r : Result ℕ ChannelFault)
       → OrFails r (λ code. IsTold [] out out' code (of_fault fault is_head) is_head)
       → IfOk r (λ code. Answers handles (record { is_head = is_head; step = refuse fault }) had had out out' old old code)
   refused fault is_head had out out' old (Err e) told = tt
   refused fault is_head None out out' old (Ok code) told = tt
   refused fault is_head (Some rest) out out' old (Ok code) told = inl (record { left_is = refl; settled = (refl, told) })
 
-  pub shown : (what : Subject) (is_head : Bool) (had out out' : Held) (old new : H) (r : Result ℕ ChannelFault)
+  pub shown : (what : Subject) (is_head : Bool) (had out out' : Held) (old new : K) (r : Result ℕ ChannelFault)
       → IsAsked handles (show what) out out' old new is_head r
       → IfOk r (λ code. Answers handles (record { is_head = is_head; step = planning.show what }) had had out out' old new code)
   shown what is_head had out out' old new (Err e) asked = tt
   shown what is_head None out out' old new (Ok code) asked = tt
   shown what is_head (Some rest) out out' old new (Ok code) asked = inl (record { left_is = refl; settled = asked })
 
-  pub shown_broken : (what : Subject) (is_head : Bool) (had out out' : Held) (old new : H) (r : Result ℕ ChannelFault)
+  pub shown_broken : (what : Subject) (is_head : Bool) (had out out' : Held) (old new : K) (r : Result ℕ ChannelFault)
       → IsAsked handles (show what) out out' old new is_head r
       → IfErr r (λ fault. BreaksOff handles (record { is_head = is_head; step = planning.show what }) had old new fault)
   shown_broken what is_head had out out' old new (Ok code) asked = tt
@@ -68,10 +68,10 @@ module _ {H : Type 0} (handles : H → H → Asked → Result Answer HandlerFaul
   shown_broken what is_head None out out' old new (Err Writer) asked = tt
   shown_broken what is_head (Some rest) out out' old new (Err Writer) asked = inr (asked.0, asked.1)
 
-  pub asked_once : (asked : Asked) (out out' : Held) (old new : H) (is_head : Bool) (r : Result ℕ ChannelFault) → IsAsked handles asked out out' old new is_head r → AsksOnce handles old new
+  pub asked_once : (asked : Asked) (out out' : Held) (old new : K) (is_head : Bool) (r : Result ℕ ChannelFault) → IsAsked handles asked out out' old new is_head r → AsksOnce handles old new
   asked_once asked out out' old new is_head r it = inr (asked, (it.0, it.1))
 
-  pub short : (p : Planned) (had out out' : Held) (old : H) (r : Result ℕ ChannelFault)
+  pub short : (p : Planned) (had out out' : Held) (old : K) (r : Result ℕ ChannelFault)
       → OrFails r (λ code. IsSent [] out out' code (of_no_memory p.is_head))
       → IfOk r (λ code. Answers handles p had had out out' old old code)
   short p had out out' old (Err e) sent = tt
@@ -87,7 +87,7 @@ module _ {H : Type 0} (handles : H → H → Asked → Result Answer HandlerFaul
     cut_asks : (rest : List ℕ) → length rest < expected.length → asks (receive expected) rest ≡ Err CutBody
     cut_asks rest few = let e : nat_lt (length rest) expected.length ≡ true = grind (arith, nat_tests) in rw e refl
 
-    pub taken : (had left out mid out' : Held) (old new : H) (body : List ℕ) (r : Result ℕ ChannelFault)
+    pub taken : (had left out mid out' : Held) (old new : K) (body : List ℕ) (r : Result ℕ ChannelFault)
         → Appends out mid (interim_bytes expected.continues) → IsWholeAt expected.length had left body → IsAsked handles (submit expected.to body) mid out' old new is_head r
         → IfOk r (λ code. Answers handles (receiving expected is_head) had left out out' old new code)
     taken had left out mid out' old new body (Err e) first whole asked = tt
@@ -101,7 +101,7 @@ module _ {H : Type 0} (handles : H → H → Asked → Result Answer HandlerFaul
           settled = subst (λ a. IsSettled handles a front is_head out out' old new code) (sym (whole_asks rest whole.0)) (asked.0, handled, told);
         })
 
-    pub taken_broken : (had left mid out' : Held) (old new : H) (body : List ℕ) (r : Result ℕ ChannelFault)
+    pub taken_broken : (had left mid out' : Held) (old new : K) (body : List ℕ) (r : Result ℕ ChannelFault)
         → IsWholeAt expected.length had left body → IsAsked handles (submit expected.to body) mid out' old new is_head r
         → IfErr r (λ fault. BreaksOff handles (receiving expected is_head) had old new fault)
     taken_broken had left mid out' old new body (Ok code) whole asked = tt
@@ -111,7 +111,7 @@ module _ {H : Type 0} (handles : H → H → Asked → Result Answer HandlerFaul
         let handled = subst (λ body. handles old new (submit expected.to body) asked.0) whole.1 asked.1 in
         subst (λ a. MayHaveAsked handles a old new) (sym (whole_asks rest whole.0)) (inr (asked.0, handled))
 
-    pub cut : (had left out mid out' : Held) (old : H) (r : Result ℕ ChannelFault)
+    pub cut : (had left out mid out' : Held) (old : K) (r : Result ℕ ChannelFault)
         → Appends out mid (interim_bytes expected.continues) → IsCutAt expected.length had left → OrFails r (λ code. IsTold [] mid out' code (of_fault CutBody is_head) is_head)
         → IfOk r (λ code. Answers handles (receiving expected is_head) had left out out' old old code)
     cut had left out mid out' old (Err e) first short told = tt
@@ -125,24 +125,24 @@ module _ {H : Type 0} (handles : H → H → Asked → Result Answer HandlerFaul
 
   -- ---- an input
 
-  pub nothing : (had left out : Held) (old : H) → reading.IsReadEmpty had → IsServed handles had left out out old old Nothing
+  pub nothing : (had left out : Held) (old : K) → reading.IsReadEmpty had → IsServed handles had left out out old old Nothing
   nothing None left out old is = tt
   nothing (Some input) left out old is = (is, refl, refl)
 
-  pub no_head : (had left out out' : Held) (old : H) (code : ℕ) → reading.IsReadBad had → IsTold [] out out' code (of_fault NoHead false) false
+  pub no_head : (had left out out' : Held) (old : K) (code : ℕ) → reading.IsReadBad had → IsTold [] out out' code (of_fault NoHead false) false
       → IsServed handles had left out out' old old (Answered code)
   no_head None left out out' old code none told = tt
   no_head (Some input) left out out' old code none told = (none.0, inl (none.1, (refl, told)))
 
   -- what was read of the input, and what was answered to it
-  pub served : (had mid left out out' : Held) (old new : H) (head : Heading) (code : ℕ) → reading.IsReadWhole had mid head → Answers handles (plan head) mid left out out' old new code
+  pub served : (had mid left out out' : Held) (old new : K) (head : Heading) (code : ℕ) → reading.IsReadWhole had mid head → Answers handles (plan head) mid left out out' old new code
       → IsServed handles had left out out' old new (Answered code)
   served None mid left out out' old new head code is answers = tt
   served (Some input) mid left out out' old new head code (h, rest, has, is, there) answers =
       let after = subst (λ m. Answers handles (plan head) m left out out' old new code) there answers in
       (has_byte input h rest has.reads, inr (inl (h, rest, has, subst (λ head. Answers handles (plan head) (Some rest) left out out' old new code) is after)))
 
-  pub broken_off : (had mid : Held) (old new : H) (head : Heading) (fault : ChannelFault) → reading.IsReadWhole had mid head → BreaksOff handles (plan head) mid old new fault
+  pub broken_off : (had mid : Held) (old new : K) (head : Heading) (fault : ChannelFault) → reading.IsReadWhole had mid head → BreaksOff handles (plan head) mid old new fault
       → IsBrokenOff handles had old new fault
   broken_off had mid old new head Reader is breaks = breaks
   broken_off None mid old new head Writer is breaks = tt
@@ -150,12 +150,12 @@ module _ {H : Type 0} (handles : H → H → Asked → Result Answer HandlerFaul
       let after = subst (λ m. BreaksOff handles (plan head) m old new Writer) there breaks in
       inr (h, rest, has, subst (λ head. MayHaveAsked handles (asks (plan head).step rest) old new) is after)
 
-  pub without_memory : (had left out out' : Held) (old : H) (code : ℕ) → reading.IsUnread Memory had left → IsSent [] out out' code (of_no_memory false)
+  pub without_memory : (had left out out' : Held) (old : K) (code : ℕ) → reading.IsUnread Memory had left → IsSent [] out out' code (of_no_memory false)
       → IsServed handles had left out out' old old (Answered code)
   without_memory None left out out' old code is sent = tt
   without_memory (Some input) left out out' old code is sent = (is.0, inr (inr (record { left_is = is.1; unasked = refl; sent = sent })))
 
-  pub unasked_off : (had : Held) (old : H) (fault : ChannelFault) → IsBrokenOff handles had old old fault
+  pub unasked_off : (had : Held) (old : K) (fault : ChannelFault) → IsBrokenOff handles had old old fault
   unasked_off had old Reader = refl
   unasked_off None old Writer = tt
   unasked_off (Some input) old Writer = inl refl

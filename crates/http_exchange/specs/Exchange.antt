@@ -50,42 +50,42 @@ receiving expected is_head = record { is_head = is_head; step = receive expected
 abbrev pub Held : Type 0
 Held = Option (List ℕ)
 
-module _ {H : Type 0} (handles : H → H → Asked → Result Answer HandlerFault → Type 0) where
-  -- the handler was asked this
-  abbrev pub WasAsked : Asked → H → H → Type 0
+module _ {K : Type 0} (handles : K → K → Asked → Result Answer HandlerFault → Type 0) where
+  -- the handler was asked this, by what was kept before and after
+  abbrev pub WasAsked : Asked → K → K → Type 0
   WasAsked asked old new = (answer : Result Answer HandlerFault) × handles old new asked answer
 
-  -- it was asked nothing, and is as it was, or it was asked one thing
-  abbrev pub AsksOnce : H → H → Type 0
+  -- it was asked nothing, and what is kept is as it was, or it was asked one thing
+  abbrev pub AsksOnce : K → K → Type 0
   AsksOnce old new = (new ≡ old) ⊎ ((asked : Asked) × WasAsked asked old new)
 
   -- what a request asks for was asked, and what was answered is written after the interim response; or it asks for nothing, and its
   -- refusal is
-  abbrev pub IsSettled : Result Asked RequestFault → List ℕ → Bool → Held → Held → H → H → ℕ → Type 0
+  abbrev pub IsSettled : Result Asked RequestFault → List ℕ → Bool → Held → Held → K → K → ℕ → Type 0
   IsSettled (Err fault) front is_head out out' old new code = (new ≡ old) × IsTold front out out' code (of_fault fault is_head) is_head
   IsSettled (Ok asked) front is_head out out' old new code =
       (answer : Result Answer HandlerFault) × handles old new asked answer × IsAnswerTold front out out' code answer is_head
 
   -- what the plan makes of the bytes that stand after a head
-  pub record IsAnswered (p : Planned) (rest : List ℕ) (left out out' : Held) (old new : H) (code : ℕ) : Type 0 where
+  pub record IsAnswered (p : Planned) (rest : List ℕ) (left out out' : Held) (old new : K) (code : ℕ) : Type 0 where
     pub left_is : left ≡ Some (unread p.step rest)
     pub settled : IsSettled (asks p.step rest) (interim p.step) p.is_head out out' old new code
 
   -- there was no memory before anything more was read, written or asked
-  pub record IsShort (rest : List ℕ) (is_head : Bool) (left out out' : Held) (old new : H) (code : ℕ) : Type 0 where
+  pub record IsShort (rest : List ℕ) (is_head : Bool) (left out out' : Held) (old new : K) (code : ℕ) : Type 0 where
     pub left_is : left ≡ Some rest
     pub unasked : new ≡ old
     pub sent : IsSent [] out out' code (of_no_memory is_head)
 
   -- after a head, where it is known what the reader has
-  abbrev pub Answers : Planned → Held → Held → Held → Held → H → H → ℕ → Type 0
+  abbrev pub Answers : Planned → Held → Held → Held → Held → K → K → ℕ → Type 0
   Answers p None left out out' old new code = ⊤
   Answers p (Some rest) left out out' old new code =
       IsAnswered p rest left out out' old new code ⊎ IsShort rest p.is_head left out out' old new code
 
   -- an input without a byte is served nothing; one without a whole head is refused; else the plan of its head is followed. Where no
   -- memory is found for a head, one byte was read
-  abbrev pub IsServedOf : List ℕ → Held → Held → Held → H → H → Served → Type 0
+  abbrev pub IsServedOf : List ℕ → Held → Held → Held → K → K → Served → Type 0
   IsServedOf input left out out' old new Nothing = (input ≡ []) × (out' ≡ out) × (new ≡ old)
   IsServedOf input left out out' old new (Answered code) =
       (0 < length input) × (
@@ -95,23 +95,23 @@ module _ {H : Type 0} (handles : H → H → Asked → Result Answer HandlerFaul
       )
 
   -- the same, where it is known what the reader has
-  abbrev pub IsServed : Held → Held → Held → Held → H → H → Served → Type 0
+  abbrev pub IsServed : Held → Held → Held → Held → K → K → Served → Type 0
   IsServed None left out out' old new it = ⊤
   IsServed (Some input) left out out' old new it = IsServedOf input left out out' old new it
 
   -- ---- a channel that failed
 
-  abbrev pub MayHaveAsked : Result Asked RequestFault → H → H → Type 0
+  abbrev pub MayHaveAsked : Result Asked RequestFault → K → K → Type 0
   MayHaveAsked (Err fault) old new = new ≡ old
   MayHaveAsked (Ok asked) old new = (new ≡ old) ⊎ WasAsked asked old new
 
   -- where the reader failed, nothing was asked; where the writer did, at most what the request asks for
-  abbrev pub BreaksOff : Planned → Held → H → H → ChannelFault → Type 0
+  abbrev pub BreaksOff : Planned → Held → K → K → ChannelFault → Type 0
   BreaksOff p had old new Reader = new ≡ old
   BreaksOff p None old new Writer = ⊤
   BreaksOff p (Some rest) old new Writer = MayHaveAsked (asks p.step rest) old new
 
-  abbrev pub IsBrokenOff : Held → H → H → ChannelFault → Type 0
+  abbrev pub IsBrokenOff : Held → K → K → ChannelFault → Type 0
   IsBrokenOff had old new Reader = new ≡ old
   IsBrokenOff None old new Writer = ⊤
   IsBrokenOff (Some input) old new Writer =
@@ -120,6 +120,6 @@ module _ {H : Type 0} (handles : H → H → Asked → Result Answer HandlerFaul
   -- ---- asking
 
   -- what was asked was answered, and the answer written, if the writer didn't fail
-  abbrev pub IsAsked : Asked → Held → Held → H → H → Bool → Result ℕ ChannelFault → Type 0
+  abbrev pub IsAsked : Asked → Held → Held → K → K → Bool → Result ℕ ChannelFault → Type 0
   IsAsked asked out out' old new is_head result =
       (answer : Result Answer HandlerFault) × handles old new asked answer × OrFails result (λ code. IsAnswerTold [] out out' code answer is_head)

@@ -26,17 +26,18 @@ pub enum Served {
     Nothing,
 }
 
-/// Reads a request, has the handler answer it, and writes the response. Nothing is read past the head and the body that it
+/// Reads a request, has the handler answer it by what is kept, and writes the response. Nothing is read past the head and the body that it
 /// announces, and of an exchange no other comes after it on the connection.
-pub fn exchange<R: Read, W: Write, H: Handler>(
+pub fn exchange<R: Read, W: Write, K, H: Handler<K>>(
     alloc: Global,
     reader: &mut R,
     writer: &mut W,
-    handler: &mut H,
+    handler: &H,
+    kept: &mut K,
 ) -> Result<Served, ChannelFault>
-    ensures served { IfOk result (λ it. spec.IsServed H.handles (R.remaining reader.old) (R.remaining reader.new) (W.contents writer.old) (W.contents writer.new) handler.old handler.new it) }
-    ensures failed { IfErr result (λ fault. spec.IsBrokenOff H.handles (R.remaining reader.old) handler.old handler.new fault) }
-    ensures once { spec.AsksOnce H.handles handler.old handler.new }
+    ensures served { IfOk result (λ it. spec.IsServed H.handles (R.remaining reader.old) (R.remaining reader.new) (W.contents writer.old) (W.contents writer.new) kept.old kept.new it) }
+    ensures failed { IfErr result (λ fault. spec.IsBrokenOff H.handles (R.remaining reader.old) kept.old kept.new fault) }
+    ensures once { spec.AsksOnce H.handles kept.old kept.new }
 {
     match read_head(alloc, reader) {
         Ok(HeadRead::Nothing) => Ok(Served::Nothing),
@@ -45,7 +46,7 @@ pub fn exchange<R: Read, W: Write, H: Handler>(
             Ok(Served::Answered(status))
         }
         Ok(HeadRead::Whole(head)) => {
-            let status = answer(alloc, reader, writer, handler, &head)?;
+            let status = answer(alloc, reader, writer, handler, kept, &head)?;
             Ok(Served::Answered(status))
         }
         Err(ReadFault::Memory) => Ok(Served::Answered(send_no_memory(writer, false)?)),
@@ -54,69 +55,78 @@ pub fn exchange<R: Read, W: Write, H: Handler>(
 }
 
 /// Answers a request whose head was read.
-fn answer<R: Read, W: Write, H: Handler>(
+fn answer<R: Read, W: Write, K, H: Handler<K>>(
     alloc: Global,
     reader: &mut R,
     writer: &mut W,
-    handler: &mut H,
+    handler: &H,
+    kept: &mut K,
     head: &Head,
 ) -> Result<StatusCode, ChannelFault>
-    ensures answered { IfOk result (λ status. spec.Answers H.handles (plan head.now) (R.remaining reader.old) (R.remaining reader.new) (W.contents writer.old) (W.contents writer.new) handler.old handler.new status) }
-    ensures broken { IfErr result (λ fault. spec.BreaksOff H.handles (plan head.now) (R.remaining reader.old) handler.old handler.new fault) }
-    ensures once { spec.AsksOnce H.handles handler.old handler.new }
+    ensures answered { IfOk result (λ status. spec.Answers H.handles (plan head.now) (R.remaining reader.old) (R.remaining reader.new) (W.contents writer.old) (W.contents writer.new) kept.old kept.new status) }
+    ensures broken { IfErr result (λ fault. spec.BreaksOff H.handles (plan head.now) (R.remaining reader.old) kept.old kept.new fault) }
+    ensures once { spec.AsksOnce H.handles kept.old kept.new }
 {
     match plan_of(alloc, head) {
-        Ok(plan) => follow(alloc, reader, writer, handler, plan),
+        Ok(plan) => follow(alloc, reader, writer, handler, kept, &plan),
         Err(_) => send_no_memory(writer, head.is_for_head()),
     }
 }
 
 /// Does what is planned.
-fn follow<R: Read, W: Write, H: Handler>(
+fn follow<R: Read, W: Write, K, H: Handler<K>>(
     alloc: Global,
     reader: &mut R,
     writer: &mut W,
-    handler: &mut H,
-    plan: Plan<'_>,
+    handler: &H,
+    kept: &mut K,
+    plan: &Plan<'_>,
 ) -> Result<StatusCode, ChannelFault>
-    ensures answered { IfOk result (λ status. spec.Answers H.handles (planned plan.entry) (R.remaining reader.old) (R.remaining reader.new) (W.contents writer.old) (W.contents writer.new) handler.old handler.new status) }
-    ensures broken { IfErr result (λ fault. spec.BreaksOff H.handles (planned plan.entry) (R.remaining reader.old) handler.old handler.new fault) }
-    ensures once { spec.AsksOnce H.handles handler.old handler.new }
+    ensures answered { IfOk result (λ status. spec.Answers H.handles (planned plan.now) (R.remaining reader.old) (R.remaining reader.new) (W.contents writer.old) (W.contents writer.new) kept.old kept.new status) }
+    ensures broken { IfErr result (λ fault. spec.BreaksOff H.handles (planned plan.now) (R.remaining reader.old) kept.old kept.new fault) }
+    ensures once { spec.AsksOnce H.handles kept.old kept.new }
 {
     let is_head = plan.is_head;
-    match plan.action {
-        Action::Refuse(fault) => send_fault(alloc, writer, fault, is_head),
-        Action::Show(report) => ask(alloc, writer, handler, Request::Show(report), is_head),
-        Action::Receive(expected) => take_in(alloc, reader, writer, handler, expected, is_head),
+    match &plan.action {
+        Action::Refuse(fault) => send_fault(alloc, writer, *fault, is_head),
+        Action::Show(report) => {
+            let request = Request::Show(*report);
+            ask(alloc, writer, handler, kept, &request, is_head)
+        }
+        Action::Receive(expected) => {
+            take_in(alloc, reader, writer, handler, kept, *expected, is_head)
+        }
     }
 }
 
 /// Asks the handler, and writes what it answers.
-fn ask<W: Write, H: Handler>(
+fn ask<W: Write, K, H: Handler<K>>(
     alloc: Global,
     writer: &mut W,
-    handler: &mut H,
-    request: Request<'_>,
+    handler: &H,
+    kept: &mut K,
+    request: &Request<'_>,
     is_head: bool,
 ) -> Result<StatusCode, ChannelFault>
-    ensures { spec.IsAsked H.handles (asked request.entry) (W.contents writer.old) (W.contents writer.new) handler.old handler.new is_head result }
+    ensures { spec.IsAsked H.handles (asked request.now) (W.contents writer.old) (W.contents writer.new) kept.old kept.new is_head result }
 {
-    let answer = handler.handle(alloc, request);
+    let answer = handler.handle(alloc, kept, request);
     send_answer(alloc, writer, answer, is_head)
 }
 
 /// Takes in a body, and has the handler answer it. Room for the body is made before a client is told to go on.
-fn take_in<R: Read, W: Write, H: Handler>(
+fn take_in<R: Read, W: Write, K, H: Handler<K>>(
     alloc: Global,
     reader: &mut R,
     writer: &mut W,
-    handler: &mut H,
+    handler: &H,
+    kept: &mut K,
     expected: ExpectedBody,
     is_head: bool,
 ) -> Result<StatusCode, ChannelFault>
-    ensures answered { IfOk result (λ status. spec.Answers H.handles (spec.receiving expected is_head) (R.remaining reader.old) (R.remaining reader.new) (W.contents writer.old) (W.contents writer.new) handler.old handler.new status) }
-    ensures broken { IfErr result (λ fault. spec.BreaksOff H.handles (spec.receiving expected is_head) (R.remaining reader.old) handler.old handler.new fault) }
-    ensures once { spec.AsksOnce H.handles handler.old handler.new }
+    ensures answered { IfOk result (λ status. spec.Answers H.handles (spec.receiving expected is_head) (R.remaining reader.old) (R.remaining reader.new) (W.contents writer.old) (W.contents writer.new) kept.old kept.new status) }
+    ensures broken { IfErr result (λ fault. spec.BreaksOff H.handles (spec.receiving expected is_head) (R.remaining reader.old) kept.old kept.new fault) }
+    ensures once { spec.AsksOnce H.handles kept.old kept.new }
 {
     let Ok(room) = Vec::with_capacity(alloc, expected.length) else {
         return send_no_memory(writer, is_head);
@@ -125,7 +135,7 @@ fn take_in<R: Read, W: Write, H: Handler>(
     match read_body(reader, room, expected.length) {
         Ok(BodyRead::Whole(body)) => {
             let request = Request::Submit(expected.to, &body);
-            ask(alloc, writer, handler, request, is_head)
+            ask(alloc, writer, handler, kept, &request, is_head)
         }
         Ok(BodyRead::Cut) => send_fault(alloc, writer, RequestFault::CutBody, is_head),
         Err(_) => Err(ChannelFault::Reader),

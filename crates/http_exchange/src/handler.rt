@@ -35,14 +35,19 @@ pub enum HandlerFault {
     Memory,
 }
 
-/// What answers the requests of exchanges.
-pub trait Handler {
+/// What answers the requests of exchanges by what is kept, which it may change.
+pub trait Handler<K> {
     ghost use Rattle.http_exchange.specs.declared.handler.HandlerFault.{HandlerFault};
 
-    // the handler was so before, and so after it was asked this and gave this answer
-    ghost handles: { Self → Self → spec.Asked → Result spec.Answer HandlerFault → Type 0 };
+    // what is kept was so before, and so after it was asked this and gave this answer
+    ghost handles: { K → K → spec.Asked → Result spec.Answer HandlerFault → Type 0 };
 
     /// Answers a request.
-    fn handle(&mut self, alloc: Global, request: Request<'_>) -> Result<Response, HandlerFault>
-        ensures { handles self.old self.new (spec.asked request.entry) (spec.answer_of result) };
+    fn handle(
+        &self,
+        alloc: Global,
+        kept: &mut K,
+        request: &Request<'_>,
+    ) -> Result<Response, HandlerFault>
+        ensures { handles kept.old kept.new (spec.asked request.now) (spec.answer_of result) };
 }

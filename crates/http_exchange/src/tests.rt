@@ -29,12 +29,12 @@ struct Outcome {
 fn served(alloc: Global, input: &[u8], fails: bool, room: usize) -> Outcome {
     let mut reader = Input::new(input, fails);
     let mut writer = Output::new(alloc, room);
-    let mut clerk = Clerk::new(alloc);
-    let served = exchange(alloc, &mut reader, &mut writer, &mut clerk);
+    let mut asked = String::new(alloc);
+    let served = exchange(alloc, &mut reader, &mut writer, &Clerk, &mut asked);
     Outcome {
         served,
         unread: reader.unread(),
-        asked: clerk.asked,
+        asked,
         written: writer.flushed,
         waiting: writer.waiting,
     }

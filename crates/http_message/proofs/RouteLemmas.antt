@@ -1,5 +1,5 @@
 -- What the router finds is what the table of paths says.
-use Rattle.std.proofs.Common.{◌≡◌, ◌≤◌, ◌<◌, ◌-◌, ℕ, zero, suc, Bool, true, false, ◌&&◌, ◌==◌, cond, List, [], ◌∷◌, ◌++◌, length, drop, refl, sym, ap, ◌∙◌, subst, arith, Option, Some, None, codes, bytes_eq, option_map, ◌||◌, if◌then◌else◌, nat_lt, length-append, get_or, Fits, w8}
+use Rattle.std.proofs.Common.{◌≡◌, ◌≤◌, ◌<◌, ◌-◌, ℕ, zero, suc, Bool, true, false, ◌&&◌, ◌==◌, cond, List, [], ◌∷◌, ◌++◌, length, drop, refl, sym, ap, ◌∙◌, subst, arith, Option, Some, None, codes, bytes_eq, option_map, ◌||◌, if◌then◌else◌, nat_lt, append-nil, get_or, Fits, w8}
 use Rattle.std.proofs.lemmas.Bool.Decides.{nat_tests}
 use Rattle.std.proofs.lemmas.Slice.Eq.{bytes_eq-Decides}
 use Rattle.std.proofs.Math.Seq.{drop-append_seam, drop-length}
@@ -9,7 +9,7 @@ use Rattle.matchit.specs.Router.{RouteOf}
 use Rattle.matchit.specs.Seek.{seek, step, own, or_else, first, param_step, has_slash}
 use Rattle.http_message.specs.declared.routes.Route.{Route}
 use Rattle.http_message.specs.declared.routes.Route.TheVariants.{Requests, Import, Crew, Pairing, Exceedances}
-use Rattle.http_message.specs.Routes.{place, table, prefix_len, exactly, id_after, is_id, first_of, at}
+use Rattle.http_message.specs.Routes.{place, table, name, exactly, id_after, is_id, first_of, at}
 
 -- ---- a walk over rows of any keys
 
@@ -203,14 +203,14 @@ table_found (b ∷ p) t = literal_step table b p refl refl ∙ by (47 == b) refl
 
 abbrev pub Agrees : List ℕ → Found → Option (Route × List ℕ) → Type 0
 Agrees path None o = o ≡ None
-Agrees path (Some m) o = (o ≡ Some (m.value, drop (prefix_len m.value) path)) × (prefix_len m.value ≤ length path)
+Agrees path (Some m) o = (o ≡ Some (m.value, drop (length (name m.value)) path)) × (path ≡ name m.value ++ drop (length (name m.value)) path)
 
 pub text_of : (p : List ℕ) → ((k : ℕ) → Fits w8 (get_or p k 0)) → IsText p
 text_of [] h = tt
 text_of (b ∷ p) h = (let first = h 0 in omega arith, text_of p (λ k. h (suc k)))
 
 abbrev Good : List ℕ → Option (Route × List ℕ) → Type 0
-Good path o = (r : Route × List ℕ) → o ≡ Some r → (r.1 ≡ drop (prefix_len r.0) path) × (prefix_len r.0 ≤ length path)
+Good path o = (r : Route × List ℕ) → o ≡ Some r → (r.1 ≡ drop (length (name r.0)) path) × (path ≡ name r.0 ++ drop (length (name r.0)) path)
 
 good_first : (path : List ℕ) (a b : Option (Route × List ℕ)) → Good path a → Good path b → Good path (first_of a b)
 good_first path None b p q = q
@@ -229,35 +229,35 @@ id_stands (a ∷ front) (b ∷ path) id e = by (a == b) refl e (id_stands front 
     by true f e ih = let is : a ≡ b = grind (arith, nat_tests) in let rest = ih e in cc
     by false f e ih = absurd cc
 
-name_stands : (name path id : List ℕ) → exactly name path ≡ Some id → (path ≡ name) × (id ≡ [])
-name_stands name path id e = by (bytes_eq name path) refl e
+name_stands : (text path id : List ℕ) → exactly text path ≡ Some id → (path ≡ text) × (id ≡ [])
+name_stands text path id e = by (bytes_eq text path) refl e
   where
-    by : (v : Bool) → bytes_eq name path ≡ v → (if v then Some [] else None) ≡ Some id → (path ≡ name) × (id ≡ [])
-    by true f e = let same : name ≡ path = (bytes_eq-Decides name path).0 f in let nil : [] ≡ id = cc in (sym same, sym nil)
+    by : (v : Bool) → bytes_eq text path ≡ v → (if v then Some [] else None) ≡ Some id → (path ≡ text) × (id ≡ [])
+    by true f e = let same : text ≡ path = (bytes_eq-Decides text path).0 f in let nil : [] ≡ id = cc in (sym same, sym nil)
     by false f e = absurd cc
 
-good_id : (path front : List ℕ) (route : Route) → prefix_len route ≡ length front → Good path (at route (id_after front path))
+good_id : (path front : List ℕ) (route : Route) → name route ≡ front → Good path (at route (id_after front path))
 good_id path front route n r e = by (id_after front path) refl e
   where
-    by : (o : Option (List ℕ)) → id_after front path ≡ o → at route o ≡ Some r → (r.1 ≡ drop (prefix_len r.0) path) × (prefix_len r.0 ≤ length path)
+    by : (o : Option (List ℕ)) → id_after front path ≡ o → at route o ≡ Some r → (r.1 ≡ drop (length (name r.0)) path) × (path ≡ name r.0 ++ drop (length (name r.0)) path)
     by None f e = absurd cc
     by (Some id) f e =
         let is = id_stands front path id f in
         let here : (route, id) ≡ r = cc in
-        subst (λ r. (r.1 ≡ drop (prefix_len r.0) path) × (prefix_len r.0 ≤ length path)) here
-        (rw (n, is) (sym (drop-append_seam front id)), omega (arith, n, ap length is, length-append front id))
+        subst (λ r. (r.1 ≡ drop (length (name r.0)) path) × (path ≡ name r.0 ++ drop (length (name r.0)) path)) here
+        (rw (n, is) (sym (drop-append_seam front id)), rw (n, is) (ap (λ t. front ++ t) (sym (drop-append_seam front id))))
 
-good_name : (path name : List ℕ) (route : Route) → prefix_len route ≡ length name → Good path (at route (exactly name path))
-good_name path name route n r e = by (exactly name path) refl e
+good_name : (path text : List ℕ) (route : Route) → name route ≡ text → Good path (at route (exactly text path))
+good_name path text route n r e = by (exactly text path) refl e
   where
-    by : (o : Option (List ℕ)) → exactly name path ≡ o → at route o ≡ Some r → (r.1 ≡ drop (prefix_len r.0) path) × (prefix_len r.0 ≤ length path)
+    by : (o : Option (List ℕ)) → exactly text path ≡ o → at route o ≡ Some r → (r.1 ≡ drop (length (name r.0)) path) × (path ≡ name r.0 ++ drop (length (name r.0)) path)
     by None f e = absurd cc
     by (Some id) f e =
-        let is = name_stands name path id f in
+        let is = name_stands text path id f in
         let here : (route, id) ≡ r = cc in
-        let nil : drop (length name) name ≡ [] = drop-length name in
-        subst (λ r. (r.1 ≡ drop (prefix_len r.0) path) × (prefix_len r.0 ≤ length path)) here
-        (rw (n, is.0, is.1) (sym nil), omega (arith, n, ap length is.0))
+        let nil : drop (length text) text ≡ [] = drop-length text in
+        subst (λ r. (r.1 ≡ drop (length (name r.0)) path) × (path ≡ name r.0 ++ drop (length (name r.0)) path)) here
+        (rw (n, is.0, is.1) (sym nil), rw (n, is.0, nil) (sym (append-nil text)))
 
 good_place : (path : List ℕ) → Good path (place path)
 good_place path =
@@ -278,7 +278,7 @@ agrees : (path : List ℕ) (o : Option (Route × List ℕ)) → Good path o → 
 agrees path None good = refl
 agrees path (Some r) good =
     let g = good r refl in
-    subst (λ v. (Some r ≡ Some (v, drop (prefix_len v) path)) × (prefix_len v ≤ length path)) (sym (value_is r.0)) (ap (λ id. Some (r.0, id)) g.0, g.1)
+    subst (λ v. (Some r ≡ Some (v, drop (length (name v)) path)) × (path ≡ name v ++ drop (length (name v)) path)) (sym (value_is r.0)) (ap (λ id. Some (r.0, id)) g.0, g.1)
 
 pub routed : (path : List ℕ) → IsText path → Agrees path (first table path) (place path)
 routed path t = subst (λ f. Agrees path f (place path)) (sym (table_found path t)) (agrees path (place path) (good_place path))

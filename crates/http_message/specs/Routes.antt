@@ -39,12 +39,13 @@ place path =
 
 -- ---- What the router says to itself
 
-abbrev pub prefix_len : Route → ℕ
-prefix_len Requests = 9
-prefix_len Import = 9
-prefix_len Crew = 6
-prefix_len Pairing = 10
-prefix_len Exceedances = 12
+-- the path before the id
+abbrev pub name : Route → List ℕ
+name Requests = codes "/requests"
+name Import = codes "/imports/"
+name Crew = codes "/crew/"
+name Pairing = codes "/pairings/"
+name Exceedances = codes "/exceedances"
 
 abbrev pub row : List ℕ → List ℕ → List (ℕ × ℕ) → Route → List ℕ × RouteOf Route
 row pattern text names route = (pattern, record { pattern = pattern; text = text; names = names; value = route })

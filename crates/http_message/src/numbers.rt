@@ -5,6 +5,8 @@ ghost use Rattle.std.specs.List.{list_all};
 ghost use Rattle.std.specs.Str.Parse.{digits_value};
 ghost use Rattle.http_message.specs.Numbers as spec;
 
+use crate::import_number::ImportNumber;
+
 /// The most bytes of a body.
 pub(crate) const MOST_BODY: usize = 1_048_576;
 
@@ -53,18 +55,13 @@ fn saturated(text: &[u8]) -> usize
 }
 
 /// The number of an import in a path.
-pub(crate) fn import_number(text: &[u8]) -> Option<u64>
+pub(crate) fn number_of_import(text: &[u8]) -> Option<ImportNumber>
     ensures { result ≡ spec.import_number text.now }
 {
     if !is_number(text) || text[0] == b'0' {
         return None;
     }
-    let number = saturated_long(text);
-    if number <= 9_223_372_036_854_775_807 {
-        Some(number)
-    } else {
-        None
-    }
+    ImportNumber::new(saturated_long(text))
 }
 
 /// The number of these digits, up to the greatest of its type.

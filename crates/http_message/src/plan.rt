@@ -4,7 +4,8 @@ ghost use Rattle.http_message.specs.Fields.{values};
 ghost use Rattle.http_message.specs.Plan as spec;
 
 use crate::head::Head;
-use crate::numbers::{MOST_BODY, import_number, length_of};
+use crate::import_number::ImportNumber;
+use crate::numbers::{MOST_BODY, length_of, number_of_import};
 use crate::refusals::{Methods, RequestFault};
 use crate::routes::{Route, route_of};
 use crate::target::path_of;
@@ -49,16 +50,16 @@ pub enum Submission {
     /// A command.
     Command,
     /// A schedule to be imported under this number.
-    Import(u64),
+    Import(ImportNumber),
 }
 
 /// What is shown.
 #[derive(Clone, Copy)]
 pub enum Report<'h> {
     /// The roster of the crew member of this id.
-    Crew(&'h [u8]),
+    Crew(&'h str),
     /// The pairing of this id.
-    Pairing(&'h [u8]),
+    Pairing(&'h str),
     /// All exceedances.
     Exceedances,
 }
@@ -67,10 +68,13 @@ pub enum Report<'h> {
 pub fn plan_of(alloc: Global, head: &Head) -> Result<Plan<'_>, MemoryFault>
     ensures { IfOk result (λ it. spec.planned it ≡ spec.plan head.now) }
 {
-    Ok(Plan {
-        is_head: head.is_for_head(),
-        action: checked(alloc, head)?,
-    })
+    match checked(alloc, head) {
+        Ok(action) => Ok(Plan {
+            is_head: head.is_for_head(),
+            action,
+        }),
+        Err(fault) => Err(fault),
+    }
 }
 
 /// The checks from the first on.
@@ -107,12 +111,12 @@ fn placed<'h>(alloc: Global, head: &'h Head, path: &'h [u8]) -> Result<Action<'h
 }
 
 /// What a resource is asked for.
-fn routed<'h>(head: &'h Head, route: Route, id: &'h [u8]) -> Action<'h>
+fn routed<'h>(head: &'h Head, route: Route, id: &'h str) -> Action<'h>
     ensures { spec.step result ≡ spec.at_place head.now (Some (route, id.now)) }
 {
     match route {
         Route::Requests => posted(head, Submission::Command),
-        Route::Import => match import_number(id) {
+        Route::Import => match number_of_import(id.as_bytes()) {
             Some(number) => posted(head, Submission::Import(number)),
             None => Action::Refuse(RequestFault::NoResource),
         },

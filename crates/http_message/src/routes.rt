@@ -1,5 +1,5 @@
 //! The resources of a book, by their paths.
-ghost use Rattle.std.specs.Prelude.{◌≡◌, ◌≤◌, IfOk, drop, length, option_map};
+ghost use Rattle.std.specs.Prelude.{◌≡◌, ◌++◌, IfOk, drop, length, option_map};
 ghost use Rattle.http_message.specs.Routes as spec;
 
 use matchit::{InsertError, Router};
@@ -22,7 +22,7 @@ pub enum Route {
 }
 
 /// What a path names, and the id or the number in it.
-pub fn route_of<'p>(alloc: Global, path: &'p str) -> Result<Option<(Route, &'p [u8])>, MemoryFault>
+pub fn route_of<'p>(alloc: Global, path: &'p str) -> Result<Option<(Route, &'p str)>, MemoryFault>
     ensures { IfOk result (λ it. option_map (λ found. (found.0, found.1.now)) it ≡ spec.place path.now) }
 {
     let Ok(router) = router(alloc) else {
@@ -36,24 +36,26 @@ pub fn route_of<'p>(alloc: Global, path: &'p str) -> Result<Option<(Route, &'p [
 }
 
 /// What stands in the path of a resource after its name.
-fn id_of(route: Route, path: &str) -> &[u8]
-    requires { spec.prefix_len route ≤ length path.now }
-    ensures { result.now ≡ drop (spec.prefix_len route) path.now }
+fn id_of(route: Route, path: &str) -> &str
+    requires { path.now ≡ spec.name route ++ drop (length (spec.name route)) path.now }
+    ensures { result.now ≡ drop (length (spec.name route)) path.now }
 {
-    let name = prefix_len(route);
-    &path.as_bytes()[name..]
+    match path.strip_prefix(name_of(route)) {
+        Some(id) => id,
+        None => unreachable!(),
+    }
 }
 
-/// How long the path of a resource is before its id.
-fn prefix_len(route: Route) -> usize
-    ensures { result ≡ spec.prefix_len route }
+/// What the path of a resource is before its id.
+fn name_of(route: Route) -> &'static str
+    ensures { result.now ≡ spec.name route }
 {
     match route {
-        Route::Requests => "/requests".len(),
-        Route::Import => "/imports/".len(),
-        Route::Crew => "/crew/".len(),
-        Route::Pairing => "/pairings/".len(),
-        Route::Exceedances => "/exceedances".len(),
+        Route::Requests => "/requests",
+        Route::Import => "/imports/",
+        Route::Crew => "/crew/",
+        Route::Pairing => "/pairings/",
+        Route::Exceedances => "/exceedances",
     }
 }
 

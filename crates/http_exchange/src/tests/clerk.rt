@@ -7,28 +7,23 @@ use std::str::from_utf8;
 
 /// A handler that notes what it is asked, and answers as a book without crew does.
 #[derive(Drop)]
-pub struct Clerk {
-    pub asked: String,
-}
+pub struct Clerk;
 
-impl Clerk {
-    pub fn new(alloc: Global) -> Clerk {
-        Clerk {
-            asked: String::new(alloc),
-        }
-    }
-}
-
-impl Handler for Clerk {
+impl Handler<String> for Clerk {
     ghost use Rattle.std.specs.Prelude.{⊤};
 
     ghost handles = { λ _ _ _ _. ⊤ };
 
-    fn handle(&mut self, alloc: Global, request: Request<'_>) -> Result<Response, HandlerFault> {
+    fn handle(
+        &self,
+        alloc: Global,
+        notes: &mut String,
+        request: &Request<'_>,
+    ) -> Result<Response, HandlerFault> {
         let Ok(note) = noted(alloc, request) else {
             return Err(HandlerFault::Memory);
         };
-        if self.asked.push_str(&note).is_err() {
+        if notes.push_str(&note).is_err() {
             return Err(HandlerFault::Memory);
         }
         answer_to(alloc, &note)
@@ -36,16 +31,16 @@ impl Handler for Clerk {
 }
 
 /// What is asked, in words.
-fn noted(alloc: Global, request: Request<'_>) -> Result<String, AllocError> {
+fn noted(alloc: Global, request: &Request<'_>) -> Result<String, AllocError> {
     match request {
         Request::Submit(Submission::Command, body) => {
             format!(in alloc; "command {}", text_of(body))
         }
         Request::Submit(Submission::Import(number), body) => {
-            format!(in alloc; "import {number} {}", text_of(body))
+            format!(in alloc; "import {} {}", number.get(), text_of(body))
         }
-        Request::Show(Report::Crew(id)) => format!(in alloc; "crew {}", text_of(id)),
-        Request::Show(Report::Pairing(id)) => format!(in alloc; "pairing {}", text_of(id)),
+        Request::Show(Report::Crew(id)) => format!(in alloc; "crew {id}"),
+        Request::Show(Report::Pairing(id)) => format!(in alloc; "pairing {id}"),
         Request::Show(Report::Exceedances) => String::from_str(alloc, "exceedances"),
     }
 }

@@ -1,0 +1,300 @@
+//! Exchanges of HTTP with a book in memory: whole, cut, and over channels that fail.
+
+use crate::contents;
+use crate::fault::Untold;
+use crate::opening::{Left, create, take_up};
+use book::Book;
+use sqlite::{Alter, Connection};
+use std::alloc::Global;
+use std::io;
+use std::io::{ErrorKind, Read, Write};
+use std::test::Fail;
+use web::{ChannelFault, Served, exchange};
+
+/// Exchanges with one book in turn, with CR LF as `|` and LF as `_`: what is sent and, a line below, what is written.
+const EXCHANGES: &str = "\
+POST /requests HTTP/1.1|Host: x|Content-Length: 47||{\"number\":1,\"do\":\"cancel-ground\",\"ground\":\"G1\"}
+HTTP/1.1 409 Conflict|Content-Type: application/json|Content-Length: 55|Connection: close||{\"name\":\"NoSuchGround\",\"refusal\":15,\"result\":\"refused\"}
+POST /requests HTTP/1.1|Host: x|Expect: 100-continue|Content-Length: 74||{\"number\":1,\"do\":\"add-crew\",\"crew\":\"C1\",\"seat\":\"captain\",\"name\":\"Ada Ray\"}
+HTTP/1.1 100 Continue||HTTP/1.1 200 OK|Content-Type: application/json|Content-Length: 38|Connection: close||{\"exceedances\":[],\"result\":\"accepted\"}
+POST /requests HTTP/1.1|Host: x|Content-Length: 74||{\"do\":\"add-crew\",\"number\":1,\"crew\":\"C1\",\"seat\":\"captain\",\"name\":\"Ada Ray\"}
+HTTP/1.1 200 OK|Content-Type: application/json|Content-Length: 38|Connection: close||{\"exceedances\":[],\"result\":\"accepted\"}
+POST /requests HTTP/1.1|Host: x|Content-Length: 47||{\"number\":1,\"do\":\"cancel-ground\",\"ground\":\"G1\"}
+HTTP/1.1 409 Conflict|Content-Type: application/json|Content-Length: 52|Connection: close||{\"name\":\"NumberUsed\",\"refusal\":1,\"result\":\"refused\"}
+POST /requests HTTP/1.1|Host: x|Content-Length: 53||{\"number\":2,\"do\":\"assign\",\"pairing\":\"p1\",\"crew\":\"C1\"}
+HTTP/1.1 422 Unprocessable Entity|Content-Type: application/json|Content-Length: 69|Connection: close||{\"field\":\"pairing\",\"name\":\"BadField\",\"refusal\":18,\"result\":\"refused\"}
+POST /imports/500 HTTP/1.1|Host: x|Content-Length: 143||pairing,period,report,release,flight,from,out,to,in|P1,1,2025-06-10T11:00Z,2025-06-10T20:00Z,RB1,BOS,2025-06-10T12:00Z,IAD,2025-06-10T19:30Z|
+HTTP/1.1 200 OK|Content-Type: application/json|Content-Length: 50|Connection: close||{\"parts\":[{\"exceedances\":[],\"result\":\"accepted\"}]}
+POST /imports/501 HTTP/1.1|Host: x|Content-Length: 323||pairing,period,report,release,flight,from,out,to,in|P1,1,2025-06-10T11:00Z,2025-06-10T20:00Z,RB1,BOS,2025-06-10T12:00Z,IAD,2025-06-10T19:30Z|P2,1,2025-06-12T11:00Z,2025-06-12T20:00Z,RB1,BOS,2025-06-12T12:00Z,IAD,2025-06-12T19:30Z|P1,1,2025-06-10T11:00Z,2025-06-10T20:00Z,RB1,BOS,2025-06-10T12:00Z,IAD,2025-06-10T19:30Z|
+HTTP/1.1 200 OK|Content-Type: application/json|Content-Length: 162|Connection: close||{\"parts\":[{\"name\":\"PairingExists\",\"refusal\":5,\"result\":\"refused\"},{\"exceedances\":[],\"result\":\"accepted\"},{\"name\":\"PairingExists\",\"refusal\":5,\"result\":\"refused\"}]}
+POST /imports/502 HTTP/1.1|Host: x|Content-Length: 135||pairing,period,report,release,flight,from,out,to,in|P1,1,2025-06-10T11:00Z,2025-06-10T20:00Z,RB1,BOS,2025-06-10T12:00Z,IAD,2025-06-1|
+HTTP/1.1 422 Unprocessable Entity|Content-Type: application/json|Content-Length: 58|Connection: close||{\"line\":2,\"name\":\"BadCsv\",\"refusal\":30,\"result\":\"refused\"}
+POST /imports/503 HTTP/1.1|Host: x|Content-Length: 53||pairing,period,report,release,flight,from,out,to,in|
+HTTP/1.1 200 OK|Content-Type: application/json|Content-Length: 12|Connection: close||{\"parts\":[]}
+POST /requests HTTP/1.1|Host: x|Content-Length: 53||{\"number\":2,\"do\":\"assign\",\"pairing\":\"P1\",\"crew\":\"C1\"}
+HTTP/1.1 200 OK|Content-Type: application/json|Content-Length: 38|Connection: close||{\"exceedances\":[],\"result\":\"accepted\"}
+GET /crew/C1 HTTP/1.1|Host: x||
+HTTP/1.1 200 OK|Content-Type: text/plain; charset=utf-8|Content-Length: 101|Connection: close||ROSTER C1 captain Ada Ray_2025-06-10T11:00Z 2025-06-10T20:00Z pairing P1/1 plan fdp 8:30 flight 7:30_
+GET /pairings/P1 HTTP/1.1|Host: x||
+HTTP/1.1 200 OK|Content-Type: text/plain; charset=utf-8|Content-Length: 148|Connection: close||PAIRING P1_captain C1_first officer -_1 plan report 2025-06-10T11:00Z release 2025-06-10T20:00Z_1.1 RB1 BOS 2025-06-10T12:00Z IAD 2025-06-10T19:30Z_
+GET /exceedances HTTP/1.1|Host: x||
+HTTP/1.1 200 OK|Content-Type: text/plain; charset=utf-8|Content-Length: 14|Connection: close||EXCEEDANCES 0_
+HEAD /crew/C1 HTTP/1.1|Host: x||
+HTTP/1.1 200 OK|Content-Type: text/plain; charset=utf-8|Content-Length: 101|Connection: close||
+GET /crew/c9 HTTP/1.1|Host: x||
+HTTP/1.1 404 Not Found|Content-Type: application/json|Content-Length: 52|Connection: close||{\"name\":\"NoSuchCrew\",\"refusal\":2,\"result\":\"refused\"}
+HEAD /pairings/P9 HTTP/1.1|Host: x||
+HTTP/1.1 404 Not Found|Content-Type: application/json|Content-Length: 55|Connection: close||
+";
+
+/// A reader that may fail at its end.
+#[derive(Drop)]
+struct Input<'b> {
+    rest: &'b [u8],
+    fails: bool,
+}
+
+impl Read for Input<'_> {
+    fn read(&mut self, buf: &mut [u8]) -> io::Result<usize> {
+        match self.rest.split_first() {
+            Some((byte, rest)) if !buf.is_empty() => {
+                buf[0] = *byte;
+                self.rest = rest;
+                Ok(1)
+            }
+            None if self.fails => Err(ErrorKind::ConnectionReset.into()),
+            _ => Ok(0),
+        }
+    }
+}
+
+/// A writer that takes so many bytes, and then fails.
+#[derive(Drop)]
+struct Output {
+    room: usize,
+    taken: Vec<u8>,
+}
+
+impl Write for Output {
+    fn write(&mut self, buf: &[u8]) -> io::Result<usize> {
+        let taken = buf.len().min(self.room);
+        if taken == 0 || self.taken.extend_from_slice(&buf[..taken]).is_err() {
+            return Err(ErrorKind::BrokenPipe.into());
+        }
+        self.room -= taken;
+        Ok(taken)
+    }
+
+    fn flush(&mut self) -> io::Result<()> {
+        Ok(())
+    }
+}
+
+/// Which exchange of a row is tried, by its reader and its writer.
+#[derive(Clone, Copy, Debug)]
+enum Trial {
+    /// The whole request.
+    Whole,
+    /// The request cut after so many bytes.
+    Cut(usize),
+    /// The same, over a reader that fails then.
+    Torn(usize),
+    /// The whole request, over a writer that takes so many bytes.
+    Narrow(usize),
+}
+
+/// How an exchange ended, in a word, and what was written.
+fn exchanged<S: Alter>(
+    alloc: Global,
+    book: &mut Book<S>,
+    sent: &[u8],
+    trial: Trial,
+) -> (&'static str, Vec<u8>) {
+    let (length, fails, room) = match trial {
+        Trial::Whole => (sent.len(), false, usize::MAX),
+        Trial::Cut(length) => (length, false, usize::MAX),
+        Trial::Torn(length) => (length, true, usize::MAX),
+        Trial::Narrow(room) => (sent.len(), false, room),
+    };
+    let mut reader = Input {
+        rest: sent.get(..length).unwrap_or(sent),
+        fails,
+    };
+    let mut writer = Output {
+        room,
+        taken: Vec::new(alloc),
+    };
+    let word = match exchange(alloc, &mut reader, &mut writer, book) {
+        Ok(Served::Answered(_)) => "answered",
+        Ok(Served::Nothing) => "nothing",
+        Err(ChannelFault::Reader) => "reader",
+        Err(ChannelFault::Writer) => "writer",
+    };
+    (word, writer.taken)
+}
+
+const CONTINUE: &str = "HTTP/1.1 100 Continue||";
+
+const CUT: &str =
+    "HTTP/1.1 400 Bad Request|Content-Type: application/json|Content-Length: 31|Connection: close||{\"result\":\"error\",\"status\":400}";
+
+/// An exchange in bytes.
+#[derive(Drop)]
+struct Sample {
+    sent: Vec<u8>,
+    /// How many bytes of it are the head.
+    head: usize,
+    written: Vec<u8>,
+}
+
+/// A text in bytes.
+fn bytes_of(alloc: Global, text: &str) -> Result<Vec<u8>, Untold> {
+    let mut bytes = Vec::new(alloc);
+    for byte in text.bytes() {
+        match byte {
+            b'|' => bytes.extend_from_slice(b"\r\n")?,
+            b'_' => bytes.push(b'\n')?,
+            _ => bytes.push(byte)?,
+        }
+    }
+    Ok(bytes)
+}
+
+fn sample(alloc: Global, sent: &str, written: &str) -> Result<Sample, Untold> {
+    let head = sent.split("||").next().unwrap_or(sent);
+    Ok(Sample {
+        sent: bytes_of(alloc, sent)?,
+        head: bytes_of(alloc, head)?.len().saturating_add(4),
+        written: bytes_of(alloc, written)?,
+    })
+}
+
+/// All exchanges.
+fn samples(alloc: Global) -> Result<Vec<Sample>, Untold> {
+    let mut samples = Vec::new(alloc);
+    let mut lines = EXCHANGES.lines();
+    for _ in 0..100 {
+        let (Some(sent), Some(written)) = (lines.next(), lines.next()) else {
+            break;
+        };
+        samples.push(sample(alloc, sent, written)?)?;
+    }
+    Ok(samples)
+}
+
+/// What is written before the body, where so many bytes of the request come.
+fn interim(alloc: Global, sample: &Sample, length: usize) -> Result<Vec<u8>, Untold> {
+    let front = bytes_of(alloc, CONTINUE)?;
+    if length < sample.head || !sample.written.starts_with(&front) {
+        return Ok(Vec::new(alloc));
+    }
+    Ok(front)
+}
+
+/// How an exchange is to end, and what is to be written.
+fn wanted(
+    alloc: Global,
+    sample: &Sample,
+    trial: Trial,
+) -> Result<(&'static str, Vec<u8>), Untold> {
+    match trial {
+        Trial::Whole => Ok(("answered", copy_of(alloc, &sample.written, usize::MAX)?)),
+        Trial::Cut(0) => Ok(("nothing", Vec::new(alloc))),
+        Trial::Cut(length) => {
+            let mut bytes = interim(alloc, sample, length)?;
+            bytes.extend_from_slice(&bytes_of(alloc, CUT)?)?;
+            Ok(("answered", bytes))
+        }
+        Trial::Torn(length) => Ok(("reader", interim(alloc, sample, length)?)),
+        Trial::Narrow(room) => Ok(("writer", copy_of(alloc, &sample.written, room)?)),
+    }
+}
+
+/// A copy of the first bytes.
+fn copy_of(alloc: Global, bytes: &[u8], length: usize) -> Result<Vec<u8>, Untold> {
+    let mut copy = Vec::new(alloc);
+    copy.extend_from_slice(bytes.get(..length).unwrap_or(bytes))?;
+    Ok(copy)
+}
+
+/// Tries an exchange, and adds a line where it isn't as it is to be.
+fn try_one<S: Alter>(
+    alloc: Global,
+    book: &mut Book<S>,
+    sample: &Sample,
+    trial: Trial,
+    text: &mut String,
+) -> Result<(), Untold> {
+    let wanted = wanted(alloc, sample, trial)?;
+    let found = exchanged(alloc, book, &sample.sent, trial);
+    if found != wanted {
+        let sent = str::from_utf8(&sample.sent).unwrap_or("");
+        let written = str::from_utf8(&found.1).unwrap_or("");
+        let line = format!(in alloc; "{trial:?} of {sent}: {} {written}\n", found.0)?;
+        text.push_str(&line)?;
+    }
+    Ok(())
+}
+
+/// Tries each request cut short, and by a reader that fails.
+fn try_cut<S: Alter>(
+    alloc: Global,
+    book: &mut Book<S>,
+    samples: &[Sample],
+    text: &mut String,
+) -> Result<(), Untold> {
+    for sample in samples {
+        for length in 0..sample.sent.len() {
+            try_one(alloc, book, sample, Trial::Cut(length), text)?;
+            try_one(alloc, book, sample, Trial::Torn(length), text)?;
+        }
+    }
+    Ok(())
+}
+
+/// Tries each request by a writer that fails, and then whole.
+fn try_whole<S: Alter>(
+    alloc: Global,
+    book: &mut Book<S>,
+    samples: &[Sample],
+    text: &mut String,
+) -> Result<(), Untold> {
+    for sample in samples {
+        for room in 0..sample.written.len() {
+            try_one(alloc, book, sample, Trial::Narrow(room), text)?;
+        }
+        try_one(alloc, book, sample, Trial::Whole, text)?;
+    }
+    Ok(())
+}
+
+/// Tries with a new book what leaves it as it is, and notes its rows; and then what it keeps.
+fn tried<S: Alter + Drop>(alloc: Global, conn: Connection<S>) -> Result<String, Untold> {
+    let samples = samples(alloc)?;
+    let mut text = String::new(alloc);
+    let mut book = opened(create(alloc, conn))?;
+    try_cut(alloc, &mut book, &samples, &mut text)?;
+    let mut conn = book.into_connection();
+    text.push_str(&contents::told(alloc, &mut conn)?)?;
+    let mut book = opened(take_up(alloc, conn))?;
+    try_whole(alloc, &mut book, &samples, &mut text)?;
+    Ok(text)
+}
+
+/// The book, if there is one.
+fn opened<S: Alter + Drop>(book: Result<Book<S>, Left<S>>) -> Result<Book<S>, Untold> {
+    match book {
+        Ok(book) => Ok(book),
+        Err((_told, _conn)) => Err(Untold::Unread),
+    }
+}
+
+/// A request that is cut, and one whose reader fails, changes nothing. One whose writer fails is answered when it is made again as it
+/// would have been.
+#[test]
+fn exchanges_come_to_what_is_stated(rt: HostRuntime) -> Result<(), Fail> {
+    let conn = Connection::open_in_memory(rt.alloc())?;
+    let text = tried(rt.alloc(), conn)?;
+    assert_eq!(rt; text.as_str(), "book 1|1|EST5EDT,M3.2.0,M11.1.0\n");
+    Ok(())
+}

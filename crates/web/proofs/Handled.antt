@@ -1,0 +1,249 @@
+-- From what the book did to what is told of it.
+use Rattle.std.proofs.Common.{◌≡◌, ◌∙◌, ◌≤◌, ◌||◌, ◌↔◌, ap, sym, subst, refl, inl, inr, arith, ℕ, Bool, true, false, IsTrue, List, [], ◌∷◌, length, map, take, Option, Some, None, Result, Ok, Err, IfOk, OnOk}
+use Rattle.std.proofs.lemmas.List.{take_all}
+use Rattle.sqlite.specs.Held.{state}
+use Rattle.sqlite_trees.specs.declared.store.Store.{Ghosts}
+use Rattle.duty.specs.Plans.{Plan}
+use Rattle.command.specs.Keys.{KeyParts}
+use Rattle.command.specs.declared.order.Order.{Order}
+use Rattle.kept.specs.declared.fault.CodecFault.{CodecFault}
+use Rattle.kept.specs.declared.fault.CodecFault.TheVariants.{BadCsv}
+use Rattle.codec.specs.Requests.{read_request}
+use Rattle.codec.specs.Schedule.{IsAtFault, IsSchedule}
+use Rattle.roster.specs.Folds as folds
+use Rattle.roster.specs.Folds.{Fold, Replies, import}
+use Rattle.roster.specs.Honest.{Honest}
+use Rattle.roster.specs.State.{State}
+use Rattle.roster.specs.Steps.{step_of}
+use Rattle.rows.specs.declared.fault.StoreFault.{StoreFault}
+use Rattle.rows.specs.declared.fault.StoreFault.TheVariants as fault
+use Rattle.writing.specs.Kept.{KeepOthers}
+use Rattle.writing.specs.Outcomes.{AddsNothing, AddsOnly, Leaves}
+use Rattle.book.specs.Kept as kept
+use Rattle.book.specs.Kept.{Ends, HasTables, IsAt, IsClean, IsInDoubt, Kept, result_of}
+use Rattle.book.specs.Shown.{IsShown}
+use Rattle.book.specs.declared.answer.Answer as book
+use Rattle.book.specs.declared.answer.Show.{Show}
+use Rattle.http_message.specs.Plan.{Subject, crew, pairing, exceedances}
+use Rattle.http_message.specs.declared.plan.Submission.TheVariants.{Command, Import}
+use Rattle.http_exchange.specs.Handler as http
+use Rattle.http_exchange.specs.Handler.{Answer, submit}
+use Rattle.http_exchange.specs.declared.handler.HandlerFault.{HandlerFault}
+use Rattle.http_exchange.specs.declared.handler.HandlerFault.TheVariants.{Store, Memory}
+use Rattle.web.specs.Acts.{Commands, IsReport, command_of, commands_of, request_answer, show_of}
+use Rattle.web.specs.Answers.{Tells, command_answer, fault_answer, parts_answer}
+use Rattle.web.specs.Handling.{AreAdded, AreToldAs, IsAsked, IsHandled, IsKept, IsReportOf, IsReportToldAs, IsToldAs, is_store_fault}
+
+or_false : (b : Bool) → b ≡ (b || false)
+or_false true = refl
+or_false false = refl
+
+length-replies : (s : State) (l : Commands) → length (Replies s l) ≡ length l
+length-replies s [] = refl
+length-replies s (a ∷ l) = ap suc (length-replies (folds.next s a) l)
+
+-- ---- what is as it was
+
+pub still_honest : {S : Type 0} (g : Ghosts S) {now : Kept S} (s : State) → IsAt g now s → Honest s → Leaves (state g now.held) Honest
+still_honest g s at honest = record {
+  crash = λ clean trees may.
+    let left = at.leaves.crash clean trees may in
+    (left.0, subst Honest (sym left.1) honest, left.2);
+}
+
+module _ {S : Type 0} (g : Ghosts S) (book : Kept S) where
+  unasked_kept : (result : Result Answer HandlerFault) → is_store_fault result ≡ false → IsKept g book book result
+  unasked_kept result no = record {
+    failed = or_false book.failed ∙ ap (λ b. book.failed || b) (sym no);
+    shut = λ _. refl;
+    clean = λ clean. clean;
+    honest = λ s at honest. still_honest g s at honest;
+    others = record { crash = λ clean trees may. inl may };
+  }
+
+  -- there was no memory to ask
+  pub no_memory : (asked : http.Asked) → IsHandled g book book asked (Err Memory)
+  no_memory asked = record { kept = unasked_kept (Err Memory) refl; done = λ s at. inl refl }
+
+  pub none_added : (number : ℕ) (plans : List Plan) → AreAdded g book book number plans (Err Memory)
+  none_added number plans = record { kept = unasked_kept (Err Memory) refl; done = λ s at. (0, at) }
+
+  -- a body that isn't read asks nothing
+  pub command_unread : (body : List ℕ) (fault : CodecFault) (told : Result Answer HandlerFault) → read_request body ≡ Err fault → Tells (fault_answer fault) told
+      → IsHandled g book book (submit Command body) told
+  command_unread body fault (Ok answer) is tells = record {
+    kept = unasked_kept (Ok answer) refl;
+    done = λ s at. rw is ((λ _. tells), ([], refl, (at, λ tables. tables)));
+  }
+  command_unread body fault (Err Store) is tells = absurd tells
+  command_unread body fault (Err Memory) is tells = no_memory (submit Command body)
+
+  pub schedule_unread : (number : ℕ) (body : List ℕ) (fault : CodecFault) (line : ℕ) (told : Result Answer HandlerFault) → fault ≡ BadCsv line → IsAtFault body line
+      → Tells (fault_answer fault) told → IsHandled g book book (submit (Import number) body) told
+  schedule_unread number body fault line (Ok answer) is at_fault tells = record {
+    kept = unasked_kept (Ok answer) refl;
+    done = λ s at. (
+      (λ _. inr (line, at_fault, subst (λ f. answer ≡ fault_answer f) is tells)),
+      ([], inr (line, at_fault, refl), (at, λ tables. tables)),
+    );
+  }
+  schedule_unread number body fault line (Err Store) is at_fault tells = absurd tells
+  schedule_unread number body fault line (Err Memory) is at_fault tells = no_memory (submit (Import number) body)
+
+module _ {S : Type 0} (g : Ghosts S) (old new : Kept S) where
+  -- ---- commands
+
+  pub asked_by : (asked : folds.Asked) (r : Result book.Answer StoreFault) (told : Result Answer HandlerFault) → IsToldAs r told
+      → new.failed ≡ (old.failed || kept.is_store_fault r)
+      → (IsTrue old.failed → (r ≡ Err fault.Store) × (new ≡ old))
+      → (IsClean g new → IsClean g old)
+      → ((s : State) → IsAt g old s → IsClean g new → IfOk r (λ a. result_of a ≡ folds.answer_of (step_of s asked.0 asked.1)))
+      → ((s : State) → IsAt g old s → OnOk r (IsAt g new (folds.next s asked)))
+      → ((s : State) → IsAt g old s → HasTables g old s → OnOk r (HasTables g new (folds.next s asked)))
+      → ((s : State) → IsAt g old s → r ≡ Err fault.Memory → IsAt g new s)
+      → ((s : State) → IsAt g old s → r ≡ Err fault.Store → IsInDoubt g new s (folds.next s asked))
+      → ((s : State) → IsAt g old s → Honest s → Leaves (state g new.held) Honest)
+      → AddsOnly (state g old.held) (state g new.held) (KeepOthers (state g old.held).now)
+      → IsAsked g old new asked told
+  asked_by asked (Ok a) (Ok answer) tells failed shut clean reply answered tables memory store honest others = record {
+    kept = record { failed = failed; shut = λ f. (shut f).1; clean = clean; honest = honest; others = others };
+    done = λ s at. ((λ c. tells ∙ ap command_answer (reply s at c)), (answered s at, λ t. tables s at t));
+  }
+  asked_by asked (Ok a) (Err Store) tells failed shut clean reply answered tables memory store honest others = absurd tells
+  asked_by asked (Ok a) (Err Memory) tells failed shut clean reply answered tables memory store honest others = record {
+    kept = record { failed = failed; shut = λ f. (shut f).1; clean = clean; honest = honest; others = others };
+    done = λ s at. inr (answered s at);
+  }
+  asked_by asked (Err fault.Store) told tells failed shut clean reply answered tables memory store honest others =
+      subst (IsAsked g old new asked) (sym tells) (record {
+        kept = record { failed = failed; shut = λ f. (shut f).1; clean = clean; honest = honest; others = others };
+        done = λ s at. store s at refl;
+      })
+  asked_by asked (Err fault.Memory) told tells failed shut clean reply answered tables memory store honest others =
+      subst (IsAsked g old new asked) (sym tells) (record {
+        kept = record { failed = failed; shut = λ f. (shut f).1; clean = clean; honest = honest; others = others };
+        done = λ s at. inl (memory s at refl);
+      })
+
+  pub command_read : (body : List ℕ) (number : ℕ) (order : Order) (key : KeyParts) (told : Result Answer HandlerFault) → read_request body ≡ Ok (number, order)
+      → key ≡ record { number = number; part = 0 } → IsAsked g old new (key, order) told → IsHandled g old new (submit Command body) told
+  command_read body number order key told is under it =
+      go told (subst (λ k. IsAsked g old new (k, order) told) under it)
+    where
+      go : (told : Result Answer HandlerFault) → IsAsked g old new (command_of (number, order)) told → IsHandled g old new (submit Command body) told
+      go (Ok answer) asked = record { kept = asked.kept; done = λ s at. let did = asked.done s at in rw is (did.0, (command_of (number, order) ∷ [], refl, did.1)) }
+      go (Err Store) asked = record { kept = asked.kept; done = λ s at. rw is (command_of (number, order) ∷ [], refl, (0, asked.done s at)) }
+      go (Err Memory) asked = record { kept = asked.kept; done = λ s at. inr (rw is (command_of (number, order) ∷ [], refl, begun s (asked.done s at))) }
+        where
+          begun : (s : State) → IsAt g new s ⊎ IsAt g new (folds.next s (command_of (number, order))) → (n : ℕ) × IsAt g new (Fold s (take n (command_of (number, order) ∷ [])))
+          begun s (inl at) = (0, at)
+          begun s (inr at) = (1, at)
+
+  -- ---- imports
+
+  pub added_by : (number : ℕ) (plans : List Plan) (commands : Commands) (answers : List book.Answer) (f : Option StoreFault) (told : Result Answer HandlerFault)
+      → commands ≡ import number plans → AreToldAs answers f told
+      → new.failed ≡ (old.failed || kept.is_some_store_fault f)
+      → (IsTrue old.failed → (f ≡ Some fault.Store) × (answers ≡ []) × (new ≡ old))
+      → (IsClean g new → IsClean g old)
+      → (f ≡ None → length answers ≡ length commands)
+      → ((s : State) → IsAt g old s → IsClean g new → map result_of answers ≡ take (length answers) (Replies s commands))
+      → ((s : State) → IsAt g old s → Ends (state g new.held) s commands (length answers) f)
+      → ((s : State) → IsAt g old s → HasTables g old s → f ≡ None → HasTables g new (Fold s commands))
+      → ((s : State) → IsAt g old s → Honest s → Leaves (state g new.held) Honest)
+      → AddsOnly (state g old.held) (state g new.held) (KeepOthers (state g old.held).now)
+      → AreAdded g old new number plans told
+  added_by number plans commands answers None (Ok answer) is tells failed shut clean whole replies ends tables honest others =
+      let every = whole refl in
+      record {
+        kept = record { failed = failed; shut = λ f. (shut f).2; clean = clean; honest = honest; others = others };
+        done = λ s at.
+          let all : take (length answers) (Replies s commands) ≡ Replies s commands = take_all (length answers) (Replies s commands) (omega (arith, every, length-replies s commands)) in
+          (
+            (λ c. tells ∙ ap parts_answer (replies s at c ∙ all ∙ ap (Replies s) is)),
+            (subst (λ l. IsAt g new (Fold s l)) is (ends s at), λ t. subst (λ l. HasTables g new (Fold s l)) is (tables s at t refl)),
+          );
+      }
+  added_by number plans commands answers None (Err Store) is tells failed shut clean whole replies ends tables honest others = absurd tells
+  added_by number plans commands answers None (Err Memory) is tells failed shut clean whole replies ends tables honest others = record {
+    kept = record { failed = failed; shut = λ f. (shut f).2; clean = clean; honest = honest; others = others };
+    done = λ s at.
+      let all : take (length commands) commands ≡ commands = take_all (length commands) commands (omega arith) in
+      (length commands, subst (λ l. IsAt g new (Fold s (take (length commands) l))) is (subst (λ l. IsAt g new (Fold s l)) (sym all) (ends s at)));
+  }
+  added_by number plans commands answers (Some fault.Store) told is tells failed shut clean whole replies ends tables honest others =
+      subst (AreAdded g old new number plans) (sym tells) (record {
+        kept = record { failed = failed; shut = λ f. (shut f).2; clean = clean; honest = honest; others = others };
+        done = λ s at. (length answers, subst (λ l. IsInDoubt g new (Fold s (take (length answers) l)) (Fold s (take (length answers + 1) l))) is (ends s at));
+      })
+  added_by number plans commands answers (Some fault.Memory) told is tells failed shut clean whole replies ends tables honest others =
+      subst (AreAdded g old new number plans) (sym tells) (record {
+        kept = record { failed = failed; shut = λ f. (shut f).2; clean = clean; honest = honest; others = others };
+        done = λ s at. (length answers, subst (λ l. IsAt g new (Fold s (take (length answers) l))) is (ends s at));
+      })
+
+  pub schedule_read : (number : ℕ) (body : List ℕ) (plans : List Plan) (told : Result Answer HandlerFault) → IsSchedule body plans → AreAdded g old new number plans told
+      → IsHandled g old new (submit (Import number) body) told
+  schedule_read number body plans (Ok answer) is added = record {
+    kept = added.kept;
+    done = λ s at. let did = added.done s at in ((λ c. inl (plans, is, did.0 c)), (import number plans, inl (plans, is, refl), did.1));
+  }
+  schedule_read number body plans (Err Store) is added = record { kept = added.kept; done = λ s at. (import number plans, inl (plans, is, refl), added.done s at) }
+  schedule_read number body plans (Err Memory) is added = record { kept = added.kept; done = λ s at. inr (import number plans, inl (plans, is, refl), added.done s at) }
+
+  -- ---- reports
+
+  is_report : (about : Subject) (shown : Option (List ℕ)) (answer : Answer) → IsReportOf (show_of about) shown answer → IsReport about shown answer
+  is_report about (Some text) answer is = is
+  is_report (crew id) None answer is = is
+  is_report (pairing id) None answer is = is
+  is_report exceedances None answer is = is
+
+  pub reported_by : (about : Subject) (what : Show) (r : Result State StoreFault) (told : Result Answer HandlerFault) → what ≡ show_of about → IsReportToldAs r what told
+      → new.failed ≡ (old.failed || kept.is_store_fault r)
+      → (IsTrue old.failed → (r ≡ Err fault.Store) × (new ≡ old))
+      → (IsClean g new → IsClean g old)
+      → ((s : State) → IsAt g old s → IsClean g new → IfOk r (λ roster. (shown : Option (List ℕ)) → IsShown roster what shown ↔ IsShown s what shown))
+      → ((s : State) → IsAt g old s → IsAt g new s)
+      → ((s : State) → IsAt g old s → HasTables g old s → OnOk r (HasTables g new s))
+      → AddsNothing (state g old.held) (state g new.held)
+      → IsHandled g old new (http.show about) told
+  reported_by about what r told is tells failed shut clean text same tables left =
+      go r told (subst (λ w. IsReportToldAs r w told) is tells) failed (λ f. (shut f).1)
+      (λ s at c. subst (λ w. IfOk r (λ roster. (shown : Option (List ℕ)) → IsShown roster w shown ↔ IsShown s w shown)) is (text s at c)) tables
+    where
+      kept_so : (told : Result Answer HandlerFault) → new.failed ≡ (old.failed || is_store_fault told) → (IsTrue old.failed → new ≡ old) → IsKept g old new told
+      kept_so told failed shut = record {
+        failed = failed;
+        shut = shut;
+        clean = clean;
+        honest = λ s at honest. still_honest g s (same s at) honest;
+        others = record { crash = λ c trees may. inl (left.crash c trees may) };
+      }
+      go : (r : Result State StoreFault) (told : Result Answer HandlerFault) → IsReportToldAs r (show_of about) told → new.failed ≡ (old.failed || kept.is_store_fault r)
+          → (IsTrue old.failed → new ≡ old)
+          → ((s : State) → IsAt g old s → IsClean g new → IfOk r (λ roster. (shown : Option (List ℕ)) → IsShown roster (show_of about) shown ↔ IsShown s (show_of about) shown))
+          → ((s : State) → IsAt g old s → HasTables g old s → OnOk r (HasTables g new s)) → IsHandled g old new (http.show about) told
+      go (Ok roster) (Ok answer) it failed shut text tables = record {
+        kept = kept_so (Ok answer) failed shut;
+        done = λ s at. (
+          (λ c. (it.0, (text s at c it.0).0 it.1, is_report about it.0 answer it.2)),
+          ([], refl, (same s at, λ t. tables s at t)),
+        );
+      }
+      go (Ok roster) (Err Store) it failed shut text tables = absurd it
+      go (Ok roster) (Err Memory) it failed shut text tables = record { kept = kept_so (Err Memory) failed shut; done = λ s at. inr ([], refl, (0, same s at)) }
+      go (Err fault.Store) told it failed shut text tables = subst (IsHandled g old new (http.show about)) (sym it) (record {
+        kept = kept_so (Err Store) failed shut;
+        done = λ s at. ([], refl, (0, in_doubt s (same s at)));
+      })
+      go (Err fault.Memory) told it failed shut text tables = subst (IsHandled g old new (http.show about)) (sym it) (record {
+        kept = kept_so (Err Memory) failed shut;
+        done = λ s at. inr ([], refl, (0, same s at));
+      })
+      in_doubt : (s : State) → IsAt g new s → IsInDoubt g new s s
+      in_doubt s at = record {
+        crash = λ c trees may.
+          let it = at.leaves.crash c trees may in
+          (it.0, (inl it.1, subst kept.IsKept (sym it.1) (at.kept c)), it.2);
+      }

@@ -1,0 +1,95 @@
+-- An input has one response in a state.
+use Rattle.std.proofs.Common.{◌≡◌, ◌∙◌, ◌⊎◌, ap, sym, subst, refl, inl, inr, ℕ, Bool, List, [], Option, Some, None, Result, Ok, Err}
+use Rattle.httparse.specs.Grammar.{RequestHead}
+use Rattle.httparse.proofs.GrammarLemmas.{request_unique}
+use Rattle.duty.specs.Plans.{Plan}
+use Rattle.codec.specs.Schedule.{IsAtFault, IsSchedule}
+use Rattle.codec.proofs.OneReading.{has_no_fault, has_one_fault, is_of_one_list}
+use Rattle.kept.specs.declared.fault.CodecFault.TheVariants.{BadCsv}
+use Rattle.report.proofs.OneText.{one_exceedance_text, one_roster}
+use Rattle.roster.specs.Folds.{Replies, import}
+use Rattle.roster.specs.State.{State}
+use Rattle.book.specs.Shown.{IsShown}
+use Rattle.http_message.specs.Heading.{heading}
+use Rattle.http_message.specs.Plan.{Planned, Subject, crew, pairing, exceedances, plan}
+use Rattle.http_message.specs.declared.plan.Submission.{Submission}
+use Rattle.http_message.specs.declared.plan.Submission.TheVariants.{Command, Import}
+use Rattle.http_message.specs.declared.refusals.RequestFault.{RequestFault}
+use Rattle.http_exchange.specs.Exchange as exchange
+use Rattle.http_exchange.specs.Exchange.{asks}
+use Rattle.http_exchange.specs.Final.{Final, of_answer}
+use Rattle.http_exchange.specs.Handler as http
+use Rattle.http_exchange.specs.Handler.{Answer, submit}
+use Rattle.web.specs.Acts.{Asks, Commands, IsAnswer, IsReport, show_of}
+use Rattle.web.specs.Answers.{fault_answer, parts_answer}
+use Rattle.web.specs.Laws.{HasOneResponse}
+use Rattle.web.specs.Response.{IsFinal, IsResponseTo, Response}
+
+-- ---- the commands that are asked
+
+one_import : (number : ℕ) (body : List ℕ) (a b : Commands) → Asks (submit (Import number) body) a → Asks (submit (Import number) body) b → a ≡ b
+one_import number body a b (inl (plans, is, are)) (inl (plans', is', are')) = are ∙ ap (import number) (is_of_one_list body plans plans' is is') ∙ sym are'
+one_import number body a b (inl (plans, is, are)) (inr (line, at_fault, none)) = absurd (has_no_fault body plans line is at_fault)
+one_import number body a b (inr (line, at_fault, none)) (inl (plans, is, are)) = absurd (has_no_fault body plans line is at_fault)
+one_import number body a b (inr (line, at_fault, none)) (inr (line', at_fault', none')) = none ∙ sym none'
+
+one_list : (asked : http.Asked) (a b : Commands) → Asks asked a → Asks asked b → a ≡ b
+one_list (submit Command body) a b is is' = is ∙ sym is'
+one_list (submit (Import number) body) a b is is' = one_import number body a b is is'
+one_list (http.show what) a b is is' = is ∙ sym is'
+
+-- ---- the answer
+
+module _ (s : State) where
+  one_schedule_answer : (number : ℕ) (body : List ℕ) (a b : Answer) → IsAnswer s (submit (Import number) body) a → IsAnswer s (submit (Import number) body) b → a ≡ b
+  one_schedule_answer number body a b (inl (plans, is, are)) (inl (plans', is', are')) =
+      are ∙ ap (λ p. parts_answer (Replies s (import number p))) (is_of_one_list body plans plans' is is') ∙ sym are'
+  one_schedule_answer number body a b (inl (plans, is, are)) (inr (line, at_fault, told)) = absurd (has_no_fault body plans line is at_fault)
+  one_schedule_answer number body a b (inr (line, at_fault, told)) (inl (plans, is, are)) = absurd (has_no_fault body plans line is at_fault)
+  one_schedule_answer number body a b (inr (line, at_fault, told)) (inr (line', at_fault', told')) =
+      told ∙ ap (λ n. fault_answer (BadCsv n)) (has_one_fault body line line' at_fault at_fault') ∙ sym told'
+
+  one_text : (what : Subject) (a b : Option (List ℕ)) → IsShown s (show_of what) a → IsShown s (show_of what) b → a ≡ b
+  one_text (crew id) (Some a) (Some b) is is' = ap Some (one_roster s id a b is is')
+  one_text (crew id) (Some a) None is is' = let never = sym is.is_there ∙ is' in absurd cc
+  one_text (crew id) None (Some b) is is' = let never = sym is'.is_there ∙ is in absurd cc
+  one_text (crew id) None None is is' = refl
+  one_text (pairing id) a b is is' = sym is ∙ is'
+  one_text exceedances (Some a) (Some b) is is' = ap Some (one_exceedance_text s a b is is')
+  one_text exceedances (Some a) None is is' = absurd is'
+  one_text exceedances None b is is' = absurd is
+
+  one_report : (what : Subject) (shown : Option (List ℕ)) (a b : Answer) → IsReport what shown a → IsReport what shown b → a ≡ b
+  one_report what (Some text) a b is is' = is ∙ sym is'
+  one_report (crew id) None a b is is' = is ∙ sym is'
+  one_report (pairing id) None a b is is' = is ∙ sym is'
+  one_report exceedances None a b is is' = absurd is
+
+  one_answer : (asked : http.Asked) (a b : Answer) → IsAnswer s asked a → IsAnswer s asked b → a ≡ b
+  one_answer (submit Command body) a b is is' = is ∙ sym is'
+  one_answer (submit (Import number) body) a b is is' = one_schedule_answer number body a b is is'
+  one_answer (http.show what) a b (shown, is, told) (shown', is', told') =
+      one_report what shown' a b (subst (λ t. IsReport what t a) (one_text what shown shown' is is') told) told'
+
+  -- ---- the response
+
+  one_final : (asked : Result http.Asked RequestFault) (is_head : Bool) (a b : Commands) (f f' : Final) → IsFinal s asked is_head a f → IsFinal s asked is_head b f' → (a ≡ b) × (f ≡ f')
+  one_final (Err fault) is_head a b f f' (none, is) (none', is') = (none ∙ sym none', is ∙ sym is')
+  one_final (Ok asked) is_head a b f f' (listed, (answer, told, is)) (listed', (answer', told', is')) =
+      (one_list asked a b listed listed', is ∙ ap (λ t. of_answer (Ok t) is_head) (one_answer asked answer answer' told told') ∙ sym is')
+
+  same_response : (r other : Response) → r.interim ≡ other.interim → r.final ≡ other.final → r.commands ≡ other.commands → r.unread ≡ other.unread → r ≡ other
+  same_response r other a b c d = cc
+
+  one_response_to : (p : Planned) (rest : List ℕ) (r other : Response) → IsResponseTo s p rest r → IsResponseTo s p rest other → r ≡ other
+  one_response_to p rest r other is is' =
+      let final = one_final (asks p.step rest) p.is_head r.commands other.commands r.final other.final is.final_is is'.final_is in
+      same_response r other (is.interim_is ∙ sym is'.interim_is) final.1 final.0 (is.unread_is ∙ sym is'.unread_is)
+
+pub one_response : HasOneResponse
+one_response s input r other (some, inl (none, is)) (some', inl (none', is')) = is ∙ sym is'
+one_response s input r other (some, inl (none, is)) (some', inr (h, rest, head, is')) = absurd (none h rest head)
+one_response s input r other (some, inr (h, rest, head, is)) (some', inl (none, is')) = absurd (none h rest head)
+one_response s input r other (some, inr (h, rest, head, is)) (some', inr (h', rest', head', is')) =
+    let same = request_unique input h h' rest rest' head.reads head'.reads in
+    one_response_to s (plan (heading h')) rest' r other (subst (λ k. IsResponseTo s (plan (heading k)) rest' r) same.0 (subst (λ t. IsResponseTo s (plan (heading h)) t r) same.1 is)) is'

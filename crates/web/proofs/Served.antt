@@ -1,0 +1,253 @@
+-- From an exchange over a handler to one with a book.
+use Rattle.std.proofs.Common.{◌≡◌, ◌∙◌, ◌<◌, ◌⊎◌, ◌||◌, ◌++◌, ap, sym, subst, refl, inl, inr, arith, ℕ, Bool, true, false, IsTrue, List, [], ◌∷◌, length, take, Option, Some, None, Result, Ok, Err, IfOk, IfErr}
+use Rattle.std.proofs.lemmas.List.{take_all}
+use Rattle.std.specs.Io.KnownBytes.{Appends}
+use Rattle.sqlite.specs.Held.{state}
+use Rattle.sqlite_trees.specs.declared.store.Store.{Ghosts}
+use Rattle.httparse.specs.Grammar.{RequestHead}
+use Rattle.roster.specs.Folds.{Fold}
+use Rattle.roster.specs.Honest.{Honest}
+use Rattle.roster.specs.State.{State}
+use Rattle.writing.specs.Kept.{KeepOthers}
+use Rattle.writing.specs.Outcomes.{AddsOnly, Leaves}
+use Rattle.book.specs.Kept.{HasTables, IsAt, IsClean, Kept}
+use Rattle.http_message.specs.Heading.{heading}
+use Rattle.http_message.specs.Plan.{Planned, plan}
+use Rattle.http_message.specs.Reading.{HasHead, HasNoHead}
+use Rattle.http_message.specs.declared.refusals.RequestFault.{RequestFault}
+use Rattle.http_message.specs.declared.refusals.RequestFault.TheVariants.{NoHead}
+use Rattle.http_exchange.specs.Exchange as exchange
+use Rattle.http_exchange.specs.Exchange.{Held, asks, interim, unread}
+use Rattle.http_exchange.specs.Final.{IsAnswerTold, IsSent, IsTold, of_answer, of_fault, of_no_memory, of_no_store}
+use Rattle.http_exchange.specs.Handler.{Answer, Asked}
+use Rattle.http_exchange.specs.declared.exchanges.Served.{Served}
+use Rattle.http_exchange.specs.declared.exchanges.Served.TheVariants.{Answered, Nothing}
+use Rattle.http_exchange.specs.declared.handler.HandlerFault.{HandlerFault}
+use Rattle.http_exchange.specs.declared.handler.HandlerFault.TheVariants.{Store, Memory}
+use Rattle.http_exchange.specs.declared.sending.ChannelFault.{ChannelFault}
+use Rattle.http_exchange.specs.declared.sending.ChannelFault.TheVariants.{Reader, Writer}
+use Rattle.web.specs.Acts.{Asks, Commands}
+use Rattle.web.specs.Handling.{IsDone, IsHandled}
+use Rattle.web.specs.Response.{IsFinal, Response, no_head}
+use Rattle.web.specs.Serving.{AsksOnce, IsBegun, IsBrokenOff, IsGiven, IsLeftBy, IsMemoryTold, IsRequestFor, IsServed, IsStoreTold}
+use Rattle.web.proofs.Handled.{still_honest}
+
+or_true : (b : Bool) → IsTrue (b || true)
+or_true true = tt
+or_true false = tt
+
+module _ {S : Type 0} (g : Ghosts S) where
+  abbrev handles : Kept S → Kept S → Asked → Result Answer HandlerFault → Type 0
+  handles old new asked result = IsHandled g old new asked result
+
+  has_failed : (old new : Kept S) (asked : Asked) → handles old new asked (Err Store) → IsTrue new.failed
+  has_failed old new asked it = subst IsTrue (sym it.kept.failed) (or_true old.failed)
+
+  module _ (s : State) (old new : Kept S) (at : IsAt g old s) where
+    all_done : (commands : Commands) → IsAt g new (Fold s commands) → (n : ℕ) × IsAt g new (Fold s (take n commands))
+    all_done commands done =
+        let all : take (length commands) commands ≡ commands = take_all (length commands) commands (omega arith) in
+        (length commands, subst (λ l. IsAt g new (Fold s l)) (sym all) done)
+
+    -- ---- what is left by a request, whatever was told
+
+    left_by : (asked : Asked) (answer : Result Answer HandlerFault) → handles old new asked answer → (new ≡ old) ⊎ ((commands : Commands) × Asks asked commands × IsLeftBy g s new commands)
+    left_by asked (Ok a) it =
+        let did = it.done s at in
+        inr (did.1.0, did.1.1, inl (all_done did.1.0 did.1.2.0))
+    left_by asked (Err Store) it =
+        let did = it.done s at in
+        inr (did.0, did.1, inr (has_failed old new asked it, did.2))
+    left_by asked (Err Memory) it = go (it.done s at)
+      where
+        go : IsDone g old new s asked (Err Memory) → (new ≡ old) ⊎ ((commands : Commands) × Asks asked commands × IsLeftBy g s new commands)
+        go (inl same) = inl same
+        go (inr did) = inr (did.0, did.1, inl did.2)
+
+    -- ---- one exchange
+
+    module _ (input : List ℕ) (left out out' : Held) (code : ℕ) where
+      abbrev Ends : Type 0
+      Ends = IsGiven g s input left out out' old new code ⊎ (IsStoreTold g s input left out out' new code ⊎ IsMemoryTold g s input out out' old new code)
+
+      -- there was no memory, and nothing was asked
+      short : (front : List ℕ) (is_head : Bool) → new ≡ old → IsSent front out out' code (of_no_memory is_head) → Ends
+      short front is_head same sent = inr (inr (record { front = front; is_head = is_head; status = sent.0; written = sent.1; state = inl same }))
+
+      unchanged : (P : Kept S → Type 0) → new ≡ old → P old → P new
+      unchanged P same it = subst P (sym same) it
+
+      without_head : 0 < length input → HasNoHead input → exchange.IsSettled handles (Err NoHead) [] false out out' old new code → Ends
+      without_head some none (same, inl sent) = inl (record {
+        response = no_head;
+        is = (some, inl (none, refl));
+        status = sent.0;
+        written = sent.1;
+        left_is = tt;
+        state = unchanged (λ b. IsAt g b s) same at;
+        tables = λ has. unchanged (λ b. HasTables g b s) same has;
+      })
+      without_head some none (same, inr sent) = short [] false same sent
+
+      module _ (some : 0 < length input) (h : RequestHead) (rest : List ℕ) (head : HasHead input h rest) where
+        abbrev p : Planned
+        p = plan (heading h)
+
+        abbrev given : Asked → Answer → Commands → Response
+        given asked a commands = record { interim = interim p.step; final = of_answer (Ok a) p.is_head; commands = commands; unread = Some (unread p.step rest) }
+
+        request : (asked : Asked) (commands : Commands) → asks p.step rest ≡ Ok asked → Asks asked commands → IsRequestFor input p rest asked commands
+        request asked commands is listed = record { h = h; head = head; planned = refl; whole = is; listed = listed }
+
+        refused : (fault : RequestFault) → asks p.step rest ≡ Err fault → left ≡ Some (unread p.step rest) → new ≡ old
+            → IsTold (interim p.step) out out' code (of_fault fault p.is_head) p.is_head → Ends
+        refused fault is left_is same (inl sent) = inl (record {
+          response = record { interim = interim p.step; final = of_fault fault p.is_head; commands = []; unread = Some (unread p.step rest) };
+          is = (some, inr (h, rest, head, record {
+            interim_is = refl;
+            final_is = subst (λ a. IsFinal s a p.is_head [] (of_fault fault p.is_head)) (sym is) (refl, refl);
+            unread_is = refl;
+          }));
+          status = sent.0;
+          written = sent.1;
+          left_is = left_is;
+          state = unchanged (λ b. IsAt g b s) same at;
+          tables = λ has. unchanged (λ b. HasTables g b s) same has;
+        })
+        refused fault is left_is same (inr sent) = short (interim p.step) p.is_head same sent
+
+        answered : IsClean g new → (asked : Asked) (answer : Result Answer HandlerFault) → asks p.step rest ≡ Ok asked → left ≡ Some (unread p.step rest)
+            → handles old new asked answer → IsAnswerTold (interim p.step) out out' code answer p.is_head → Ends
+        answered clean asked (Ok a) is left_is it (inl sent) =
+            let did = it.done s at in
+            inl (record {
+              response = given asked a did.1.0;
+              is = (some, inr (h, rest, head, record {
+                interim_is = refl;
+                final_is = subst (λ q. IsFinal s q p.is_head did.1.0 (of_answer (Ok a) p.is_head)) (sym is) (did.1.1, (a, did.0 clean, refl));
+                unread_is = refl;
+              }));
+              status = sent.0;
+              written = sent.1;
+              left_is = left_is;
+              state = did.1.2.0;
+              tables = did.1.2.1;
+            })
+        answered clean asked (Ok a) is left_is it (inr sent) =
+            let did = it.done s at in
+            inr (inr (record {
+              front = interim p.step;
+              is_head = p.is_head;
+              status = sent.0;
+              written = sent.1;
+              state = inr (p, rest, asked, did.1.0, request asked did.1.0 is did.1.1, all_done did.1.0 did.1.2.0);
+            }))
+        answered clean asked (Err Store) is left_is it sent =
+            let did = it.done s at in
+            inr (inl (record {
+              p = p;
+              rest = rest;
+              asked = asked;
+              commands = did.0;
+              request = request asked did.0 is did.1;
+              status = sent.0;
+              written = sent.1;
+              left_is = left_is;
+              failed = has_failed old new asked it;
+              state = did.2;
+            }))
+        answered clean asked (Err Memory) is left_is it sent = inr (inr (record {
+          front = interim p.step;
+          is_head = p.is_head;
+          status = sent.0;
+          written = sent.1;
+          state = begun (it.done s at);
+        }))
+          where
+            begun : IsDone g old new s asked (Err Memory)
+                → (new ≡ old) ⊎ ((p : Planned) × (rest : List ℕ) × (asked : Asked) × (commands : Commands) × IsRequestFor input p rest asked commands × IsBegun g s new commands)
+            begun (inl same) = inl same
+            begun (inr did) = inr (p, rest, asked, did.0, request asked did.0 is did.1, did.2)
+
+        settled : IsClean g new → (a : Result Asked RequestFault) → asks p.step rest ≡ a → left ≡ Some (unread p.step rest)
+            → exchange.IsSettled handles a (interim p.step) p.is_head out out' old new code → Ends
+        settled clean (Err fault) is left_is it = refused fault is left_is it.0 it.1
+        settled clean (Ok asked) is left_is it = answered clean asked it.0 is left_is it.1 it.2
+
+        with_head : IsClean g new → exchange.Answers handles p (Some rest) left out out' old new code → Ends
+        with_head clean (inl it) = settled clean (asks p.step rest) refl it.left_is it.settled
+        with_head clean (inr it) = short [] p.is_head it.unasked it.sent
+
+      ends : IsClean g new → exchange.IsServedOf handles input left out out' old new (Answered code) → Ends
+      ends clean (some, inl it) = without_head some it.0 it.1
+      ends clean (some, inr (inl it)) = with_head some it.0 it.1 it.2 clean it.3
+      ends clean (some, inr (inr it)) = short [] false it.unasked it.sent
+
+    served_so : IsClean g new → (had left out out' : Held) (it : Served) → exchange.IsServed handles had left out out' old new it → IsServed g s had left out out' old new it
+    served_so clean None left out out' it said = tt
+    served_so clean (Some input) left out out' Nothing said = said
+    served_so clean (Some input) left out out' (Answered code) said = ends input left out out' code clean said
+
+    pub served : IsClean g new → (had left out out' : Held) (r : Result Served ChannelFault) → IfOk r (λ it. exchange.IsServed handles had left out out' old new it)
+        → IfOk r (λ it. IsServed g s had left out out' old new it)
+    served clean had left out out' (Ok it) said = served_so clean had left out out' it said
+    served clean had left out out' (Err fault) said = tt
+
+    -- ---- a channel that failed
+
+    broken_at : (input : List ℕ) → exchange.IsBrokenOff handles (Some input) old new Writer → IsBrokenOff g s (Some input) old new Writer
+    broken_at input (inl same) = inl same
+    broken_at input (inr (h, rest, head, may)) = go (asks (plan (heading h)).step rest) refl may
+      where
+        go : (a : Result Asked RequestFault) → asks (plan (heading h)).step rest ≡ a → exchange.MayHaveAsked handles a old new → IsBrokenOff g s (Some input) old new Writer
+        go (Err fault) is same = inl same
+        go (Ok asked) is (inl same) = inl same
+        go (Ok asked) is (inr (answer, it)) = by (left_by asked answer it)
+          where
+            by : (new ≡ old) ⊎ ((commands : Commands) × Asks asked commands × IsLeftBy g s new commands) → IsBrokenOff g s (Some input) old new Writer
+            by (inl same) = inl same
+            by (inr did) = inr (
+              plan (heading h),
+              rest,
+              asked,
+              did.0,
+              record { h = h; head = head; planned = refl; whole = is; listed = did.1 },
+              did.2,
+            )
+
+    broken_so : (had : Held) (fault : ChannelFault) → exchange.IsBrokenOff handles had old new fault → IsBrokenOff g s had old new fault
+    broken_so had Reader said = said
+    broken_so None Writer said = tt
+    broken_so (Some input) Writer said = broken_at input said
+
+    pub broken_off : (had : Held) (r : Result Served ChannelFault) → IfErr r (λ fault. exchange.IsBrokenOff handles had old new fault)
+        → IfErr r (λ fault. IsBrokenOff g s had old new fault)
+    broken_off had (Ok it) said = tt
+    broken_off had (Err fault) said = broken_so had fault said
+
+    -- ---- whatever the input is
+
+    pub once : exchange.AsksOnce handles old new → AsksOnce g s old new
+    once (inl same) = inl same
+    once (inr (asked, (answer, it))) = by (left_by asked answer it)
+      where
+        by : (new ≡ old) ⊎ ((commands : Commands) × Asks asked commands × IsLeftBy g s new commands) → AsksOnce g s old new
+        by (inl same) = inl same
+        by (inr did) = inr (asked, did.0, did.1, did.2)
+
+    pub honest : exchange.AsksOnce handles old new → Honest s → Leaves (state g new.held) Honest
+    honest (inl same) fair = subst (λ b. Leaves (state g b.held) Honest) (sym same) (still_honest g s at fair)
+    honest (inr (asked, (answer, it))) fair = it.kept.honest s at fair
+
+  module _ (old new : Kept S) where
+    pub shut : exchange.AsksOnce handles old new → IsTrue old.failed → new ≡ old
+    shut (inl same) failed = same
+    shut (inr (asked, (answer, it))) failed = it.kept.shut failed
+
+    pub clean : exchange.AsksOnce handles old new → IsClean g new → IsClean g old
+    clean (inl same) now = subst (λ b. IsClean g b) same now
+    clean (inr (asked, (answer, it))) now = it.kept.clean now
+
+    pub others : exchange.AsksOnce handles old new → AddsOnly (state g old.held) (state g new.held) (KeepOthers (state g old.held).now)
+    others (inl same) = subst (λ b. AddsOnly (state g old.held) (state g b.held) (KeepOthers (state g old.held).now)) (sym same) (record { crash = λ clean trees may. inl may })
+    others (inr (asked, (answer, it))) = it.kept.others

@@ -1,0 +1,66 @@
+-- What a request comes to in a book: the commands that it asks, and what it is answered.
+use Rattle.std.specs.Prelude.{◌≡◌, ◌⊎◌, ℕ, List, [], ◌∷◌, Option, Some, None, Result, Ok, Err}
+use Rattle.duty.specs.Plans.{Plan}
+use Rattle.command.specs.declared.order.Order.{Order}
+use Rattle.kept.specs.declared.fault.CodecFault.{CodecFault}
+use Rattle.kept.specs.declared.fault.CodecFault.TheVariants.{BadCsv}
+use Rattle.codec.specs.Requests.{read_request}
+use Rattle.codec.specs.Schedule.{IsAtFault, IsSchedule}
+use Rattle.roster.specs.Folds as folds
+use Rattle.roster.specs.Folds.{Replies, import}
+use Rattle.roster.specs.State.{State}
+use Rattle.roster.specs.Steps.{step_of}
+use Rattle.book.specs.Shown.{IsShown}
+use Rattle.book.specs.declared.answer.Show.{Show}
+use Rattle.book.specs.declared.answer.Show.TheVariants as show
+use Rattle.http_message.specs.Plan.{Subject, crew, pairing, exceedances}
+use Rattle.http_message.specs.declared.plan.Submission.TheVariants.{Command, Import}
+use Rattle.http_exchange.specs.Handler as http
+use Rattle.http_exchange.specs.Handler.{Answer, submit}
+use Rattle.web.specs.Answers.{IsAbsent, command_answer, fault_answer, parts_answer, report_answer}
+
+-- commands under their keys
+abbrev pub Commands : Type 0
+Commands = List folds.Asked
+
+-- the command of a body, under part 0 of its number
+abbrev pub command_of : ℕ × Order → folds.Asked
+command_of (number, order) = (record { number = number; part = 0 }, order)
+
+-- one that is read is a command, and one that isn't is none
+abbrev pub commands_of : Result (ℕ × Order) CodecFault → Commands
+commands_of (Ok read) = command_of read ∷ []
+commands_of (Err fault) = []
+
+-- the commands that a request asks: the one of a body that is read; the parts of a schedule; of another body, and of a report, none
+abbrev pub Asks : http.Asked → Commands → Type 0
+Asks (submit Command body) commands = commands ≡ commands_of (read_request body)
+Asks (submit (Import number) body) commands =
+    ((plans : List Plan) × IsSchedule body plans × (commands ≡ import number plans))
+    ⊎ ((line : ℕ) × IsAtFault body line × (commands ≡ []))
+Asks (http.show what) commands = commands ≡ []
+
+-- what a book shows for a report
+abbrev pub show_of : Subject → Show
+show_of (crew id) = show.Crew id
+show_of (pairing id) = show.Pairing id
+show_of exceedances = show.Exceedances
+
+-- the text of a report, or that there is none
+abbrev pub IsReport : Subject → Option (List ℕ) → Answer → Type 0
+IsReport what (Some text) answer = answer ≡ report_answer text
+IsReport what None answer = IsAbsent what answer
+
+module _ (s : State) where
+  -- the answer to a body that is read is the book's to its command, and another is told why it isn't
+  abbrev pub request_answer : Result (ℕ × Order) CodecFault → Answer
+  request_answer (Ok (number, order)) = command_answer (folds.answer_of (step_of s (record { number = number; part = 0 }) order))
+  request_answer (Err fault) = fault_answer fault
+
+  -- the answer to a request in this state
+  abbrev pub IsAnswer : http.Asked → Answer → Type 0
+  IsAnswer (submit Command body) answer = answer ≡ request_answer (read_request body)
+  IsAnswer (submit (Import number) body) answer =
+      ((plans : List Plan) × IsSchedule body plans × (answer ≡ parts_answer (Replies s (import number plans))))
+      ⊎ ((line : ℕ) × IsAtFault body line × (answer ≡ fault_answer (BadCsv line)))
+  IsAnswer (http.show what) answer = (shown : Option (List ℕ)) × IsShown s (show_of what) shown × IsReport what shown answer

@@ -1,0 +1,107 @@
+-- What a book's answers are told as: a status and a text each.
+use Rattle.std.specs.Prelude.{◌≡◌, ⊤, ℕ, List, [], ◌∷◌, ◌++◌, codes, string_bytes, String, Result, Ok, Err}
+use Rattle.std.specs.Global.{Global}
+use Rattle.std.specs.List.{flat_map}
+use Rattle.values.specs.declared.memory_fault.MemoryFault.{MemoryFault}
+use Rattle.command.specs.declared.exceedance.Reply.{Reply}
+use Rattle.command.specs.declared.refusal.Refusal.{Refusal}
+use Rattle.command.specs.declared.refusal.Refusal.TheVariants.{NumberUsed, NoSuchCrew, CrewExists, NoSuchPairing, PairingExists, SeatTaken, WrongSeat, NotAssigned, PairingCrewed, Flown, Overlap, Limits, NoSuchDuty, GroundExists, NoSuchGround, SegmentCount}
+use Rattle.kept.specs.ReplyText.{reply_text}
+use Rattle.kept.specs.declared.fault.CodecFault.{CodecFault}
+use Rattle.codec.specs.RefusalText.{fault_reply, refusal_text}
+use Rattle.rows.specs.declared.fault.StoreFault.{StoreFault}
+use Rattle.rows.specs.declared.fault.StoreFault.TheVariants as fault
+use Rattle.http_message.specs.Plan.{Subject, crew, pairing, exceedances}
+use Rattle.http_message.specs.declared.responses.MediaType.TheVariants.{Json, PlainText}
+use Rattle.http_exchange.specs.Handler.{Answer}
+use Rattle.http_exchange.specs.declared.handler.HandlerFault.{HandlerFault}
+use Rattle.http_exchange.specs.declared.handler.HandlerFault.TheVariants.{Store, Memory}
+
+-- a text in JSON, under a status
+abbrev pub json : ℕ → List ℕ → Answer
+json status text = record { status = status; media_type = Json; text = text }
+
+-- ---- Commands
+
+-- the status of each refusal of the book
+abbrev pub refusal_status : Refusal → ℕ
+refusal_status NumberUsed = 409
+refusal_status NoSuchCrew = 409
+refusal_status CrewExists = 409
+refusal_status NoSuchPairing = 409
+refusal_status PairingExists = 409
+refusal_status SeatTaken = 409
+refusal_status WrongSeat = 409
+refusal_status NotAssigned = 409
+refusal_status PairingCrewed = 409
+refusal_status Flown = 409
+refusal_status Overlap = 409
+refusal_status (Limits broken) = 409
+refusal_status NoSuchDuty = 409
+refusal_status GroundExists = 409
+refusal_status NoSuchGround = 409
+refusal_status (SegmentCount period) = 422
+
+-- what the book answers a command, or a part of an import
+abbrev pub Answered : Type 0
+Answered = Result Reply Refusal
+
+-- its text in JSON
+abbrev pub answer_text : Answered → List ℕ
+answer_text (Ok reply) = reply_text reply
+answer_text (Err refusal) = refusal_text refusal
+
+abbrev pub answer_status : Answered → ℕ
+answer_status (Ok reply) = 200
+answer_status (Err refusal) = refusal_status refusal
+
+-- the answer to a command
+abbrev pub command_answer : Answered → Answer
+command_answer answer = json (answer_status answer) (answer_text answer)
+
+-- why a body isn't read
+abbrev pub fault_answer : CodecFault → Answer
+fault_answer fault = json 422 (fault_reply fault)
+
+-- ---- Imports
+
+-- the texts of all parts in turn, with a comma between
+abbrev pub with_commas : List Answered → List ℕ
+with_commas [] = []
+with_commas (first ∷ others) = answer_text first ++ flat_map (λ a. codes "," ++ answer_text a) others
+
+abbrev pub parts_text : List Answered → List ℕ
+parts_text answers = codes "{\"parts\":[" ++ with_commas answers ++ codes "]}"
+
+-- what each part was answered, refused ones too
+abbrev pub parts_answer : List Answered → Answer
+parts_answer answers = json 200 (parts_text answers)
+
+-- ---- Reports
+
+-- the text of a report
+abbrev pub report_answer : List ℕ → Answer
+report_answer text = record { status = 200; media_type = PlainText; text = text }
+
+-- the member or the pairing of a report isn't there
+abbrev pub IsAbsent : Subject → Answer → Type 0
+IsAbsent (crew id) answer = answer ≡ json 404 (refusal_text NoSuchCrew)
+IsAbsent (pairing id) answer = answer ≡ json 404 (refusal_text NoSuchPairing)
+IsAbsent exceedances answer = ⊥
+
+-- ---- as the program makes them
+
+-- a fault of the book
+abbrev pub fault_of : StoreFault → HandlerFault
+fault_of fault.Store = Store
+fault_of fault.Memory = Memory
+
+-- this was told, if there was memory for it
+abbrev pub Tells : Answer → Result Answer HandlerFault → Type 0
+Tells wanted (Ok answer) = answer ≡ wanted
+Tells wanted (Err Store) = ⊥
+Tells wanted (Err Memory) = ⊤
+
+abbrev pub IsInJson : ℕ → Result (String Global) MemoryFault → Result Answer HandlerFault → Type 0
+IsInJson status (Ok text) result = result ≡ Ok (json status (string_bytes text))
+IsInJson status (Err fault) result = result ≡ Err Memory

@@ -1,0 +1,130 @@
+-- What a book makes of one request, as its functions say it to one another and to an exchange. No public clause names these.
+use Rattle.std.specs.Prelude.{◌≡◌, ◌⊎◌, ◌||◌, ⊤, ℕ, Bool, true, false, ◌+◌, take, map, List, Option, Some, None, Result, Ok, Err, String, string_bytes, IsTrue}
+use Rattle.std.specs.Global.{Global}
+use Rattle.sqlite_trees.specs.declared.store.Store.{Ghosts}
+use Rattle.sqlite.specs.Held.{state}
+use Rattle.duty.specs.Plans.{Plan}
+use Rattle.command.specs.declared.refusal.Refusal.{Refusal}
+use Rattle.command.specs.declared.refusal.Refusal.TheVariants.{NoSuchCrew, NoSuchPairing}
+use Rattle.codec.specs.RefusalText.{refusal_text}
+use Rattle.roster.specs.Folds as folds
+use Rattle.roster.specs.Folds.{Fold, Replies, import}
+use Rattle.roster.specs.Honest.{Honest}
+use Rattle.roster.specs.State.{State}
+use Rattle.roster.specs.Steps.{step_of}
+use Rattle.rows.specs.declared.fault.StoreFault.{StoreFault}
+use Rattle.report.specs.declared.fault.ReportFault.{ReportFault}
+use Rattle.report.specs.declared.fault.ReportFault.TheVariants as report
+use Rattle.writing.specs.Kept.{KeepOthers}
+use Rattle.writing.specs.Outcomes.{AddsOnly, Leaves}
+use Rattle.book.specs.Kept.{HasTables, IsAt, IsClean, IsInDoubt, Kept, result_of}
+use Rattle.book.specs.Shown.{IsShown}
+use Rattle.book.specs.declared.answer.Answer as book
+use Rattle.book.specs.declared.answer.Show.{Show}
+use Rattle.book.specs.declared.answer.Show.TheVariants.{Crew, Pairing, Exceedances}
+use Rattle.http_exchange.specs.Handler.{Answer, Asked}
+use Rattle.http_exchange.specs.declared.handler.HandlerFault.{HandlerFault}
+use Rattle.http_exchange.specs.declared.handler.HandlerFault.TheVariants.{Store, Memory}
+use Rattle.web.specs.Acts.{Asks, Commands, IsAnswer}
+use Rattle.web.specs.Answers.{Tells, command_answer, fault_of, json, parts_answer, report_answer}
+
+-- ---- what is told of what the book did
+
+-- an answer to a command, or its fault
+abbrev pub IsToldAs : Result book.Answer StoreFault → Result Answer HandlerFault → Type 0
+IsToldAs (Ok answer) told = Tells (command_answer (result_of answer)) told
+IsToldAs (Err fault) told = told ≡ Err (fault_of fault)
+
+-- the answers to all parts, or the fault that ended them
+abbrev pub AreToldAs : List book.Answer → Option StoreFault → Result Answer HandlerFault → Type 0
+AreToldAs answers None told = Tells (parts_answer (map result_of answers)) told
+AreToldAs answers (Some fault) told = told ≡ Err (fault_of fault)
+
+-- the text of a report of this state
+abbrev pub IsTextOf : State → Show → Result (String Global) ReportFault → Type 0
+IsTextOf s what (Ok text) = IsShown s what (Some (string_bytes text))
+IsTextOf s what (Err report.NoSuchCrew) = IsShown s what None × ((who : List ℕ) × (what ≡ Crew who))
+IsTextOf s what (Err report.NoSuchPairing) = IsShown s what None × ((id : List ℕ) × (what ≡ Pairing id))
+IsTextOf s what (Err report.Memory) = ⊤
+
+-- that what a refusal of the book names isn't there
+abbrev pub TellsAbsence : Refusal → Result Answer HandlerFault → Type 0
+TellsAbsence refusal result = Tells (json 404 (refusal_text refusal)) result
+
+-- what a book shows, and the answer that tells it
+abbrev pub IsReportOf : Show → Option (List ℕ) → Answer → Type 0
+IsReportOf what (Some text) answer = answer ≡ report_answer text
+IsReportOf (Crew who) None answer = answer ≡ json 404 (refusal_text NoSuchCrew)
+IsReportOf (Pairing id) None answer = answer ≡ json 404 (refusal_text NoSuchPairing)
+IsReportOf Exceedances None answer = ⊥
+
+-- the report of a roster was told, if there was memory for it
+abbrev pub IsReported : State → Show → Result Answer HandlerFault → Type 0
+IsReported s what (Ok answer) = (shown : Option (List ℕ)) × IsShown s what shown × IsReportOf what shown answer
+IsReported s what (Err Store) = ⊥
+IsReported s what (Err Memory) = ⊤
+
+-- what a book shows, or its fault
+abbrev pub IsReportToldAs : Result State StoreFault → Show → Result Answer HandlerFault → Type 0
+IsReportToldAs (Ok roster) what told = IsReported roster what told
+IsReportToldAs (Err fault) what told = told ≡ Err (fault_of fault)
+
+-- ---- what the book did
+
+abbrev pub is_store_fault : Result Answer HandlerFault → Bool
+is_store_fault (Ok answer) = false
+is_store_fault (Err Store) = true
+is_store_fault (Err Memory) = false
+
+module _ {S : Type 0} (g : Ghosts S) (old new : Kept S) where
+  -- what the commands leave, of which all were done; or of which the store failed at one, which is in doubt; or of which there was no
+  -- memory for one, or to tell what they were answered
+  abbrev pub IsLeft : State → Commands → Result Answer HandlerFault → Type 0
+  IsLeft s commands (Ok answer) = IsAt g new (Fold s commands) × (HasTables g old s → HasTables g new (Fold s commands))
+  IsLeft s commands (Err Store) = (n : ℕ) × IsInDoubt g new (Fold s (take n commands)) (Fold s (take (n + 1) commands))
+  IsLeft s commands (Err Memory) = (n : ℕ) × IsAt g new (Fold s (take n commands))
+
+  -- the request was answered as it is in this state, or where it wasn't, what it asks was begun, or nothing was asked
+  abbrev pub IsDone : State → Asked → Result Answer HandlerFault → Type 0
+  IsDone s asked (Ok answer) =
+      (IsClean g new → IsAnswer s asked answer) × ((commands : Commands) × Asks asked commands × IsLeft s commands (Ok answer))
+  IsDone s asked (Err Store) = (commands : Commands) × Asks asked commands × IsLeft s commands (Err Store)
+  IsDone s asked (Err Memory) = (new ≡ old) ⊎ ((commands : Commands) × Asks asked commands × IsLeft s commands (Err Memory))
+
+  -- what is said whatever is asked
+  pub record IsKept (result : Result Answer HandlerFault) : Type 0 where
+    pub failed : new.failed ≡ (old.failed || is_store_fault result)
+    pub shut : IsTrue old.failed → new ≡ old
+    pub clean : IsClean g new → IsClean g old
+    pub honest : (s : State) → IsAt g old s → Honest s → Leaves (state g new.held) Honest
+    pub others : AddsOnly (state g old.held) (state g new.held) (KeepOthers (state g old.held).now)
+
+  -- the book was handed a request, and gave this result
+  pub record IsHandled (asked : Asked) (result : Result Answer HandlerFault) : Type 0 where
+    pub kept : IsKept result
+    pub done : (s : State) → IsAt g old s → IsDone s asked result
+
+  -- ---- commands
+
+  -- a command was asked
+  abbrev pub IsAskedIn : State → folds.Asked → Result Answer HandlerFault → Type 0
+  IsAskedIn s asked (Ok answer) =
+      (IsClean g new → answer ≡ command_answer (folds.answer_of (step_of s asked.0 asked.1)))
+      × (IsAt g new (folds.next s asked) × (HasTables g old s → HasTables g new (folds.next s asked)))
+  IsAskedIn s asked (Err Store) = IsInDoubt g new s (folds.next s asked)
+  IsAskedIn s asked (Err Memory) = IsAt g new s ⊎ IsAt g new (folds.next s asked)
+
+  pub record IsAsked (asked : folds.Asked) (result : Result Answer HandlerFault) : Type 0 where
+    pub kept : IsKept result
+    pub done : (s : State) → IsAt g old s → IsAskedIn s asked result
+
+  -- ---- imports
+
+  -- these pairings were added
+  abbrev pub AreAddedIn : State → Commands → Result Answer HandlerFault → Type 0
+  AreAddedIn s commands (Ok answer) = (IsClean g new → answer ≡ parts_answer (Replies s commands)) × IsLeft s commands (Ok answer)
+  AreAddedIn s commands (Err fault) = IsLeft s commands (Err fault)
+
+  pub record AreAdded (number : ℕ) (plans : List Plan) (result : Result Answer HandlerFault) : Type 0 where
+    pub kept : IsKept result
+    pub done : (s : State) → IsAt g old s → AreAddedIn s (import number plans) result

@@ -1,0 +1,6 @@
+pub mod Answers
+pub mod Acts
+pub mod Response
+pub mod Laws
+pub mod Handling
+pub mod Serving

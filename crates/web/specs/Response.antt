@@ -1,0 +1,49 @@
+-- The response to an input in a state of the book: what is written, the commands whose state is left, and what is left unread.
+use Rattle.std.specs.Prelude.{◌≡◌, ◌⊎◌, ◌<◌, ℕ, Bool, false, List, [], ◌++◌, length, Option, Some, None, Result, Ok, Err}
+use Rattle.httparse.specs.Grammar.{RequestHead}
+use Rattle.roster.specs.State.{State}
+use Rattle.http_message.specs.Heading.{heading}
+use Rattle.http_message.specs.Plan.{Planned, plan}
+use Rattle.http_message.specs.Reading.{HasHead, HasNoHead}
+use Rattle.http_message.specs.declared.refusals.RequestFault.{RequestFault}
+use Rattle.http_message.specs.declared.refusals.RequestFault.TheVariants.{NoHead}
+use Rattle.http_exchange.specs.Exchange as exchange
+use Rattle.http_exchange.specs.Exchange.{asks}
+use Rattle.http_exchange.specs.Final.{Final, of_answer, of_fault}
+use Rattle.http_exchange.specs.Handler.{Answer, Asked}
+use Rattle.web.specs.Acts.{Asks, Commands, IsAnswer}
+
+-- what is written before a body is read, and in the end; the commands that are done; and what is left unread, where that is said
+pub record Response : Type 0 where
+  pub interim : List ℕ
+  pub final : Final
+  pub commands : Commands
+  pub unread : Option (List ℕ)
+
+-- all that is written
+abbrev pub bytes : Response → List ℕ
+bytes r = r.interim ++ r.final.bytes
+
+-- there is no whole head: what of it is left unread isn't said
+abbrev pub no_head : Response
+no_head = record { interim = []; final = of_fault NoHead false; commands = []; unread = None }
+
+module _ (s : State) where
+  -- a request that asks nothing is refused, and another is answered as the book answers it
+  abbrev pub IsFinal : Result Asked RequestFault → Bool → Commands → Final → Type 0
+  IsFinal (Err fault) is_head commands final = (commands ≡ []) × (final ≡ of_fault fault is_head)
+  IsFinal (Ok asked) is_head commands final = Asks asked commands × ((answer : Answer) × IsAnswer s asked answer × (final ≡ of_answer (Ok answer) is_head))
+
+  -- the response to a head with this plan, after which these bytes stand
+  pub record IsResponseTo (p : Planned) (rest : List ℕ) (r : Response) : Type 0 where
+    pub interim_is : r.interim ≡ exchange.interim p.step
+    pub final_is : IsFinal (asks p.step rest) p.is_head r.commands r.final
+    pub unread_is : r.unread ≡ Some (exchange.unread p.step rest)
+
+  -- the response to an input
+  abbrev pub IsResponse : List ℕ → Response → Type 0
+  IsResponse input r =
+      (0 < length input) × (
+      (HasNoHead input × (r ≡ no_head))
+      ⊎ ((h : RequestHead) × (rest : List ℕ) × HasHead input h rest × IsResponseTo (plan (heading h)) rest r)
+      )

@@ -1,0 +1,105 @@
+-- What one exchange with a book is: the response was given, or 503 for a fault; and where the channel fails, what was asked.
+use Rattle.std.specs.Prelude.{◌≡◌, ◌⊎◌, ◌<◌, ⊤, ℕ, ◌+◌, Bool, IsTrue, List, [], ◌++◌, length, take, Option, Some, None, Result, Ok, Err}
+use Rattle.std.specs.Io.KnownBytes.{Appends}
+use Rattle.httparse.specs.Grammar.{RequestHead}
+use Rattle.sqlite_trees.specs.declared.store.Store.{Ghosts}
+use Rattle.roster.specs.Folds.{Fold}
+use Rattle.roster.specs.State.{State}
+use Rattle.book.specs.Kept.{HasTables, IsAt, IsInDoubt, Kept}
+use Rattle.http_message.specs.Heading.{heading}
+use Rattle.http_message.specs.Plan.{Planned, plan}
+use Rattle.http_message.specs.Reading.{HasHead}
+use Rattle.http_message.specs.Response.{no_memory, no_store}
+use Rattle.http_exchange.specs.Exchange.{Held, asks, interim, unread}
+use Rattle.http_exchange.specs.Handler.{Asked}
+use Rattle.http_exchange.specs.declared.exchanges.Served.{Served}
+use Rattle.http_exchange.specs.declared.exchanges.Served.TheVariants.{Answered, Nothing}
+use Rattle.http_exchange.specs.declared.sending.ChannelFault.{ChannelFault}
+use Rattle.http_exchange.specs.declared.sending.ChannelFault.TheVariants.{Reader, Writer}
+use Rattle.web.specs.Acts.{Asks, Commands}
+use Rattle.web.specs.Response.{IsResponse, Response, bytes}
+
+-- the input asks these commands: its head, by its plan and what stands after it, is a request that asks them
+pub record IsRequestFor (input : List ℕ) (p : Planned) (rest : List ℕ) (asked : Asked) (commands : Commands) : Type 0 where
+  pub h : RequestHead
+  pub head : HasHead input h rest
+  pub planned : p ≡ plan (heading h)
+  pub whole : asks p.step rest ≡ Ok asked
+  pub listed : Asks asked commands
+
+-- what is left unread is what the response says, where it says it
+abbrev pub IsUnread : Option (List ℕ) → Held → Type 0
+IsUnread None left = ⊤
+IsUnread (Some rest) left = left ≡ Some rest
+
+module _ {S : Type 0} (g : Ghosts S) (s : State) where
+  -- the commands were done up to some of them
+  abbrev pub IsBegun : Kept S → Commands → Type 0
+  IsBegun new commands = (n : ℕ) × IsAt g new (Fold s (take n commands))
+
+  -- the store failed at one of them, which is done or not
+  abbrev pub IsBroken : Kept S → Commands → Type 0
+  IsBroken new commands = (n : ℕ) × IsInDoubt g new (Fold s (take n commands)) (Fold s (take (n + 1) commands))
+
+  -- ---- a response
+
+  -- the response to the input was given, and its commands are done
+  pub record IsGiven (input : List ℕ) (left out out' : Held) (old new : Kept S) (code : ℕ) : Type 0 where
+    pub response : Response
+    pub is : IsResponse s input response
+    pub status : code ≡ response.final.status
+    pub written : Appends out out' (bytes response)
+    pub left_is : IsUnread response.unread left
+    pub state : IsAt g new (Fold s response.commands)
+    pub tables : HasTables g old s → HasTables g new (Fold s response.commands)
+
+  -- the book's store failed (90): so it is told, after the interim response
+  pub record IsStoreTold (input : List ℕ) (left out out' : Held) (new : Kept S) (code : ℕ) : Type 0 where
+    pub p : Planned
+    pub rest : List ℕ
+    pub asked : Asked
+    pub commands : Commands
+    pub request : IsRequestFor input p rest asked commands
+    pub status : code ≡ 503
+    pub written : Appends out out' (interim p.step ++ no_store p.is_head)
+    pub left_is : left ≡ Some (unread p.step rest)
+    pub failed : IsTrue new.failed
+    pub state : IsBroken new commands
+
+  -- there was no memory (91): so it is told, after the interim response or in place of it, and the commands were begun, or none was asked
+  pub record IsMemoryTold (input : List ℕ) (out out' : Held) (old new : Kept S) (code : ℕ) : Type 0 where
+    pub front : List ℕ
+    pub is_head : Bool
+    pub status : code ≡ 503
+    pub written : Appends out out' (front ++ no_memory is_head)
+    pub state : (new ≡ old) ⊎ ((p : Planned) × (rest : List ℕ) × (asked : Asked) × (commands : Commands) × IsRequestFor input p rest asked commands × IsBegun new commands)
+
+  -- an input without a byte is served nothing
+  abbrev pub IsServedOf : List ℕ → Held → Held → Held → Kept S → Kept S → Served → Type 0
+  IsServedOf input left out out' old new Nothing = (input ≡ []) × (out' ≡ out) × (new ≡ old)
+  IsServedOf input left out out' old new (Answered code) =
+      IsGiven input left out out' old new code
+      ⊎ (IsStoreTold input left out out' new code
+      ⊎ IsMemoryTold input out out' old new code)
+
+  -- the same, where it is known what the reader has
+  abbrev pub IsServed : Held → Held → Held → Held → Kept S → Kept S → Served → Type 0
+  IsServed None left out out' old new it = ⊤
+  IsServed (Some input) left out out' old new it = IsServedOf input left out out' old new it
+
+  -- ---- a channel that failed
+
+  -- what a request asks was begun, or, after a fault of the store, is in doubt at one of its commands
+  abbrev pub IsLeftBy : Kept S → Commands → Type 0
+  IsLeftBy new commands = IsBegun new commands ⊎ (IsTrue new.failed × IsBroken new commands)
+
+  -- where the reader failed, nothing was asked; where the writer did, at most what the input asks
+  abbrev pub IsBrokenOff : Held → Kept S → Kept S → ChannelFault → Type 0
+  IsBrokenOff had old new Reader = new ≡ old
+  IsBrokenOff None old new Writer = ⊤
+  IsBrokenOff (Some input) old new Writer =
+      (new ≡ old) ⊎ ((p : Planned) × (rest : List ℕ) × (asked : Asked) × (commands : Commands) × IsRequestFor input p rest asked commands × IsLeftBy new commands)
+
+  -- whatever the input is: nothing was asked, or the commands of one request
+  abbrev pub AsksOnce : Kept S → Kept S → Type 0
+  AsksOnce old new = (new ≡ old) ⊎ ((asked : Asked) × (commands : Commands) × Asks asked commands × IsLeftBy new commands)

@@ -1,0 +1,63 @@
+//! One exchange with a book.
+ghost use Rattle.std.specs.Prelude.{◌≡◌, IfErr, IfOk, IsTrue};
+ghost use Rattle.roster.specs.Honest.{Honest};
+ghost use Rattle.roster.specs.State.{State};
+ghost use Rattle.sqlite.specs.Held.{state};
+ghost use Rattle.writing.specs.Kept.{KeepOthers};
+ghost use Rattle.writing.specs.Outcomes.{AddsOnly, Leaves};
+ghost use Rattle.book.specs.Kept.{IsAt, IsClean};
+ghost use Rattle.web.specs.Serving as spec;
+
+use crate::commands::answer_command;
+use crate::imports::answer_schedule;
+use crate::reports::answer_report;
+use book::Book;
+use http_exchange::{ChannelFault, Handler, HandlerFault, Request, Response, Served};
+use http_message::Submission;
+use sqlite::Alter;
+use std::alloc::Global;
+use std::io::{Read, Write};
+
+/// Answers the requests of exchanges by a book.
+struct BookHandler;
+
+impl<S: Alter> Handler<Book<S>> for BookHandler {
+    ghost use Rattle.web.specs.Handling.{IsHandled};
+
+    ghost handles = { λ old new asked result. IsHandled S.Store old new asked result };
+
+    fn handle(
+        &self,
+        alloc: Global,
+        book: &mut Book<S>,
+        request: &Request<'_>,
+    ) -> Result<Response, HandlerFault> {
+        match request {
+            Request::Submit(Submission::Command, body) => answer_command(alloc, book, body),
+            Request::Submit(Submission::Import(number), body) => {
+                answer_schedule(alloc, book, *number, body)
+            }
+            Request::Show(report) => answer_report(alloc, book, report),
+        }
+    }
+}
+
+/// Reads a request, has the book answer it, and writes the response (RFC 9112): a command, a schedule to be imported, or a report.
+/// Nothing is read past the head and the body that it announces. Where the book's store fails (90) or no memory is found (91), 503
+/// tells so; after 91 the request may be made again, under its number.
+pub fn exchange<R: Read, W: Write, S: Alter>(
+    alloc: Global,
+    reader: &mut R,
+    writer: &mut W,
+    book: &mut Book<S>,
+) -> Result<Served, ChannelFault>
+    ensures served { (s : State) → IsAt S.Store book.old s → IsClean S.Store book.new → IfOk result (λ it. spec.IsServed S.Store s (R.remaining reader.old) (R.remaining reader.new) (W.contents writer.old) (W.contents writer.new) book.old book.new it) }
+    ensures broken_off { (s : State) → IsAt S.Store book.old s → IfErr result (λ fault. spec.IsBrokenOff S.Store s (R.remaining reader.old) book.old book.new fault) }
+    ensures once { (s : State) → IsAt S.Store book.old s → spec.AsksOnce S.Store s book.old book.new }
+    ensures shut { IsTrue book.old.failed → book.new ≡ book.old }
+    ensures clean { IsClean S.Store book.new → IsClean S.Store book.old }
+    ensures honest { (s : State) → IsAt S.Store book.old s → Honest s → Leaves (state S.Store book.new.held) Honest }
+    ensures others { AddsOnly (state S.Store book.old.held) (state S.Store book.new.held) (KeepOthers (state S.Store book.old.held).now) }
+{
+    http_exchange::exchange(alloc, reader, writer, &BookHandler, book)
+}

@@ -1,0 +1,94 @@
+//! Schedules that are posted.
+ghost use Rattle.std.specs.Prelude.{◌≡◌, ◌≤◌, IfOk, length};
+ghost use Rattle.command.specs.declared.order.Order.TheVariants.{AddPairing};
+ghost use Rattle.roster.specs.Folds.{import};
+ghost use Rattle.http_message.specs.declared.plan.Submission.TheVariants as submission;
+ghost use Rattle.http_exchange.specs.Handler.{answer_of, submit};
+ghost use Rattle.web.specs.Handling as spec;
+
+use crate::answers::{fault_of, in_json, told_unread};
+use crate::parts::parts_to_json;
+use book::{Book, Run};
+use codec::{CodecFault, schedule_of_csv};
+use command::{Command, Key, Order};
+use duty::Pairing;
+use http::StatusCode;
+use http_exchange::{HandlerFault, Response};
+use http_message::ImportNumber;
+use sqlite::Alter;
+use std::alloc::Global;
+use values::MemoryFault;
+
+/// Answers a schedule that is posted under a number: each pairing is a command, and so a part of the answer.
+pub(crate) fn answer_schedule<S: Alter>(
+    alloc: Global,
+    book: &mut Book<S>,
+    number: ImportNumber,
+    body: &[u8],
+) -> Result<Response, HandlerFault>
+    ensures { spec.IsHandled S.Store book.old book.new (submit (submission.Import number) body.now) (answer_of result) }
+{
+    match schedule_of_csv(alloc, body) {
+        Ok(pairings) => add_all(alloc, book, number, pairings),
+        Err(CodecFault::Memory) => Err(HandlerFault::Memory),
+        Err(fault) => told_unread(alloc, fault),
+    }
+}
+
+/// Adds pairings in turn.
+fn add_all<S: Alter>(
+    alloc: Global,
+    book: &mut Book<S>,
+    number: ImportNumber,
+    pairings: Vec<Pairing>,
+) -> Result<Response, HandlerFault>
+    requires { length pairings.items ≤ 10_000 }
+    ensures { spec.AreAdded S.Store book.old book.new number pairings.items (answer_of result) }
+{
+    let Ok(commands) = commands_of(alloc, number, pairings) else {
+        return Err(HandlerFault::Memory);
+    };
+    let run = book.run(alloc, &commands);
+    told_parts(alloc, &run)
+}
+
+/// What the parts were answered, as it is told: all of them, or the fault that ended them.
+fn told_parts(alloc: Global, run: &Run) -> Result<Response, HandlerFault>
+    ensures { spec.AreToldAs run.now.answers.items run.now.fault (answer_of result) }
+{
+    match run.fault {
+        None => in_json(StatusCode::OK, parts_to_json(alloc, &run.answers)),
+        Some(fault) => Err(fault_of(fault)),
+    }
+}
+
+/// The commands that add pairings under the parts of a number.
+fn commands_of(
+    alloc: Global,
+    number: ImportNumber,
+    pairings: Vec<Pairing>,
+) -> Result<Vec<(Key, Command)>, MemoryFault>
+    requires { length pairings.items ≤ 10_000 }
+    ensures { IfOk result (λ commands. commands.items ≡ import number pairings.items) }
+{
+    let mut commands = Vec::new(alloc);
+    let mut part = 1u16;
+    for pairing in pairings {
+        commands.push((Key::new(number.get(), part), adding(pairing)))?;
+        part += 1;
+    }
+    Ok(commands)
+}
+
+/// The command that adds a pairing.
+#[tactic(auto, unfolding(command::specs::Orders::order_fault))]
+fn adding(pairing: Pairing) -> Command
+    ensures { result ≡ AddPairing pairing }
+{
+    // It has no fault, and so the command has none.
+    let _sound = pairing.periods();
+    match Command::new(Order::AddPairing(pairing)) {
+        Ok(command) => command,
+        Err(_fault) => unreachable!(),
+    }
+}
