@@ -23,6 +23,8 @@ mod keys;
 #[cfg(test)]
 mod late_flight;
 #[cfg(test)]
+mod loopback;
+#[cfg(test)]
 mod office;
 #[cfg(test)]
 mod opening;

@@ -22,7 +22,7 @@ use Rattle.rosterbook.proofs.RefusalLemmas.{appends_nothing}
 
 -- ---- What was written
 
-appends_both : (held held' held'' : Held) (xs ys : List ℕ) → Appends held held' xs → Appends held' held'' ys → Appends held held'' (xs ++ ys)
+pub appends_both : (held held' held'' : Held) (xs ys : List ℕ) → Appends held held' xs → Appends held' held'' ys → Appends held held'' (xs ++ ys)
 appends_both None held' held'' xs ys first second = tt
 appends_both (Some a) None held'' xs ys first second = absurd first
 appends_both (Some a) (Some b) None xs ys first second = absurd second

@@ -1,6 +1,7 @@
 pub mod Asking
 pub mod Program
 pub mod Refusal
+pub mod Serving
 pub mod Showing
 pub mod StopText
 pub mod Streams

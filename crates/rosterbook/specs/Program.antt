@@ -3,6 +3,7 @@ use Rattle.std.specs.Prelude.{◌≡◌, ℕ, Bool, true, false, List, [], ◌++
 use Rattle.std.specs.Io.KnownBytes.{Appends}
 use Rattle.time117.specs.Local.{is_zone_text}
 use Rattle.rosterbook.specs.Asking.{Answered, IsImportTold, IsTold}
+use Rattle.rosterbook.specs.Serving.{IsServeTold}
 use Rattle.rosterbook.specs.Showing.{IsToldOf}
 use Rattle.roster.specs.State.{State}
 use Rattle.book.specs.declared.answer.Show.TheVariants as show
@@ -12,7 +13,7 @@ use Rattle.writing.specs.Faults.{create_text}
 use Rattle.writing.specs.declared.fault.CreateFault.{CreateFault}
 use Rattle.verdict.specs.Verdict.{Line, line_of}
 use Rattle.console.specs.declared.actions.Action.{Action}
-use Rattle.console.specs.declared.actions.Action.TheVariants.{Duty, Init, Do, Import, Roster, Pairing, Exceedances}
+use Rattle.console.specs.declared.actions.Action.TheVariants.{Duty, Init, Do, Import, Roster, Pairing, Exceedances, Serve}
 use Rattle.verdict.specs.declared.fault.LineFault.{LineFault}
 use Rattle.verdict.specs.declared.fault.LineFault.TheVariants.{Zone, Memory}
 use Rattle.rosterbook.specs.declared.status.Status.{Status}
@@ -76,6 +77,7 @@ Answers (Import file number) status held out out' err err' = IsImportTold held o
 Answers (Roster file crew) status held out out' err err' = (s : State) × IsToldOf s (show.Crew (string_bytes crew)) status out out' err err'
 Answers (Pairing file id) status held out out' err err' = (s : State) × IsToldOf s (show.Pairing (string_bytes id)) status out out' err err'
 Answers (Exceedances file) status held out out' err err' = (s : State) × IsToldOf s show.Exceedances status out out' err err'
+Answers (Serve file port connections) status held out out' err err' = IsServeTold port connections out out' err err' status
 
 -- the same, with this exit status
 abbrev pub IsAnswered : Action → ℕ → Held → Held → Held → Held → Held → Type 0

@@ -3,10 +3,11 @@ use Rattle.std.specs.Prelude.{ℕ, List, codes}
 use Rattle.rows.specs.Faults as rows
 use Rattle.loading.specs.Faults.{load_text}
 use Rattle.rosterbook.specs.declared.stop.Stop.{Stop}
-use Rattle.rosterbook.specs.declared.stop.Stop.TheVariants.{Load, Book, Memory, Channel}
+use Rattle.rosterbook.specs.declared.stop.Stop.TheVariants.{Load, Book, Memory, Channel, Network}
 
 abbrev pub stop_text : Stop → List ℕ
 stop_text (Load fault) = load_text fault
 stop_text (Book fault) = rows.fault_text fault
 stop_text Memory = codes "91 Memory"
 stop_text Channel = codes "92 Channel"
+stop_text Network = codes "93 Network"

@@ -8,6 +8,8 @@ mod init_command;
 mod lines;
 mod program;
 mod refusal;
+mod serve_command;
+mod serving;
 mod show_command;
 mod status;
 mod stop;

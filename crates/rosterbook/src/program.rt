@@ -7,6 +7,7 @@ use crate::duty_command::answer_duty;
 use crate::import_command::answer_import;
 use crate::init_command::answer_init;
 use crate::lines::refuse;
+use crate::serve_command::answer_serve;
 use crate::show_command::{answer_exceedances, answer_pairing, answer_roster};
 use crate::status::Status;
 use crate::stop::Stop;
@@ -15,8 +16,8 @@ use std::io::{Read, Write};
 
 /// Does what a command line asks for: reads from `reader`, writes to `out` and `err` what the program writes to standard
 /// output and standard error, and answers how the program ends. That is `Failed`, after the line of a refusal on `err`, where
-/// no book is made (43) or taken up (40, 41, 42), the store fails (90), memory is refused (91), or a reader or a writer fails
-/// (92).
+/// no book is made (43) or taken up (40, 41, 42), the store fails (90), memory is refused (91), a reader or a writer fails
+/// (92), or a port can't be bound (93).
 pub fn perform<R: Read, O: Write, E: Write>(
     rt: &HostRuntime,
     action: &Action,
@@ -52,6 +53,11 @@ fn answer<R: Read, O: Write, E: Write>(
         Action::Roster { file, crew } => answer_roster(rt, file, crew, out, err),
         Action::Pairing { file, pairing } => answer_pairing(rt, file, pairing, out, err),
         Action::Exceedances { file } => answer_exceedances(rt, file, out, err),
+        Action::Serve {
+            file,
+            port,
+            connections,
+        } => answer_serve(rt, file, *port, *connections, out, err),
     }
 }
 

@@ -15,6 +15,8 @@ pub enum Stop {
     Memory,
     /// A reader or a writer fails.
     Channel,
+    /// The port can't be bound.
+    Network,
 }
 
 impl fmt::Display for Stop {
@@ -29,6 +31,7 @@ impl fmt::Display for Stop {
             Stop::Book(fault) => write!(f, "{fault}"),
             Stop::Memory => f.write_str("91 Memory"),
             Stop::Channel => f.write_str("92 Channel"),
+            Stop::Network => f.write_str("93 Network"),
         }
     }
 }

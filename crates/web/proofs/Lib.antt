@@ -1,3 +1,4 @@
 pub mod Handled
 pub mod Served
 mod OneResponse
+pub mod Untaken

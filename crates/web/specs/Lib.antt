@@ -4,3 +4,5 @@ pub mod Response
 pub mod Laws
 pub mod Handling
 pub mod Serving
+pub mod ServeText
+pub mod Connections

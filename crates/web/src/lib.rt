@@ -3,11 +3,13 @@
 
 mod answers;
 mod commands;
+mod connections;
 mod exchanges;
 mod imports;
 pub mod laws;
 mod parts;
 mod reports;
 
+pub use connections::{ServeFault, serve_one};
 pub use exchanges::exchange;
 pub use http_exchange::{ChannelFault, Served};

@@ -1,0 +1,52 @@
+//! A client that speaks to a book over loopback, in one thread.
+
+use crate::fault::Untold;
+use crate::opening::create;
+use book::Book;
+use sqlite::{Alter, Connection};
+use std::alloc::Global;
+use std::io;
+use std::io::Write;
+use std::net::{Ipv4Addr, TcpListener, TcpStream};
+use std::test::Fail;
+use web::serve_one;
+
+/// A book without crew, in memory. What refuses it ends the test.
+fn book_of<S: Alter>(alloc: Global, conn: Connection<S>) -> Result<Book<S>, Untold> {
+    create(alloc, conn).map_err(|_| Untold::Unmade)
+}
+
+/// What a client gets to the end of its connection for a request that it has written before a book is asked.
+fn response<S: Alter>(
+    rt: &HostRuntime,
+    book: &mut Book<S>,
+    request: &str,
+) -> Result<String, Fail> {
+    let listener = TcpListener::bind(rt, (Ipv4Addr::LOCALHOST, 0))?;
+    let mut client = TcpStream::connect(rt, listener.local_addr()?)?;
+    client.write_all(request.as_bytes())?;
+    serve_one(rt.alloc(), &listener, book)?;
+    Ok(io::read_to_string(rt.alloc(), client)?)
+}
+
+#[test]
+fn a_client_gets_the_exceedances(rt: HostRuntime) -> Result<(), Fail> {
+    let conn = Connection::open_in_memory(rt.alloc())?;
+    let mut book = book_of(rt.alloc(), conn)?;
+    let text = response(
+        &rt,
+        &mut book,
+        "GET /exceedances HTTP/1.1\r\nHost: x\r\n\r\n",
+    )?;
+    assert_eq!(
+        rt;
+        text.as_str(),
+        "HTTP/1.1 200 OK\r\n\
+        Content-Type: text/plain; charset=utf-8\r\n\
+        Content-Length: 14\r\n\
+        Connection: close\r\n\
+        \r\n\
+        EXCEEDANCES 0\n"
+    );
+    Ok(())
+}

@@ -1,0 +1,127 @@
+//! `rosterbook serve`.
+ghost use Rattle.std.specs.Prelude.{◌≡◌, Err, IfErr, IfOk, Ok, OnOk, false, true};
+ghost use Rattle.std.specs.Io.KnownBytes.{Appends};
+ghost use Rattle.rosterbook.specs.Serving as spec;
+
+use crate::serving::{Ending, Server, serve_all};
+use crate::status::Status;
+use crate::stop::Stop;
+use book::{Book, BookFault, FileBook};
+use sqlite::{Alter, FileStore};
+use sqlite_disk::Disk;
+use std::alloc::Global;
+use std::io;
+use std::io::Write;
+use std::net::{Ipv4Addr, TcpListener};
+use web::{ServeFault, Served, serve_one};
+
+/// A book, and the port on which requests to it come.
+struct BookServer<S: Alter> {
+    listener: TcpListener,
+    book: Book<S>,
+}
+
+impl<S: Alter> Server for BookServer<S> {
+    ghost use Rattle.std.specs.Prelude.{◌≡◌, Err};
+    ghost use Rattle.web.specs.Once.{AsksOnce};
+    ghost use Rattle.web.specs.declared.connections.ServeFault.TheVariants.{Network};
+
+    ghost serves = { λ old new outcome. AsksOnce S.Store old.book new.book × (outcome ≡ Err Network → new.book ≡ old.book) };
+
+    ghost fails = { λ server. server.book.failed };
+
+    fn serve_one(&mut self, alloc: Global) -> Result<Served, ServeFault> {
+        serve_one(alloc, &self.listener, &mut self.book)
+    }
+
+    fn failed(&self) -> bool {
+        self.book.failed()
+    }
+}
+
+impl<D: Disk + Drop> BookServer<FileStore<D>> {
+    /// Frees the port, and closes the book.
+    fn close(self) {
+        let BookServer { listener, book } = self;
+        drop(listener);
+        book.close();
+    }
+}
+
+/// Answers `rosterbook serve`: opens the book, binds the port, and then serves connections.
+pub(crate) fn answer_serve<O: Write, E: Write>(
+    rt: &HostRuntime,
+    file: &str,
+    port: u16,
+    connections: u32,
+    out: &mut O,
+    err: &mut E,
+) -> Result<Status, Stop>
+    ensures { IfOk result (spec.IsServeTold port connections (O.contents out.old) (O.contents out.new) (E.contents err.old) (E.contents err.new)) }
+{
+    let book = FileBook::open(rt, file)?;
+    match TcpListener::bind(rt, (Ipv4Addr::LOCALHOST, port)) {
+        Ok(listener) => {
+            let server = BookServer { listener, book };
+            serve_once(rt.alloc(), server, port, connections, out, err)
+        }
+        Err(_) => {
+            book.close();
+            Err(Stop::Network)
+        }
+    }
+}
+
+/// Serves the connections to a book, and closes it.
+fn serve_once<D: Disk + Drop, O: Write, E: Write>(
+    alloc: Global,
+    mut server: BookServer<FileStore<D>>,
+    port: u16,
+    connections: u32,
+    out: &mut O,
+    err: &mut E,
+) -> Result<Status, Stop>
+    ensures { IfOk result (spec.IsServeTold port connections (O.contents out.old) (O.contents out.new) (E.contents err.old) (E.contents err.new)) }
+{
+    let done = listen(alloc, &mut server, port, connections, out, err);
+    server.close();
+    done
+}
+
+/// Tells the port, and serves so many connections, or fewer where the store fails. That the line of a failed connection can't be
+/// written (92) stops the program only once all are served.
+fn listen<V: Server, O: Write, E: Write>(
+    alloc: Global,
+    server: &mut V,
+    port: u16,
+    connections: u32,
+    out: &mut O,
+    err: &mut E,
+) -> Result<Status, Stop>
+    ensures served { IfOk result (spec.IsServed V.serves V.fails port connections server.old server.new (O.contents out.old) (O.contents out.new) (E.contents err.old) (E.contents err.new)) }
+    ensures stopped { IfErr result (spec.IsServeStopped V.serves V.fails port connections server.old server.new (O.contents out.old) (O.contents out.new) (E.contents err.old) (E.contents err.new)) }
+{
+    tell_port(out, port)?;
+    status_of(serve_all(alloc, server, connections, err))
+}
+
+/// Tells at once which port is listened on.
+fn tell_port<O: Write>(out: &mut O, port: u16) -> io::Result<()>
+    ensures { OnOk result (Appends (O.contents out.old) (O.contents out.new) (spec.port_line port)) }
+{
+    writeln!(out, "listening {port}")?;
+    out.flush()
+}
+
+/// How the program ends after connections were served.
+fn status_of(ending: Ending) -> Result<Status, Stop>
+    ensures { result ≡ spec.status_of ending.failed ending.told }
+{
+    if ending.failed {
+        Err(Stop::Book(BookFault::Store))
+    } else if ending.told {
+        Ok(Status::Done)
+    } else {
+        Err(Stop::Channel)
+    }
+}

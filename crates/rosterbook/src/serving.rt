@@ -1,0 +1,72 @@
+//! Connections that are served one after the other.
+ghost use Rattle.std.specs.Prelude.{◌≡◌, true};
+ghost use Rattle.std.specs.Io.KnownBytes.{Appends};
+ghost use Rattle.rosterbook.specs.Serving as spec;
+
+use crate::lines::refuse;
+use std::alloc::Global;
+use std::io::Write;
+use web::{ServeFault, Served};
+
+/// What serves connections, and stands on a store that may fail.
+pub(crate) trait Server {
+    ghost use Rattle.std.specs.Prelude.{◌≡◌, Bool};
+    ghost use Rattle.rosterbook.specs.Serving.{Outcome};
+
+    // it was so before, and so after it served a connection, of which this came
+    ghost serves: { Self → Self → Outcome → Type 0 };
+
+    // whether its store has failed
+    ghost fails: { Self → Bool };
+
+    /// Serves one connection.
+    fn serve_one(&mut self, alloc: Global) -> Result<Served, ServeFault>
+        ensures { serves self.old self.new result };
+
+    /// Whether its store has failed.
+    fn failed(&self) -> bool
+        ensures { result ≡ fails self.now };
+}
+
+/// How serving ended.
+#[derive(Clone, Copy)]
+pub(crate) struct Ending {
+    /// Whether the store failed.
+    pub(crate) failed: bool,
+    /// Whether each line could be written that there was to write.
+    pub(crate) told: bool,
+}
+
+/// Serves so many connections one after the other, or fewer where the store fails at one. A failed connection costs a line, and so
+/// does none other.
+pub(crate) fn serve_all<V: Server, E: Write>(
+    alloc: Global,
+    server: &mut V,
+    connections: u32,
+    err: &mut E,
+) -> Ending
+    ensures { spec.HasEnded V.serves V.fails connections server.old server.new (E.contents err.old) (E.contents err.new) result.told result.failed }
+{
+    let mut told = true;
+    for _connection in 0..connections {
+        let outcome = server.serve_one(alloc);
+        told &= tell_outcome(outcome, err);
+        if server.failed() {
+            return Ending { failed: true, told };
+        }
+    }
+    Ending {
+        failed: false,
+        told,
+    }
+}
+
+/// Writes the line of a connection that failed, and answers whether it could be written. Of another nothing is written.
+fn tell_outcome<E: Write>(outcome: Result<Served, ServeFault>, err: &mut E) -> bool
+    ensures { result ≡ true → Appends (E.contents err.old) (E.contents err.new) (spec.failure_line outcome) }
+{
+    match outcome {
+        Ok(_) => true,
+        Err(fault) => refuse(err, &fault).is_ok(),
+    }
+}
