@@ -23,10 +23,10 @@ struct BookServer<S: Alter> {
 
 impl<S: Alter> Server for BookServer<S> {
     ghost use Rattle.std.specs.Prelude.{◌≡◌, Err};
-    ghost use Rattle.web.specs.Once.{AsksOnce};
+    ghost use Rattle.web.specs.Connections.{IsServedOnce};
     ghost use Rattle.web.specs.declared.connections.ServeFault.TheVariants.{Network};
 
-    ghost serves = { λ old new outcome. AsksOnce S.Store old.book new.book × (outcome ≡ Err Network → new.book ≡ old.book) };
+    ghost serves = { λ old new outcome. IsServedOnce S.Store old.book new.book × (outcome ≡ Err Network → new.book ≡ old.book) };
 
     ghost fails = { λ server. server.book.failed };
 

@@ -10,6 +10,6 @@ none_served g book = record {
   once = λ s at. inl refl;
   shut = λ _. refl;
   clean = λ clean. clean;
-  honest = λ s at honest. still_honest g s at honest;
+  honest = λ s at honest. still_honest g book s at honest;
   others = record { crash = λ clean trees may. inl may };
 }

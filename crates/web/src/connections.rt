@@ -97,7 +97,7 @@ fn limit_waits(stream: &TcpStream) -> io::Result<()> {
 
 /// A reader that asks the system for a buffer of bytes at a time; where there is no memory for one, for each byte.
 fn reader_of(alloc: Global, stream: &TcpStream) -> BufReader<&TcpStream>
-    ensures { reader_inner result ≡ stream }
+    ensures { reader_inner result ≡ stream.entry }
 {
     match BufReader::new(alloc, stream) {
         Ok(reader) => reader,
@@ -107,7 +107,7 @@ fn reader_of(alloc: Global, stream: &TcpStream) -> BufReader<&TcpStream>
 
 /// A reader with a buffer of no byte, which takes no memory.
 fn unbuffered(alloc: Global, stream: &TcpStream) -> BufReader<&TcpStream>
-    ensures { reader_inner result ≡ stream }
+    ensures { reader_inner result ≡ stream.entry }
 {
     let Ok(reader) = BufReader::with_capacity(alloc, 0, stream) else {
         unreachable!();
