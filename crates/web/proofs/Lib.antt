@@ -1,3 +1,5 @@
 pub mod Handled
-pub mod Served
+pub mod Exchanged
+pub mod Importing
+pub mod Listing
 mod OneResponse
