@@ -192,11 +192,7 @@ fn interim(alloc: Global, sample: &Sample, length: usize) -> Result<Vec<u8>, Unt
 }
 
 /// How an exchange is to end, and what is to be written.
-fn wanted(
-    alloc: Global,
-    sample: &Sample,
-    trial: Trial,
-) -> Result<(&'static str, Vec<u8>), Untold> {
+fn wanted(alloc: Global, sample: &Sample, trial: Trial) -> Result<(&'static str, Vec<u8>), Untold> {
     match trial {
         Trial::Whole => Ok(("answered", copy_of(alloc, &sample.written, usize::MAX)?)),
         Trial::Cut(0) => Ok(("nothing", Vec::new(alloc))),

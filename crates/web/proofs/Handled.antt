@@ -1,5 +1,5 @@
 -- From what the book did to what is told of it.
-use Rattle.std.proofs.Common.{◌≡◌, ◌∙◌, ◌≤◌, ◌||◌, ◌↔◌, ap, sym, subst, refl, inl, inr, arith, ℕ, Bool, true, false, IsTrue, List, [], ◌∷◌, length, map, take, Option, Some, None, Result, Ok, Err, IfOk, OnOk}
+use Rattle.std.proofs.Common.{◌≡◌, ◌∙◌, ◌+◌, ◌||◌, ◌⊎◌, ◌↔◌, ap, sym, subst, refl, inl, inr, arith, ℕ, suc, Bool, true, false, IsTrue, List, [], ◌∷◌, length, map, take, Option, Some, None, Result, Ok, Err, IfOk, OnOk}
 use Rattle.std.proofs.lemmas.List.{take_all}
 use Rattle.sqlite.specs.Held.{state}
 use Rattle.sqlite_trees.specs.declared.store.Store.{Ghosts}
@@ -44,20 +44,20 @@ length-replies s (a ∷ l) = ap suc (length-replies (folds.next s a) l)
 
 -- ---- what is as it was
 
-pub still_honest : {S : Type 0} (g : Ghosts S) {now : Kept S} (s : State) → IsAt g now s → Honest s → Leaves (state g now.held) Honest
-still_honest g s at honest = record {
+pub still_honest : {S : Type 0} (g : Ghosts S) (now : Kept S) (s : State) → IsAt g now s → Honest s → Leaves (state g now.held) Honest
+still_honest g now s at honest = record {
   crash = λ clean trees may.
-    let left = at.leaves.crash clean trees may in
-    (left.0, subst Honest (sym left.1) honest, left.2);
+      let left = at.leaves.crash clean trees may in
+      (left.0, subst Honest (sym left.1) honest, left.2);
 }
 
 module _ {S : Type 0} (g : Ghosts S) (book : Kept S) where
   unasked_kept : (result : Result Answer HandlerFault) → is_store_fault result ≡ false → IsKept g book book result
-  unasked_kept result no = record {
-    failed = or_false book.failed ∙ ap (λ b. book.failed || b) (sym no);
+  unasked_kept result none = record {
+    failed = or_false book.failed ∙ ap (λ b. book.failed || b) (sym none);
     shut = λ _. refl;
     clean = λ clean. clean;
-    honest = λ s at honest. still_honest g s at honest;
+    honest = λ s at honest. still_honest g book s at honest;
     others = record { crash = λ clean trees may. inl may };
   }
 
@@ -158,18 +158,17 @@ module _ {S : Type 0} (g : Ghosts S) (old new : Kept S) where
       record {
         kept = record { failed = failed; shut = λ f. (shut f).2; clean = clean; honest = honest; others = others };
         done = λ s at.
-          let all : take (length answers) (Replies s commands) ≡ Replies s commands = take_all (length answers) (Replies s commands) (omega (arith, every, length-replies s commands)) in
-          (
-            (λ c. tells ∙ ap parts_answer (replies s at c ∙ all ∙ ap (Replies s) is)),
-            (subst (λ l. IsAt g new (Fold s l)) is (ends s at), λ t. subst (λ l. HasTables g new (Fold s l)) is (tables s at t refl)),
-          );
+            let all : take (length answers) (Replies s commands) ≡ Replies s commands = take_all (length answers) (Replies s commands) (omega (arith, every, length-replies s commands)) in (
+              (λ c. tells ∙ ap parts_answer (replies s at c ∙ all ∙ ap (Replies s) is)),
+              (subst (λ l. IsAt g new (Fold s l)) is (ends s at), λ t. subst (λ l. HasTables g new (Fold s l)) is (tables s at t refl)),
+            );
       }
   added_by number plans commands answers None (Err Store) is tells failed shut clean whole replies ends tables honest others = absurd tells
   added_by number plans commands answers None (Err Memory) is tells failed shut clean whole replies ends tables honest others = record {
     kept = record { failed = failed; shut = λ f. (shut f).2; clean = clean; honest = honest; others = others };
     done = λ s at.
-      let all : take (length commands) commands ≡ commands = take_all (length commands) commands (omega arith) in
-      (length commands, subst (λ l. IsAt g new (Fold s (take (length commands) l))) is (subst (λ l. IsAt g new (Fold s l)) (sym all) (ends s at)));
+        let all : take (length commands) commands ≡ commands = take_all (length commands) commands (omega arith) in
+        (length commands, subst (λ l. IsAt g new (Fold s (take (length commands) l))) is (subst (λ l. IsAt g new (Fold s l)) (sym all) (ends s at)));
   }
   added_by number plans commands answers (Some fault.Store) told is tells failed shut clean whole replies ends tables honest others =
       subst (AreAdded g old new number plans) (sym tells) (record {
@@ -217,9 +216,17 @@ module _ {S : Type 0} (g : Ghosts S) (old new : Kept S) where
         failed = failed;
         shut = shut;
         clean = clean;
-        honest = λ s at honest. still_honest g s (same s at) honest;
+        honest = λ s at honest. still_honest g new s (same s at) honest;
         others = record { crash = λ c trees may. inl (left.crash c trees may) };
       }
+
+      in_doubt : (s : State) → IsAt g new s → IsInDoubt g new s s
+      in_doubt s at = record {
+        crash = λ c trees may.
+            let it = at.leaves.crash c trees may in
+            (it.0, (inl it.1, subst kept.IsKept (sym it.1) (at.kept c)), it.2);
+      }
+
       go : (r : Result State StoreFault) (told : Result Answer HandlerFault) → IsReportToldAs r (show_of about) told → new.failed ≡ (old.failed || kept.is_store_fault r)
           → (IsTrue old.failed → new ≡ old)
           → ((s : State) → IsAt g old s → IsClean g new → IfOk r (λ roster. (shown : Option (List ℕ)) → IsShown roster (show_of about) shown ↔ IsShown s (show_of about) shown))
@@ -241,9 +248,3 @@ module _ {S : Type 0} (g : Ghosts S) (old new : Kept S) where
         kept = kept_so (Err Memory) failed shut;
         done = λ s at. inr ([], refl, (0, same s at));
       })
-      in_doubt : (s : State) → IsAt g new s → IsInDoubt g new s s
-      in_doubt s at = record {
-        crash = λ c trees may.
-          let it = at.leaves.crash c trees may in
-          (it.0, (inl it.1, subst kept.IsKept (sym it.1) (at.kept c)), it.2);
-      }

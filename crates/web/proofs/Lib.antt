@@ -1,5 +1,7 @@
 pub mod Handled
-pub mod Served
+pub mod Exchanged
+pub mod Importing
+pub mod Listing
 mod OneResponse
 pub mod Untaken
 pub mod Untaken

@@ -33,8 +33,8 @@ use Rattle.web.specs.Serving.{AsksOnce, IsBegun, IsBrokenOff, IsGiven, IsLeftBy,
 use Rattle.web.proofs.Handled.{still_honest}
 
 or_true : (b : Bool) → IsTrue (b || true)
-or_true true = tt
-or_true false = tt
+or_true true = refl
+or_true false = refl
 
 module _ {S : Type 0} (g : Ghosts S) where
   abbrev handles : Kept S → Kept S → Asked → Result Answer HandlerFault → Type 0
@@ -103,11 +103,19 @@ module _ {S : Type 0} (g : Ghosts S) where
             → IsTold (interim p.step) out out' code (of_fault fault p.is_head) p.is_head → Ends
         refused fault is left_is same (inl sent) = inl (record {
           response = record { interim = interim p.step; final = of_fault fault p.is_head; commands = []; unread = Some (unread p.step rest) };
-          is = (some, inr (h, rest, head, record {
-            interim_is = refl;
-            final_is = subst (λ a. IsFinal s a p.is_head [] (of_fault fault p.is_head)) (sym is) (refl, refl);
-            unread_is = refl;
-          }));
+          is = (
+            some,
+            inr (
+              h,
+              rest,
+              head,
+              record {
+                interim_is = refl;
+                final_is = subst (λ a. IsFinal s a p.is_head [] (of_fault fault p.is_head)) (sym is) (refl, refl);
+                unread_is = refl;
+              },
+            ),
+          );
           status = sent.0;
           written = sent.1;
           left_is = left_is;
@@ -122,11 +130,19 @@ module _ {S : Type 0} (g : Ghosts S) where
             let did = it.done s at in
             inl (record {
               response = given asked a did.1.0;
-              is = (some, inr (h, rest, head, record {
-                interim_is = refl;
-                final_is = subst (λ q. IsFinal s q p.is_head did.1.0 (of_answer (Ok a) p.is_head)) (sym is) (did.1.1, (a, did.0 clean, refl));
-                unread_is = refl;
-              }));
+              is = (
+                some,
+                inr (
+                  h,
+                  rest,
+                  head,
+                  record {
+                    interim_is = refl;
+                    final_is = subst (λ q. IsFinal s q p.is_head did.1.0 (of_answer (Ok a) p.is_head)) (sym is) (did.1.1, (a, did.0 clean, refl));
+                    unread_is = refl;
+                  },
+                ),
+              );
               status = sent.0;
               written = sent.1;
               left_is = left_is;
@@ -236,7 +252,7 @@ module _ {S : Type 0} (g : Ghosts S) where
         by (inr did) = inr (asked, did.0, did.1, did.2)
 
     pub honest : exchange.AsksOnce handles old new → Honest s → Leaves (state g new.held) Honest
-    honest (inl same) fair = subst (λ b. Leaves (state g b.held) Honest) (sym same) (still_honest g s at fair)
+    honest (inl same) fair = subst (λ b. Leaves (state g b.held) Honest) (sym same) (still_honest g old s at fair)
     honest (inr (asked, (answer, it))) fair = it.kept.honest s at fair
 
   module _ (old new : Kept S) where
