@@ -1,7 +1,7 @@
 -- A line that met no fault names a subcommand, which has its required arguments.
 use Rattle.std.proofs.Common.{◌≡◌, ◌∙◌, ◌&&◌, Bool, cond, true, false, not, refl, sym, subst, ap}
 use Rattle.std.proofs.Common.{inl, inr, List, [], ◌∷◌, Option, Some, None, is_some, true≢false, codes}
-use Rattle.std.specs.Prelude.{find, fold, option_map, IsSomeAnd}
+use Rattle.std.specs.Prelude.{find, fold, option_map, take, IsSomeAnd}
 use Rattle.std.specs.Option.{option_map_or}
 use Rattle.std.specs.List.{list_all}
 use Rattle.clap.specs.Walk.{Row, Rule, Text, answers_to, nothing_held, rows_after, settled}
@@ -9,9 +9,10 @@ use Rattle.clap.specs.Walk.{stop_after, walk, walk_from, finished, with_default}
 use Rattle.clap.specs.Simple.{App, Shape, built, built_leaf, entered, filled, help_rule, inherited, label_of}
 use Rattle.clap.specs.Simple.{marked_built, names_of, on_top, HasMatchesOf, rows_at, subcommand_of}
 use Rattle.clap.specs.Simple.{subcommand_rows_of, with_leaf_noted}
+use Rattle.clap.specs.declared.error.Error.{Error}
 use Rattle.clap.specs.declared.parser.matches.ArgMatches.{ArgMatches}
 use Rattle.clap.proofs.WalkLemmas.{both}
-use Rattle.clap.specs.Kinds.{Kinds}
+use Rattle.clap.specs.Kinds.{HasKind, Kinds}
 use Rattle.clap.specs.Faults.{built_fault, check_fault, defaults_fault, entered_fault, fault_of}
 use Rattle.clap.specs.Faults.{is_simple_and_free, level_fault, settle_fault, walk_fault}
 use Rattle.console.proofs.WalkKeeps.{none_of}
@@ -213,15 +214,20 @@ exceedances_gives s name rules negates words none =
       record { file = given_first (codes "file") rows found.0 (was_given _ p.0) },
     )))))))
 
+-- what stands of these rows before `--connections` gets its default
+abbrev up_to_connections : List Row → List Row
+up_to_connections rows = fold with_default rows (take 2 (rules_of serve))
+
 -- `--connections` has a row, if only of its default
 connections_found : (s : Shape) → s.rules ≡ rules_of serve → (words : List Text)
     → is_found (codes "connections") (rows_after s.rules [] words) ≡ true
 connections_found s rules words =
     let end = (walk s.rules [] nothing_held words).held in
+    let before = up_to_connections (settled s.rules end).rows in
     subst (λ (rs : List Rule). is_found (codes "connections") (fold with_default (settled s.rules end).rows rs) ≡ true)
     (sym rules)
-    (no_default_found (codes "connections") (filled help_rule) _ refl
-    (default_found (filled optional_connections) _ refl))
+    (no_default_found (codes "connections") (filled help_rule) (with_default before (filled optional_connections)) refl
+    (default_found (filled optional_connections) before refl))
 
 serve_gives : (s : Shape) → s.name ≡ codes "serve" → s.rules ≡ rules_of serve → s.subcommand_negates_reqs ≡ false
     → (words : List Text)
@@ -284,6 +290,10 @@ module _ (app : App) (words : List Text) (is : app ≡ command_line) where
 
   pub no_fault : (is_simple_and_free app ≡ true → fault_of app words ≡ []) → fault_of command_line words ≡ []
   no_fault took = ap (λ a. fault_of a words) (sym is) ∙ took is_free
+
+  pub fault_told : (e : Error) → (is_simple_and_free app ≡ true → HasKind (fault_of app words) e)
+      → HasKind (fault_of command_line words) e
+  fault_told e told = subst (λ (a : App). HasKind (fault_of a words) e) is (told is_free)
 
   pub rows_stated : (m : ArgMatches) → HasMatchesOf app words m
       → subcommand_rows_of m ≡ subcommand_of command_line words
