@@ -1,8 +1,8 @@
 -- A whole number that a line gave, or a default: it passed its range, and is read as it was written.
 use Rattle.std.proofs.Common.{◌≡◌, ◌∙◌, ◌&&◌, ◌||◌, ◌==◌, ◌++◌, ℕ, Bool, cond, true, false, not, refl}
-use Rattle.std.proofs.Common.{sym, ap, subst, List, [], ◌∷◌, Option, Some, None, is_some, true≢false, codes}
+use Rattle.std.proofs.Common.{sym, ap, subst, List, [], ◌∷◌, Option, Some, None, is_some, true≢false}
 use Rattle.std.specs.Prelude.{◌^◌, ◌≤◌, find, nat_le, nat_lt, slice_get, option_and_then, option_map, Result, Ok, Err}
-use Rattle.std.specs.Option.{IsSome, option_map_or}
+use Rattle.std.specs.Option.{IsSome}
 use Rattle.std.specs.List.{list_all}
 use Rattle.std.specs.Str.{bytes_eq}
 use Rattle.std.specs.Str.Parse.{ParsesUnsigned, digits_value, without_leading_plus}
@@ -10,7 +10,7 @@ use Rattle.std.proofs.lemmas.Bool.{eqb-true, leb-true}
 use Rattle.std.proofs.lemmas.Slice.Eq.{bytes_eq-Decides}
 use Rattle.clap.proofs.ValueTestLemmas.{accepts-Accepts}
 use Rattle.clap.proofs.WalkLemmas.{both, one_text-rows}
-use Rattle.clap.specs.Facts.{explicit_source, parser_of_value, unwrap_or_range}
+use Rattle.clap.specs.Facts.{parser_of_value, unwrap_or_range}
 use Rattle.clap.specs.Faults.{action_fault, level_fault, repeat_fault, use_fault, values_fault}
 use Rattle.clap.specs.Kinds.{range_kinds, values_kinds, value_kinds}
 use Rattle.clap.specs.Matches.{ReadsOne, one_text}
