@@ -88,6 +88,17 @@ no_number() {
     case_of "number '$1'" 2 '' "error: invalid value '$1' for '<NUMBER>': $2"$'\n*' import "$room/unmade" "$1"
 }
 
+# no_port WORD WHY: the word is no port, whether the line says how many connections are served or not.
+no_port() {
+    case_of "port '$1'" 2 '' "error: invalid value '$1' for '<PORT>': $2"$'\n*' serve "$room/unmade" "$1"
+    case_of "port '$1' and connections" 2 '' "error: invalid value '$1' for '<PORT>': $2"$'\n*' serve "$room/unmade" "$1" --connections 0
+}
+
+# no_connections WORD WHY: the word is no number of connections.
+no_connections() {
+    case_of "connections '$1'" 2 '' "error: invalid value '$1' for '--connections <N>': $2"$'\n*' serve "$room/unmade" 8117 --connections "$1"
+}
+
 # help_of COMMAND NAMES..: the help of the command, or of the program where that is '', has each name and fits 80 columns.
 help_of() {
     local command=$1 text name
@@ -117,6 +128,9 @@ command_lines() {
     missing $'<FILE>\n<PAIRING>' pairing
     missing '<PAIRING>' pairing "$room/unmade"
     missing '<FILE>' exceedances
+    missing $'<FILE>\n<PORT>' serve
+    missing '<PORT>' serve "$room/unmade"
+    missing '<PORT>' serve "$room/unmade" --connections 1
     unexpected duty "$zone" "$report" --late
     unexpected init "$room/unmade" "$zone" x
     unexpected init "$room/unmade" --new
@@ -126,18 +140,37 @@ command_lines() {
     unexpected roster "$room/unmade" C1 C2
     unexpected pairing "$room/unmade" P1 P2
     unexpected exceedances "$room/unmade" C1
+    unexpected serve "$room/unmade" 8117 1
+    unexpected serve "$room/unmade" -1
+    unexpected serve "$room/unmade" 8117 --connections -1
+    unexpected serve "$room/unmade" 8117 --connection
+    unexpected 'do' "$room/unmade" --connections
     no_number 0 '0 is not in 1..=9223372036854775807'
     no_number 9223372036854775808 '9223372036854775808 is not in 1..=9223372036854775807'
     no_number 18446744073709551616 'number too large to fit in target type'
     no_number 1.5 'invalid digit found in string'
     no_number abc 'invalid digit found in string'
     no_number '' 'cannot parse integer from empty string'
+    no_port 0 '0 is not in 1..=65535'
+    no_port 65536 '65536 is not in 1..=65535'
+    no_port 18446744073709551616 'number too large to fit in target type'
+    no_port http 'invalid digit found in string'
+    no_port '' 'cannot parse integer from empty string'
+    no_connections 0 '0 is not in 1..=1000000'
+    no_connections 1000001 '1000001 is not in 1..=1000000'
+    no_connections 18446744073709551616 'number too large to fit in target type'
+    no_connections 1.5 'invalid digit found in string'
+    no_connections '' 'cannot parse integer from empty string'
+    case_of connections_of_no_number 2 '' $'error: a value is required for \'--connections <N>\' but none was supplied\n*' \
+        serve "$room/unmade" 8117 --connections
+    case_of connections_twice 2 '' $'error: the argument \'--connections <N>\' cannot be used multiple times\n*' \
+        serve "$room/unmade" 8117 --connections 1 --connections 1
     holds unmade [ ! -e "$room/unmade" ]
 }
 
 helps() {
     case_of help 0 'The roster book*' '' --help
-    help_of '' duty init 'do' import roster pairing exceedances FILE ZONE NUMBER CREW PAIRING REPORT TIME "$zone" "$report"
+    help_of '' duty init 'do' import roster pairing exceedances serve FILE ZONE NUMBER PORT CREW PAIRING REPORT TIME "$zone" "$report"
     help_of duty duty ZONE REPORT TIME "$zone" "$report" 'UTC instant' Example:
     help_of init init FILE ZONE "$zone" UTC 'new or empty' Example:
     help_of 'do' 'do' FILE 'JSON on standard input' '"number":1' add-crew actual '90 Store' 'Exit status'
@@ -146,6 +179,8 @@ helps() {
     help_of roster roster FILE CREW 'rosterbook roster roster.db C1' 'hours and minutes' 'Exit status'
     help_of pairing pairing FILE PAIRING 'rosterbook pairing roster.db B101' 'Exit status'
     help_of exceedances exceedances FILE 'rosterbook exceedances roster.db' 'Exit status'
+    help_of serve serve FILE PORT '--connections <N>' '[default: 1000000]' 'from 1 to 65535' 'from 1 to 1000000' \
+        'rosterbook serve roster.db 8117 --connections 2' 'listening PORT' '92 Channel' '93 Network' '90 Store' 'Exit status'
 }
 
 failing_outputs() {

@@ -18,7 +18,7 @@ use Rattle.console.proofs.PlainWords.{at, plain_fault, plain_walked, row}
 use Rattle.console.specs.CommandLine.{MeetsDo, States, command_line, do_one}
 use Rattle.console.specs.Plain.{IsDo, do_words, is_plain}
 use Rattle.console.specs.declared.actions.Action.{Action}
-use Rattle.console.specs.declared.actions.Action.TheVariants.{Duty, Init, Do, Import, Roster, Pairing, Exceedances}
+use Rattle.console.specs.declared.actions.Action.TheVariants.{Duty, Init, Do, Import, Roster, Pairing, Exceedances, Serve}
 
 abbrev leaf : Shape
 leaf = as_built command_line do_one.top
@@ -84,6 +84,7 @@ same_do (Import f n) file met h k = absurd (one_name _ _ _ k.0 h.0 refl)
 same_do (Roster f c) file met h k = absurd (one_name _ _ _ k.0 h.0 refl)
 same_do (Pairing f i) file met h k = absurd (one_name _ _ _ k.0 h.0 refl)
 same_do (Exceedances f) file met h k = absurd (one_name _ _ _ k.0 h.0 refl)
+same_do (Serve f p c) file met h k = absurd (one_name _ _ _ k.0 h.0 refl)
 
 -- what reads a line as `clap` does reads a plain line of `do`
 pub do_read : (read : Result Action Error) (words : List Text)

@@ -22,7 +22,7 @@ use Rattle.console.proofs.PlainWords.{at, plain_fault, plain_walked, row}
 use Rattle.console.specs.CommandLine.{MeetsDuty, States, command_line, duty}
 use Rattle.console.specs.Plain.{IsDuty, duty_words, is_plain}
 use Rattle.console.specs.declared.actions.Action.{Action}
-use Rattle.console.specs.declared.actions.Action.TheVariants.{Duty, Init, Do, Import, Roster, Pairing, Exceedances}
+use Rattle.console.specs.declared.actions.Action.TheVariants.{Duty, Init, Do, Import, Roster, Pairing, Exceedances, Serve}
 
 abbrev leaf : Shape
 leaf = as_built command_line duty.top
@@ -221,6 +221,7 @@ same_duty (Import f n) zone report times met h k = absurd (one_name _ _ _ k.0 h.
 same_duty (Roster f c) zone report times met h k = absurd (one_name _ _ _ k.0 h.0 refl)
 same_duty (Pairing f i) zone report times met h k = absurd (one_name _ _ _ k.0 h.0 refl)
 same_duty (Exceedances f) zone report times met h k = absurd (one_name _ _ _ k.0 h.0 refl)
+same_duty (Serve f p c) zone report times met h k = absurd (one_name _ _ _ k.0 h.0 refl)
 
 -- what reads a line as `clap` does reads a plain line of `duty`
 pub duty_read : (read : Result Action Error) (words : List Text)

@@ -1,24 +1,27 @@
 -- A line that met no fault names a subcommand, which has its required arguments.
 use Rattle.std.proofs.Common.{◌≡◌, ◌∙◌, ◌&&◌, Bool, cond, true, false, not, refl, sym, subst, ap}
 use Rattle.std.proofs.Common.{inl, inr, List, [], ◌∷◌, Option, Some, None, is_some, true≢false, codes}
-use Rattle.std.specs.Prelude.{find, option_map, IsSomeAnd}
+use Rattle.std.specs.Prelude.{find, fold, option_map, take, IsSomeAnd}
 use Rattle.std.specs.Option.{option_map_or}
 use Rattle.std.specs.List.{list_all}
 use Rattle.clap.specs.Walk.{Row, Rule, Text, answers_to, nothing_held, rows_after, settled}
-use Rattle.clap.specs.Walk.{stop_after, walk, walk_from, finished}
-use Rattle.clap.specs.Simple.{App, Shape, built, built_leaf, entered, inherited, label_of}
+use Rattle.clap.specs.Walk.{stop_after, walk, walk_from, finished, with_default}
+use Rattle.clap.specs.Simple.{App, Shape, built, built_leaf, entered, filled, help_rule, inherited, label_of}
 use Rattle.clap.specs.Simple.{marked_built, names_of, on_top, HasMatchesOf, rows_at, subcommand_of}
 use Rattle.clap.specs.Simple.{subcommand_rows_of, with_leaf_noted}
+use Rattle.clap.specs.declared.error.Error.{Error}
 use Rattle.clap.specs.declared.parser.matches.ArgMatches.{ArgMatches}
 use Rattle.clap.proofs.WalkLemmas.{both}
-use Rattle.clap.specs.Kinds.{Kinds}
+use Rattle.clap.specs.Kinds.{HasKind, Kinds}
 use Rattle.clap.specs.Faults.{built_fault, check_fault, defaults_fault, entered_fault, fault_of}
 use Rattle.clap.specs.Faults.{is_simple_and_free, level_fault, settle_fault, walk_fault}
 use Rattle.console.proofs.WalkKeeps.{none_of}
 use Rattle.console.proofs.Filled.{Filled, takes_one, NoneMissing, check_none, checks_passed}
-use Rattle.console.proofs.Filled.{first_there, given_all, given_first, rows_filled, was_given}
+use Rattle.console.proofs.Filled.{default_found, first_there, given_all, given_first, given_found, is_found}
+use Rattle.console.proofs.Filled.{no_default_found, rows_filled, was_given}
 use Rattle.console.proofs.NumberRead.{is_checked, number_there, rows_read}
-use Rattle.console.specs.CommandLine.{command_line, do_one, duty, exceedances, import, init, pairing, roster}
+use Rattle.console.specs.CommandLine.{command_line, do_one, duty, exceedances, import, init, last_number, last_port}
+use Rattle.console.specs.CommandLine.{most_connections, optional_connections, pairing, roster, serve}
 use Rattle.console.specs.Arguments.{HasArguments}
 
 -- each subcommand gives Q of what it found of words at which it met no fault
@@ -153,12 +156,14 @@ import_gives s name rules negates words none =
     let there : NoneMissing (rules_of import) rows = found.1 in
     let p = first_there _ _ there in
     let q = first_there _ _ p.1 in
-    let checked = rows_read s words (ap (list_all is_checked) rules) none in
+    let checked = rows_read (codes "number") last_number s words (ap (list_all (is_checked (codes "number") last_number)) rules)
+    none in
     inr (inr (inr (inl (
       name,
       record {
         file = given_first (codes "file") rows found.0 (was_given _ p.0);
-        number = number_there rows checked found.0 (was_given _ q.0);
+        number = number_there (codes "number") last_number rows checked found.0
+            (given_found (codes "number") rows (was_given _ q.0));
       },
     ))))
 
@@ -204,7 +209,48 @@ exceedances_gives s name rules negates words none =
     let found = rows_there s (rules_of exceedances) rules refl negates words none in
     let there : NoneMissing (rules_of exceedances) rows = found.1 in
     let p = first_there _ _ there in
-    inr (inr (inr (inr (inr (inr (name, record { file = given_first (codes "file") rows found.0 (was_given _ p.0) }))))))
+    inr (inr (inr (inr (inr (inr (inl (
+      name,
+      record { file = given_first (codes "file") rows found.0 (was_given _ p.0) },
+    )))))))
+
+-- what stands of these rows before `--connections` gets its default
+abbrev up_to_connections : List Row → List Row
+up_to_connections rows = fold with_default rows (take 2 (rules_of serve))
+
+-- `--connections` has a row, if only of its default
+connections_found : (s : Shape) → s.rules ≡ rules_of serve → (words : List Text)
+    → is_found (codes "connections") (rows_after s.rules [] words) ≡ true
+connections_found s rules words =
+    let end = (walk s.rules [] nothing_held words).held in
+    let before = up_to_connections (settled s.rules end).rows in
+    subst (λ (rs : List Rule). is_found (codes "connections") (fold with_default (settled s.rules end).rows rs) ≡ true)
+    (sym rules)
+    (no_default_found (codes "connections") (filled help_rule) (with_default before (filled optional_connections)) refl
+    (default_found (filled optional_connections) before refl))
+
+serve_gives : (s : Shape) → s.name ≡ codes "serve" → s.rules ≡ rules_of serve → s.subcommand_negates_reqs ≡ false
+    → (words : List Text)
+    → level_fault s [] nothing_held words false [] ≡ [] → IsMet (rows_at s words)
+serve_gives s name rules negates words none =
+    let rows = rows_after s.rules [] words in
+    let found = rows_there s (rules_of serve) rules refl negates words none in
+    let there : NoneMissing (rules_of serve) rows = found.1 in
+    let p = first_there _ _ there in
+    let q = first_there _ _ p.1 in
+    let port = rows_read (codes "port") last_port s words (ap (list_all (is_checked (codes "port") last_port)) rules) none in
+    let count = rows_read (codes "connections") most_connections s words
+    (ap (list_all (is_checked (codes "connections") most_connections)) rules) none in
+    inr (inr (inr (inr (inr (inr (inr (
+      name,
+      record {
+        file = given_first (codes "file") rows found.0 (was_given _ p.0);
+        port = number_there (codes "port") last_port rows port found.0
+            (given_found (codes "port") rows (was_given _ q.0));
+        connections = number_there (codes "connections") most_connections rows count found.0
+            (connections_found s rules words);
+      },
+    )))))))
 
 is_met : (words : List Text) → fault_of command_line words ≡ [] → IsSomeAnd (subcommand_of command_line words) IsMet
 is_met words none = line_gives IsMet (built command_line) words (
@@ -219,7 +265,10 @@ is_met words none = line_gives IsMet (built command_line) words (
           roster_gives (as_built command_line roster.top) refl refl refl,
           (
             pairing_gives (as_built command_line pairing.top) refl refl refl,
-            (exceedances_gives (as_built command_line exceedances.top) refl refl refl, tt),
+            (
+              exceedances_gives (as_built command_line exceedances.top) refl refl refl,
+              (serve_gives (as_built command_line serve.top) refl refl refl, tt),
+            ),
           ),
         ),
       ),
@@ -241,6 +290,10 @@ module _ (app : App) (words : List Text) (is : app ≡ command_line) where
 
   pub no_fault : (is_simple_and_free app ≡ true → fault_of app words ≡ []) → fault_of command_line words ≡ []
   no_fault took = ap (λ a. fault_of a words) (sym is) ∙ took is_free
+
+  pub fault_told : (e : Error) → (is_simple_and_free app ≡ true → HasKind (fault_of app words) e)
+      → HasKind (fault_of command_line words) e
+  fault_told e told = subst (λ (a : App). HasKind (fault_of a words) e) is (told is_free)
 
   pub rows_stated : (m : ArgMatches) → HasMatchesOf app words m
       → subcommand_rows_of m ≡ subcommand_of command_line words

@@ -18,7 +18,7 @@ use Rattle.console.proofs.PlainWords.{at, plain_fault, plain_walked, row}
 use Rattle.console.specs.CommandLine.{MeetsExceedances, States, command_line, exceedances}
 use Rattle.console.specs.Plain.{IsExceedances, exceedances_words, is_plain}
 use Rattle.console.specs.declared.actions.Action.{Action}
-use Rattle.console.specs.declared.actions.Action.TheVariants.{Duty, Init, Do, Import, Roster, Pairing, Exceedances}
+use Rattle.console.specs.declared.actions.Action.TheVariants.{Duty, Init, Do, Import, Roster, Pairing, Exceedances, Serve}
 
 abbrev leaf : Shape
 leaf = as_built command_line exceedances.top
@@ -84,6 +84,7 @@ same_exceedances (Do f) file met h k = absurd (one_name _ _ _ k.0 h.0 refl)
 same_exceedances (Import f n) file met h k = absurd (one_name _ _ _ k.0 h.0 refl)
 same_exceedances (Roster f c) file met h k = absurd (one_name _ _ _ k.0 h.0 refl)
 same_exceedances (Pairing f i) file met h k = absurd (one_name _ _ _ k.0 h.0 refl)
+same_exceedances (Serve f p c) file met h k = absurd (one_name _ _ _ k.0 h.0 refl)
 
 -- what reads a line as `clap` does reads a plain line of `exceedances`
 pub exceedances_read : (read : Result Action Error) (words : List Text)

@@ -5,6 +5,7 @@ use Rattle.std.specs.Prelude.{find, slice_get, nat_lt, option_and_then, option_m
 use Rattle.std.specs.Option.{option_map_or}
 use Rattle.std.specs.List.{list_all, list_any}
 use Rattle.std.specs.Str.{bytes_eq}
+use Rattle.std.proofs.lemmas.Slice.Eq.{bytes_eq-Decides}
 use Rattle.clap.proofs.WalkLemmas.{both}
 use Rattle.clap.specs.Facts.{explicit_source, unwrap_or_range}
 use Rattle.clap.specs.Values.{is_request}
@@ -214,3 +215,57 @@ given_all id rows given = go (find (λ r. bytes_eq r.id id) rows) given
         → is_some (option_map (λ r. r.values) o) ≡ true
     go None e = absurd (true≢false (sym e))
     go (Some r) e = refl
+
+-- ---- what has a row
+
+abbrev pub is_found : Text → List Row → Bool
+is_found id rows = is_some (find (λ r. bytes_eq r.id id) rows)
+
+pub given_found : (id : Text) (rows : List Row) → is_given id rows ≡ true → is_found id rows ≡ true
+given_found id rows given = go (find (λ r. bytes_eq r.id id) rows) given
+  where
+    go : (o : Option Row) → option_map_or (λ r. explicit_source r.source) o false ≡ true → is_some o ≡ true
+    go None e = absurd (true≢false (sym e))
+    go (Some r) e = refl
+
+has_found : (id : Text) (rows : List Row) → has_row id rows ≡ true → is_found id rows ≡ true
+has_found id [] e = absurd (true≢false (sym e))
+has_found id (r ∷ rs) e = go (bytes_eq r.id id) e (has_found id rs)
+  where
+    go : (b : Bool) → (b || has_row id rs) ≡ true → (has_row id rs ≡ true → is_found id rs ≡ true)
+        → is_some (cond b (Some r) (find (λ x. bytes_eq x.id id) rs)) ≡ true
+    go true has later = refl
+    go false has later = later has
+
+values_found : (id : Text) (how : Reading) (source : ValueSource) (values : List Text) (rows : List Row)
+    → is_found id (with_values id how source values rows) ≡ true
+values_found id how source values [] =
+    let same : bytes_eq id id ≡ true = (bytes_eq-Decides id id).1 refl in
+    rw same refl
+values_found id how source values (r ∷ rs) =
+    go (bytes_eq r.id id) refl (values_found id how source values rs)
+  where
+    go : (b : Bool) → bytes_eq r.id id ≡ b → is_found id (with_values id how source values rs) ≡ true
+        → is_found id (cond b (more_values source values r ++ rs) (r ∷ with_values id how source values rs)) ≡ true
+    go true is later = rw is refl
+    go false is later = rw is later
+
+-- an argument with a default has a row, of its use or of its default
+pub default_found : (a : Rule) (rows : List Row) → has_value a.defaults ≡ true → is_found a.id (with_default rows a) ≡ true
+default_found a rows some = go (has_row a.id rows) refl a.defaults some
+  where
+    go : (b : Bool) → has_row a.id rows ≡ b → (defaults : List Text) → has_value defaults ≡ true
+        → is_found a.id (cond b rows (default_rows a.id (reading_by a) defaults rows)) ≡ true
+    go true is defaults e = has_found a.id rows is
+    go false is [] e = absurd (true≢false (sym e))
+    go false is (d ∷ ds) e = values_found a.id (reading_by a) DefaultValue (d ∷ ds) rows
+
+-- one without a default has the rows stay
+pub no_default_found : (id : Text) (a : Rule) (rows : List Row) → a.defaults ≡ [] → is_found id rows ≡ true
+    → is_found id (with_default rows a) ≡ true
+no_default_found id a rows none found = go (has_row a.id rows) a.defaults none
+  where
+    go : (b : Bool) (defaults : List Text) → defaults ≡ []
+        → is_found id (cond b rows (default_rows a.id (reading_by a) defaults rows)) ≡ true
+    go true defaults e = found
+    go false defaults e = rw e found

@@ -1,11 +1,10 @@
 -- A plain line of `import` with the number of a request meets no fault, and gives its words as the arguments. One with
 -- another word in its place is refused.
-use Rattle.std.proofs.Common.{◌≡◌, ◌∙◌, ℕ, Bool, true, false, cond}
+use Rattle.std.proofs.Common.{◌≡◌, ◌∙◌, ℕ, true, false, cond}
 use Rattle.std.proofs.Common.{refl, sym, subst, ap, List, [], ◌∷◌, Some, None}
 use Rattle.std.proofs.Common.{codes}
 use Rattle.std.specs.Prelude.{IfOk, IsErrAnd, IsSomeAnd, MatchResult, Result, fold, unwrap_or}
 use Rattle.std.specs.List.{list_all}
-use Rattle.std.specs.Str.Parse.{digits_value, without_leading_plus}
 use Rattle.clap.proofs.FaultLemmas.{past}
 use Rattle.clap.proofs.WalkLemmas.{both}
 use Rattle.clap.specs.Values.{kind_of}
@@ -19,13 +18,14 @@ use Rattle.clap.specs.Faults.{turn_fault, walk_fault}
 use Rattle.clap.specs.declared.error.Error.{Error}
 use Rattle.clap.specs.declared.error.kind.ErrorKind.TheVariants.{OutOfMemory, ValueValidation}
 use Rattle.console.proofs.Entered.{as_built}
+use Rattle.console.proofs.NumberRead.{number_fails, number_passes}
 use Rattle.console.proofs.PlainLine.{line_fails, line_passes, line_read, line_refused, line_stated, one_name}
 use Rattle.console.proofs.PlainLine.{first_fails, same_text, stopped_at, top}
 use Rattle.console.proofs.PlainWords.{at, plain_fault, plain_walked, row}
 use Rattle.console.specs.CommandLine.{MeetsImport, States, command_line, import, last_number, request_number}
 use Rattle.console.specs.Plain.{IsImport, import_words, is_plain}
 use Rattle.console.specs.declared.actions.Action.{Action}
-use Rattle.console.specs.declared.actions.Action.TheVariants.{Duty, Init, Do, Import, Roster, Pairing, Exceedances}
+use Rattle.console.specs.declared.actions.Action.TheVariants.{Duty, Init, Do, Import, Roster, Pairing, Exceedances, Serve}
 
 abbrev leaf : Shape
 leaf = as_built command_line import.top
@@ -34,24 +34,6 @@ import_met : ◌≡◌ {A = Walk} (walked top.top.rules (names_of top) (walk_fro
     (stopped_at (codes "import") [])
 unfolding walked
 import_met = refl
-
-is_number : (t : Text) (n : ℕ) → request_number t ≡ Some n → is_unsigned_in 1 last_number t ≡ true
-is_number t n e = go (is_unsigned_in 1 last_number t) e
-  where
-    go : (b : Bool) → cond b (Some (digits_value 10 (without_leading_plus t))) None ≡ Some n → b ≡ true
-    go true e = refl
-    go false e =
-        let bad : ⊥ = cc in
-        absurd bad
-
-no_number : (t : Text) → request_number t ≡ None → is_unsigned_in 1 last_number t ≡ false
-no_number t e = go (is_unsigned_in 1 last_number t) e
-  where
-    go : (b : Bool) → cond b (Some (digits_value 10 (without_leading_plus t))) None ≡ None → b ≡ false
-    go true e =
-        let bad : ⊥ = cc in
-        absurd bad
-    go false e = refl
 
 module _ (file number : Text) (plain : list_all is_plain (file ∷ number ∷ []) ≡ true) where
   abbrev arguments : List Text
@@ -119,7 +101,7 @@ module _ (file number : Text) (plain : list_all is_plain (file ∷ number ∷ []
   leaf_passes n is =
       past _ _ arguments_pass
       ∙ (past _ _ (ap (λ (w : Walk). settle_fault leaf.rules false w.held) arguments_end
-      ∙ (settles ∙ ap (λ b. or_else (cond b [] (ValueValidation ∷ [])) []) (is_number number n is)))
+      ∙ (settles ∙ ap (λ b. or_else (cond b [] (ValueValidation ∷ [])) []) (number_passes last_number number n is)))
       ∙ (past _ _ (ap (λ (w : Walk). defaults_fault (settled leaf.rules w.held).rows leaf.rules) arguments_end
       ∙ defaults_pass)
       ∙ ap (λ (found : List Row). check_fault leaf found false) rows_are))
@@ -129,7 +111,7 @@ module _ (file number : Text) (plain : list_all is_plain (file ∷ number ∷ []
   leaf_fails none =
       past _ _ arguments_pass
       ∙ first_fails _ _ ValueValidation (ap (λ (w : Walk). settle_fault leaf.rules false w.held) arguments_end
-      ∙ (settles ∙ ap (λ b. or_else (cond b [] (ValueValidation ∷ [])) []) (no_number number none)))
+      ∙ (settles ∙ ap (λ b. or_else (cond b [] (ValueValidation ∷ [])) []) (number_fails last_number number none)))
 
   leaf_meets : (n : ℕ) → request_number number ≡ Some n → MeetsImport file n (rows_at leaf arguments)
   leaf_meets n is = subst (λ (found : List Row). MeetsImport file n (codes "import", found)) (sym rows_are)
@@ -157,6 +139,7 @@ same_import (Do f) file number met h k = absurd (one_name _ _ _ k.0 h.0 refl)
 same_import (Roster f c) file number met h k = absurd (one_name _ _ _ k.0 h.0 refl)
 same_import (Pairing f i) file number met h k = absurd (one_name _ _ _ k.0 h.0 refl)
 same_import (Exceedances f) file number met h k = absurd (one_name _ _ _ k.0 h.0 refl)
+same_import (Serve f p c) file number met h k = absurd (one_name _ _ _ k.0 h.0 refl)
 
 -- what reads a line as `clap` does reads a plain line of `import` with a number
 pub import_read : (read : Result Action Error) (words : List Text)

@@ -21,7 +21,7 @@ use Rattle.console.proofs.PlainWords.{at, plain_fault, plain_walked, row}
 use Rattle.console.specs.CommandLine.{MeetsInit, States, command_line, init}
 use Rattle.console.specs.Plain.{IsInit, init_words, is_plain}
 use Rattle.console.specs.declared.actions.Action.{Action}
-use Rattle.console.specs.declared.actions.Action.TheVariants.{Duty, Init, Do, Import, Roster, Pairing, Exceedances}
+use Rattle.console.specs.declared.actions.Action.TheVariants.{Duty, Init, Do, Import, Roster, Pairing, Exceedances, Serve}
 
 abbrev leaf : Shape
 leaf = as_built command_line init.top
@@ -113,6 +113,7 @@ same_init (Import f n) file zone met h k = absurd (one_name _ _ _ k.0 h.0 refl)
 same_init (Roster f c) file zone met h k = absurd (one_name _ _ _ k.0 h.0 refl)
 same_init (Pairing f i) file zone met h k = absurd (one_name _ _ _ k.0 h.0 refl)
 same_init (Exceedances f) file zone met h k = absurd (one_name _ _ _ k.0 h.0 refl)
+same_init (Serve f p c) file zone met h k = absurd (one_name _ _ _ k.0 h.0 refl)
 
 -- what reads a line as `clap` does reads a plain line of `init`
 pub init_read : (read : Result Action Error) (words : List Text)

@@ -12,4 +12,5 @@ pub mod PairingRead
 pub mod PlainLine
 pub mod PlainWords
 pub mod RosterRead
+pub mod ServeRead
 pub mod WalkKeeps

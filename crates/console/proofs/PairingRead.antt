@@ -21,7 +21,7 @@ use Rattle.console.proofs.PlainWords.{at, plain_fault, plain_walked, row}
 use Rattle.console.specs.CommandLine.{MeetsPairing, States, command_line, pairing}
 use Rattle.console.specs.Plain.{IsPairing, pairing_words, is_plain}
 use Rattle.console.specs.declared.actions.Action.{Action}
-use Rattle.console.specs.declared.actions.Action.TheVariants.{Duty, Init, Do, Import, Roster, Pairing, Exceedances}
+use Rattle.console.specs.declared.actions.Action.TheVariants.{Duty, Init, Do, Import, Roster, Pairing, Exceedances, Serve}
 
 abbrev leaf : Shape
 leaf = as_built command_line pairing.top
@@ -113,6 +113,7 @@ same_pairing (Do f) file id met h k = absurd (one_name _ _ _ k.0 h.0 refl)
 same_pairing (Import f n) file id met h k = absurd (one_name _ _ _ k.0 h.0 refl)
 same_pairing (Roster f c) file id met h k = absurd (one_name _ _ _ k.0 h.0 refl)
 same_pairing (Exceedances f) file id met h k = absurd (one_name _ _ _ k.0 h.0 refl)
+same_pairing (Serve f p c) file id met h k = absurd (one_name _ _ _ k.0 h.0 refl)
 
 -- what reads a line as `clap` does reads a plain line of `pairing`
 pub pairing_read : (read : Result Action Error) (words : List Text)

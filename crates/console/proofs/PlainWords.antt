@@ -5,8 +5,8 @@ use Rattle.std.specs.Option.{option_map_or}
 use Rattle.std.specs.Str.{bytes_eq}
 use Rattle.clap.proofs.FaultLemmas.{past}
 use Rattle.clap.specs.Lexer.{long_of, short_of}
-use Rattle.clap.specs.Walk.{Held, Row, Step, Text, Waiting, Walk, after_step, arg_by_index, idle}
-use Rattle.clap.specs.Walk.{option, positional, reading_by, to_positional, value, walked, word_met}
+use Rattle.clap.specs.Walk.{Held, Row, Step, Text, Waiting, Walk, after_step, arg_by_id, arg_by_index, idle, next}
+use Rattle.clap.specs.Walk.{option, option_word, positional, reading_by, to_positional, value, walked, word_met}
 use Rattle.clap.specs.Simple.{Shape, filled}
 use Rattle.clap.specs.Faults.{positional_fault, step_fault, stray_fault, turn_fault, word_fault}
 use Rattle.clap.specs.declared.parser.matches.ValueSource.TheVariants.{CommandLine}
@@ -74,6 +74,30 @@ pub plain_fault : (s : Shape) (h : Held) (waiting : Waiting) (position : ℕ) (w
 plain_fault s h waiting position word is open_now =
     past _ _ (no_word_fault s waiting word h is open_now)
     ∙ ap (λ (p : Held × Step). step_fault s position p.0 p.1) (met_value s waiting position word h is open_now)
+
+-- a plain word is the value of an option that waits for one
+met_option : (s : Shape) (id : Text) (position : ℕ) (word : Text) (h : Held) → is_plain word ≡ true
+    → ◌≡◌ {A = Held × Step} (word_met s.rules [] false (option id) position word h)
+    ((option_word (arg_by_id s.rules id) id word h).0, next (option_word (arg_by_id s.rules id) id word h).1)
+met_option s id position word h is = rw (not_end word is, not_long word is, not_short word is) refl
+
+pub option_walked : (s : Shape) (h : Held) (id : Text) (position : ℕ) (word : Text) → is_plain word ≡ true
+    → ◌≡◌ {A = Walk} (walked s.rules [] (at h (option id) position) word)
+    (at (option_word (arg_by_id s.rules id) id word h).0 (option_word (arg_by_id s.rules id) id word h).1 position)
+unfolding walked
+option_walked s h id position word is =
+    ap (λ (p : Held × Step). after_step s.rules word (at h (option id) position) p.0 p.1)
+    (met_option s id position word h is)
+
+no_option_fault : (s : Shape) (id word : Text) (h : Held) → is_plain word ≡ true
+    → word_fault s [] false (option id) word h ≡ []
+no_option_fault s id word h is = rw (not_end word is, not_long word is, not_short word is) refl
+
+pub option_passes : (s : Shape) (h : Held) (id : Text) (position : ℕ) (word : Text) → is_plain word ≡ true
+    → turn_fault s [] (at h (option id) position) word ≡ []
+option_passes s h id position word is =
+    past _ _ (no_option_fault s id word h is)
+    ∙ ap (λ (p : Held × Step). step_fault s position p.0 p.1) (met_option s id position word h is)
 
 -- what a walk holds of an argument that was given once or more
 abbrev pub row : Text → List Text → Row

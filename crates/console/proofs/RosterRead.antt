@@ -21,7 +21,7 @@ use Rattle.console.proofs.PlainWords.{at, plain_fault, plain_walked, row}
 use Rattle.console.specs.CommandLine.{MeetsRoster, States, command_line, roster}
 use Rattle.console.specs.Plain.{IsRoster, roster_words, is_plain}
 use Rattle.console.specs.declared.actions.Action.{Action}
-use Rattle.console.specs.declared.actions.Action.TheVariants.{Duty, Init, Do, Import, Roster, Pairing, Exceedances}
+use Rattle.console.specs.declared.actions.Action.TheVariants.{Duty, Init, Do, Import, Roster, Pairing, Exceedances, Serve}
 
 abbrev leaf : Shape
 leaf = as_built command_line roster.top
@@ -113,6 +113,7 @@ same_roster (Do f) file crew met h k = absurd (one_name _ _ _ k.0 h.0 refl)
 same_roster (Import f n) file crew met h k = absurd (one_name _ _ _ k.0 h.0 refl)
 same_roster (Pairing f i) file crew met h k = absurd (one_name _ _ _ k.0 h.0 refl)
 same_roster (Exceedances f) file crew met h k = absurd (one_name _ _ _ k.0 h.0 refl)
+same_roster (Serve f p c) file crew met h k = absurd (one_name _ _ _ k.0 h.0 refl)
 
 -- what reads a line as `clap` does reads a plain line of `roster`
 pub roster_read : (read : Result Action Error) (words : List Text)

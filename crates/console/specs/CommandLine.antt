@@ -1,6 +1,6 @@
 -- The command line, as `clap` states it of a command, and what an action says of the words.
-use Rattle.std.specs.Prelude.{◌≡◌, ℕ, List, Option, Some, None, true, false, map, codes, string_bytes}
-use Rattle.std.specs.Prelude.{if◌then◌else◌, option_and_then}
+use Rattle.std.specs.Prelude.{◌≡◌, ◌∷◌, ℕ, List, [], Option, Some, None, true, false, map, codes}
+use Rattle.std.specs.Prelude.{if◌then◌else◌, option_and_then, string_bytes}
 use Rattle.std.specs.Str.Parse.{digits_value, without_leading_plus}
 use Rattle.clap.specs.Words.{App, Row, Rule, Text, all_of, app_of, first_of, new_app, new_rule}
 use Rattle.clap.specs.Words.{with_rule, with_subcommand}
@@ -11,7 +11,7 @@ use Rattle.clap.specs.declared.builder.command.Command.{Command}
 use Rattle.clap.specs.declared.builder.command.Command.TheViews.{out-Command}
 use Rattle.clap.specs.declared.builder.value_parser.ValueParser.TheVariants.{Unsigned}
 use Rattle.console.specs.declared.actions.Action.{Action}
-use Rattle.console.specs.declared.actions.Action.TheVariants.{Duty, Init, Do, Import, Roster, Pairing, Exceedances}
+use Rattle.console.specs.declared.actions.Action.TheVariants.{Duty, Init, Do, Import, Roster, Pairing, Exceedances, Serve}
 
 -- an argument by its place that must be there, with a name in help
 abbrev pub wanted : Text → Rule
@@ -25,9 +25,26 @@ wanted_each id = record (wanted id) { action = Some Append }
 abbrev pub last_number : ℕ
 last_number = 9_223_372_036_854_775_807
 
--- an argument that must be there, and be the number of a request
-abbrev pub wanted_number : Text → Rule
-wanted_number id = record (wanted id) { parser = Some (Unsigned 1 last_number) }
+-- the greatest port
+abbrev pub last_port : ℕ
+last_port = 65_535
+
+-- the most connections that are served
+abbrev pub most_connections : ℕ
+most_connections = 1_000_000
+
+-- an argument that must be there, and be a whole number from 1 to `most`
+abbrev pub wanted_number : ℕ → Text → Rule
+wanted_number most id = record (wanted id) { parser = Some (Unsigned 1 most) }
+
+-- `--connections N`, which may be left out and is then 1,000,000
+abbrev pub optional_connections : Rule
+optional_connections = record (new_rule (codes "connections")) {
+  long = Some (codes "connections");
+  value_names = 1;
+  defaults = codes "1000000" ∷ [];
+  parser = Some (Unsigned 1 most_connections);
+}
 
 -- `duty ZONE REPORT TIME..`
 abbrev pub duty : App
@@ -44,7 +61,8 @@ do_one = with_rule (new_app (codes "do")) (wanted (codes "file"))
 
 -- `import FILE NUMBER`
 abbrev pub import : App
-import = with_rule (with_rule (new_app (codes "import")) (wanted (codes "file"))) (wanted_number (codes "number"))
+import = with_rule (with_rule (new_app (codes "import"))
+    (wanted (codes "file"))) (wanted_number last_number (codes "number"))
 
 -- `roster FILE CREW`
 abbrev pub roster : App
@@ -57,6 +75,11 @@ pairing = with_rule (with_rule (new_app (codes "pairing")) (wanted (codes "file"
 -- `exceedances FILE`
 abbrev pub exceedances : App
 exceedances = with_rule (new_app (codes "exceedances")) (wanted (codes "file"))
+
+-- `serve FILE PORT --connections N`
+abbrev pub serve : App
+serve = with_rule (with_rule (with_rule (new_app (codes "serve"))
+    (wanted (codes "file"))) (wanted_number last_port (codes "port"))) optional_connections
 
 -- the program without its subcommands: one is wanted, and where there is no word help is shown
 abbrev pub bare : App
@@ -71,8 +94,8 @@ bare = on_top (λ s. record s {
 -- the program's command line
 abbrev pub command_line : App
 command_line =
-    with_subcommand (with_subcommand (with_subcommand (with_subcommand (with_subcommand (with_subcommand (with_subcommand bare
-    duty.top) init.top) do_one.top) import.top) roster.top) pairing.top) exceedances.top
+    with_subcommand (with_subcommand (with_subcommand (with_subcommand (with_subcommand (with_subcommand (with_subcommand
+    (with_subcommand bare duty.top) init.top) do_one.top) import.top) roster.top) pairing.top) exceedances.top) serve.top
 
 -- the command is built as `app` says
 abbrev pub IsCommand : App → Command → Type 0
@@ -93,10 +116,14 @@ MeetsInit file zone met = (met.0 ≡ codes "init")
 abbrev pub MeetsDo : Text → Text × List Row → Type 0
 MeetsDo file met = (met.0 ≡ codes "do") × (first_of (codes "file") met.1 ≡ Some file)
 
--- the number of a request, of its text: digits, zeros first or none, after one plus sign or none
+-- a whole number from 1 to `most`, of its text: digits, zeros first or none, after one plus sign or none
+abbrev pub number_up_to : ℕ → Text → Option ℕ
+number_up_to most text =
+    if is_unsigned_in 1 most text then Some (digits_value 10 (without_leading_plus text)) else None
+
+-- the number of a request, of its text
 abbrev pub request_number : Text → Option ℕ
-request_number text =
-    if is_unsigned_in 1 last_number text then Some (digits_value 10 (without_leading_plus text)) else None
+request_number = number_up_to last_number
 
 -- `import` was met, with these arguments
 abbrev pub MeetsImport : Text → ℕ → Text × List Row → Type 0
@@ -117,6 +144,12 @@ MeetsPairing file id met = (met.0 ≡ codes "pairing")
 abbrev pub MeetsExceedances : Text → Text × List Row → Type 0
 MeetsExceedances file met = (met.0 ≡ codes "exceedances") × (first_of (codes "file") met.1 ≡ Some file)
 
+-- `serve` was met, with these arguments
+abbrev pub MeetsServe : Text → ℕ → ℕ → Text × List Row → Type 0
+MeetsServe file port count met = (met.0 ≡ codes "serve") × (first_of (codes "file") met.1 ≡ Some file)
+    × (option_and_then (number_up_to last_port) (first_of (codes "port") met.1) ≡ Some port)
+    × (option_and_then (number_up_to most_connections) (first_of (codes "connections") met.1) ≡ Some count)
+
 -- the action is the subcommand that was met, with the arguments that were found for it
 abbrev pub States : Action → Text × List Row → Type 0
 States (Duty zone report times) met =
@@ -127,3 +160,4 @@ States (Import file number) met = MeetsImport (string_bytes file) number met
 States (Roster file crew) met = MeetsRoster (string_bytes file) (string_bytes crew) met
 States (Pairing file id) met = MeetsPairing (string_bytes file) (string_bytes id) met
 States (Exceedances file) met = MeetsExceedances (string_bytes file) met
+States (Serve file port count) met = MeetsServe (string_bytes file) port count met

@@ -1,8 +1,10 @@
 -- The words of a plain line of each subcommand.
-use Rattle.std.specs.Prelude.{◌≡◌, ◌==◌, ℕ, Bool, true, not, List, [], ◌∷◌, map, codes, string_bytes}
+use Rattle.std.specs.Prelude.{◌≡◌, ◌==◌, ℕ, Bool, true, not, List, [], ◌∷◌, Option, Some, None, map, codes}
+use Rattle.std.specs.Prelude.{string_bytes}
 use Rattle.clap.specs.Walk.{Text}
+use Rattle.console.specs.CommandLine.{most_connections, number_up_to}
 use Rattle.console.specs.declared.actions.Action.{Action}
-use Rattle.console.specs.declared.actions.Action.TheVariants.{Duty, Init, Do, Import, Roster, Pairing, Exceedances}
+use Rattle.console.specs.declared.actions.Action.TheVariants.{Duty, Init, Do, Import, Roster, Pairing, Exceedances, Serve}
 
 -- a word that begins with no hyphen (45)
 abbrev pub is_plain : Text → Bool
@@ -72,3 +74,18 @@ exceedances_words file = codes "exceedances" ∷ file ∷ []
 abbrev pub IsExceedances : Text → Action → Type 0
 IsExceedances file (Exceedances f) = string_bytes f ≡ file
 IsExceedances file _ = ⊥
+
+-- `serve FILE PORT`, and `--connections N` where N is given
+abbrev pub serve_words : Text → Text → Option Text → List Text
+serve_words file port None = codes "serve" ∷ file ∷ port ∷ []
+serve_words file port (Some count) = codes "serve" ∷ file ∷ port ∷ codes "--connections" ∷ count ∷ []
+
+-- how many connections are asked for: where N isn't given, 1,000,000
+abbrev pub asked_connections : Option Text → Option ℕ
+asked_connections None = Some most_connections
+asked_connections (Some count) = number_up_to most_connections count
+
+-- the action is `serve` with exactly these arguments
+abbrev pub IsServe : Text → ℕ → ℕ → Action → Type 0
+IsServe file port count (Serve f p n) = (string_bytes f ≡ file) × (p ≡ port) × (n ≡ count)
+IsServe file port count _ = ⊥

@@ -1,18 +1,20 @@
 //! The words after the program's name, read by `clap`.
-ghost use Rattle.std.specs.Prelude.{◌≡◌, ◌∷◌, ℕ, IfOk, IsErrAnd, IsSomeAnd, List, MatchResult, None, Some, codes};
-ghost use Rattle.std.specs.Prelude.{[], false, is_some, map, option_and_then, string_bytes, true};
+ghost use Rattle.std.specs.Prelude.{◌≡◌, ◌∷◌, ◌⊎◌, ℕ, IfOk, IsErrAnd, IsSomeAnd, List, MatchResult, None, Option};
+ghost use Rattle.std.specs.Prelude.{Some, [], codes, false, is_some, map, option_and_then, string_bytes, true};
 ghost use Rattle.std.specs.List.{list_all};
+ghost use Rattle.std.specs.Option.{option_map_or};
 ghost use Rattle.clap.specs.Walk.{Text, texts};
 ghost use Rattle.clap.specs.Words.{FailsBy, HasKind, all_of, fault_of, first_of, found_of, kind_of, rows_of};
 ghost use Rattle.clap.specs.Words.{rule_of, subcommand_of, subcommand_rows_of};
 ghost use Rattle.clap.specs.declared.error.kind.ErrorKind.TheVariants.{OutOfMemory, ValueValidation};
 ghost use Rattle.console.specs.Arguments.{HasArguments, HasDo, HasDuty, HasExceedances, HasImport, HasInit};
-ghost use Rattle.console.specs.Arguments.{HasNumber, HasPairing, HasRoster};
-ghost use Rattle.console.specs.CommandLine.{IsCommand, States, bare, command_line, do_one, duty, exceedances, import, init};
-ghost use Rattle.console.specs.CommandLine.{pairing, request_number, roster, wanted};
-ghost use Rattle.console.specs.Plain.{IsDo, IsDuty, IsExceedances, IsImport, IsInit, IsPairing, IsRoster, do_words};
-ghost use Rattle.console.specs.Plain.{duty_words, exceedances_words, import_words, init_words, is_plain};
-ghost use Rattle.console.specs.Plain.{pairing_words, roster_words};
+ghost use Rattle.console.specs.Arguments.{HasNumber, HasPairing, HasRoster, HasServe};
+ghost use Rattle.console.specs.CommandLine.{IsCommand, States, bare, command_line, do_one, duty, exceedances, import};
+ghost use Rattle.console.specs.CommandLine.{init, last_number, last_port, most_connections, number_up_to};
+ghost use Rattle.console.specs.CommandLine.{optional_connections, pairing, request_number, roster, serve, wanted, wanted_number};
+ghost use Rattle.console.specs.Plain.{IsDo, IsDuty, IsExceedances, IsImport, IsInit, IsPairing, IsRoster, IsServe};
+ghost use Rattle.console.specs.Plain.{asked_connections, do_words, duty_words, exceedances_words, import_words, init_words};
+ghost use Rattle.console.specs.Plain.{is_plain, pairing_words, roster_words, serve_words};
 
 use crate::actions::Action;
 use clap::{Arg, ArgAction, ArgMatches, Command, Error, value_parser};
@@ -24,6 +26,7 @@ Arguments of the commands:
   FILE     file of the book
   ZONE     time zone of the crew, a POSIX rule such as EST5EDT,M3.2.0,M11.1.0
   NUMBER   number of the request, 1 to 9223372036854775807
+  PORT     port of 127.0.0.1, 1 to 65535
   CREW     id of a crew member, such as C1
   PAIRING  id of a pairing, such as B101
   REPORT   report, a UTC instant such as 2025-06-10T15:59Z
@@ -106,6 +109,21 @@ the member, the section of 14 CFR Part 117, and the period of the pairing.
 Exit status: 0 done, 2 a mistake in the command line, 3 there is no book in the
 file, or the file, memory or the output fails";
 
+const SERVE_EXAMPLE: &str = "\
+Example:
+  rosterbook serve roster.db 8117 --connections 2 &
+  curl http://127.0.0.1:8117/crew/C1
+
+Prints 'listening PORT' once clients can connect, and then answers one request
+of HTTP in each connection, one after the other. A connection that fails is told
+on standard error, as 'refused 92 Channel' or 'refused 93 Network', and counts.
+It stops after N connections, or after an answer 90.
+One program at a time has a book: the others are refused with 90 Store.
+
+Exit status: 0 after N connections, 2 a mistake in the command line, 3 an answer
+was 90, the port can't be had, there is no book in the file, or the file, memory
+or the output fails";
+
 const NEW_FILE_HELP: &str = "File of the book, new or empty";
 
 const FILE_HELP: &str = "File of the book";
@@ -117,6 +135,14 @@ a whole number from 1 to 9223372036854775807";
 const CREW_HELP: &str = "Id of the crew member";
 
 const PAIRING_HELP: &str = "Id of the pairing";
+
+const PORT_HELP: &str = "\
+Port of 127.0.0.1 to listen on,
+a whole number from 1 to 65535";
+
+const CONNECTIONS_HELP: &str = "\
+How many connections to serve,
+a whole number from 1 to 1000000";
 
 const ZONE_HELP: &str = "\
 Time zone of the acclimated crew, a POSIX rule, which gives the
@@ -158,9 +184,19 @@ pub fn action(alloc: Global, words: &[&str]) -> Result<Action, Error>
         → MatchResult result (IsPairing file id) (λ e. kind_of e ≡ OutOfMemory) }
     ensures exceedances { (file : Text) → texts words.now ≡ exceedances_words file → is_plain file ≡ true
         → MatchResult result (IsExceedances file) (λ e. kind_of e ≡ OutOfMemory) }
+    ensures serve { (file port : Text) (count : Option Text) (p n : ℕ)
+        → texts words.now ≡ serve_words file port count
+        → list_all is_plain (file ∷ port ∷ []) ≡ true → option_map_or is_plain count true ≡ true
+        → number_up_to last_port port ≡ Some p → asked_connections count ≡ Some n
+        → MatchResult result (IsServe file p n) (λ e. kind_of e ≡ OutOfMemory) }
     ensures import_number { (file number : Text)
         → texts words.now ≡ import_words file number
         → list_all is_plain (file ∷ number ∷ []) ≡ true → request_number number ≡ None
+        → IsErrAnd result (HasKind (ValueValidation ∷ [])) }
+    ensures serve_numbers { (file port : Text) (count : Option Text)
+        → texts words.now ≡ serve_words file port count
+        → list_all is_plain (file ∷ port ∷ []) ≡ true → option_map_or is_plain count true ≡ true
+        → (number_up_to last_port port ≡ None) ⊎ (asked_connections count ≡ None)
         → IsErrAnd result (HasKind (ValueValidation ∷ [])) }
 {
     read(alloc, words)
@@ -186,7 +222,8 @@ fn command<'a>(alloc: Global) -> Result<Command<'a>, AllocError>
         .subcommand(import_command(alloc)?)?
         .subcommand(roster_command(alloc)?)?
         .subcommand(pairing_command(alloc)?)?
-        .subcommand(exceedances_command(alloc)?)
+        .subcommand(exceedances_command(alloc)?)?
+        .subcommand(serve_command(alloc)?)
 }
 
 /// The program without its subcommands.
@@ -297,6 +334,42 @@ fn exceedances_command<'a>(alloc: Global) -> Result<Command<'a>, AllocError>
         .arg(file)
 }
 
+/// The subcommand `serve`.
+fn serve_command<'a>(alloc: Global) -> Result<Command<'a>, AllocError>
+    ensures { IfOk result (IsCommand serve) }
+{
+    let file = positional(alloc, "file", "FILE").help(FILE_HELP);
+    Command::new(alloc, "serve")
+        .about("Answer requests of HTTP on 127.0.0.1")
+        .after_help(SERVE_EXAMPLE)
+        .arg(file)?
+        .arg(port_argument(alloc))?
+        .arg(connections_option(alloc))
+}
+
+/// The port of `serve`.
+fn port_argument<'a>(alloc: Global) -> Arg<'a>
+    ensures rule { rule_of result ≡ wanted_number last_port (codes "port") }
+    ensures local { result.global ≡ false }
+{
+    positional(alloc, "port", "PORT")
+        .help(PORT_HELP)
+        .value_parser(value_parser!(u64).range(1..=65_535))
+}
+
+/// How many connections `serve` takes: 1,000,000 where the option isn't given.
+fn connections_option<'a>(alloc: Global) -> Arg<'a>
+    ensures rule { rule_of result ≡ optional_connections }
+    ensures local { result.global ≡ false }
+{
+    Arg::new(alloc, "connections")
+        .long("connections")
+        .value_name("N")
+        .help(CONNECTIONS_HELP)
+        .default_value("1000000")
+        .value_parser(value_parser!(u64).range(1..=1_000_000))
+}
+
 /// An argument by its place that must be there.
 fn positional<'a>(alloc: Global, id: &'a str, value_name: &'a str) -> Arg<'a>
     ensures rule { rule_of result ≡ wanted id.entry.now }
@@ -319,6 +392,7 @@ fn action_of(alloc: Global, matches: &ArgMatches<'_>) -> Result<Action, AllocErr
         "roster" => roster_of(alloc, arguments),
         "pairing" => pairing_of(alloc, arguments),
         "exceedances" => exceedances_of(alloc, arguments),
+        "serve" => serve_of(alloc, arguments),
         _ => unreachable!(),
     }
 }
@@ -393,9 +467,43 @@ fn exceedances_of(alloc: Global, matches: &ArgMatches<'_>) -> Result<Action, All
     Ok(Action::Exceedances { file })
 }
 
+/// The arguments of `serve`.
+fn serve_of(alloc: Global, matches: &ArgMatches<'_>) -> Result<Action, AllocError>
+    requires { HasServe (rows_of (found_of matches.now)) }
+    ensures { IfOk result (λ a. States a (codes "serve", rows_of (found_of matches.now))) }
+{
+    let file = text_of(alloc, matches, "file")?;
+    let port = port_of(matches, "port");
+    let connections = connections_of(matches, "connections");
+    Ok(Action::Serve {
+        file,
+        port,
+        connections,
+    })
+}
+
+/// The value of an argument that is a port.
+fn port_of(matches: &ArgMatches<'_>, id: &str) -> u16
+    requires { HasNumber last_port id.now (rows_of (found_of matches.now)) }
+    ensures { option_and_then (number_up_to last_port) (first_of id.now (rows_of (found_of matches.now))) ≡ Some result }
+{
+    let port = matches.get_one::<u64>(id).unwrap();
+    port as u16
+}
+
+/// The value of an argument that is a number of connections.
+fn connections_of(matches: &ArgMatches<'_>, id: &str) -> u32
+    requires { HasNumber most_connections id.now (rows_of (found_of matches.now)) }
+    ensures { option_and_then (number_up_to most_connections) (first_of id.now (rows_of (found_of matches.now)))
+        ≡ Some result }
+{
+    let connections = matches.get_one::<u64>(id).unwrap();
+    connections as u32
+}
+
 /// The value of an argument that is a request's number.
 fn number_of(matches: &ArgMatches<'_>, id: &str) -> RequestNumber
-    requires { HasNumber id.now (rows_of (found_of matches.now)) }
+    requires { HasNumber last_number id.now (rows_of (found_of matches.now)) }
     ensures { option_and_then request_number (first_of id.now (rows_of (found_of matches.now))) ≡ Some result }
 {
     let number = matches.get_one::<u64>(id).unwrap();

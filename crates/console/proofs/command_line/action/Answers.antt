@@ -6,6 +6,7 @@ use Rattle.console.proofs.ImportRead.{import_read, import_refused}
 use Rattle.console.proofs.InitRead.{init_read}
 use Rattle.console.proofs.PairingRead.{pairing_read}
 use Rattle.console.proofs.RosterRead.{roster_read}
+use Rattle.console.proofs.ServeRead.{serve_read, serve_refused}
 use Rattle.console.proofs.command_line.action.Goals as goal
 
 pub returns-clause-duty : goal.returns-clause-duty
@@ -31,3 +32,9 @@ returns-clause-pairing c = pairing_read c.read.result (texts c.args.words.now) c
 
 pub returns-clause-exceedances : goal.returns-clause-exceedances
 returns-clause-exceedances c = exceedances_read c.read.result (texts c.args.words.now) c.read.ensures.ok c.read.ensures.refused
+
+pub returns-clause-serve : goal.returns-clause-serve
+returns-clause-serve c = serve_read c.read.result (texts c.args.words.now) c.read.ensures.ok c.read.ensures.refused
+
+pub returns-clause-serve_numbers : goal.returns-clause-serve_numbers
+returns-clause-serve_numbers c = serve_refused c.read.result (texts c.args.words.now) c.read.ensures.refused

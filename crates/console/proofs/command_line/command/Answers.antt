@@ -1,6 +1,6 @@
 use Rattle.std.proofs.lemmas.Result.{IfOk-weaker}
 use Rattle.clap.specs.Simple.{App, with_subcommand}
-use Rattle.console.specs.CommandLine.{bare, do_one, duty, exceedances, import, init, pairing, roster}
+use Rattle.console.specs.CommandLine.{bare, do_one, duty, exceedances, import, init, pairing, roster, serve}
 use Rattle.console.proofs.Commands.{subcommand_added}
 use Rattle.console.proofs.command_line.command.Goals as goal
 
@@ -22,6 +22,9 @@ to_roster = with_subcommand to_import roster.top
 abbrev to_pairing : App
 to_pairing = with_subcommand to_roster pairing.top
 
+abbrev to_exceedances : App
+to_exceedances = with_subcommand to_pairing exceedances.top
+
 pub returns : goal.returns
 returns c =
     let first = subcommand_added bare duty _ _ c.in_ok-subcommand.field-0 c.in_ok-bare_command.ensures
@@ -36,6 +39,8 @@ returns c =
     c.in_ok-subcommand-5.ensures c.in_ok-roster_command.ensures in
     let sixth = subcommand_added to_roster pairing _ _ c.in_ok-subcommand-6.field-0 fifth
     c.in_ok-subcommand-6.ensures c.in_ok-pairing_command.ensures in
-    IfOk-weaker c.subcommand-7.result _ _
-    (λ r added. subcommand_added to_pairing exceedances _ _ r sixth added c.in_ok-exceedances_command.ensures)
-    c.subcommand-7.ensures
+    let seventh = subcommand_added to_pairing exceedances _ _ c.in_ok-subcommand-7.field-0 sixth
+    c.in_ok-subcommand-7.ensures c.in_ok-exceedances_command.ensures in
+    IfOk-weaker c.subcommand-8.result _ _
+    (λ r added. subcommand_added to_exceedances serve _ _ r seventh added c.in_ok-serve_command.ensures)
+    c.subcommand-8.ensures

@@ -19,7 +19,7 @@ returns c =
     let help_is : rule_of c.help.result ≡ wanted (codes "number") = search rules in
     let parsed : c.value_parser-number.result.value_parser ≡ Some (Unsigned 1 last_number) =
     given.1 ∙ ap Some (given.2 ∙ made) in
-    let number_is : rule_of c.value_parser-number.result ≡ wanted_number (codes "number") =
+    let number_is : rule_of c.value_parser-number.result ≡ wanted_number last_number (codes "number") =
     ap rule_of c.value_parser-number.ensures.others
     ∙ (ap (λ q. record (rule_of c.help.result) { parser = q }) parsed
     ∙ ap (λ (r : Rule). record r { parser = Some (Unsigned 1 last_number) }) help_is) in

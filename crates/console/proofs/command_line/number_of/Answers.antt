@@ -2,11 +2,12 @@ use Rattle.std.proofs.Common.{◌∙◌, sym}
 use Rattle.std.specs.Str.Parse.{ExplainsUnsignedError, HasUnsignedDigitsIfOk, ParsesUnsigned}
 use Rattle.clap.specs.Words.{first_of, found_of, rows_of}
 use Rattle.console.proofs.NumberRead.{number_made, number_taken, some_there, taken_there}
+use Rattle.console.specs.CommandLine.{last_number}
 use Rattle.console.proofs.command_line.number_of.Goals as goal
 
 pub unwrap-number-requires : goal.unwrap-number-requires
 unwrap-number-requires c =
-    let taken = number_taken (found_of c.args.matches.now) c.args.id.now _ c.get_one.result
+    let taken = number_taken last_number (found_of c.args.matches.now) c.args.id.now _ c.get_one.result
     (λ bs r. ParsesUnsigned 64 10 bs r × ExplainsUnsignedError 10 bs r × HasUnsignedDigitsIfOk bs r)
     c.get_one.ensures.value
     (λ u x g. g.0) c.requires in
@@ -14,7 +15,7 @@ unwrap-number-requires c =
 
 pub unwrap-requires : goal.unwrap-requires
 unwrap-requires c =
-    let taken = number_taken (found_of c.args.matches.now) c.args.id.now _ c.get_one.result
+    let taken = number_taken last_number (found_of c.args.matches.now) c.args.id.now _ c.get_one.result
     (λ bs r. ParsesUnsigned 64 10 bs r × ExplainsUnsignedError 10 bs r × HasUnsignedDigitsIfOk bs r)
     c.get_one.ensures.value
     (λ u x g. g.0) c.requires in
@@ -24,7 +25,7 @@ unwrap-requires c =
 
 pub returns : goal.returns
 returns c =
-    let taken = number_taken (found_of c.args.matches.now) c.args.id.now _ c.get_one.result
+    let taken = number_taken last_number (found_of c.args.matches.now) c.args.id.now _ c.get_one.result
     (λ bs r. ParsesUnsigned 64 10 bs r × ExplainsUnsignedError 10 bs r × HasUnsignedDigitsIfOk bs r)
     c.get_one.ensures.value
     (λ u x g. g.0) c.requires in
