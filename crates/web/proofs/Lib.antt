@@ -4,4 +4,3 @@ pub mod Importing
 pub mod Listing
 mod OneResponse
 pub mod Untaken
-pub mod Untaken
