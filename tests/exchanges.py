@@ -287,6 +287,8 @@ first officer -
 1.1 RB3 BOS 2025-06-11T11:45Z IAD 2025-06-11T13:30Z
 1.2 RB4 IAD 2025-06-11T17:15Z BOS 2025-06-11T19:00Z
 """)),
+    ("7 fly B101 2 10: 17:00 | 18:00-19:45, 23:00-+1 00:45 | +1 01:15", (409, refused(13, "NoSuchDuty"))),
+    ("7 fly B101 1 10: 17:00 | 18:00-19:45 | 20:00", (422, refused(19, "SegmentCount", period=1))),
     (f"7 {LATE}", (200, EXCEEDED)),
     (f"7 {LATE}", (200, EXCEEDED)),
     ("8 release B101 C1", (409, refused(10, "Flown"))),

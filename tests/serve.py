@@ -375,7 +375,7 @@ def try_life(desk):
         desk.expect("turns with another answer", [turn for turn in range(200) if not takes_turn(server, turn)], [])
         for given, ask in commands:
             text = ask(other)
-            desk.expect(given[:200], server.exchange(given), response(200 if ACCEPTED[-21:-1] in text else 409, text))
+            desk.expect(given[:200], server.exchange(given), response(200 if '"accepted"' in text else 409, text))
         ended = server.end()
         lines = ended.err.count("\n")
         desk.expect("the end", ended, server.served(FAILED * lines))
@@ -450,11 +450,19 @@ def try_full_output(desk):
         desk.expect("on a full disk", run(desk.book().file, free_port(), stdout=full), Ran(3, "", FAILED))
 
 
+def try_full_errors(desk):
+    """A line of a failed connection that can't be written doesn't end a server, but it ends with status 3 for it."""
+    with open("/dev/full", "w") as full, serving(desk.book(), 3, stderr=full) as server:
+        desk.expect("before", told_beside(server, resets_within_the_head), response(*NONE_EXCEEDED))
+        desk.expect("after", server.exchange(get("/crew/C9")), response(*NO_CREW))
+        desk.expect("the end", server.end(), Ran(3, f"listening {server.port}\n", ""))
+
+
 def try_kill(desk):
-    """What was answered before a server is stopped by a signal is kept."""
+    """What was answered before a server is stopped by a signal is kept. One that isn't told of how many goes on."""
     for stop in (signal.SIGTERM, signal.SIGKILL):
         book = desk.book()
-        with serving(book, 1_000_000) as server:
+        with serving(book) as server:
             desk.expect("the answer", server.exchange(HIRE), response(200, ACCEPTED))
             server.process.send_signal(stop)
             desk.expect("the end", server.end(), Ran(-stop, f"listening {server.port}\n", ""))
@@ -614,7 +622,7 @@ def try_back_up(desk):
 
 TRIED = (
     try_exchanges, try_answers, try_hour, try_pieces, try_cuts, try_one_exchange, try_expectation, try_large_bodies, try_curl,
-    try_misbehaving, try_lost_answer, try_many_at_once, try_life, try_refused_books, try_words, try_full_output, try_kill,
+    try_misbehaving, try_lost_answer, try_many_at_once, try_life, try_refused_books, try_words, try_full_output, try_full_errors, try_kill,
     try_full_disk, try_full_disk_in_an_import, try_service, try_back_up, try_memory, try_silence,
 )  # fmt: skip
 

@@ -130,9 +130,11 @@ class Server:
         return Ran(0, f"listening {self.port}\n", errors)
 
 
-def serve(file, port, connections, **options):
+def serve(file, port, connections=None, **options):
     """The program as it serves a book, with its standard output in a pipe."""
-    words = [PROGRAM, "serve", file, str(port), "--connections", str(connections)]
+    words = [PROGRAM, "serve", file, str(port)]
+    if connections is not None:
+        words += ["--connections", str(connections)]
     return subprocess.Popen(words, stdin=subprocess.DEVNULL, **{"stdout": subprocess.PIPE, **options})
 
 
@@ -150,11 +152,11 @@ def run(file, port, connections=1, **options):
 
 
 @contextmanager
-def serving(book, connections, **options):
+def serving(book, connections=None, **options):
     """A server of a book that listens; it doesn't outlive the block."""
     with tempfile.TemporaryFile() as errors:
         port = free_port()
-        process = serve(book.file, port, connections, stderr=errors, **options)
+        process = serve(book.file, port, connections, **{"stderr": errors, **options})
         server = Server(process, port, errors)
         try:
             server.await_listening()
