@@ -233,7 +233,7 @@ CUT = [
     (post("/imports/2", ONE_PAIRING), response(200, parts(ACCEPTED))),
 ]
 
-# What has a body that isn't taken.
+# What has a body that isn't taken; the last is longer than what the system keeps of it while nobody reads.
 LEFT = b"x" * 200_000
 WITH_A_BODY_LEFT = [
     (wire("POST /requests HTTP/1.1|Host: x|Content-Length: 2000000||") + LEFT, error(413)),
@@ -243,6 +243,7 @@ WITH_A_BODY_LEFT = [
     (wire("POST /requests HTTP/1.1|Host: x|Transfer-Encoding: chunked||") + LEFT, error(501)),
     (wire("GET /exceedances HTTP/1.1|Host: x|Content-Length: 200000||") + LEFT, response(*NONE_EXCEEDED)),
     (LEFT, error(400)),
+    (wire("POST /requests HTTP/1.1|Host: x|Content-Length: 8000000||") + LEFT * 40, error(413)),
 ]
 
 # ---- An hour of an office, and then more: what is asked in short, with the answer.

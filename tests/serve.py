@@ -31,7 +31,7 @@ from exchanges import (
     refused, request_of, response, wire,
 )  # fmt: skip
 from office import PROGRAM, TOP, Book, Ran, build, order, schedule, told
-from server import LOOPBACK, free_port, receive, reset, run, send, serve, serving
+from server import LOOPBACK, free_port, receive, reset, run, serving
 
 FAILED = "refused 92 Channel\n"  # what is told of a connection
 
@@ -136,7 +136,7 @@ def told_in_pieces(server, given, places, pause):
     with server.connect() as client:
         for begin, end in zip([0, *places], [*places, len(given)]):
             if given[begin:end]:
-                send(client, given[begin:end])
+                client.sendall(given[begin:end])
                 time.sleep(pause)
         return receive(client)
 
@@ -177,9 +177,9 @@ def try_expectation(desk):
     body = body_of(1, "hire C1 captain: Ada Ray").encode()
     with serving(desk.book(), 2) as server:
         with server.connect() as client:
-            send(client, post("/requests", body, "Expect: 100-Continue").removesuffix(body))
+            client.sendall(post("/requests", body, "Expect: 100-Continue").removesuffix(body))
             desk.expect("what comes first", receive(client, len(CONTINUE)), CONTINUE)
-            send(client, body)
+            client.sendall(body)
             desk.expect("what comes then", receive(client), response(200, ACCEPTED))
         head = wire(f"POST /requests HTTP/1.1|Host: x|Expect: 100-continue|Content-Length: {LONGEST + 1}||")
         desk.expect("of a body that is too long", server.exchange(head), error(413))
@@ -244,22 +244,22 @@ def closes_at_once(client):
 
 
 def closes_after_the_head(client):
-    send(client, wire("POST /requests HTTP/1.1|Host: x|Content-Length: 47||"))
+    client.sendall(wire("POST /requests HTTP/1.1|Host: x|Content-Length: 47||"))
     client.close()
 
 
 def closes_within_the_head(client):
-    send(client, wire("POST /requests HTTP/1.1|Hos"))
+    client.sendall(wire("POST /requests HTTP/1.1|Hos"))
     client.close()
 
 
 def closes_within_the_body(client):
-    send(client, wire(f"POST /requests HTTP/1.1|Host: x|Content-Length: 47||{CANCEL[:20]}"))
+    client.sendall(wire(f"POST /requests HTTP/1.1|Host: x|Content-Length: 47||{CANCEL[:20]}"))
     client.close()
 
 
 def closes_before_the_answer(client):
-    send(client, get("/exceedances"))
+    client.sendall(get("/exceedances"))
     client.close()
 
 
@@ -268,17 +268,17 @@ def resets_at_once(client):
 
 
 def resets_within_the_head(client):
-    send(client, wire("POST /requests HTTP/1.1|Hos"))
+    client.sendall(wire("POST /requests HTTP/1.1|Hos"))
     reset(client)
 
 
 def resets_within_the_body(client):
-    send(client, wire(f"POST /requests HTTP/1.1|Host: x|Content-Length: 47||{CANCEL[:20]}"))
+    client.sendall(wire(f"POST /requests HTTP/1.1|Host: x|Content-Length: 47||{CANCEL[:20]}"))
     reset(client)
 
 
 def resets_before_the_answer(client):
-    send(client, get("/exceedances"))
+    client.sendall(get("/exceedances"))
     reset(client)
 
 
@@ -299,9 +299,9 @@ MISBEHAVING = {
 def told_beside(server, misbehave):
     """What a client is told that keeps the server waiting while another one misbehaves and is gone."""
     with server.connect() as client:
-        send(client, b"GET /exceedances HTTP/1.1\r\n")
+        client.sendall(b"GET /exceedances HTTP/1.1\r\n")
         misbehave(server.connect())
-        send(client, b"Host: x\r\n\r\n")
+        client.sendall(b"Host: x\r\n\r\n")
         return receive(client)
 
 
@@ -323,7 +323,7 @@ def try_lost_answer(desk):
     book = desk.book()
 
     def misbehave(client):
-        send(client, HIRE)
+        client.sendall(HIRE)
         reset(client)
 
     with serving(book, 5) as server:
@@ -342,7 +342,7 @@ def try_many_at_once(desk):
     with serving(book, 50) as server:
         clients = [server.connect() for _ in range(50)]
         for number, client in enumerate(clients, 1):
-            send(client, request_of(f"{number} hire C{number} captain: Ada Ray"))
+            client.sendall(request_of(f"{number} hire C{number} captain: Ada Ray"))
         for number, client in enumerate(clients, 1):
             desk.expect(f"client {number}", receive(client), response(200, ACCEPTED))
             client.close()
@@ -514,10 +514,10 @@ def try_full_disk_in_an_import(desk):
 def try_silence(desk):
     """A client that sends nothing more for thirty seconds is given up, and the next is served."""
     with serving(desk.book(), 2) as server, server.connect(patience=60) as client:
-        send(client, b"GET /exceedances HTTP/1.1\r\n")
+        client.sendall(b"GET /exceedances HTTP/1.1\r\n")
         begin = time.monotonic()
         with server.connect(patience=60) as other:
-            send(other, get("/exceedances"))
+            other.sendall(get("/exceedances"))
             desk.expect("the next client", receive(other), response(*NONE_EXCEEDED))
         desk.expect("thirty seconds", 25 < time.monotonic() - begin < 45, True)
         desk.expect("the silent client", receive(client), b"")

@@ -24,25 +24,14 @@ PATIENCE = 20  # seconds that a client waits for a byte, and the script for the 
 # ---- Clients.
 
 
-def send(client, given):
-    """Sends bytes; whoever is answered before the end may find that nobody takes the rest."""
-    try:
-        client.sendall(given)
-    except (BrokenPipeError, ConnectionResetError):
-        pass
-
-
 def receive(client, count=None):
-    """The next so many bytes, or all up to the end. A connection that is reset instead ends in a word that says so."""
+    """The next so many bytes, or all up to the end."""
     got = b""
-    try:
-        while count is None or len(got) < count:
-            more = client.recv(65_536 if count is None else count - len(got))
-            if not more:
-                break
-            got += more
-    except (ConnectionResetError, TimeoutError) as fault:
-        got += f"<{type(fault).__name__}>".encode()
+    while count is None or len(got) < count:
+        more = client.recv(65_536 if count is None else count - len(got))
+        if not more:
+            break
+        got += more
     return got
 
 
@@ -92,12 +81,15 @@ class Server:
         return client
 
     def exchange(self, given, is_cut=False):
-        """All that it writes to a client that sends these bytes, and then ends its side if they are cut."""
-        with self.connect() as client:
-            send(client, given)
-            if is_cut:
-                client.shutdown(socket.SHUT_WR)
-            return receive(client)
+        """All that it writes to a client that sends these bytes, and then ends its side if they are cut; or why that one got nothing."""
+        try:
+            with self.connect() as client:
+                client.sendall(given)
+                if is_cut:
+                    client.shutdown(socket.SHUT_WR)
+                return receive(client)
+        except OSError as fault:
+            return repr(fault)
 
     def error_lines(self):
         """What it has written to standard error."""
