@@ -1,5 +1,5 @@
 #!/usr/bin/env bash
-# Runs the transcripts of tests/transcripts, and those of the README (its blocks of `console`, as one): what a user types, what
+# Runs the transcripts of tests/transcripts, and those of the README (each of its blocks of `console`): what a user types, what
 # the program writes, and how it ends. Each runs in an empty folder of its own, with the program and examples/ at hand. A line is
 #
 #     $ ..    a command of the shell
@@ -7,20 +7,31 @@
 #     [N]     its exit status, where that isn't 0
 #     # ..    a remark
 #
-# and any other a line that the command writes to standard output. Says on standard error what differs; the last line of
-# standard output is 'N passed, M failed'. One that calls the shell `sqlite3` is passed over where there is none on the PATH.
+# and any other a line that the command writes to standard output. The port 8117 stands for one on which nobody listens. Says on
+# standard error what differs; the last line of standard output is 'N passed, M failed'. One that calls the shell `sqlite3`, or
+# `curl`, is passed over where there is none on the PATH.
 set -u
 cd "$(dirname "$(readlink -f "${BASH_SOURCE[0]}")")/.." || exit 2
 top=$PWD
 room=$(mktemp -d) || exit 2
 trap 'rm -rf "$room"' EXIT
+export no_proxy=127.0.0.1
+
+# free_port: a port of 127.0.0.1 on which nobody listens.
+free_port() {
+    local port=$((20000 + RANDOM % 10000))
+    while (: <"/dev/tcp/127.0.0.1/$port") 2>/dev/null; do
+        port=$((port + 1))
+    done
+    echo "$port"
+}
 
 # ran COMMAND: the lines that a transcript has of it after the command.
 ran() {
     local status
-    (cd "$room/folder" && bash -c "$1") >"$room/out" 2>"$room/err" </dev/null
+    (cd "$room/folder" && bash -c "${1//8117/$port}") >"$room/out" 2>"$room/err" </dev/null
     status=$?
-    cat "$room/out"
+    sed "s/^listening $port$/listening 8117/" "$room/out"
     sed 's/^/! /' "$room/err"
     [ "$status" -eq 0 ] || echo "[$status]"
 }
@@ -39,14 +50,17 @@ played() {
 }
 
 ./rosterbook --version >/dev/null || exit 3
-sed -n '/^```console$/,/^```$/{/^```/!p}' README.md >"$room/README.md"
+awk -v start="$room/README-" '/^```console$/ { blocks += 1; file = start blocks ".txt" } /^```$/ { file = "" } !/^```/ && file { print >file }' README.md
+port=$(free_port)
 passed=0
 failed=0
-for file in "$room/README.md" tests/transcripts/*.txt; do
-    if grep -q '^\$ .*sqlite3' "$file" && ! command -v sqlite3 >/dev/null; then
-        echo "tests/transcripts.sh: $(basename "$file"): skipped, since no sqlite3 is on the PATH" >&2
-        continue
-    fi
+for file in "$room"/README-*.txt tests/transcripts/*.txt; do
+    for tool in sqlite3 curl; do
+        if grep -q '^\$ .*\b'"$tool " "$file" && ! command -v $tool >/dev/null; then
+            echo "tests/transcripts.sh: $(basename "$file"): skipped, since no $tool is on the PATH" >&2
+            continue 2
+        fi
+    done
     if difference=$(diff "$file" <(played "$file")); then
         passed=$((passed + 1))
     else

@@ -1,0 +1,39 @@
+#!/usr/bin/env bash
+# Copies a book into a folder, as one file, and prints its path:
+#
+#     back_up.sh BOOK FOLDER [SERVICE]
+#
+# BOOK and its log BOOK-wal are one book, which one program has at a time. The stock shell `sqlite3` copies both into one file while
+# it holds the book: whoever opens it meanwhile is refused with 90, and asks again. Where another program has the book, as a server
+# has it all the time, `sqlite3` is refused, and nothing is copied. So a server is named as its SERVICE of systemd, which is stopped
+# before and started again after; whoever asks it meanwhile finds nobody there, and asks again. A copy is read whole, by `sqlite3`
+# and by `rosterbook`, before it gets its name.
+#
+# To put a copy back: stop the service, move BOOK and BOOK-wal away, copy the copy to BOOK, start the service, and hand in again what
+# was accepted since.
+set -eu
+if [ $# -lt 2 ] || [ $# -gt 3 ]; then
+    echo "usage: ${0##*/} BOOK FOLDER [SERVICE]" >&2
+    exit 2
+fi
+book=$1
+service=${3:-}
+name=$(basename "$book" .db)-$(date -u +%Y%m%dT%H%M%SZ).db
+copy=$2/$name
+part=$2/.$name.part
+
+finish() {
+    rm -f "$part"*
+    [ -z "$service" ] || systemctl start "$service"
+}
+
+[ -f "$book" ] || { echo "${0##*/}: there is no book $book" >&2; exit 1; }
+[ ! -e "$copy" ] || { echo "${0##*/}: there is a copy $copy" >&2; exit 1; }
+trap finish EXIT
+[ -z "$service" ] || systemctl stop "$service"
+(umask 077 && sqlite3 -bail "$book" ".backup '$part'")
+[ "$(sqlite3 "$part" 'PRAGMA integrity_check')" = ok ]
+rosterbook exceedances "$part" >/dev/null
+sync "$part"
+mv "$part" "$copy"
+echo "$copy"

@@ -1,0 +1,324 @@
+"""What clients ask a server for the script serve.py beside this one, and what it has to answer.
+
+In the texts of requests and responses `|` stands for the end of a line, as `GET /exceedances HTTP/1.1|Host: x||`. An answer in
+short is the status of an error, which tells that status alone, or a status and a text.
+"""
+
+from office import TOP, compact, order, schedule
+
+PHRASES = {
+    200: "OK", 400: "Bad Request", 404: "Not Found", 405: "Method Not Allowed", 409: "Conflict", 411: "Length Required",
+    413: "Payload Too Large", 422: "Unprocessable Entity", 501: "Not Implemented", 503: "Service Unavailable",
+}  # fmt: skip
+CONTINUE = b"HTTP/1.1 100 Continue\r\n\r\n"
+LONGEST = 1_048_576  # bytes of a body
+
+# ---- Requests and responses in bytes.
+
+
+def wire(text):
+    """The bytes of a text in which `|` stands for CR LF."""
+    return text.replace("|", "\r\n").encode()
+
+
+def get(path, method="GET"):
+    return wire(f"{method} {path} HTTP/1.1|Host: x||")
+
+
+def post(path, body, *fields):
+    """A POST of a text or bytes, with more fields before its length."""
+    body = body if isinstance(body, bytes) else body.encode()
+    lines = [f"POST {path} HTTP/1.1", "Host: x", *fields, f"Content-Length: {len(body)}"]
+    return wire("|".join(lines) + "||") + body
+
+
+def body_of(number, line):
+    """The body of a request, made of a line of tests/office.py."""
+    return compact({"number": number, **order(line)})
+
+
+def request_of(asked):
+    """What is asked in short: a path of POST with its body, `GET` and a path, or a line of tests/office.py with its number."""
+    if isinstance(asked, tuple):
+        return post(*asked)
+    word, _, rest = asked.partition(" ")
+    return get(rest) if word == "GET" else post("/requests", body_of(int(word), rest))
+
+
+def response(status, text, allow=None, method="GET"):
+    """A response with a text, which is JSON where it begins with a brace."""
+    lines = [
+        f"HTTP/1.1 {status} {PHRASES[status]}",
+        f"Content-Type: {'application/json' if text.startswith('{') else 'text/plain; charset=utf-8'}",
+        f"Content-Length: {len(text.encode())}",
+        *([f"Allow: {allow}"] if allow else []),
+        "Connection: close",
+    ]
+    return wire("|".join(lines) + "||") + (b"" if method == "HEAD" else text.encode())
+
+
+def error(status, allow=None, method="GET"):
+    """The response to a request that is refused before the book is asked."""
+    return response(status, compact({"result": "error", "status": status}), allow, method)
+
+
+def answer_of(short):
+    """The response that an answer in short stands for."""
+    return error(short) if isinstance(short, int) else response(*short)
+
+
+# ---- Texts.
+
+
+def refused(number, name, **more):
+    """A refusal in JSON."""
+    return compact({"name": name, "refusal": number, "result": "refused", **more})
+
+
+def parts(*replies):
+    """The reply to an import."""
+    return f'{{"parts":[{",".join(replies)}]}}'
+
+
+ACCEPTED = '{"exceedances":[],"result":"accepted"}'
+STORE = '{"name":"Store","refusal":90,"result":"refused"}'
+CANCEL = '{"number":1,"do":"cancel-ground","ground":"G1"}'
+HEADER = "pairing,period,report,release,flight,from,out,to,in\n"
+JUNE = (TOP / "examples" / "june.csv").read_text()
+ONE_PAIRING = schedule(["plan P1 10: 11:00 | 12:00-19:30 | 20:00"])
+NO_BODY = (422, refused(31, "BadJson", field="body"))
+NO_CREW = (404, refused(2, "NoSuchCrew"))
+NO_PAIRING = (404, refused(4, "NoSuchPairing"))
+NO_GROUND = (409, refused(15, "NoSuchGround"))
+NONE_EXCEEDED = (200, "EXCEEDANCES 0\n")
+HIRED = "ROSTER C1 captain Ada Ray\n"
+
+# ---- On a book without crew.
+
+# Whole exchanges, byte for byte: what is sent and, a line below, what is written.
+EXCHANGES = """\
+GET /exceedances HTTP/1.1|Host: x||
+HTTP/1.1 200 OK|Content-Type: text/plain; charset=utf-8|Content-Length: 14|Connection: close||EXCEEDANCES 0_
+HEAD /exceedances HTTP/1.1|Host: x||
+HTTP/1.1 200 OK|Content-Type: text/plain; charset=utf-8|Content-Length: 14|Connection: close||
+POST /requests HTTP/1.1|Host: x|Content-Length: 47||{"number":1,"do":"cancel-ground","ground":"G1"}
+HTTP/1.1 409 Conflict|Content-Type: application/json|Content-Length: 55|Connection: close||{"name":"NoSuchGround","refusal":15,"result":"refused"}
+POST /requests HTTP/1.1|Host: x|Content-Length: 47||{"number":1,"do":"cancel-ground","ground":"G1"
+HTTP/1.1 400 Bad Request|Content-Type: application/json|Content-Length: 31|Connection: close||{"result":"error","status":400}
+POST /requests HTTP/1.1|Host: x|Transfer-Encoding: chunked||
+HTTP/1.1 501 Not Implemented|Content-Type: application/json|Content-Length: 31|Connection: close||{"result":"error","status":501}
+GET /requests HTTP/1.1|Host: x||
+HTTP/1.1 405 Method Not Allowed|Content-Type: application/json|Content-Length: 31|Allow: POST|Connection: close||{"result":"error","status":405}
+PUT /pairings/P1 HTTP/1.1|Host: x||
+HTTP/1.1 405 Method Not Allowed|Content-Type: application/json|Content-Length: 31|Allow: GET, HEAD|Connection: close||{"result":"error","status":405}
+GET /crew/C9 HTTP/1.1|Host: x||
+HTTP/1.1 404 Not Found|Content-Type: application/json|Content-Length: 52|Connection: close||{"name":"NoSuchCrew","refusal":2,"result":"refused"}
+GET /crew/c9 HTTP/1.1|Host: x||
+HTTP/1.1 404 Not Found|Content-Type: application/json|Content-Length: 52|Connection: close||{"name":"NoSuchCrew","refusal":2,"result":"refused"}
+HEAD /crew/C9 HTTP/1.1|Host: x||
+HTTP/1.1 404 Not Found|Content-Type: application/json|Content-Length: 52|Connection: close||
+POST /requests HTTP/1.1|Host: x||
+HTTP/1.1 411 Length Required|Content-Type: application/json|Content-Length: 31|Connection: close||{"result":"error","status":411}
+POST /requests HTTP/1.1|Host: x|Content-Length: 1048577||
+HTTP/1.1 413 Payload Too Large|Content-Type: application/json|Content-Length: 31|Connection: close||{"result":"error","status":413}
+POST /requests HTTP/1.1|Host: x|Content-Length: 0||
+HTTP/1.1 422 Unprocessable Entity|Content-Type: application/json|Content-Length: 65|Connection: close||{"field":"body","name":"BadJson","refusal":31,"result":"refused"}
+POST /requests HTTP/1.1|Host: x|Expect: 100-continue|Content-Length: 47||{"number":1,"do":"cancel-ground","ground":"G1"}
+HTTP/1.1 100 Continue||HTTP/1.1 409 Conflict|Content-Type: application/json|Content-Length: 55|Connection: close||{"name":"NoSuchGround","refusal":15,"result":"refused"}
+"""
+
+
+def exchanges():
+    """Each of them: its text, the bytes that are sent and those that are written. A `_` at an end stands for LF."""
+    lines = EXCHANGES.splitlines()
+    for sent, written in zip(lines[::2], lines[1::2]):
+        yield sent, wire(sent), wire(written.removesuffix("_") + "\n" * written.endswith("_"))
+
+
+# Requests, with their answers in short.
+ANSWERS = [
+    # Bodies.
+    (post("/requests", "[]"), NO_BODY),
+    (post("/requests", CANCEL[:-1] + ',"note":' + "[" * 200 + "]" * 200 + "}"), NO_BODY),
+    (post("/requests", b"\xff"), NO_BODY),
+    (post("/imports/7", ""), (422, refused(30, "BadCsv", line=1))),
+    (post("/imports/7", HEADER), (200, parts())),
+    # Hosts.
+    (wire("GET /exceedances HTTP/1.1||"), 400),
+    (wire("GET /exceedances HTTP/1.1|Host: x|Host: x||"), 400),
+    (wire("GET /exceedances HTTP/1.0||"), NONE_EXCEEDED),
+    (wire("GET /exceedances HTTP/1.0|Host: x|Host: y||"), NONE_EXCEEDED),
+    (wire("POST /requests HTTP/1.1|Transfer-Encoding: chunked||"), 400),
+    # Names in any case, blanks round values, lines that end in LF alone, and empty ones in front.
+    (wire("GET /exceedances HTTP/1.1|hOsT:x||"), NONE_EXCEEDED),
+    (wire("GET /exceedances HTTP/1.1|Host: \t x \t||"), NONE_EXCEEDED),
+    (b"GET /exceedances HTTP/1.1\nHost: x\n\n", NONE_EXCEEDED),
+    (wire("||GET /exceedances HTTP/1.1|Host: x||"), NONE_EXCEEDED),
+    # What is no head.
+    (wire("GET /exceedances HTTP/1.1|Host: x|A: b| c||"), 400),
+    (wire("GET /exceedances HTTP/1.1|Host : x||"), 400),
+    (b"GET /exceedances HTTP/1.1\r\nHost: x\0\r\n\r\n", 400),
+    (b"GET /crew/\xff HTTP/1.1\r\nHost: x\r\n\r\n", 400),
+    (wire("GET /exceedances HTTP/1.2|Host: x||"), 400),
+    (wire("GET /exceedances|Host: x||"), 400),
+    # Of 16,384 bytes and one more, of 64 fields and one more, and without an end.
+    (wire("GET /exceedances HTTP/1.0|A: " + "a" * (16_384 - 34) + "||"), NONE_EXCEEDED),
+    (wire("GET /exceedances HTTP/1.0|A: " + "a" * (16_385 - 34) + "||"), 400),
+    (wire("GET /exceedances HTTP/1.0" + "|A: b" * 64 + "||"), NONE_EXCEEDED),
+    (wire("GET /exceedances HTTP/1.0" + "|A: b" * 65 + "||"), 400),
+    (wire("GET /exceedances HTTP/1.1|Host: x|A: " + "a" * (16_385 - 39)), 400),
+    (wire("|" * 8_192), 400),
+    # Paths.
+    (get("/exceedances?of=C9"), NONE_EXCEEDED),
+    (get("HTTP://a.b:80/exceedances"), NONE_EXCEEDED),
+    (get("http://a.b/crew/C9?x=/y"), NO_CREW),
+    (get("http://a.b"), 404),
+    (get("https://a.b/exceedances"), 404),
+    (get("/crew/%439"), NO_CREW),
+    (get("/crew/C234567890123"), NO_CREW),
+    (get("/pairings/P9"), NO_PAIRING),
+    (get("/pairings/p9"), NO_PAIRING),
+    (get("/"), 404),
+    (get("/crew"), 404),
+    (get("/crew/"), 404),
+    (get("/crew/C9/"), 404),
+    (get("//crew/C9"), 404),
+    (get("/exceedances/"), 404),
+    (get("/Exceedances"), 404),
+    (post("/imports/0", HEADER), 404),
+    (post("/imports/01", HEADER), 404),
+    (post("/imports/+1", HEADER), 404),
+    (post("/imports/9223372036854775808", HEADER), 404),
+    (post("/imports/9223372036854775807", HEADER), (200, parts())),
+    (get("/nothing", "DELETE"), 404),
+    (wire("DELETE /nothing HTTP/1.1|Host: x|transfer-encoding: gzip||"), 501),
+    # Lengths.
+    (wire("POST /requests HTTP/1.1|Host: x|Content-Length: 5|Content-Length: 5||abcde"), 400),
+    (wire("POST /requests HTTP/1.1|Host: x|Content-Length: +5||abcde"), 400),
+    (wire("POST /requests HTTP/1.1|Host: x|Content-Length: 5, 5||abcde"), 400),
+    (wire("POST /requests HTTP/1.1|Host: x|Content-Length:||abcde"), 400),
+    (wire(f"POST /requests HTTP/1.1|Host: x|Content-Length: \t 047 \t||{CANCEL}"), NO_GROUND),
+    (wire(f"POST /requests HTTP/1.0|Content-Length: {'0' * 38}47||{CANCEL}"), NO_GROUND),
+    (wire(f"POST /requests HTTP/1.1|Host: x|Content-Length: {'9' * 40}||abc"), 413),
+    (wire(f"POST /requests HTTP/1.1|Host: x|Content-Length: 47||{CANCEL}and more"), NO_GROUND),
+    (wire("GET /exceedances HTTP/1.1|Host: x|Content-Length: 5||"), NONE_EXCEEDED),
+    # Expectations of which nothing is told.
+    (wire("GET /exceedances HTTP/1.1|Host: x|Expect: 100-continue|Content-Length: 5||"), NONE_EXCEEDED),
+    (wire(f"POST /requests HTTP/1.0|Expect: 100-continue|Content-Length: 47||{CANCEL}"), NO_GROUND),
+    (post("/requests", CANCEL, "Expect: 200-ok"), NO_GROUND),
+    (post("/requests", "", "Expect: 100-continue"), NO_BODY),
+]
+
+# Paths, with methods that they don't have, and what is told to be allowed.
+OTHER_METHODS = [
+    ("/requests", "GET", "POST"),
+    ("/requests", "HEAD", "POST"),
+    ("/requests", "post", "POST"),
+    ("/requests", "A-METHOD-OF-MORE-THAN-FIFTEEN-BYTES", "POST"),
+    ("/imports/3", "PUT", "POST"),
+    ("/imports/3", "HEAD", "POST"),
+    ("/crew/C1", "POST", "GET, HEAD"),
+    ("/crew/C1", "get", "GET, HEAD"),
+    ("/pairings/B101", "DELETE", "GET, HEAD"),
+    ("/exceedances", "OPTIONS", "GET, HEAD"),
+]
+
+# What is ended after each of its bytes but the last, and how it is answered whole.
+HIRE = post("/requests", body_of(1, "hire C1 captain: Ada Ray"))
+CUT = [
+    (get("/exceedances"), response(*NONE_EXCEEDED)),
+    (post("/requests", CANCEL), response(*NO_GROUND)),
+    (post("/requests", CANCEL, "Expect: 100-continue"), CONTINUE + response(*NO_GROUND)),
+    (HIRE, response(200, ACCEPTED)),
+    (post("/imports/2", ONE_PAIRING), response(200, parts(ACCEPTED))),
+]
+
+# What has a body that isn't taken; the last is longer than what the system keeps of it while nobody reads.
+LEFT = b"x" * 200_000
+WITH_A_BODY_LEFT = [
+    (wire("POST /requests HTTP/1.1|Host: x|Content-Length: 2000000||") + LEFT, error(413)),
+    (wire("POST /requests HTTP/1.1|Host: x||") + LEFT, error(411)),
+    (wire("POST /nothing HTTP/1.1|Host: x|Content-Length: 200000||") + LEFT, error(404)),
+    (wire("PUT /requests HTTP/1.1|Host: x|Content-Length: 200000||") + LEFT, error(405, "POST")),
+    (wire("POST /requests HTTP/1.1|Host: x|Transfer-Encoding: chunked||") + LEFT, error(501)),
+    (wire("GET /exceedances HTTP/1.1|Host: x|Content-Length: 200000||") + LEFT, response(*NONE_EXCEEDED)),
+    (LEFT, error(400)),
+    (wire("POST /requests HTTP/1.1|Host: x|Content-Length: 8000000||") + LEFT * 40, error(413)),
+]
+
+# ---- An hour of an office, and then more: what is asked in short, with the answer.
+
+LATE = compact({
+    "do": "actual", "pairing": "B101", "period": 1, "report": "2025-06-10T17:00Z", "release": "2025-06-11T05:45Z", "segments": [
+        {"out": "2025-06-10T18:00Z", "in": "2025-06-10T19:45Z"},
+        {"out": "2025-06-11T03:30Z", "in": "2025-06-11T05:15Z"},
+    ],
+})  # fmt: skip
+EXCEEDED = '{"exceedances":[{"crew":"C1","section":"117.13(a)"},{"crew":"F1","section":"117.13(a)"}],"result":"accepted"}'
+ANOTHER_B102 = schedule([
+    "plan P10 20: 06:30 | 07:30-10:30 | 11:00",
+    "plan B102 21: 06:30 | 07:30-10:30 | 11:00",
+    "plan P30 22: 06:30 | 07:30-10:30 | 11:00",
+])  # fmt: skip
+TORN = "\ufeff" + HEADER.replace("\n", "\r\n") + "P1,1,2025-06-10T11:00Z,2025-06-1"
+
+HOUR = [
+    ("GET /crew/C1", NO_CREW),
+    ("1 hire C1 captain: Ada Ray", (200, ACCEPTED)),
+    ("2 hire F1 first-officer: Zoë Roy", (200, ACCEPTED)),
+    ("1 hire C1 captain: Ada Ray", (200, ACCEPTED)),
+    ("1 hire C2 captain: Bo Lind", (409, refused(1, "NumberUsed"))),
+    ("9 hire C1 captain: Ada Ray", (409, refused(3, "CrewExists"))),
+    ("GET /crew/C1", (200, HIRED)),
+    ("GET /crew/F1", (200, "ROSTER F1 first officer Zoë Roy\n")),
+    (("/imports/3", JUNE), (200, parts(ACCEPTED, ACCEPTED, ACCEPTED))),
+    (("/imports/3", JUNE), (200, parts(ACCEPTED, ACCEPTED, ACCEPTED))),
+    (("/imports/500", ANOTHER_B102), (200, parts(ACCEPTED, refused(5, "PairingExists"), ACCEPTED))),
+    (("/imports/7", TORN), (422, refused(30, "BadCsv", line=2))),
+    (("/imports/7", JUNE.replace("B103,2", "B103,3")), (422, refused(30, "BadCsv", line=7))),
+    ("4 assign B101 C1", (200, ACCEPTED)),
+    ("5 assign B101 F1", (200, ACCEPTED)),
+    ("6 assign B102 C1", (409, refused(12, "Limits", limits=[{"crew": "C1", "section": "117.25(e)"}]))),
+    ("6 assign B103 C9", (409, refused(2, "NoSuchCrew"))),
+    ("GET /pairings/B102", (200, """\
+PAIRING B102
+captain -
+first officer -
+1 plan report 2025-06-11T10:45Z release 2025-06-11T19:30Z
+1.1 RB3 BOS 2025-06-11T11:45Z IAD 2025-06-11T13:30Z
+1.2 RB4 IAD 2025-06-11T17:15Z BOS 2025-06-11T19:00Z
+""")),
+    ("7 fly B101 2 10: 17:00 | 18:00-19:45, 23:00-+1 00:45 | +1 01:15", (409, refused(13, "NoSuchDuty"))),
+    ("7 fly B101 1 10: 17:00 | 18:00-19:45 | 20:00", (422, refused(19, "SegmentCount", period=1))),
+    (f"7 {LATE}", (200, EXCEEDED)),
+    (f"7 {LATE}", (200, EXCEEDED)),
+    ("8 release B101 C1", (409, refused(10, "Flown"))),
+    ("0 release B101 C1", (422, refused(31, "BadJson", field="number"))),
+    ("9 plan p1", (422, refused(18, "BadField", field="pairing"))),
+    ("9 plan P9 10: 01:01 | 01:00-02:30, 03:20-04:50 | 05:00", (422, refused(16, "BadTimes", period=1))),
+    ("9 plan P9", (422, refused(19, "SegmentCount", period=0))),
+    ("9 plan P9 10: 00:00 | RB1/BOS/IAD 00:10-00:20, RB1/JFK/BOS 00:30-00:40 | 00:40", (422, refused(17, "BadChain", period=1))),
+    ("GET /pairings/B101", (200, """\
+PAIRING B101
+captain C1
+first officer F1
+1 actual report 2025-06-10T17:00Z release 2025-06-11T05:45Z
+1.1 RB1 BOS 2025-06-10T18:00Z IAD 2025-06-10T19:45Z
+1.2 RB2 IAD 2025-06-11T03:30Z BOS 2025-06-11T05:15Z
+""")),
+    ("GET /crew/C1", (200, """\
+ROSTER C1 captain Ada Ray
+2025-06-10T17:00Z 2025-06-11T05:45Z pairing B101/1 actual fdp 12:15 flight 3:30
+""")),
+    ("GET /exceedances", (200, "EXCEEDANCES 2\n7 C1 117.13(a) B101/1\n7 F1 117.13(a) B101/1\n")),
+    ("GET /crew/C9", NO_CREW),
+    ("GET /pairings/B999", NO_PAIRING),
+]  # fmt: skip
+
+
+def hour():
+    """Each request of the hour with its response; a report also as HEAD has it."""
+    for asked, (status, text) in HOUR:
+        yield request_of(asked), response(status, text)
+        if isinstance(asked, str) and asked.startswith("GET "):
+            yield get(asked.removeprefix("GET "), "HEAD"), response(status, text, method="HEAD")
