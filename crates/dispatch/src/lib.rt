@@ -1,8 +1,10 @@
-//! Tests over databases in memory: what a book answers in one session, asked one by one or all in one run, and which rows are then
-//! in the tables; what the tables find by key; a book stopped at each call on its files; and a transaction that can't be taken
-//! back.
+//! Tests over memory: what a book answers in one session, asked one by one or all in one run, and which rows are then in the tables;
+//! what the tables find by key; a book stopped at each call on its files; a transaction that can't be taken back; copies of the
+//! values of the crates below; and exchanges of HTTP with a handler that notes what it is asked.
 #![tactic(auto)]
 
+#[cfg(test)]
+mod clerk;
 #[cfg(test)]
 mod contents;
 #[cfg(test)]
