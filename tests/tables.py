@@ -303,6 +303,25 @@ def try_greatest_key(desk):
     desk.expect("its rows", told(file, f"request {GREATEST}|"), [f"request {GREATEST}|0|{MEMBER}|{reply('accepted')}", row])
 
 
+def try_stopped_imports(desk):
+    """An import of P10, P20 and P30 into a book that has P20 at other times: handed in once, and again after a stop behind its first
+    part or its second."""
+    lines = ("1 accepted\n", "2 refused 5 PairingExists\n", "3 accepted\n")
+    pairings = ["P10", "P20", "P30"]
+    other = next(kept for kept, _ in STORY if '"pairing":"P2"' in kept).replace('"P2"', '"P20"')
+    ends = []
+    for parts in (3, 1, 2):
+        file = desk.book()
+        desk.expect("P20", asked(file, other, 2), answer("accepted"))
+        desk.expect(f"{parts} parts", imported(file, "500", pairings[:parts]), "".join(lines[:parts]) + "[1]\n" * (parts > 1))
+        desk.expect(f"all parts after {parts}", imported(file, "500", pairings), "".join(lines) + "[1]\n")
+        ends.append(rows(file))
+        desk.expect("its pairings", told(file, "pairing "), ["pairing P10", "pairing P20", "pairing P30"])
+        desk.expect("P20 as it was", told(file, "period P20|"), ["period P20|1|13386900|13387440||"])
+        desk.expect("its parts", [line.split("|")[1] for line in told(file, "request 500|")], ["1", "3"])
+    desk.expect("the rows after a stop", ends[1:], ends[:1] * 2)
+
+
 def try_making(desk):
     member = [f"book 1|1|{ZONE}", "crew C1|0|Ada Ray", f"request 1|0|{MEMBER}|{reply('accepted')}"]
     file = desk.book()
@@ -346,6 +365,7 @@ TRIED = (
     try_story,
     try_long_pairing,
     try_greatest_key,
+    try_stopped_imports,
     try_making,
     try_refused_rows,
 )

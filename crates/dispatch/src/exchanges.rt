@@ -1,13 +1,12 @@
 //! Exchanges of HTTP with a book in memory: whole, cut, and over channels that fail.
 
+use crate::clerk::channel::{Input, Output};
 use crate::contents;
 use crate::fault::Untold;
 use crate::opening::{Left, create, take_up};
 use book::Book;
 use sqlite::{Alter, Connection};
 use std::alloc::Global;
-use std::io;
-use std::io::{ErrorKind, Read, Write};
 use std::test::Fail;
 use web::{ChannelFault, Served, exchange};
 
@@ -47,49 +46,6 @@ HEAD /pairings/P9 HTTP/1.1|Host: x||
 HTTP/1.1 404 Not Found|Content-Type: application/json|Content-Length: 55|Connection: close||
 ";
 
-/// A reader that may fail at its end.
-#[derive(Drop)]
-struct Input<'b> {
-    rest: &'b [u8],
-    fails: bool,
-}
-
-impl Read for Input<'_> {
-    fn read(&mut self, buf: &mut [u8]) -> io::Result<usize> {
-        match self.rest.split_first() {
-            Some((byte, rest)) if !buf.is_empty() => {
-                buf[0] = *byte;
-                self.rest = rest;
-                Ok(1)
-            }
-            None if self.fails => Err(ErrorKind::ConnectionReset.into()),
-            _ => Ok(0),
-        }
-    }
-}
-
-/// A writer that takes so many bytes, and then fails.
-#[derive(Drop)]
-struct Output {
-    room: usize,
-    taken: Vec<u8>,
-}
-
-impl Write for Output {
-    fn write(&mut self, buf: &[u8]) -> io::Result<usize> {
-        let taken = buf.len().min(self.room);
-        if taken == 0 || self.taken.extend_from_slice(&buf[..taken]).is_err() {
-            return Err(ErrorKind::BrokenPipe.into());
-        }
-        self.room -= taken;
-        Ok(taken)
-    }
-
-    fn flush(&mut self) -> io::Result<()> {
-        Ok(())
-    }
-}
-
 /// Which exchange of a row is tried, by its reader and its writer.
 #[derive(Clone, Copy, Debug)]
 enum Trial {
@@ -109,28 +65,24 @@ fn exchanged<S: Alter>(
     book: &mut Book<S>,
     sent: &[u8],
     trial: Trial,
-) -> (&'static str, Vec<u8>) {
+) -> Result<(&'static str, Vec<u8>), Untold> {
     let (length, fails, room) = match trial {
         Trial::Whole => (sent.len(), false, usize::MAX),
         Trial::Cut(length) => (length, false, usize::MAX),
         Trial::Torn(length) => (length, true, usize::MAX),
         Trial::Narrow(room) => (sent.len(), false, room),
     };
-    let mut reader = Input {
-        rest: sent.get(..length).unwrap_or(sent),
-        fails,
-    };
-    let mut writer = Output {
-        room,
-        taken: Vec::new(alloc),
-    };
+    let mut reader = Input::new(sent.get(..length).unwrap_or(sent), fails);
+    let mut writer = Output::new(alloc, room);
     let word = match exchange(alloc, &mut reader, &mut writer, book) {
         Ok(Served::Answered(_)) => "answered",
         Ok(Served::Nothing) => "nothing",
         Err(ChannelFault::Reader) => "reader",
         Err(ChannelFault::Writer) => "writer",
     };
-    (word, writer.taken)
+    let mut written = writer.flushed;
+    written.extend_from_slice(&writer.waiting)?;
+    Ok((word, written))
 }
 
 const CONTINUE: &str = "HTTP/1.1 100 Continue||";
@@ -222,7 +174,7 @@ fn try_one<S: Alter>(
     text: &mut String,
 ) -> Result<(), Untold> {
     let wanted = wanted(alloc, sample, trial)?;
-    let found = exchanged(alloc, book, &sample.sent, trial);
+    let found = exchanged(alloc, book, &sample.sent, trial)?;
     if found != wanted {
         let sent = str::from_utf8(&sample.sent).unwrap_or("");
         let written = str::from_utf8(&found.1).unwrap_or("");

@@ -6,8 +6,7 @@ ghost use Rattle.tables.specs.Calls.{HoldsBook};
 
 use crate::contents::sorted;
 use crate::fault::Untold;
-use crate::office::assert_told;
-use crate::requests::word;
+use crate::opening::create;
 use sqlite::{Alter, Connection};
 use std::alloc::Global;
 use std::test::Fail;
@@ -23,6 +22,11 @@ use tables::request::{RequestRecord, request_by_key};
 use tables::seat::{SeatRecord, seats_by_crew, seats_of};
 use tables::segment::{SegmentRecord, segments_of};
 use values::Copied;
+
+/// The word at a place of a line, counted from 0; none is empty.
+fn word(line: &str, at: usize) -> &str {
+    line.split(' ').nth(at).unwrap_or("")
+}
 
 /// A record that is told as a line.
 trait Told: Copied + Drop {
@@ -218,11 +222,7 @@ fn found_of<S: Alter>(
 ///     find grounds-by C1
 ///     find request 1 0
 ///     find exceedances
-pub fn found<S: Alter>(
-    alloc: Global,
-    conn: &mut Connection<S>,
-    line: &str,
-) -> Result<String, Untold> {
+fn found<S: Alter>(alloc: Global, conn: &mut Connection<S>, line: &str) -> Result<String, Untold> {
     let (kind, id) = (word(line, 1), word(line, 2));
     match kind {
         "nothing" => yes(alloc, is_empty(conn)),
@@ -232,16 +232,58 @@ pub fn found<S: Alter>(
     }
 }
 
+/// What is told of a line, as `found` says; any other than those is a statement, of which nothing is told.
+fn done<S: Alter>(alloc: Global, conn: &mut Connection<S>, line: &str) -> Result<String, Untold> {
+    if word(line, 0) == "find" {
+        return found(alloc, conn, line);
+    }
+    conn.execute_batch(line)?;
+    Ok(String::new(alloc))
+}
+
+/// What is told of lines that are taken in turn.
+fn all_done<S: Alter>(
+    alloc: Global,
+    conn: &mut Connection<S>,
+    lines: &str,
+) -> Result<String, Untold> {
+    let mut text = String::new(alloc);
+    for line in lines.split('\n') {
+        text.push_str(done(alloc, conn, line.trim_ascii())?.as_str())?;
+    }
+    Ok(text)
+}
+
+/// What is told of these lines before a book is made, and of those in an empty book.
+fn told_over<S: Alter + Drop>(
+    alloc: Global,
+    mut conn: Connection<S>,
+    before: &str,
+    lines: &str,
+) -> Result<String, Untold> {
+    let mut text = all_done(alloc, &mut conn, before)?;
+    match create(alloc, conn) {
+        Ok(book) => {
+            let mut conn = book.into_connection();
+            text.push_str(all_done(alloc, &mut conn, lines)?.as_str())?;
+            Ok(text)
+        }
+        Err((told, _conn)) => told,
+    }
+}
+
+/// The same, over memory.
+fn over_memory(alloc: Global, before: &str, lines: &str) -> Result<String, Untold> {
+    told_over(alloc, Connection::open_in_memory(alloc)?, before, lines)
+}
+
 #[test]
 fn records_are_found_by_key(rt: HostRuntime) -> Result<(), Fail> {
-    assert_told(
-        &rt,
+    let text = over_memory(
         rt.alloc(),
-        "",
         "find nothing
-        find tables
-        create
-        find nothing
+        find tables",
+        "find nothing
         find tables
         INSERT INTO crew VALUES ('C1', 0, 'Ada Ray'), ('F1', 1, 'Zoë Lind')
         INSERT INTO pairing VALUES ('P1'), ('P2')
@@ -273,6 +315,9 @@ fn records_are_found_by_key(rt: HostRuntime) -> Result<(), Fail> {
         find request 7 1
         find request 9223372036854775807 10000
         find request 8 0",
+    )?;
+    assert_eq!(rt;
+        text.as_str(),
         "yes\nno\nno\nyes\n\
         1|1|EST5EDT,M3.2.0,M11.1.0\n\
         F1|1|Zoë Lind\nnone\n\
@@ -283,24 +328,27 @@ fn records_are_found_by_key(rt: HostRuntime) -> Result<(), Fail> {
         P1|0|C1\nP2|0|C1\nnone\n\
         G2|F1|Simulator|720|780\nnone\n\
         G1|C1|Simulator|720|780\nG3|C1|Training|1|2\nnone\n\
-        7|1|c|d\n9223372036854775807|10000|e|f\nnone\n",
-    )
+        7|1|c|d\n9223372036854775807|10000|e|f\nnone\n"
+    );
+    Ok(())
 }
 
 #[test]
 fn exceedances_come_in_the_order_of_key_member_and_section(rt: HostRuntime) -> Result<(), Fail> {
-    assert_told(
-        &rt,
+    let text = over_memory(
         rt.alloc(),
-        "",
-        "create
-        find exceedances
+        "find nothing",
+        "find exceedances
         INSERT INTO exceedance VALUES (113, 0, 'F1', 2, 'P1', 1), (113, 0, 'C1', 8, 'P1', 1)
         INSERT INTO exceedance VALUES (113, 0, 'C1', 2, 'P1', 1), (9, 0, 'C2', 5, 'P1', 1)
         INSERT INTO exceedance VALUES (113, 1, 'C1', 1, 'P1', 1), (9223372036854775807, 10000, 'C1', 2, 'P1', 1)
         find exceedances",
-        "none\n\
+    )?;
+    assert_eq!(rt;
+        text.as_str(),
+        "yes\nnone\n\
         9|0|C2|5|P1|1\n113|0|C1|2|P1|1\n113|0|C1|8|P1|1\n113|0|F1|2|P1|1\n113|1|C1|1|P1|1\n\
-        9223372036854775807|10000|C1|2|P1|1\n",
-    )
+        9223372036854775807|10000|C1|2|P1|1\n"
+    );
+    Ok(())
 }

@@ -1,39 +1,29 @@
-//! Tests over databases in memory: a crew office that asks its book, what it is answered and which rows are then in the tables;
-//! what the tables find by key; a book stopped at each call on its files; and a transaction that can't be taken back.
+//! Tests over memory: what a book answers in one session, asked one by one or all in one run, and which rows are then in the tables;
+//! what the tables find by key; a book stopped at each call on its files; a transaction that can't be taken back; copies of the
+//! values of the crates below; exchanges of HTTP with a handler that notes what it is asked, and with a book; and one over a loopback
+//! connection.
 #![tactic(auto)]
 
 #[cfg(test)]
-mod answers;
-#[cfg(test)]
-mod asking;
+mod clerk;
 #[cfg(test)]
 mod contents;
+#[cfg(test)]
+mod copies;
 #[cfg(test)]
 mod exchanges;
 #[cfg(test)]
 mod fault;
 #[cfg(test)]
-mod importing;
-#[cfg(test)]
-mod imports;
-#[cfg(test)]
 mod keyed;
-#[cfg(test)]
-mod keys;
-#[cfg(test)]
-mod late_flight;
 #[cfg(test)]
 mod loopback;
 #[cfg(test)]
-mod office;
-#[cfg(test)]
 mod opening;
 #[cfg(test)]
-mod refusals;
-#[cfg(test)]
-mod reopening;
-#[cfg(test)]
 mod requests;
+#[cfg(test)]
+mod sessions;
 #[cfg(test)]
 mod stops;
 #[cfg(test)]

@@ -17,11 +17,7 @@ fn book_of<S: Alter>(alloc: Global, conn: Connection<S>) -> Result<Book<S>, Unto
 }
 
 /// What a client gets to the end of its connection for a request that it has written before a book is asked.
-fn response<S: Alter>(
-    rt: &HostRuntime,
-    book: &mut Book<S>,
-    request: &str,
-) -> Result<String, Fail> {
+fn response<S: Alter>(rt: &HostRuntime, book: &mut Book<S>, request: &str) -> Result<String, Fail> {
     let listener = TcpListener::bind(rt, (Ipv4Addr::LOCALHOST, 0))?;
     let mut client = TcpStream::connect(rt, listener.local_addr()?)?;
     client.write_all(request.as_bytes())?;
@@ -38,8 +34,7 @@ fn a_client_gets_the_exceedances(rt: HostRuntime) -> Result<(), Fail> {
         &mut book,
         "GET /exceedances HTTP/1.1\r\nHost: x\r\n\r\n",
     )?;
-    assert_eq!(
-        rt;
+    assert_eq!(rt;
         text.as_str(),
         "HTTP/1.1 200 OK\r\n\
         Content-Type: text/plain; charset=utf-8\r\n\

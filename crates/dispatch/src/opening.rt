@@ -7,7 +7,7 @@ use std::alloc::Global;
 use time117::Zone;
 
 /// The zone of New York.
-const EASTERN: &str = "EST5EDT,M3.2.0,M11.1.0";
+pub const EASTERN: &str = "EST5EDT,M3.2.0,M11.1.0";
 
 /// A text of what was done with a database, and the database.
 pub type Left<S> = (Result<String, Untold>, Connection<S>);

@@ -6,7 +6,7 @@ mod states;
 
 use crate::stops::disk::{Left, Stopped, Stops, restarted, taking};
 use crate::stops::run::{Reached, play, reopened};
-use crate::stops::states::{REQUESTS, requests, states};
+use crate::stops::states::{REQUESTS, first_requests, states};
 use command::{Command, Key};
 use sqlite_disk::{Fuse, Memory};
 use std::alloc::Global;
@@ -59,7 +59,7 @@ fn stop<D: Stops>(alloc: Global, stopped: Stopped, left: Left) -> Result<u64, Fa
     let states = states(alloc)?;
     let mut calls = 0;
     for count in 0..=REQUESTS {
-        let list = requests(alloc, count)?;
+        let list = first_requests(alloc, count)?;
         calls = calls_of::<D>(alloc, states.as_slice(), (stopped, left), &list, calls)?;
     }
     Ok(calls)

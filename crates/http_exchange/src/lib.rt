@@ -9,6 +9,3 @@ mod sending;
 pub use exchanges::{Served, exchange};
 pub use handler::{Handler, HandlerFault, Request, Response};
 pub use sending::ChannelFault;
-
-#[cfg(test)]
-mod tests;

@@ -3,7 +3,7 @@ ghost use Rattle.std.specs.Prelude.{◌≤◌};
 
 use crate::contents::sorted;
 use crate::fault::Untold;
-use crate::requests::add_requests;
+use crate::requests::{CAPTAIN, LATE, LEFT, OFFICER, PLAN, RIGHT, requests};
 use command::{Command, Key};
 use std::alloc::Global;
 
@@ -11,39 +11,35 @@ use std::alloc::Global;
 pub const REQUESTS: usize = 6;
 
 /// A captain and a first officer take a pairing, and fly it eleven hours late.
-const LATE_FLIGHT: [&str; 6] = [
-    "1 captain C1: Ada Ray",
-    "2 first-officer F1: Zoë Roy",
-    "3 plan P1 10: 11:00 | 12:00-14:00, 15:00-19:30 | 20:00",
-    "4 assign P1 C1",
-    "5 assign P1 F1",
-    "6 fly P1 10: 11:00 | 12:00-14:00, 23:00-+1 07:00 | +1 07:30",
+const LATE_FLIGHT: [(u8, &str); 6] = [
+    (1, CAPTAIN),
+    (2, OFFICER),
+    (3, PLAN),
+    (4, LEFT),
+    (5, RIGHT),
+    (6, LATE),
 ];
 
 /// The first requests, so many of them.
-pub fn requests(alloc: Global, count: usize) -> Result<Vec<(Key, Command)>, Untold> {
-    let mut list = Vec::new(alloc);
-    for line in LATE_FLIGHT.iter().take(count) {
-        add_requests(alloc, &mut list, line)?;
-    }
-    Ok(list)
+pub fn first_requests(alloc: Global, count: usize) -> Result<Vec<(Key, Command)>, Untold> {
+    requests(alloc, LATE_FLIGHT.get(..count).unwrap_or(&LATE_FLIGHT))
 }
 
 const BOOK: &[&str] = &["book 1|1|EST5EDT,M3.2.0,M11.1.0"];
 
-const CAPTAIN: &[&str] = &[
+const CAPTAIN_ROWS: &[&str] = &[
     "crew C1|0|Ada Ray",
     "request 1|0|{\"crew\":\"C1\",\"do\":\"add-crew\",\"name\":\"Ada Ray\",\"seat\":\"captain\"}\
         |{\"exceedances\":[],\"result\":\"accepted\"}",
 ];
 
-const OFFICER: &[&str] = &[
+const OFFICER_ROWS: &[&str] = &[
     "crew F1|1|Zoë Roy",
     "request 2|0|{\"crew\":\"F1\",\"do\":\"add-crew\",\"name\":\"Zoë Roy\",\"seat\":\"first officer\"}\
         |{\"exceedances\":[],\"result\":\"accepted\"}",
 ];
 
-const PLAN: &[&str] = &[
+const PLAN_ROWS: &[&str] = &[
     "pairing P1",
     "request 3|0|{\"do\":\"add-pairing\",\"pairing\":\"P1\",\"periods\":[\
         {\"release\":\"2025-06-10T20:00Z\",\"report\":\"2025-06-10T11:00Z\",\"segments\":[\
@@ -61,14 +57,14 @@ const TIMES: &[&str] = &[
 ];
 
 /// The captain's seat.
-const LEFT: &[&str] = &[
+const LEFT_ROWS: &[&str] = &[
     "seat P1|0|C1",
     "request 4|0|{\"crew\":\"C1\",\"do\":\"assign\",\"pairing\":\"P1\"}\
         |{\"exceedances\":[],\"result\":\"accepted\"}",
 ];
 
 /// The first officer's seat.
-const RIGHT: &[&str] = &[
+const RIGHT_ROWS: &[&str] = &[
     "seat P1|1|F1",
     "request 5|0|{\"crew\":\"F1\",\"do\":\"assign\",\"pairing\":\"P1\"}\
         |{\"exceedances\":[],\"result\":\"accepted\"}",
@@ -106,12 +102,44 @@ fn joined(alloc: Global, rows: &[&[&str]]) -> Result<String, Untold> {
 fn after(alloc: Global, count: usize) -> Result<String, Untold> {
     match count {
         0 => joined(alloc, &[BOOK]),
-        1 => joined(alloc, &[BOOK, CAPTAIN]),
-        2 => joined(alloc, &[BOOK, CAPTAIN, OFFICER]),
-        3 => joined(alloc, &[BOOK, CAPTAIN, OFFICER, PLAN, TIMES]),
-        4 => joined(alloc, &[BOOK, CAPTAIN, OFFICER, PLAN, TIMES, LEFT]),
-        5 => joined(alloc, &[BOOK, CAPTAIN, OFFICER, PLAN, TIMES, LEFT, RIGHT]),
-        _ => joined(alloc, &[BOOK, CAPTAIN, OFFICER, PLAN, FLOWN, LEFT, RIGHT]),
+        1 => joined(alloc, &[BOOK, CAPTAIN_ROWS]),
+        2 => joined(alloc, &[BOOK, CAPTAIN_ROWS, OFFICER_ROWS]),
+        3 => joined(alloc, &[BOOK, CAPTAIN_ROWS, OFFICER_ROWS, PLAN_ROWS, TIMES]),
+        4 => joined(
+            alloc,
+            &[
+                BOOK,
+                CAPTAIN_ROWS,
+                OFFICER_ROWS,
+                PLAN_ROWS,
+                TIMES,
+                LEFT_ROWS,
+            ],
+        ),
+        5 => joined(
+            alloc,
+            &[
+                BOOK,
+                CAPTAIN_ROWS,
+                OFFICER_ROWS,
+                PLAN_ROWS,
+                TIMES,
+                LEFT_ROWS,
+                RIGHT_ROWS,
+            ],
+        ),
+        _ => joined(
+            alloc,
+            &[
+                BOOK,
+                CAPTAIN_ROWS,
+                OFFICER_ROWS,
+                PLAN_ROWS,
+                FLOWN,
+                LEFT_ROWS,
+                RIGHT_ROWS,
+            ],
+        ),
     }
 }
 

@@ -1,6 +1,6 @@
 //! A handler for tests.
-use crate::handler::{Handler, HandlerFault, Request, Response};
 use http::StatusCode;
+use http_exchange::{Handler, HandlerFault, Request, Response};
 use http_message::{MediaType, Report, Submission};
 use std::alloc::{AllocError, Global};
 use std::str::from_utf8;

@@ -1,7 +1,6 @@
 //! Whole exchanges, byte for byte, whole and cut, and over channels that fail.
-use crate::exchanges::Served;
-use crate::sending::ChannelFault;
-use crate::tests::{served, with_line_ends};
+use crate::clerk::{served, with_line_ends};
+use http_exchange::{ChannelFault, Served};
 use std::alloc::Global;
 use std::test::Fail;
 

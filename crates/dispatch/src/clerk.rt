@@ -1,13 +1,12 @@
-//! Exchanges over memory.
-mod channel;
-mod clerk;
+//! Exchanges of HTTP over memory, with a handler that notes what it is asked.
+pub mod channel;
 mod heads;
+mod notes;
 mod rows;
 
-use crate::exchanges::{Served, exchange};
-use crate::sending::ChannelFault;
-use crate::tests::channel::{Input, Output};
-use crate::tests::clerk::Clerk;
+use crate::clerk::channel::{Input, Output};
+use crate::clerk::notes::Clerk;
+use http_exchange::{ChannelFault, Served, exchange};
 use std::alloc::Global;
 use std::test::Fail;
 

@@ -2,6 +2,8 @@
 
 ghost use Rattle.roster.specs.Steps.{IsUnderFreeKey};
 
+use crate::opening::EASTERN;
+use crate::requests::{CANCEL, CAPTAIN, LATE, LEFT, OFFICER, PLAN, RELEASE, RIGHT, key};
 use command::{Command, Key};
 use kept::read_canonical;
 use roster::{Roster, Verdict};
@@ -10,25 +12,14 @@ use std::test::Fail;
 use time117::Zone;
 
 /// Orders of all nine kinds, each under a number of its own.
-const ACCEPTED: [(u8, &str); 21] = [
-    (
-        1,
-        "{\"do\":\"add-crew\",\"crew\":\"C1\",\"seat\":\"captain\",\"name\":\"Ada Ray\"}",
-    ),
+const ACCEPTED: [(u8, &str); 20] = [
+    (1, CAPTAIN),
     (
         2,
         "{\"do\":\"add-crew\",\"crew\":\"C2\",\"seat\":\"captain\",\"name\":\"Bo Lind\"}",
     ),
-    (
-        3,
-        "{\"do\":\"add-crew\",\"crew\":\"F1\",\"seat\":\"first officer\",\"name\":\"Zoë Roy\"}",
-    ),
-    (
-        4,
-        "{\"do\":\"add-pairing\",\"pairing\":\"P1\",\"periods\":[{\"report\":\"2025-06-10T11:00Z\",\"release\":\"2025-06-10T20:00Z\",\
-        \"segments\":[{\"flight\":\"RB1\",\"from\":\"BOS\",\"out\":\"2025-06-10T12:00Z\",\"to\":\"IAD\",\"in\":\"2025-06-10T14:00Z\"},\
-        {\"flight\":\"RB2\",\"from\":\"IAD\",\"out\":\"2025-06-10T15:00Z\",\"to\":\"BOS\",\"in\":\"2025-06-10T19:30Z\"}]}]}",
-    ),
+    (3, OFFICER),
+    (4, PLAN),
     (
         5,
         "{\"do\":\"add-pairing\",\"pairing\":\"P2\",\"periods\":[{\"report\":\"2025-06-12T11:00Z\",\"release\":\"2025-06-12T20:00Z\",\
@@ -40,19 +31,12 @@ const ACCEPTED: [(u8, &str); 21] = [
         "{\"do\":\"add-pairing\",\"pairing\":\"P3\",\"periods\":[{\"report\":\"2025-06-11T12:00Z\",\"release\":\"2025-06-11T15:30Z\",\
         \"segments\":[{\"flight\":\"RB1\",\"from\":\"BOS\",\"out\":\"2025-06-11T13:00Z\",\"to\":\"IAD\",\"in\":\"2025-06-11T15:00Z\"}]}]}",
     ),
-    (
-        7,
-        "{\"do\":\"add-pairing\",\"pairing\":\"P4\",\"periods\":[{\"report\":\"2025-06-14T11:00Z\",\"release\":\"2025-06-14T20:00Z\",\
-        \"segments\":[{\"flight\":\"RB1\",\"from\":\"BOS\",\"out\":\"2025-06-14T12:00Z\",\"to\":\"IAD\",\"in\":\"2025-06-14T19:30Z\"}]}]}",
-    ),
-    (8, "{\"do\":\"cancel-pairing\",\"pairing\":\"P4\"}"),
-    (9, "{\"do\":\"assign\",\"pairing\":\"P1\",\"crew\":\"C1\"}"),
-    (
-        10,
-        "{\"do\":\"release\",\"pairing\":\"P1\",\"crew\":\"C1\"}",
-    ),
-    (11, "{\"do\":\"assign\",\"pairing\":\"P1\",\"crew\":\"C1\"}"),
-    (12, "{\"do\":\"assign\",\"pairing\":\"P1\",\"crew\":\"F1\"}"),
+    (7, LEFT),
+    (8, RELEASE),
+    (9, CANCEL),
+    (10, PLAN),
+    (11, LEFT),
+    (12, RIGHT),
     (13, "{\"do\":\"assign\",\"pairing\":\"P2\",\"crew\":\"C2\"}"),
     (14, "{\"do\":\"assign\",\"pairing\":\"P2\",\"crew\":\"F1\"}"),
     (
@@ -72,43 +56,23 @@ const ACCEPTED: [(u8, &str); 21] = [
         "{\"do\":\"add-ground\",\"ground\":\"G3\",\"crew\":\"F1\",\"begin\":\"2025-06-22T12:00Z\",\"end\":\"2025-06-22T20:00Z\",\"task\":\"Training\"}",
     ),
     (19, "{\"do\":\"cancel-ground\",\"ground\":\"G3\"}"),
-    // Over Table A and Table B.
-    (
-        20,
-        "{\"do\":\"actual\",\"pairing\":\"P1\",\"period\":1,\"report\":\"2025-06-10T11:00Z\",\"release\":\"2025-06-11T07:30Z\",\
-        \"segments\":[{\"out\":\"2025-06-10T12:00Z\",\"in\":\"2025-06-10T14:00Z\"},{\"out\":\"2025-06-10T23:00Z\",\"in\":\"2025-06-11T07:00Z\"}]}",
-    ),
-    (
-        21,
-        "{\"do\":\"actual\",\"pairing\":\"P2\",\"period\":1,\"report\":\"2025-06-12T11:00Z\",\"release\":\"2025-06-13T03:00Z\",\
-        \"segments\":[{\"out\":\"2025-06-12T12:00Z\",\"in\":\"2025-06-13T02:30Z\"}]}",
-    ),
+    (20, LATE),
 ];
 
 /// One for each refusal of the book, in the order of their numbers.
 const REFUSED: [(u8, &str); 16] = [
-    (1, "{\"do\":\"cancel-ground\",\"ground\":\"G1\"}"),
+    (1, RELEASE),
     (30, "{\"do\":\"assign\",\"pairing\":\"P3\",\"crew\":\"C9\"}"),
-    (
-        30,
-        "{\"do\":\"add-crew\",\"crew\":\"C1\",\"seat\":\"captain\",\"name\":\"Ada Ray\"}",
-    ),
+    (30, CAPTAIN),
     (30, "{\"do\":\"assign\",\"pairing\":\"P9\",\"crew\":\"C1\"}"),
-    (
-        30,
-        "{\"do\":\"add-pairing\",\"pairing\":\"P1\",\"periods\":[{\"report\":\"2025-06-14T11:00Z\",\"release\":\"2025-06-14T20:00Z\",\
-        \"segments\":[{\"flight\":\"RB1\",\"from\":\"BOS\",\"out\":\"2025-06-14T12:00Z\",\"to\":\"IAD\",\"in\":\"2025-06-14T19:30Z\"}]}]}",
-    ),
+    (30, PLAN),
     (30, "{\"do\":\"assign\",\"pairing\":\"P2\",\"crew\":\"C2\"}"),
     (
         30,
         "{\"do\":\"swap\",\"pairing\":\"P2\",\"crew\":\"C1\",\"other_pairing\":\"P1\",\"other_crew\":\"F1\"}",
     ),
-    (
-        30,
-        "{\"do\":\"release\",\"pairing\":\"P1\",\"crew\":\"C1\"}",
-    ),
-    (30, "{\"do\":\"cancel-pairing\",\"pairing\":\"P1\"}"),
+    (30, RELEASE),
+    (30, CANCEL),
     (
         30,
         "{\"do\":\"release\",\"pairing\":\"P1\",\"crew\":\"F1\"}",
@@ -164,11 +128,6 @@ fn judged(
     Ok(verdict)
 }
 
-/// The key of a request by its number, which is at least 1.
-fn key(number: u8) -> Key {
-    Key::new(u64::from(number.max(1)), 0)
-}
-
 fn ask(alloc: Global, played: &mut Played, (number, text): (u8, &str)) -> Result<(), Fail> {
     let command = read_canonical(alloc, text)?;
     let verdict = judged(alloc, &mut played.roster, key(number), &command);
@@ -185,7 +144,7 @@ fn ask_all(alloc: Global, played: &mut Played, requests: &[(u8, &str)]) -> Resul
 }
 
 fn empty(alloc: Global) -> Result<Played, Fail> {
-    let zone = Zone::read(alloc, "EST5EDT,M3.2.0,M11.1.0")?;
+    let zone = Zone::read(alloc, EASTERN)?;
     Ok(Played {
         roster: Roster::empty(alloc, zone)?,
         verdicts: Vec::new(alloc),

@@ -1,7 +1,7 @@
 //! What heads and lengths come to.
-use crate::exchanges::Served;
-use crate::tests::{served, with_line_ends};
+use crate::clerk::{served, with_line_ends};
 use http::StatusCode;
+use http_exchange::Served;
 use std::alloc::Global;
 use std::test::Fail;
 

@@ -1,0 +1,208 @@
+//! Requests that a book answers in one session, asked one by one or all in one run; and a connection that a refusal hands back.
+
+use crate::contents;
+use crate::fault::Untold;
+use crate::opening::{Left, create, take_up};
+use crate::requests::{CANCEL, CAPTAIN, LATE, LEFT, OFFICER, PLAN, RELEASE, RIGHT, requests};
+use book::{Answer, Book, Run};
+use command::{Command, Key};
+use sqlite::{Alter, Connection};
+use std::alloc::Global;
+use std::test::Fail;
+
+/// C1 takes P1 as request 20, and is released as request 21. Then request 20 comes again, and comes with another command. As
+/// request 30 C1 is to take a pairing that isn't there, and then P1. P1 is flown as request 32, and C1 is to be released again.
+const REQUESTS: [(u8, &str); 12] = [
+    (1, CAPTAIN),
+    (2, OFFICER),
+    (3, PLAN),
+    (20, LEFT),
+    (21, RELEASE),
+    (20, LEFT),
+    (20, CANCEL),
+    (30, "{\"crew\":\"C1\",\"do\":\"assign\",\"pairing\":\"P9\"}"),
+    (30, LEFT),
+    (31, RIGHT),
+    (32, LATE),
+    (33, RELEASE),
+];
+
+/// A mark for each answer: `+` where it accepts, or else the number of the refusal.
+fn marks(alloc: Global, answers: &[Answer]) -> Result<String, Untold> {
+    let mut marks = String::new(alloc);
+    for answer in answers {
+        match answer {
+            Answer::Accepted(_) => marks.push_str(" +")?,
+            Answer::Refused(refusal) => {
+                let number = format!(in alloc; " {}", refusal.number())?;
+                marks.push_str(number.as_str())?;
+            }
+        }
+    }
+    Ok(marks)
+}
+
+/// Asks requests one by one.
+fn ask_all<S: Alter>(
+    alloc: Global,
+    book: &mut Book<S>,
+    list: &[(Key, Command)],
+) -> Result<String, Untold> {
+    let mut answers = Vec::new(alloc);
+    for (key, command) in list {
+        answers.push(book.ask(alloc, *key, command)?)?;
+    }
+    marks(alloc, &answers)
+}
+
+/// Asks requests in one run.
+fn run_all<S: Alter>(
+    alloc: Global,
+    book: &mut Book<S>,
+    list: &[(Key, Command)],
+) -> Result<String, Untold> {
+    let Run { answers, fault } = book.run(alloc, list);
+    match fault {
+        None => marks(alloc, &answers),
+        Some(fault) => Err(fault.into()),
+    }
+}
+
+/// Asks a book requests, where there is one, and closes it.
+fn answered<S: Alter>(
+    alloc: Global,
+    opened: Result<Book<S>, Left<S>>,
+    list: &[(Key, Command)],
+    in_one_run: bool,
+) -> Left<S> {
+    match opened {
+        Ok(mut book) => {
+            let told = if in_one_run {
+                run_all(alloc, &mut book, list)
+            } else {
+                ask_all(alloc, &mut book, list)
+            };
+            (told, book.into_connection())
+        }
+        Err(refused) => refused,
+    }
+}
+
+/// Adds what a book answers, or what refuses it, and hands back the database.
+fn add_session<S: Alter + Drop>(
+    alloc: Global,
+    opened: Result<Book<S>, Left<S>>,
+    list: &[(Key, Command)],
+    in_one_run: bool,
+    text: &mut String,
+) -> Result<Connection<S>, Untold> {
+    let (told, conn) = answered(alloc, opened, list, in_one_run);
+    text.push_str(told?.as_str())?;
+    Ok(conn)
+}
+
+/// Adds `same` where all rows are those that were noted, or else the rows; and then the seats and the numbers that are kept.
+fn add_rows<S: Alter>(
+    alloc: Global,
+    conn: &mut Connection<S>,
+    noted: &str,
+    text: &mut String,
+) -> Result<(), Untold> {
+    let found = contents::told(alloc, conn)?;
+    text.push_str(if found.as_str() == noted {
+        "\nsame\n"
+    } else {
+        found.as_str()
+    })?;
+    let seats = contents::found(alloc, conn, "seat", "SELECT pairing, seat, crew FROM seat")?;
+    text.push_str(seats.as_str())?;
+    let kept = contents::found(alloc, conn, "kept", "SELECT number FROM request")?;
+    text.push_str(kept.as_str())?;
+    Ok(())
+}
+
+/// What is told of the same requests in two sessions over one database, and of the rows that the second one leaves, beside those
+/// that the first one left.
+fn told_over<S: Alter + Drop>(
+    alloc: Global,
+    conn: Connection<S>,
+    list: &[(Key, Command)],
+    in_one_run: bool,
+) -> Result<String, Untold> {
+    let mut text = String::new(alloc);
+    let opened = create(alloc, conn);
+    let mut conn = add_session(alloc, opened, list, in_one_run, &mut text)?;
+    let noted = contents::told(alloc, &mut conn)?;
+    text.push_str(" |")?;
+    let opened = take_up(alloc, conn);
+    let mut conn = add_session(alloc, opened, list, in_one_run, &mut text)?;
+    add_rows(alloc, &mut conn, noted.as_str(), &mut text)?;
+    Ok(text)
+}
+
+/// What is told over memory.
+fn told(alloc: Global, in_one_run: bool) -> Result<String, Untold> {
+    let list = requests(alloc, &REQUESTS)?;
+    told_over(alloc, Connection::open_in_memory(alloc)?, &list, in_one_run)
+}
+
+/// In the second session request 30 is held.
+const TOLD: &str = " + + + + + + 1 4 + + + 10 | + + + + + + 1 1 + + + 10\nsame\n\
+    seat P1|0|C1\nseat P1|1|F1\n\
+    kept 1\nkept 2\nkept 20\nkept 21\nkept 3\nkept 30\nkept 31\nkept 32\n";
+
+#[test]
+fn requests_that_are_asked_one_by_one_act_once(rt: HostRuntime) -> Result<(), Fail> {
+    assert_eq!(rt; told(rt.alloc(), false)?.as_str(), TOLD);
+    Ok(())
+}
+
+#[test]
+fn requests_of_one_run_act_once(rt: HostRuntime) -> Result<(), Fail> {
+    assert_eq!(rt; told(rt.alloc(), true)?.as_str(), TOLD);
+    Ok(())
+}
+
+/// What is told over memory of statements that are run in turn, each before a book is made (`true`) or taken up: what refuses
+/// that.
+fn opened_after(alloc: Global, steps: &[(&str, bool)]) -> Result<String, Untold> {
+    opened_over(alloc, Connection::open_in_memory(alloc)?, steps)
+}
+
+fn opened_over<S: Alter + Drop>(
+    alloc: Global,
+    mut conn: Connection<S>,
+    steps: &[(&str, bool)],
+) -> Result<String, Untold> {
+    let mut text = String::new(alloc);
+    for (statement, is_new) in steps {
+        conn.execute_batch(statement)?;
+        let opened = if *is_new {
+            create(alloc, conn)
+        } else {
+            take_up(alloc, conn)
+        };
+        conn = add_session(alloc, opened, &[], false, &mut text)?;
+    }
+    Ok(text)
+}
+
+#[test]
+fn what_is_refused_hands_the_connection_back(rt: HostRuntime) -> Result<(), Fail> {
+    let text = opened_after(
+        rt.alloc(),
+        &[
+            ("", false),
+            ("", true),
+            ("INSERT INTO seat VALUES ('P9', 0, 'C1')", false),
+            ("DELETE FROM seat", false),
+            ("", true),
+            ("UPDATE book SET version = 7", false),
+        ],
+    )?;
+    assert_eq!(rt;
+        text.as_str(),
+        "40 NotABook\n41 Damaged seat\n43 NotEmpty\n42 Version\n"
+    );
+    Ok(())
+}
