@@ -3,7 +3,7 @@
 use crate::clerk::channel::{Input, Output};
 use crate::contents;
 use crate::fault::Untold;
-use crate::opening::{Left, create, take_up};
+use crate::opening::{create, opened, take_up};
 use book::Book;
 use sqlite::{Alter, Connection};
 use std::alloc::Global;
@@ -227,14 +227,6 @@ fn tried<S: Alter + Drop>(alloc: Global, conn: Connection<S>) -> Result<String, 
     let mut book = opened(take_up(alloc, conn))?;
     try_whole(alloc, &mut book, &samples, &mut text)?;
     Ok(text)
-}
-
-/// The book, if there is one.
-fn opened<S: Alter + Drop>(book: Result<Book<S>, Left<S>>) -> Result<Book<S>, Untold> {
-    match book {
-        Ok(book) => Ok(book),
-        Err((_told, _conn)) => Err(Untold::Unread),
-    }
 }
 
 /// A request that is cut, and one whose reader fails, changes nothing. One whose writer fails is answered when it is made again as it

@@ -1,20 +1,13 @@
 //! A client that speaks to a book over loopback, in one thread.
 
-use crate::fault::Untold;
-use crate::opening::create;
+use crate::opening::{create, opened};
 use book::Book;
 use sqlite::{Alter, Connection};
-use std::alloc::Global;
 use std::io;
 use std::io::Write;
 use std::net::{Ipv4Addr, TcpListener, TcpStream};
 use std::test::Fail;
 use web::serve_one;
-
-/// A book without crew, in memory. What refuses it ends the test.
-fn book_of<S: Alter>(alloc: Global, conn: Connection<S>) -> Result<Book<S>, Untold> {
-    create(alloc, conn).map_err(|_| Untold::Unmade)
-}
 
 /// What a client gets to the end of its connection for a request that it has written before a book is asked.
 fn response<S: Alter>(rt: &HostRuntime, book: &mut Book<S>, request: &str) -> Result<String, Fail> {
@@ -25,15 +18,20 @@ fn response<S: Alter>(rt: &HostRuntime, book: &mut Book<S>, request: &str) -> Re
     Ok(io::read_to_string(rt.alloc(), client)?)
 }
 
+/// The same of a book without crew over a database.
+fn first_response<S: Alter + Drop>(
+    rt: &HostRuntime,
+    conn: Connection<S>,
+    request: &str,
+) -> Result<String, Fail> {
+    let mut book = opened(create(rt.alloc(), conn))?;
+    response(rt, &mut book, request)
+}
+
 #[test]
 fn a_client_gets_the_exceedances(rt: HostRuntime) -> Result<(), Fail> {
     let conn = Connection::open_in_memory(rt.alloc())?;
-    let mut book = book_of(rt.alloc(), conn)?;
-    let text = response(
-        &rt,
-        &mut book,
-        "GET /exceedances HTTP/1.1\r\nHost: x\r\n\r\n",
-    )?;
+    let text = first_response(&rt, conn, "GET /exceedances HTTP/1.1\r\nHost: x\r\n\r\n")?;
     assert_eq!(rt;
         text.as_str(),
         "HTTP/1.1 200 OK\r\n\

@@ -12,6 +12,14 @@ pub const EASTERN: &str = "EST5EDT,M3.2.0,M11.1.0";
 /// A text of what was done with a database, and the database.
 pub type Left<S> = (Result<String, Untold>, Connection<S>);
 
+/// The book that was made or taken up, where there is one.
+pub fn opened<S: Alter + Drop>(book: Result<Book<S>, Left<S>>) -> Result<Book<S>, Untold> {
+    match book {
+        Ok(book) => Ok(book),
+        Err((_told, _conn)) => Err(Untold::Unread),
+    }
+}
+
 /// Makes a book of New York's zone, or tells what refuses it. Where a transaction is begun, none is made.
 pub fn create<S: Alter>(alloc: Global, conn: Connection<S>) -> Result<Book<S>, Left<S>> {
     if !conn.is_autocommit() {
