@@ -112,7 +112,7 @@ fn bytes_of(alloc: Global, text: &str) -> Result<Vec<u8>, Untold> {
     Ok(bytes)
 }
 
-fn sample(alloc: Global, sent: &str, written: &str) -> Result<Sample, Untold> {
+fn sample_of(alloc: Global, sent: &str, written: &str) -> Result<Sample, Untold> {
     let head = sent.split("||").next().unwrap_or(sent);
     Ok(Sample {
         sent: bytes_of(alloc, sent)?,
@@ -129,7 +129,7 @@ fn samples(alloc: Global) -> Result<Vec<Sample>, Untold> {
         let (Some(sent), Some(written)) = (lines.next(), lines.next()) else {
             break;
         };
-        samples.push(sample(alloc, sent, written)?)?;
+        samples.push(sample_of(alloc, sent, written)?)?;
     }
     Ok(samples)
 }
