@@ -39,14 +39,14 @@ fn served(alloc: Global, input: &[u8], fails: bool, room: usize) -> Outcome {
     }
 }
 
-/// A text whose line ends stand as `|`.
+/// A text whose line ends stand as `|`, and LF as `_`.
 fn with_line_ends(alloc: Global, text: &str) -> Result<Vec<u8>, Fail> {
     let mut bytes = Vec::new(alloc);
     for byte in text.bytes() {
-        if byte == b'|' {
-            bytes.extend_from_slice(b"\r\n")?;
-        } else {
-            bytes.push(byte)?;
+        match byte {
+            b'|' => bytes.extend_from_slice(b"\r\n")?,
+            b'_' => bytes.push(b'\n')?,
+            _ => bytes.push(byte)?,
         }
     }
     Ok(bytes)

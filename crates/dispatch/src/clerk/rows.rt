@@ -4,7 +4,7 @@ use http_exchange::{ChannelFault, Served};
 use std::alloc::Global;
 use std::test::Fail;
 
-/// Exchanges, with line ends as `|`: what is sent and, a line below, what is written.
+/// Exchanges, with line ends as `|` and LF as `_`: what is sent and, a line below, what is written.
 const EXCHANGES: &str = "\
 GET /exceedances HTTP/1.1|Host: x||
 HTTP/1.1 200 OK|Content-Type: text/plain; charset=utf-8|Content-Length: 14|Connection: close||EXCEEDANCES 0_
@@ -62,25 +62,22 @@ struct Sample {
     written: Vec<u8>,
 }
 
-/// The bytes of an exchange; a `_` at the end of what is written stands for LF.
+/// The bytes of an exchange.
 fn row(alloc: Global, sent: &str, written: &str) -> Result<Sample, Fail> {
     let Some((head, _body)) = sent.split_once("||") else {
         return Err(Fail::from("no head"));
     };
-    let mut response = with_line_ends(alloc, written)?;
-    if response.last() == Some(&b'_') {
-        response.pop();
-        response.push(b'\n')?;
-    }
+    let head = with_line_ends(alloc, head)?.len().saturating_add(4);
+    let interim = if written.starts_with(CONTINUE) {
+        CONTINUE
+    } else {
+        ""
+    };
     Ok(Sample {
+        head,
+        interim,
         sent: with_line_ends(alloc, sent)?,
-        head: with_line_ends(alloc, head)?.len().saturating_add(4),
-        interim: if written.starts_with(CONTINUE) {
-            CONTINUE
-        } else {
-            ""
-        },
-        written: response,
+        written: with_line_ends(alloc, written)?,
     })
 }
 
@@ -152,34 +149,34 @@ fn a_cut_request_asks_nothing(rt: HostRuntime) -> Result<(), Fail> {
     Ok(())
 }
 
+/// Whether a writer that takes so many bytes fails and has the front of the response, and this is asked.
+fn has_front(alloc: Global, row: &Sample, room: usize, asked: &str) -> Result<bool, Fail> {
+    let outcome = served(alloc, &row.sent, false, room);
+    let is_told = outcome.served == Err(ChannelFault::Writer) && outcome.asked.as_str() == asked;
+    let mut taken = outcome.written;
+    taken.extend_from_slice(&outcome.waiting)?;
+    Ok(is_told && taken.len() == room && row.written.starts_with(&taken))
+}
+
+/// What is asked of a row that is served whole, if all of its response is written to a writer that takes no more.
+fn asked_of(alloc: Global, row: &Sample) -> Result<String, Fail> {
+    let whole = served(alloc, &row.sent, false, row.written.len());
+    if whole.written != row.written {
+        return Err(Fail::from("a response is not whole"));
+    }
+    Ok(whole.asked)
+}
+
 #[test]
 fn a_failing_writer_has_the_front_of_the_response(rt: HostRuntime) -> Result<(), Fail> {
     let alloc = rt.alloc();
     for (place, row) in rows(alloc)?.iter().enumerate() {
-        let whole = served(alloc, &row.sent, false, row.written.len());
-        assert_eq!(rt; whole.written, row.written, "row {place}");
+        let asked = asked_of(alloc, row)?;
         let interim = with_line_ends(alloc, row.interim)?.len();
         for room in 0..row.written.len() {
-            let outcome = served(alloc, &row.sent, false, room);
-            assert_eq!(rt;
-                outcome.served,
-                Err(ChannelFault::Writer),
-                "row {place} at {room}"
-            );
-            if room < interim {
-                assert_eq!(rt; outcome.asked.as_str(), "", "row {place} at {room}");
-            } else {
-                assert_eq!(rt;
-                    outcome.asked.as_str(),
-                    whole.asked.as_str(),
-                    "row {place} at {room}"
-                );
-            }
-            let mut taken = outcome.written;
-            taken.extend_from_slice(&outcome.waiting)?;
-            assert_eq!(rt;
-                taken.as_slice(),
-                &row.written[..room],
+            let asked = if room < interim { "" } else { asked.as_str() };
+            assert!(rt;
+                has_front(alloc, row, room, asked)?,
                 "row {place} at {room}"
             );
         }
