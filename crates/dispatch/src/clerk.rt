@@ -1,8 +1,8 @@
 //! Exchanges of HTTP over memory, with a handler that notes what it is asked.
+mod bytes;
 pub mod channel;
 mod heads;
 mod notes;
-mod rows;
 
 use crate::clerk::channel::{Input, Output};
 use crate::clerk::notes::Clerk;
