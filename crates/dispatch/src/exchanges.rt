@@ -59,13 +59,22 @@ enum Trial {
     Narrow(usize),
 }
 
-/// How an exchange ended, in a word, and what was written.
+/// How an exchange ended.
+#[derive(Clone, Copy, Debug, PartialEq, Eq)]
+enum Ending {
+    Answered,
+    Nothing,
+    ReaderFailed,
+    WriterFailed,
+}
+
+/// How an exchange ended, and what was written.
 fn exchanged<S: Alter>(
     alloc: Global,
     book: &mut Book<S>,
     sent: &[u8],
     trial: Trial,
-) -> Result<(&'static str, Vec<u8>), Untold> {
+) -> Result<(Ending, Vec<u8>), Untold> {
     let (length, fails, room) = match trial {
         Trial::Whole => (sent.len(), false, usize::MAX),
         Trial::Cut(length) => (length, false, usize::MAX),
@@ -74,15 +83,15 @@ fn exchanged<S: Alter>(
     };
     let mut reader = Input::new(sent.get(..length).unwrap_or(sent), fails);
     let mut writer = Output::new(alloc, room);
-    let word = match exchange(alloc, &mut reader, &mut writer, book) {
-        Ok(Served::Answered(_)) => "answered",
-        Ok(Served::Nothing) => "nothing",
-        Err(ChannelFault::Reader) => "reader",
-        Err(ChannelFault::Writer) => "writer",
+    let ending = match exchange(alloc, &mut reader, &mut writer, book) {
+        Ok(Served::Answered(_)) => Ending::Answered,
+        Ok(Served::Nothing) => Ending::Nothing,
+        Err(ChannelFault::Reader) => Ending::ReaderFailed,
+        Err(ChannelFault::Writer) => Ending::WriterFailed,
     };
     let mut written = writer.flushed;
     written.extend_from_slice(&writer.waiting)?;
-    Ok((word, written))
+    Ok((ending, written))
 }
 
 const CONTINUE: &str = "HTTP/1.1 100 Continue||";
@@ -144,17 +153,20 @@ fn interim(alloc: Global, sample: &Sample, length: usize) -> Result<Vec<u8>, Unt
 }
 
 /// How an exchange is to end, and what is to be written.
-fn wanted(alloc: Global, sample: &Sample, trial: Trial) -> Result<(&'static str, Vec<u8>), Untold> {
+fn wanted(alloc: Global, sample: &Sample, trial: Trial) -> Result<(Ending, Vec<u8>), Untold> {
     match trial {
-        Trial::Whole => Ok(("answered", copy_of(alloc, &sample.written, usize::MAX)?)),
-        Trial::Cut(0) => Ok(("nothing", Vec::new(alloc))),
+        Trial::Whole => Ok((
+            Ending::Answered,
+            copy_of(alloc, &sample.written, usize::MAX)?,
+        )),
+        Trial::Cut(0) => Ok((Ending::Nothing, Vec::new(alloc))),
         Trial::Cut(length) => {
             let mut bytes = interim(alloc, sample, length)?;
             bytes.extend_from_slice(&bytes_of(alloc, CUT)?)?;
-            Ok(("answered", bytes))
+            Ok((Ending::Answered, bytes))
         }
-        Trial::Torn(length) => Ok(("reader", interim(alloc, sample, length)?)),
-        Trial::Narrow(room) => Ok(("writer", copy_of(alloc, &sample.written, room)?)),
+        Trial::Torn(length) => Ok((Ending::ReaderFailed, interim(alloc, sample, length)?)),
+        Trial::Narrow(room) => Ok((Ending::WriterFailed, copy_of(alloc, &sample.written, room)?)),
     }
 }
 
@@ -178,7 +190,7 @@ fn try_one<S: Alter>(
     if found != wanted {
         let sent = str::from_utf8(&sample.sent).unwrap_or("");
         let written = str::from_utf8(&found.1).unwrap_or("");
-        let line = format!(in alloc; "{trial:?} of {sent}: {} {written}\n", found.0)?;
+        let line = format!(in alloc; "{trial:?} of {sent}: {:?} {written}\n", found.0)?;
         text.push_str(&line)?;
     }
     Ok(())
