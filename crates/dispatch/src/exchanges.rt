@@ -102,6 +102,8 @@ const CUT: &str =
 /// An exchange in bytes.
 #[derive(Drop)]
 struct Sample {
+    /// Which of the exchanges it is, from 0.
+    place: usize,
     sent: Vec<u8>,
     /// How many bytes of it are the head.
     head: usize,
@@ -121,9 +123,10 @@ fn bytes_of(alloc: Global, text: &str) -> Result<Vec<u8>, Untold> {
     Ok(bytes)
 }
 
-fn sample_of(alloc: Global, sent: &str, written: &str) -> Result<Sample, Untold> {
+fn sample_of(alloc: Global, place: usize, sent: &str, written: &str) -> Result<Sample, Untold> {
     let head = sent.split("||").next().unwrap_or(sent);
     Ok(Sample {
+        place,
         sent: bytes_of(alloc, sent)?,
         head: bytes_of(alloc, head)?.len().saturating_add(4),
         written: bytes_of(alloc, written)?,
@@ -134,11 +137,11 @@ fn sample_of(alloc: Global, sent: &str, written: &str) -> Result<Sample, Untold>
 fn samples(alloc: Global) -> Result<Vec<Sample>, Untold> {
     let mut samples = Vec::new(alloc);
     let mut lines = EXCHANGES.lines();
-    for _ in 0..100 {
+    for place in 0..100 {
         let (Some(sent), Some(written)) = (lines.next(), lines.next()) else {
             break;
         };
-        samples.push(sample_of(alloc, sent, written)?)?;
+        samples.push(sample_of(alloc, place, sent, written)?)?;
     }
     Ok(samples)
 }
@@ -188,9 +191,7 @@ fn try_one<S: Alter>(
     let wanted = wanted(alloc, sample, trial)?;
     let found = exchanged(alloc, book, &sample.sent, trial)?;
     if found != wanted {
-        let sent = str::from_utf8(&sample.sent).unwrap_or("");
-        let written = str::from_utf8(&found.1).unwrap_or("");
-        let line = format!(in alloc; "{trial:?} of {sent}: {:?} {written}\n", found.0)?;
+        let line = format!(in alloc; "{trial:?} of row {}: {:?}\n", sample.place, found.0)?;
         text.push_str(&line)?;
     }
     Ok(())
