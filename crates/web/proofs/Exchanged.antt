@@ -1,5 +1,5 @@
 -- From an exchange over a handler to one with a book.
-use Rattle.std.proofs.Common.{◌≡◌, ◌∙◌, ◌<◌, ◌⊎◌, ◌||◌, ◌++◌, ap, sym, subst, refl, inl, inr, arith, ℕ, Bool, true, false, IsTrue, List, [], ◌∷◌, length, take, Option, Some, None, Result, Ok, Err, IfOk, IfErr}
+use Rattle.std.proofs.Common.{◌≡◌, ◌∙◌, ◌<◌, ◌⊎◌, ◌||◌, ◌++◌, ap, sym, subst, refl, inl, inr, arith, ℕ, Bool, true, false, IsTrue, List, [], ◌∷◌, length, drop, take, Option, Some, None, Result, Ok, Err, IfOk, IfErr}
 use Rattle.std.proofs.lemmas.List.{take_all}
 use Rattle.std.specs.Io.KnownBytes.{Appends}
 use Rattle.sqlite.specs.Held.{state}
@@ -29,8 +29,8 @@ use Rattle.http_exchange.specs.declared.sending.ChannelFault.TheVariants.{Reader
 use Rattle.web.specs.Acts.{Asks, Commands}
 use Rattle.web.specs.Handling.{IsDone, IsHandled}
 use Rattle.web.specs.Response.{IsFinal, Response, no_head}
-use Rattle.web.specs.Serving.{AsksOnce, IsBegun, IsBrokenOff, IsGiven, IsLeftBy, IsMemoryTold, IsRequestFor, IsServed, IsStoreTold}
-use Rattle.web.proofs.Handled.{still_honest}
+use Rattle.web.specs.Serving.{AsksOnce, IsBegun, IsBegunOf, IsBrokenOff, IsGiven, IsLeftBy, IsMemoryTold, IsRequestFor, IsServed, IsStoreTold}
+use Rattle.web.proofs.Handled.{or_false, still_honest}
 
 or_true : (b : Bool) → IsTrue (b || true)
 or_true true = refl
@@ -68,11 +68,14 @@ module _ {S : Type 0} (g : Ghosts S) where
 
     module _ (input : List ℕ) (left out out' : Held) (code : ℕ) where
       abbrev Ends : Type 0
-      Ends = IsGiven g s input left out out' old new code ⊎ (IsStoreTold g s input left out out' new code ⊎ IsMemoryTold g s input out out' old new code)
+      Ends = IsGiven g s input left out out' old new code ⊎ (IsStoreTold g s input left out out' new code ⊎ IsMemoryTold g s input left out out' old new code)
+
+      not_failed : new ≡ old → new.failed ≡ old.failed
+      not_failed same = ap (λ b. b.failed) same
 
       -- there was no memory, and nothing was asked
-      short : (front : List ℕ) (is_head : Bool) → new ≡ old → IsSent front out out' code (of_no_memory is_head) → Ends
-      short front is_head same sent = inr (inr (record { front = front; is_head = is_head; status = sent.0; written = sent.1; state = inl same }))
+      at_once : 0 < length input → HasNoHead input ⊎ (left ≡ Some (drop 1 input)) → new ≡ old → IsSent [] out out' code (of_no_memory false) → Ends
+      at_once some why same sent = inr (inr (record { some = some; status = sent.0; failed = not_failed same; told = inl (why, same, sent.1) }))
 
       unchanged : (P : Kept S → Type 0) → new ≡ old → P old → P new
       unchanged P same it = subst P (sym same) it
@@ -84,10 +87,11 @@ module _ {S : Type 0} (g : Ghosts S) where
         status = sent.0;
         written = sent.1;
         left_is = tt;
+        failed = not_failed same;
         state = unchanged (λ b. IsAt g b s) same at;
         tables = λ has. unchanged (λ b. HasTables g b s) same has;
       })
-      without_head some none (same, inr sent) = short [] false same sent
+      without_head some none (same, inr sent) = at_once some (inl none) same sent
 
       module _ (some : 0 < length input) (h : RequestHead) (rest : List ℕ) (head : HasHead input h rest) where
         abbrev p : Planned
@@ -95,6 +99,12 @@ module _ {S : Type 0} (g : Ghosts S) where
 
         abbrev given : Asked → Answer → Commands → Response
         given asked a commands = record { interim = interim p.step; final = of_answer (Ok a) p.is_head; commands = commands; unread = Some (unread p.step rest) }
+
+        at_head : new ≡ old → left ≡ Some rest → IsSent [] out out' code (of_no_memory p.is_head) → Ends
+        at_head same left_is sent = inr (inr (record { some = some; status = sent.0; failed = not_failed same; told = inr (h, rest, head, inl (left_is, same, sent.1)) }))
+
+        at_end : new.failed ≡ old.failed → left ≡ Some (unread p.step rest) → IsSent (interim p.step) out out' code (of_no_memory p.is_head) → IsBegunOf g s input p rest old new → Ends
+        at_end failed left_is sent begun = inr (inr (record { some = some; status = sent.0; failed = failed; told = inr (h, rest, head, inr (left_is, sent.1, begun)) }))
 
         request : (asked : Asked) (commands : Commands) → asks p.step rest ≡ Ok asked → Asks asked commands → IsRequestFor input p rest asked commands
         request asked commands is listed = record { h = h; head = head; planned = refl; whole = is; listed = listed }
@@ -119,10 +129,11 @@ module _ {S : Type 0} (g : Ghosts S) where
           status = sent.0;
           written = sent.1;
           left_is = left_is;
+          failed = not_failed same;
           state = unchanged (λ b. IsAt g b s) same at;
           tables = λ has. unchanged (λ b. HasTables g b s) same has;
         })
-        refused fault is left_is same (inr sent) = short (interim p.step) p.is_head same sent
+        refused fault is left_is same (inr sent) = at_end (not_failed same) left_is sent (inl same)
 
         answered : IsClean g new → (asked : Asked) (answer : Result Answer HandlerFault) → asks p.step rest ≡ Ok asked → left ≡ Some (unread p.step rest)
             → handles old new asked answer → IsAnswerTold (interim p.step) out out' code answer p.is_head → Ends
@@ -146,18 +157,13 @@ module _ {S : Type 0} (g : Ghosts S) where
               status = sent.0;
               written = sent.1;
               left_is = left_is;
+              failed = it.kept.failed ∙ sym (or_false old.failed);
               state = did.1.2.0;
               tables = did.1.2.1;
             })
         answered clean asked (Ok a) is left_is it (inr sent) =
             let did = it.done s at in
-            inr (inr (record {
-              front = interim p.step;
-              is_head = p.is_head;
-              status = sent.0;
-              written = sent.1;
-              state = inr (p, rest, asked, did.1.0, request asked did.1.0 is did.1.1, all_done did.1.0 did.1.2.0);
-            }))
+            at_end (it.kept.failed ∙ sym (or_false old.failed)) left_is sent (inr (asked, did.1.0, request asked did.1.0 is did.1.1, all_done did.1.0 did.1.2.0))
         answered clean asked (Err Store) is left_is it sent =
             let did = it.done s at in
             inr (inl (record {
@@ -172,18 +178,11 @@ module _ {S : Type 0} (g : Ghosts S) where
               failed = has_failed old new asked it;
               state = did.2;
             }))
-        answered clean asked (Err Memory) is left_is it sent = inr (inr (record {
-          front = interim p.step;
-          is_head = p.is_head;
-          status = sent.0;
-          written = sent.1;
-          state = begun (it.done s at);
-        }))
+        answered clean asked (Err Memory) is left_is it sent = at_end (it.kept.failed ∙ sym (or_false old.failed)) left_is sent (begun (it.done s at))
           where
-            begun : IsDone g old new s asked (Err Memory)
-                → (new ≡ old) ⊎ ((p : Planned) × (rest : List ℕ) × (asked : Asked) × (commands : Commands) × IsRequestFor input p rest asked commands × IsBegun g s new commands)
+            begun : IsDone g old new s asked (Err Memory) → IsBegunOf g s input p rest old new
             begun (inl same) = inl same
-            begun (inr did) = inr (p, rest, asked, did.0, request asked did.0 is did.1, did.2)
+            begun (inr did) = inr (asked, did.0, request asked did.0 is did.1, did.2)
 
         settled : IsClean g new → (a : Result Asked RequestFault) → asks p.step rest ≡ a → left ≡ Some (unread p.step rest)
             → exchange.IsSettled handles a (interim p.step) p.is_head out out' old new code → Ends
@@ -192,12 +191,12 @@ module _ {S : Type 0} (g : Ghosts S) where
 
         with_head : IsClean g new → exchange.Answers handles p (Some rest) left out out' old new code → Ends
         with_head clean (inl it) = settled clean (asks p.step rest) refl it.left_is it.settled
-        with_head clean (inr it) = short [] p.is_head it.unasked it.sent
+        with_head clean (inr it) = at_head it.unasked it.left_is it.sent
 
       ends : IsClean g new → exchange.IsServedOf handles input left out out' old new (Answered code) → Ends
       ends clean (some, inl it) = without_head some it.0 it.1
       ends clean (some, inr (inl it)) = with_head some it.0 it.1 it.2 clean it.3
-      ends clean (some, inr (inr it)) = short [] false it.unasked it.sent
+      ends clean (some, inr (inr it)) = at_once some (inr it.left_is) it.unasked it.sent
 
     served_so : IsClean g new → (had left out out' : Held) (it : Served) → exchange.IsServed handles had left out out' old new it → IsServed g s had left out out' old new it
     served_so clean None left out out' it said = tt

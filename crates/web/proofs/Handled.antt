@@ -34,7 +34,7 @@ use Rattle.web.specs.Acts.{Commands, IsReport, command_of, commands_of, request_
 use Rattle.web.specs.Answers.{Tells, command_answer, fault_answer, parts_answer}
 use Rattle.web.specs.Handling.{AreAdded, AreToldAs, IsAsked, IsHandled, IsKept, IsReportOf, IsReportToldAs, IsToldAs, is_store_fault}
 
-or_false : (b : Bool) → b ≡ (b || false)
+pub or_false : (b : Bool) → b ≡ (b || false)
 or_false true = refl
 or_false false = refl
 

@@ -1,5 +1,5 @@
 -- What one exchange with a book is: the response was given, or 503 for a fault; and where the channel fails, what was asked.
-use Rattle.std.specs.Prelude.{◌≡◌, ◌⊎◌, ◌<◌, ⊤, ℕ, ◌+◌, Bool, IsTrue, List, [], ◌++◌, length, take, Option, Some, None, Result, Ok, Err}
+use Rattle.std.specs.Prelude.{◌≡◌, ◌⊎◌, ◌<◌, ⊤, ℕ, ◌+◌, false, IsTrue, List, [], ◌++◌, length, drop, take, Option, Some, None, Result, Ok, Err}
 use Rattle.std.specs.Io.KnownBytes.{Appends}
 use Rattle.httparse.specs.Grammar.{RequestHead}
 use Rattle.sqlite_trees.specs.declared.store.Store.{Ghosts}
@@ -8,7 +8,7 @@ use Rattle.roster.specs.State.{State}
 use Rattle.book.specs.Kept.{HasTables, IsAt, IsInDoubt, Kept}
 use Rattle.http_message.specs.Heading.{heading}
 use Rattle.http_message.specs.Plan.{Planned, plan}
-use Rattle.http_message.specs.Reading.{HasHead}
+use Rattle.http_message.specs.Reading.{HasHead, HasNoHead}
 use Rattle.http_message.specs.Response.{no_memory, no_store}
 use Rattle.http_exchange.specs.Exchange.{Held, asks, interim, unread}
 use Rattle.http_exchange.specs.Handler.{Asked}
@@ -50,6 +50,7 @@ module _ {S : Type 0} (g : Ghosts S) (s : State) where
     pub status : code ≡ response.final.status
     pub written : Appends out out' (bytes response)
     pub left_is : IsUnread response.unread left
+    pub failed : new.failed ≡ old.failed
     pub state : IsAt g new (Fold s response.commands)
     pub tables : HasTables g old s → HasTables g new (Fold s response.commands)
 
@@ -66,13 +67,26 @@ module _ {S : Type 0} (g : Ghosts S) (s : State) where
     pub failed : IsTrue new.failed
     pub state : IsBroken new commands
 
-  -- there was no memory (91): so it is told, after the interim response or in place of it, and the commands were begun, or none was asked
-  pub record IsMemoryTold (input : List ℕ) (out out' : Held) (old new : Kept S) (code : ℕ) : Type 0 where
-    pub front : List ℕ
-    pub is_head : Bool
+  -- the commands were begun, or none was asked
+  abbrev pub IsBegunOf : List ℕ → Planned → List ℕ → Kept S → Kept S → Type 0
+  IsBegunOf input p rest old new = (new ≡ old) ⊎ ((asked : Asked) × (commands : Commands) × IsRequestFor input p rest asked commands × IsBegun new commands)
+
+  -- there was no memory to tell that there is no head, or for a head, of which one byte was read
+  abbrev pub IsToldAtOnce : List ℕ → Held → Held → Held → Kept S → Kept S → Type 0
+  IsToldAtOnce input left out out' old new = (HasNoHead input ⊎ (left ≡ Some (drop 1 input))) × (new ≡ old) × Appends out out' (no_memory false)
+
+  -- or after a head: before anything more was read, written or asked; or after the interim response, and the body where there is one
+  abbrev pub IsToldAfter : List ℕ → Planned → List ℕ → Held → Held → Held → Kept S → Kept S → Type 0
+  IsToldAfter input p rest left out out' old new =
+      ((left ≡ Some rest) × (new ≡ old) × Appends out out' (no_memory p.is_head))
+      ⊎ ((left ≡ Some (unread p.step rest)) × Appends out out' (interim p.step ++ no_memory p.is_head) × IsBegunOf input p rest old new)
+
+  -- there was no memory (91): so it is told, in place of the final response
+  pub record IsMemoryTold (input : List ℕ) (left out out' : Held) (old new : Kept S) (code : ℕ) : Type 0 where
+    pub some : 0 < length input
     pub status : code ≡ 503
-    pub written : Appends out out' (front ++ no_memory is_head)
-    pub state : (new ≡ old) ⊎ ((p : Planned) × (rest : List ℕ) × (asked : Asked) × (commands : Commands) × IsRequestFor input p rest asked commands × IsBegun new commands)
+    pub failed : new.failed ≡ old.failed
+    pub told : IsToldAtOnce input left out out' old new ⊎ ((h : RequestHead) × (rest : List ℕ) × HasHead input h rest × IsToldAfter input (plan (heading h)) rest left out out' old new)
 
   -- an input without a byte is served nothing
   abbrev pub IsServedOf : List ℕ → Held → Held → Held → Kept S → Kept S → Served → Type 0
@@ -80,7 +94,7 @@ module _ {S : Type 0} (g : Ghosts S) (s : State) where
   IsServedOf input left out out' old new (Answered code) =
       IsGiven input left out out' old new code
       ⊎ (IsStoreTold input left out out' new code
-      ⊎ IsMemoryTold input out out' old new code)
+      ⊎ IsMemoryTold input left out out' old new code)
 
   -- the same, where it is known what the reader has
   abbrev pub IsServed : Held → Held → Held → Held → Kept S → Kept S → Served → Type 0

@@ -21,6 +21,7 @@ const MILLISECONDS_TO_END: u64 = 200;
 
 /// How many bytes are read at once of what a client sends beyond its request, and how often.
 const DROPPED_AT_ONCE: usize = 65_536;
+
 const MOST_DROPS: u32 = 256;
 
 /// Why a connection failed. It is printed as the program prints a refusal: its number and its name.
