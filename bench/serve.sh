@@ -1,8 +1,8 @@
 #!/usr/bin/env bash
 # Times requests of HTTP, on an empty book and on one of 10,000 pairings and 50,000 requests (long_book.sql): each is a connection of
-# its own to a server of that book, one after the other. Beside it the same is asked of the book without HTTP: parts of a schedule in one
-# run of `import`, and a report in one of `roster`, less what it takes to open the book. A path that names nothing is answered without
-# the book, and so takes what HTTP costs.
+# its own to a server of that book, one after the other. Beside it the same is asked of a copy of the book without HTTP: parts of a
+# schedule in one run of `import`, and a report in one of `roster`, less what it takes to open the book. A path that names nothing is
+# answered without the book, and so takes what HTTP costs.
 set -eu
 top=$(cd "$(dirname "$(readlink -f "${BASH_SOURCE[0]}")")/.." && pwd)
 "$top/rosterbook" --version >/dev/null
@@ -80,7 +80,8 @@ alone() {
 
 # measured FILE CREW COUNT: all of it, on a book that has this member.
 measured() {
-    alone "$@"
+    cp "$1" alone.db
+    alone alone.db "$2" "$3"
     listen "$1"
     asked "GET /nothing, which names nothing" 10000 404 /nothing
     asked "GET /crew/$2" "$3" 200 "/crew/$2"
