@@ -10,7 +10,7 @@ use Rattle.roster.specs.Honest.{Honest}
 use Rattle.roster.specs.State.{State}
 use Rattle.writing.specs.Kept.{KeepOthers}
 use Rattle.writing.specs.Outcomes.{AddsOnly, Leaves}
-use Rattle.book.specs.Kept.{HasTables, IsAt, IsClean, Kept}
+use Rattle.book.specs.Kept.{HasTables, IsAt, IsClean, Kept, StillHasTables}
 use Rattle.http_message.specs.Heading.{heading}
 use Rattle.http_message.specs.Plan.{Planned, plan}
 use Rattle.http_message.specs.Reading.{HasHead, HasNoHead}
@@ -30,7 +30,7 @@ use Rattle.web.specs.Acts.{Asks, Commands}
 use Rattle.web.specs.Handling.{IsDone, IsHandled}
 use Rattle.web.specs.Response.{IsFinal, Response, no_head}
 use Rattle.web.specs.Serving.{AsksOnce, IsBegun, IsBegunOf, IsBrokenOff, IsGiven, IsLeftBy, IsMemoryTold, IsRequestFor, IsServed, IsStoreTold}
-use Rattle.web.proofs.Handled.{or_false, still_honest}
+use Rattle.web.proofs.Handled.{or_false, still, still_honest}
 
 or_true : (b : Bool) → IsTrue (b || true)
 or_true true = refl
@@ -44,23 +44,26 @@ module _ {S : Type 0} (g : Ghosts S) where
   has_failed old new asked it = subst IsTrue (sym it.kept.failed) (or_true old.failed)
 
   module _ (s : State) (old new : Kept S) (at : IsAt g old s) where
-    all_done : (commands : Commands) → IsAt g new (Fold s commands) → (n : ℕ) × IsAt g new (Fold s (take n commands))
-    all_done commands done =
-        let all : take (length commands) commands ≡ commands = take_all (length commands) commands (omega arith) in
-        (length commands, subst (λ l. IsAt g new (Fold s l)) (sym all) done)
+    all_done : (commands : Commands) → IsAt g new (Fold s commands) → (HasTables g old s → HasTables g new (Fold s commands)) → IsBegun g s old new commands
+    all_done commands done tables =
+        let all : take (length commands) commands ≡ commands = take_all (length commands) commands (omega arith) in (
+          length commands,
+          subst (λ l. IsAt g new (Fold s l)) (sym all) done,
+          λ t. subst (λ l. StillHasTables g new (Fold s l)) (sym all) (still g new (Fold s commands) (tables t)),
+        )
 
     -- ---- what is left by a request, whatever was told
 
-    left_by : (asked : Asked) (answer : Result Answer HandlerFault) → handles old new asked answer → (new ≡ old) ⊎ ((commands : Commands) × Asks asked commands × IsLeftBy g s new commands)
+    left_by : (asked : Asked) (answer : Result Answer HandlerFault) → handles old new asked answer → (new ≡ old) ⊎ ((commands : Commands) × Asks asked commands × IsLeftBy g s old new commands)
     left_by asked (Ok a) it =
         let did = it.done s at in
-        inr (did.1.0, did.1.1, inl (all_done did.1.0 did.1.2.0))
+        inr (did.1.0, did.1.1, inl (all_done did.1.0 did.1.2.0 did.1.2.1))
     left_by asked (Err Store) it =
         let did = it.done s at in
         inr (did.0, did.1, inr (has_failed old new asked it, did.2))
     left_by asked (Err Memory) it = go (it.done s at)
       where
-        go : IsDone g old new s asked (Err Memory) → (new ≡ old) ⊎ ((commands : Commands) × Asks asked commands × IsLeftBy g s new commands)
+        go : IsDone g old new s asked (Err Memory) → (new ≡ old) ⊎ ((commands : Commands) × Asks asked commands × IsLeftBy g s old new commands)
         go (inl same) = inl same
         go (inr did) = inr (did.0, did.1, inl did.2)
 
@@ -163,7 +166,7 @@ module _ {S : Type 0} (g : Ghosts S) where
             })
         answered clean asked (Ok a) is left_is it (inr sent) =
             let did = it.done s at in
-            at_end (it.kept.failed ∙ sym (or_false old.failed)) left_is sent (inr (asked, did.1.0, request asked did.1.0 is did.1.1, all_done did.1.0 did.1.2.0))
+            at_end (it.kept.failed ∙ sym (or_false old.failed)) left_is sent (inr (asked, did.1.0, request asked did.1.0 is did.1.1, all_done did.1.0 did.1.2.0 did.1.2.1))
         answered clean asked (Err Store) is left_is it sent =
             let did = it.done s at in
             inr (inl (record {
@@ -219,7 +222,7 @@ module _ {S : Type 0} (g : Ghosts S) where
         go (Ok asked) is (inl same) = inl same
         go (Ok asked) is (inr (answer, it)) = by (left_by asked answer it)
           where
-            by : (new ≡ old) ⊎ ((commands : Commands) × Asks asked commands × IsLeftBy g s new commands) → IsBrokenOff g s (Some input) old new Writer
+            by : (new ≡ old) ⊎ ((commands : Commands) × Asks asked commands × IsLeftBy g s old new commands) → IsBrokenOff g s (Some input) old new Writer
             by (inl same) = inl same
             by (inr did) = inr (
               plan (heading h),
@@ -246,7 +249,7 @@ module _ {S : Type 0} (g : Ghosts S) where
     once (inl same) = inl same
     once (inr (asked, (answer, it))) = by (left_by asked answer it)
       where
-        by : (new ≡ old) ⊎ ((commands : Commands) × Asks asked commands × IsLeftBy g s new commands) → AsksOnce g s old new
+        by : (new ≡ old) ⊎ ((commands : Commands) × Asks asked commands × IsLeftBy g s old new commands) → AsksOnce g s old new
         by (inl same) = inl same
         by (inr did) = inr (asked, did.0, did.1, did.2)
 

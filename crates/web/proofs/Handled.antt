@@ -1,5 +1,5 @@
 -- From what the book did to what is told of it.
-use Rattle.std.proofs.Common.{◌≡◌, ◌∙◌, ◌+◌, ◌||◌, ◌⊎◌, ◌↔◌, ap, sym, subst, refl, inl, inr, arith, ℕ, suc, Bool, true, false, IsTrue, List, [], ◌∷◌, length, map, take, Option, Some, None, Result, Ok, Err, IfOk, OnOk}
+use Rattle.std.proofs.Common.{◌≡◌, ◌∙◌, ◌+◌, ◌||◌, ◌⊎◌, ◌↔◌, ap, sym, subst, refl, inl, inr, arith, ℕ, suc, Bool, true, false, IsTrue, List, [], ◌∷◌, length, map, take, Option, Some, None, Result, Ok, Err, IfOk, IsSome, OnErr, OnOk}
 use Rattle.std.proofs.lemmas.List.{take_all}
 use Rattle.sqlite.specs.Held.{state}
 use Rattle.sqlite_trees.specs.declared.store.Store.{Ghosts}
@@ -17,10 +17,10 @@ use Rattle.roster.specs.State.{State}
 use Rattle.roster.specs.Steps.{step_of}
 use Rattle.rows.specs.declared.fault.StoreFault.{StoreFault}
 use Rattle.rows.specs.declared.fault.StoreFault.TheVariants as fault
-use Rattle.writing.specs.Kept.{KeepOthers}
-use Rattle.writing.specs.Outcomes.{AddsNothing, AddsOnly, Leaves}
+use Rattle.writing.specs.Kept.{IsBookOf, KeepOthers}
+use Rattle.writing.specs.Outcomes.{AddsNothing, AddsOnly, Leaves, StillShows}
 use Rattle.book.specs.Kept as kept
-use Rattle.book.specs.Kept.{Ends, HasTables, IsAt, IsClean, IsInDoubt, Kept, result_of}
+use Rattle.book.specs.Kept.{Ends, HasTables, IsAt, IsClean, IsInDoubt, Kept, StillHasTables, result_of}
 use Rattle.book.specs.Shown.{IsShown}
 use Rattle.book.specs.declared.answer.Answer as book
 use Rattle.book.specs.declared.answer.Show.{Show}
@@ -32,7 +32,7 @@ use Rattle.http_exchange.specs.declared.handler.HandlerFault.{HandlerFault}
 use Rattle.http_exchange.specs.declared.handler.HandlerFault.TheVariants.{Store, Memory}
 use Rattle.web.specs.Acts.{Commands, IsReport, command_of, commands_of, request_answer, show_of}
 use Rattle.web.specs.Answers.{Tells, command_answer, fault_answer, parts_answer}
-use Rattle.web.specs.Handling.{AreAdded, AreToldAs, IsAsked, IsHandled, IsKept, IsReportOf, IsReportToldAs, IsToldAs, is_store_fault}
+use Rattle.web.specs.Handling.{AreAdded, AreToldAs, IsAsked, IsAskedIn, IsHandled, IsKept, IsLeft, IsReportOf, IsReportToldAs, IsToldAs, is_store_fault}
 
 pub or_false : (b : Bool) → b ≡ (b || false)
 or_false true = refl
@@ -51,6 +51,10 @@ still_honest g now s at honest = record {
       (left.0, subst Honest (sym left.1) honest, left.2);
 }
 
+-- what is shown is shown as long as the connection is open
+pub still : {S : Type 0} (g : Ghosts S) (now : Kept S) (s : State) → HasTables g now s → StillHasTables g now s
+still g now s has = λ clean is_open. (has clean).1
+
 module _ {S : Type 0} (g : Ghosts S) (book : Kept S) where
   unasked_kept : (result : Result Answer HandlerFault) → is_store_fault result ≡ false → IsKept g book book result
   unasked_kept result none = record {
@@ -66,7 +70,7 @@ module _ {S : Type 0} (g : Ghosts S) (book : Kept S) where
   no_memory asked = record { kept = unasked_kept (Err Memory) refl; done = λ s at. inl refl }
 
   pub none_added : (number : ℕ) (plans : List Plan) → AreAdded g book book number plans (Err Memory)
-  none_added number plans = record { kept = unasked_kept (Err Memory) refl; done = λ s at. (0, at) }
+  none_added number plans = record { kept = unasked_kept (Err Memory) refl; done = λ s at. (0, at, λ has. still g book s has) }
 
   -- a body that isn't read asks nothing
   pub command_unread : (body : List ℕ) (fault : CodecFault) (told : Result Answer HandlerFault) → read_request body ≡ Err fault → Tells (fault_answer fault) told
@@ -102,27 +106,28 @@ module _ {S : Type 0} (g : Ghosts S) (old new : Kept S) where
       → ((s : State) → IsAt g old s → HasTables g old s → OnOk r (HasTables g new (folds.next s asked)))
       → ((s : State) → IsAt g old s → r ≡ Err fault.Memory → IsAt g new s)
       → ((s : State) → IsAt g old s → r ≡ Err fault.Store → IsInDoubt g new s (folds.next s asked))
+      → ((s : State) → IsAt g old s → HasTables g old s → OnErr r (StillHasTables g new s))
       → ((s : State) → IsAt g old s → Honest s → Leaves (state g new.held) Honest)
       → AddsOnly (state g old.held) (state g new.held) (KeepOthers (state g old.held).now)
       → IsAsked g old new asked told
-  asked_by asked (Ok a) (Ok answer) tells failed shut clean reply answered tables memory store honest others = record {
+  asked_by asked (Ok a) (Ok answer) tells failed shut clean reply answered tables memory store shown honest others = record {
     kept = record { failed = failed; shut = λ f. (shut f).1; clean = clean; honest = honest; others = others };
     done = λ s at. ((λ c. tells ∙ ap command_answer (reply s at c)), (answered s at, λ t. tables s at t));
   }
-  asked_by asked (Ok a) (Err Store) tells failed shut clean reply answered tables memory store honest others = absurd tells
-  asked_by asked (Ok a) (Err Memory) tells failed shut clean reply answered tables memory store honest others = record {
+  asked_by asked (Ok a) (Err Store) tells failed shut clean reply answered tables memory store shown honest others = absurd tells
+  asked_by asked (Ok a) (Err Memory) tells failed shut clean reply answered tables memory store shown honest others = record {
     kept = record { failed = failed; shut = λ f. (shut f).1; clean = clean; honest = honest; others = others };
-    done = λ s at. inr (answered s at);
+    done = λ s at. inr (answered s at, λ t. still g new (folds.next s asked) (tables s at t));
   }
-  asked_by asked (Err fault.Store) told tells failed shut clean reply answered tables memory store honest others =
+  asked_by asked (Err fault.Store) told tells failed shut clean reply answered tables memory store shown honest others =
       subst (IsAsked g old new asked) (sym tells) (record {
         kept = record { failed = failed; shut = λ f. (shut f).1; clean = clean; honest = honest; others = others };
         done = λ s at. store s at refl;
       })
-  asked_by asked (Err fault.Memory) told tells failed shut clean reply answered tables memory store honest others =
+  asked_by asked (Err fault.Memory) told tells failed shut clean reply answered tables memory store shown honest others =
       subst (IsAsked g old new asked) (sym tells) (record {
         kept = record { failed = failed; shut = λ f. (shut f).1; clean = clean; honest = honest; others = others };
-        done = λ s at. inl (memory s at refl);
+        done = λ s at. inl (memory s at refl, λ t. shown s at t);
       })
 
   pub command_read : (body : List ℕ) (number : ℕ) (order : Order) (key : KeyParts) (told : Result Answer HandlerFault) → read_request body ≡ Ok (number, order)
@@ -135,9 +140,9 @@ module _ {S : Type 0} (g : Ghosts S) (old new : Kept S) where
       go (Err Store) asked = record { kept = asked.kept; done = λ s at. rw is (command_of (number, order) ∷ [], refl, (0, asked.done s at)) }
       go (Err Memory) asked = record { kept = asked.kept; done = λ s at. inr (rw is (command_of (number, order) ∷ [], refl, begun s (asked.done s at))) }
         where
-          begun : (s : State) → IsAt g new s ⊎ IsAt g new (folds.next s (command_of (number, order))) → (n : ℕ) × IsAt g new (Fold s (take n (command_of (number, order) ∷ [])))
-          begun s (inl at) = (0, at)
-          begun s (inr at) = (1, at)
+          begun : (s : State) → IsAskedIn g old new s (command_of (number, order)) (Err Memory) → IsLeft g old new s (command_of (number, order) ∷ []) (Err Memory)
+          begun s (inl (at, shown)) = (0, at, shown)
+          begun s (inr (at, shown)) = (1, at, shown)
 
   -- ---- imports
 
@@ -150,10 +155,11 @@ module _ {S : Type 0} (g : Ghosts S) (old new : Kept S) where
       → ((s : State) → IsAt g old s → IsClean g new → map result_of answers ≡ take (length answers) (Replies s commands))
       → ((s : State) → IsAt g old s → Ends (state g new.held) s commands (length answers) f)
       → ((s : State) → IsAt g old s → HasTables g old s → f ≡ None → HasTables g new (Fold s commands))
+      → ((s : State) → IsAt g old s → HasTables g old s → IsSome f → StillHasTables g new (Fold s (take (length answers) commands)))
       → ((s : State) → IsAt g old s → Honest s → Leaves (state g new.held) Honest)
       → AddsOnly (state g old.held) (state g new.held) (KeepOthers (state g old.held).now)
       → AreAdded g old new number plans told
-  added_by number plans commands answers None (Ok answer) is tells failed shut clean whole replies ends tables honest others =
+  added_by number plans commands answers None (Ok answer) is tells failed shut clean whole replies ends tables shown honest others =
       let every = whole refl in
       record {
         kept = record { failed = failed; shut = λ f. (shut f).2; clean = clean; honest = honest; others = others };
@@ -163,22 +169,30 @@ module _ {S : Type 0} (g : Ghosts S) (old new : Kept S) where
               (subst (λ l. IsAt g new (Fold s l)) is (ends s at), λ t. subst (λ l. HasTables g new (Fold s l)) is (tables s at t refl)),
             );
       }
-  added_by number plans commands answers None (Err Store) is tells failed shut clean whole replies ends tables honest others = absurd tells
-  added_by number plans commands answers None (Err Memory) is tells failed shut clean whole replies ends tables honest others = record {
+  added_by number plans commands answers None (Err Store) is tells failed shut clean whole replies ends tables shown honest others = absurd tells
+  added_by number plans commands answers None (Err Memory) is tells failed shut clean whole replies ends tables shown honest others = record {
     kept = record { failed = failed; shut = λ f. (shut f).2; clean = clean; honest = honest; others = others };
     done = λ s at.
-        let all : take (length commands) commands ≡ commands = take_all (length commands) commands (omega arith) in
-        (length commands, subst (λ l. IsAt g new (Fold s (take (length commands) l))) is (subst (λ l. IsAt g new (Fold s l)) (sym all) (ends s at)));
+        let all : take (length commands) commands ≡ commands = take_all (length commands) commands (omega arith) in (
+          length commands,
+          subst (λ l. IsAt g new (Fold s (take (length commands) l))) is (subst (λ l. IsAt g new (Fold s l)) (sym all) (ends s at)),
+          λ t. subst (λ l. StillHasTables g new (Fold s (take (length commands) l))) is
+              (subst (λ l. StillHasTables g new (Fold s l)) (sym all) (still g new (Fold s commands) (tables s at t refl))),
+        );
   }
-  added_by number plans commands answers (Some fault.Store) told is tells failed shut clean whole replies ends tables honest others =
+  added_by number plans commands answers (Some fault.Store) told is tells failed shut clean whole replies ends tables shown honest others =
       subst (AreAdded g old new number plans) (sym tells) (record {
         kept = record { failed = failed; shut = λ f. (shut f).2; clean = clean; honest = honest; others = others };
         done = λ s at. (length answers, subst (λ l. IsInDoubt g new (Fold s (take (length answers) l)) (Fold s (take (length answers + 1) l))) is (ends s at));
       })
-  added_by number plans commands answers (Some fault.Memory) told is tells failed shut clean whole replies ends tables honest others =
+  added_by number plans commands answers (Some fault.Memory) told is tells failed shut clean whole replies ends tables shown honest others =
       subst (AreAdded g old new number plans) (sym tells) (record {
         kept = record { failed = failed; shut = λ f. (shut f).2; clean = clean; honest = honest; others = others };
-        done = λ s at. (length answers, subst (λ l. IsAt g new (Fold s (take (length answers) l))) is (ends s at));
+        done = λ s at. (
+          length answers,
+          subst (λ l. IsAt g new (Fold s (take (length answers) l))) is (ends s at),
+          λ t. subst (λ l. StillHasTables g new (Fold s (take (length answers) l))) is (shown s at t refl),
+        );
       })
 
   pub schedule_read : (number : ℕ) (body : List ℕ) (plans : List Plan) (told : Result Answer HandlerFault) → IsSchedule body plans → AreAdded g old new number plans told
@@ -205,9 +219,10 @@ module _ {S : Type 0} (g : Ghosts S) (old new : Kept S) where
       → ((s : State) → IsAt g old s → IsClean g new → IfOk r (λ roster. (shown : Option (List ℕ)) → IsShown roster what shown ↔ IsShown s what shown))
       → ((s : State) → IsAt g old s → IsAt g new s)
       → ((s : State) → IsAt g old s → HasTables g old s → OnOk r (HasTables g new s))
+      → StillShows (state g old.held) (state g new.held)
       → AddsNothing (state g old.held) (state g new.held)
       → IsHandled g old new (http.show about) told
-  reported_by about what r told is tells failed shut clean text same tables left =
+  reported_by about what r told is tells failed shut clean text same tables shown left =
       go r told (subst (λ w. IsReportToldAs r w told) is tells) failed (λ f. (shut f).1)
       (λ s at c. subst (λ w. IfOk r (λ roster. (shown : Option (List ℕ)) → IsShown roster w shown ↔ IsShown s w shown)) is (text s at c)) tables
     where
@@ -219,6 +234,9 @@ module _ {S : Type 0} (g : Ghosts S) (old new : Kept S) where
         honest = λ s at honest. still_honest g new s (same s at) honest;
         others = record { crash = λ c trees may. inl (left.crash c trees may) };
       }
+
+      shows : (s : State) → HasTables g old s → StillHasTables g new s
+      shows s has = λ c is_open. let it = shown c is_open in subst (IsBookOf s) (sym it.1) (has (clean c)).1
 
       in_doubt : (s : State) → IsAt g new s → IsInDoubt g new s s
       in_doubt s at = record {
@@ -239,12 +257,12 @@ module _ {S : Type 0} (g : Ghosts S) (old new : Kept S) where
         );
       }
       go (Ok roster) (Err Store) it failed shut text tables = absurd it
-      go (Ok roster) (Err Memory) it failed shut text tables = record { kept = kept_so (Err Memory) failed shut; done = λ s at. inr ([], refl, (0, same s at)) }
+      go (Ok roster) (Err Memory) it failed shut text tables = record { kept = kept_so (Err Memory) failed shut; done = λ s at. inr ([], refl, (0, same s at, λ t. shows s t)) }
       go (Err fault.Store) told it failed shut text tables = subst (IsHandled g old new (http.show about)) (sym it) (record {
         kept = kept_so (Err Store) failed shut;
         done = λ s at. ([], refl, (0, in_doubt s (same s at)));
       })
       go (Err fault.Memory) told it failed shut text tables = subst (IsHandled g old new (http.show about)) (sym it) (record {
         kept = kept_so (Err Memory) failed shut;
-        done = λ s at. inr ([], refl, (0, same s at));
+        done = λ s at. inr ([], refl, (0, same s at, λ t. shows s t));
       })

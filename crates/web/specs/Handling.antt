@@ -17,7 +17,7 @@ use Rattle.report.specs.declared.fault.ReportFault.{ReportFault}
 use Rattle.report.specs.declared.fault.ReportFault.TheVariants as report
 use Rattle.writing.specs.Kept.{KeepOthers}
 use Rattle.writing.specs.Outcomes.{AddsOnly, Leaves}
-use Rattle.book.specs.Kept.{HasTables, IsAt, IsClean, IsInDoubt, Kept, result_of}
+use Rattle.book.specs.Kept.{HasTables, IsAt, IsClean, IsInDoubt, Kept, StillHasTables, result_of}
 use Rattle.book.specs.Shown.{IsShown}
 use Rattle.book.specs.declared.answer.Answer as book
 use Rattle.book.specs.declared.answer.Show.{Show}
@@ -82,7 +82,7 @@ module _ {S : Type 0} (g : Ghosts S) (old new : Kept S) where
   abbrev pub IsLeft : State → Commands → Result Answer HandlerFault → Type 0
   IsLeft s commands (Ok answer) = IsAt g new (Fold s commands) × (HasTables g old s → HasTables g new (Fold s commands))
   IsLeft s commands (Err Store) = (n : ℕ) × IsInDoubt g new (Fold s (take n commands)) (Fold s (take (n + 1) commands))
-  IsLeft s commands (Err Memory) = (n : ℕ) × IsAt g new (Fold s (take n commands))
+  IsLeft s commands (Err Memory) = (n : ℕ) × IsAt g new (Fold s (take n commands)) × (HasTables g old s → StillHasTables g new (Fold s (take n commands)))
 
   -- the request was answered as it is in this state, or where it wasn't, what it asks was begun, or nothing was asked
   abbrev pub IsDone : State → Asked → Result Answer HandlerFault → Type 0
@@ -112,7 +112,9 @@ module _ {S : Type 0} (g : Ghosts S) (old new : Kept S) where
       (IsClean g new → answer ≡ command_answer (folds.answer_of (step_of s asked.0 asked.1)))
       × (IsAt g new (folds.next s asked) × (HasTables g old s → HasTables g new (folds.next s asked)))
   IsAskedIn s asked (Err Store) = IsInDoubt g new s (folds.next s asked)
-  IsAskedIn s asked (Err Memory) = IsAt g new s ⊎ IsAt g new (folds.next s asked)
+  IsAskedIn s asked (Err Memory) =
+      (IsAt g new s × (HasTables g old s → StillHasTables g new s))
+      ⊎ (IsAt g new (folds.next s asked) × (HasTables g old s → StillHasTables g new (folds.next s asked)))
 
   pub record IsAsked (asked : folds.Asked) (result : Result Answer HandlerFault) : Type 0 where
     pub kept : IsKept result

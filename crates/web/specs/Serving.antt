@@ -5,7 +5,7 @@ use Rattle.httparse.specs.Grammar.{RequestHead}
 use Rattle.sqlite_trees.specs.declared.store.Store.{Ghosts}
 use Rattle.roster.specs.Folds.{Fold}
 use Rattle.roster.specs.State.{State}
-use Rattle.book.specs.Kept.{HasTables, IsAt, IsInDoubt, Kept}
+use Rattle.book.specs.Kept.{HasTables, IsAt, IsInDoubt, Kept, StillHasTables}
 use Rattle.http_message.specs.Heading.{heading}
 use Rattle.http_message.specs.Plan.{Planned, plan}
 use Rattle.http_message.specs.Reading.{HasHead, HasNoHead}
@@ -33,9 +33,9 @@ IsUnread None left = ⊤
 IsUnread (Some rest) left = left ≡ Some rest
 
 module _ {S : Type 0} (g : Ghosts S) (s : State) where
-  -- the commands were done up to some of them
-  abbrev pub IsBegun : Kept S → Commands → Type 0
-  IsBegun new commands = (n : ℕ) × IsAt g new (Fold s (take n commands))
+  -- the commands were done up to some of them; that is what is shown, as long as the connection is open
+  abbrev pub IsBegun : Kept S → Kept S → Commands → Type 0
+  IsBegun old new commands = (n : ℕ) × IsAt g new (Fold s (take n commands)) × (HasTables g old s → StillHasTables g new (Fold s (take n commands)))
 
   -- the store failed at one of them, which is done or not
   abbrev pub IsBroken : Kept S → Commands → Type 0
@@ -69,7 +69,7 @@ module _ {S : Type 0} (g : Ghosts S) (s : State) where
 
   -- the commands were begun, or none was asked
   abbrev pub IsBegunOf : List ℕ → Planned → List ℕ → Kept S → Kept S → Type 0
-  IsBegunOf input p rest old new = (new ≡ old) ⊎ ((asked : Asked) × (commands : Commands) × IsRequestFor input p rest asked commands × IsBegun new commands)
+  IsBegunOf input p rest old new = (new ≡ old) ⊎ ((asked : Asked) × (commands : Commands) × IsRequestFor input p rest asked commands × IsBegun old new commands)
 
   -- there was no memory to tell that there is no head, or for a head, of which one byte was read
   abbrev pub IsToldAtOnce : List ℕ → Held → Held → Held → Kept S → Kept S → Type 0
@@ -104,16 +104,16 @@ module _ {S : Type 0} (g : Ghosts S) (s : State) where
   -- ---- a channel that failed
 
   -- what a request asks was begun, or, after a fault of the store, is in doubt at one of its commands
-  abbrev pub IsLeftBy : Kept S → Commands → Type 0
-  IsLeftBy new commands = IsBegun new commands ⊎ (IsTrue new.failed × IsBroken new commands)
+  abbrev pub IsLeftBy : Kept S → Kept S → Commands → Type 0
+  IsLeftBy old new commands = IsBegun old new commands ⊎ (IsTrue new.failed × IsBroken new commands)
 
   -- where the reader failed, nothing was asked; where the writer did, at most what the input asks
   abbrev pub IsBrokenOff : Held → Kept S → Kept S → ChannelFault → Type 0
   IsBrokenOff had old new Reader = new ≡ old
   IsBrokenOff None old new Writer = ⊤
   IsBrokenOff (Some input) old new Writer =
-      (new ≡ old) ⊎ ((p : Planned) × (rest : List ℕ) × (asked : Asked) × (commands : Commands) × IsRequestFor input p rest asked commands × IsLeftBy new commands)
+      (new ≡ old) ⊎ ((p : Planned) × (rest : List ℕ) × (asked : Asked) × (commands : Commands) × IsRequestFor input p rest asked commands × IsLeftBy old new commands)
 
   -- whatever the input is: nothing was asked, or the commands of one request
   abbrev pub AsksOnce : Kept S → Kept S → Type 0
-  AsksOnce old new = (new ≡ old) ⊎ ((asked : Asked) × (commands : Commands) × Asks asked commands × IsLeftBy new commands)
+  AsksOnce old new = (new ≡ old) ⊎ ((asked : Asked) × (commands : Commands) × Asks asked commands × IsLeftBy old new commands)
