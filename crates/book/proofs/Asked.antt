@@ -1,47 +1,151 @@
 -- From what one command did to what is told of it.
-use Rattle.std.proofs.Common.{◌≡◌, ◌≤◌, arith, inl, refl, sym, ap, subst, ◌∙◌, false, Result, Ok, Err, OnOk, OnErr, IfOk}
+use Rattle.std.proofs.Common.{◌≡◌, ◌≤◌, arith, inl, inr, refl, sym, ap, subst, ◌∙◌, false, IsTrue, Result, Ok, Err, OnOk, OnErr, IfOk}
 use Rattle.sqlite_trees.specs.Tree.{Trees}
 use Rattle.sqlite.specs.State as conn
 use Rattle.sqlite.specs.State.{HasCleanDisk}
+use Rattle.sqlite.specs.Effect.{Database}
 use Rattle.kept.specs.Laws.{IsCommand}
 use Rattle.roster.specs.State.{State}
 use Rattle.roster.specs.Steps.{after}
 use Rattle.roster.specs.declared.change.Change.{Change}
 use Rattle.rows.specs.declared.fault.StoreFault.{StoreFault}
 use Rattle.rows.specs.declared.fault.StoreFault.TheVariants.{Store, Memory}
-use Rattle.writing.specs.Kept.{KeepOthers}
+use Rattle.lookup.specs.Reads.{ChangesNothing, IsOpen, Shows}
+use Rattle.writing.specs.Kept.{Holds, IsBookOf, KeepOthers}
 use Rattle.writing.specs.Next.{IsNext}
-use Rattle.writing.specs.Outcomes.{AddsOnly, HoldsNow, Leaves, LeavesSome, StaysOpen, StillShows, either, one}
+use Rattle.writing.specs.Outcomes.{AddsNothing, AddsOnly, HoldsNow, Leaves, LeavesSome, StaysOpen, StillShows, either, one}
 use Rattle.book.specs.Asking.{Did, Done}
-use Rattle.book.specs.Kept.{Keeps, StillHolds, either_kept, is_store_fault}
-use Rattle.book.proofs.States.{both_kept, kept_after, shows_still, shown_still, shown_before, keeps_as, shows_as, either_as, still_as, same_state}
+use Rattle.book.specs.Kept.{HasOne, IsKept, Keeps, StillHolds, either_kept, is_store_fault}
+use Rattle.book.proofs.States.{both_kept, kept_after, shows_still, shown_before, keeps_as, shows_as, either_as, still_as, same_state, one_of_either, still_keeps}
 
--- ---- A change
+-- ---- Where a state has another name
+
+module _ (now : conn.State) (s t : State) (same : HasCleanDisk now → t ≡ s) where
+  keeps_if : Keeps now s → Keeps now t
+  keeps_if keeps = record {
+    kept = λ clean. subst IsKept (sym (same clean)) (keeps.kept clean);
+    leaves = record { crash = λ clean trees may. let it = keeps.leaves.crash clean trees may in (it.0, it.1 ∙ sym (same clean), it.2) };
+    some = keeps.some;
+  }
+
+  holds_if : StillHolds now s → StillHolds now t
+  holds_if shown clean opened = subst (λ (x : State). IsBookOf x now.now) (sym (same clean)) (shown clean opened)
+
+  now_if : HoldsNow now s → HoldsNow now t
+  now_if shown clean = let it = shown clean in (it.0, subst (λ (x : State). IsBookOf x now.now) (sym (same clean)) it.1)
+
+  leaves_if : (was : State) → Leaves now (either_kept was s) → Leaves now (either_kept was t)
+  leaves_if was leaves = record {
+    crash = λ clean trees may. subst (λ (x : State). (r : State) × either_kept was x r × Holds trees r) (sym (same clean)) (leaves.crash clean trees may);
+  }
+
+-- ---- A read
+
+-- a state that a crash would leave, and that is shown while the connection is open, is shown to who reads by key
+pub shows_it : (now : conn.State) (s : State) → Keeps now s → StillHolds now s → HasCleanDisk now → Shows now s
+shows_it now s keeps shown clean = record { sound = (keeps.kept clean).sound; instants = (keeps.kept clean).instants; book = shown }
+
+-- what was shown is shown while it is
+pub shown_on : (old new : conn.State) (s : State) → (HasCleanDisk new → HasCleanDisk old) → StillShows old new → StillHolds old s → StillHolds new s
+shown_on old new s honest still shown clean opened =
+    let it = still clean opened in
+    subst (λ (db : Database). IsBookOf s db) (sym it.1) (shown (honest clean) it.0)
 
 -- what was not touched leaves what it left before
 pub adds_none : (now : conn.State) (P : Trees → Type 0) → AddsOnly now now P
 adds_none now P = record { crash = λ clean trees may. inl may }
 
--- nothing was done
-pub did_nothing : {A : Type 0} (now : conn.State) (was wanted : State) → Keeps now was → Did {A = A} now now was was wanted (Err Memory)
-did_nothing now was wanted keeps = record { clean = λ clean. clean; some = keeps.some; others = adds_none now _; counts = omega arith; still_open = λ _ clean is. inl is; done = (refl, keeps, shows_still now was) }
+pub adds_nothing_more : (old new : conn.State) (P : Trees → Type 0) → AddsNothing old new → AddsOnly old new P
+adds_nothing_more old new P left = record { crash = λ clean trees may. inl (left.crash clean trees may) }
+
+-- nothing could be read
+pub did_not_read : {A : Type 0} (old new : conn.State) (was wanted : State) (fault : StoreFault) → ChangesNothing old new → LeavesSome new →
+    Keeps old was → StillHolds old was → Did {A = A} old new was wanted (Err fault)
+did_not_read old new was wanted Memory read some keeps shown = record {
+  clean = read.left.honest;
+  some = some;
+  others = adds_nothing_more old new _ read.left;
+  counts = read.counts;
+  still_open = λ _. read.still_open;
+  done = (still_keeps old new was read.left some keeps, shown_on old new was read.left.honest read.shown shown);
+}
+did_not_read old new was wanted Store read some keeps shown = record {
+  clean = read.left.honest;
+  some = some;
+  others = adds_nothing_more old new _ read.left;
+  counts = read.counts;
+  still_open = λ no. absurd (cc);
+  done = (one_of_either new was wanted (still_keeps old new was read.left some keeps), shown_on old new was read.left.honest read.shown shown);
+}
+
+-- what was done after a read is done from before it
+module _ (old mid new : conn.State) (was wanted : State) (read : ChangesNothing old mid) (opened : IsOpen mid) where
+  pub shows_same : HasCleanDisk mid → IsTrue old.is_open × (mid.now ≡ old.now)
+  shows_same clean = read.shown clean (opened clean)
+
+  held_before : HoldsNow old was → HoldsNow mid was
+  held_before shown clean = (opened clean, subst (λ (db : Database). IsBookOf was db) (sym (shows_same clean).1) (shown (read.left.honest clean)).1)
+
+  after_read : {A : Type 0} (r : Result A StoreFault) → Done mid new was wanted r → Done old new was wanted r
+  after_read (Ok a) done = (done.0, done.1, λ shown. done.2 (held_before shown))
+  after_read (Err Memory) done = done
+  after_read (Err Store) done = done
+
+  others_after : (HasCleanDisk new → HasCleanDisk mid) → AddsOnly mid new (KeepOthers mid.now) → AddsOnly old new (KeepOthers old.now)
+  others_after clean adds = record {
+    crash = λ c trees may. elim (adds.crash c trees may) [
+      | inl was ↦ inl (read.left.crash (clean c) trees was)
+      | inr keeps ↦ inr (subst (λ (db : Database). KeepOthers db trees) (shows_same (clean c)).1 keeps)
+    ];
+  }
+
+  still_after : (HasCleanDisk new → HasCleanDisk mid) → StaysOpen mid new → StaysOpen old new
+  still_after clean stays c was = elim (stays c (opened (clean c))) [
+    | inl is ↦ inl is
+    | inr more ↦ inr (omega (arith, more, read.counts))
+  ]
+
+  pub did_after : {A : Type 0} (result : Result A StoreFault) → Did mid new was wanted result → Did old new was wanted result
+  did_after result did = record {
+    clean = λ clean. read.left.honest (did.clean clean);
+    some = did.some;
+    others = others_after did.clean did.others;
+    counts = omega (arith, read.counts, did.counts);
+    still_open = λ is. still_after did.clean (did.still_open is);
+    done = after_read result did.done;
+  }
+
+-- ---- An answer
+
+-- there was no memory for it
+pub did_nothing : {A : Type 0} (now : conn.State) (was wanted : State) → Keeps now was → StillHolds now was → Did {A = A} now now was wanted (Err Memory)
+did_nothing now was wanted keeps shown = record {
+  clean = λ clean. clean;
+  some = keeps.some;
+  others = adds_none now _;
+  counts = omega arith;
+  still_open = λ _ clean is. inl is;
+  done = (keeps, shown);
+}
 
 -- it was answered with the same state
-pub did_answer : {A : Type 0} (now : conn.State) (was wanted : State) (a : A) → Keeps now was → wanted ≡ was → Did now now was was wanted (Ok a)
-did_answer now was wanted a keeps same = record { clean = λ clean. clean; some = keeps.some; others = adds_none now _; counts = omega arith; still_open = λ is. absurd (cc); done = (sym same, keeps, λ shown. shown) }
+pub did_answer : {A : Type 0} (now : conn.State) (was wanted : State) (a : A) → Keeps now was → StillHolds now was → (HasCleanDisk now → wanted ≡ was) → Did now now was wanted (Ok a)
+did_answer now was wanted a keeps shown same = record {
+  clean = λ clean. clean;
+  some = keeps.some;
+  others = adds_none now _;
+  counts = omega arith;
+  still_open = λ no. absurd (cc);
+  done = (keeps_if now was wanted same keeps, holds_if now was wanted same shown, now_if now was wanted same);
+}
 
-module _ (old new : conn.State) (was : State) (change : Change) (keeps : Keeps old was) (next : HasCleanDisk old → IsNext was change) (clean : HasCleanDisk new → HasCleanDisk old) (some : LeavesSome new)
+module _ (old new : conn.State) (was : State) (change : Change) (keeps : Keeps old was) (held : StillHolds old was) (next : HasCleanDisk old → IsNext was change) (clean : HasCleanDisk new → HasCleanDisk old) (some : LeavesSome new)
     (others : AddsOnly old new (KeepOthers old.now)) (counts : old.faults ≤ new.faults) where
   -- it was kept
-  pub did_keep : {A : Type 0} (roster : State) (a : A) → roster ≡ after was change → IsCommand change.command →
+  pub did_keep : {A : Type 0} (a : A) → IsCommand change.command →
       (IsNext was change → Leaves old (one was) → Leaves new (one (after was change))) →
-      (IsNext was change → Leaves old (one was) → HoldsNow new (after was change)) → Did old new was roster (after was change) (Ok a)
-  did_keep roster a is command ok made =
-      let kept : Keeps new (after was change) = record {
-        kept = λ c. let n = next (clean c) in kept_after was n.key n.order change n.reply command (keeps.kept (clean c)) n.accepted;
-        leaves = record { crash = λ c trees may. (ok (next (clean c)) keeps.leaves).crash c trees may };
-        some = some;
-      } in
+      (IsNext was change → Leaves old (one was) → HoldsNow new (after was change)) → Did old new was (after was change) (Ok a)
+  did_keep a command ok made =
       let shown : HoldsNow new (after was change) = λ c. made (next (clean c)) keeps.leaves c in
       record {
         clean = clean;
@@ -49,7 +153,15 @@ module _ (old new : conn.State) (was : State) (change : Change) (keeps : Keeps o
         others = others;
         counts = counts;
         still_open = λ no. absurd (cc);
-        done = (is, subst (λ (x : State). Keeps new x) (sym is) kept, λ _. subst (λ (x : State). HoldsNow new x) (sym is) shown);
+        done = (
+          record {
+            kept = λ c. let n = next (clean c) in kept_after was n.key n.order change n.reply command (keeps.kept (clean c)) n.accepted;
+            leaves = record { crash = λ c trees may. (ok (next (clean c)) keeps.leaves).crash c trees may };
+            some = some;
+          },
+          shows_still new (after was change) shown,
+          λ _. shown,
+        );
       }
 
   -- it was not, or nobody knows
@@ -57,7 +169,7 @@ module _ (old new : conn.State) (was : State) (change : Change) (keeps : Keeps o
       (Leaves old (one was) → ◌≡◌ {A = Result B StoreFault} (Err fault) (Err Memory) → Leaves new (one was)) →
       (IsNext was change → Leaves old (one was) → ◌≡◌ {A = Result B StoreFault} (Err fault) (Err Store) → Leaves new (either was (after was change))) →
       (◌≡◌ {A = Result B StoreFault} (Err fault) (Err Store) → IsCommand change.command) → StillShows old new →
-      (◌≡◌ {A = Result B StoreFault} (Err fault) (Err Memory) → StaysOpen old new) → Did {A = A} old new was was (after was change) (Err fault)
+      (◌≡◌ {A = Result B StoreFault} (Err fault) (Err Memory) → StaysOpen old new) → Did {A = A} old new was (after was change) (Err fault)
   did_fail Memory memory store command shown still_open = record {
     clean = clean;
     some = some;
@@ -65,9 +177,8 @@ module _ (old new : conn.State) (was : State) (change : Change) (keeps : Keeps o
     counts = counts;
     still_open = λ _. still_open refl;
     done = (
-      refl,
       record { kept = λ c. keeps.kept (clean c); leaves = memory keeps.leaves refl; some = some },
-      shown_still old new was clean shown,
+      shown_on old new was clean shown held,
     );
   }
   did_fail Store memory store command shown still_open = record {
@@ -85,57 +196,68 @@ module _ (old new : conn.State) (was : State) (change : Change) (keeps : Keeps o
             let second = kept_after was n.key n.order change n.reply (command refl) first n.accepted in
             (it.0, (it.1, both_kept was (after was change) it.0 it.1 first second), it.2);
       },
-      shown_still old new was clean shown,
+      shown_on old new was clean shown held,
     );
   }
 
 -- the same, where the state that was wanted has another name
-pub did_as : {A : Type 0} (old new : conn.State) (was roster wanted other : State) (result : Result A StoreFault) → wanted ≡ other → Did old new was roster wanted result → Did old new was roster other result
-did_as old new was roster wanted other result same did = subst (λ (x : State). Did old new was roster x result) same did
+done_as : {A : Type 0} (old new : conn.State) (was wanted other : State) → (HasCleanDisk new → other ≡ wanted) → (r : Result A StoreFault) →
+    Done old new was wanted r → Done old new was other r
+done_as old new was wanted other same (Ok a) done =
+    (keeps_if new wanted other same done.0, holds_if new wanted other same done.1, λ shown. now_if new wanted other same (done.2 shown))
+done_as old new was wanted other same (Err Memory) done = done
+done_as old new was wanted other same (Err Store) done = (leaves_if new wanted other same was done.0, done.1)
 
--- and the answer is another
-pub did_with : {A B : Type 0} (old new : conn.State) (was roster wanted : State) (a : A) (b : B) → Did old new was roster wanted (Ok a) → Did old new was roster wanted (Ok b)
-did_with old new was roster wanted a b did = record { clean = did.clean; some = did.some; others = did.others; counts = did.counts; still_open = λ no. absurd (cc); done = did.done }
-
-pub did_with_fault : {A B : Type 0} (old new : conn.State) (was other wanted : State) (fault : StoreFault) → Did {A = A} old new was other wanted (Err fault) → Did {A = B} old new was other wanted (Err fault)
-did_with_fault old new was other wanted Memory did = record { clean = did.clean; some = did.some; others = did.others; counts = did.counts; still_open = λ _. did.still_open refl; done = did.done }
-did_with_fault old new was other wanted Store did = record { clean = did.clean; some = did.some; others = did.others; counts = did.counts; still_open = λ no. absurd (cc); done = did.done }
+pub did_as : {A : Type 0} (old new : conn.State) (was wanted other : State) (result : Result A StoreFault) → (HasCleanDisk old → other ≡ wanted) → Did old new was wanted result → Did old new was other result
+did_as old new was wanted other result same did = record {
+  clean = did.clean;
+  some = did.some;
+  others = did.others;
+  counts = did.counts;
+  still_open = did.still_open;
+  done = done_as old new was wanted other (λ clean. same (did.clean clean)) result did.done;
+}
 
 -- ---- What is told
 
--- a book that hasn't failed is at its roster
-roster_kept : {A : Type 0} (old new : conn.State) (was roster wanted : State) (result : Result A StoreFault) → Done old new was roster wanted result → is_store_fault result ≡ false → Keeps new roster
-roster_kept old new was roster wanted (Ok a) done is = done.1
-roster_kept old new was roster wanted (Err Memory) done is = done.1
-roster_kept old new was roster wanted (Err Store) done is = absurd (cc)
+-- a book that hasn't failed has one state
+one_kept : {A : Type 0} (old new : conn.State) (was wanted : State) (result : Result A StoreFault) → Done old new was wanted result → is_store_fault result ≡ false → HasOne new
+one_kept old new was wanted (Ok a) done is = record { it = wanted; keeps = done.0; shown = done.1 }
+one_kept old new was wanted (Err Memory) done is = record { it = was; keeps = done.0; shown = done.1 }
+one_kept old new was wanted (Err Store) done is = absurd (cc)
 
-pub closes : {A : Type 0} (old new : conn.State) (was roster wanted : State) (result : Result A StoreFault) → Did old new was roster wanted result → LeavesSome new × (is_store_fault result ≡ false → Keeps new roster)
-closes old new was roster wanted result did = (did.some, roster_kept old new was roster wanted result did.done)
+pub closes : {A : Type 0} (old new : conn.State) (was wanted : State) (result : Result A StoreFault) → Did old new was wanted result → LeavesSome new × (is_store_fault result ≡ false → HasOne new)
+closes old new was wanted result did = (did.some, one_kept old new was wanted result did.done)
 
 module _ (old new : conn.State) (was : State) (of : State → State) (held : Keeps old was) (s : State) (keeps : Keeps old s) (clean : HasCleanDisk new → HasCleanDisk old) where
-  pub told_ok : {A : Type 0} (roster : State) (result : Result A StoreFault) → Done old new was roster (of was) result → OnOk result (Keeps new (of s))
-  told_ok roster (Ok a) done = keeps_as old new s was held keeps clean of roster done.1 done.0
-  told_ok roster (Err fault) done = tt
+  pub told_ok : {A : Type 0} (result : Result A StoreFault) → Done old new was (of was) result → OnOk result (Keeps new (of s))
+  told_ok (Ok a) done = keeps_as old new s was held keeps clean of (of was) done.0 refl
+  told_ok (Err fault) done = tt
 
-  pub told_tables : {A : Type 0} (roster : State) (result : Result A StoreFault) → Done old new was roster (of was) result → HoldsNow old s → OnOk result (HoldsNow new (of s))
-  told_tables roster (Ok a) done shown = shows_as old new s was held keeps clean of roster (done.2 (shown_before old s was keeps held shown)) done.0
-  told_tables roster (Err fault) done shown = tt
+  pub told_tables : {A : Type 0} (result : Result A StoreFault) → Done old new was (of was) result → HoldsNow old s → OnOk result (HoldsNow new (of s))
+  told_tables (Ok a) done shown = shows_as old new s was held keeps clean of (of was) (done.2 (shown_before old s was keeps held shown)) refl
+  told_tables (Err fault) done shown = tt
 
-  pub told_memory : {A : Type 0} (roster : State) (result : Result A StoreFault) → Done old new was roster (of was) result → result ≡ Err Memory → Keeps new s
-  told_memory roster (Ok a) done is = absurd (cc)
-  told_memory roster (Err Memory) done is = keeps_as old new s was held keeps clean (λ x. x) roster done.1 done.0
-  told_memory roster (Err Store) done is = absurd (cc)
+  pub told_memory : {A : Type 0} (result : Result A StoreFault) → Done old new was (of was) result → result ≡ Err Memory → Keeps new s
+  told_memory (Ok a) done is = absurd (cc)
+  told_memory (Err Memory) done is = keeps_as old new s was held keeps clean (λ x. x) was done.0 refl
+  told_memory (Err Store) done is = absurd (cc)
 
-  pub told_store : {A : Type 0} (roster : State) (result : Result A StoreFault) → Done old new was roster (of was) result → result ≡ Err Store → Leaves new (either_kept s (of s))
-  told_store roster (Ok a) done is = absurd (cc)
-  told_store roster (Err Memory) done is = absurd (cc)
-  told_store roster (Err Store) done is = either_as old new s was held keeps clean of done.0
+  pub told_store : {A : Type 0} (result : Result A StoreFault) → Done old new was (of was) result → result ≡ Err Store → Leaves new (either_kept s (of s))
+  told_store (Ok a) done is = absurd (cc)
+  told_store (Err Memory) done is = absurd (cc)
+  told_store (Err Store) done is = either_as old new s was held keeps clean of done.0
 
-  pub told_shown : {A : Type 0} (roster : State) (result : Result A StoreFault) → Done old new was roster (of was) result → HoldsNow old s → OnErr result (StillHolds new s)
-  told_shown roster (Ok a) done shown = tt
-  told_shown roster (Err Memory) done shown = still_as old new s was held keeps clean (done.2 (shown_before old s was keeps held shown))
-  told_shown roster (Err Store) done shown = still_as old new s was held keeps clean (done.1 (shown_before old s was keeps held shown))
+  pub told_shown : {A : Type 0} (result : Result A StoreFault) → Done old new was (of was) result → OnErr result (StillHolds new s)
+  told_shown (Ok a) done = tt
+  told_shown (Err Memory) done = still_as old new s was held keeps clean done.1
+  told_shown (Err Store) done = still_as old new s was held keeps clean done.1
 
   pub told_reply : {A B : Type 0} (result : Result A StoreFault) (answer : A → B) (reply : State → B) → IfOk result (λ a. answer a ≡ reply was) → HasCleanDisk new → IfOk result (λ a. answer a ≡ reply s)
   told_reply (Ok a) answer reply is c = is ∙ ap reply (same_state old was s held keeps (clean c))
   told_reply (Err fault) answer reply is c = tt
+
+-- what is answered is answered by whatever is equal
+pub reply_as : {A B E : Type 0} (result : Result A E) (answer : A → B) (a b : B) → IfOk result (λ x. answer x ≡ a) → a ≡ b → IfOk result (λ x. answer x ≡ b)
+reply_as (Ok x) answer a b is same = is ∙ same
+reply_as (Err fault) answer a b is same = tt

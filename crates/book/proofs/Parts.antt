@@ -9,6 +9,7 @@ use Rattle.command.specs.declared.order.Order.TheVariants.{AddPairing}
 use Rattle.roster.specs.Folds.{Asked, import, next}
 use Rattle.rows.specs.declared.fault.StoreFault.TheVariants.{Store, Memory}
 use Rattle.writing.specs.Outcomes.{LeavesSome}
+use Rattle.lookup.proofs.Changes.{nothing_changes}
 use Rattle.book.specs.Answered.{IsAnswered}
 use Rattle.book.specs.Importing.{Importing, part_of}
 use Rattle.book.specs.Kept.{Kept}
@@ -81,8 +82,8 @@ module _ {S : Type 0} (g : Ghosts S) (book : Kept S) (asked : Asked) (some : Lea
     shown = λ s at has. shows_still (state g book.held) s has;
     honest = λ s at honest. one_honest (state g book.held) s at.leaves honest;
     within_limits = λ s at clean is passes. tt;
-    repeats = λ s reply at clean held. (refl, tt);
-    turned_down = λ s refusal at clean refused. (refl, tt);
+    repeats = λ s reply at clean held. (nothing_changes (state g book.held), tt);
+    turned_down = λ s refusal at clean refused. (nothing_changes (state g book.held), tt);
     holds = λ s reply at. tt;
     held = λ s at. still_held (state g book.held) s at;
     refused = tt;
@@ -108,8 +109,8 @@ module _ {S : Type 0} (g : Ghosts S) (book : Kept S) (asked : Asked) (some : Lea
     shown = λ s at has. shows_still (state g book.held) s has;
     honest = λ s at honest. one_honest (state g book.held) s at.leaves honest;
     within_limits = λ s at clean is passes. tt;
-    repeats = λ s reply at clean held. (refl, tt);
-    turned_down = λ s refusal at clean refused. (refl, tt);
+    repeats = λ s reply at clean held. (nothing_changes (state g book.held), tt);
+    turned_down = λ s refusal at clean refused. (nothing_changes (state g book.held), tt);
     holds = λ s reply at. tt;
     held = λ s at. still_held (state g book.held) s at;
     refused = tt;

@@ -101,20 +101,12 @@ loaded now s found leaves some = record {
 begun_instants : (zone : List ℕ) → HasInstants (empty zone)
 begun_instants zone name r here = let none : None ≡ Some r = sym (fin.get-empty {X = Request} name_cmp name) ∙ here in cc
 
-begun_empty : (now : conn.State) (zone : List ℕ) → Leaves now (one (empty zone)) → LeavesSome now → Keeps now (empty zone)
+pub begun_empty : (now : conn.State) (zone : List ℕ) → Leaves now (one (empty zone)) → LeavesSome now → Keeps now (empty zone)
 begun_empty now zone leaves some = record {
   kept = λ _. record { sound = (starts_sound zone).0; instants = begun_instants zone };
   leaves = leaves;
   some = some;
 }
-
-pub begun : (now : conn.State) (zone : List ℕ) (roster : State) → roster ≡ empty zone → Leaves now (one (empty roster.zone)) → LeavesSome now → Keeps now roster
-begun now zone roster is leaves some =
-    let same : roster.zone ≡ zone = ap (λ (s : State). s.zone) is in
-    subst (λ (s : State). Keeps now s) (sym is) (begun_empty now zone (subst (λ (z : List ℕ). Leaves now (one (empty z))) same leaves) some)
-
-pub begun_at : (now : conn.State) (zone : List ℕ) (roster : State) → roster ≡ empty zone → Leaves now (one (empty roster.zone)) → LeavesSome now → Keeps now (empty zone)
-begun_at now zone roster is leaves some = subst (λ (s : State). Keeps now s) is (begun now zone roster is leaves some)
 
 pub one_of_either : (now : conn.State) (s t : State) → Keeps now s → Leaves now (either_kept s t)
 one_of_either now s t keeps = record {
@@ -128,11 +120,6 @@ both_kept s t r (inr is) first second = subst IsKept (sym is) second
 -- what is shown of a state that is held stays so while nothing changes
 pub shows_still : (now : conn.State) (s : State) → HoldsNow now s → StillHolds now s
 shows_still now s shown clean opened = (shown clean).1
-
-pub shown_still : (old new : conn.State) (s : State) → (HasCleanDisk new → HasCleanDisk old) → StillShows old new → HoldsNow old s → StillHolds new s
-shown_still old new s honest still shown clean opened =
-    let it = still clean opened in
-    subst (λ (db : Database). IsBookOf s db) (sym it.1) (shown (honest clean)).1
 
 -- ---- A command
 

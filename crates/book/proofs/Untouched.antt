@@ -1,22 +1,23 @@
--- A book that a call leaves as it was.
-use Rattle.std.proofs.Common.{◌≡◌, ◌⊎◌, inl, inr, sym, ap₂, ◌∙◌, Bool, false, Result, Ok, Err, IfOk, OnOk}
-use Rattle.sqlite.specs.Held.{Held}
-use Rattle.rows.specs.declared.fault.StoreFault.{StoreFault}
-use Rattle.book.specs.Headline.{IsRefusal}
-use Rattle.book.specs.Kept.{Kept, is_store_fault}
-use Rattle.book.specs.declared.answer.Answer.{Answer}
+-- A connection that a call leaves as it was.
+use Rattle.std.proofs.Common.{◌≡◌, ◌⊎◌, inl, inr, sym, subst, Result, Ok, Err, IfOk, OnOk}
+use Rattle.sqlite_trees.specs.declared.store.Store.{Ghosts}
+use Rattle.sqlite.specs.Held.{Held, state}
+use Rattle.lookup.specs.Reads.{ChangesNothing, IsOpen}
+use Rattle.book.specs.Headline.{Untouched}
 
-module _ {S : Type 0} (old new : Kept S) where
-  pub same_book : new.held ≡ old.held → new.failed ≡ old.failed → new ≡ old
-  same_book held failed = ap₂ (λ (h : Held S) (f : Bool). let it : Kept S = record { held = h; failed = f } in it) held failed
+module _ {S : Type 0} (g : Ghosts S) (old mid new : Held S) (read : ChangesNothing (state g old) (state g mid)) where
+  -- it is as a read left it
+  pub read_only : new ≡ mid → ChangesNothing (state g old) (state g new)
+  read_only same = subst (λ (h : Held S). ChangesNothing (state g old) (state g h)) (sym same) read
 
-  pub answered_same : (result : Result Answer StoreFault) → new.failed ≡ is_store_fault result → old.failed ≡ false →
-      IfOk result (λ a. IsRefusal a → new.held ≡ old.held) → IfOk result (λ a. IsRefusal a → new ≡ old)
-  answered_same (Ok a) told unfailed same = λ refusal. same_book (same refusal) (told ∙ sym unfailed)
-  answered_same (Err fault) told unfailed same = tt
+  pub untouched : IsOpen (state g mid) → new ≡ mid → Untouched (state g old) (state g new)
+  untouched opened same = record { changes = read_only same; is_open = subst (λ (h : Held S). IsOpen (state g h)) (sym same) opened }
 
-  pub same_or : (P : Type 0) (result : Result Answer StoreFault) → new.failed ≡ is_store_fault result → old.failed ≡ false →
-      OnOk result ((new.held ≡ old.held) ⊎ P) → OnOk result ((new ≡ old) ⊎ P)
-  same_or P (Ok a) told unfailed (inl same) = inl (same_book same (told ∙ sym unfailed))
-  same_or P (Ok a) told unfailed (inr other) = inr other
-  same_or P (Err fault) told unfailed either = tt
+-- where each of some answers leaves it so
+pub if_ok : {A E : Type 0} {P Q : A → Type 0} (result : Result A E) → IfOk result P → ((a : A) → P a → Q a) → IfOk result Q
+if_ok (Ok a) p f = f a p
+if_ok (Err e) p f = tt
+
+pub on_ok : {A E : Type 0} {P Q : Type 0} (result : Result A E) → OnOk result P → (P → Q) → OnOk result Q
+on_ok (Ok a) p f = f p
+on_ok (Err e) p f = tt

@@ -12,9 +12,10 @@ use Rattle.roster.specs.Steps.{step_of}
 use Rattle.roster.specs.declared.change.Verdict.TheVariants.{Refuse}
 use Rattle.rows.specs.declared.fault.StoreFault.{StoreFault}
 use Rattle.rows.specs.declared.fault.StoreFault.TheVariants.{Store, Memory}
+use Rattle.lookup.specs.Reads.{ChangesNothing}
 use Rattle.writing.specs.Kept.{KeepOthers}
 use Rattle.writing.specs.Outcomes.{AddsOnly, Leaves, LeavesSome, StaysOpen}
-use Rattle.book.specs.Headline.{BreaksNoLimit, IsAcceptance, IsHeld, IsRefusal, KeepsHeld, SparesOthers, StaysHeld}
+use Rattle.book.specs.Headline.{BreaksNoLimit, IsAcceptance, IsHeld, IsRefusal, KeepsHeld, SparesOthers, StaysHeld, Untouched}
 use Rattle.book.specs.Kept.{HasTables, IsAt, IsClean, IsInDoubt, Kept, StillHasTables, is_store_fault, result_of}
 use Rattle.book.specs.Sessions.{IsAfter, count_of, fault_of}
 use Rattle.book.specs.declared.answer.Answer.{Answer}
@@ -35,12 +36,12 @@ pub record IsAnswered {S : Type 0} (g : Ghosts S) (old new : Kept S) (asked : As
   pub shown : (s : State) → IsAt g old s → HasTables g old s → OnErr result (StillHasTables g new s)
   pub honest : (s : State) → IsAt g old s → Honest s → Leaves (state g new.held) Honest
   pub within_limits : (s : State) → IsAt g old s → IsClean g new → is_assignment asked.1 ≡ true → PassesChecks s asked.0 asked.1 → IfOk result (λ a. IsAcceptance a ↔ BreaksNoLimit s asked.1)
-  pub repeats : (s : State) (reply : Reply) → IsAt g old s → IsClean g old → IsHeld s asked reply → (new ≡ old) × IfOk result (λ a. a ≡ Accepted reply)
-  pub turned_down : (s : State) (refusal : Refusal) → IsAt g old s → IsClean g old → step_of s asked.0 asked.1 ≡ Refuse refusal → (new ≡ old) × IfOk result (λ a. a ≡ Refused refusal)
+  pub repeats : (s : State) (reply : Reply) → IsAt g old s → IsClean g new → IsHeld s asked reply → ChangesNothing (state g old.held) (state g new.held) × IfOk result (λ a. a ≡ Accepted reply)
+  pub turned_down : (s : State) (refusal : Refusal) → IsAt g old s → IsClean g new → step_of s asked.0 asked.1 ≡ Refuse refusal → ChangesNothing (state g old.held) (state g new.held) × IfOk result (λ a. a ≡ Refused refusal)
   pub holds : (s : State) (reply : Reply) → IsAt g old s → IfOk result (λ a. a ≡ Accepted reply → StaysHeld (state g new.held) asked reply)
   pub held : (s : State) → IsAt g old s → KeepsHeld (state g new.held) s
-  pub refused : IfOk result (λ a. IsRefusal a → new ≡ old)
-  pub alone : OnOk result ((new ≡ old) ⊎ SparesOthers (state g old.held) (state g new.held))
+  pub refused : IfOk result (λ a. IsRefusal a → Untouched (state g old.held) (state g new.held))
+  pub alone : OnOk result (Untouched (state g old.held) (state g new.held) ⊎ SparesOthers (state g old.held) (state g new.held))
   pub others : AddsOnly (state g old.held) (state g new.held) (KeepOthers (state g old.held).now)
   pub counts : (state g old.held).faults ≤ (state g new.held).faults
   pub still_open : result ≡ Err Memory → StaysOpen (state g old.held) (state g new.held)

@@ -9,16 +9,16 @@ use Rattle.writing.specs.Kept.{KeepOthers}
 use Rattle.writing.specs.Outcomes.{AddsOnly, Leaves, LeavesSome, HoldsNow, StaysOpen}
 use Rattle.book.specs.Kept.{Keeps, StillHolds, either_kept}
 
--- the roster became this state and so did the tables, neither changed, or the tables are of one of the two
-abbrev pub Done : {A : Type 0} → conn.State → conn.State → State → State → State → Result A StoreFault → Type 0
-Done old new was roster wanted (Ok a) = (roster ≡ wanted) × Keeps new roster × (HoldsNow old was → HoldsNow new roster)
-Done old new was roster wanted (Err Memory) = (roster ≡ was) × Keeps new roster × (HoldsNow old was → StillHolds new was)
-Done old new was roster wanted (Err Store) = Leaves new (either_kept was wanted) × (HoldsNow old was → StillHolds new was)
+-- the tables became those of the state that was wanted, they stayed, or they are of one of the two
+abbrev pub Done : {A : Type 0} → conn.State → conn.State → State → State → Result A StoreFault → Type 0
+Done old new was wanted (Ok a) = Keeps new wanted × StillHolds new wanted × (HoldsNow old was → HoldsNow new wanted)
+Done old new was wanted (Err Memory) = Keeps new was × StillHolds new was
+Done old new was wanted (Err Store) = Leaves new (either_kept was wanted) × StillHolds new was
 
-pub record Did {A : Type 0} (old new : conn.State) (was roster wanted : State) (result : Result A StoreFault) : Type 0 where
+pub record Did {A : Type 0} (old new : conn.State) (was wanted : State) (result : Result A StoreFault) : Type 0 where
   pub clean : HasCleanDisk new → HasCleanDisk old
   pub some : LeavesSome new
   pub others : AddsOnly old new (KeepOthers old.now)
   pub counts : old.faults ≤ new.faults
   pub still_open : result ≡ Err Memory → StaysOpen old new
-  pub done : Done old new was roster wanted result
+  pub done : Done old new was wanted result

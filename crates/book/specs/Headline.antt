@@ -12,6 +12,7 @@ use Rattle.command.specs.declared.refusal.Refusal.{Refusal}
 use Rattle.roster.specs.Folds.{Asked}
 use Rattle.roster.specs.Laws.{Gain, IsBroken, gains}
 use Rattle.roster.specs.State.{State}
+use Rattle.lookup.specs.Reads.{ChangesNothing, IsOpen}
 use Rattle.writing.specs.Kept.{KeepOthers}
 use Rattle.writing.specs.Outcomes.{Leaves, LeavesOnly, ShowsOnly}
 use Rattle.book.specs.declared.answer.Answer.{Answer}
@@ -47,11 +48,17 @@ StaysHeld now asked reply = Leaves now (λ s. IsHeld s asked reply)
 abbrev pub KeepsHeld : conn.State → State → Type 0
 KeepsHeld now s = (asked : Asked) (reply : Reply) → IsHeld s asked reply → StaysHeld now asked reply
 
--- ---- Other tables
+-- ---- What is left alone
+
+-- nothing that it shows has changed, and a crash leaves nothing that it could not leave before; it was open, and still is
+pub record Untouched (old now : conn.State) : Type 0 where
+  pub changes : ChangesNothing old now
+  pub is_open : IsOpen now
 
 -- a crash leaves the schema that was there, and each table that isn't the book's with the rows that it had; and that is what is shown,
--- on a connection that is open
+-- on a connection that was open, and still is
 pub record SparesOthers (old now : conn.State) : Type 0 where
+  pub was_open : HasCleanDisk now → IsTrue old.is_open
   pub leaves : LeavesOnly now (KeepOthers old.now)
   pub shows : ShowsOnly now (KeepOthers old.now)
   pub schema : HasCleanDisk now → now.now.schema ≡ old.now.schema

@@ -55,6 +55,12 @@ pub record Keeps (now : conn.State) (s : State) : Type 0 where
   pub leaves : Leaves now (one s)
   pub some : LeavesSome now
 
+-- a crash leaves some state, which tables may mean, and nothing else; and its tables mean it, as long as it is open
+pub record HasOne (now : conn.State) : Type 0 where
+  pub it : State
+  pub keeps : Keeps now it
+  pub shown : StillHolds now it
+
 module _ {S : Type 0} (g : Ghosts S) (book : Kept S) where
   -- a crash leaves this state
   abbrev pub IsAt : State → Type 0

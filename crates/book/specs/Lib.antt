@@ -5,4 +5,3 @@ pub mod Answered
 pub mod Found
 pub mod Importing
 pub mod Sessions
-pub mod Shown

@@ -1,5 +1,4 @@
 use command::{Refusal, Reply};
-use duty::{CrewId, PairingId};
 use store::StoreFault;
 
 /// What a command is answered.
@@ -18,15 +17,4 @@ pub struct Run {
     pub answers: Vec<Answer>,
     /// The fault that ended them, if there was one.
     pub fault: Option<StoreFault>,
-}
-
-/// What a book shows.
-#[derive(PartialEq, Eq, Drop)]
-pub enum Show {
-    /// A member's roster.
-    Crew(CrewId),
-    /// A pairing.
-    Pairing(PairingId),
-    /// The exceedances.
-    Exceedances,
 }

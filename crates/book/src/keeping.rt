@@ -1,8 +1,6 @@
 ghost use Rattle.std.specs.Prelude.{ℕ, Option, ◌≡◌, ◌<◌, ◌≤◌, ◌⊎◌, ◌||◌, ◌↔◌, true, false, [], ◌∷◌, Err, IfErr, IfOk, IsErrAnd, IsSome, IsTrue, List, None, OnErr, OnOk, Some, length, map, take};
-ghost use Rattle.std.specs.FinMap as fin;
 ghost use Rattle.sqlite.specs.Held.{state};
 ghost use Rattle.sqlite.specs.State.{HasCleanDisk, IsUnchanged};
-ghost use Rattle.command.specs.Keys.{key_name};
 ghost use Rattle.command.specs.declared.exceedance.Reply.{Reply};
 ghost use Rattle.command.specs.declared.refusal.Refusal.{Refusal};
 ghost use Rattle.roster.specs.Folds.{Fold, Replies, Session, Stopped, answer_of, next};
@@ -10,27 +8,27 @@ ghost use Rattle.roster.specs.Honest.{Honest};
 ghost use Rattle.roster.specs.Laws.{PassesChecks, is_assignment};
 ghost use Rattle.roster.specs.Sound.{Sound};
 ghost use Rattle.roster.specs.State.{State, empty};
-ghost use Rattle.roster.specs.Steps.{after, step_of};
+ghost use Rattle.roster.specs.Steps.{step_of};
 ghost use Rattle.loading.specs.Loading.{Says};
-ghost use Rattle.writing.specs.Next.{IsNext};
+ghost use Rattle.lookup.specs.Reads.{ChangesNothing, IsOpen};
 ghost use Rattle.writing.specs.Kept.{KeepOthers, KeepPlain};
 ghost use Rattle.writing.specs.Making.{IsFree};
 ghost use Rattle.writing.specs.Outcomes.{AddsNothing, AddsOnly, IsOutside, Leaves, LeavesOnly, LeavesSome, MayAdd, ShowsOnly, StaysOpen, StillShows};
 ghost use Rattle.book.specs.Answered.{IsAnswered};
 ghost use Rattle.book.specs.Asking.{Did};
-ghost use Rattle.book.specs.Headline.{BreaksNoLimit, IsAcceptance, IsHeld, IsRefusal, KeepsHeld, SparesOthers, StaysHeld};
-ghost use Rattle.book.specs.Shown.{IsShown};
+ghost use Rattle.book.specs.Headline.{BreaksNoLimit, IsAcceptance, IsHeld, IsRefusal, KeepsHeld, SparesOthers, StaysHeld, Untouched};
+ghost use Rattle.store.specs.Shown.{IsShown};
 ghost use Rattle.book.specs.Sessions.{IsAfter, count_of, fault_of};
-ghost use Rattle.book.specs.Kept.{Ends, HasTables, IsAt, IsClean, IsInDoubt, Keeps, Means, StillHasTables, is_store_fault, is_some_store_fault, result_of};
+ghost use Rattle.book.specs.Kept.{Ends, HasOne, HasTables, IsAt, IsClean, IsInDoubt, Keeps, Means, StillHasTables, StillHolds, is_store_fault, is_some_store_fault, result_of};
 
-use crate::answer::{Answer, Run, Show};
+use crate::answer::{Answer, Run};
 use command::{Command, Key, Order};
 use duty::Pairing;
-use roster::{Change, Roster, Verdict};
+use roster::{Roster, Verdict};
 use sqlite::{Alter, Connection};
 use std::alloc::Global;
 use std::marker::Model;
-use store::{CreateFault, LoadFault, Store, StoreFault};
+use store::{CreateFault, LoadFault, Show, Store, StoreFault};
 use time117::Zone;
 use values::{Copied, MemoryFault};
 
@@ -38,7 +36,6 @@ use values::{Copied, MemoryFault};
 /// and whether it has answered a fault of the store.
 pub struct Book<S: Alter> {
     store: Store<S>,
-    roster: Roster,
     failed: bool,
 }
 
@@ -46,7 +43,6 @@ impl<S: Alter + Drop> Drop for Book<S> {
     fn drop(self) {
         let Book {
             store: _,
-            roster: _,
             failed: _,
         } = self;
     }
@@ -56,7 +52,7 @@ impl<S: Alter> Model for Book<S> {
     ghost use Rattle.std.specs.Prelude.{◌≡◌, false};
     ghost use Rattle.sqlite.specs.Held.{state};
     ghost use Rattle.writing.specs.Outcomes.{LeavesSome};
-    ghost use Rattle.book.specs.Kept.{Kept, Keeps, kept_code};
+    ghost use Rattle.book.specs.Kept.{HasOne, Kept, kept_code};
 
     ghost Value = { Kept S };
 
@@ -64,7 +60,7 @@ impl<S: Alter> Model for Book<S> {
 
     ghost view = { λ b. record { held = b.store; failed = b.failed } };
 
-    ghost invariant = { λ b. LeavesSome (state S.Store b.store) × (b.failed ≡ false → Keeps (state S.Store b.store) b.roster) };
+    ghost invariant = { λ b. LeavesSome (state S.Store b.store) × (b.failed ≡ false → HasOne (state S.Store b.store)) };
 }
 
 impl<S: Alter> Book<S> {
@@ -90,11 +86,8 @@ impl<S: Alter> Book<S> {
         ensures spared { IfOk result (λ b. ShowsOnly (state S.Store b.held) (KeepPlain (state S.Store conn).now)) }
         ensures still_open { IfErr result (λ e. StaysOpen (state S.Store conn) (state S.Store e.1)) }
     {
-        let Ok(roster) = Roster::empty(alloc, zone) else {
-            return Err((CreateFault::Fault(StoreFault::Memory), conn));
-        };
-        match Store::create(alloc, conn, &roster.zone) {
-            Ok(store) => Ok(Book::over(store, roster)),
+        match Store::create(alloc, conn, &zone) {
+            Ok(store) => Ok(Book::over(store)),
             Err(refused) => Err(refused),
         }
     }
@@ -115,24 +108,19 @@ impl<S: Alter> Book<S> {
         ensures still_open { IfErr result (λ e. StaysOpen (state S.Store conn) (state S.Store e.1)) }
     {
         match Store::load(alloc, conn) {
-            Ok((store, roster)) => Ok(Book {
-                store,
-                roster,
-                failed: false,
-            }),
+            Ok((store, _roster)) => Ok(Book::over(store)),
             Err(refused) => Err(refused),
         }
     }
 
-    /// A book that has not failed, over a store whose tables mean this roster.
-    fn over(store: Store<S>, roster: Roster) -> Book<S>
-        requires { Keeps (state S.Store store) roster }
+    /// A book that has not failed, over a store whose tables mean a state.
+    fn over(store: Store<S>) -> Book<S>
+        requires { HasOne (state S.Store store) }
         ensures held { result.held ≡ store }
         ensures fresh { result.failed ≡ false }
     {
         Book {
             store,
-            roster,
             failed: false,
         }
     }
@@ -162,7 +150,9 @@ impl<S: Alter> Book<S> {
         if self.failed {
             return Err(StoreFault::Store);
         }
-        copy_of(alloc, &self.roster)
+        let shown = self.store.shown(alloc, what);
+        self.failed = is_of_store(&shown);
+        shown
     }
 
     /// The connection, with nothing changed.
@@ -170,17 +160,12 @@ impl<S: Alter> Book<S> {
         ensures same { result ≡ self.held }
         ensures outside { IsOutside (state S.Store result) }
     {
-        let Book {
-            store,
-            roster: _,
-            failed: _,
-        } = self;
+        let Book { store, failed: _ } = self;
         store.into_connection()
     }
 
-    /// Answers a command. One that is kept already is answered as it was, and changes nothing. One that the machine refuses is
-    /// refused so, and changes nothing; no call is made to the store for it. After want of memory (91)
-    /// nothing is changed, and the call may be made again; after a fault of the store (90) it is kept or not, and each later
+    /// Answers a command by the part of the state that it needs. One that is kept already is answered as it was, and changes
+    /// nothing; so does one that the machine refuses. After want of memory (91) nothing is changed, and the call may be made again; after a fault of the store (90) it is kept or not, and each later
     /// call answers 90.
     pub fn ask(&mut self, alloc: Global, key: Key, command: &Command) -> Result<Answer, StoreFault>
         ensures failed { self.new.failed ≡ (self.old.failed || is_store_fault result) }
@@ -196,12 +181,12 @@ impl<S: Alter> Book<S> {
         ensures shown { (s : State) → IsAt S.Store self.old s → HasTables S.Store self.old s → OnErr result (StillHasTables S.Store self.new s) }
         ensures honest { (s : State) → IsAt S.Store self.old s → Honest s → Leaves (state S.Store self.new.held) Honest }
         ensures within_limits { (s : State) → IsAt S.Store self.old s → IsClean S.Store self.new → is_assignment command.now ≡ true → PassesChecks s key command.now → IfOk result (λ a. IsAcceptance a ↔ BreaksNoLimit s command.now) }
-        ensures repeats { (s : State) (reply : Reply) → IsAt S.Store self.old s → IsClean S.Store self.old → IsHeld s (key, command.now) reply → (self.new ≡ self.old) × IfOk result (λ a. a ≡ Answer.Accepted reply) }
-        ensures turned_down { (s : State) (refusal : Refusal) → IsAt S.Store self.old s → IsClean S.Store self.old → step_of s key command.now ≡ Verdict.Refuse refusal → (self.new ≡ self.old) × IfOk result (λ a. a ≡ Answer.Refused refusal) }
+        ensures repeats { (s : State) (reply : Reply) → IsAt S.Store self.old s → IsClean S.Store self.new → IsHeld s (key, command.now) reply → ChangesNothing (state S.Store self.old.held) (state S.Store self.new.held) × IfOk result (λ a. a ≡ Answer.Accepted reply) }
+        ensures turned_down { (s : State) (refusal : Refusal) → IsAt S.Store self.old s → IsClean S.Store self.new → step_of s key command.now ≡ Verdict.Refuse refusal → ChangesNothing (state S.Store self.old.held) (state S.Store self.new.held) × IfOk result (λ a. a ≡ Answer.Refused refusal) }
         ensures holds { (s : State) (reply : Reply) → IsAt S.Store self.old s → IfOk result (λ a. a ≡ Answer.Accepted reply → StaysHeld (state S.Store self.new.held) (key, command.now) reply) }
         ensures held { (s : State) → IsAt S.Store self.old s → KeepsHeld (state S.Store self.new.held) s }
-        ensures refused { IfOk result (λ a. IsRefusal a → self.new ≡ self.old) }
-        ensures alone { OnOk result ((self.new ≡ self.old) ⊎ SparesOthers (state S.Store self.old.held) (state S.Store self.new.held)) }
+        ensures refused { IfOk result (λ a. IsRefusal a → Untouched (state S.Store self.old.held) (state S.Store self.new.held)) }
+        ensures alone { OnOk result (Untouched (state S.Store self.old.held) (state S.Store self.new.held) ⊎ SparesOthers (state S.Store self.old.held) (state S.Store self.new.held)) }
         ensures others { AddsOnly (state S.Store self.old.held) (state S.Store self.new.held) (KeepOthers (state S.Store self.old.held).now) }
         ensures counts { (state S.Store self.old.held).faults ≤ (state S.Store self.new.held).faults }
         ensures still_open { result ≡ Err StoreFault.Memory → StaysOpen (state S.Store self.old.held) (state S.Store self.new.held) }
@@ -211,7 +196,7 @@ impl<S: Alter> Book<S> {
         if self.failed {
             return Err(StoreFault::Store);
         }
-        let answer = answer(alloc, &mut self.store, &mut self.roster, key, command);
+        let answer = answer(alloc, &mut self.store, key, command);
         self.failed = is_of_store(&answer);
         answer
     }
@@ -252,7 +237,7 @@ impl<S: Alter> Book<S> {
         ensures honest { (s : State) → IsAt S.Store self.old s → Honest s → Leaves (state S.Store self.new.held) Honest }
         ensures sessions { (s : State) (before : List Session) → IsAt S.Store self.old (Stopped s before) → Leaves (state S.Store self.new.held) (IsAfter s before commands.now (length result.answers.items) result.fault) }
         ensures held { (s : State) → IsAt S.Store self.old s → KeepsHeld (state S.Store self.new.held) s }
-        ensures alone { result.fault ≡ None → (self.new ≡ self.old) ⊎ SparesOthers (state S.Store self.old.held) (state S.Store self.new.held) }
+        ensures alone { result.fault ≡ None → (self.new ≡ self.old) ⊎ (Untouched (state S.Store self.old.held) (state S.Store self.new.held) ⊎ SparesOthers (state S.Store self.old.held) (state S.Store self.new.held)) }
         ensures others { AddsOnly (state S.Store self.old.held) (state S.Store self.new.held) (KeepOthers (state S.Store self.old.held).now) }
         ensures still_open { result.fault ≡ Some StoreFault.Memory → StaysOpen (state S.Store self.old.held) (state S.Store self.new.held) }
     {
@@ -273,7 +258,7 @@ impl<S: Alter> Book<S> {
         ensures shown { (s : State) → IsAt S.Store self.old s → HasTables S.Store self.old s → IsSome result.fault → StillHasTables S.Store self.new (Fold s (take (length result.answers.items) commands.now)) }
         ensures stopped { IsSome result.fault → (result.answers.items ≡ []) ⊎ (length result.answers.items < length commands.now) }
         ensures honest { (s : State) → IsAt S.Store self.old s → Honest s → Leaves (state S.Store self.new.held) Honest }
-        ensures alone { result.fault ≡ None → (self.new ≡ self.old) ⊎ SparesOthers (state S.Store self.old.held) (state S.Store self.new.held) }
+        ensures alone { result.fault ≡ None → (self.new ≡ self.old) ⊎ (Untouched (state S.Store self.old.held) (state S.Store self.new.held) ⊎ SparesOthers (state S.Store self.old.held) (state S.Store self.new.held)) }
         ensures others { AddsOnly (state S.Store self.old.held) (state S.Store self.new.held) (KeepOthers (state S.Store self.old.held).now) }
         ensures still_open { result.fault ≡ Some StoreFault.Memory → StaysOpen (state S.Store self.old.held) (state S.Store self.new.held) }
     {
@@ -324,33 +309,55 @@ fn stopped(answers: Vec<Answer>, fault: StoreFault) -> Run
 }
 
 /// Whether an answer is a fault of the store.
-fn is_of_store(answer: &Result<Answer, StoreFault>) -> bool
+fn is_of_store<T>(answer: &Result<T, StoreFault>) -> bool
     ensures { result ≡ is_store_fault answer.now }
 {
     matches!(answer, Err(StoreFault::Store))
 }
 
-/// Answers a command by a roster, and keeps in the store what is accepted. Whatever needs memory is made before the commit.
+/// Answers a command by what the tables mean, and keeps in the store what is accepted.
 fn answer<S: Alter>(
     alloc: Global,
     store: &mut Store<S>,
-    roster: &mut Roster,
     key: Key,
     command: &Command,
 ) -> Result<Answer, StoreFault>
-    requires { Keeps (state S.Store store.old) roster.old }
-    ensures did { Did (state S.Store store.old) (state S.Store store.new) roster.old roster.new (next roster.old (key, command.now)) result }
-    ensures reply { IfOk result (λ a. result_of a ≡ answer_of (step_of roster.old key command.now)) }
-    ensures repeated { (reply : Reply) → step_of roster.old key command.now ≡ Verdict.Repeat reply → (store.new ≡ store.old) × (is_store_fault result ≡ false) × IfOk result (λ a. a ≡ Answer.Accepted reply) }
-    ensures turned_down { (refusal : Refusal) → step_of roster.old key command.now ≡ Verdict.Refuse refusal → (store.new ≡ store.old) × (is_store_fault result ≡ false) × IfOk result (λ a. a ≡ Answer.Refused refusal) }
-    ensures refused { IfOk result (λ a. IsRefusal a → store.new ≡ store.old) }
-    ensures alone { OnOk result ((store.new ≡ store.old) ⊎ SparesOthers (state S.Store store.old) (state S.Store store.new)) }
+    ensures did { (s : State) → Keeps (state S.Store store.old) s → StillHolds (state S.Store store.old) s → Did (state S.Store store.old) (state S.Store store.new) s (next s (key, command.now)) result }
+    ensures reply { (s : State) → Keeps (state S.Store store.old) s → StillHolds (state S.Store store.old) s → HasCleanDisk (state S.Store store.new) → IfOk result (λ a. result_of a ≡ answer_of (step_of s key command.now)) }
+    ensures repeated { (s : State) (reply : Reply) → Keeps (state S.Store store.old) s → StillHolds (state S.Store store.old) s → HasCleanDisk (state S.Store store.new) → step_of s key command.now ≡ Verdict.Repeat reply → ChangesNothing (state S.Store store.old) (state S.Store store.new) × IfOk result (λ a. a ≡ Answer.Accepted reply) }
+    ensures turned_down { (s : State) (refusal : Refusal) → Keeps (state S.Store store.old) s → StillHolds (state S.Store store.old) s → HasCleanDisk (state S.Store store.new) → step_of s key command.now ≡ Verdict.Refuse refusal → ChangesNothing (state S.Store store.old) (state S.Store store.new) × IfOk result (λ a. a ≡ Answer.Refused refusal) }
+    ensures refused { IfOk result (λ a. IsRefusal a → Untouched (state S.Store store.old) (state S.Store store.new)) }
+    ensures alone { (s : State) → Keeps (state S.Store store.old) s → StillHolds (state S.Store store.old) s → OnOk result (Untouched (state S.Store store.old) (state S.Store store.new) ⊎ SparesOthers (state S.Store store.old) (state S.Store store.new)) }
 {
-    match roster.step(alloc, key, command) {
+    match store.part(alloc, key, command) {
+        Ok(part) => answer_by(alloc, store, &part, key, command),
+        Err(fault) => Err(fault),
+    }
+}
+
+/// The same, by a roster that answers the command as the state does that the tables mean. Whatever needs memory is made before
+/// the commit.
+fn answer_by<S: Alter>(
+    alloc: Global,
+    store: &mut Store<S>,
+    part: &Roster,
+    key: Key,
+    command: &Command,
+) -> Result<Answer, StoreFault>
+    requires opened { IsOpen (state S.Store store.old) }
+    ensures clean { HasCleanDisk (state S.Store store.new) → HasCleanDisk (state S.Store store.old) }
+    ensures did { (s : State) → Keeps (state S.Store store.old) s → StillHolds (state S.Store store.old) s → (HasCleanDisk (state S.Store store.old) → step_of part.now key command.now ≡ step_of s key command.now) → Did (state S.Store store.old) (state S.Store store.new) s (next s (key, command.now)) result }
+    ensures reply { IfOk result (λ a. result_of a ≡ answer_of (step_of part.now key command.now)) }
+    ensures repeated { (reply : Reply) → step_of part.now key command.now ≡ Verdict.Repeat reply → (store.new ≡ store.old) × (is_store_fault result ≡ false) × IfOk result (λ a. a ≡ Answer.Accepted reply) }
+    ensures turned_down { (refusal : Refusal) → step_of part.now key command.now ≡ Verdict.Refuse refusal → (store.new ≡ store.old) × (is_store_fault result ≡ false) × IfOk result (λ a. a ≡ Answer.Refused refusal) }
+    ensures refused { IfOk result (λ a. IsRefusal a → store.new ≡ store.old) }
+    ensures alone { (s : State) → Keeps (state S.Store store.old) s → (HasCleanDisk (state S.Store store.old) → step_of part.now key command.now ≡ step_of s key command.now) → OnOk result ((store.new ≡ store.old) ⊎ SparesOthers (state S.Store store.old) (state S.Store store.new)) }
+{
+    match part.step(alloc, key, command) {
         Ok(Verdict::Repeat(reply)) => Ok(Answer::Accepted(reply)),
         Ok(Verdict::Refuse(refusal)) => Ok(Answer::Refused(refusal)),
         Ok(Verdict::Accept(change, reply)) => {
-            let kept = keep(alloc, store, roster, &change);
+            let kept = store.commit(alloc, &change);
             // (by a call: written out in each place, a change's drop takes the prover a minute)
             drop(change);
             match kept {
@@ -358,52 +365,6 @@ fn answer<S: Alter>(
                 Err(fault) => Err(fault),
             }
         }
-        Err(_) => Err(StoreFault::Memory),
-    }
-}
-
-/// Makes an accepted change, in the store and then in the roster.
-fn keep<S: Alter>(
-    alloc: Global,
-    store: &mut Store<S>,
-    roster: &mut Roster,
-    change: &Change,
-) -> Result<(), StoreFault>
-    requires keeps { Keeps (state S.Store store.old) roster.old }
-    requires next { HasCleanDisk (state S.Store store.old) → IsNext roster.old change.now }
-    requires free { fin.get roster.old.requests (key_name change.now.key) ≡ None }
-    ensures did { Did (state S.Store store.old) (state S.Store store.new) roster.old roster.new (after roster.old change.now) result }
-    ensures alone { OnOk result (SparesOthers (state S.Store store.old) (state S.Store store.new)) }
-{
-    let Ok(changed) = changed(alloc, roster, change) else {
-        return Err(StoreFault::Memory);
-    };
-    match store.commit(alloc, change) {
-        Ok(()) => {
-            *roster = changed;
-            Ok(())
-        }
-        Err(fault) => Err(fault),
-    }
-}
-
-/// The roster with a change.
-fn changed(alloc: Global, roster: &Roster, change: &Change) -> Result<Roster, MemoryFault>
-    requires { fin.get roster.now.requests (key_name change.now.key) ≡ None }
-    ensures { IfOk result (λ it. it ≡ after roster.now change.now) }
-{
-    let mut changed = roster.copy(alloc)?;
-    changed.apply(alloc, change)?;
-    Ok(changed)
-}
-
-/// A copy of a roster.
-fn copy_of(alloc: Global, roster: &Roster) -> Result<Roster, StoreFault>
-    ensures copy { IfOk result (λ copy. copy ≡ roster.now) }
-    ensures memory { is_store_fault result ≡ false }
-{
-    match roster.copy(alloc) {
-        Ok(copy) => Ok(copy),
         Err(_) => Err(StoreFault::Memory),
     }
 }

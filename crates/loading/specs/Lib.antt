@@ -5,4 +5,5 @@ pub mod Faults
 pub mod Loading
 pub mod Reading
 pub mod Keyed
+pub mod OnePairing
 pub mod Refusals

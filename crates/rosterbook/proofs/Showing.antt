@@ -12,9 +12,9 @@ use Rattle.report.specs.PairingText.{pairing_lines, pairing_text}
 use Rattle.report.specs.RosterText.{IsRosterText}
 use Rattle.report.specs.declared.fault.ReportFault.{ReportFault}
 use Rattle.report.specs.declared.fault.ReportFault.TheVariants.{NoSuchCrew, NoSuchPairing, Memory}
-use Rattle.book.specs.Shown.{IsShown}
-use Rattle.book.specs.declared.answer.Show.{Show}
-use Rattle.book.specs.declared.answer.Show.TheVariants.{Crew, Pairing, Exceedances}
+use Rattle.store.specs.Shown.{IsShown}
+use Rattle.store.specs.declared.show.Show.{Show}
+use Rattle.store.specs.declared.show.Show.TheVariants.{Crew, Pairing, Exceedances}
 use Rattle.rosterbook.specs.Showing.{IsAbsence, IsTextOf, IsToldOf}
 use Rattle.rosterbook.specs.Streams.{Held, refused}
 use Rattle.rosterbook.specs.declared.status.Status.TheVariants.{Done, Refused}

@@ -6,7 +6,7 @@ use Rattle.rosterbook.specs.Asking.{Answered, IsImportTold, IsTold}
 use Rattle.rosterbook.specs.Serving.{IsServeTold}
 use Rattle.rosterbook.specs.Showing.{IsToldOf}
 use Rattle.roster.specs.State.{State}
-use Rattle.book.specs.declared.answer.Show.TheVariants as show
+use Rattle.store.specs.declared.show.Show.TheVariants as show
 use Rattle.verdict.specs.FaultText.{fault_text}
 pub use Rattle.rosterbook.specs.Streams.{Held, line_end, refused}
 use Rattle.writing.specs.Faults.{create_text}

@@ -9,9 +9,9 @@ use Rattle.report.specs.Faults.{fault_text}
 use Rattle.report.specs.declared.fault.ReportFault.{ReportFault}
 use Rattle.report.specs.declared.fault.ReportFault.TheVariants.{NoSuchCrew, NoSuchPairing, Memory}
 use Rattle.book.specs.Kept.{Kept}
-use Rattle.book.specs.Shown.{IsShown}
-use Rattle.book.specs.declared.answer.Show.{Show}
-use Rattle.book.specs.declared.answer.Show.TheVariants.{Crew, Pairing, Exceedances}
+use Rattle.store.specs.Shown.{IsShown}
+use Rattle.store.specs.declared.show.Show.{Show}
+use Rattle.store.specs.declared.show.Show.TheVariants.{Crew, Pairing, Exceedances}
 use Rattle.rosterbook.specs.Streams.{Held, IsOfChannel, refused}
 use Rattle.rosterbook.specs.Asking.{IsOfBook}
 use Rattle.rosterbook.specs.declared.status.Status.{Status}

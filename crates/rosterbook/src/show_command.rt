@@ -4,7 +4,7 @@ ghost use Rattle.std.specs.Io.KnownBytes.{Appends};
 ghost use Rattle.report.specs.Faults.{fault_text};
 ghost use Rattle.roster.specs.State.{State};
 ghost use Rattle.book.specs.Kept.{IsAt, IsClean};
-ghost use Rattle.book.specs.declared.answer.Show.TheVariants as show;
+ghost use Rattle.store.specs.declared.show.Show.TheVariants as show;
 ghost use Rattle.rosterbook.specs.Showing as spec;
 ghost use Rattle.rosterbook.specs.Streams.{IsOfChannel, refused};
 

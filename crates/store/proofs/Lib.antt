@@ -1,2 +1,4 @@
 pub mod ReadBooks
 pub mod Loads
+pub mod Parting
+pub mod ShownLemmas

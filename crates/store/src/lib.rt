@@ -1,9 +1,12 @@
 //! The tables of the book as a state of the machine.
 #![tactic(auto)]
 
+mod show;
+mod source;
 mod store;
 
 pub use loading::{LoadFault, TableName, database_holds_one_state, rows_say_all};
 pub use rows::StoreFault;
+pub use show::Show;
 pub use store::Store;
 pub use writing::CreateFault;

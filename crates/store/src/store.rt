@@ -1,9 +1,12 @@
-ghost use Rattle.std.specs.Prelude.{◌≡◌, ◌≤◌, IfOk, IfErr, IsErrAnd, OnOk, OnErr, Err};
+ghost use Rattle.std.specs.Prelude.{ℕ, List, Option, ◌≡◌, ◌≤◌, ◌↔◌, IfOk, IfErr, IsErrAnd, OnOk, OnErr, Err};
 ghost use Rattle.sqlite.specs.State.{HasCleanDisk, IsUnchanged};
 ghost use Rattle.sqlite.specs.Held.{state};
 ghost use Rattle.kept.specs.Laws.{IsCommand};
+ghost use Rattle.roster.specs.Sound.{Sound};
 ghost use Rattle.roster.specs.State.{State, empty};
-ghost use Rattle.roster.specs.Steps.{after};
+ghost use Rattle.roster.specs.Steps.{after, step_of};
+ghost use Rattle.part.specs.Part.{Part};
+ghost use Rattle.lookup.specs.Reads.{ChangesNothing, IsOpen, Shows};
 ghost use Rattle.writing.specs.Kept.{KeepOthers, KeepPlain};
 ghost use Rattle.loading.specs.Loading.{Says};
 ghost use Rattle.writing.specs.Making.{IsFree};
@@ -12,8 +15,12 @@ ghost use Rattle.writing.specs.Outcomes.{Leaves, LeavesSome, LeavesOnly, AddsOnl
 ghost use Rattle.loading.specs.Reading.{IsReadTo, Saw};
 ghost use Rattle.rows.specs.Rows.{request};
 ghost use Rattle.store.specs.Found.{IsFound};
+ghost use Rattle.store.specs.Shown.{IsShown};
 
+use crate::show::{Show, gather_shown};
+use command::{Command, Key};
 use loading::{LoadFault, read_all};
+use part::gather;
 use roster::{Change, Roster};
 use rows::StoreFault;
 use sqlite::{Alter, Connection};
@@ -24,7 +31,7 @@ use writing::{CreateFault, commit_change, make_book, take_back};
 
 /// The tables of a book. Contracts see what its connection holds.
 pub struct Store<S: Alter> {
-    conn: Connection<S>,
+    pub(crate) conn: Connection<S>,
 }
 
 impl<S: Alter + Drop> Drop for Store<S> {
@@ -100,6 +107,36 @@ impl<S: Alter> Store<S> {
             Ok(roster) => Ok((Store { conn }, roster)),
             Err(fault) => Err((fault, conn)),
         }
+    }
+
+    /// Reads by key what a command needs to be answered under its key, in no transaction, and changes nothing. A store's fault is
+    /// 90, want of memory 91.
+    pub fn part(&mut self, alloc: Global, key: Key, command: &Command) -> Result<Roster, StoreFault>
+        ensures part { (s : State) → Shows (state S.Store self.old) s → HasCleanDisk (state S.Store self.new) → IfOk result (λ r. r ≡ Part s key command.now) }
+        ensures sound { (s : State) → Shows (state S.Store self.old) s → HasCleanDisk (state S.Store self.new) → IfOk result Sound }
+        ensures answers { (s : State) → Shows (state S.Store self.old) s → HasCleanDisk (state S.Store self.new) → IfOk result (λ r. step_of r key command.now ≡ step_of s key command.now) }
+        ensures unchanged { ChangesNothing (state S.Store self.old) (state S.Store self.new) }
+        ensures opened { OnOk result (IsOpen (state S.Store self.new)) }
+        ensures some { LeavesSome (state S.Store self.new) }
+    {
+        let part = gather(alloc, self, key, command);
+        // A connection that is live still leaves something.
+        let _live = self.conn.schema();
+        part
+    }
+
+    /// Reads by key a roster with what the text of a member, of a pairing or of the exceedances needs, in no transaction, and
+    /// changes nothing. A store's fault is 90, want of memory 91.
+    pub fn shown(&mut self, alloc: Global, what: &Show) -> Result<Roster, StoreFault>
+        ensures text { (s : State) → Shows (state S.Store self.old) s → HasCleanDisk (state S.Store self.new) → IfOk result (λ roster. (text : Option (List ℕ)) → IsShown roster what.now text ↔ IsShown s what.now text) }
+        ensures unchanged { ChangesNothing (state S.Store self.old) (state S.Store self.new) }
+        ensures opened { OnOk result (IsOpen (state S.Store self.new)) }
+        ensures some { LeavesSome (state S.Store self.new) }
+    {
+        let shown = gather_shown(alloc, self, what);
+        // As in `part`.
+        let _live = self.conn.schema();
+        shown
     }
 
     /// Writes a change that the step gave of the state that the tables hold, in one transaction. After want of memory (91)

@@ -21,9 +21,9 @@ use Rattle.writing.specs.Kept.{IsBookOf, KeepOthers}
 use Rattle.writing.specs.Outcomes.{AddsNothing, AddsOnly, Leaves, StillShows}
 use Rattle.book.specs.Kept as kept
 use Rattle.book.specs.Kept.{Ends, HasTables, IsAt, IsClean, IsInDoubt, Kept, StillHasTables, result_of}
-use Rattle.book.specs.Shown.{IsShown}
+use Rattle.store.specs.Shown.{IsShown}
 use Rattle.book.specs.declared.answer.Answer as book
-use Rattle.book.specs.declared.answer.Show.{Show}
+use Rattle.store.specs.declared.show.Show.{Show}
 use Rattle.http_message.specs.Plan.{Subject, crew, pairing, exceedances}
 use Rattle.http_message.specs.declared.plan.Submission.TheVariants.{Command, Import}
 use Rattle.http_exchange.specs.Handler as http

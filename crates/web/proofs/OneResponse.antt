@@ -9,7 +9,7 @@ use Rattle.kept.specs.declared.fault.CodecFault.TheVariants.{BadCsv}
 use Rattle.report.proofs.OneText.{one_exceedance_text, one_roster}
 use Rattle.roster.specs.Folds.{Replies, import}
 use Rattle.roster.specs.State.{State}
-use Rattle.book.specs.Shown.{IsShown}
+use Rattle.store.specs.Shown.{IsShown}
 use Rattle.http_message.specs.Heading.{heading}
 use Rattle.http_message.specs.Plan.{Planned, Subject, crew, pairing, exceedances, plan}
 use Rattle.http_message.specs.declared.plan.Submission.{Submission}

@@ -10,9 +10,9 @@ use Rattle.roster.specs.Folds as folds
 use Rattle.roster.specs.Folds.{Replies, import}
 use Rattle.roster.specs.State.{State}
 use Rattle.roster.specs.Steps.{step_of}
-use Rattle.book.specs.Shown.{IsShown}
-use Rattle.book.specs.declared.answer.Show.{Show}
-use Rattle.book.specs.declared.answer.Show.TheVariants as show
+use Rattle.store.specs.Shown.{IsShown}
+use Rattle.store.specs.declared.show.Show.{Show}
+use Rattle.store.specs.declared.show.Show.TheVariants as show
 use Rattle.http_message.specs.Plan.{Subject, crew, pairing, exceedances}
 use Rattle.http_message.specs.declared.plan.Submission.TheVariants.{Command, Import}
 use Rattle.http_exchange.specs.Handler as http

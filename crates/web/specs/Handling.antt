@@ -18,10 +18,10 @@ use Rattle.report.specs.declared.fault.ReportFault.TheVariants as report
 use Rattle.writing.specs.Kept.{KeepOthers}
 use Rattle.writing.specs.Outcomes.{AddsOnly, Leaves}
 use Rattle.book.specs.Kept.{HasTables, IsAt, IsClean, IsInDoubt, Kept, StillHasTables, result_of}
-use Rattle.book.specs.Shown.{IsShown}
+use Rattle.store.specs.Shown.{IsShown}
 use Rattle.book.specs.declared.answer.Answer as book
-use Rattle.book.specs.declared.answer.Show.{Show}
-use Rattle.book.specs.declared.answer.Show.TheVariants.{Crew, Pairing, Exceedances}
+use Rattle.store.specs.declared.show.Show.{Show}
+use Rattle.store.specs.declared.show.Show.TheVariants.{Crew, Pairing, Exceedances}
 use Rattle.http_exchange.specs.Handler.{Answer, Asked}
 use Rattle.http_exchange.specs.declared.handler.HandlerFault.{HandlerFault}
 use Rattle.http_exchange.specs.declared.handler.HandlerFault.TheVariants.{Store, Memory}

@@ -1,36 +1,64 @@
-use Rattle.std.proofs.Common.{sym}
+use Rattle.std.proofs.Common.{ap, inl, inr, ◌⊎◌, ◌∙◌}
 use Rattle.sqlite.specs.Held.{state}
-use Rattle.roster.specs.Folds.{next}
-use Rattle.roster.specs.Steps.{after}
-use Rattle.book.proofs.Asked.{did_answer, did_as, did_with, did_with_fault}
-use Rattle.book.proofs.States.{next_repeated, next_refused, next_accepted}
+use Rattle.roster.specs.Folds.{answer_of, next}
+use Rattle.book.specs.Headline.{SparesOthers, Untouched}
+use Rattle.book.proofs.Asked.{did_not_read, did_after, reply_as, shown_on, shows_it}
+use Rattle.book.proofs.Sparing.{spares_after}
+use Rattle.book.proofs.States.{still_keeps}
+use Rattle.book.proofs.Untouched.{if_ok, on_ok, read_only, untouched}
 use Rattle.book.proofs.keeping.answer.Goals as goal
 
-pub returns-in-Ok-Repeat-clause-did : goal.returns-in-Ok-Repeat-clause-did
-returns-in-Ok-Repeat-clause-did g c =
-    let verdict = rw c.in-Ok-Repeat.field-0-is at c.in-Ok-Repeat.ensures.verdict in
-    did_answer (state g.S.Store c.args.store.now) c.args.roster.now (next c.args.roster.now (c.args.key, c.args.command.now)) _ c.requires (next_repeated c.args.roster.now c.args.key c.args.command.now _ verdict)
+pub returns-in-Err-clause-did : goal.returns-in-Err-clause-did
+returns-in-Err-clause-did g c s keeps shown =
+    did_not_read _ _ s (next s (c.args.key, c.args.command.now)) c.in-Err.fault c.part.ensures.unchanged c.part.ensures.some keeps shown
 
-pub returns-in-Ok-Refuse-clause-did : goal.returns-in-Ok-Refuse-clause-did
-returns-in-Ok-Refuse-clause-did g c =
-    let verdict = rw c.in-Ok-Refuse.field-0-is at c.in-Ok-Refuse.ensures.verdict in
-    did_answer (state g.S.Store c.args.store.now) c.args.roster.now (next c.args.roster.now (c.args.key, c.args.command.now)) _ c.requires (next_refused c.args.roster.now c.args.key c.args.command.now _ verdict)
+pub returns-in-Err-clause-repeated : goal.returns-in-Err-clause-repeated
+returns-in-Err-clause-repeated g c s reply keeps shown clean is = (c.part.ensures.unchanged, tt)
 
-pub keep-kept-requires-clause-next : goal.keep-kept-requires-clause-next
-keep-kept-requires-clause-next g c clean =
-    let verdict = rw c.in-Ok-Accept.field-0-is at c.in-Ok-Accept.ensures.verdict in
-    record { sound = (c.requires.kept clean).sound; key = c.args.key; order = c.args.command.now; reply = _; accepted = sym verdict }
+pub returns-in-Err-clause-turned_down : goal.returns-in-Err-clause-turned_down
+returns-in-Err-clause-turned_down g c s refusal keeps shown clean is = (c.part.ensures.unchanged, tt)
 
 pub returns-in-Ok-clause-did : goal.returns-in-Ok-clause-did
-returns-in-Ok-clause-did g c =
-    let verdict = rw c.in-Ok-Accept.field-0-is at c.in-Ok-Accept.ensures.verdict in
-    let same = next_accepted c.args.roster.now c.args.key c.args.command.now _ _ verdict in
-    did_as (state g.S.Store c.args.store.now) (state g.S.Store c.keep-kept.new.store) c.args.roster.now c.keep-kept.new.roster (after c.args.roster.now c.in-Ok-Accept.change) (next c.args.roster.now (c.args.key, c.args.command.now)) _ (sym same)
-    (did_with (state g.S.Store c.args.store.now) (state g.S.Store c.keep-kept.new.store) c.args.roster.now c.keep-kept.new.roster (after c.args.roster.now c.in-Ok-Accept.change) _ _ c.in-Ok.ensures.did)
+returns-in-Ok-clause-did g c s keeps shown =
+    let read = c.part.ensures.unchanged in
+    did_after (state g.S.Store c.args.store.now) (state g.S.Store c.part.new.self) _ s (next s (c.args.key, c.args.command.now)) read c.in-Ok.ensures.opened _
+    (c.answer_by.ensures.did s (still_keeps _ _ s read.left c.part.ensures.some keeps)
+    (shown_on (state g.S.Store c.args.store.now) (state g.S.Store c.part.new.self) s read.left.honest read.shown shown)
+    (λ clean. c.in-Ok.ensures.answers s (shows_it (state g.S.Store c.args.store.now) s keeps shown (read.left.honest clean)) clean))
 
-pub returns-in-Err-kept-clause-did : goal.returns-in-Err-kept-clause-did
-returns-in-Err-kept-clause-did g c =
-    let verdict = rw c.in-Ok-Accept.field-0-is at c.in-Ok-Accept.ensures.verdict in
-    let same = next_accepted c.args.roster.now c.args.key c.args.command.now _ _ verdict in
-    did_as (state g.S.Store c.args.store.now) (state g.S.Store c.keep-kept.new.store) c.args.roster.now c.keep-kept.new.roster (after c.args.roster.now c.in-Ok-Accept.change) (next c.args.roster.now (c.args.key, c.args.command.now)) _ (sym same)
-    (did_with_fault (state g.S.Store c.args.store.now) (state g.S.Store c.keep-kept.new.store) c.args.roster.now c.keep-kept.new.roster (after c.args.roster.now c.in-Ok-Accept.change) c.in-Err-kept.fault c.in-Err-kept.ensures.did)
+pub returns-in-Ok-clause-reply : goal.returns-in-Ok-clause-reply
+returns-in-Ok-clause-reply g c s keeps shown clean =
+    let read = c.part.ensures.unchanged in
+    let before = c.answer_by.ensures.clean clean in
+    reply_as _ _ _ _ c.answer_by.ensures.reply
+    (ap answer_of (c.in-Ok.ensures.answers s (shows_it (state g.S.Store c.args.store.now) s keeps shown (read.left.honest before)) before))
+
+pub returns-in-Ok-clause-repeated : goal.returns-in-Ok-clause-repeated
+returns-in-Ok-clause-repeated g c s reply keeps shown clean is =
+    let read = c.part.ensures.unchanged in
+    let before = c.answer_by.ensures.clean clean in
+    let it = c.answer_by.ensures.repeated reply (c.in-Ok.ensures.answers s (shows_it (state g.S.Store c.args.store.now) s keeps shown (read.left.honest before)) before ∙ is) in
+    (read_only g.S.Store c.args.store.now c.part.new.self c.answer_by.new.store read it.0, it.2)
+
+pub returns-in-Ok-clause-turned_down : goal.returns-in-Ok-clause-turned_down
+returns-in-Ok-clause-turned_down g c s refusal keeps shown clean is =
+    let read = c.part.ensures.unchanged in
+    let before = c.answer_by.ensures.clean clean in
+    let it = c.answer_by.ensures.turned_down refusal (c.in-Ok.ensures.answers s (shows_it (state g.S.Store c.args.store.now) s keeps shown (read.left.honest before)) before ∙ is) in
+    (read_only g.S.Store c.args.store.now c.part.new.self c.answer_by.new.store read it.0, it.2)
+
+pub returns-in-Ok-clause-refused : goal.returns-in-Ok-clause-refused
+returns-in-Ok-clause-refused g c =
+    if_ok c.answer_by.result c.answer_by.ensures.refused (λ a same refusal. untouched g.S.Store c.args.store.now c.part.new.self c.answer_by.new.store c.part.ensures.unchanged c.in-Ok.ensures.opened (same refusal))
+
+pub returns-in-Ok-clause-alone : goal.returns-in-Ok-clause-alone
+returns-in-Ok-clause-alone g c s keeps shown =
+    let read = c.part.ensures.unchanged in
+    let opened = c.in-Ok.ensures.opened in
+    on_ok c.answer_by.result
+    (c.answer_by.ensures.alone s (still_keeps _ _ s read.left c.part.ensures.some keeps)
+    (λ clean. c.in-Ok.ensures.answers s (shows_it (state g.S.Store c.args.store.now) s keeps shown (read.left.honest clean)) clean))
+    (elim [
+      | inl same ↦ inl (untouched g.S.Store c.args.store.now c.part.new.self c.answer_by.new.store read opened same)
+      | inr spares ↦ inr (spares_after (state g.S.Store c.args.store.now) (state g.S.Store c.part.new.self) (state g.S.Store c.answer_by.new.store) c.answer_by.ensures.clean read opened spares)
+    ])

@@ -2,21 +2,30 @@ use Rattle.std.proofs.Common.{◌≡◌, ◌∙◌, sym, subst, ℕ, List, Optio
 use Rattle.std.specs.Prelude.{◌↔◌}
 use Rattle.sqlite.specs.Held.{state}
 use Rattle.roster.specs.State.{State}
-use Rattle.book.specs.Shown.{IsShown}
-use Rattle.book.specs.declared.answer.Show.{Show}
-use Rattle.book.proofs.States.{same_state}
+use Rattle.store.specs.Shown.{IsShown}
+use Rattle.book.proofs.Asked.{shown_on, shows_it}
+use Rattle.book.proofs.States.{same_state, still_keeps}
 use Rattle.book.proofs.keeping.Book.show.Goals as goal
 
--- what a roster shows that is this state
-shows_same : {E : Type 0} (r : Result State E) (what : Show) (roster s : State) → s ≡ roster → IfOk r (λ copy. copy ≡ roster)
-    → IfOk r (λ copy. (shown : Option (List ℕ)) → IsShown copy what shown ↔ IsShown s what shown)
-shows_same (Ok copy) what roster s same is = λ shown.
-    let e : copy ≡ s = is ∙ sym same in
-    (subst (λ x. IsShown x what shown) e, subst (λ x. IsShown x what shown) (sym e))
-shows_same (Err fault) what roster s same is = tt
+pub invariant_of-self : goal.invariant_of-self
+invariant_of-self g c =
+    let one = c.self.invariant.1 c.if-self.false in
+    let read = c.shown-shown.ensures.unchanged in (
+      c.shown-shown.ensures.some,
+      λ _. record {
+        it = one.it;
+        keeps = still_keeps _ _ one.it read.left c.shown-shown.ensures.some one.keeps;
+        shown = shown_on (state g.S.Store c.self.inside.store) (state g.S.Store c.shown-shown.new.self) one.it read.left.honest read.shown one.shown;
+      },
+    )
 
 pub returns-clause-text : goal.returns-clause-text
 returns-clause-text g c = rw (← c.self.view_is) (λ s at clean.
-    shows_same c.copy_of.result c.args.what.now c.self.inside.roster s
-    (same_state (state g.S.Store c.self.inside.store) s c.self.inside.roster at (c.self.invariant.1 c.if-self.false) clean)
-    c.copy_of.ensures.copy)
+    let one = c.self.invariant.1 c.if-self.false in
+    let before = c.shown-shown.ensures.unchanged.left.honest clean in
+    let same = same_state (state g.S.Store c.self.inside.store) one.it s one.keeps at before in
+    subst (λ (x : State). IfOk c.shown-shown.result (λ roster. (shown : Option (List ℕ)) → IsShown roster c.args.what.now shown ↔ IsShown x c.args.what.now shown)) same
+    (c.shown-shown.ensures.text one.it (shows_it (state g.S.Store c.self.inside.store) one.it one.keeps one.shown before) clean))
+
+pub returns-clause-same : goal.returns-clause-same
+returns-clause-same g c = rw (← c.self.view_is) (λ s at. still_keeps _ _ s c.shown-shown.ensures.unchanged.left c.shown-shown.ensures.some at)

@@ -1,0 +1,191 @@
+-- What a read by key tells.
+use Rattle.std.proofs.Common.{◌≡◌, inl, inr, arith, refl, sym, ap, subst, ◌∙◌, ℕ, Bool, true, false, cond, List, [], ◌∷◌, filter, map, Result, Ok, Err, Option, Some, None, IfOk, OnOk, IsTrue}
+use Rattle.std.specs.FinMap as fin
+use Rattle.std.proofs.lemmas.List.Sorted.{IsPermutation-sym}
+use Rattle.sqlite_value.specs.Order.{Row, column}
+use Rattle.sqlite_value.specs.declared.value.Value.TheVariants.{Text}
+use Rattle.sqlite_rules.specs.Lists.{Has}
+use Rattle.sqlite.specs.Effect.{Database}
+use Rattle.sqlite.specs.State.{State, HasCleanDisk, IsUnchanged}
+use Rattle.command.specs.declared.member.Member.{Member}
+use Rattle.roster.specs.State as roster
+use Rattle.tables.proofs.Answering.{has_permuted}
+use Rattle.tables.specs.Calls.{HasStepLimit, HoldsWhileOpen, LeavesNothing, Loaded, Read, ReadAs, Leaves as NotMade}
+use Rattle.tables.specs.Records.{crew_row}
+use Rattle.tables.specs.Rows.{Finds, HasNoRecord, IsStored, begins_with, rows_of}
+use Rattle.std.specs.Bool.{⊤}
+use Rattle.tables.specs.declared.crew.CrewRecord.{CrewRecord}
+use Rattle.tables.specs.declared.table_fault.TableFault.{TableFault}
+use Rattle.rows.specs.Rows.{TableName, table, crew, row_of_member, seat_number}
+use Rattle.rows.specs.declared.fault.StoreFault.{StoreFault}
+use Rattle.rows.proofs.Tests.{found, passes}
+use Rattle.rows.proofs.Values.{text_is, number_is, members_same}
+use Rattle.writing.specs.Kept.{AreStored, IsBookOf}
+use Rattle.writing.proofs.Tables.{is_there}
+use Rattle.tables.specs.Schema.{IsBook}
+use Rattle.writing.specs.Outcomes.{AddsNothing, IsOutside, IsOverBook}
+use Rattle.writing.proofs.Committing.{unbegun_shows}
+use Rattle.loading.proofs.Telling.{clean_before}
+use Rattle.lookup.specs.Reads.{HasFirst, ReadsRows, Shows, Stays, IsOpen}
+
+-- ---- Nothing is changed
+
+adds_nothing : (old new : State) → LeavesNothing old new → AddsNothing old new
+adds_nothing old new left = record {
+  honest = clean_before old new left;
+  crash = λ clean trees may. elim (left.crash clean trees may) [ inl was ↦ was | inr none ↦ absurd none ];
+}
+
+pub at_rest : (s : State) → IsOutside s → Stays s s
+at_rest s outside = record {
+  left = record { honest = λ clean. clean; crash = λ clean trees may. may };
+  shown = λ clean opened. (opened, refl);
+  outside = outside;
+  counts = omega (arith);
+  still_open = λ clean opened. inl opened;
+}
+
+module _ {A : Type 0} (Is : Database → A → Type 0) (IsDamaged : Database → Type 0) (why : Type 0) (old new : State)
+    (left : LeavesNothing old new) (outside : IsOutside old) (same : HasCleanDisk old → IsTrue old.is_open → old.now ≡ old.committed) where
+  not_made : (result : Result A TableFault) → ReadAs Is IsDamaged why old new result → HasCleanDisk new → NotMade old new
+  not_made (Ok a) read clean = inl (read clean).1
+  not_made (Err fault) read clean = elim (read clean) [
+    | inl failed ↦ inr failed.1.3
+    | inr unread ↦ inl unread.0
+  ]
+
+  still_outside : (result : Result A TableFault) → ReadAs Is IsDamaged why old new result → IsOutside new
+  still_outside result read clean = elim (not_made result read clean) [
+    | inl kept ↦ kept.0.mode ∙ outside (clean_before old new left clean)
+    | inr back ↦ back.autocommit
+  ]
+
+  pub stays : (result : Result A TableFault) → ReadAs Is IsDamaged why old new result → Stays old new
+  stays result read = record {
+    left = adds_nothing old new left;
+    shown = unbegun_shows old new (clean_before old new left) same (not_made result read);
+    outside = still_outside result read;
+    counts = left.counts;
+    still_open = left.closes;
+  }
+
+module _ {A : Type 0} (it : TableName) (test : Row → Bool) (IsRecord : Row → Type 0) (rows : A → List Row) (old new : State)
+    (left : LeavesNothing old new) (outside : IsOutside old) (same : HasCleanDisk old → IsTrue old.is_open → old.now ≡ old.committed) where
+  abbrev FindsThem : Database → A → Type 0
+  FindsThem db found = Finds (table it) test db (rows found)
+
+  abbrev LoadsAll : Database → A → Type 0
+  LoadsAll db found = Finds (table it) (begins_with []) db (rows found) × IsStored (table it) db
+
+  pub was_read : (a : A) → Read (table it) test IsRecord rows old new (Ok a) → ReadsRows it test rows old new (Ok a)
+  was_read a read = record {
+    stays = stays FindsThem (HasNoRecord (table it) test IsRecord) (HasStepLimit old) old new left outside same (Ok a) read;
+    told = λ clean. ((read clean).1, (read clean).0);
+  }
+
+  pub not_read : (fault : TableFault) (told : StoreFault) → Read (table it) test IsRecord rows old new (Err fault) → ReadsRows it test rows old new (Err told)
+  not_read fault told read = record {
+    stays = stays FindsThem (HasNoRecord (table it) test IsRecord) (HasStepLimit old) old new left outside same (Err fault) read;
+    told = λ clean. tt;
+  }
+
+  pub was_loaded : (a : A) → Loaded (table it) IsRecord rows old new (Ok a) → ReadsRows it (begins_with []) rows old new (Ok a)
+  was_loaded a read = record {
+    stays = stays LoadsAll (HasNoRecord (table it) (begins_with []) IsRecord) ⊤ old new left outside same (Ok a) read;
+    told = λ clean. ((read clean).1, (read clean).0.0);
+  }
+
+  pub not_loaded : (fault : TableFault) (told : StoreFault) → Loaded (table it) IsRecord rows old new (Err fault) → ReadsRows it (begins_with []) rows old new (Err told)
+  not_loaded fault told read = record {
+    stays = stays LoadsAll (HasNoRecord (table it) (begins_with []) IsRecord) ⊤ old new left outside same (Err fault) read;
+    told = λ clean. tt;
+  }
+
+pub not_tried : {A : Type 0} (it : TableName) (test : Row → Bool) (rows : A → List Row) (s : State) (fault : StoreFault) → IsOutside s → ReadsRows it test rows s s (Err fault)
+not_tried it test rows s fault outside = record { stays = at_rest s outside; told = λ clean. tt }
+
+-- ---- The tables are there
+
+pub holds_open : (it : TableName) (s : State) → IsOverBook s → HoldsWhileOpen (table it) s
+holds_open it s over clean opened = is_there s.now.schema (over clean opened).0 it
+
+abbrev IsFit : Database → Type 0
+IsFit db = IsBook db.schema × AreStored db
+
+pub over_on : (old new : State) → Stays old new → IsOverBook old → IsOverBook new
+over_on old new stays over clean opened = let it = stays.shown clean opened in subst IsFit (sym it.1) (over (stays.left.honest clean) it.0)
+
+-- ---- Rows that pass a test
+
+has_filtered : (test : Row → Bool) (xs : List Row) (x : Row) → Has xs x → test x ≡ true → Has (filter test xs) x
+has_filtered test [] x h pass = absurd h
+has_filtered test (y ∷ ys) x (inl same) pass =
+    elim (test y) as (λ b. test y ≡ b → Has (cond b (y ∷ filter test ys) (filter test ys)) x) [
+      | true ↦ λ _. inl same
+      | false ↦ λ fail. absurd (let no : true ≡ false = sym pass ∙ ap test same ∙ fail in cc)
+    ] refl
+has_filtered test (y ∷ ys) x (inr later) pass =
+    elim (test y) as (λ b. Has (cond b (y ∷ filter test ys) (filter test ys)) x) [
+      | true ↦ inr (has_filtered test ys x later pass)
+      | false ↦ has_filtered test ys x later pass
+    ]
+
+of_filtered : (test : Row → Bool) (xs : List Row) (x : Row) → Has (filter test xs) x → Has xs x × (test x ≡ true)
+of_filtered test [] x h = absurd h
+of_filtered test (y ∷ ys) x h =
+    elim (test y) as (λ b. test y ≡ b → Has (cond b (y ∷ filter test ys) (filter test ys)) x → Has (y ∷ ys) x × (test x ≡ true)) [
+      | true ↦ λ pass here. elim here [
+        | inl same ↦ (inl same, ap test same ∙ pass)
+        | inr later ↦ let it = of_filtered test ys x later in (inr it.0, it.1)
+      ]
+      | false ↦ λ _ here. let it = of_filtered test ys x here in (inr it.0, it.1)
+    ] refl h
+
+module _ (it : TableName) (test : Row → Bool) (db : Database) (rows : List Row) (finds : Finds (table it) test db rows) where
+  pub in_found : (x : Row) → Has (rows_of (table it) db) x → test x ≡ true → Has rows x
+  in_found x h pass = has_permuted (filter test (rows_of (table it) db)) rows x finds (has_filtered test (rows_of (table it) db) x h pass)
+
+  pub of_found : (x : Row) → Has rows x → Has (rows_of (table it) db) x × (test x ≡ true)
+  of_found x h = of_filtered test (rows_of (table it) db) x (has_permuted rows (filter test (rows_of (table it) db)) x (IsPermutation-sym _ _ finds) h)
+
+-- ---- A member
+
+module _ (s : roster.State) (db : Database) (book : IsBookOf s db) (id : List ℕ) where
+  abbrev by_id : Row → Bool
+  by_id = begins_with (Text id ∷ [])
+
+  none_there : (o : Option Member) → fin.get s.crew id ≡ o → Finds (table crew) by_id db [] → o ≡ None
+  none_there None here finds = refl
+  none_there (Some m) here finds =
+      let row = row_of_member id m in
+      let is_row = (book.rows crew row).1 (record { name = id; value = m; there = here }, refl) in
+      absurd (in_found crew by_id db [] finds row is_row (passes (Text id ∷ []) row (refl, tt)))
+
+  pub member_is : (records : List CrewRecord) (found : Option Member) → HasFirst records found → Finds (table crew) by_id db (map crew_row records) → found ≡ fin.get s.crew id
+  member_is [] answer first finds = first ∙ sym (none_there (fin.get s.crew id) refl finds)
+  member_is (row ∷ rows) answer first finds =
+      let there = of_found crew by_id db (map crew_row (row ∷ rows)) finds (crew_row row) (inl refl) in
+      let at = (book.rows crew (crew_row row)).0 there.0 in
+      let e = at.1 in
+      let at_column = λ (k : ℕ). ap (λ (x : Row). column x k) e in
+      let same_id : id ≡ at.0.name = sym (text_is (found (Text id ∷ []) (crew_row row) (tt, tt, tt) there.1).0) ∙ text_is (at_column 0) in
+      let seat : seat_number first.0.seat ≡ seat_number at.0.value.seat = first.2 ∙ number_is (at_column 1) in
+      let name : first.0.name ≡ at.0.value.name = first.3 ∙ text_is (at_column 2) in
+      first.1 ∙ ap Some (members_same first.0 at.0.value seat name) ∙ sym (ap (fin.get s.crew) same_id ∙ at.0.there)
+
+pub member_told : {E : Type 0} (old new : State) (s : roster.State) (id : List ℕ) (records : List CrewRecord) (result : Result (Option Member) E) → HasCleanDisk new →
+    IsUnchanged old new → Finds (table crew) (begins_with (Text id ∷ [])) old.now (map crew_row records) → AddsNothing old new → Shows old s → IfOk result (HasFirst records) →
+    IfOk result (λ a. Shows new s × (a ≡ fin.get s.crew id))
+member_told old new s id records (Err fault) clean same finds left shows first = tt
+member_told old new s id records (Ok a) clean same finds left shows first = (
+  record {
+    sound = shows.sound;
+    instants = shows.instants;
+    book = λ now opened. subst (λ (db : Database). IsBookOf s db) (sym same.0.now_is) (shows.book (left.honest now) same.0.was_open);
+  },
+  member_is s old.now (shows.book (left.honest clean) same.0.was_open) id records a first finds,
+)
+
+pub opened_ok : {A E : Type 0} (result : Result A E) (old new : State) → (HasCleanDisk new → IsUnchanged old new) → OnOk result (IsOpen new)
+opened_ok (Ok a) old new same = λ clean. (same clean).0.is_open
+opened_ok (Err fault) old new same = tt

@@ -1,0 +1,130 @@
+-- The exceedances that are read are the state's.
+use Rattle.std.proofs.Common.{◌≡◌, inl, inr, refl, sym, ap, subst, ◌∙◌, ℕ, ℤ, pos, ◌+◌, List, [], ◌∷◌, map, take, length, Result, Ok, Err, Option, Some, None, IfOk, IsTrue, slice_get, true}
+use Rattle.std.specs.Bool.{⊤}
+use Rattle.std.specs.FinMap as fin
+use Rattle.values.specs.Name.{name_cmp}
+use Rattle.sqlite_value.specs.Order.{Row, column}
+use Rattle.sqlite_value.specs.declared.value.Value.TheVariants.{Int, Text}
+use Rattle.sqlite_rules.specs.Lists.{Has}
+use Rattle.sqlite.specs.Effect.{Database}
+use Rattle.sqlite.specs.State.{State, HasCleanDisk}
+use Rattle.limits.specs.SectionText.{section_number}
+use Rattle.limits.specs.declared.section.Section.{Section}
+use Rattle.command.specs.Keys.{KeyParts}
+use Rattle.roster.specs.Sound.{Sound}
+use Rattle.roster.specs.State as roster
+use Rattle.roster.specs.State.{exceedance_name}
+use Rattle.roster.specs.declared.state.ExceedanceId.{ExceedanceId}
+use Rattle.roster.specs.declared.state.PeriodId.{PeriodId}
+use Rattle.tables.proofs.KeyLemmas.{exceedance_once}
+use Rattle.tables.specs.Calls.{HasStepLimit, LeavesNothing, ReadAs}
+use Rattle.tables.specs.Records.{exceedance_row}
+use Rattle.tables.specs.Rows.{Finds, FindsInOrder, HasNoRecord, begins_with}
+use Rattle.tables.specs.Schema.{exceedance_table}
+use Rattle.tables.specs.declared.exceedance.ExceedanceRecord.{ExceedanceRecord}
+use Rattle.tables.specs.declared.table_fault.TableFault.{TableFault}
+use Rattle.rows.specs.Rows.{table, exceedance, row_of_exceedance, ExceedanceAt}
+use Rattle.rows.specs.declared.fault.StoreFault.{StoreFault}
+use Rattle.rows.proofs.Lists.{same_map}
+use Rattle.rows.proofs.Tests.{passes}
+use Rattle.rows.proofs.Values.{ids_same, sections_same, number_is, text_is}
+use Rattle.writing.specs.Kept.{IsBookOf}
+use Rattle.writing.proofs.Tables.{is_there}
+use Rattle.writing.specs.Outcomes.{IsOutside}
+use Rattle.loading.proofs.Mapping.{all_taken, nothing_mapped, next_mapped, mapped_place}
+use Rattle.loading.specs.Loading.{name_of}
+use Rattle.loading.specs.Reading.{AreOnce, Mapped, row_of_recorded}
+use Rattle.lookup.specs.Reads.{ReadsRows}
+use Rattle.lookup.specs.Recorded.{AreRead}
+use Rattle.lookup.proofs.ReadLemmas.{in_found, of_found, stays}
+
+-- ---- The call
+
+module _ {A : Type 0} (IsRecord : Row → Type 0) (rows : A → List Row) (old new : State)
+    (left : LeavesNothing old new) (outside : IsOutside old) (same : HasCleanDisk old → IsTrue old.is_open → old.now ≡ old.committed) where
+  abbrev InOrder : Database → A → Type 0
+  InOrder db found = FindsInOrder 4 exceedance_table db (rows found)
+
+  abbrev Ordered : Result A TableFault → Type 0
+  Ordered = ReadAs InOrder (HasNoRecord exceedance_table (begins_with []) IsRecord) (HasStepLimit old) old new
+
+  pub was_ordered : (a : A) → Ordered (Ok a) → ReadsRows exceedance (begins_with []) rows old new (Ok a)
+  was_ordered a read = record {
+    stays = stays InOrder (HasNoRecord exceedance_table (begins_with []) IsRecord) (HasStepLimit old) old new left outside same (Ok a) read;
+    told = λ clean. ((read clean).1, (read clean).0.0);
+  }
+
+  pub not_ordered : (fault : TableFault) (told : StoreFault) → Ordered (Err fault) → ReadsRows exceedance (begins_with []) rows old new (Err told)
+  not_ordered fault told read = record {
+    stays = stays InOrder (HasNoRecord exceedance_table (begins_with []) IsRecord) (HasStepLimit old) old new left outside same (Err fault) read;
+    told = λ clean. tt;
+  }
+
+-- ---- One record
+
+pub row_is : (it : ExceedanceRecord) (key : KeyParts) (section : Section) → it.number ≡ pos key.number → it.part ≡ key.part → it.section ≡ section_number section →
+    exceedance_row it ≡ row_of_recorded (record { key = key; crew = it.crew; section = section }) (record { pairing = it.pairing; number = it.period })
+row_is it key section number part section_is = λ i. exceedance_row (record it { number = number i; part = part i; section = section_is i })
+
+-- ---- Records in turn
+
+abbrev Is : ExceedanceId → PeriodId → Type 0
+Is id period = ⊤
+
+pub none_read : (records : List ExceedanceRecord) (m : fin.FinMap name_cmp PeriodId) → m ≡ fin.empty → AreRead records 0 m
+none_read records m none = record { mapped = λ once. subst (Mapped name_of row_of_recorded Is []) (sym none) (nothing_mapped name_of ids_same row_of_recorded Is) }
+
+pub one_read : (records : List ExceedanceRecord) (at : ℕ) (it : ExceedanceRecord) → slice_get records at ≡ Some it → (m n : fin.FinMap name_cmp PeriodId) (id : ExceedanceId) (period : PeriodId) →
+    exceedance_row it ≡ row_of_recorded id period → n ≡ fin.insert m (name_of id) period → AreRead records at m → AreRead records (at + 1) n
+one_read records at it there m n id period told made read = record {
+  mapped = λ once. subst (Mapped name_of row_of_recorded Is (take (at + 1) (map exceedance_row records))) (sym made)
+      (next_mapped name_of ids_same row_of_recorded Is m id period (map exceedance_row records) at (mapped_place exceedance_row records at it there ∙ ap Some told) (read.mapped once) tt once);
+}
+
+-- ---- The table
+
+module _ (s : roster.State) (sound : Sound s) (db : Database) (is_book : IsBookOf s db) (records : List ExceedanceRecord)
+    (finds : Finds (table exceedance) (begins_with []) db (map exceedance_row records)) where
+  itself : (id : ExceedanceId) (p : PeriodId) → begins_with (Int (pos id.key.number) ∷ Int (pos id.key.part) ∷ Text id.crew ∷ Int (pos (section_number id.section)) ∷ []) (row_of_recorded id p) ≡ true
+  itself id p = passes (Int (pos id.key.number) ∷ Int (pos id.key.part) ∷ Text id.crew ∷ Int (pos (section_number id.section)) ∷ []) (row_of_recorded id p) (refl, (refl, (refl, (refl, tt))))
+
+  once : AreOnce row_of_recorded (map exceedance_row records)
+  once id p q first second =
+      exceedance_once db is_book.database (is_there db.schema is_book.tables exceedance) (is_book.stored exceedance) (pos id.key.number) (pos id.key.part) id.crew (pos (section_number id.section))
+      (row_of_recorded id p) (row_of_recorded id q)
+      (of_found exceedance (begins_with []) db (map exceedance_row records) finds (row_of_recorded id p) first).0
+      (of_found exceedance (begins_with []) db (map exceedance_row records) finds (row_of_recorded id q) second).0 (itself id p) (itself id q)
+
+  -- rows that are the same are of one exceedance
+  same_at : (id other : ExceedanceId) (p q : PeriodId) → row_of_recorded id p ≡ row_of_recorded other q → (name_of id ≡ name_of other) × (p ≡ q)
+  same_at id other p q e =
+      let at_column = λ (k : ℕ). ap (λ (row : Row). column row k) e in
+      let number : id.key.number ≡ other.key.number = number_is (at_column 0) in
+      let part : id.key.part ≡ other.key.part = number_is (at_column 1) in
+      let crew : id.crew ≡ other.crew = text_is (at_column 2) in
+      let section = sections_same id.section other.section (number_is (at_column 3)) in
+      let pairing : p.pairing ≡ q.pairing = text_is (at_column 4) in
+      let period : p.number ≡ q.number = number_is (at_column 5) in (
+        (λ i. exceedance_name (record { number = number i; part = part i }) (crew i) (section i)),
+        (λ i. record { pairing = pairing i; number = period i }),
+      )
+
+  pub recorded_are : (m : fin.FinMap name_cmp PeriodId) → AreRead records (length records) m → m ≡ s.exceedances
+  recorded_are m read =
+      let mapped = subst (λ l. Mapped name_of row_of_recorded Is l m) (all_taken exceedance_row records) (read.mapped once) in
+      same_map m s.exceedances
+      (λ q p e.
+      let known = mapped.known q p e in
+      let row = row_of_recorded known.0 p in
+      let here = mapped.all (record { index = known.0; value = p; there = ap (fin.get m) (sym known.1) ∙ e }) in
+      let at = (is_book.rows exceedance row).0 (of_found exceedance (begins_with []) db (map exceedance_row records) finds row here).0 in
+      let same = same_at known.0 (record { key = at.0.key; crew = at.0.crew; section = at.0.section }) p at.0.period at.1 in
+      ap (fin.get s.exceedances) (known.1 ∙ same.0) ∙ at.0.there ∙ ap Some (sym same.1))
+      (λ q p e.
+      let x = sound.exceedances q p e in
+      let id : ExceedanceId = record { key = x.key; crew = x.crew; section = x.section } in
+      let row = row_of_recorded id p in
+      let at : ExceedanceAt s.exceedances = record { key = x.key; crew = x.crew; section = x.section; period = p; there = ap (fin.get s.exceedances) (sym x.known_by) ∙ e } in
+      let here = mapped.has row (in_found exceedance (begins_with []) db (map exceedance_row records) finds row ((is_book.rows exceedance row).1 (at, refl)) refl) in
+      let same = same_at id here.0.index p here.0.value here.1 in
+      ap (fin.get m) (x.known_by ∙ same.0) ∙ here.0.there ∙ ap Some (sym same.1))

@@ -1,0 +1,13 @@
+use Rattle.lookup.proofs.ReadLemmas.{opened_ok}
+use Rattle.lookup.proofs.PlanLemmas.{plan_told}
+use Rattle.lookup.proofs.pairing.pairing_at.Goals as goal
+
+pub returns : goal.returns
+returns g c = record {
+  stays = c.plan_rows.ensures.stays;
+  opened = opened_ok c.pairing_told.result _ _ (λ clean. (c.in_ok-rows.ensures.told clean).0);
+  told = λ clean s shows.
+      let read = c.in_ok-rows.ensures.told clean in
+      let finds = rw c.as_str.ensures at read.1 in
+      plan_told _ _ s _ c.in_ok-rows.rows c.pairing_told.result clean read.0 finds c.plan_rows.ensures.stays.left shows c.pairing_told.ensures;
+}

@@ -1,0 +1,16 @@
+use Rattle.std.proofs.Common.{◌≡◌}
+use Rattle.lookup.specs.Entries.{HasFirstZone}
+use Rattle.lookup.proofs.EntryLemmas.{is_told, zone_is}
+use Rattle.lookup.proofs.ReadLemmas.{opened_ok}
+use Rattle.lookup.proofs.zone.zone_at.Goals as goal
+
+pub returns : goal.returns
+returns g c = record {
+  stays = c.book_rows.ensures.stays;
+  opened = opened_ok c.first_zone.result _ _ (λ clean. (c.in_ok-records.ensures.told clean).0);
+  told = λ clean s shows.
+      let read = c.in_ok-records.ensures.told clean in
+      let first = rw c.deref.ensures.value at c.first_zone.ensures in
+      is_told (HasFirstZone c.in_ok-records.records.items) (λ t zone. zone ≡ t.zone) _ _ s c.first_zone.result clean read.0 c.book_rows.ensures.stays.left shows
+      (λ is_book a it. zone_is s shows.sound _ is_book c.in_ok-records.records.items read.1 a it) first;
+}

@@ -1,0 +1,4 @@
+pub mod Reads
+pub mod Plans
+pub mod Entries
+pub mod Recorded

@@ -1,0 +1,64 @@
+-- What a read by key tells of the state whose tables are read.
+use Rattle.std.specs.Prelude.{◌≡◌, ◌≤◌, ℕ, map, Bool, OnOk, IsTrue, List, [], ◌∷◌, Option, None, Some, Result, IfOk}
+use Rattle.sqlite_value.specs.Order.{Row}
+use Rattle.sqlite.specs.State as conn
+use Rattle.sqlite.specs.State.{HasCleanDisk, IsUnchanged}
+use Rattle.command.specs.declared.member.Member.{Member}
+use Rattle.roster.specs.Sound.{Sound}
+use Rattle.roster.specs.State.{State}
+use Rattle.loading.specs.SameRows.{HasInstants}
+use Rattle.tables.specs.Rows.{Finds}
+use Rattle.tables.specs.declared.crew.CrewRecord.{CrewRecord}
+use Rattle.tables.specs.declared.seat.SeatRecord.{SeatRecord}
+use Rattle.rows.specs.Rows.{TableName, table, seat_number}
+use Rattle.rows.specs.declared.fault.StoreFault.{StoreFault}
+use Rattle.writing.specs.Kept.{IsBookOf}
+use Rattle.writing.specs.Outcomes.{AddsNothing, IsOutside, StaysOpen, StillShows}
+
+-- it shows the tables of a book in this state, which is sound, while it is open
+pub record Shows (now : conn.State) (s : State) : Type 0 where
+  pub sound : Sound s
+  pub instants : HasInstants s
+  pub book : HasCleanDisk now → IsTrue now.is_open → IsBookOf s now.now
+
+-- Nothing is changed: a crash leaves nothing that it could not leave before, and what was shown is shown. No fault of the disk is
+-- forgotten, and only one shuts the connection.
+pub record Stays (old new : conn.State) : Type 0 where
+  pub left : AddsNothing old new
+  pub shown : StillShows old new
+  pub outside : IsOutside new
+  pub counts : old.faults ≤ new.faults
+  pub still_open : StaysOpen old new
+
+-- it is open: only an open one answers
+abbrev pub IsOpen : conn.State → Type 0
+IsOpen now = HasCleanDisk now → IsTrue now.is_open
+
+-- what a read of a table tells: nothing is changed, and the rows are just those that pass the test
+pub record ReadsRows {A : Type 0} (it : TableName) (test : Row → Bool) (rows : A → List Row) (old new : conn.State) (result : Result A StoreFault) : Type 0 where
+  pub stays : Stays old new
+  pub told : HasCleanDisk new → IfOk result (λ a. IsUnchanged old new × Finds (table it) test old.now (rows a))
+
+-- what a read by key tells: nothing is changed, and the answer is what the state has that is shown
+pub record Reads {A : Type 0} (Is : State → A → Type 0) (old new : conn.State) (result : Result A StoreFault) : Type 0 where
+  pub stays : Stays old new
+  pub opened : OnOk result (IsOpen new)
+  pub told : HasCleanDisk new → (s : State) → Shows old s → IfOk result (λ a. Shows new s × Is s a)
+
+-- the member of the first record, if there is one
+abbrev pub HasFirst : List CrewRecord → Option Member → Type 0
+HasFirst [] found = found ≡ None
+HasFirst (row ∷ rows) found = (m : Member) × (found ≡ Some m) × (seat_number m.seat ≡ row.seat) × (m.name ≡ row.name)
+
+-- the pairings that some records of seats name
+abbrev pub ids_in : List SeatRecord → List (List ℕ)
+ids_in records = map (λ row. row.pairing) records
+
+-- ---- Reads in turn
+
+-- what some reads, one after the other, leave of a connection
+pub record ChangesNothing (old new : conn.State) : Type 0 where
+  pub left : AddsNothing old new
+  pub shown : StillShows old new
+  pub counts : old.faults ≤ new.faults
+  pub still_open : StaysOpen old new

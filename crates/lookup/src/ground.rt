@@ -1,0 +1,121 @@
+//! Ground duties, read by id and by member.
+
+ghost use Rattle.std.specs.Prelude.{◌≡◌, IfOk, [], ◌∷◌, map};
+ghost use Rattle.std.specs.FinMap as fin;
+ghost use Rattle.sqlite.specs.Held.{state};
+ghost use Rattle.sqlite_value.specs.declared.value.Value.TheVariants as value;
+ghost use Rattle.tables.specs.Records.{ground_row};
+ghost use Rattle.tables.specs.Rows.{begins_with, equals_at};
+ghost use Rattle.writing.specs.Outcomes.{IsOutside, IsOverBook};
+ghost use Rattle.rows.specs.Rows.{ground_duty};
+ghost use Rattle.part.specs.Sources.{AreJust, IsGroundOf};
+ghost use Rattle.lookup.specs.Reads.{Reads, ReadsRows};
+ghost use Rattle.lookup.specs.Entries.{HasFirstGround, grounds_in};
+
+use duty::{CrewId, Ground, GroundId};
+use rows::StoreFault;
+use sqlite::{Alter, Connection};
+use std::alloc::Global;
+use tables::ground::{GroundRecord, ground_by_id, grounds_by_crew};
+use time117::Minute;
+use values::{Copied, MemoryFault};
+
+/// The records of the ground duties with this id.
+#[tactic(auto, using(crate::proofs::ReadLemmas::was_read, crate::proofs::ReadLemmas::not_read, crate::proofs::ReadLemmas::holds_open))]
+fn ground_rows<S: Alter>(
+    alloc: Global,
+    conn: &mut Connection<S>,
+    id: &str,
+) -> Result<Vec<GroundRecord>, StoreFault>
+    requires outside { IsOutside (state S.Store conn.old) }
+    requires over { IsOverBook (state S.Store conn.old) }
+    ensures { ReadsRows ground_duty (begins_with (value.Text id.now ∷ [])) (λ found. map ground_row found.items) (state S.Store conn.old) (state S.Store conn.new) result }
+{
+    let _settled = conn.is_autocommit();
+    match ground_by_id(alloc, conn, id) {
+        Ok(records) => Ok(records),
+        Err(fault) => Err(StoreFault::from(fault)),
+    }
+}
+
+/// The records of a member's ground duties.
+#[tactic(auto, using(crate::proofs::ReadLemmas::was_read, crate::proofs::ReadLemmas::not_read, crate::proofs::ReadLemmas::holds_open))]
+fn crew_ground_rows<S: Alter>(
+    alloc: Global,
+    conn: &mut Connection<S>,
+    who: &str,
+) -> Result<Vec<GroundRecord>, StoreFault>
+    requires outside { IsOutside (state S.Store conn.old) }
+    requires over { IsOverBook (state S.Store conn.old) }
+    ensures { ReadsRows ground_duty (equals_at 1 (value.Text who.now)) (λ found. map ground_row found.items) (state S.Store conn.old) (state S.Store conn.new) result }
+{
+    let _settled = conn.is_autocommit();
+    match grounds_by_crew(alloc, conn, who) {
+        Ok(records) => Ok(records),
+        Err(fault) => Err(StoreFault::from(fault)),
+    }
+}
+
+/// The ground duty that the first of some records tells of.
+fn first_ground(alloc: Global, records: &[GroundRecord]) -> Result<Option<Ground>, StoreFault>
+    ensures { IfOk result (HasFirstGround records.now) }
+{
+    let Some(row) = records.first() else {
+        return Ok(None);
+    };
+    let Some(begin) = Minute::from_number(row.begin_at) else {
+        return Err(StoreFault::Store);
+    };
+    let Some(end) = Minute::from_number(row.end_at) else {
+        return Err(StoreFault::Store);
+    };
+    let id = GroundId::new(row.id.copy(alloc)?);
+    let crew = CrewId::new(row.crew.copy(alloc)?);
+    let task = row.task.copy(alloc)?;
+    match Ground::new(id, crew, begin, end, task) {
+        Ok(ground) => Ok(Some(ground)),
+        Err(_) => Err(StoreFault::Store),
+    }
+}
+
+/// The ids of the ground duties that the records name.
+fn ids_in(alloc: Global, records: &[GroundRecord]) -> Result<Vec<GroundId>, MemoryFault>
+    ensures { IfOk result (λ ids. ids.items ≡ grounds_in records.now) }
+{
+    let mut ids = Vec::new(alloc);
+    for row in records {
+        ids.push(GroundId::new(row.id.copy(alloc)?))?;
+    }
+    Ok(ids)
+}
+
+/// The ground duty of an id.
+pub fn ground_at<S: Alter>(
+    alloc: Global,
+    conn: &mut Connection<S>,
+    id: &GroundId,
+) -> Result<Option<Ground>, StoreFault>
+    requires outside { IsOutside (state S.Store conn.old) }
+    requires over { IsOverBook (state S.Store conn.old) }
+    ensures { Reads (λ s found. found ≡ fin.get s.grounds id.now) (state S.Store conn.old) (state S.Store conn.new) result }
+{
+    let records = ground_rows(alloc, conn, id.as_str())?;
+    first_ground(alloc, &records)
+}
+
+/// The ids of a member's ground duties.
+pub fn grounds_held_at<S: Alter>(
+    alloc: Global,
+    conn: &mut Connection<S>,
+    who: &CrewId,
+) -> Result<Vec<GroundId>, StoreFault>
+    requires outside { IsOutside (state S.Store conn.old) }
+    requires over { IsOverBook (state S.Store conn.old) }
+    ensures { Reads (λ s found. AreJust (IsGroundOf s who.now) found.items) (state S.Store conn.old) (state S.Store conn.new) result }
+{
+    let records = crew_ground_rows(alloc, conn, who.as_str())?;
+    match ids_in(alloc, &records) {
+        Ok(ids) => Ok(ids),
+        Err(_) => Err(StoreFault::Memory),
+    }
+}

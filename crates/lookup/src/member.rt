@@ -1,0 +1,69 @@
+//! A member, read by id.
+
+ghost use Rattle.std.specs.Prelude.{◌≡◌, IfOk, [], ◌∷◌, map};
+ghost use Rattle.std.specs.FinMap as fin;
+ghost use Rattle.sqlite.specs.Held.{state};
+ghost use Rattle.sqlite_value.specs.declared.value.Value.TheVariants as value;
+ghost use Rattle.tables.specs.Records.{crew_row};
+ghost use Rattle.tables.specs.Rows.{begins_with};
+ghost use Rattle.writing.specs.Outcomes.{IsOutside, IsOverBook};
+ghost use Rattle.rows.specs.Rows.{crew};
+ghost use Rattle.lookup.specs.Reads.{HasFirst, Reads, ReadsRows};
+
+use command::{Member, Seat};
+use duty::CrewId;
+use rows::StoreFault;
+use sqlite::{Alter, Connection};
+use std::alloc::Global;
+use tables::crew::{CrewRecord, crew_by_id};
+use values::Copied;
+
+/// The records of the members with this id.
+#[tactic(auto, using(crate::proofs::ReadLemmas::was_read, crate::proofs::ReadLemmas::not_read, crate::proofs::ReadLemmas::holds_open))]
+fn crew_rows<S: Alter>(
+    alloc: Global,
+    conn: &mut Connection<S>,
+    id: &str,
+) -> Result<Vec<CrewRecord>, StoreFault>
+    requires outside { IsOutside (state S.Store conn.old) }
+    requires over { IsOverBook (state S.Store conn.old) }
+    ensures { ReadsRows crew (begins_with (value.Text id.now ∷ [])) (λ found. map crew_row found.items) (state S.Store conn.old) (state S.Store conn.new) result }
+{
+    let _settled = conn.is_autocommit();
+    match crew_by_id(alloc, conn, id) {
+        Ok(records) => Ok(records),
+        Err(fault) => Err(StoreFault::from(fault)),
+    }
+}
+
+/// The member that the first of some records tells of.
+fn first_member(alloc: Global, records: &[CrewRecord]) -> Result<Option<Member>, StoreFault>
+    ensures { IfOk result (HasFirst records.now) }
+{
+    let Some(row) = records.first() else {
+        return Ok(None);
+    };
+    let seat = match row.seat {
+        0 => Seat::Captain,
+        1 => Seat::FirstOfficer,
+        _ => return Err(StoreFault::Store),
+    };
+    Ok(Some(Member {
+        seat,
+        name: row.name.copy(alloc)?,
+    }))
+}
+
+/// The member of an id.
+pub fn member_at<S: Alter>(
+    alloc: Global,
+    conn: &mut Connection<S>,
+    id: &CrewId,
+) -> Result<Option<Member>, StoreFault>
+    requires outside { IsOutside (state S.Store conn.old) }
+    requires over { IsOverBook (state S.Store conn.old) }
+    ensures { Reads (λ s found. found ≡ fin.get s.crew id.now) (state S.Store conn.old) (state S.Store conn.new) result }
+{
+    let records = crew_rows(alloc, conn, id.as_str())?;
+    first_member(alloc, &records)
+}

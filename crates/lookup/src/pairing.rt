@@ -1,0 +1,169 @@
+//! A pairing with its actuals and holders, read by id.
+
+ghost use Rattle.std.specs.Prelude.{◌≡◌, IfOk, [], ◌∷◌, map};
+ghost use Rattle.std.specs.FinMap as fin;
+ghost use Rattle.sqlite.specs.Held.{state};
+ghost use Rattle.sqlite_value.specs.declared.value.Value.TheVariants as value;
+ghost use Rattle.tables.specs.Records.{period_row, seat_row, segment_row};
+ghost use Rattle.tables.specs.Rows.{begins_with};
+ghost use Rattle.writing.specs.Outcomes.{IsOutside, IsOverBook};
+ghost use Rattle.rows.specs.Rows.{period, seat, segment};
+ghost use Rattle.lookup.specs.Reads.{Reads, ReadsRows};
+ghost use Rattle.lookup.specs.Plans.{HoldsSeat, ReadsPlan, TellsPairing};
+
+use duty::{CrewId, PairingId};
+use loading::{LoadFault, pairing_of_records};
+use roster::Rostered;
+use rows::StoreFault;
+use sqlite::{Alter, Connection};
+use std::alloc::Global;
+use tables::period::{PeriodRecord, periods_of};
+use tables::seat::{SeatRecord, seats_of};
+use tables::segment::{SegmentRecord, segments_of};
+use values::{Copied, MemoryFault};
+
+/// The records of one pairing; of one that isn't there, none.
+#[derive(Drop)]
+pub(crate) struct PlanRecords {
+    pub(crate) periods: Vec<PeriodRecord>,
+    pub(crate) segments: Vec<SegmentRecord>,
+    pub(crate) seats: Vec<SeatRecord>,
+}
+
+/// The records of its periods.
+#[tactic(auto, using(crate::proofs::ReadLemmas::was_read, crate::proofs::ReadLemmas::not_read, crate::proofs::ReadLemmas::holds_open))]
+fn period_rows<S: Alter>(
+    alloc: Global,
+    conn: &mut Connection<S>,
+    id: &str,
+) -> Result<Vec<PeriodRecord>, StoreFault>
+    requires outside { IsOutside (state S.Store conn.old) }
+    requires over { IsOverBook (state S.Store conn.old) }
+    ensures { ReadsRows period (begins_with (value.Text id.now ∷ [])) (λ found. map period_row found.items) (state S.Store conn.old) (state S.Store conn.new) result }
+{
+    let _settled = conn.is_autocommit();
+    match periods_of(alloc, conn, id) {
+        Ok(records) => Ok(records),
+        Err(fault) => Err(StoreFault::from(fault)),
+    }
+}
+
+/// The records of its segments.
+#[tactic(auto, using(crate::proofs::ReadLemmas::was_read, crate::proofs::ReadLemmas::not_read, crate::proofs::ReadLemmas::holds_open))]
+fn segment_rows<S: Alter>(
+    alloc: Global,
+    conn: &mut Connection<S>,
+    id: &str,
+) -> Result<Vec<SegmentRecord>, StoreFault>
+    requires outside { IsOutside (state S.Store conn.old) }
+    requires over { IsOverBook (state S.Store conn.old) }
+    ensures { ReadsRows segment (begins_with (value.Text id.now ∷ [])) (λ found. map segment_row found.items) (state S.Store conn.old) (state S.Store conn.new) result }
+{
+    let _settled = conn.is_autocommit();
+    match segments_of(alloc, conn, id) {
+        Ok(records) => Ok(records),
+        Err(fault) => Err(StoreFault::from(fault)),
+    }
+}
+
+/// The records of its seats that are held.
+#[tactic(auto, using(crate::proofs::ReadLemmas::was_read, crate::proofs::ReadLemmas::not_read, crate::proofs::ReadLemmas::holds_open))]
+fn seat_rows<S: Alter>(
+    alloc: Global,
+    conn: &mut Connection<S>,
+    id: &str,
+) -> Result<Vec<SeatRecord>, StoreFault>
+    requires outside { IsOutside (state S.Store conn.old) }
+    requires over { IsOverBook (state S.Store conn.old) }
+    ensures { ReadsRows seat (begins_with (value.Text id.now ∷ [])) (λ found. map seat_row found.items) (state S.Store conn.old) (state S.Store conn.new) result }
+{
+    let _settled = conn.is_autocommit();
+    match seats_of(alloc, conn, id) {
+        Ok(records) => Ok(records),
+        Err(fault) => Err(StoreFault::from(fault)),
+    }
+}
+
+/// All three. Without a period there is no pairing, and nothing more is read.
+#[tactic(auto, using(crate::proofs::PlanReads::no_plan, crate::proofs::PlanReads::not_first, crate::proofs::PlanReads::not_second, crate::proofs::PlanReads::not_third, crate::proofs::PlanReads::all_read, crate::proofs::ReadLemmas::over_on))]
+fn plan_rows<S: Alter>(
+    alloc: Global,
+    conn: &mut Connection<S>,
+    id: &str,
+) -> Result<PlanRecords, StoreFault>
+    requires outside { IsOutside (state S.Store conn.old) }
+    requires over { IsOverBook (state S.Store conn.old) }
+    ensures { ReadsPlan id.now (state S.Store conn.old) (state S.Store conn.new) result }
+{
+    let periods = period_rows(alloc, conn, id)?;
+    if periods.is_empty() {
+        return Ok(PlanRecords {
+            periods,
+            segments: Vec::new(alloc),
+            seats: Vec::new(alloc),
+        });
+    }
+    let segments = segment_rows(alloc, conn, id)?;
+    let seats = seat_rows(alloc, conn, id)?;
+    Ok(PlanRecords {
+        periods,
+        segments,
+        seats,
+    })
+}
+
+/// Who holds the seat of a number.
+fn holder_in(
+    alloc: Global,
+    number: u32,
+    seats: &[SeatRecord],
+) -> Result<Option<CrewId>, MemoryFault>
+    ensures { IfOk result (HoldsSeat number seats.now) }
+{
+    for row in seats {
+        if row.seat == number {
+            return Ok(Some(CrewId::new(row.crew.copy(alloc)?)));
+        }
+    }
+    Ok(None)
+}
+
+/// The pairing that the records tell of.
+fn pairing_told(
+    alloc: Global,
+    id: &PairingId,
+    rows: &PlanRecords,
+) -> Result<Option<Rostered>, StoreFault>
+    ensures { IfOk result (TellsPairing id.now rows.now.periods.items rows.now.segments.items rows.now.seats.items) }
+{
+    let Some(_) = rows.periods.first() else {
+        return Ok(None);
+    };
+    let free = match pairing_of_records(alloc, id, &rows.periods, &rows.segments) {
+        Ok(free) => free,
+        Err(LoadFault::Fault(fault)) => return Err(fault),
+        Err(_) => return Err(StoreFault::Store),
+    };
+    let captain = holder_in(alloc, 0, &rows.seats)?;
+    let first_officer = holder_in(alloc, 1, &rows.seats)?;
+    Ok(Some(Rostered {
+        plan: free.plan,
+        actuals: free.actuals,
+        captain,
+        first_officer,
+    }))
+}
+
+/// The pairing of an id.
+pub fn pairing_at<S: Alter>(
+    alloc: Global,
+    conn: &mut Connection<S>,
+    id: &PairingId,
+) -> Result<Option<Rostered>, StoreFault>
+    requires outside { IsOutside (state S.Store conn.old) }
+    requires over { IsOverBook (state S.Store conn.old) }
+    ensures { Reads (λ s found. found ≡ fin.get s.pairings id.now) (state S.Store conn.old) (state S.Store conn.new) result }
+{
+    let rows = plan_rows(alloc, conn, id.as_str())?;
+    pairing_told(alloc, id, &rows)
+}

@@ -1,0 +1,7 @@
+pub mod Retained
+pub mod Alike
+pub mod Answers
+pub mod SoundParts
+pub mod Picked
+pub mod ShownParts
+pub mod ShownTexts

@@ -1,0 +1,28 @@
+use Rattle.part.proofs.showing.gather_member.Goals as goal
+
+pub returns-in_err-crew-clause-left : goal.returns-in_err-crew-clause-left
+returns-in_err-crew-clause-left g c = g.S.Source.and_then _ _ _ c.zone.ensures.left c.one_member.ensures.left
+
+pub returns-in_err-pairings-clause-left : goal.returns-in_err-pairings-clause-left
+returns-in_err-pairings-clause-left g c =
+    g.S.Source.and_then _ _ _ c.zone.ensures.left (g.S.Source.and_then _ _ _ c.one_member.ensures.left c.held_pairings.ensures.left)
+
+pub returns-in_err-grounds-clause-left : goal.returns-in_err-grounds-clause-left
+returns-in_err-grounds-clause-left g c =
+    g.S.Source.and_then _ _ _ c.zone.ensures.left (g.S.Source.and_then _ _ _ c.one_member.ensures.left
+    (g.S.Source.and_then _ _ _ c.held_pairings.ensures.left c.grounds_held.ensures.left))
+
+pub returns-clause-left : goal.returns-clause-left
+returns-clause-left g c =
+    g.S.Source.and_then _ _ _ c.zone.ensures.left (g.S.Source.and_then _ _ _ c.one_member.ensures.left
+    (g.S.Source.and_then _ _ _ c.held_pairings.ensures.left c.grounds_held.ensures.left))
+
+pub returns-clause-serves : goal.returns-clause-serves
+returns-clause-serves g c =
+    g.S.Source.serves_then _ _ _ c.in_ok-zone.ensures.serves (g.S.Source.serves_then _ _ _ c.in_ok-crew.ensures.serves
+    (g.S.Source.serves_then _ _ _ c.in_ok-pairings.ensures.serves c.in_ok-grounds.ensures.serves))
+
+pub returns-clause-there : goal.returns-clause-there
+returns-clause-there g c =
+    g.S.Source.still_there _ _ (g.S.Source.serves_then _ _ _ c.in_ok-crew.ensures.serves (g.S.Source.serves_then _ _ _ c.in_ok-pairings.ensures.serves
+    c.in_ok-grounds.ensures.serves)) c.in_ok-zone.ensures.there

@@ -1,0 +1,64 @@
+-- The parts of a state that are shown.
+use Rattle.std.specs.Prelude.{◌≡◌, ◌↔◌, false, ℕ, Bool, List}
+use Rattle.std.specs.FinMap as fin
+use Rattle.std.specs.Option.{option_map_or}
+use Rattle.std.specs.Str.{bytes_eq}
+use Rattle.report.specs.ExceedanceText.{IsExceedanceText}
+use Rattle.report.specs.PairingText.{pairing_text}
+use Rattle.report.specs.RosterText.{IsRosterText}
+use Rattle.roster.specs.Pairings.{holds}
+use Rattle.roster.specs.State.{State}
+
+abbrev pub is_held_of : State → List ℕ → List ℕ → Bool
+is_held_of s who id = option_map_or (holds who) (fin.get s.pairings id) false
+
+abbrev pub is_ground_of : State → List ℕ → List ℕ → Bool
+is_ground_of s who id = option_map_or (λ g. bytes_eq g.crew who) (fin.get s.grounds id) false
+
+-- a member, with the pairings that the member holds and the member's ground duties
+abbrev pub member_part : State → List ℕ → State
+member_part s who = record {
+  zone = s.zone;
+  crew = fin.retain_keys s.crew (bytes_eq who);
+  pairings = fin.retain_keys s.pairings (is_held_of s who);
+  grounds = fin.retain_keys s.grounds (is_ground_of s who);
+  exceedances = fin.empty;
+  requests = fin.empty;
+}
+
+-- a pairing alone
+abbrev pub pairing_part : State → List ℕ → State
+pairing_part s id = record {
+  zone = s.zone;
+  crew = fin.empty;
+  pairings = fin.retain_keys s.pairings (bytes_eq id);
+  grounds = fin.empty;
+  exceedances = fin.empty;
+  requests = fin.empty;
+}
+
+-- the exceedances alone
+abbrev pub exceedances_part : State → State
+exceedances_part s = record {
+  zone = s.zone;
+  crew = fin.empty;
+  pairings = fin.empty;
+  grounds = fin.empty;
+  exceedances = s.exceedances;
+  requests = fin.empty;
+}
+
+-- ---- Laws
+
+-- the text of a member is that of the member's part, and there is none exactly where there is none
+abbrev pub HasMemberText : Type 0
+HasMemberText = (s : State) (who : List ℕ) →
+    (fin.get (member_part s who).crew who ≡ fin.get s.crew who) × ((text : List ℕ) → IsRosterText (member_part s who) who text ↔ IsRosterText s who text)
+
+-- so is the text of a pairing
+abbrev pub HasPairingText : Type 0
+HasPairingText = (s : State) (id : List ℕ) → pairing_text (pairing_part s id) id ≡ pairing_text s id
+
+-- and that of the exceedances
+abbrev pub HasExceedanceText : Type 0
+HasExceedanceText = (s : State) (text : List ℕ) → IsExceedanceText (exceedances_part s) text ↔ IsExceedanceText s text

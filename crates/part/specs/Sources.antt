@@ -1,0 +1,53 @@
+-- What a source that is read by key tells of the state that it shows.
+use Rattle.std.specs.Prelude.{◌≡◌, ◌↔◌, ◌++◌, true, List, map, ℕ, Result, IfOk, Some}
+use Rattle.std.specs.FinMap as fin
+use Rattle.std.specs.List.{Contains, fold, flat_map}
+use Rattle.std.specs.Option.{option_map_or}
+use Rattle.std.specs.Str.{bytes_eq}
+use Rattle.values.specs.Name.{name_cmp}
+use Rattle.duty.specs.Plans.{GroundPlan}
+use Rattle.command.specs.declared.order.Order.{Order}
+use Rattle.part.specs.Part.{holders, members_named}
+use Rattle.roster.specs.Pairings.{holds}
+use Rattle.roster.specs.State.{State}
+use Rattle.roster.specs.declared.state.Rostered.{Rostered}
+
+-- what a call tells: while the source may be believed it shows the state that it showed, and the answer is the state's
+abbrev pub Tells : {X A E : Type 0} → (X → Type 0) → (X → State → Type 0) → (State → A → Type 0) → X → X → Result A E → Type 0
+Tells IsClean Shows Is old new result =
+    (IsClean new → IsClean old) × (IsClean new → (s : State) → Shows old s → IfOk result (λ a. Shows new s × Is s a))
+
+-- the member holds the pairing of this id
+abbrev pub IsHeldBy : State → List ℕ → List ℕ → Type 0
+IsHeldBy s who id = (r : Rostered) × (fin.get s.pairings id ≡ Some r) × (holds who r ≡ true)
+
+-- the ground duty of this id is the member's
+abbrev pub IsGroundOf : State → List ℕ → List ℕ → Type 0
+IsGroundOf s who id = (g : GroundPlan) × (fin.get s.grounds id ≡ Some g) × (bytes_eq g.crew who ≡ true)
+
+-- just the ids of which a fact holds
+abbrev pub AreJust : (List ℕ → Type 0) → List (List ℕ) → Type 0
+AreJust Is ids = (id : List ℕ) → Contains ids id ↔ Is id
+
+-- a map with what another has under an id, if it has anything there; and so for each of some ids
+abbrev pub pick : {V : Type 0} → fin.FinMap name_cmp V → fin.FinMap name_cmp V → List ℕ → fin.FinMap name_cmp V
+pick from to id = option_map_or (λ value. fin.insert to id value) (fin.get from id) to
+
+abbrev pub picked : {V : Type 0} → fin.FinMap name_cmp V → fin.FinMap name_cmp V → List (List ℕ) → fin.FinMap name_cmp V
+picked from to ids = fold (pick from) to ids
+
+-- what a map has under an id, another has there too
+abbrev pub IsPartOf : {V : Type 0} → fin.FinMap name_cmp V → fin.FinMap name_cmp V → Type 0
+IsPartOf {V} part whole = (id : List ℕ) (value : V) → fin.get part id ≡ Some value → fin.get whole id ≡ Some value
+
+-- what some of these members hold, and whose ground duties are theirs
+abbrev pub IsHeldByOne : State → List (List ℕ) → List ℕ → Type 0
+IsHeldByOne s names id = (who : List ℕ) × Contains names who × IsHeldBy s who id
+
+abbrev pub IsGroundOfOne : State → List (List ℕ) → List ℕ → Type 0
+IsGroundOfOne s names id = (who : List ℕ) × Contains names who × IsGroundOf s who id
+
+-- the members whom an order names, and whom these pairings and ground duties name
+abbrev pub members_wanted : Order → fin.FinMap name_cmp Rostered → fin.FinMap name_cmp GroundPlan → List (List ℕ)
+members_wanted order pairings grounds =
+    (members_named order ++ flat_map (λ row. holders row.1) (fin.entries pairings)) ++ map (λ row. row.1.crew) (fin.entries grounds)

@@ -1,0 +1,166 @@
+//! The part of a state, gathered from a source.
+
+ghost use Rattle.std.specs.Prelude.{◌≡◌, ◌++◌, OnOk};
+ghost use Rattle.std.specs.FinMap as fin;
+ghost use Rattle.std.specs.Str.{bytes_eq};
+ghost use Rattle.command.specs.Keys.{key_name};
+ghost use Rattle.part.specs.Part.{Part, pairings_of, grounds_of, judged_by, needs_member};
+ghost use Rattle.part.specs.Sources.{AreJust, IsGroundOfOne, IsHeldByOne, Tells};
+
+use crate::named::{grounds_named, judged_in, members_wanted, pairings_named};
+use crate::pick::{pick_grounds, pick_members, pick_pairings, pick_request};
+use crate::source::Source;
+use command::{Command, Key, Member, Order};
+use duty::{CrewId, Ground, GroundId, PairingId};
+use roster::{Request, Roster, Rostered};
+use std::alloc::Global;
+use values::{MemoryFault, Table};
+
+/// Adds all values of a list to another.
+fn add_all<T: Drop>(list: &mut Vec<T>, other: Vec<T>) -> Result<(), MemoryFault>
+    ensures { OnOk result (list.new.items ≡ list.old.items ++ other.items) }
+{
+    let mut other = other;
+    list.append(&mut other)?;
+    Ok(())
+}
+
+/// The ids of the pairings that some members hold.
+fn held_by_one<S: Source>(
+    alloc: Global,
+    source: &mut S,
+    judged: &[CrewId],
+) -> Result<Vec<PairingId>, S::Fault>
+    ensures told { Tells S.is_clean S.shows (λ s found. AreJust (IsHeldByOne s judged.now) found.items) source.old source.new result }
+    ensures left { S.stays source.old source.new }
+    ensures serves { OnOk result (S.serves source.old source.new) }
+{
+    let mut all = Vec::new(alloc);
+    for who in judged {
+        let held = source.pairings_of(alloc, who)?;
+        add_all(&mut all, held)?;
+    }
+    Ok(all)
+}
+
+/// The ids of some members' ground duties.
+fn grounds_of_one<S: Source>(
+    alloc: Global,
+    source: &mut S,
+    judged: &[CrewId],
+) -> Result<Vec<GroundId>, S::Fault>
+    ensures told { Tells S.is_clean S.shows (λ s found. AreJust (IsGroundOfOne s judged.now) found.items) source.old source.new result }
+    ensures left { S.stays source.old source.new }
+    ensures serves { OnOk result (S.serves source.old source.new) }
+{
+    let mut all = Vec::new(alloc);
+    for who in judged {
+        let theirs = source.grounds_of(alloc, who)?;
+        add_all(&mut all, theirs)?;
+    }
+    Ok(all)
+}
+
+/// The pairings of a part, and whose histories are judged.
+struct Plans {
+    pairings: Table<PairingId, Rostered>,
+    judged: Vec<CrewId>,
+}
+
+/// The pairings of a part, and the members whose histories are judged.
+#[tactic(auto, using(crate::proofs::Picked::pairings_are))]
+fn gather_plans<S: Source>(alloc: Global, source: &mut S, order: &Order) -> Result<Plans, S::Fault>
+    ensures told { Tells S.is_clean S.shows (λ s it. (it.pairings ≡ pairings_of s order.now) × (it.judged.items ≡ judged_by s order.now)) source.old source.new result }
+    ensures left { S.stays source.old source.new }
+    ensures serves { OnOk result (S.serves source.old source.new) }
+{
+    let mut pairings = Table::new(alloc);
+    let named = pairings_named(alloc, order)?;
+    pick_pairings(alloc, source, &named, &mut pairings)?;
+    let judged = judged_in(alloc, order, &pairings)?;
+    let held = held_by_one(alloc, source, &judged)?;
+    pick_pairings(alloc, source, &held, &mut pairings)?;
+    Ok(Plans { pairings, judged })
+}
+
+/// The ground duties of a part.
+#[tactic(auto, using(crate::proofs::Picked::grounds_are))]
+fn gather_grounds<S: Source>(
+    alloc: Global,
+    source: &mut S,
+    order: &Order,
+    judged: &[CrewId],
+) -> Result<Table<GroundId, Ground>, S::Fault>
+    ensures told { Tells S.is_clean S.shows (λ s it. judged.now ≡ judged_by s order.now → it ≡ grounds_of s order.now) source.old source.new result }
+    ensures left { S.stays source.old source.new }
+    ensures serves { OnOk result (S.serves source.old source.new) }
+{
+    let mut grounds = Table::new(alloc);
+    let named = grounds_named(alloc, order)?;
+    pick_grounds(alloc, source, &named, &mut grounds)?;
+    let theirs = grounds_of_one(alloc, source, judged)?;
+    pick_grounds(alloc, source, &theirs, &mut grounds)?;
+    Ok(grounds)
+}
+
+/// The members of a part.
+fn gather_members<S: Source>(
+    alloc: Global,
+    source: &mut S,
+    order: &Order,
+    pairings: &Table<PairingId, Rostered>,
+    grounds: &Table<GroundId, Ground>,
+) -> Result<Table<CrewId, Member>, S::Fault>
+    ensures told { Tells S.is_clean S.shows (λ s it. pairings.now ≡ pairings_of s order.now → grounds.now ≡ grounds_of s order.now → it ≡ fin.retain_keys s.crew (needs_member s order.now)) source.old source.new result }
+    ensures left { S.stays source.old source.new }
+    ensures serves { OnOk result (S.serves source.old source.new) }
+{
+    let mut crew = Table::new(alloc);
+    let wanted = members_wanted(alloc, order, pairings, grounds)?;
+    pick_members(alloc, source, &wanted, &mut crew)?;
+    Ok(crew)
+}
+
+/// What the key holds.
+#[tactic(auto, using(crate::proofs::Picked::entry_is))]
+fn gather_requests<S: Source>(
+    alloc: Global,
+    source: &mut S,
+    key: Key,
+) -> Result<Table<Key, Request>, S::Fault>
+    ensures told { Tells S.is_clean S.shows (λ s it. it ≡ fin.retain_keys s.requests (bytes_eq (key_name key))) source.old source.new result }
+    ensures left { S.stays source.old source.new }
+    ensures serves { OnOk result (S.serves source.old source.new) }
+{
+    let mut requests = Table::new(alloc);
+    pick_request(alloc, source, key, &mut requests)?;
+    Ok(requests)
+}
+
+/// What a command needs to be answered under its key.
+pub fn gather<S: Source>(
+    alloc: Global,
+    source: &mut S,
+    key: Key,
+    command: &Command,
+) -> Result<Roster, S::Fault>
+    ensures told { Tells S.is_clean S.shows (λ s it. it ≡ Part s key command.now) source.old source.new result }
+    ensures left { S.stays source.old source.new }
+    ensures serves { OnOk result (S.serves source.old source.new) }
+    ensures there { OnOk result (S.is_there source.new) }
+{
+    let order = command.order();
+    let zone = source.zone(alloc)?;
+    let requests = gather_requests(alloc, source, key)?;
+    let Plans { pairings, judged } = gather_plans(alloc, source, order)?;
+    let grounds = gather_grounds(alloc, source, order, &judged)?;
+    let crew = gather_members(alloc, source, order, &pairings, &grounds)?;
+    Ok(Roster {
+        zone,
+        crew,
+        pairings,
+        grounds,
+        exceedances: Table::new(alloc),
+        requests,
+    })
+}

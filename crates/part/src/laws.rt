@@ -1,0 +1,29 @@
+//! What holds of the parts of a state. Each of these functions does nothing; its clause is a law.
+
+ghost use Rattle.part.specs.Part.{AnswersAsWhole, StaysSound};
+ghost use Rattle.part.specs.Shown.{HasExceedanceText, HasMemberText, HasPairingText};
+
+/// A part answers its command as the whole state does: with the same verdict, reply and change.
+pub fn answers_as_whole()
+    ensures { AnswersAsWhole }
+{}
+
+/// The part of a sound state is sound.
+pub fn part_is_sound()
+    ensures { StaysSound }
+{}
+
+/// A member's text is that of the member's part.
+pub fn part_has_member_text()
+    ensures { HasMemberText }
+{}
+
+/// A pairing's text is that of the pairing's part.
+pub fn part_has_pairing_text()
+    ensures { HasPairingText }
+{}
+
+/// The text of the exceedances is that of the exceedances alone.
+pub fn part_has_exceedance_text()
+    ensures { HasExceedanceText }
+{}

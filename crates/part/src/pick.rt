@@ -1,0 +1,135 @@
+//! Entries of a source under some ids.
+
+ghost use Rattle.std.specs.Prelude.{◌≡◌, OnOk};
+ghost use Rattle.command.specs.Keys.{key_name};
+ghost use Rattle.part.specs.Sources.{IsPartOf, Tells, picked, pick};
+
+use crate::source::Source;
+use command::{Key, Member};
+use duty::{CrewId, Ground, GroundId, PairingId};
+use roster::{Request, Rostered};
+use std::alloc::Global;
+use values::{Copied, Table};
+
+/// Sets what the source has under a key.
+pub(crate) fn pick_request<S: Source>(
+    alloc: Global,
+    source: &mut S,
+    key: Key,
+    requests: &mut Table<Key, Request>,
+) -> Result<(), S::Fault>
+    ensures told { Tells S.is_clean S.shows (λ s _. requests.new ≡ pick s.requests requests.old (key_name key)) source.old source.new result }
+    ensures left { S.stays source.old source.new }
+    ensures serves { OnOk result (S.serves source.old source.new) }
+{
+    if let Some(request) = source.request(alloc, key)? {
+        requests.insert(key, request)?;
+    }
+    Ok(())
+}
+
+/// Sets what the source has under an id.
+pub(crate) fn pick_pairing<S: Source>(
+    alloc: Global,
+    source: &mut S,
+    id: &PairingId,
+    pairings: &mut Table<PairingId, Rostered>,
+) -> Result<(), S::Fault>
+    ensures told { Tells S.is_clean S.shows (λ s _. pairings.new ≡ pick s.pairings pairings.old id.now) source.old source.new result }
+    ensures left { S.stays source.old source.new }
+    ensures serves { OnOk result (S.serves source.old source.new) }
+{
+    if let Some(rostered) = source.pairing(alloc, id)? {
+        pairings.insert(id.copy(alloc)?, rostered)?;
+    }
+    Ok(())
+}
+
+/// Sets what the source has under these ids.
+pub(crate) fn pick_pairings<S: Source>(
+    alloc: Global,
+    source: &mut S,
+    ids: &[PairingId],
+    pairings: &mut Table<PairingId, Rostered>,
+) -> Result<(), S::Fault>
+    ensures told { Tells S.is_clean S.shows (λ s _. pairings.new ≡ picked s.pairings pairings.old ids.now) source.old source.new result }
+    ensures left { S.stays source.old source.new }
+    ensures serves { OnOk result (S.serves source.old source.new) }
+{
+    for id in ids {
+        pick_pairing(alloc, source, id, pairings)?;
+    }
+    Ok(())
+}
+
+/// Sets what the source has under an id.
+fn pick_ground<S: Source>(
+    alloc: Global,
+    source: &mut S,
+    id: &GroundId,
+    grounds: &mut Table<GroundId, Ground>,
+) -> Result<(), S::Fault>
+    ensures told { Tells S.is_clean S.shows (λ s _. grounds.new ≡ pick s.grounds grounds.old id.now) source.old source.new result }
+    ensures left { S.stays source.old source.new }
+    ensures serves { OnOk result (S.serves source.old source.new) }
+{
+    if let Some(ground) = source.ground(alloc, id)? {
+        grounds.insert(id.copy(alloc)?, ground)?;
+    }
+    Ok(())
+}
+
+/// Sets what the source has under these ids.
+pub(crate) fn pick_grounds<S: Source>(
+    alloc: Global,
+    source: &mut S,
+    ids: &[GroundId],
+    grounds: &mut Table<GroundId, Ground>,
+) -> Result<(), S::Fault>
+    ensures told { Tells S.is_clean S.shows (λ s _. grounds.new ≡ picked s.grounds grounds.old ids.now) source.old source.new result }
+    ensures left { S.stays source.old source.new }
+    ensures serves { OnOk result (S.serves source.old source.new) }
+{
+    for id in ids {
+        pick_ground(alloc, source, id, grounds)?;
+    }
+    Ok(())
+}
+
+/// Sets what the source has under an id, if it isn't there yet.
+#[tactic(auto, using(crate::proofs::Picked::pick_known))]
+pub(crate) fn pick_member<S: Source>(
+    alloc: Global,
+    source: &mut S,
+    id: &CrewId,
+    crew: &mut Table<CrewId, Member>,
+) -> Result<(), S::Fault>
+    ensures told { Tells S.is_clean S.shows (λ s _. IsPartOf crew.old s.crew → crew.new ≡ pick s.crew crew.old id.now) source.old source.new result }
+    ensures left { S.stays source.old source.new }
+    ensures serves { OnOk result (S.serves source.old source.new) }
+{
+    if crew.contains(id) {
+        return Ok(());
+    }
+    if let Some(member) = source.member(alloc, id)? {
+        crew.insert(id.copy(alloc)?, member)?;
+    }
+    Ok(())
+}
+
+/// Sets what the source has under these ids.
+pub(crate) fn pick_members<S: Source>(
+    alloc: Global,
+    source: &mut S,
+    ids: &[CrewId],
+    crew: &mut Table<CrewId, Member>,
+) -> Result<(), S::Fault>
+    ensures told { Tells S.is_clean S.shows (λ s _. IsPartOf crew.old s.crew → crew.new ≡ picked s.crew crew.old ids.now) source.old source.new result }
+    ensures left { S.stays source.old source.new }
+    ensures serves { OnOk result (S.serves source.old source.new) }
+{
+    for id in ids {
+        pick_member(alloc, source, id, crew)?;
+    }
+    Ok(())
+}

@@ -1,0 +1,94 @@
+//! What a part is read from.
+
+ghost use Rattle.std.specs.Prelude.{◌≡◌, OnOk, Some, None};
+ghost use Rattle.std.specs.FinMap as fin;
+ghost use Rattle.command.specs.Keys.{key_name};
+ghost use Rattle.roster.specs.State.{State};
+ghost use Rattle.part.specs.Sources.{Tells, IsHeldBy, IsGroundOf, AreJust};
+
+use command::{Key, Member};
+use duty::{CrewId, Ground, GroundId, PairingId};
+use roster::{ExceedanceId, PeriodId, Request, Rostered};
+use std::alloc::Global;
+use time117::Zone;
+use values::{MemoryFault, Table};
+
+/// What shows a state of the book, read by key.
+pub trait Source {
+    /// Why a read failed.
+    type Fault: From<MemoryFault> + Drop;
+
+    // whether what it said may be believed
+    ghost is_clean: { Self → Type 0 };
+
+    // whether it shows this state
+    ghost shows: { Self → State → Type 0 };
+
+    // what a call that only reads leaves of it
+    ghost stays: { Self → Self → Type 0 };
+
+    ghost at_rest: { (x : Self) → stays x x };
+
+    ghost and_then: { (x y z : Self) → stays x y → stays y z → stays x z };
+
+    // what a call leaves of it that answers
+    ghost serves: { Self → Self → Type 0 };
+
+    ghost serves_at_rest: { (x : Self) → serves x x };
+
+    ghost serves_then: { (x y z : Self) → serves x y → serves y z → serves x z };
+
+    // whether it can be read
+    ghost is_there: { Self → Type 0 };
+
+    ghost still_there: { (x y : Self) → serves x y → is_there x → is_there y };
+
+    /// The zone.
+    fn zone(&mut self, alloc: Global) -> Result<Zone, Self::Fault>
+        ensures told { Tells is_clean shows (λ s zone. zone ≡ s.zone) self.old self.new result }
+        ensures left { stays self.old self.new }
+        ensures serves { OnOk result (serves self.old self.new) }
+        ensures there { OnOk result (is_there self.new) };
+
+    /// What a key holds.
+    fn request(&mut self, alloc: Global, key: Key) -> Result<Option<Request>, Self::Fault>
+        ensures told { Tells is_clean shows (λ s found. found ≡ fin.get s.requests (key_name key)) self.old self.new result }
+        ensures left { stays self.old self.new }
+        ensures serves { OnOk result (serves self.old self.new) };
+
+    /// The member of an id.
+    fn member(&mut self, alloc: Global, id: &CrewId) -> Result<Option<Member>, Self::Fault>
+        ensures told { Tells is_clean shows (λ s found. found ≡ fin.get s.crew id.now) self.old self.new result }
+        ensures left { stays self.old self.new }
+        ensures serves { OnOk result (serves self.old self.new) };
+
+    /// The pairing of an id, with its actuals and holders.
+    fn pairing(&mut self, alloc: Global, id: &PairingId) -> Result<Option<Rostered>, Self::Fault>
+        ensures told { Tells is_clean shows (λ s found. found ≡ fin.get s.pairings id.now) self.old self.new result }
+        ensures left { stays self.old self.new }
+        ensures serves { OnOk result (serves self.old self.new) };
+
+    /// The ground duty of an id.
+    fn ground(&mut self, alloc: Global, id: &GroundId) -> Result<Option<Ground>, Self::Fault>
+        ensures told { Tells is_clean shows (λ s found. found ≡ fin.get s.grounds id.now) self.old self.new result }
+        ensures left { stays self.old self.new }
+        ensures serves { OnOk result (serves self.old self.new) };
+
+    /// The ids of the pairings that a member holds, in any order.
+    fn pairings_of(&mut self, alloc: Global, who: &CrewId) -> Result<Vec<PairingId>, Self::Fault>
+        ensures told { Tells is_clean shows (λ s found. AreJust (IsHeldBy s who.now) found.items) self.old self.new result }
+        ensures left { stays self.old self.new }
+        ensures serves { OnOk result (serves self.old self.new) };
+
+    /// The ids of the member's ground duties, in any order.
+    fn grounds_of(&mut self, alloc: Global, who: &CrewId) -> Result<Vec<GroundId>, Self::Fault>
+        ensures told { Tells is_clean shows (λ s found. AreJust (IsGroundOf s who.now) found.items) self.old self.new result }
+        ensures left { stays self.old self.new }
+        ensures serves { OnOk result (serves self.old self.new) };
+
+    /// All exceedances.
+    fn exceedances(&mut self, alloc: Global) -> Result<Table<ExceedanceId, PeriodId>, Self::Fault>
+        ensures told { Tells is_clean shows (λ s found. found ≡ s.exceedances) self.old self.new result }
+        ensures left { stays self.old self.new }
+        ensures serves { OnOk result (serves self.old self.new) };
+}

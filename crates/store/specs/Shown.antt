@@ -1,0 +1,17 @@
+-- What a book shows: which text of a state it is, or that there is none.
+use Rattle.std.specs.Prelude.{◌≡◌, ℕ, List, Option, Some, None}
+use Rattle.std.specs.FinMap as fin
+use Rattle.roster.specs.State.{State}
+use Rattle.report.specs.ExceedanceText.{IsExceedanceText}
+use Rattle.report.specs.PairingText.{pairing_text}
+use Rattle.report.specs.RosterText.{IsRosterText}
+use Rattle.store.specs.declared.show.Show.{Show}
+use Rattle.store.specs.declared.show.Show.TheVariants.{Crew, Pairing, Exceedances}
+
+-- a member who isn't there has no roster, and a pairing that isn't there no text
+abbrev pub IsShown : State → Show → Option (List ℕ) → Type 0
+IsShown s (Crew who) (Some text) = IsRosterText s who text
+IsShown s (Crew who) None = fin.get s.crew who ≡ None
+IsShown s (Pairing id) shown = pairing_text s id ≡ shown
+IsShown s Exceedances (Some text) = IsExceedanceText s text
+IsShown s Exceedances None = ⊥

@@ -1,0 +1,78 @@
+//! A store as a source that is read by key.
+
+use crate::store::Store;
+use command::{Key, Member};
+use duty::{CrewId, Ground, GroundId, PairingId};
+use lookup::{
+    exceedances_at, ground_at, grounds_held_at, member_at, pairing_at, pairings_held_at,
+    request_at, zone_at,
+};
+use part::Source;
+use roster::{ExceedanceId, PeriodId, Request, Rostered};
+use rows::StoreFault;
+use sqlite::Alter;
+use std::alloc::Global;
+use time117::Zone;
+use values::Table;
+
+impl<S: Alter> Source for Store<S> {
+    ghost use Rattle.std.specs.Prelude.{IsTrue};
+    ghost use Rattle.sqlite.specs.Held.{state};
+    ghost use Rattle.sqlite.specs.State.{HasCleanDisk};
+    ghost use Rattle.lookup.proofs.Changes.{changes_then, nothing_changes};
+    ghost use Rattle.lookup.specs.Reads.{ChangesNothing, IsOpen, Shows};
+
+    type Fault = StoreFault;
+
+    ghost is_clean = { λ t. HasCleanDisk (state S.Store t) };
+
+    ghost shows = { λ t s. Shows (state S.Store t) s };
+
+    ghost stays = { λ a b. ChangesNothing (state S.Store a) (state S.Store b) };
+
+    ghost at_rest = { λ a. nothing_changes (state S.Store a) };
+
+    ghost and_then = { λ a b c p q. changes_then (state S.Store a) (state S.Store b) (state S.Store c) p q };
+
+    ghost serves = { λ a b. (HasCleanDisk (state S.Store b) → HasCleanDisk (state S.Store a)) × (HasCleanDisk (state S.Store b) → IsTrue (state S.Store a).is_open → IsTrue (state S.Store b).is_open) };
+
+    ghost serves_at_rest = { λ a. (λ clean. clean, λ clean opened. opened) };
+
+    ghost serves_then = { λ a b c p q. (λ clean. p.0 (q.0 clean), λ clean opened. q.1 clean (p.1 (q.0 clean) opened)) };
+
+    ghost is_there = { λ t. IsOpen (state S.Store t) };
+
+    ghost still_there = { λ a b serves there clean. serves.1 clean (there (serves.0 clean)) };
+
+    fn zone(&mut self, alloc: Global) -> Result<Zone, StoreFault> {
+        zone_at(alloc, &mut self.conn)
+    }
+
+    fn request(&mut self, alloc: Global, key: Key) -> Result<Option<Request>, StoreFault> {
+        request_at(alloc, &mut self.conn, key)
+    }
+
+    fn member(&mut self, alloc: Global, id: &CrewId) -> Result<Option<Member>, StoreFault> {
+        member_at(alloc, &mut self.conn, id)
+    }
+
+    fn pairing(&mut self, alloc: Global, id: &PairingId) -> Result<Option<Rostered>, StoreFault> {
+        pairing_at(alloc, &mut self.conn, id)
+    }
+
+    fn ground(&mut self, alloc: Global, id: &GroundId) -> Result<Option<Ground>, StoreFault> {
+        ground_at(alloc, &mut self.conn, id)
+    }
+
+    fn pairings_of(&mut self, alloc: Global, who: &CrewId) -> Result<Vec<PairingId>, StoreFault> {
+        pairings_held_at(alloc, &mut self.conn, who)
+    }
+
+    fn grounds_of(&mut self, alloc: Global, who: &CrewId) -> Result<Vec<GroundId>, StoreFault> {
+        grounds_held_at(alloc, &mut self.conn, who)
+    }
+
+    fn exceedances(&mut self, alloc: Global) -> Result<Table<ExceedanceId, PeriodId>, StoreFault> {
+        exceedances_at(alloc, &mut self.conn)
+    }
+}
