@@ -6,7 +6,6 @@ ghost use Rattle.command.specs.declared.refusal.Refusal.{Refusal};
 ghost use Rattle.roster.specs.Folds.{Fold, Replies, Session, Stopped, answer_of, next};
 ghost use Rattle.roster.specs.Honest.{Honest};
 ghost use Rattle.roster.specs.Laws.{PassesChecks, is_assignment};
-ghost use Rattle.roster.specs.Sound.{Sound};
 ghost use Rattle.roster.specs.State.{State, empty};
 ghost use Rattle.roster.specs.Steps.{step_of};
 ghost use Rattle.loading.specs.Loading.{Says};
@@ -165,8 +164,8 @@ impl<S: Alter> Book<S> {
     }
 
     /// Answers a command by the part of the state that it needs. One that is kept already is answered as it was, and changes
-    /// nothing; so does one that the machine refuses. After want of memory (91) nothing is changed, and the call may be made again; after a fault of the store (90) it is kept or not, and each later
-    /// call answers 90.
+    /// nothing; so does one that the machine refuses. After want of memory (91) nothing is changed, and the call may be made
+    /// again; after a fault of the store (90) it is kept or not, and each later call answers 90.
     pub fn ask(&mut self, alloc: Global, key: Key, command: &Command) -> Result<Answer, StoreFault>
         ensures failed { self.new.failed ≡ (self.old.failed || is_store_fault result) }
         ensures shut { IsTrue self.old.failed → (result ≡ Err StoreFault.Store) × (self.new ≡ self.old) }

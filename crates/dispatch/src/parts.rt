@@ -12,6 +12,7 @@ use std::alloc::Global;
 use std::test::Fail;
 use store::Store;
 use time117::Zone;
+use values::Copied;
 
 /// The pairings of the book: C1 holds P7, P8, P13A and P13B, F1 holds P13A, and C2 holds P91. P92 is free.
 const PLANS: [(&str, [&str; 4]); 6] = [
@@ -59,12 +60,8 @@ fn accept<S: Alter>(
     }
 }
 
-/// A store and the roster of its tables, with all that a book can have.
-fn filled<S: Alter>(
-    alloc: Global,
-    store: &mut Store<S>,
-    roster: &mut Roster,
-) -> Result<(), Untold> {
+/// Fills a store, and the roster of its tables, with all that a book can have.
+fn fill<S: Alter>(alloc: Global, store: &mut Store<S>, roster: &mut Roster) -> Result<(), Untold> {
     let mut number = 0u8;
     for (id, times) in PLANS {
         number = number.saturating_add(1);
@@ -179,8 +176,9 @@ fn told_of_parts(alloc: Global) -> Result<String, Untold> {
     match Store::create(alloc, conn, &zone) {
         Ok(mut store) => {
             let mut roster = Roster::empty(alloc, zone)?;
-            filled(alloc, &mut store, &mut roster)?;
-            parts(alloc, &mut store, &roster)
+            fill(alloc, &mut store, &mut roster)?;
+            let whole = roster.copy(alloc)?;
+            parts(alloc, &mut store, &whole)
         }
         Err(_) => Err(Untold::Unread),
     }

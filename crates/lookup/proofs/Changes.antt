@@ -9,6 +9,7 @@ nothing_changes s = record {
   shown = λ clean opened. (opened, refl);
   counts = omega (arith);
   still_open = λ clean opened. inl opened;
+  limit = refl;
 }
 
 pub changes_then : (a b c : conn.State) → ChangesNothing a b → ChangesNothing b c → ChangesNothing a c
@@ -29,7 +30,8 @@ changes_then a b c p q = record {
     ]
     | inr more ↦ inr (omega (arith, more, q.counts))
   ];
+  limit = q.limit ∙ p.limit;
 }
 
 pub of_stays : (old new : conn.State) → Stays old new → ChangesNothing old new
-of_stays old new stays = record { left = stays.left; shown = stays.shown; counts = stays.counts; still_open = stays.still_open }
+of_stays old new stays = record { left = stays.left; shown = stays.shown; counts = stays.counts; still_open = stays.still_open; limit = stays.limit }

@@ -17,7 +17,7 @@ use Rattle.lookup.specs.declared.pairing.PlanRecords.{PlanRecords}
 pub stays_on : (a b c : State) → Stays a b → Stays b c → Stays a c
 stays_on a b c p q =
     let it = changes_then a b c (of_stays a b p) (of_stays b c q) in
-    record { left = it.left; shown = it.shown; outside = q.outside; counts = it.counts; still_open = it.still_open }
+    record { left = it.left; shown = it.shown; outside = q.outside; counts = it.counts; still_open = it.still_open; limit = it.limit }
 
 if_some : {A : Type 0} (xs : List A) (P : Type 0) → P → IfSome xs P
 if_some [] P is = tt

@@ -43,6 +43,7 @@ at_rest s outside = record {
   outside = outside;
   counts = omega (arith);
   still_open = λ clean opened. inl opened;
+  limit = refl;
 }
 
 module _ {A : Type 0} (Is : Database → A → Type 0) (IsDamaged : Database → Type 0) (why : Type 0) (old new : State)
@@ -67,6 +68,7 @@ module _ {A : Type 0} (Is : Database → A → Type 0) (IsDamaged : Database →
     outside = still_outside result read;
     counts = left.counts;
     still_open = left.closes;
+    limit = left.limit;
   }
 
 module _ {A : Type 0} (it : TableName) (test : Row → Bool) (IsRecord : Row → Type 0) (rows : A → List Row) (old new : State)

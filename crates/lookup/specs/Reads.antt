@@ -22,13 +22,14 @@ pub record Shows (now : conn.State) (s : State) : Type 0 where
   pub book : HasCleanDisk now → IsTrue now.is_open → IsBookOf s now.now
 
 -- Nothing is changed: a crash leaves nothing that it could not leave before, and what was shown is shown. No fault of the disk is
--- forgotten, and only one shuts the connection.
+-- forgotten, only one shuts the connection, and no limit is set on later statements.
 pub record Stays (old new : conn.State) : Type 0 where
   pub left : AddsNothing old new
   pub shown : StillShows old new
   pub outside : IsOutside new
   pub counts : old.faults ≤ new.faults
   pub still_open : StaysOpen old new
+  pub limit : new.step_limit ≡ old.step_limit
 
 -- it is open: only an open one answers
 abbrev pub IsOpen : conn.State → Type 0
@@ -62,3 +63,4 @@ pub record ChangesNothing (old new : conn.State) : Type 0 where
   pub shown : StillShows old new
   pub counts : old.faults ≤ new.faults
   pub still_open : StaysOpen old new
+  pub limit : new.step_limit ≡ old.step_limit

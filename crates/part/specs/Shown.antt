@@ -15,7 +15,7 @@ is_held_of s who id = option_map_or (holds who) (fin.get s.pairings id) false
 abbrev pub is_ground_of : State → List ℕ → List ℕ → Bool
 is_ground_of s who id = option_map_or (λ g. bytes_eq g.crew who) (fin.get s.grounds id) false
 
--- a member, with the pairings that the member holds and the member's ground duties
+-- a member, with the pairings that the member holds and the member's ground duties; other holders of these aren't in it
 abbrev pub member_part : State → List ℕ → State
 member_part s who = record {
   zone = s.zone;
@@ -50,7 +50,7 @@ exceedances_part s = record {
 
 -- ---- Laws
 
--- the text of a member is that of the member's part, and there is none exactly where there is none
+-- the text of a member is that of the member's part; where the state has no such member, neither has the part
 abbrev pub HasMemberText : Type 0
 HasMemberText = (s : State) (who : List ℕ) →
     (fin.get (member_part s who).crew who ≡ fin.get s.crew who) × ((text : List ℕ) → IsRosterText (member_part s who) who text ↔ IsRosterText s who text)

@@ -1,6 +1,6 @@
 //! What a part is read from.
 
-ghost use Rattle.std.specs.Prelude.{◌≡◌, OnOk, Some, None};
+ghost use Rattle.std.specs.Prelude.{◌≡◌, OnOk};
 ghost use Rattle.std.specs.FinMap as fin;
 ghost use Rattle.command.specs.Keys.{key_name};
 ghost use Rattle.roster.specs.State.{State};
@@ -24,21 +24,21 @@ pub trait Source {
     // whether it shows this state
     ghost shows: { Self → State → Type 0 };
 
-    // what a call that only reads leaves of it
+    // what any call leaves of it: nothing is changed
     ghost stays: { Self → Self → Type 0 };
 
     ghost at_rest: { (x : Self) → stays x x };
 
     ghost and_then: { (x y z : Self) → stays x y → stays y z → stays x z };
 
-    // what a call leaves of it that answers
+    // what a call leaves of it that gives an answer: it can still be asked
     ghost serves: { Self → Self → Type 0 };
 
     ghost serves_at_rest: { (x : Self) → serves x x };
 
     ghost serves_then: { (x y z : Self) → serves x y → serves y z → serves x z };
 
-    // whether it can be read
+    // whether it can be asked at all
     ghost is_there: { Self → Type 0 };
 
     ghost still_there: { (x y : Self) → serves x y → is_there x → is_there y };

@@ -1,8 +1,8 @@
 //! What a book shows: a roster with what one text needs.
 
-ghost use Rattle.std.specs.Prelude.{ℕ, Option, ◌↔◌, List, OnOk};
+ghost use Rattle.std.specs.Prelude.{◌≡◌, OnOk};
 ghost use Rattle.part.specs.Sources.{Tells};
-ghost use Rattle.store.specs.Shown.{IsShown};
+ghost use Rattle.store.specs.Shown.{shown_part};
 
 use duty::{CrewId, PairingId};
 use part::{Source, gather_exceedances, gather_member, gather_pairing};
@@ -21,13 +21,12 @@ pub enum Show {
 }
 
 /// Gathers from a source what the text of a member, of a pairing or of the exceedances needs.
-#[tactic(auto, using(crate::proofs::ShownLemmas::exceedances_shown))]
 pub(crate) fn gather_shown<T: Source>(
     alloc: Global,
     source: &mut T,
     what: &Show,
 ) -> Result<Roster, T::Fault>
-    ensures told { Tells T.is_clean T.shows (λ s it. (text : Option (List ℕ)) → IsShown it what.now text ↔ IsShown s what.now text) source.old source.new result }
+    ensures told { Tells T.is_clean T.shows (λ s it. it ≡ shown_part s what.now) source.old source.new result }
     ensures left { T.stays source.old source.new }
     ensures serves { OnOk result (T.serves source.old source.new) }
     ensures there { OnOk result (T.is_there source.new) }

@@ -15,7 +15,7 @@ ghost use Rattle.writing.specs.Outcomes.{Leaves, LeavesSome, LeavesOnly, AddsOnl
 ghost use Rattle.loading.specs.Reading.{IsReadTo, Saw};
 ghost use Rattle.rows.specs.Rows.{request};
 ghost use Rattle.store.specs.Found.{IsFound};
-ghost use Rattle.store.specs.Shown.{IsShown};
+ghost use Rattle.store.specs.Shown.{IsShown, shown_part};
 
 use crate::show::{Show, gather_shown};
 use command::{Command, Key};
@@ -128,6 +128,7 @@ impl<S: Alter> Store<S> {
     /// Reads by key a roster with what the text of a member, of a pairing or of the exceedances needs, in no transaction, and
     /// changes nothing. A store's fault is 90, want of memory 91.
     pub fn shown(&mut self, alloc: Global, what: &Show) -> Result<Roster, StoreFault>
+        ensures part { (s : State) → Shows (state S.Store self.old) s → HasCleanDisk (state S.Store self.new) → IfOk result (λ r. r ≡ shown_part s what.now) }
         ensures text { (s : State) → Shows (state S.Store self.old) s → HasCleanDisk (state S.Store self.new) → IfOk result (λ roster. (text : Option (List ℕ)) → IsShown roster what.now text ↔ IsShown s what.now text) }
         ensures unchanged { ChangesNothing (state S.Store self.old) (state S.Store self.new) }
         ensures opened { OnOk result (IsOpen (state S.Store self.new)) }

@@ -4,10 +4,10 @@ use crate::contents::{found, told};
 use crate::fault::Untold;
 use crate::opening::create;
 use crate::sessions::marks;
-use crate::stops::states::{BEFORE, COMMANDS, Commands, IMPORT, PARTS, commands};
-use book::{Answer, Book, Run, Show};
+use crate::stops::states::{BEFORE, COMMANDS, Commands, IMPORT, PARTS, all_commands};
+use book::{Answer, Book, LoadFault, Run, Show};
 use command::{Command, Key};
-use duty::{CrewId, PairingId};
+use duty::{CrewId, Pairing, PairingId};
 use sqlite::{Alter, Connection, Files, Options};
 use sqlite_disk::Disk;
 use std::alloc::Global;
@@ -60,7 +60,7 @@ fn runs_nothing<S: Alter>(alloc: Global, book: &mut Book<S>, list: &[(Key, Comma
 
 /// Whether every further call of a book is answered 90.
 fn is_closed<S: Alter>(alloc: Global, book: &mut Book<S>) -> Result<bool, Untold> {
-    let Commands { before, import, .. } = commands(alloc)?;
+    let Commands { before, import, .. } = all_commands(alloc)?;
     let mut closed = book.failed() && shows_nothing(alloc, book)?;
     for (key, command) in &before {
         closed = closed && is_shut(&book.ask(alloc, *key, command));
@@ -113,7 +113,7 @@ fn ask_all<S: Alter>(
 fn import_all<S: Alter>(
     alloc: Global,
     book: &mut Book<S>,
-    pairings: Vec<duty::Pairing>,
+    pairings: Vec<Pairing>,
     most: usize,
     played: &mut Played,
 ) -> Result<bool, Untold> {
@@ -135,7 +135,7 @@ fn play<S: Alter>(alloc: Global, book: &mut Book<S>, count: usize) -> Result<Pla
         before,
         import,
         after,
-    } = commands(alloc)?;
+    } = all_commands(alloc)?;
     let mut played = Played {
         answers: Vec::new(alloc),
         fault: None,
@@ -151,7 +151,7 @@ fn play<S: Alter>(alloc: Global, book: &mut Book<S>, count: usize) -> Result<Pla
 }
 
 /// How far a book comes with the first commands, so many.
-fn reached<S: Alter>(alloc: Global, book: &mut Book<S>, count: usize) -> Result<Reached, Untold> {
+fn far_come<S: Alter>(alloc: Global, book: &mut Book<S>, count: usize) -> Result<Reached, Untold> {
     let Played { answers, fault } = play(alloc, book, count)?;
     let told = match fault {
         None => answers.len() == count,
@@ -163,6 +163,15 @@ fn reached<S: Alter>(alloc: Global, book: &mut Book<S>, count: usize) -> Result<
     } else {
         Reached::ToldOtherwise
     })
+}
+
+/// How far a run came whose book was not made, which is to be told as 90.
+fn not_made(told: Result<String, Untold>) -> Reached {
+    if told.is_ok_and(|text| text.as_str() == "90 Store\n") {
+        Reached::NoBook
+    } else {
+        Reached::ToldOtherwise
+    }
 }
 
 /// Makes a book, and asks it the first commands, so many.
@@ -177,11 +186,11 @@ impl Act for Asking {
     fn act<S: Alter + Drop>(self, alloc: Global, conn: Connection<S>) -> (Reached, Connection<S>) {
         match create(alloc, conn) {
             Ok(mut book) => {
-                let reached = reached(alloc, &mut book, self.count);
+                let reached = far_come(alloc, &mut book, self.count);
                 let reached = reached.unwrap_or(Reached::ToldOtherwise);
                 (reached, book.into_connection())
             }
-            Err((_told, conn)) => (Reached::NoBook, conn),
+            Err((told, conn)) => (not_made(told), conn),
         }
     }
 }
@@ -203,7 +212,7 @@ fn there<S: Alter>(alloc: Global, conn: Connection<S>) -> Result<Book<S>, Connec
     }
     match Book::adopt(alloc, conn) {
         Ok(book) => Ok(book),
-        Err((book::LoadFault::NotABook, conn)) => create(alloc, conn).map_err(|(_told, conn)| conn),
+        Err((LoadFault::NotABook, conn)) => create(alloc, conn).map_err(|(_told, conn)| conn),
         Err((_fault, conn)) => Err(conn),
     }
 }
@@ -249,11 +258,11 @@ impl Act for HandedInAgain {
             Err(conn) => (Err(Untold::Unread), conn),
         };
         let ended = rows(alloc, &mut conn);
-        (again(held, answers, ended), conn)
+        (all_told(held, answers, ended), conn)
     }
 }
 
-fn again(
+fn all_told(
     held: Result<String, Untold>,
     answers: Result<String, Untold>,
     ended: Result<String, Untold>,
@@ -286,7 +295,7 @@ impl Act for TakingUp {
         }
         match Book::adopt(alloc, conn) {
             Ok(book) => (Taken::Up, book.into_connection()),
-            Err((book::LoadFault::Fault(StoreFault::Store), conn)) => (Taken::Stopped, conn),
+            Err((LoadFault::Fault(StoreFault::Store), conn)) => (Taken::Stopped, conn),
             Err((_fault, conn)) => (Taken::Otherwise, conn),
         }
     }

@@ -34,6 +34,7 @@ const FLOWN: &str =
 pub const ANSWERS: &str = " + + + 5 + + + + +";
 
 /// A pairing of one flight, from 11:00 to 20:00 of a day of June 2025, with the first minute of that day.
+#[derive(Clone, Copy)]
 struct Planned {
     id: &'static str,
     times: [&'static str; 4],
@@ -84,7 +85,7 @@ fn pairing(alloc: Global, planned: &Planned) -> Result<Pairing, Untold> {
 }
 
 /// All commands.
-pub fn commands(alloc: Global) -> Result<Commands, Untold> {
+pub fn all_commands(alloc: Global) -> Result<Commands, Untold> {
     let planned = plan(alloc, P20.id, P20.times)?;
     let before = requests(alloc, &[(1, CAPTAIN), (2, planned.as_str())])?;
     let mut import = Vec::new(alloc);

@@ -1,8 +1,11 @@
-use Rattle.std.specs.Prelude.{ℕ, List, Option, ◌↔◌}
-use Rattle.store.specs.Shown.{IsShown}
+use Rattle.std.proofs.Common.{◌≡◌}
+use Rattle.store.specs.Shown.{shown_part}
 use Rattle.store.proofs.Parting.{is_told}
+use Rattle.store.proofs.ShownLemmas.{texts_shown}
 use Rattle.store.proofs.store.Store.shown.Goals as goal
 
+pub returns-clause-part : goal.returns-clause-part
+returns-clause-part g c = is_told (λ s roster. roster ≡ shown_part s c.args.what.now) _ _ c.gather_shown-shown.result c.gather_shown-shown.ensures.told.1
+
 pub returns-clause-text : goal.returns-clause-text
-returns-clause-text g c =
-    is_told (λ s roster. (text : Option (List ℕ)) → IsShown roster c.args.what.now text ↔ IsShown s c.args.what.now text) _ _ c.gather_shown-shown.result c.gather_shown-shown.ensures.told.1
+returns-clause-text g c s shows clean = texts_shown c.args.what.now s c.gather_shown-shown.result (returns-clause-part g c s shows clean)
