@@ -2,16 +2,16 @@
 //! as by the whole roster.
 
 use crate::fault::Untold;
-use crate::opening::EASTERN;
+use crate::opening::{create, opened};
 use crate::requests::{key, plan};
+use book::{Answer, Book};
 use command::{Command, Key};
 use kept::read_canonical;
-use roster::{Roster, Verdict};
+use roster::Roster;
 use sqlite::{Alter, Connection};
 use std::alloc::Global;
 use std::test::Fail;
 use store::Store;
-use time117::Zone;
 use values::Copied;
 
 /// The pairings of the book: C1 holds P7, P8, P13A and P13B, F1 holds P13A, and C2 holds P91. P92 is free.
@@ -41,36 +41,27 @@ const FILLED: [&str; 12] = [
         {\"in\":\"2025-06-11T07:00Z\",\"out\":\"2025-06-10T23:00Z\"}]}",
 ];
 
-/// Keeps a command that the roster accepts, in the store too.
-fn accept<S: Alter>(
-    alloc: Global,
-    store: &mut Store<S>,
-    roster: &mut Roster,
-    key: Key,
-    text: &str,
-) -> Result<(), Untold> {
+/// Asks a book a command, which it accepts.
+fn ask<S: Alter>(alloc: Global, book: &mut Book<S>, number: u8, text: &str) -> Result<(), Untold> {
     let command = read_canonical(alloc, text)?;
-    match roster.step(alloc, key, &command)? {
-        Verdict::Accept(change, _) => {
-            store.commit(alloc, &change)?;
-            roster.apply(alloc, &change)?;
-            Ok(())
-        }
-        _ => Err(Untold::Unmade),
+    match book.ask(alloc, key(number), &command) {
+        Ok(Answer::Accepted(_)) => Ok(()),
+        Ok(Answer::Refused(_)) => Err(Untold::Unmade),
+        Err(fault) => Err(fault.into()),
     }
 }
 
-/// Fills a store, and the roster of its tables, with all that a book can have.
-fn fill<S: Alter>(alloc: Global, store: &mut Store<S>, roster: &mut Roster) -> Result<(), Untold> {
+/// Fills a book with all that one can have.
+fn fill<S: Alter>(alloc: Global, book: &mut Book<S>) -> Result<(), Untold> {
     let mut number = 0u8;
     for (id, times) in PLANS {
         number = number.saturating_add(1);
         let text = plan(alloc, id, times)?;
-        accept(alloc, store, roster, key(number), text.as_str())?;
+        ask(alloc, book, number, text.as_str())?;
     }
     for text in FILLED {
         number = number.saturating_add(1);
-        accept(alloc, store, roster, key(number), text)?;
+        ask(alloc, book, number, text)?;
     }
     Ok(())
 }
@@ -164,24 +155,23 @@ fn parts<S: Alter>(alloc: Global, store: &mut Store<S>, roster: &Roster) -> Resu
     Ok(text)
 }
 
-/// What is told over memory.
-fn told_of_parts(alloc: Global) -> Result<String, Untold> {
-    let Ok(zone) = Zone::read(alloc, EASTERN) else {
-        return Err(Untold::Unmade);
-    };
-    let conn = Connection::open_in_memory(alloc)?;
+/// What is told of the parts that a store reads of a book, beside a copy of the roster that it loads.
+fn told_over<S: Alter + Drop>(alloc: Global, conn: Connection<S>) -> Result<String, Untold> {
     if !conn.is_autocommit() {
         return Err(Untold::Unread);
     }
-    match Store::create(alloc, conn, &zone) {
-        Ok(mut store) => {
-            let mut roster = Roster::empty(alloc, zone)?;
-            fill(alloc, &mut store, &mut roster)?;
-            let whole = roster.copy(alloc)?;
-            parts(alloc, &mut store, &whole)
-        }
-        Err(_) => Err(Untold::Unread),
-    }
+    let Ok((mut store, roster)) = Store::load(alloc, conn) else {
+        return Err(Untold::Unread);
+    };
+    let whole = roster.copy(alloc)?;
+    parts(alloc, &mut store, &whole)
+}
+
+/// What is told over memory.
+fn told_of_parts(alloc: Global) -> Result<String, Untold> {
+    let mut book = opened(create(alloc, Connection::open_in_memory(alloc)?))?;
+    fill(alloc, &mut book)?;
+    told_over(alloc, book.into_connection())
 }
 
 /// The pairings, the members and the ground duties of each part, and its exceedances and requests.
