@@ -92,21 +92,13 @@ PLANS = [
     "plan P2 21: 06:30 | 07:30-10:30 | 11:00",
     "plan P30 22: 06:30 | 07:30-10:30 | 11:00",
 ]
-PARTS = ["1 accepted\n", "2 refused 5 PairingExists\n", "3 accepted\n"]
+PARTS = "1 accepted\n2 refused 5 PairingExists\n3 accepted\n"
 
 # A period of fourteen hours, and its verdict.
 PERIOD = f"duty {ZONE} 2025-06-10T15:59Z 2025-06-10T16:30Z 2025-06-10T20:30Z 2025-06-11T01:29Z 2025-06-11T05:59Z"
 WITHIN = "report 11:59 segments 2 fdp 14:00 of 14:00 flight 8:30 of 9:00 within\n"
 
 # ---- What is tried.
-
-
-@dataclass(frozen=True)
-class Stop:
-    """How a run ends that is stopped: what is told of it, and how many parts were told before."""
-
-    fault: str
-    parts: int = 0
 
 
 @dataclass(frozen=True)
@@ -117,7 +109,7 @@ class Call:
     given: str
     answer: Ran
     is_made: bool = True  # whether the book is there before
-    parts: tuple = ()  # of an import: its schedule up to each of its pairings
+    fronts: tuple = ()  # of an import: its schedule up to each of its pairings but the last
 
     def run(self, book, given=None, **options):
         words = [book.file if word == "BOOK" else word for word in self.words.split()]
@@ -128,11 +120,11 @@ class Call:
             return Ran(None, "", "")
 
     def stops(self):
-        """How it may end where it is stopped."""
-        lines = self.answer.out.splitlines(keepends=True) if self.parts else []
+        """How it may end where it is stopped, each with what is told of that, and how many parts were told before."""
+        lines = self.answer.out.splitlines(keepends=True) if self.fronts else []
         for fault, line in FAULTS.items():
             for parts in range(len(lines) + 1):
-                yield Ran(3, "".join(lines[:parts]), line), Stop(fault, parts)
+                yield Ran(3, "".join(lines[:parts]), line), fault, parts
 
     def again(self):
         """How it ends when it is made once more after it was done."""
@@ -146,7 +138,7 @@ class Exchange:
     sent: bytes
     response: bytes
     is_made = True
-    parts = ()
+    fronts = ()
 
     @property
     def answer(self):
@@ -157,16 +149,16 @@ class Exchange:
         with started(book, 1, **options) as server:
             got = server.exchange(self.sent) if server.listens() else None
             ended = server.end()
-        if isinstance(got, str) and got.startswith("ConnectionResetError"):
+        if isinstance(got, str) and got.startswith(("ConnectionResetError", "BrokenPipeError")):
             got = b""
         return got, Ran(ended.status, ended.out.replace(f"listening {server.port}", "listening"), ended.err)
 
     def stops(self):
         for fault, line in FAULTS.items():
-            yield (None, Ran(3, "", line)), Stop(fault)
-        yield (response(503, MEMORY), Ran(0, "listening\n", "")), Stop("91")
-        yield (response(503, STORE), Ran(3, "listening\n", FAULTS["90"])), Stop("90")
-        yield (b"", Ran(0, "listening\n", "refused 92 Channel\n")), Stop("92")
+            yield (None, Ran(3, "", line)), fault, 0
+        yield (response(503, MEMORY), Ran(0, "listening\n", "")), "503 with 91", 0
+        yield (response(503, STORE), Ran(3, "listening\n", FAULTS["90"])), "503 with 90", 0
+        yield (b"", Ran(0, "listening\n", "refused 92 Channel\n")), "92", 0
 
     def again(self):
         return self.answer
@@ -184,12 +176,7 @@ CASES = {
     "do_refused": asked("20 assign P2 C1", 1, TOO_SOON),
     "do_repeated": asked("4 assign P1 C1", 0, ACCEPTED),
     "do_actual": asked(LATE, 0, BOTH_LATE),
-    "import": Call(
-        "import BOOK 500",
-        schedule(PLANS),
-        Ran(1, "".join(PARTS), ""),
-        parts=tuple(schedule(PLANS[:count]) for count in range(1, len(PLANS) + 1)),
-    ),
+    "import": Call("import BOOK 500", schedule(PLANS), Ran(1, PARTS, ""), fronts=(schedule(PLANS[:1]), schedule(PLANS[:2]))),
     "roster": Call("roster BOOK C1", "", Ran(0, ROSTER, "")),
     "pairing": Call("pairing BOOK P1", "", Ran(0, PAIRING, "")),
     "exceedances": Call("exceedances BOOK", "", Ran(0, EXCEEDANCES, "")),
@@ -204,17 +191,20 @@ CASES = {
 
 @dataclass(frozen=True)
 class Whole:
-    """What a case comes to with all memory: all rows before it, and after each of its parts."""
+    """What a case comes to with all memory, and how it may end without."""
 
     case: object
-    rows: list
+    rows: list  # all rows before it, and after each of its parts
+    ends: dict  # what is told of each end, and the rows that may stand then
 
-    def rows_after(self, ended):
-        """The rows that may stand after a run that ended so, and what is told of its end; none where it may not end so."""
-        if ended == self.case.answer:
-            return self.rows[-1:], "nothing"
-        stop = dict(self.case.stops()).get(ended)
-        return (self.rows[stop.parts : stop.parts + 2], stop.fault) if stop else ([], "something else")
+    @classmethod
+    def of(cls, case, rows):
+        ends = {case.answer: ("nothing", rows[-1:])}
+        ends |= {ended: (fault, rows[parts : parts + 2]) for ended, fault, parts in case.stops()}
+        return cls(case, rows, ends)
+
+    def look_up(self, ended):
+        return self.ends.get(ended, ("something else", []))
 
 
 @dataclass
@@ -260,21 +250,22 @@ class Desk:
 
 def with_all_memory(desk, case):
     """What the case comes to with all memory, which has to be what stands here."""
-    found = []
-    for given in case.parts[:-1]:
+    between = []
+    for front in case.fronts:
         with desk.book(case) as book:
-            case.run(book, given)
-            found.append(tables.told(book.file))
+            case.run(book, front)
+            between.append(tables.told(book.file))
     with desk.book(case) as book:
         before = tables.told(book.file)
         desk.expect("with all memory", case.run(book), case.answer)
-        return Whole(case, [before, *found, tables.told(book.file)])
+        return Whole.of(case, [before, *between, tables.told(book.file)])
 
 
 def differences(whole, book, ended):
     """What is wrong of a run that ended so, and of the same run made again, which has all memory."""
     wrong = []
-    rows, wanted = tables.told(book.file), whole.rows_after(ended)[0]
+    rows = tables.told(book.file)
+    _, wanted = whole.look_up(ended)
     if not wanted:
         wrong.append(f"it ends with {ended}")
     elif rows not in wanted:
@@ -308,7 +299,7 @@ def try_case(desk, case):
                 wrong = [f"it ends with {ended}, and its tables can't be read: {fault}"]
         desk.expect(f"call {number}, of {function}, refused", wrong, [])
         desk.functions[function] += 1
-        told[whole.rows_after(ended)[1]] += 1
+        told[whole.look_up(ended)[0]] += 1
     desk.expect("with a call refused that isn't made", ended, case.answer)
     desk.expect("that want of memory is told", told["91"] > 0, True)
     desk.told += told
