@@ -82,6 +82,7 @@ def parts(*replies):
 
 ACCEPTED = '{"exceedances":[],"result":"accepted"}'
 STORE = '{"name":"Store","refusal":90,"result":"refused"}'
+MEMORY = '{"name":"Memory","refusal":91,"result":"refused"}'
 CANCEL = '{"number":1,"do":"cancel-ground","ground":"G1"}'
 HEADER = "pairing,period,report,release,flight,from,out,to,in\n"
 JUNE = (TOP / "examples" / "june.csv").read_text()

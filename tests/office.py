@@ -67,9 +67,10 @@ def build():
     return subprocess.run([TOP / "rosterbook", "--version"], stdout=subprocess.DEVNULL).returncode == 0
 
 
-def rosterbook(*words, given=""):
+def rosterbook(*words, given="", **options):
     """Runs the program, once it is built, with these words and this standard input, a text or bytes."""
-    ran = subprocess.run([PROGRAM, *words], input=given if isinstance(given, bytes) else given.encode(), capture_output=True)
+    given = given if isinstance(given, bytes) else given.encode()
+    ran = subprocess.run([PROGRAM, *words], input=given, capture_output=True, **options)
     return Ran(ran.returncode, ran.stdout.decode(errors="replace"), ran.stderr.decode(errors="replace"))
 
 

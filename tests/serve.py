@@ -6,7 +6,8 @@
 What is asked and answered stands in tests/exchanges.py. Clients are raw sockets (tests/server.py), Python's `http.client`, and
 `curl` where it is on the PATH. Each server is started for so many connections. It has to end after the last of them with status
 0, with its one line on standard output, and with a line on standard error for each connection that failed. What differs is told
-on standard error. The last line is 'N passed, M failed', and the exit status 1 where M isn't 0.
+on standard error. The line before the last one says how many requests were cut. The last line is 'N passed, M failed', and the exit
+status 1 where M isn't 0.
 """
 
 import http.client
@@ -44,6 +45,7 @@ class Desk:
     empty: Book
     passed: int = 0
     failed: int = 0
+    cuts: int = 0
     name: str = ""
 
     def expect(self, what, got, wanted):
@@ -150,6 +152,7 @@ def try_cuts(desk):
             answers = [server.exchange(given[:length], is_cut=True) for length in range(len(given))]
             desk.expect("the end", server.end(), server.served())
         wrong = {length: got for length, got in enumerate(answers) if got != told_of_a_cut(given, length)}
+        desk.cuts += len(answers)
         desk.expect(f"cuts of {given}", wrong, {})
         desk.expect(f"the tables after cuts of {given}", book.tables(), before)
     desk.expect_served(book, CUT)
@@ -641,6 +644,7 @@ def main(names):
                 tried[desk.name](desk)
             except (OSError, RuntimeError, sqlite3.Error) as fault:
                 desk.expect("what ends it", repr(fault), None)
+    print(f"{desk.cuts} cuts of requests")
     print(f"{desk.passed} passed, {desk.failed} failed")
     return 1 if desk.failed else 0
 

@@ -65,15 +65,16 @@ class Server:
     errors: object  # the file of its standard error
     out: bytes = field(default=b"")
 
-    def await_listening(self):
-        """Waits for the first line of its standard output."""
+    def listens(self):
+        """Waits for the first line of its standard output, and answers whether there is one."""
         until = time.monotonic() + PATIENCE
         while not self.out.endswith(b"\n"):
-            ready, _, _ = select.select([self.process.stdout], [], [], until - time.monotonic())
+            ready, _, _ = select.select([self.process.stdout], [], [], max(0, until - time.monotonic()))
             more = self.process.stdout.read1(100) if ready else b""
             if not more:
-                raise RuntimeError(f"no server listens: {self.end()}")
+                return False
             self.out += more
+        return True
 
     def connect(self, patience=PATIENCE):
         client = socket.create_connection((LOOPBACK, self.port), timeout=patience)
@@ -146,12 +147,20 @@ def run(file, port, connections=1, **options):
 @contextmanager
 def serving(book, connections=None, **options):
     """A server of a book that listens; it doesn't outlive the block."""
+    with started(book, connections, **options) as server:
+        if not server.listens():
+            raise RuntimeError(f"no server listens: {server.end()}")
+        yield server
+
+
+@contextmanager
+def started(book, connections=None, **options):
+    """A server of a book, which may come to listen; it doesn't outlive the block."""
     with tempfile.TemporaryFile() as errors:
         port = free_port()
         process = serve(book.file, port, connections, **{"stderr": errors, **options})
         server = Server(process, port, errors)
         try:
-            server.await_listening()
             yield server
         finally:
             if process.poll() is None:

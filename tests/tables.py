@@ -6,9 +6,9 @@
 Books are made by plain SQL, and the program is asked: such with a damage, or with two, of which the first table has to be named
 (tests/tables/damages.txt), and sound ones, whose answers tell how their rows are read (answers.txt). Books that the program makes
 are read by plain SELECTs: after each order of a story (story.txt), with the longest pairing, with the greatest key, and beside
-other tables; and their tables are offered rows that they have to refuse (refused.txt). The SQL is that of Python's own `sqlite3`,
-of SQLite 3.37 or newer. What differs is told on standard error. The last line is 'N passed, M failed', and the exit status 1 where
-M isn't 0.
+other tables. One of them is damaged (late.txt), and the tables of others are offered rows that they have to refuse (refused.txt). The
+SQL is that of Python's own `sqlite3`, of SQLite 3.37 or newer. What differs is told on standard error. The last line is
+'N passed, M failed', and the exit status 1 where M isn't 0.
 """
 
 import json
@@ -21,7 +21,8 @@ from contextlib import closing
 from dataclasses import dataclass
 from pathlib import Path
 
-from office import TOP, ZONE, build, instant, rosterbook
+from office import TOP, ZONE, Book, build, instant, rosterbook
+from reports import A_LATE_PERIOD, MEMBERS, carry_out
 
 GREATEST = "9223372036854775807"
 
@@ -196,25 +197,39 @@ def long_pairing(periods, segments):
     return statements
 
 
-def damages():
-    """Statements, each with what is answered of the sound book after them."""
-    for wanted, lines in read("damages.txt"):
+def damages(name):
+    """The statements of a file, each with what is answered of its book after them."""
+    for wanted, lines in read(name):
         for line in lines:
             before, _, rest = line.partition("<")
             inside, _, after = rest.partition(">")
             yield from ((before + one + after, wanted) for one in inside.split(" | "))
+
+
+def long_pairings():
+    """The same of pairings that are as long as may be, and longer."""
     yield long_pairing(10, 12), "loaded"
     for periods, segments in ((11, 1), (1, 13), (10, 13)):
         yield long_pairing(periods, segments), "41 Damaged segment"
 
 
 def try_damages(desk):
-    for statements, wanted in damages():
+    for statements, wanted in (*damages("damages.txt"), *long_pairings()):
         file = database(desk.file(), SOUND + statements)
         desk.expect_kept(statements, file, lambda: ran("do", file), of_nothing(wanted))
     file = database(desk.file(), SOUND + "DELETE FROM seat WHERE pairing = 'P1' AND seat = 1")
     desk.expect("damaged", ran("do", file), of_nothing("41 Damaged seat"))
     desk.expect("mended", ran("do", database(file, "INSERT INTO seat VALUES ('P1', 1, 'F1')")), of_nothing("loaded"))
+
+
+def try_late_book(desk):
+    """Damages of a book that the program made."""
+    with tempfile.TemporaryDirectory() as room:
+        book = Book.made(room)
+        desk.expect("the late book", carry_out(book, MEMBERS + A_LATE_PERIOD), [])
+        for statements, wanted in damages("late.txt"):
+            file = database(book.copy().file, statements)
+            desk.expect_kept(f"late: {statements}", file, lambda: ran("do", file), of_nothing(wanted))
 
 
 def try_no_books(desk):
@@ -360,6 +375,7 @@ def try_refused_rows(desk):
 
 TRIED = (
     try_damages,
+    try_late_book,
     try_no_books,
     try_answers,
     try_story,

@@ -5,10 +5,14 @@
 
 Instants and zones are those of `duty` and of ground duties, requests those of `do`, and schedules those of `import`. Each text
 stands here with what docs/FORMATS.md has of it: a refusal in words, as tests/office.py tells it, or the text that the command is
-kept as, which is read from the table `request`. What differs is told on standard error. The last line is 'N passed, M failed',
-and the exit status 1 where M isn't 0.
+kept as, which is read from the table `request`. A schedule and some requests are also cut after each of their bytes; what a cut
+schedule is told is worked out with Python's own reader of CSV. What differs is told on standard error. The line before the last one
+says how many cuts there were. The last line is 'N passed, M failed', and the exit status 1 where M isn't 0.
 """
 
+import csv
+import io
+import re
 import sys
 import tempfile
 from dataclasses import dataclass
@@ -249,10 +253,12 @@ P1_KEPT = (
 )
 ONE = HEADER + P1 + b"\n"
 
+MARKED = b"\xef\xbb\xbf" + ONE.replace(b"\n", b"\r\n").replace(b"RB1", b'"RB1"')
+
 # The forms in which records end and fields are quoted.
 FORMS = [
     ONE,
-    b"\xef\xbb\xbf" + ONE.replace(b"\n", b"\r\n").replace(b"RB1", b'"RB1"'),
+    MARKED,
     ONE.replace(b"\n", b"\r"),
     b"\n\n" + HEADER + b"\n" + P1.replace(b"11:00Z", b"11:00:00Z"),
 ]
@@ -339,6 +345,30 @@ def schedule(records):
     return HEADER + b"".join(record + b"\n" for record in records)
 
 
+# The header's fields, with the shapes that the texts below them have where they are whole.
+INSTANT = r"\d{4}-\d\d-\d\dT\d\d:\d\d(:00)?Z"
+SHAPES = {
+    "pairing": "[A-Z0-9-]{1,12}", "period": "[1-9]|10", "report": INSTANT, "release": INSTANT, "flight": "[A-Z0-9]{1,8}",
+    "from": "[A-Z0-9]{3,4}", "out": INSTANT, "to": "[A-Z0-9]{3,4}", "in": INSTANT,
+}  # fmt: skip
+
+
+def is_whole(record):
+    """Whether a record has all fields, each of its shape."""
+    return len(record) == len(SHAPES) and all(re.fullmatch(shape, text) for shape, text in zip(SHAPES.values(), record))
+
+
+def told_of_a_cut(text):
+    """What an import writes of a schedule of P1 that is cut, and the texts that it keeps."""
+    lines = io.StringIO(text.removeprefix(b"\xef\xbb\xbf").decode("latin-1"), newline="")
+    header, *records = [record for record in csv.reader(lines) if record] or [[]]
+    if header != list(SHAPES):
+        return refused("30 BadCsv 1"), []
+    if not all(is_whole(record) for record in records):
+        return refused("30 BadCsv 2"), []
+    return Ran(0, "".join("1 accepted\n" for _ in records), ""), [P1_KEPT for _ in records]
+
+
 # ---- What is tried.
 
 
@@ -355,6 +385,7 @@ class Desk:
     empty: Book
     passed: int = 0
     failed: int = 0
+    cuts: int = 0
 
     def expect(self, name, got, wanted):
         self.passed += got == wanted
@@ -425,7 +456,24 @@ def try_schedules(desk):
         desk.expect_schedule(schedule(records), refused(f"30 BadCsv {place}"), [])
 
 
-TRIED = (try_instants, try_zones, try_requests, try_kept_texts, try_schedules)
+def try_cut_schedules(desk):
+    for length in range(len(MARKED) + 1):
+        desk.expect_schedule(MARKED[:length], *told_of_a_cut(MARKED[:length]))
+        desk.cuts += length < len(MARKED)
+
+
+def try_cut_requests(desk):
+    """A member, a ground duty and an actual."""
+    book = desk.empty
+    for body, _ in (KEPT[0], KEPT[2], KEPT[7]):
+        text = body.encode()
+        answers = {length: told(book.send(text[:length])) for length in range(len(text))}
+        desk.expect(f"cuts of {body}", {length: got for length, got in answers.items() if got != "31 BadJson body"}, {})
+        desk.cuts += len(answers)
+    desk.expect("what is kept of them", book.requests(), [])
+
+
+TRIED = (try_instants, try_zones, try_requests, try_kept_texts, try_schedules, try_cut_schedules, try_cut_requests)
 
 
 def main():
@@ -435,6 +483,7 @@ def main():
         desk = Desk(Path(room), Book.made(room))
         for tried in TRIED:
             tried(desk)
+    print(f"{desk.cuts} cuts of texts")
     print(f"{desk.passed} passed, {desk.failed} failed")
     return 1 if desk.failed else 0
 

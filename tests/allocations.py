@@ -1,0 +1,342 @@
+#!/usr/bin/env python3
+"""Refuses the program memory, one call for it after the other, and compares what it answers and what its book holds then.
+
+    tests/allocations.py [--all] [CASE..]
+
+The machine's C compiler builds tests/allocations/refuse.c, a library that refuses the n-th call for memory of the process that it is
+loaded into. A case is one call of the program on a copy of one book, or one exchange of a client with its server. It is made with
+the first call for memory refused, then with one some calls later, and so on (with --all: with each in turn) up to a run in which
+none was refused. Each of these runs
+
+- ends as a run that has all memory, or with 91 or 90; an import has printed the lines of its first parts then. A client has the whole
+  answer, or the whole 503 of 91 or 90, or nothing, where its connection failed (92);
+- leaves the rows that a run with all memory leaves, or where it was stopped those of the parts that were told, or of one more;
+- is made again with all memory, and then is answered and leaves all rows as a run that had all memory at once. An `init` that had
+  made its book is refused with 43.
+
+What is answered with all memory is written here by hand. What differs is told on standard error. The line before the last one says
+how many calls were refused; the last line is 'N passed, M failed', in which such a run counts as one, and the exit status is 1 where
+M isn't 0. Where there is no C compiler, nothing is tried.
+"""
+
+import argparse
+import itertools
+import os
+import shutil
+import sqlite3
+import subprocess
+import sys
+import tempfile
+from collections import Counter
+from contextlib import contextmanager
+from dataclasses import dataclass, field
+from pathlib import Path
+
+import tables
+from exchanges import ACCEPTED, MEMORY, STORE, body_of, get, refused, request_of, response
+from office import TOP, ZONE, Book, Ran, build, rosterbook, schedule
+from reports import carry_out
+from server import started
+
+LIBRARY = TOP / "tests" / "allocations" / "refuse.c"
+STRIDE = 25  # from one call that is refused to the next one
+PATIENCE = 60  # seconds for a run of the program
+FAULTS = {"91": "refused 91 Memory\n", "90": "refused 90 Store\n"}
+
+# ---- The book: C1 and F1 have flown P1 late and hold P4; P2 begins nine hours after P1, and P3 is free.
+
+OFFICE = """
+    1 hire C1 captain: Ada Ray
+    2 hire F1 first-officer: Zoë Roy
+    3 plan P1 10: 11:00 | 12:00-19:30 | 20:00
+    4 assign P1 C1
+    5 assign P1 F1
+    6 plan P2 11: 11:00 | 12:00-14:00 | 14:30
+    7 plan P3 13: 11:00 | 12:00-14:00, 15:00-17:00 | 18:00; 14: 11:00 | 12:00-15:00 | 16:00
+    8 plan P4 17: 11:00 | 12:00-19:30 | 20:00
+    9 assign P4 C1
+    10 assign P4 F1
+    11 train G1 20: 12:00-13:00
+    12 fly P1 1 10: 11:00 | 23:00-+1 01:30 | +1 02:00
+"""
+
+ROSTER = """\
+ROSTER C1 captain Ada Ray
+2025-06-10T11:00Z 2025-06-11T02:00Z pairing P1/1 actual fdp 14:30 flight 2:30
+2025-06-17T11:00Z 2025-06-17T20:00Z pairing P4/1 plan fdp 8:30 flight 7:30
+2025-06-20T12:00Z 2025-06-20T13:00Z ground G1 Simulator
+"""
+
+PAIRING = """\
+PAIRING P1
+captain C1
+first officer F1
+1 actual report 2025-06-10T11:00Z release 2025-06-11T02:00Z
+1.1 RB1 BOS 2025-06-10T23:00Z IAD 2025-06-11T01:30Z
+"""
+
+EXCEEDANCES = """\
+EXCEEDANCES 2
+12 C1 117.13(a) P1/1
+12 F1 117.13(a) P1/1
+"""
+
+# P4 is flown for twenty hours.
+LATE = "21 fly P4 1 17: 11:00 | 23:00-+1 07:00 | +1 07:30"
+BOTH_LATE = '{"exceedances":[{"crew":"C1","section":"117.13(a)"},{"crew":"F1","section":"117.13(a)"}],"result":"accepted"}'
+TOO_SOON = refused(12, "Limits", limits=[{"crew": "C1", "section": "117.25(e)"}])
+
+# A schedule whose second pairing is there already.
+PLANS = [
+    "plan P10 20: 06:30 | 07:30-10:30 | 11:00",
+    "plan P2 21: 06:30 | 07:30-10:30 | 11:00",
+    "plan P30 22: 06:30 | 07:30-10:30 | 11:00",
+]
+PARTS = "1 accepted\n2 refused 5 PairingExists\n3 accepted\n"
+
+# A period of fourteen hours, and its verdict.
+PERIOD = f"duty {ZONE} 2025-06-10T15:59Z 2025-06-10T16:30Z 2025-06-10T20:30Z 2025-06-11T01:29Z 2025-06-11T05:59Z"
+WITHIN = "report 11:59 segments 2 fdp 14:00 of 14:00 flight 8:30 of 9:00 within\n"
+
+# ---- What is tried.
+
+
+@dataclass(frozen=True)
+class Call:
+    """A call of the program, in whose words BOOK is the file, and how it ends with all memory."""
+
+    words: str
+    given: str
+    answer: Ran
+    is_made: bool = True  # whether the book is there before
+    fronts: tuple = ()  # of an import: its schedule up to each of its pairings but the last
+
+    def run(self, book, given=None, **options):
+        words = [book.file if word == "BOOK" else word for word in self.words.split()]
+        given = self.given if given is None else given
+        try:
+            return rosterbook(*words, given=given, timeout=PATIENCE, **options)
+        except subprocess.TimeoutExpired:
+            return Ran(None, "", "")
+
+    def stops(self):
+        """How it may end where it is stopped, each with what is told of that, and how many parts were told before."""
+        lines = self.answer.out.splitlines(keepends=True) if self.fronts else []
+        for fault, line in FAULTS.items():
+            for parts in range(len(lines) + 1):
+                yield Ran(3, "".join(lines[:parts]), line), fault, parts
+
+    def again(self):
+        """How it ends when it is made once more after it was done."""
+        return self.answer if self.is_made else Ran(3, "", "refused 43 NotEmpty\n")
+
+
+@dataclass(frozen=True)
+class Exchange:
+    """An exchange of one client with the server: what is sent, and what is answered with all memory."""
+
+    sent: bytes
+    response: bytes
+    is_made = True
+    fronts = ()
+
+    @property
+    def answer(self):
+        return self.response, Ran(0, "listening\n", "")
+
+    def run(self, book, **options):
+        """What the client gets, nothing of a server that doesn't listen, and how that ends."""
+        with started(book, 1, **options) as server:
+            got = server.exchange(self.sent) if server.listens() else None
+            ended = server.end()
+        if isinstance(got, str) and got.startswith(("ConnectionResetError", "BrokenPipeError")):
+            got = b""
+        return got, Ran(ended.status, ended.out.replace(f"listening {server.port}", "listening"), ended.err)
+
+    def stops(self):
+        for fault, line in FAULTS.items():
+            yield (None, Ran(3, "", line)), fault, 0
+        yield (response(503, MEMORY), Ran(0, "listening\n", "")), "503 with 91", 0
+        yield (response(503, STORE), Ran(3, "listening\n", FAULTS["90"])), "503 with 90", 0
+        yield (b"", Ran(0, "listening\n", "refused 92 Channel\n")), "92", 0
+
+    def again(self):
+        return self.answer
+
+
+def asked(line, status, text):
+    """The call of `do` that asks a line with its number, and how it ends."""
+    number, _, command = line.partition(" ")
+    return Call("do BOOK", body_of(int(number), command), Ran(status, f"{text}\n", ""))
+
+
+CASES = {
+    "init": Call(f"init BOOK {ZONE}", "", Ran(0, "ready\n", ""), is_made=False),
+    "do_accepted": asked("20 assign P3 C1", 0, ACCEPTED),
+    "do_refused": asked("20 assign P2 C1", 1, TOO_SOON),
+    "do_repeated": asked("4 assign P1 C1", 0, ACCEPTED),
+    "do_actual": asked(LATE, 0, BOTH_LATE),
+    "import": Call("import BOOK 500", schedule(PLANS), Ran(1, PARTS, ""), fronts=(schedule(PLANS[:1]), schedule(PLANS[:2]))),
+    "roster": Call("roster BOOK C1", "", Ran(0, ROSTER, "")),
+    "pairing": Call("pairing BOOK P1", "", Ran(0, PAIRING, "")),
+    "exceedances": Call("exceedances BOOK", "", Ran(0, EXCEEDANCES, "")),
+    "duty": Call(PERIOD, "", Ran(0, WITHIN, "")),
+    "serve_accepted": Exchange(request_of("20 assign P3 C1"), response(200, ACCEPTED)),
+    "serve_refused": Exchange(request_of("20 assign P2 C1"), response(409, TOO_SOON)),
+    "serve_roster": Exchange(get("/crew/C1"), response(200, ROSTER)),
+}
+
+# ---- How it is tried.
+
+
+@dataclass(frozen=True)
+class Whole:
+    """What a case comes to with all memory, and how it may end without."""
+
+    case: object
+    rows: list  # all rows before it, and after each of its parts
+    ends: dict  # what is told of each end, and the rows that may stand then
+
+    @classmethod
+    def of(cls, case, rows):
+        ends = {case.answer: ("nothing", rows[-1:])}
+        ends |= {ended: (fault, rows[parts : parts + 2]) for ended, fault, parts in case.stops()}
+        return cls(case, rows, ends)
+
+    def look_up(self, ended):
+        return self.ends.get(ended, ("something else", []))
+
+
+@dataclass
+class Desk:
+    """Books in a folder, the library that refuses a call, and what came of the runs."""
+
+    room: Path
+    library: Path
+    stride: int
+    office: Book
+    passed: int = 0
+    failed: int = 0
+    name: str = ""
+    functions: Counter = field(default_factory=Counter)  # that were refused
+    told: Counter = field(default_factory=Counter)  # how the runs ended
+
+    def expect(self, what, got, wanted):
+        self.passed += got == wanted
+        self.failed += got != wanted
+        if got != wanted:
+            print(f"tests/allocations.py: {self.name}: {what}\n  wanted: {wanted}\n  got:    {got}", file=sys.stderr)
+
+    @contextmanager
+    def book(self, case):
+        """A copy of the office's book, or where the case makes one no book; it doesn't outlive the block."""
+        book = self.office.copy() if case.is_made else Book(Path(tempfile.mkdtemp(dir=self.room)))
+        try:
+            yield book
+        finally:
+            shutil.rmtree(book.folder)
+
+    def run(self, case, book, number):
+        """How a run ends whose call for memory of this number is refused, and which function that called, or nothing."""
+        reader, writer = os.pipe()
+        more = {"LD_PRELOAD": str(self.library), "REFUSED_CALL": str(number), "REFUSED_NOTE": str(writer)}
+        try:
+            ended = case.run(book, env={**os.environ, **more}, pass_fds=(writer,))
+        finally:
+            os.close(writer)
+        with open(reader) as note:
+            return ended, note.read().strip()
+
+
+def with_all_memory(desk, case):
+    """What the case comes to with all memory, which has to be what stands here."""
+    between = []
+    for front in case.fronts:
+        with desk.book(case) as book:
+            case.run(book, front)
+            between.append(tables.told(book.file))
+    with desk.book(case) as book:
+        before = tables.told(book.file)
+        desk.expect("with all memory", case.run(book), case.answer)
+        return Whole.of(case, [before, *between, tables.told(book.file)])
+
+
+def differences(whole, book, ended):
+    """What is wrong of a run that ended so, and of the same run made again, which has all memory."""
+    wrong = []
+    rows = tables.told(book.file)
+    _, wanted = whole.look_up(ended)
+    if not wanted:
+        wrong.append(f"it ends with {ended}")
+    elif rows not in wanted:
+        wrong.append(f"it ends with {ended} and leaves {changes(whole, rows)}")
+    again = whole.case.run(book)
+    if again != (whole.case.again() if rows == whole.rows[-1] else whole.case.answer):
+        wrong.append(f"again it ends with {again}")
+    rows = tables.told(book.file)
+    if rows != whole.rows[-1]:
+        wrong.append(f"again it leaves {changes(whole, rows)}")
+    return wrong
+
+
+def changes(whole, rows):
+    """How rows differ from those that a run with all memory leaves."""
+    wanted = whole.rows[-1]
+    return [f"+ {row}" for row in rows if row not in wanted] + [f"- {row}" for row in wanted if row not in rows]
+
+
+def try_case(desk, case):
+    whole = with_all_memory(desk, case)
+    told = Counter()
+    for number in itertools.count(1, desk.stride):
+        with desk.book(case) as book:
+            ended, function = desk.run(case, book, number)
+            if not function:
+                break
+            try:
+                wrong = differences(whole, book, ended)
+            except sqlite3.Error as fault:
+                wrong = [f"it ends with {ended}, and its tables can't be read: {fault}"]
+        desk.expect(f"call {number}, of {function}, refused", wrong, [])
+        desk.functions[function] += 1
+        told[whole.look_up(ended)[0]] += 1
+    desk.expect("with a call refused that isn't made", ended, case.answer)
+    desk.expect("that want of memory is told", told["91"] > 0, True)
+    desk.told += told
+
+
+def summary(desk):
+    """How many calls were refused, and what was told of that."""
+    functions = ", ".join(f"{count} of {function}" for function, count in desk.functions.most_common())
+    told = ", ".join(f"{what} of {count}" for what, count in desk.told.most_common())
+    return f"{desk.functions.total()} calls for memory refused ({functions}); told: {told}"
+
+
+def main():
+    asked_for = argparse.ArgumentParser(description=__doc__.split("\n")[0])
+    asked_for.add_argument("--all", action="store_true", help="refuse each call for memory in turn")
+    asked_for.add_argument("cases", nargs="*", metavar="CASE")
+    asked_for = asked_for.parse_args()
+    for name in asked_for.cases:
+        if name not in CASES:
+            sys.exit(f"tests/allocations.py: there is no case {name}")
+    if not shutil.which("cc"):
+        print("tests/allocations.py: no call for memory is refused, since no cc is on the PATH", file=sys.stderr)
+        print("0 passed, 0 failed")
+        return 0
+    if not build():
+        return 3
+    with tempfile.TemporaryDirectory(prefix="allocations-") as room:
+        library = Path(room) / "refuse.so"
+        subprocess.run(["cc", "-O2", "-shared", "-fPIC", "-o", library, LIBRARY], check=True)
+        desk = Desk(Path(room), library, 1 if asked_for.all else STRIDE, Book.made(room))
+        desk.expect("the book", carry_out(desk.office, OFFICE), [])
+        for desk.name in asked_for.cases or CASES:
+            try_case(desk, CASES[desk.name])
+    print(summary(desk))
+    print(f"{desk.passed} passed, {desk.failed} failed")
+    return 1 if desk.failed else 0
+
+
+if __name__ == "__main__":
+    sys.exit(main())
