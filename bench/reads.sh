@@ -54,10 +54,10 @@ for count in 10000 100000; do
     "$top/rosterbook" "do" book.db <<<'{"number":9000000,"do":"add-crew","crew":"C1","seat":"captain","name":"Ada Ray"}' >/dev/null
     schedule | "$top/rosterbook" import book.db 9000001 >/dev/null
     listen book.db
-    asked $held 200 /requests '{"number":91%d,"do":"assign","pairing":"C%d","crew":"C1"}' >/dev/null
+    asked $held 200 /requests '{"number":91000%d,"do":"assign","pairing":"C%d","crew":"C1"}' >/dev/null
     http=$(asked 2000 404 /nothing)
-    told "$count pairings: an assignment, $held pairings held" "$(asked 300 409 /requests '{"number":92%d,"do":"assign","pairing":"C1","crew":"C1"}')" "$http"
-    told "$count pairings: a release" "$(asked 2000 409 /requests "{\"number\":93%d,\"do\":\"release\",\"pairing\":\"C$((held + 1))\",\"crew\":\"C1\"}")" "$http"
+    told "$count pairings: an assignment, $held pairings held" "$(asked 300 409 /requests '{"number":92000%d,"do":"assign","pairing":"C1","crew":"C1"}')" "$http"
+    told "$count pairings: a release" "$(asked 2000 409 /requests "{\"number\":93000%d,\"do\":\"release\",\"pairing\":\"C$((held + 1))\",\"crew\":\"C1\"}")" "$http"
     kill "$server"
     wait "$server" 2>/dev/null || true
     server=

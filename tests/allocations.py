@@ -39,7 +39,7 @@ from reports import carry_out
 from server import started
 
 LIBRARY = TOP / "tests" / "allocations" / "refuse.c"
-STRIDE = 25  # from one call that is refused to the next one
+STRIDE = 250  # from one call that is refused to the next one
 PATIENCE = 60  # seconds for a run of the program
 FAULTS = {"91": "refused 91 Memory\n", "90": "refused 90 Store\n"}
 
