@@ -5,7 +5,7 @@ use crate::fault::Untold;
 use crate::opening::create;
 use crate::sessions::marks;
 use crate::stops::states::{BEFORE, COMMANDS, Commands, IMPORT, PARTS, all_commands};
-use book::{Answer, Book, LoadFault, Run, Show};
+use book::{Answer, Book, Import, LoadFault, Run, Show};
 use command::{Command, Key};
 use duty::{CrewId, Pairing, PairingId};
 use sqlite::{Alter, Connection, Files, Options};
@@ -66,8 +66,18 @@ fn is_closed<S: Alter>(alloc: Global, book: &mut Book<S>) -> Result<bool, Untold
         closed = closed && is_shut(&book.ask(alloc, *key, command));
     }
     closed = closed && runs_nothing(alloc, book, &[]) && runs_nothing(alloc, book, &before);
-    let mut import = Book::<S>::import(IMPORT, import);
+    let Some(mut import) = import_of::<S>(import) else {
+        return Err(Untold::Unmade);
+    };
     Ok(closed && matches!(import.next(alloc, book), Some(Err(StoreFault::Store))))
+}
+
+/// The import of these pairings, of which there are no more than one may have.
+fn import_of<S: Alter>(pairings: Vec<Pairing>) -> Option<Import> {
+    if pairings.len() > 10_000 {
+        return None;
+    }
+    Some(Book::<S>::import(IMPORT, pairings))
 }
 
 /// The answers to some commands, and the fault that ended them.
@@ -117,7 +127,9 @@ fn import_all<S: Alter>(
     most: usize,
     played: &mut Played,
 ) -> Result<bool, Untold> {
-    let mut import = Book::<S>::import(IMPORT, pairings);
+    let Some(mut import) = import_of::<S>(pairings) else {
+        return Err(Untold::Unmade);
+    };
     for _ in 0..most {
         let Some(answer) = import.next(alloc, book) else {
             return Ok(true);
