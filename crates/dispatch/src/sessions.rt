@@ -28,7 +28,7 @@ const REQUESTS: [(u8, &str); 12] = [
 ];
 
 /// A mark for each answer: `+` where it accepts, or else the number of the refusal.
-pub fn marks(alloc: Global, answers: &[Answer]) -> Result<String, Untold> {
+fn marks(alloc: Global, answers: &[Answer]) -> Result<String, Untold> {
     let mut marks = String::new(alloc);
     for answer in answers {
         match answer {
