@@ -1,6 +1,7 @@
 #!/usr/bin/env bash
-# Runs the transcripts of tests/transcripts, and those of the README (each of its blocks of `console`): what a user types, what
-# the program writes, and how it ends. Each runs in an empty folder of its own, with the program and examples/ at hand. A line is
+# Runs the transcripts of tests/transcripts, those of the README (each of its blocks of `console`), of docs/REFUSALS.md and of the
+# manual page (each of its blocks between .EX and .EE): what a user types, what the program writes, and how it ends. Each runs in an
+# empty folder of its own, with the program and examples/ at hand; the program is on the PATH too. A line is
 #
 #     $ ..    a command of the shell
 #     ! ..    a line that it writes to standard error
@@ -29,7 +30,7 @@ free_port() {
 # ran COMMAND: the lines that a transcript has of it after the command.
 ran() {
     local status
-    (cd "$room/folder" && bash -c "${1//8117/$port}") >"$room/out" 2>"$room/err" </dev/null
+    (cd "$room/folder" && PATH=$room/bin:$PATH bash -c "${1//8117/$port}") >"$room/out" 2>"$room/err" </dev/null
     status=$?
     sed "s/^listening $port$/listening 8117/" "$room/out"
     sed 's/^/! /' "$room/err"
@@ -50,11 +51,17 @@ played() {
 }
 
 ./rosterbook --version >/dev/null || exit 3
-awk -v start="$room/README-" '/^```console$/ { blocks += 1; file = start blocks ".txt" } /^```$/ { file = "" } !/^```/ && file { print >file }' README.md
+mkdir "$room/bin" && ln -s "$top/rosterbook" "$room/bin" || exit 2
+for page in README.md docs/REFUSALS.md; do
+    awk -v start="$room/$(basename $page .md)-" '/^```console$/ { blocks += 1; file = start blocks ".txt" } /^```$/ { file = "" }
+        !/^```/ && file { print >file }' $page
+done
+sed 's/\\-/-/g; s/\\(aq/'"'"'/g; s/\\e/\\/g' share/man/man1/rosterbook.1 |
+    awk -v start="$room/manual-" '$0 == ".EE" { file = "" } file { print >file } $0 == ".EX" { blocks += 1; file = start blocks ".txt" }'
 port=$(free_port)
 passed=0
 failed=0
-for file in "$room"/README-*.txt tests/transcripts/*.txt; do
+for file in "$room"/{README,REFUSALS,manual}-*.txt tests/transcripts/*.txt; do
     for tool in sqlite3 curl; do
         if grep -q '^\$ .*\b'"$tool " "$file" && ! command -v $tool >/dev/null; then
             echo "tests/transcripts.sh: $(basename "$file"): skipped, since no $tool is on the PATH" >&2
