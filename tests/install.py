@@ -4,7 +4,7 @@
     tests/install.py
 
 The manual page and the completions of bash and zsh have to name each subcommand, argument and option that `--help` has, and no other,
-and all have the zones of docs/REFUSALS.md. The completions are asked as a shell asks them, those of zsh where it is on the PATH. What
+and all have the zones of docs/REFUSALS.md, which has all refusals. The completions are asked as a shell asks them, those of zsh where it is on the PATH. What
 differs is told on standard error. The last line is 'N passed, M failed', and the exit status 1 where M isn't 0.
 """
 
@@ -253,6 +253,15 @@ def try_zones(office):
     return wanted
 
 
+def try_the_page_of_refusals(office):
+    """docs/REFUSALS.md has each refusal of the formats and of the rules once, in order of the numbers."""
+    page, formats, rules = (text(f"docs/{it}.md") for it in ("REFUSALS", "FORMATS", "RULES"))
+    found = re.findall(r"^\| (T?\d+) (\w+)", page, re.M)
+    office.expect("the order of the refusals", found, sorted(set(found), key=lambda it: (it[0][0] != "T", int(it[0].strip("T")))))
+    of_formats = {*re.findall(r"^\| (T?\d+) ([A-Z]\w+)", formats, re.M), *re.findall(r"refused (T?\d+) ([A-Z]\w+)", formats)}
+    office.expect("the refusals", {*found}, of_formats | {*re.findall(r"^\| (\d+) \| ([A-Z]\w+) \|", rules, re.M)})
+
+
 def try_bash(office, folder, wanted_zones):
     ask = lambda *words: bash_completions(folder, "rosterbook", *words)
     names, options = of_bash()[1], ["-h", "--help"]
@@ -373,6 +382,7 @@ def main():
         (folder / "folder").mkdir()
         (folder / "book.db").write_text("")
         try_names(office)
+        try_the_page_of_refusals(office)
         wanted_zones = try_zones(office)
         try_bash(office, folder, wanted_zones)
         try_zsh(office, folder)
