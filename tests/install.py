@@ -12,6 +12,7 @@ import os
 import pty
 import re
 import select
+import shlex
 import shutil
 import subprocess
 import sys
@@ -86,7 +87,7 @@ def of_help():
     def asked(*words):
         said = rosterbook(*words, "--help").out
         options = re.search(r"^Options:\n((?: .*\n)+)", said, re.M)[1]
-        return said, sorted(re.findall(r"(?<![\w-])(--?[a-zA-Z][\w-]*)(?=[, ]|$)", re.sub(r"  \S.*$", "", options, flags=re.M), re.M))
+        return said, sorted(it for pair in re.findall(r"^ +(?:(-\w), )?(--[\w-]+)", options, re.M) for it in pair if it)
 
     said, options = asked()
     names = re.findall(r"^  ([a-z]+)  ", re.search(r"^Commands:\n((?: .*\n)+)", said, re.M)[1], re.M)
@@ -104,7 +105,9 @@ def section(page, name):
 
 def plain(line):
     """A line of the manual page without its fonts."""
-    return re.sub(r"^\.[BI]R? |\\f[BIR]|\"", "", line).replace("\\-", "-").replace(" , ", ", ")
+    if re.match(r"\.[BI]R ", line):
+        line = "".join(shlex.split(line[4:], posix=False)).replace('"', "")
+    return re.sub(r"^\.[BI] |\\f[BIR]", "", line).replace("\\-", "-")
 
 
 def of_synopsis(page):
@@ -296,7 +299,7 @@ def try_zsh(office, folder):
         ("do bo", "do book.db "),
         ("serve --c", "serve --connections "),
         ("serve --connections 9 bo", "serve --connections 9 book.db "),
-        ("roster book.db --h", "roster book.db --help "),
+        ("do book.db --h", "do book.db --help "),
         ("--v", "--version "),
         ("rest b", "rest b"),
     ]:
