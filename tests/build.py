@@ -8,6 +8,7 @@ crates are done, as the kit keeps what it proved. What differs is told on standa
 exit status 1 where M isn't 0.
 """
 
+import contextlib
 import os
 import pty
 import re
@@ -161,7 +162,11 @@ class Machine:
 
     def processes(self):
         """The processes of the stand-in that still run."""
-        return subprocess.run(["pgrep", "-f", str(self.room / "bin" / "rt")], capture_output=True, text=True).stdout
+        name, found = str(self.room / "bin" / "rt").encode(), []
+        for it in Path("/proc").glob("[0-9]*/cmdline"):
+            with contextlib.suppress(OSError):
+                found += [it] * (name in it.read_bytes())
+        return found
 
     def built(self, what, lines, kept=0):
         """Compares the lines of a build, of whose crates so many are kept."""
@@ -211,13 +216,13 @@ def try_all(machine):
     (machine.room / "done").mkdir()
     machine.set(pause="0.2")
     machine.expect("how a signal ends it", machine.killed(), -signal.SIGTERM)
-    machine.expect("what a signal leaves", (os.listdir(machine.room / "tmp"), machine.processes()), ([], ""))
+    machine.expect("what a signal leaves", (os.listdir(machine.room / "tmp"), machine.processes()), ([], []))
     how, shown = machine.typed(until=b"proving limits")
     machine.expect("how Ctrl-C ends it", how, "SIGINT")
     machine.expect("the last line after Ctrl-C", on_screen(shown)[-1], "rosterbook: stopped; the next call goes on from here")
     machine.expect("what Ctrl-C leaves", os.listdir(machine.room / "tmp"), [])
     machine.expect("no program after Ctrl-C", (machine.top / PROGRAM).exists(), False)
-    machine.expect("processes after Ctrl-C", machine.processes(), "")
+    machine.expect("processes after Ctrl-C", machine.processes(), [])
 
     done = len(os.listdir(machine.room / "done"))
     machine.expect("what was done before Ctrl-C", 0 < done < len(below_the_program()), True)
