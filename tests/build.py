@@ -219,7 +219,7 @@ def try_all(machine):
     machine.expect("what a signal leaves", (os.listdir(machine.room / "tmp"), machine.processes()), ([], []))
     how, shown = machine.typed(until=b"proving limits")
     machine.expect("how Ctrl-C ends it", how, "SIGINT")
-    machine.expect("the last line after Ctrl-C", on_screen(shown)[-1], "rosterbook: stopped; the next call goes on from here")
+    machine.expect("the last line after Ctrl-C", on_screen(shown)[-1], "rosterbook: stopped; the next call goes on from here, if the kit can keep what it proves")
     machine.expect("what Ctrl-C leaves", os.listdir(machine.room / "tmp"), [])
     machine.expect("no program after Ctrl-C", (machine.top / PROGRAM).exists(), False)
     machine.expect("processes after Ctrl-C", machine.processes(), [])
