@@ -34,19 +34,6 @@ told() {
         BEGIN { printf "| %s | %s | %s | %s | %s | %s |\n", what, program, rows == "-" ? "" : rows, plain, ratio(rows), ratio(plain) }'
 }
 
-# since BEGIN: the milliseconds since then.
-since() {
-    awk -v nanoseconds=$(($(date +%s%N) - $1)) 'BEGIN { printf "%.3f", nanoseconds / 1000000 }'
-}
-
-# milliseconds COMMAND..: how long it takes.
-milliseconds() {
-    local begin
-    begin=$(date +%s%N)
-    "$@" >/dev/null 2>&1
-    since "$begin"
-}
-
 # listen FILE: starts a server, and waits for its first line.
 listen() {
     : >listening
@@ -77,8 +64,8 @@ compared() {
     echo '|---|---|---|---|---|---|'
     begin=$(date +%s%N)
     listen program.db
-    program=$(since "$begin")
-    told 'opening the book' "$program" "$(milliseconds "$top/bench/rows.py" rows.db none none)" "$(milliseconds "$top/bench/plain.py" plain.db <none)"
+    program=$(awk -v nanoseconds=$(($(date +%s%N) - begin)) 'BEGIN { printf "%.3f", nanoseconds / 1000000 }')
+    told 'opening the book' "$program" "$(taken "$top/bench/rows.py" rows.db none none)" "$(taken "$top/bench/plain.py" plain.db <none)"
     told 'a request that names nothing, by HTTP' "$(python3 "$top/bench/ask.py" $port 1000 404 /nothing)" - ''
     for file in lines/*; do
         program=$(taken "$top/bench/lines.py" $port "$file")

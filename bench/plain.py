@@ -5,7 +5,7 @@
 
 Answers requests of JSON, a line each, as `rosterbook do` answers them, over the same tables: add-crew, add-pairing, assign, release and
 actual. What a command needs is read by key. A member's duties are judged by sorted intervals with running sums. What is accepted is
-committed before the next line is looked at. Standard error gets the milliseconds that one took.
+committed before the next line is looked at. Standard error gets the milliseconds that one took; without any line, what the opening took.
 """
 
 import json
@@ -397,7 +397,11 @@ class Book:
 
 
 def main(file):
-    book, lines = Book(file), sys.stdin.read().splitlines()
+    lines = sys.stdin.read().splitlines()
+    started = time.perf_counter()
+    book = Book(file)
+    if not lines:
+        return told(started, 1)
     started = time.perf_counter()
     answers = [book.answer(line) for line in lines]
     told(started, len(lines))
