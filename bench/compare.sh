@@ -12,6 +12,7 @@
 set -eu
 top=$(cd "$(dirname "$(readlink -f "${BASH_SOURCE[0]}")")/.." && pwd)
 "$top/rosterbook" --version >/dev/null
+rosterbook=$top/crates/rosterbook_main/out/rosterbook_main
 count=${1:-300}
 [ $# -eq 0 ] || shift
 books=("${@:-0}")
@@ -37,7 +38,7 @@ told() {
 # listen FILE: starts a server, and waits for its first line.
 listen() {
     : >listening
-    "$top/rosterbook" serve "$1" $port --connections 1000000 >listening &
+    "$rosterbook" serve "$1" $port --connections 1000000 >listening &
     server=$!
     until grep -q . listening; do sleep 0.001; done
 }
@@ -52,7 +53,7 @@ hush() {
 compared() {
     local begin program rows plain file
     rm -rf ./*.db* lines
-    "$top/rosterbook" init program.db EST5EDT,M3.2.0,M11.1.0 >/dev/null
+    "$rosterbook" init program.db EST5EDT,M3.2.0,M11.1.0 >/dev/null
     [ "$1" = 0 ] || "$top/bench/airline.py" fill program.db "$1"
     mkdir lines
     "$top/bench/airline.py" ask lines "$1" "$count"
