@@ -28,7 +28,7 @@ FILES = ("build", "rosterbook", "crates.txt", "HANDLES", "docs/ARCHITECTURE.md")
 TOOLS = ("awk", "bash", "dirname", "env", "find", "readlink")  # what ./rosterbook calls
 
 # The folder `done` beside its own has a file for each crate that is done. The files there are `pause`, how many seconds a crate takes,
-# `wrong`, a crate that isn't proved, and `meanwhile`, what is run before the last line.
+# `wrong`, a crate that isn't proved, `elsewhere`, one that another run proves, and `meanwhile`, what is run before the last line.
 RT = """\
 #!/usr/bin/env bash
 here=${0%/*}/..
@@ -41,6 +41,7 @@ for name in $(sed -nE 's/^(\\w+):.*/\\1/p' crates.txt); do
         echo "rt: $name is kept: an earlier run on this machine proved the same files over the same libraries"
         continue
     fi
+    [ "$name" != "$(cat "$here/elsewhere")" ] || echo "rt: $name: another run on this machine is proving the same; waiting for it"
     sleep "$(cat "$here/pause")" || exit 2
     echo "== $name"
     echo "fn $name::first: proved"
@@ -113,7 +114,7 @@ class Machine:
         (self.room / "tools" / "python3").symlink_to(sys.executable)
         (self.room / "bin" / "rt").write_text(RT)
         (self.room / "bin" / "rt").chmod(0o755)
-        self.set(pause="0.02", wrong="", meanwhile="")
+        self.set(pause="0.02", wrong="", elsewhere="", meanwhile="")
 
     def set(self, **texts):
         for name, text in texts.items():
@@ -182,13 +183,15 @@ def try_all(machine):
     table = dict(re.findall(r"^\| `(\w+)` \| (\d+) \|$", (TOP / "docs/ARCHITECTURE.md").read_text(), re.M))
     machine.expect("the crates of the table of seconds", sorted(table), sorted(below_the_program()))
 
-    machine.set(wrong="roster")
+    machine.set(wrong="roster", elsewhere="command")
     lines = machine.ran("a crate that isn't proved", 3, "")
+    shared = "rosterbook: command: another run on this machine is proving the same; waiting for it"
+    machine.expect("what is told of a crate that another run proves", lines.count(shared), 1)
     told = ["== roster", "fn roster::first: proved", "crates/roster/src/lib.rt:1:1: error: no proof", "rt: roster NOT PROVED"]
     machine.expect("what is told of it", lines[-5:], [*told, "rosterbook: the program could not be built"])
     machine.expect("no program", (machine.top / PROGRAM).exists(), False)
 
-    machine.set(wrong="")
+    machine.set(wrong="", elsewhere="")
     done = len(os.listdir(machine.room / "done"))
     machine.built("a build that goes on", machine.ran("a build that goes on", 0, "ran one two\n"), done)
     seen = (machine.room / "seen").read_text()
