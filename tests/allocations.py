@@ -5,8 +5,8 @@
 
 The machine's C compiler builds tests/allocations/refuse.c, a library that refuses the n-th call for memory of the process that it is
 loaded into. A case is one call of the program on a copy of one book, or one exchange of a client with its server. It is made with
-one of its first calls for memory refused, then with one that comes some calls later, and so on (with --all: with each in turn) up to
-a run in which none was refused. Each of these runs
+one of its first calls for memory refused, then with one that comes some calls later, and so on; with each of its last calls, which are
+those of a commit and of an answer; and with one more, which isn't made. With --all each call is refused in turn. Each of these runs
 
 - ends as a run that has all memory, or with 91, or with 90 where it commits; an import has printed the lines of its first parts then.
   A client has the whole answer, or the whole 503 of 91 or 90, or nothing, where its connection failed (92);
@@ -20,8 +20,6 @@ M isn't 0. Where there is no C compiler, nothing is tried.
 """
 
 import argparse
-import itertools
-import os
 import shutil
 import sqlite3
 import subprocess
@@ -34,12 +32,14 @@ from pathlib import Path
 
 import tables
 from exchanges import ACCEPTED, MEMORY, STORE, body_of, get, refused, request_of, response
-from office import TOP, ZONE, Book, Ran, build, rosterbook, schedule
+from office import ZONE, Book, Ran, build, rosterbook, schedule
+from refusing import Memory, folder, has_compiler
 from reports import carry_out
 from server import started
 
-LIBRARY = TOP / "tests" / "allocations" / "refuse.c"
 STRIDE = 307  # from one call that is refused to the next one
+LAST = 40  # so many calls at the end of a run are refused in turn
+NO_CALL = 1_000  # so many calls behind the last one there is none
 PATIENCE = 60  # seconds for a run of the program
 FAULTS = {"91": "refused 91 Memory\n", "90": "refused 90 Store\n"}
 
@@ -217,7 +217,7 @@ class Desk:
     """Books in a folder, the library that refuses a call, and what came of the runs."""
 
     room: Path
-    library: Path
+    memory: Memory
     is_all: bool
     office: Book
     passed: int = 0
@@ -243,19 +243,12 @@ class Desk:
 
     def numbers(self, case):
         """The numbers of the calls that are refused. In a sample cases begin apart, since many of their calls are the same."""
-        place = list(CASES).index(self.name)
-        return itertools.count(1) if self.is_all else itertools.count(1 + place * case.stride // len(CASES), case.stride)
-
-    def run(self, case, book, number):
-        """How a run ends whose call for memory of this number is refused, and which function that called, or nothing."""
-        reader, writer = os.pipe()
-        more = {"LD_PRELOAD": str(self.library), "REFUSED_CALL": str(number), "REFUSED_NOTE": str(writer)}
-        try:
-            ended = case.run(book, env={**os.environ, **more}, pass_fds=(writer,))
-        finally:
-            os.close(writer)
-        with open(reader) as note:
-            return ended, note.read().strip()
+        with self.book(case) as book:
+            count = self.memory.count(lambda **options: case.run(book, **options))
+        if self.is_all:
+            return range(1, count + 1)
+        first = 1 + list(CASES).index(self.name) * case.stride // len(CASES)
+        return sorted({*range(first, count + 1, case.stride), *range(max(1, count - LAST + 1), count + 1)})
 
 
 def with_all_memory(desk, case):
@@ -295,22 +288,27 @@ def changes(whole, rows):
     return [f"+ {row}" for row in rows if row not in wanted] + [f"- {row}" for row in wanted if row not in rows]
 
 
+def try_call(desk, whole, number):
+    """Refuses a call; how the run ended, which function that called, or nothing, and what is wrong of the run."""
+    with desk.book(whole.case) as book:
+        ended, function = desk.memory.refuse(lambda **options: whole.case.run(book, **options), number)
+        try:
+            return ended, function, differences(whole, book, ended)
+        except sqlite3.Error as fault:
+            return ended, function, [f"it ends with {ended}, and its tables can't be read: {fault}"]
+
+
 def try_case(desk, case):
     whole = with_all_memory(desk, case)
     told = Counter()
-    for number in desk.numbers(case):
-        with desk.book(case) as book:
-            ended, function = desk.run(case, book, number)
-            if not function:
-                break
-            try:
-                wrong = differences(whole, book, ended)
-            except sqlite3.Error as fault:
-                wrong = [f"it ends with {ended}, and its tables can't be read: {fault}"]
-        desk.expect(f"call {number}, of {function}, refused", wrong, [])
-        desk.functions[function] += 1
+    numbers = desk.numbers(case)
+    for number in numbers:
+        ended, function, wrong = try_call(desk, whole, number)
+        desk.expect(f"call {number}, of {function or 'none'}, refused", wrong, [])
+        desk.functions[function or "none"] += 1
         told[whole.look_up(ended)[0]] += 1
-    desk.expect("with a call refused that isn't made", ended, case.answer)
+    ended, function, wrong = try_call(desk, whole, numbers[-1] + NO_CALL)
+    desk.expect("with a call refused that isn't made", (ended, function, wrong), (case.answer, "", []))
     desk.expect("that want of memory is told", told["91"] > 0, True)
     desk.told += told
 
@@ -330,16 +328,14 @@ def main():
     for name in asked_for.cases:
         if name not in CASES:
             sys.exit(f"tests/allocations.py: there is no case {name}")
-    if not shutil.which("cc"):
+    if not has_compiler():
         print("tests/allocations.py: no call for memory is refused, since no cc is on the PATH", file=sys.stderr)
         print("0 passed, 0 failed")
         return 0
     if not build():
         return 3
-    with tempfile.TemporaryDirectory(prefix="allocations-") as room:
-        library = Path(room) / "refuse.so"
-        subprocess.run(["cc", "-O2", "-shared", "-fPIC", "-o", library, LIBRARY], check=True)
-        desk = Desk(Path(room), library, asked_for.all, Book.made(room))
+    with folder("allocations-") as room:
+        desk = Desk(Path(room), Memory.built(room), asked_for.all, Book.made(room))
         desk.expect("the book", carry_out(desk.office, OFFICE), [])
         for desk.name in asked_for.cases or CASES:
             try_case(desk, CASES[desk.name])

@@ -27,6 +27,8 @@ PROGRAM = "crates/rosterbook_main/out/rosterbook_main"
 FILES = ("build", "rosterbook", "crates.txt", "HANDLES", "docs/ARCHITECTURE.md")
 TOOLS = ("awk", "bash", "dirname", "env", "find", "readlink")  # what ./rosterbook calls
 
+TESTS = ("book_tests", "allocation_tests")  # the crates that stand above the program's
+
 # The folder `done` beside its own has a file for each crate that is done. The files there are `pause`, how many seconds a crate takes,
 # `wrong`, a crate that isn't proved, `elsewhere`, one that another run proves, and `meanwhile`, what is run before the last line.
 RT = """\
@@ -63,7 +65,7 @@ echo '24 passed, 0 failed'
 def below_the_program():
     """The crates that ./rosterbook has built, by crates.txt: all but the tests."""
     names = re.findall(r"^(\w+):", (TOP / "crates.txt").read_text(), re.M)
-    return [it for it in names if it != "dispatch"]
+    return [it for it in names if it not in TESTS]
 
 
 def crate_line(number, count, name, took, left):
@@ -103,7 +105,7 @@ class Machine:
         for name in FILES:
             (self.top / name).parent.mkdir(parents=True, exist_ok=True)
             shutil.copy(TOP / name, self.top / name)
-        for name in (*below_the_program(), "dispatch"):
+        for name in (*below_the_program(), *TESTS):
             for file in ("src/lib.rt", "must-fail/wrong.edit", "must-fail-more/wrong.edit"):
                 (self.top / "crates" / name / file).parent.mkdir(parents=True)
                 (self.top / "crates" / name / file).write_text("\n")
@@ -121,9 +123,9 @@ class Machine:
             (self.room / name).write_text(text)
 
     def words(self, folder="bin"):
-        """What runs ./rosterbook with the PATH that begins with this folder, with this folder for temporary files."""
+        """What runs ./rosterbook with the PATH that begins with this folder, with this folder for temporary files; Ctrl-C isn't ignored."""
         path = f"{self.room / folder}:{os.environ['PATH']}" if folder == "bin" else str(self.room / folder)
-        return ["env", f"PATH={path}", f"TMPDIR={self.room}/tmp", "TERM=xterm", "RT_JOBS=2", str(self.top / "rosterbook"), "one", "two"]
+        return ["env", "--default-signal=INT", f"PATH={path}", f"TMPDIR={self.room}/tmp", "TERM=xterm", "RT_JOBS=2", str(self.top / "rosterbook"), "one", "two"]
 
     def ran(self, what, status, out, folder="bin"):
         """Runs ./rosterbook on pipes, and returns the lines of its standard error."""
@@ -180,7 +182,7 @@ class Machine:
 
 
 def try_all(machine):
-    table = dict(re.findall(r"^\| `(\w+)` \| (\d+) \|$", (TOP / "docs/ARCHITECTURE.md").read_text(), re.M))
+    table = dict(re.findall(r"^\| `(\w+)` \|.*\| (\d+) \|$", (TOP / "docs/ARCHITECTURE.md").read_text(), re.M))
     machine.expect("the crates of the table of seconds", sorted(table), sorted(below_the_program()))
 
     machine.set(wrong="roster", elsewhere="command")
@@ -195,11 +197,11 @@ def try_all(machine):
     done = len(os.listdir(machine.room / "done"))
     machine.built("a build that goes on", machine.ran("a build that goes on", 0, "ran one two\n"), done)
     seen = (machine.room / "seen").read_text()
-    machine.expect("wrong bodies in the copy", [it for it in ("must-fail", "dispatch", "/out/") if it in seen], [])
+    machine.expect("wrong bodies in the copy", [it for it in ("must-fail", *TESTS, "/out/") if it in seen], [])
     machine.expect("sources in the copy", seen.count("/src/lib.rt\n"), len(below_the_program()))
 
     machine.expect("a program that is built", machine.ran("a program that is built", 0, "ran one two\n"), [])
-    os.utime(machine.top / "crates/dispatch/src/lib.rt", (time.time() + 9, time.time() + 9))
+    os.utime(machine.top / "crates/book_tests/src/lib.rt", (time.time() + 9, time.time() + 9))
     machine.expect("a test that is newer", machine.ran("a test that is newer", 0, "ran one two\n"), [])
     for name in ("values", "web"):
         # (in a second from now the program is older than this)

@@ -4,17 +4,17 @@ use Rattle.sqlite_trees.specs.Tree.{Trees}
 use Rattle.sqlite.specs.State as conn
 use Rattle.sqlite.specs.State.{HasCleanDisk}
 use Rattle.sqlite.specs.Effect.{Database}
-use Rattle.kept.specs.Laws.{IsCommand}
+use Rattle.stored_json.specs.Laws.{IsCommand}
 use Rattle.roster.specs.State.{State}
 use Rattle.roster.specs.Steps.{after}
 use Rattle.roster.specs.declared.change.Change.{Change}
-use Rattle.rows.specs.declared.fault.StoreFault.{StoreFault}
-use Rattle.rows.specs.declared.fault.StoreFault.TheVariants.{Store, Memory}
+use Rattle.state_rows.specs.declared.fault.StoreFault.{StoreFault}
+use Rattle.state_rows.specs.declared.fault.StoreFault.TheVariants.{Store, Memory}
 use Rattle.lookup.specs.Reads.{ChangesNothing, IsOpen, Shows}
 use Rattle.writing.specs.Kept.{Holds, IsBookOf, KeepOthers}
 use Rattle.writing.specs.Next.{IsNext}
-use Rattle.writing.specs.Outcomes.{AddsNothing, AddsOnly, HoldsNow, Leaves, LeavesSome, StaysOpen, StillShows, either, one}
-use Rattle.book.specs.Asking.{Did, Done}
+use Rattle.writing.specs.Outcomes.{CrashAddsNothing, CrashAddsOnly, HoldsNow, CrashLeaves, CrashLeavesSome, StaysOpen, StillShows, either, one}
+use Rattle.book.specs.Asking.{StepOutcome, Done}
 use Rattle.book.specs.Kept.{HasOne, IsKept, Keeps, StillHolds, either_kept, is_store_fault}
 use Rattle.book.proofs.States.{both_kept, kept_after, shows_still, shown_before, keeps_as, shows_as, either_as, still_as, same_state, one_of_either, still_keeps}
 
@@ -34,7 +34,7 @@ module _ (now : conn.State) (s t : State) (same : HasCleanDisk now → t ≡ s) 
   now_if : HoldsNow now s → HoldsNow now t
   now_if shown clean = let it = shown clean in (it.0, subst (λ (x : State). IsBookOf x now.now) (sym (same clean)) it.1)
 
-  leaves_if : (was : State) → Leaves now (either_kept was s) → Leaves now (either_kept was t)
+  leaves_if : (was : State) → CrashLeaves now (either_kept was s) → CrashLeaves now (either_kept was t)
   leaves_if was leaves = record {
     crash = λ clean trees may. subst (λ (x : State). (r : State) × either_kept was x r × Holds trees r) (sym (same clean)) (leaves.crash clean trees may);
   }
@@ -52,30 +52,30 @@ shown_on old new s honest still shown clean opened =
     subst (λ (db : Database). IsBookOf s db) (sym it.1) (shown (honest clean) it.0)
 
 -- what was not touched leaves what it left before
-pub adds_none : (now : conn.State) (P : Trees → Type 0) → AddsOnly now now P
+pub adds_none : (now : conn.State) (P : Trees → Type 0) → CrashAddsOnly now now P
 adds_none now P = record { crash = λ clean trees may. inl may }
 
-pub adds_nothing_more : (old new : conn.State) (P : Trees → Type 0) → AddsNothing old new → AddsOnly old new P
+pub adds_nothing_more : (old new : conn.State) (P : Trees → Type 0) → CrashAddsNothing old new → CrashAddsOnly old new P
 adds_nothing_more old new P left = record { crash = λ clean trees may. inl (left.crash clean trees may) }
 
 -- nothing could be read
-pub did_not_read : {A : Type 0} (old new : conn.State) (was wanted : State) (fault : StoreFault) → ChangesNothing old new → LeavesSome new →
-    Keeps old was → StillHolds old was → Did {A = A} old new was wanted (Err fault)
+pub did_not_read : {A : Type 0} (old new : conn.State) (was wanted : State) (fault : StoreFault) → ChangesNothing old new → CrashLeavesSome new →
+    Keeps old was → StillHolds old was → StepOutcome {A = A} old new was wanted (Err fault)
 did_not_read old new was wanted Memory read some keeps shown = record {
-  clean = read.left.honest;
-  some = some;
-  others = adds_nothing_more old new _ read.left;
-  counts = read.counts;
+  disk = read.left.disk;
+  some_left = some;
+  others_left = adds_nothing_more old new _ read.left;
+  faults = read.counts;
   still_open = λ _. read.still_open;
-  done = (still_keeps old new was read.left some keeps, shown_on old new was read.left.honest read.shown shown);
+  done = (still_keeps old new was read.left some keeps, shown_on old new was read.left.disk read.shown shown);
 }
 did_not_read old new was wanted Store read some keeps shown = record {
-  clean = read.left.honest;
-  some = some;
-  others = adds_nothing_more old new _ read.left;
-  counts = read.counts;
+  disk = read.left.disk;
+  some_left = some;
+  others_left = adds_nothing_more old new _ read.left;
+  faults = read.counts;
   still_open = λ no. absurd (cc);
-  done = (one_of_either new was wanted (still_keeps old new was read.left some keeps), shown_on old new was read.left.honest read.shown shown);
+  done = (one_of_either new was wanted (still_keeps old new was read.left some keeps), shown_on old new was read.left.disk read.shown shown);
 }
 
 -- what was done after a read is done from before it
@@ -84,14 +84,14 @@ module _ (old mid new : conn.State) (was wanted : State) (read : ChangesNothing 
   shows_same clean = read.shown clean (opened clean)
 
   held_before : HoldsNow old was → HoldsNow mid was
-  held_before shown clean = (opened clean, subst (λ (db : Database). IsBookOf was db) (sym (shows_same clean).1) (shown (read.left.honest clean)).1)
+  held_before shown clean = (opened clean, subst (λ (db : Database). IsBookOf was db) (sym (shows_same clean).1) (shown (read.left.disk clean)).1)
 
   after_read : {A : Type 0} (r : Result A StoreFault) → Done mid new was wanted r → Done old new was wanted r
   after_read (Ok a) done = (done.0, done.1, λ shown. done.2 (held_before shown))
   after_read (Err Memory) done = done
   after_read (Err Store) done = done
 
-  others_after : (HasCleanDisk new → HasCleanDisk mid) → AddsOnly mid new (KeepOthers mid.now) → AddsOnly old new (KeepOthers old.now)
+  others_after : (HasCleanDisk new → HasCleanDisk mid) → CrashAddsOnly mid new (KeepOthers mid.now) → CrashAddsOnly old new (KeepOthers old.now)
   others_after clean adds = record {
     crash = λ c trees may. elim (adds.crash c trees may) [
       | inl was ↦ inl (read.left.crash (clean c) trees was)
@@ -105,57 +105,57 @@ module _ (old mid new : conn.State) (was wanted : State) (read : ChangesNothing 
     | inr more ↦ inr (omega (arith, more, read.counts))
   ]
 
-  pub did_after : {A : Type 0} (result : Result A StoreFault) → Did mid new was wanted result → Did old new was wanted result
+  pub did_after : {A : Type 0} (result : Result A StoreFault) → StepOutcome mid new was wanted result → StepOutcome old new was wanted result
   did_after result did = record {
-    clean = λ clean. read.left.honest (did.clean clean);
-    some = did.some;
-    others = others_after did.clean did.others;
-    counts = omega (arith, read.counts, did.counts);
-    still_open = λ is. still_after did.clean (did.still_open is);
+    disk = λ clean. read.left.disk (did.disk clean);
+    some_left = did.some_left;
+    others_left = others_after did.disk did.others_left;
+    faults = omega (arith, read.counts, did.faults);
+    still_open = λ is. still_after did.disk (did.still_open is);
     done = after_read result did.done;
   }
 
 -- ---- An answer
 
 -- there was no memory for it
-pub did_nothing : {A : Type 0} (now : conn.State) (was wanted : State) → Keeps now was → StillHolds now was → Did {A = A} now now was wanted (Err Memory)
+pub did_nothing : {A : Type 0} (now : conn.State) (was wanted : State) → Keeps now was → StillHolds now was → StepOutcome {A = A} now now was wanted (Err Memory)
 did_nothing now was wanted keeps shown = record {
-  clean = λ clean. clean;
-  some = keeps.some;
-  others = adds_none now _;
-  counts = omega arith;
+  disk = λ clean. clean;
+  some_left = keeps.some;
+  others_left = adds_none now _;
+  faults = omega arith;
   still_open = λ _ clean is. inl is;
   done = (keeps, shown);
 }
 
 -- it was answered with the same state
-pub did_answer : {A : Type 0} (now : conn.State) (was wanted : State) (a : A) → Keeps now was → StillHolds now was → (HasCleanDisk now → wanted ≡ was) → Did now now was wanted (Ok a)
+pub did_answer : {A : Type 0} (now : conn.State) (was wanted : State) (a : A) → Keeps now was → StillHolds now was → (HasCleanDisk now → wanted ≡ was) → StepOutcome now now was wanted (Ok a)
 did_answer now was wanted a keeps shown same = record {
-  clean = λ clean. clean;
-  some = keeps.some;
-  others = adds_none now _;
-  counts = omega arith;
+  disk = λ clean. clean;
+  some_left = keeps.some;
+  others_left = adds_none now _;
+  faults = omega arith;
   still_open = λ no. absurd (cc);
   done = (keeps_if now was wanted same keeps, holds_if now was wanted same shown, now_if now was wanted same);
 }
 
-module _ (old new : conn.State) (was : State) (change : Change) (keeps : Keeps old was) (held : StillHolds old was) (next : HasCleanDisk old → IsNext was change) (clean : HasCleanDisk new → HasCleanDisk old) (some : LeavesSome new)
-    (others : AddsOnly old new (KeepOthers old.now)) (counts : old.faults ≤ new.faults) where
+module _ (old new : conn.State) (was : State) (change : Change) (keeps : Keeps old was) (held : StillHolds old was) (next : HasCleanDisk old → IsNext was change) (clean : HasCleanDisk new → HasCleanDisk old) (some : CrashLeavesSome new)
+    (others : CrashAddsOnly old new (KeepOthers old.now)) (counts : old.faults ≤ new.faults) where
   -- it was kept
   pub did_keep : {A : Type 0} (a : A) → IsCommand change.command →
-      (IsNext was change → Leaves old (one was) → Leaves new (one (after was change))) →
-      (IsNext was change → Leaves old (one was) → HoldsNow new (after was change)) → Did old new was (after was change) (Ok a)
+      (IsNext was change → CrashLeaves old (one was) → CrashLeaves new (one (after was change))) →
+      (IsNext was change → CrashLeaves old (one was) → HoldsNow new (after was change)) → StepOutcome old new was (after was change) (Ok a)
   did_keep a command ok made =
       let shown : HoldsNow new (after was change) = λ c. made (next (clean c)) keeps.leaves c in
       record {
-        clean = clean;
-        some = some;
-        others = others;
-        counts = counts;
+        disk = clean;
+        some_left = some;
+        others_left = others;
+        faults = counts;
         still_open = λ no. absurd (cc);
         done = (
           record {
-            kept = λ c. let n = next (clean c) in kept_after was n.key n.order change n.reply command (keeps.kept (clean c)) n.accepted;
+            kept = λ c. let n = next (clean c) in kept_after was n.key n.instruction change n.reply command (keeps.kept (clean c)) n.accepted;
             leaves = record { crash = λ c trees may. (ok (next (clean c)) keeps.leaves).crash c trees may };
             some = some;
           },
@@ -166,15 +166,15 @@ module _ (old new : conn.State) (was : State) (change : Change) (keeps : Keeps o
 
   -- it was not, or nobody knows
   pub did_fail : {A B : Type 0} (fault : StoreFault) →
-      (Leaves old (one was) → ◌≡◌ {A = Result B StoreFault} (Err fault) (Err Memory) → Leaves new (one was)) →
-      (IsNext was change → Leaves old (one was) → ◌≡◌ {A = Result B StoreFault} (Err fault) (Err Store) → Leaves new (either was (after was change))) →
+      (CrashLeaves old (one was) → ◌≡◌ {A = Result B StoreFault} (Err fault) (Err Memory) → CrashLeaves new (one was)) →
+      (IsNext was change → CrashLeaves old (one was) → ◌≡◌ {A = Result B StoreFault} (Err fault) (Err Store) → CrashLeaves new (either was (after was change))) →
       (◌≡◌ {A = Result B StoreFault} (Err fault) (Err Store) → IsCommand change.command) → StillShows old new →
-      (◌≡◌ {A = Result B StoreFault} (Err fault) (Err Memory) → StaysOpen old new) → Did {A = A} old new was (after was change) (Err fault)
+      (◌≡◌ {A = Result B StoreFault} (Err fault) (Err Memory) → StaysOpen old new) → StepOutcome {A = A} old new was (after was change) (Err fault)
   did_fail Memory memory store command shown still_open = record {
-    clean = clean;
-    some = some;
-    others = others;
-    counts = counts;
+    disk = clean;
+    some_left = some;
+    others_left = others;
+    faults = counts;
     still_open = λ _. still_open refl;
     done = (
       record { kept = λ c. keeps.kept (clean c); leaves = memory keeps.leaves refl; some = some },
@@ -182,10 +182,10 @@ module _ (old new : conn.State) (was : State) (change : Change) (keeps : Keeps o
     );
   }
   did_fail Store memory store command shown still_open = record {
-    clean = clean;
-    some = some;
-    others = others;
-    counts = counts;
+    disk = clean;
+    some_left = some;
+    others_left = others;
+    faults = counts;
     still_open = λ no. absurd (cc);
     done = (
       record {
@@ -193,7 +193,7 @@ module _ (old new : conn.State) (was : State) (change : Change) (keeps : Keeps o
             let it = (store (next (clean c)) keeps.leaves refl).crash c trees may in
             let n = next (clean c) in
             let first = keeps.kept (clean c) in
-            let second = kept_after was n.key n.order change n.reply (command refl) first n.accepted in
+            let second = kept_after was n.key n.instruction change n.reply (command refl) first n.accepted in
             (it.0, (it.1, both_kept was (after was change) it.0 it.1 first second), it.2);
       },
       shown_on old new was clean shown held,
@@ -208,14 +208,14 @@ done_as old new was wanted other same (Ok a) done =
 done_as old new was wanted other same (Err Memory) done = done
 done_as old new was wanted other same (Err Store) done = (leaves_if new wanted other same was done.0, done.1)
 
-pub did_as : {A : Type 0} (old new : conn.State) (was wanted other : State) (result : Result A StoreFault) → (HasCleanDisk old → other ≡ wanted) → Did old new was wanted result → Did old new was other result
+pub did_as : {A : Type 0} (old new : conn.State) (was wanted other : State) (result : Result A StoreFault) → (HasCleanDisk old → other ≡ wanted) → StepOutcome old new was wanted result → StepOutcome old new was other result
 did_as old new was wanted other result same did = record {
-  clean = did.clean;
-  some = did.some;
-  others = did.others;
-  counts = did.counts;
+  disk = did.disk;
+  some_left = did.some_left;
+  others_left = did.others_left;
+  faults = did.faults;
   still_open = did.still_open;
-  done = done_as old new was wanted other (λ clean. same (did.clean clean)) result did.done;
+  done = done_as old new was wanted other (λ clean. same (did.disk clean)) result did.done;
 }
 
 -- ---- What is told
@@ -226,8 +226,8 @@ one_kept old new was wanted (Ok a) done is = record { it = wanted; keeps = done.
 one_kept old new was wanted (Err Memory) done is = record { it = was; keeps = done.0; shown = done.1 }
 one_kept old new was wanted (Err Store) done is = absurd (cc)
 
-pub closes : {A : Type 0} (old new : conn.State) (was wanted : State) (result : Result A StoreFault) → Did old new was wanted result → LeavesSome new × (is_store_fault result ≡ false → HasOne new)
-closes old new was wanted result did = (did.some, one_kept old new was wanted result did.done)
+pub closes : {A : Type 0} (old new : conn.State) (was wanted : State) (result : Result A StoreFault) → StepOutcome old new was wanted result → CrashLeavesSome new × (is_store_fault result ≡ false → HasOne new)
+closes old new was wanted result did = (did.some_left, one_kept old new was wanted result did.done)
 
 module _ (old new : conn.State) (was : State) (of : State → State) (held : Keeps old was) (s : State) (keeps : Keeps old s) (clean : HasCleanDisk new → HasCleanDisk old) where
   pub told_ok : {A : Type 0} (result : Result A StoreFault) → Done old new was (of was) result → OnOk result (Keeps new (of s))
@@ -243,7 +243,7 @@ module _ (old new : conn.State) (was : State) (of : State → State) (held : Kee
   told_memory (Err Memory) done is = keeps_as old new s was held keeps clean (λ x. x) was done.0 refl
   told_memory (Err Store) done is = absurd (cc)
 
-  pub told_store : {A : Type 0} (result : Result A StoreFault) → Done old new was (of was) result → result ≡ Err Store → Leaves new (either_kept s (of s))
+  pub told_store : {A : Type 0} (result : Result A StoreFault) → Done old new was (of was) result → result ≡ Err Store → CrashLeaves new (either_kept s (of s))
   told_store (Ok a) done is = absurd (cc)
   told_store (Err Memory) done is = absurd (cc)
   told_store (Err Store) done is = either_as old new s was held keeps clean of done.0

@@ -5,7 +5,7 @@ use Rattle.sqlite.specs.State as conn
 use Rattle.sqlite.specs.State.{HasCleanDisk}
 use Rattle.command.specs.Keys.{KeyParts, key_name}
 use Rattle.command.specs.declared.exceedance.Reply.{Reply}
-use Rattle.command.specs.declared.order.Order.{Order}
+use Rattle.command.specs.declared.instruction.Instruction.{Instruction}
 use Rattle.command.specs.declared.refusal.Refusal.{Refusal}
 use Rattle.roster.proofs.Accepted.{accepted}
 use Rattle.roster.proofs.Requests.{keeps_requests, now_held, repeats_both, under_free}
@@ -18,9 +18,9 @@ use Rattle.roster.specs.Steps.{after, change_of, judged, step_of}
 use Rattle.roster.specs.declared.change.Change.{Change}
 use Rattle.roster.specs.declared.change.Verdict.{Verdict}
 use Rattle.roster.specs.declared.change.Verdict.TheVariants.{Accept, Refuse, Repeat}
-use Rattle.rows.specs.declared.fault.StoreFault.{StoreFault}
-use Rattle.rows.specs.declared.fault.StoreFault.TheVariants.{Store, Memory}
-use Rattle.writing.specs.Outcomes.{Leaves, either, one}
+use Rattle.state_rows.specs.declared.fault.StoreFault.{StoreFault}
+use Rattle.state_rows.specs.declared.fault.StoreFault.TheVariants.{Store, Memory}
+use Rattle.writing.specs.Outcomes.{CrashLeaves, either, one}
 use Rattle.book.specs.Headline.{BreaksNoLimit, IsAcceptance, IsHeld, KeepsHeld, StaysHeld}
 use Rattle.book.specs.Kept.{Ends, Keeps, either_kept, result_of}
 use Rattle.book.specs.Sessions.{count_of, fault_of}
@@ -39,17 +39,17 @@ answers_verdict (Accept change reply) (Refused refusal) is none = absurd (cc)
 answers_verdict (Refuse refusal) (Accepted given) is none = absurd (cc)
 answers_verdict (Refuse refusal) (Refused given) is none = (λ acceptance. absurd (let e = acceptance.1 in cc), λ step. absurd (let e = step.2 in cc))
 
-no_repeat : (s : State) (key : KeyParts) (order : Order) → fin.get s.requests (key_name key) ≡ None → (reply : Reply) → step_of s key order ≡ Repeat reply → ⊥
-no_repeat s key order free reply step = let held = (repeats_both s key order reply).0 step in cc
+no_repeat : (s : State) (key : KeyParts) (instruction : Instruction) → fin.get s.requests (key_name key) ≡ None → (reply : Reply) → step_of s key instruction ≡ Repeat reply → ⊥
+no_repeat s key instruction free reply step = let held = (repeats_both s key instruction reply).0 step in cc
 
-module _ (s : State) (key : KeyParts) (order : Order) (is : is_assignment order ≡ true) (passes : PassesChecks s key order) where
-  judged_by_limits : (a : Answer) → result_of a ≡ answer_of (step_of s key order) → IsAcceptance a ↔ BreaksNoLimit s order
+module _ (s : State) (key : KeyParts) (instruction : Instruction) (is : is_assignment instruction ≡ true) (passes : PassesChecks s key instruction) where
+  judged_by_limits : (a : Answer) → result_of a ≡ answer_of (step_of s key instruction) → IsAcceptance a ↔ BreaksNoLimit s instruction
   judged_by_limits a reply =
-      let told = answers_verdict (step_of s key order) a reply (no_repeat s key order passes.free) in
-      let law = accepted_within_limits s key order is passes in
+      let told = answers_verdict (step_of s key instruction) a reply (no_repeat s key instruction passes.free) in
+      let law = accepted_within_limits s key instruction is passes in
       (λ acceptance. law.0 (told.0 acceptance), λ within. told.1 (law.1 within))
 
-  pub accepts_within : (result : Result Answer StoreFault) → IfOk result (λ a. result_of a ≡ answer_of (step_of s key order)) → IfOk result (λ a. IsAcceptance a ↔ BreaksNoLimit s order)
+  pub accepts_within : (result : Result Answer StoreFault) → IfOk result (λ a. result_of a ≡ answer_of (step_of s key instruction)) → IfOk result (λ a. IsAcceptance a ↔ BreaksNoLimit s instruction)
   accepts_within (Ok a) reply = judged_by_limits a reply
   accepts_within (Err fault) reply = tt
 
@@ -60,10 +60,10 @@ pub step_repeats : (s roster : State) (asked : Asked) (reply : Reply) → roster
 step_repeats s roster asked reply same held = ap (λ (x : State). step_of x asked.0 asked.1) same ∙ (repeats_both s asked.0 asked.1 reply).1 held
 
 -- an accepted one is held then
-accepted_reply : (s : State) (key : KeyParts) (order : Order) (o : Option Refusal) (change : Change) (reply : Reply) →
-    judged s key order o ≡ Accept change reply → (change_of s key order).reply ≡ reply
-accepted_reply s key order None change reply e = cc
-accepted_reply s key order (Some refusal) change reply e = absurd (cc)
+accepted_reply : (s : State) (key : KeyParts) (instruction : Instruction) (o : Option Refusal) (change : Change) (reply : Reply) →
+    judged s key instruction o ≡ Accept change reply → (change_of s key instruction).reply ≡ reply
+accepted_reply s key instruction None change reply e = cc
+accepted_reply s key instruction (Some refusal) change reply e = absurd (cc)
 
 held_after : (s : State) (asked : Asked) (reply : Reply) (v : Verdict) → step_of s asked.0 asked.1 ≡ v → answer_of v ≡ Ok reply → IsHeld (left_by s v) asked reply
 held_after s asked reply (Repeat kept) step is =
@@ -95,7 +95,7 @@ module _ (now : conn.State) (s : State) (asked : Asked) (reply : Reply) where
 -- ---- All held commands
 
 module _ (now : conn.State) (asked : Asked) (reply : Reply) where
-  one_holds : (s : State) → Leaves now (one s) → IsHeld s asked reply → StaysHeld now asked reply
+  one_holds : (s : State) → CrashLeaves now (one s) → IsHeld s asked reply → StaysHeld now asked reply
   one_holds s leaves held = record {
     crash = λ clean trees may. let it = leaves.crash clean trees may in (it.0, subst (λ (t : State). IsHeld t asked reply) (sym it.1) held, it.2);
   }
@@ -104,7 +104,7 @@ module _ (now : conn.State) (asked : Asked) (reply : Reply) where
   which_holds s t r (inl is) first second = subst (λ (x : State). IsHeld x asked reply) (sym is) first
   which_holds s t r (inr is) first second = subst (λ (x : State). IsHeld x asked reply) (sym is) second
 
-  either_holds : (s t : State) → Leaves now (either_kept s t) → IsHeld s asked reply → IsHeld t asked reply → StaysHeld now asked reply
+  either_holds : (s t : State) → CrashLeaves now (either_kept s t) → IsHeld s asked reply → IsHeld t asked reply → StaysHeld now asked reply
   either_holds s t leaves first second = record {
     crash = λ clean trees may. let it = leaves.crash clean trees may in (it.0, which_holds s t it.0 it.1.0 first second, it.2);
   }
@@ -123,6 +123,6 @@ pub still_held : (now : conn.State) (s : State) → Keeps now s → KeepsHeld no
 still_held now s keeps asked reply held = one_holds now asked reply s keeps.leaves held
 
 pub one_held_still : {A : Type 0} (now : conn.State) (s : State) (a : Asked) (result : Result A StoreFault) →
-    OnOk result (Keeps now (next s a)) → (result ≡ Err Memory → Keeps now s) → (result ≡ Err Store → Leaves now (either_kept s (next s a))) → KeepsHeld now s
+    OnOk result (Keeps now (next s a)) → (result ≡ Err Memory → Keeps now s) → (result ≡ Err Store → CrashLeaves now (either_kept s (next s a))) → KeepsHeld now s
 one_held_still now s a result answered memory store =
     ends_held now s (a ∷ []) (count_of result) (fault_of result) (one_ends now s a result answered memory store)

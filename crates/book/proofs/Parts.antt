@@ -5,10 +5,10 @@ use Rattle.std.proofs.lemmas.Option.{slice_get-map, slice_get_past, slice_get_re
 use Rattle.sqlite_trees.specs.declared.store.Store.{Ghosts}
 use Rattle.sqlite.specs.Held.{state}
 use Rattle.duty.specs.Plans.{Plan}
-use Rattle.command.specs.declared.order.Order.TheVariants.{AddPairing}
+use Rattle.command.specs.declared.instruction.Instruction.TheVariants.{AddPairing}
 use Rattle.roster.specs.Folds.{Asked, import, next}
-use Rattle.rows.specs.declared.fault.StoreFault.TheVariants.{Store, Memory}
-use Rattle.writing.specs.Outcomes.{LeavesSome}
+use Rattle.state_rows.specs.declared.fault.StoreFault.TheVariants.{Store, Memory}
+use Rattle.writing.specs.Outcomes.{CrashLeavesSome}
 use Rattle.lookup.proofs.Changes.{nothing_changes}
 use Rattle.book.specs.Answered.{IsAnswered}
 use Rattle.book.specs.Importing.{Importing, part_of}
@@ -65,21 +65,21 @@ in_no_case o P Q is p = subst (λ t. MatchOption t P Q) (sym is) p
 
 -- ---- A book that wasn't asked
 
-module _ {S : Type 0} (g : Ghosts S) (book : Kept S) (asked : Asked) (some : LeavesSome (state g book.held)) where
+module _ {S : Type 0} (g : Ghosts S) (book : Kept S) (asked : Asked) (some : CrashLeavesSome (state g book.held)) where
   -- since it has failed
   pub was_shut : book.failed ≡ true → IsAnswered g book book asked (Err Store)
   was_shut is = record {
     failed = rw is refl;
     shut = λ _. (refl, refl);
-    clean = λ clean. clean;
-    some = some;
+    disk = λ clean. clean;
+    some_left = some;
     reply = λ s at clean. tt;
     answered = λ s at. tt;
-    tables = λ s at has. tt;
+    shown = λ s at has. tt;
     memory = λ s at is. absurd (cc);
     store = λ s at _. one_of_either (state g book.held) s (next s asked) at;
     sessions = λ s before at. adds_one {A = Answer} (state g book.held) s before asked (Err Store) tt (λ is. absurd (cc)) (λ _. one_of_either (state g book.held) _ _ at);
-    shown = λ s at has. shows_still (state g book.held) s has;
+    still_shown = λ s at has. shows_still (state g book.held) s has;
     honest = λ s at honest. one_honest (state g book.held) s at.leaves honest;
     within_limits = λ s at clean is passes. tt;
     repeats = λ s reply at clean held. (nothing_changes (state g book.held), tt);
@@ -87,9 +87,9 @@ module _ {S : Type 0} (g : Ghosts S) (book : Kept S) (asked : Asked) (some : Lea
     holds = λ s reply at. tt;
     held = λ s at. still_held (state g book.held) s at;
     refused = tt;
-    alone = tt;
-    others = adds_none (state g book.held) _;
-    counts = omega arith;
+    others_spared = tt;
+    others_left = adds_none (state g book.held) _;
+    faults = omega arith;
     still_open = λ is. absurd (cc);
   }
 
@@ -98,15 +98,15 @@ module _ {S : Type 0} (g : Ghosts S) (book : Kept S) (asked : Asked) (some : Lea
   was_not_asked is = record {
     failed = rw is refl;
     shut = λ shut. absurd (cc);
-    clean = λ clean. clean;
-    some = some;
+    disk = λ clean. clean;
+    some_left = some;
     reply = λ s at clean. tt;
     answered = λ s at. tt;
-    tables = λ s at has. tt;
+    shown = λ s at has. tt;
     memory = λ s at _. at;
     store = λ s at is. absurd (cc);
     sessions = λ s before at. adds_one {A = Answer} (state g book.held) s before asked (Err Memory) tt (λ _. at) (λ is. absurd (cc));
-    shown = λ s at has. shows_still (state g book.held) s has;
+    still_shown = λ s at has. shows_still (state g book.held) s has;
     honest = λ s at honest. one_honest (state g book.held) s at.leaves honest;
     within_limits = λ s at clean is passes. tt;
     repeats = λ s reply at clean held. (nothing_changes (state g book.held), tt);
@@ -114,8 +114,8 @@ module _ {S : Type 0} (g : Ghosts S) (book : Kept S) (asked : Asked) (some : Lea
     holds = λ s reply at. tt;
     held = λ s at. still_held (state g book.held) s at;
     refused = tt;
-    alone = tt;
-    others = adds_none (state g book.held) _;
-    counts = omega arith;
+    others_spared = tt;
+    others_left = adds_none (state g book.held) _;
+    faults = omega arith;
     still_open = λ _ clean is. inl is;
   }

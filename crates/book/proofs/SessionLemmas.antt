@@ -5,9 +5,9 @@ use Rattle.std.proofs.lemmas.Bool.{cases_lt}
 use Rattle.sqlite.specs.State as conn
 use Rattle.roster.specs.Folds.{Asked, Fold, Session, Stopped, next}
 use Rattle.roster.specs.State.{State}
-use Rattle.rows.specs.declared.fault.StoreFault.{StoreFault}
-use Rattle.rows.specs.declared.fault.StoreFault.TheVariants.{Store, Memory}
-use Rattle.writing.specs.Outcomes.{Leaves, either}
+use Rattle.state_rows.specs.declared.fault.StoreFault.{StoreFault}
+use Rattle.state_rows.specs.declared.fault.StoreFault.TheVariants.{Store, Memory}
+use Rattle.writing.specs.Outcomes.{CrashLeaves, either}
 use Rattle.book.specs.Kept.{Ends, IsKept, Keeps, either_kept}
 use Rattle.book.specs.Sessions.{IsAfter, count_of, fault_of}
 
@@ -100,7 +100,7 @@ module _ (s : State) (before : List Session) (l : List Asked) (n : ℕ) (t : Sta
   done_or_not (inr is) = done is
 
 module _ (now : conn.State) (s : State) (before : List Session) (l : List Asked) (n : ℕ) (count : n ≤ length l) where
-  pub adds_session : (fault : Option StoreFault) → (fault ≡ None → n ≡ length l) → Ends now (Stopped s before) l n fault → Leaves now (IsAfter s before l n fault)
+  pub adds_session : (fault : Option StoreFault) → (fault ≡ None → n ≡ length l) → Ends now (Stopped s before) l n fault → CrashLeaves now (IsAfter s before l n fault)
   adds_session None whole ends = record {
     crash = λ clean trees may.
         let it = ends.leaves.crash clean trees may in
@@ -120,7 +120,7 @@ module _ (now : conn.State) (s : State) (before : List Session) (l : List Asked)
 -- ---- One command
 
 module _ (now : conn.State) (s : State) (a : Asked) where
-  pub one_ends : {A : Type 0} (result : Result A StoreFault) → OnOk result (Keeps now (next s a)) → (result ≡ Err Memory → Keeps now s) → (result ≡ Err Store → Leaves now (either_kept s (next s a))) →
+  pub one_ends : {A : Type 0} (result : Result A StoreFault) → OnOk result (Keeps now (next s a)) → (result ≡ Err Memory → Keeps now s) → (result ≡ Err Store → CrashLeaves now (either_kept s (next s a))) →
       Ends now s (a ∷ []) (count_of result) (fault_of result)
   one_ends (Ok x) answered memory store = answered
   one_ends (Err Memory) answered memory store = memory refl
@@ -135,7 +135,7 @@ one_whole a (Ok x) is = refl
 one_whole a (Err fault) is = absurd (cc)
 
 pub adds_one : {A : Type 0} (now : conn.State) (s : State) (before : List Session) (a : Asked) (result : Result A StoreFault) →
-    OnOk result (Keeps now (next (Stopped s before) a)) → (result ≡ Err Memory → Keeps now (Stopped s before)) → (result ≡ Err Store → Leaves now (either_kept (Stopped s before) (next (Stopped s before) a))) →
-    Leaves now (IsAfter s before (a ∷ []) (count_of result) (fault_of result))
+    OnOk result (Keeps now (next (Stopped s before) a)) → (result ≡ Err Memory → Keeps now (Stopped s before)) → (result ≡ Err Store → CrashLeaves now (either_kept (Stopped s before) (next (Stopped s before) a))) →
+    CrashLeaves now (IsAfter s before (a ∷ []) (count_of result) (fault_of result))
 adds_one now s before a result answered memory store =
     adds_session now s before (a ∷ []) (count_of result) (one_counts a result) (fault_of result) (one_whole a result) (one_ends now (Stopped s before) a result answered memory store)

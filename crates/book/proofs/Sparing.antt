@@ -11,7 +11,7 @@ use Rattle.sqlite.specs.State as conn
 use Rattle.sqlite.specs.State.{HasCleanDisk}
 use Rattle.roster.specs.State.{State}
 use Rattle.writing.specs.Kept.{KeepOthers}
-use Rattle.writing.specs.Outcomes.{AddsOnly, HoldsNow, LeavesOnly, ShowsOnly, StaysOpen}
+use Rattle.writing.specs.Outcomes.{CrashAddsOnly, HoldsNow, CrashLeavesOnly, ShowsOnly, StaysOpen}
 use Rattle.lookup.proofs.Changes.{changes_then}
 use Rattle.lookup.specs.Reads.{ChangesNothing, IsOpen}
 use Rattle.book.specs.Headline.{SparesOthers, Untouched}
@@ -19,7 +19,7 @@ use Rattle.book.specs.Kept.{IsClean, Kept}
 use Rattle.book.proofs.Asked.{adds_none, adds_nothing_more}
 
 -- what was committed on a connection that was open
-pub spares : (old new : conn.State) (s : State) → (HasCleanDisk new → IsTrue old.is_open) → LeavesOnly new (KeepOthers old.now) → ShowsOnly new (KeepOthers old.now) → HoldsNow new s → SparesOthers old new
+pub spares : (old new : conn.State) (s : State) → (HasCleanDisk new → IsTrue old.is_open) → CrashLeavesOnly new (KeepOthers old.now) → ShowsOnly new (KeepOthers old.now) → HoldsNow new s → SparesOthers old new
 spares old new s was leaves shows holds = record {
   was_open = was;
   leaves = leaves;
@@ -58,7 +58,7 @@ module _ (old mid new : conn.State) (clean : HasCleanDisk new → HasCleanDisk m
           is_open = second.is_open;
         }
 
-    adds_on : AddsOnly mid new (KeepOthers mid.now) → AddsOnly old new (KeepOthers old.now)
+    adds_on : CrashAddsOnly mid new (KeepOthers mid.now) → CrashAddsOnly old new (KeepOthers old.now)
     adds_on second = record {
       crash = λ c trees may. elim (second.crash c trees may) [
         | inl was ↦ inr (first.leaves.crash (clean c) trees was)
@@ -80,7 +80,7 @@ module _ (old mid new : conn.State) (clean : HasCleanDisk new → HasCleanDisk m
       is_open = second.is_open;
     }
 
-    adds_after : AddsOnly mid new (KeepOthers mid.now) → AddsOnly old new (KeepOthers old.now)
+    adds_after : CrashAddsOnly mid new (KeepOthers mid.now) → CrashAddsOnly old new (KeepOthers old.now)
     adds_after second = record {
       crash = λ c trees may. elim (second.crash c trees may) [
         | inl was ↦ inl (read.left.crash (clean c) trees was)
@@ -107,13 +107,13 @@ module _ {S : Type 0} (g : Ghosts S) where
     spared_then (inr (inr first)) (inl second) = inr (inr (spares_still (state g old.held) (state g mid.held) (state g new.held) clean first second))
     spared_then (inr (inr first)) (inr second) = inr (inr (spares_on (state g old.held) (state g mid.held) (state g new.held) clean first second))
 
-    pub adds_then : SameOrSpares old mid → AddsOnly (state g mid.held) (state g new.held) (KeepOthers (state g mid.held).now) → AddsOnly (state g old.held) (state g new.held) (KeepOthers (state g old.held).now)
-    adds_then (inl same) adds = subst (λ (k : Kept S). AddsOnly (state g k.held) (state g new.held) (KeepOthers (state g k.held).now)) same adds
+    pub adds_then : SameOrSpares old mid → CrashAddsOnly (state g mid.held) (state g new.held) (KeepOthers (state g mid.held).now) → CrashAddsOnly (state g old.held) (state g new.held) (KeepOthers (state g old.held).now)
+    adds_then (inl same) adds = subst (λ (k : Kept S). CrashAddsOnly (state g k.held) (state g new.held) (KeepOthers (state g k.held).now)) same adds
     adds_then (inr (inl first)) adds = adds_after (state g old.held) (state g mid.held) (state g new.held) clean first.changes first.is_open adds
     adds_then (inr (inr first)) adds = adds_on (state g old.held) (state g mid.held) (state g new.held) clean first adds
 
-  pub spared_adds : (old new : Kept S) → SameOrSpares old new → AddsOnly (state g old.held) (state g new.held) (KeepOthers (state g old.held).now)
-  spared_adds old new (inl same) = subst (λ (k : Kept S). AddsOnly (state g old.held) (state g k.held) (KeepOthers (state g old.held).now)) (sym same) (adds_none (state g old.held) _)
+  pub spared_adds : (old new : Kept S) → SameOrSpares old new → CrashAddsOnly (state g old.held) (state g new.held) (KeepOthers (state g old.held).now)
+  spared_adds old new (inl same) = subst (λ (k : Kept S). CrashAddsOnly (state g old.held) (state g k.held) (KeepOthers (state g old.held).now)) (sym same) (adds_none (state g old.held) _)
   spared_adds old new (inr (inl read)) = adds_nothing_more (state g old.held) (state g new.held) _ read.changes.left
   spared_adds old new (inr (inr spares)) = record { crash = λ c trees may. inr (spares.leaves.crash c trees may) }
 

@@ -14,12 +14,12 @@ use Rattle.sqlite.specs.State as conn
 use Rattle.sqlite.specs.State.{HasCleanDisk}
 use Rattle.sqlite.specs.Effect.{Database}
 use Rattle.command.specs.Keys.{KeyParts, key_name}
-use Rattle.command.specs.Orders.{IsMade}
+use Rattle.command.specs.Instructions.{IsMade}
 use Rattle.command.specs.declared.exceedance.Reply.{Reply}
-use Rattle.command.specs.declared.order.Order.{Order}
+use Rattle.command.specs.declared.instruction.Instruction.{Instruction}
 use Rattle.command.specs.declared.refusal.Refusal.{Refusal}
-use Rattle.kept.specs.Instants.{order_has_instants}
-use Rattle.kept.specs.Laws.{IsCommand}
+use Rattle.stored_json.specs.Instants.{instruction_has_instants}
+use Rattle.stored_json.specs.Laws.{IsCommand}
 use Rattle.roster.proofs.Accepted.{accepted}
 use Rattle.roster.proofs.KeepsHonest.{keeps_honest}
 use Rattle.roster.proofs.MadeByCommands.{starts_sound}
@@ -34,29 +34,29 @@ use Rattle.roster.specs.declared.change.Change.{Change}
 use Rattle.roster.specs.contracts.state.Roster as roster_type
 use Rattle.roster.specs.declared.change.Verdict.{Verdict}
 use Rattle.roster.specs.declared.change.Verdict.TheVariants.{Accept, Refuse, Repeat}
-use Rattle.roster.specs.declared.state.Request.{Request}
+use Rattle.roster.specs.declared.state.LoggedCommand.{LoggedCommand}
 use Rattle.loading.specs.SameRows.{HasInstants}
 use Rattle.loading.proofs.SameStates.{database_holds_one_state}
 use Rattle.store.specs.Found.{IsFound}
 use Rattle.writing.specs.Kept.{IsBookOf, Holds}
-use Rattle.writing.specs.Outcomes.{AddsNothing, HoldsNow, Leaves, LeavesSome, StillShows, either, one}
+use Rattle.writing.specs.Outcomes.{CrashAddsNothing, HoldsNow, CrashLeaves, CrashLeavesSome, StillShows, either, one}
 use Rattle.book.specs.Kept.{IsKept, Keeps, StillHolds, either_kept}
 
 some_same : {A : Type 0} {a b : A} → Some a ≡ Some b → a ≡ b
 some_same e = cc
 
-pub kept_after : (s : State) (key : KeyParts) (order : Order) (change : Change) (reply : Reply) → IsCommand change.command → IsKept s → step_of s key order ≡ Accept change reply → IsKept (after s change)
-kept_after s key order change reply is kept step =
-    let command : change.command ≡ order = ap (λ (c : Change). c.command) (accepted s key order change reply step).is in
-    let request : Request = record { command = change.command; reply = change.reply } in
+pub kept_after : (s : State) (key : KeyParts) (instruction : Instruction) (change : Change) (reply : Reply) → IsCommand change.command → IsKept s → step_of s key instruction ≡ Accept change reply → IsKept (after s change)
+kept_after s key instruction change reply is kept step =
+    let command : change.command ≡ instruction = ap (λ (c : Change). c.command) (accepted s key instruction change reply step).is in
+    let request : LoggedCommand = record { command = change.command; reply = change.reply } in
     record {
-      sound = keeps_sound s key order change reply (subst IsMade command is.0) kept.sound step;
+      sound = keeps_sound s key instruction change reply (subst IsMade command is.0) kept.sound step;
       instants = λ name r here.
           let told : cond (eq_by_cmp name_cmp name (key_name change.key)) (Some request) (fin.get s.requests name) ≡ Some r = sym (get-after s change name) ∙ here in
           elim (cases_Bool (eq_by_cmp name_cmp name (key_name change.key))) [
             | inl tied ↦
                 let e : Some request ≡ Some r = ap (λ b. cond b (Some request) (fin.get s.requests name)) (sym tied) ∙ told in
-                subst (λ (q : Request). order_has_instants q.command ≡ true) (some_same e) is.1
+                subst (λ (q : LoggedCommand). instruction_has_instants q.command ≡ true) (some_same e) is.1
             | inr apart ↦ kept.instants name r (ap (λ b. cond b (Some request) (fin.get s.requests name)) (sym apart) ∙ told)
           ];
     }
@@ -79,18 +79,18 @@ same_state now s t a b clean = ∥∥₁_elim (a.some clean) (one_state s t) (λ
     one_held left.0 s t (subst (Holds left.0) x.1 x.2) (subst (Holds left.0) y.1 y.2) (a.kept clean) (b.kept clean))
 
 -- what was so of a crash stays so where it leaves nothing else
-pub still_leaves : (old new : conn.State) (P : State → Type 0) → AddsNothing old new → Leaves old P → Leaves new P
-still_leaves old new P left leaves = record { crash = λ clean trees may. leaves.crash (left.honest clean) trees (left.crash clean trees may) }
+pub still_leaves : (old new : conn.State) (P : State → Type 0) → CrashAddsNothing old new → CrashLeaves old P → CrashLeaves new P
+still_leaves old new P left leaves = record { crash = λ clean trees may. leaves.crash (left.disk clean) trees (left.crash clean trees may) }
 
-pub still_keeps : (old new : conn.State) (s : State) → AddsNothing old new → LeavesSome new → Keeps old s → Keeps new s
+pub still_keeps : (old new : conn.State) (s : State) → CrashAddsNothing old new → CrashLeavesSome new → Keeps old s → Keeps new s
 still_keeps old new s left some keeps = record {
-  kept = λ clean. keeps.kept (left.honest clean);
+  kept = λ clean. keeps.kept (left.disk clean);
   leaves = still_leaves old new (one s) left keeps.leaves;
   some = some;
 }
 
 -- what was loaded
-pub loaded : (now : conn.State) (s : State) {db : Database} → (HasCleanDisk now → IsFound s db) → Leaves now (one s) → LeavesSome now → Keeps now s
+pub loaded : (now : conn.State) (s : State) {db : Database} → (HasCleanDisk now → IsFound s db) → CrashLeaves now (one s) → CrashLeavesSome now → Keeps now s
 loaded now s found leaves some = record {
   kept = λ clean. record { sound = (found clean).sound; instants = (found clean).instants };
   leaves = leaves;
@@ -99,16 +99,16 @@ loaded now s found leaves some = record {
 
 -- what was made
 begun_instants : (zone : List ℕ) → HasInstants (empty zone)
-begun_instants zone name r here = let none : None ≡ Some r = sym (fin.get-empty {X = Request} name_cmp name) ∙ here in cc
+begun_instants zone name r here = let none : None ≡ Some r = sym (fin.get-empty {X = LoggedCommand} name_cmp name) ∙ here in cc
 
-pub begun_empty : (now : conn.State) (zone : List ℕ) → Leaves now (one (empty zone)) → LeavesSome now → Keeps now (empty zone)
+pub begun_empty : (now : conn.State) (zone : List ℕ) → CrashLeaves now (one (empty zone)) → CrashLeavesSome now → Keeps now (empty zone)
 begun_empty now zone leaves some = record {
   kept = λ _. record { sound = (starts_sound zone).0; instants = begun_instants zone };
   leaves = leaves;
   some = some;
 }
 
-pub one_of_either : (now : conn.State) (s t : State) → Keeps now s → Leaves now (either_kept s t)
+pub one_of_either : (now : conn.State) (s t : State) → Keeps now s → CrashLeaves now (either_kept s t)
 one_of_either now s t keeps = record {
   crash = λ clean trees may. let it = keeps.leaves.crash clean trees may in (it.0, (inl it.1, subst IsKept (sym it.1) (keeps.kept clean)), it.2);
 }
@@ -123,25 +123,25 @@ shows_still now s shown clean opened = (shown clean).1
 
 -- ---- A command
 
-module _ (s : State) (key : KeyParts) (order : Order) where
-  pub next_repeated : (reply : Reply) → Repeat reply ≡ step_of s key order → next s (key, order) ≡ s
+module _ (s : State) (key : KeyParts) (instruction : Instruction) where
+  pub next_repeated : (reply : Reply) → Repeat reply ≡ step_of s key instruction → next s (key, instruction) ≡ s
   next_repeated reply is = ap (left_by s) (sym is)
 
-  pub next_refused : (refusal : Refusal) → Refuse refusal ≡ step_of s key order → next s (key, order) ≡ s
+  pub next_refused : (refusal : Refusal) → Refuse refusal ≡ step_of s key instruction → next s (key, instruction) ≡ s
   next_refused refusal is = ap (left_by s) (sym is)
 
-  pub next_accepted : (change : Change) (reply : Reply) → Accept change reply ≡ step_of s key order → next s (key, order) ≡ after s change
+  pub next_accepted : (change : Change) (reply : Reply) → Accept change reply ≡ step_of s key instruction → next s (key, instruction) ≡ after s change
   next_accepted change reply is = ap (left_by s) (sym is)
 
 -- an honest state stays honest
-honest_after : (s : State) (key : KeyParts) (order : Order) (v : Verdict) → step_of s key order ≡ v → IsMade order → Sound s → Honest s → Sound (left_by s v) × Honest (left_by s v)
-honest_after s key order (Repeat reply) is made sound honest = (sound, honest)
-honest_after s key order (Accept change reply) is made sound honest =
-    (keeps_sound s key order change reply made sound is, keeps_honest s key order change reply made sound honest is)
-honest_after s key order (Refuse refusal) is made sound honest = (sound, honest)
+honest_after : (s : State) (key : KeyParts) (instruction : Instruction) (v : Verdict) → step_of s key instruction ≡ v → IsMade instruction → Sound s → Honest s → Sound (left_by s v) × Honest (left_by s v)
+honest_after s key instruction (Repeat reply) is made sound honest = (sound, honest)
+honest_after s key instruction (Accept change reply) is made sound honest =
+    (keeps_sound s key instruction change reply made sound is, keeps_honest s key instruction change reply made sound honest is)
+honest_after s key instruction (Refuse refusal) is made sound honest = (sound, honest)
 
-pub honest_next : (s : State) (key : KeyParts) (order : Order) → IsMade order → Sound s → Honest s → Sound (next s (key, order)) × Honest (next s (key, order))
-honest_next s key order made sound honest = honest_after s key order (step_of s key order) refl made sound honest
+pub honest_next : (s : State) (key : KeyParts) (instruction : Instruction) → IsMade instruction → Sound s → Honest s → Sound (next s (key, instruction)) × Honest (next s (key, instruction))
+honest_next s key instruction made sound honest = honest_after s key instruction (step_of s key instruction) refl made sound honest
 
 -- ---- What is told of the state that a crash could leave
 
@@ -163,7 +163,7 @@ module _ (old new : conn.State) (s r : State) (held : Keeps old r) (keeps : Keep
   pub shows_as : (of : State → State) (t : State) → HoldsNow new t → t ≡ of r → HoldsNow new (of s)
   shows_as of t shown is clean = let it = shown clean in (it.0, subst (λ (x : State). IsBookOf x new.now) (is ∙ ap of (same clean)) it.1)
 
-  pub either_as : (of : State → State) → Leaves new (either_kept r (of r)) → Leaves new (either_kept s (of s))
+  pub either_as : (of : State → State) → CrashLeaves new (either_kept r (of r)) → CrashLeaves new (either_kept s (of s))
   either_as of now = record { crash = λ clean trees may. subst (λ (x : State). (t : State) × either_kept x (of x) t × Holds trees t) (same clean) (now.crash clean trees may) }
 
   pub still_as : StillHolds new r → StillHolds new s

@@ -10,38 +10,46 @@ use Rattle.roster.specs.State.{State}
 use Rattle.command.specs.declared.refusal.Refusal.{Refusal}
 use Rattle.roster.specs.Steps.{step_of}
 use Rattle.roster.specs.declared.change.Verdict.TheVariants.{Refuse}
-use Rattle.rows.specs.declared.fault.StoreFault.{StoreFault}
-use Rattle.rows.specs.declared.fault.StoreFault.TheVariants.{Store, Memory}
+use Rattle.state_rows.specs.declared.fault.StoreFault.{StoreFault}
+use Rattle.state_rows.specs.declared.fault.StoreFault.TheVariants.{Store, Memory}
 use Rattle.lookup.specs.Reads.{ChangesNothing}
 use Rattle.writing.specs.Kept.{KeepOthers}
-use Rattle.writing.specs.Outcomes.{AddsOnly, Leaves, LeavesSome, StaysOpen}
+use Rattle.writing.specs.Outcomes.{CrashAddsOnly, CrashLeaves, CrashLeavesSome, StaysOpen}
 use Rattle.book.specs.Headline.{BreaksNoLimit, IsAcceptance, IsHeld, IsRefusal, KeepsHeld, SparesOthers, StaysHeld, Untouched}
-use Rattle.book.specs.Kept.{HasTables, IsAt, IsClean, IsInDoubt, Kept, StillHasTables, is_store_fault, result_of}
+use Rattle.book.specs.Kept.{HasTables, IsDurablyAt, IsClean, IsInDoubt, Kept, StillHasTables, is_store_fault, result_of}
 use Rattle.book.specs.Sessions.{IsAfter, count_of, fault_of}
 use Rattle.book.specs.declared.answer.Answer.{Answer}
 use Rattle.book.specs.declared.answer.Answer.TheVariants.{Accepted, Refused}
 
 -- the book was asked a command under its key, and gave this result
 pub record IsAnswered {S : Type 0} (g : Ghosts S) (old new : Kept S) (asked : Asked) (result : Result Answer StoreFault) : Type 0 where
+  -- whether it has failed: a book that has answers 90 and does nothing
   pub failed : new.failed ≡ (old.failed || is_store_fault result)
   pub shut : IsTrue old.failed → (result ≡ Err Store) × (new ≡ old)
-  pub clean : IsClean g new → IsClean g old
-  pub some : LeavesSome (state g new.held)
-  pub reply : (s : State) → IsAt g old s → IsClean g new → IfOk result (λ a. result_of a ≡ answer_of (step_of s asked.0 asked.1))
-  pub answered : (s : State) → IsAt g old s → OnOk result (IsAt g new (next s asked))
-  pub tables : (s : State) → IsAt g old s → HasTables g old s → OnOk result (HasTables g new (next s asked))
-  pub memory : (s : State) → IsAt g old s → result ≡ Err Memory → IsAt g new s
-  pub store : (s : State) → IsAt g old s → result ≡ Err Store → IsInDoubt g new s (next s asked)
-  pub sessions : (s : State) (before : List Session) → IsAt g old (Stopped s before) → Leaves (state g new.held) (IsAfter s before (asked ∷ []) (count_of result) (fault_of result))
-  pub shown : (s : State) → IsAt g old s → HasTables g old s → OnErr result (StillHasTables g new s)
-  pub honest : (s : State) → IsAt g old s → Honest s → Leaves (state g new.held) Honest
-  pub within_limits : (s : State) → IsAt g old s → IsClean g new → is_assignment asked.1 ≡ true → PassesChecks s asked.0 asked.1 → IfOk result (λ a. IsAcceptance a ↔ BreaksNoLimit s asked.1)
-  pub repeats : (s : State) (reply : Reply) → IsAt g old s → IsClean g new → IsHeld s asked reply → ChangesNothing (state g old.held) (state g new.held) × IfOk result (λ a. a ≡ Accepted reply)
-  pub turned_down : (s : State) (refusal : Refusal) → IsAt g old s → IsClean g new → step_of s asked.0 asked.1 ≡ Refuse refusal → ChangesNothing (state g old.held) (state g new.held) × IfOk result (λ a. a ≡ Refused refusal)
-  pub holds : (s : State) (reply : Reply) → IsAt g old s → IfOk result (λ a. a ≡ Accepted reply → StaysHeld (state g new.held) asked reply)
-  pub held : (s : State) → IsAt g old s → KeepsHeld (state g new.held) s
+  -- the disk, and that a crash leaves something
+  pub disk : IsClean g new → IsClean g old
+  pub some_left : CrashLeavesSome (state g new.held)
+  -- the answer, by the state that the tables mean, and the state after it
+  pub reply : (s : State) → IsDurablyAt g old s → IsClean g new → IfOk result (λ a. result_of a ≡ answer_of (step_of s asked.0 asked.1))
+  pub answered : (s : State) → IsDurablyAt g old s → OnOk result (IsDurablyAt g new (next s asked))
+  pub shown : (s : State) → IsDurablyAt g old s → HasTables g old s → OnOk result (HasTables g new (next s asked))
+  -- after want of memory (91) the state is the one before; after a fault of the store (90) it is that or the next
+  pub memory : (s : State) → IsDurablyAt g old s → result ≡ Err Memory → IsDurablyAt g new s
+  pub store : (s : State) → IsDurablyAt g old s → result ≡ Err Store → IsInDoubt g new s (next s asked)
+  -- a crash in any session, and what is still shown after a fault
+  pub sessions : (s : State) (before : List Session) → IsDurablyAt g old (Stopped s before) → CrashLeaves (state g new.held) (IsAfter s before (asked ∷ []) (count_of result) (fault_of result))
+  pub still_shown : (s : State) → IsDurablyAt g old s → HasTables g old s → OnErr result (StillHasTables g new s)
+  -- what is asked of a book first: it stays honest, accepts what breaks no limit, and does each command once
+  pub honest : (s : State) → IsDurablyAt g old s → Honest s → CrashLeaves (state g new.held) Honest
+  pub within_limits : (s : State) → IsDurablyAt g old s → IsClean g new → is_assignment asked.1 ≡ true → PassesChecks s asked.0 asked.1 → IfOk result (λ a. IsAcceptance a ↔ BreaksNoLimit s asked.1)
+  pub repeats : (s : State) (reply : Reply) → IsDurablyAt g old s → IsClean g new → IsHeld s asked reply → ChangesNothing (state g old.held) (state g new.held) × IfOk result (λ a. a ≡ Accepted reply)
+  pub turned_down : (s : State) (refusal : Refusal) → IsDurablyAt g old s → IsClean g new → step_of s asked.0 asked.1 ≡ Refuse refusal → ChangesNothing (state g old.held) (state g new.held) × IfOk result (λ a. a ≡ Refused refusal)
+  pub holds : (s : State) (reply : Reply) → IsDurablyAt g old s → IfOk result (λ a. a ≡ Accepted reply → StaysHeld (state g new.held) asked reply)
+  pub held : (s : State) → IsDurablyAt g old s → KeepsHeld (state g new.held) s
   pub refused : IfOk result (λ a. IsRefusal a → Untouched (state g old.held) (state g new.held))
-  pub alone : OnOk result (Untouched (state g old.held) (state g new.held) ⊎ SparesOthers (state g old.held) (state g new.held))
-  pub others : AddsOnly (state g old.held) (state g new.held) (KeepOthers (state g old.held).now)
-  pub counts : (state g old.held).faults ≤ (state g new.held).faults
+  -- what isn't the book's
+  pub others_spared : OnOk result (Untouched (state g old.held) (state g new.held) ⊎ SparesOthers (state g old.held) (state g new.held))
+  pub others_left : CrashAddsOnly (state g old.held) (state g new.held) (KeepOthers (state g old.held).now)
+  -- the store's faults, and the connection
+  pub faults : (state g old.held).faults ≤ (state g new.held).faults
   pub still_open : result ≡ Err Memory → StaysOpen (state g old.held) (state g new.held)

@@ -3,22 +3,23 @@ use Rattle.std.specs.Prelude.{◌≡◌, ◌≤◌, Result, Ok, Err}
 use Rattle.sqlite.specs.State as conn
 use Rattle.sqlite.specs.State.{HasCleanDisk}
 use Rattle.roster.specs.State.{State}
-use Rattle.rows.specs.declared.fault.StoreFault.{StoreFault}
-use Rattle.rows.specs.declared.fault.StoreFault.TheVariants.{Store, Memory}
+use Rattle.state_rows.specs.declared.fault.StoreFault.{StoreFault}
+use Rattle.state_rows.specs.declared.fault.StoreFault.TheVariants.{Store, Memory}
 use Rattle.writing.specs.Kept.{KeepOthers}
-use Rattle.writing.specs.Outcomes.{AddsOnly, Leaves, LeavesSome, HoldsNow, StaysOpen}
+use Rattle.writing.specs.Outcomes.{CrashAddsOnly, CrashLeaves, CrashLeavesSome, HoldsNow, StaysOpen}
 use Rattle.book.specs.Kept.{Keeps, StillHolds, either_kept}
 
 -- the tables became those of the state that was wanted, they stayed, or they are of one of the two
 abbrev pub Done : {A : Type 0} → conn.State → conn.State → State → State → Result A StoreFault → Type 0
 Done old new was wanted (Ok a) = Keeps new wanted × StillHolds new wanted × (HoldsNow old was → HoldsNow new wanted)
 Done old new was wanted (Err Memory) = Keeps new was × StillHolds new was
-Done old new was wanted (Err Store) = Leaves new (either_kept was wanted) × StillHolds new was
+Done old new was wanted (Err Store) = CrashLeaves new (either_kept was wanted) × StillHolds new was
 
-pub record Did {A : Type 0} (old new : conn.State) (was wanted : State) (result : Result A StoreFault) : Type 0 where
-  pub clean : HasCleanDisk new → HasCleanDisk old
-  pub some : LeavesSome new
-  pub others : AddsOnly old new (KeepOthers old.now)
-  pub counts : old.faults ≤ new.faults
+-- what one command did, from the state that was to the one that was wanted, and what it was answered
+pub record StepOutcome {A : Type 0} (old new : conn.State) (was wanted : State) (result : Result A StoreFault) : Type 0 where
+  pub disk : HasCleanDisk new → HasCleanDisk old
+  pub some_left : CrashLeavesSome new
+  pub others_left : CrashAddsOnly old new (KeepOthers old.now)
+  pub faults : old.faults ≤ new.faults
   pub still_open : result ≡ Err Memory → StaysOpen old new
   pub done : Done old new was wanted result

@@ -7,14 +7,14 @@ use Rattle.sqlite.specs.State.{HasCleanDisk}
 use Rattle.limits.specs.declared.section.Section.{Section}
 use Rattle.command.specs.Keys.{key_name}
 use Rattle.command.specs.declared.exceedance.Reply.{Reply}
-use Rattle.command.specs.declared.order.Order.{Order}
+use Rattle.command.specs.declared.instruction.Instruction.{Instruction}
 use Rattle.command.specs.declared.refusal.Refusal.{Refusal}
 use Rattle.roster.specs.Folds.{Asked}
 use Rattle.roster.specs.Laws.{Gain, IsBroken, gains}
 use Rattle.roster.specs.State.{State}
 use Rattle.lookup.specs.Reads.{ChangesNothing, IsOpen}
 use Rattle.writing.specs.Kept.{KeepOthers}
-use Rattle.writing.specs.Outcomes.{Leaves, LeavesOnly, ShowsOnly}
+use Rattle.writing.specs.Outcomes.{CrashLeaves, CrashLeavesOnly, ShowsOnly}
 use Rattle.book.specs.declared.answer.Answer.{Answer}
 use Rattle.book.specs.declared.answer.Answer.TheVariants.{Accepted, Refused}
 
@@ -30,9 +30,9 @@ IsRefusal answer = (refusal : Refusal) × (answer ≡ Refused refusal)
 
 -- ---- Limits
 
--- of the duties that members gain by this order, none breaks any of the eight limits, in any window of minutes
-abbrev pub BreaksNoLimit : State → Order → Type 0
-BreaksNoLimit s order = (gain : Gain) → Contains (gains s order) gain → (section : Section) → IsBroken gain section → ⊥
+-- of the duties that members gain by this instruction, none breaks any of the eight limits, in any window of minutes
+abbrev pub BreaksNoLimit : State → Instruction → Type 0
+BreaksNoLimit s instruction = (gain : Gain) → Contains (gains s instruction) gain → (section : Section) → IsBroken gain section → ⊥
 
 -- ---- Each command acts once
 
@@ -42,7 +42,7 @@ IsHeld s asked reply = fin.get s.requests (key_name asked.0) ≡ Some (record { 
 
 -- in every state that a crash may leave, the key of the command holds it, with this reply
 abbrev pub StaysHeld : conn.State → Asked → Reply → Type 0
-StaysHeld now asked reply = Leaves now (λ s. IsHeld s asked reply)
+StaysHeld now asked reply = CrashLeaves now (λ s. IsHeld s asked reply)
 
 -- each command that this state holds stays held
 abbrev pub KeepsHeld : conn.State → State → Type 0
@@ -59,7 +59,7 @@ pub record Untouched (old now : conn.State) : Type 0 where
 -- on a connection that was open, and still is
 pub record SparesOthers (old now : conn.State) : Type 0 where
   pub was_open : HasCleanDisk now → IsTrue old.is_open
-  pub leaves : LeavesOnly now (KeepOthers old.now)
+  pub leaves : CrashLeavesOnly now (KeepOthers old.now)
   pub shows : ShowsOnly now (KeepOthers old.now)
   pub schema : HasCleanDisk now → now.now.schema ≡ old.now.schema
   pub is_open : HasCleanDisk now → IsTrue now.is_open

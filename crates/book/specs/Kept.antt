@@ -11,11 +11,11 @@ use Rattle.roster.specs.Folds.{Asked, Fold}
 use Rattle.roster.specs.Sound.{Sound}
 use Rattle.roster.specs.State.{State}
 use Rattle.loading.specs.SameRows.{HasInstants}
-use Rattle.rows.specs.declared.fault.StoreFault.{StoreFault}
-use Rattle.rows.specs.declared.fault.StoreFault.TheVariants.{Store, Memory}
+use Rattle.state_rows.specs.declared.fault.StoreFault.{StoreFault}
+use Rattle.state_rows.specs.declared.fault.StoreFault.TheVariants.{Store, Memory}
 use Rattle.store.specs.Found.{IsFound}
 use Rattle.writing.specs.Kept.{IsBookOf}
-use Rattle.writing.specs.Outcomes.{Leaves, LeavesSome, HoldsNow, one, either}
+use Rattle.writing.specs.Outcomes.{CrashLeaves, CrashLeavesSome, HoldsNow, one, either}
 use Rattle.book.specs.declared.answer.Answer.{Answer}
 use Rattle.book.specs.declared.answer.Answer.TheVariants.{Accepted, Refused}
 
@@ -24,6 +24,7 @@ pub record Kept (S : Type 0) : Type 0 where
   pub held : Held S
   pub failed : Bool
 
+-- a code for books, from one for what their connections hold
 abbrev pub kept_code : {S : Type 0} → Coded S → Coded (Kept S)
 kept_code {S} store = code_by (Held S × Bool) (coded× (held_code store) coded_bool) (λ k. (k.held, k.failed)) (λ p. record { held = p.0; failed = p.1 }) (λ _. refl)
 
@@ -52,8 +53,8 @@ StillHolds now s = HasCleanDisk now → IsTrue now.is_open → IsBookOf s now.no
 -- a crash leaves this state, which tables may mean, and nothing else
 pub record Keeps (now : conn.State) (s : State) : Type 0 where
   pub kept : HasCleanDisk now → IsKept s
-  pub leaves : Leaves now (one s)
-  pub some : LeavesSome now
+  pub leaves : CrashLeaves now (one s)
+  pub some : CrashLeavesSome now
 
 -- a crash leaves some state, which tables may mean, and nothing else; and its tables mean it, as long as it is open
 pub record HasOne (now : conn.State) : Type 0 where
@@ -63,19 +64,19 @@ pub record HasOne (now : conn.State) : Type 0 where
 
 module _ {S : Type 0} (g : Ghosts S) (book : Kept S) where
   -- a crash leaves this state
-  abbrev pub IsAt : State → Type 0
-  IsAt s = Keeps (state g book.held) s
+  abbrev pub IsDurablyAt : State → Type 0
+  IsDurablyAt s = Keeps (state g book.held) s
 
   -- or one of these two, which tables may mean
   abbrev pub IsInDoubt : State → State → Type 0
-  IsInDoubt s t = Leaves (state g book.held) (either_kept s t)
+  IsInDoubt s t = CrashLeaves (state g book.held) (either_kept s t)
 
   -- as long as it is open, its tables mean this state
   abbrev pub StillHasTables : State → Type 0
   StillHasTables s = StillHolds (state g book.held) s
 
 -- a book in some state was found; it is shown still, and a crash leaves that state and nothing else
-pub record Means (old now : conn.State) : Type 0 where
+pub record HasFoundBook (old now : conn.State) : Type 0 where
   pub it : State
   pub found : HasCleanDisk now → IsFound it old.now
   pub shown : HoldsNow now it
@@ -83,14 +84,17 @@ pub record Means (old now : conn.State) : Type 0 where
 
 -- ---- Answers
 
+-- an answer as a result: the reply, or the refusal
 abbrev pub result_of : Answer → Result Reply Refusal
 result_of (Accepted reply) = Ok reply
 result_of (Refused refusal) = Err refusal
 
+-- the result is a fault of the store (90)
 abbrev pub is_store_fault : {A : Type 0} → Result A StoreFault → Bool
 is_store_fault (Err Store) = true
 is_store_fault _ = false
 
+-- there is a fault, and it is one of the store (90)
 abbrev pub is_some_store_fault : Option StoreFault → Bool
 is_some_store_fault (Some Store) = true
 is_some_store_fault _ = false
@@ -99,4 +103,4 @@ is_some_store_fault _ = false
 abbrev pub Ends : conn.State → State → List Asked → ℕ → Option StoreFault → Type 0
 Ends now s l n None = Keeps now (Fold s l)
 Ends now s l n (Some Memory) = Keeps now (Fold s (take n l))
-Ends now s l n (Some Store) = Leaves now (either_kept (Fold s (take n l)) (Fold s (take (n + 1) l)))
+Ends now s l n (Some Store) = CrashLeaves now (either_kept (Fold s (take n l)) (Fold s (take (n + 1) l)))

@@ -5,3 +5,4 @@ pub mod Answered
 pub mod Found
 pub mod Importing
 pub mod Sessions
+pub mod Ran

@@ -2,8 +2,8 @@
 use Rattle.std.specs.Prelude.{◌≡◌, ℕ, ◌+◌, List, [], ◌∷◌, ◌++◌, take, Result, Ok, Err, Option, Some, None}
 use Rattle.roster.specs.Folds.{Asked, Session, Stopped}
 use Rattle.roster.specs.State.{State}
-use Rattle.rows.specs.declared.fault.StoreFault.{StoreFault}
-use Rattle.rows.specs.declared.fault.StoreFault.TheVariants.{Store, Memory}
+use Rattle.state_rows.specs.declared.fault.StoreFault.{StoreFault}
+use Rattle.state_rows.specs.declared.fault.StoreFault.TheVariants.{Store, Memory}
 use Rattle.book.specs.Kept.{IsKept}
 
 -- the commands that a call took up, of which it answered so many: the one that met want of memory changed nothing
@@ -25,6 +25,7 @@ abbrev pub count_of : {A : Type 0} → Result A StoreFault → ℕ
 count_of (Ok a) = 1
 count_of (Err fault) = 0
 
+-- the fault of a result, if it is one
 abbrev pub fault_of : {A : Type 0} → Result A StoreFault → Option StoreFault
 fault_of (Ok a) = None
 fault_of (Err fault) = Some fault

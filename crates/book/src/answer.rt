@@ -1,3 +1,4 @@
+//! What a book answers one command, and a list of them.
 use command::{Refusal, Reply};
 use store::StoreFault;
 

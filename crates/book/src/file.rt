@@ -1,4 +1,5 @@
-//! A book in a file.
+//! A book in a file: only here are there paths.
+//! Through the program: `tests/program.sh`. Wrong bodies: `must-fail-more/`.
 
 ghost use Rattle.std.specs.Prelude.{◌≡◌, ◌≢◌, false, IfOk};
 ghost use Rattle.sqlite_wal.specs.Files.{image_at};
@@ -6,8 +7,8 @@ ghost use Rattle.sqlite.specs.Files.{IsOpened, file_state, over_files};
 ghost use Rattle.sqlite.specs.Held.{state};
 ghost use Rattle.sqlite.specs.Start.{FindsIn};
 ghost use Rattle.sqlite.specs.State.{HasCleanDisk, IsUnchanged};
-ghost use Rattle.writing.specs.Outcomes.{AddsNothing, IsOutside};
-ghost use Rattle.book.specs.Kept.{IsClean, Means};
+ghost use Rattle.writing.specs.Outcomes.{CrashAddsNothing, IsOutside};
+ghost use Rattle.book.specs.Kept.{IsClean, HasFoundBook};
 ghost use Rattle.book.specs.Found.{MeansWhatIsIn};
 
 use crate::keeping::Book;
@@ -31,7 +32,8 @@ impl<S: Start> Book<FileStore<FileFrom<S>>> {
         start: S,
     ) -> Result<Book<FileStore<FileFrom<S>>>, LoadFault>
         ensures fresh { IfOk result (λ b. b.failed ≡ false) }
-        ensures means { IfOk result (λ b. IsClean over_files b → MeansWhatIsIn (image_at S.Start) (file_state b.held)) }
+        ensures means { IfOk result
+            (λ b. IsClean over_files b → MeansWhatIsIn (image_at S.Start) (file_state b.held)) }
     {
         if matches!(exists(rt, path), Ok(false)) {
             return Err(LoadFault::NotABook);
@@ -44,7 +46,7 @@ impl<S: Start> Book<FileStore<FileFrom<S>>> {
 }
 
 impl FileBook {
-    /// The same, of the file that is there.
+    /// Opens the same, of the file that is there.
     pub fn open(rt: &HostRuntime, path: &str) -> Result<FileBook, LoadFault>
         ensures fresh { IfOk result (λ b. b.failed ≡ false) }
     {
@@ -67,7 +69,7 @@ pub fn create_file(rt: &HostRuntime, path: &str, zone: Zone) -> Result<(), Creat
     Ok(())
 }
 
-/// The book that is made over a connection.
+/// Makes the book over a connection.
 fn created<S: Alter + Drop>(
     alloc: Global,
     conn: Connection<S>,
@@ -81,13 +83,15 @@ fn created<S: Alter + Drop>(
     }
 }
 
-/// The book that a connection has.
+/// Adopts the book that a connection has.
 fn adopted<S: Alter + Drop>(alloc: Global, conn: Connection<S>) -> Result<Book<S>, LoadFault>
     requires { IsOutside (state S.Store conn) }
     ensures fresh { IfOk result (λ b. b.failed ≡ false) }
-    ensures means { IfOk result (λ b. Means (state S.Store conn) (state S.Store b.held)) }
-    ensures unchanged { IfOk result (λ b. IsClean S.Store b → IsUnchanged (state S.Store conn) (state S.Store b.held)) }
-    ensures left { IfOk result (λ b. AddsNothing (state S.Store conn) (state S.Store b.held)) }
+    ensures means { IfOk result (λ b. HasFoundBook (state S.Store conn) (state S.Store b.held)) }
+    ensures unchanged { IfOk result
+        (λ b. IsClean S.Store b → IsUnchanged (state S.Store conn) (state S.Store b.held)) }
+    ensures nothing_new { IfOk result
+        (λ b. CrashAddsNothing (state S.Store conn) (state S.Store b.held)) }
 {
     match Book::adopt(alloc, conn) {
         Ok(book) => Ok(book),
@@ -95,14 +99,15 @@ fn adopted<S: Alter + Drop>(alloc: Global, conn: Connection<S>) -> Result<Book<S
     }
 }
 
-/// A connection to the files of a path, which are made where they are not there.
+/// Opens a connection to the files of a path, which are made where they are not there.
 fn connect<S: Start>(
     rt: &HostRuntime,
     path: &str,
     start: S,
 ) -> Result<Connection<FileStore<FileFrom<S>>>, StoreFault>
     ensures opened { IfOk result (λ c. HasCleanDisk (file_state c) → IsOpened c) }
-    ensures found { IfOk result (λ c. HasCleanDisk (file_state c) → FindsIn (image_at S.Start) (file_state c)) }
+    ensures found { IfOk result
+        (λ c. HasCleanDisk (file_state c) → FindsIn (image_at S.Start) (file_state c)) }
     ensures outside { IfOk result (λ c. IsOutside (file_state c)) }
 {
     match Connection::open_from(rt, path, false, start) {
@@ -111,9 +116,10 @@ fn connect<S: Start>(
     }
 }
 
-/// What a refused opening is: 91 for want of memory, and else 90.
+/// Names a refused opening: 91 for want of memory, and else 90.
 fn fault_of(error: Error) -> StoreFault
-    ensures memory { error ≡ Error.SqliteFailure ErrorCode.OutOfMemory → result ≡ StoreFault.Memory }
+    ensures memory { error ≡ Error.SqliteFailure ErrorCode.OutOfMemory
+        → result ≡ StoreFault.Memory }
     ensures store { error ≢ Error.SqliteFailure ErrorCode.OutOfMemory → result ≡ StoreFault.Store }
 {
     match error {

@@ -1,3 +1,6 @@
+//! Imports: a schedule's pairings, asked one after the other under the parts of one number, so that one that was stopped
+//! is handed in again.
+//! Transcript: `tests/transcripts/import.txt`. Wrong bodies: `must-fail/`.
 ghost use Rattle.std.specs.Prelude.{◌≡◌, ◌+◌, ◌<◌, ◌≤◌, IfErr, IfOk, IfSome, IsSome, IsSomeAnd, MatchOption, None, length};
 ghost use Rattle.roster.specs.Laws.{Resumes};
 ghost use Rattle.book.specs.Answered.{IsAnswered};
@@ -28,19 +31,22 @@ impl Model for Import {
 
     ghost Value = { Importing };
 
-    ghost view = { λ it. record { number = it.number; pairings = it.pairings.items; next = it.next } };
+    ghost view = { λ it.
+        record { number = it.number; pairings = it.pairings.items; next = it.next } };
 
-    ghost invariant = { λ it. (1 ≤ it.number) × (it.number ≤ 9_223_372_036_854_775_807) × (length it.pairings.items ≤ 10_000) × (1 ≤ it.next) };
+    ghost invariant = { λ it. (1 ≤ it.number) × (it.number ≤ 9_223_372_036_854_775_807)
+        × (length it.pairings.items ≤ 10_000) × (1 ≤ it.next) };
 }
 
 impl<S: Alter> Book<S> {
-    /// The import of these pairings under a number. It takes no memory. One that was stopped and is handed in again, with
-    /// nothing else asked in between, ends as if it had never been stopped.
+    /// Begins the import of these pairings under a number. It takes no memory. One that was stopped and is handed in
+    /// again, with nothing else asked in between, ends as if it had never been stopped.
     pub fn import(number: u64, pairings: Vec<Pairing>) -> Import
         requires low { 1 ≤ number }
         requires high { number ≤ 9_223_372_036_854_775_807 }
         requires count { length pairings.items ≤ 10_000 }
-        ensures begun { let begun : Importing = record { number = number; pairings = pairings.items; next = 1 } in result ≡ begun }
+        ensures begun { let begun : Importing = record
+            { number = number; pairings = pairings.items; next = 1 } in result ≡ begun }
         ensures resumes { Resumes }
     {
         resumes();
@@ -61,9 +67,12 @@ impl Import {
         book: &mut Book<S>,
     ) -> Option<Result<Answer, StoreFault>>
         ensures some { self.old.next ≤ length self.old.pairings → IsSome result }
-        ensures none { length self.old.pairings < self.old.next → (result ≡ None) × (self.new ≡ self.old) × (book.new ≡ book.old) }
-        ensures part { MatchOption (part_of self.old) (result ≡ None) (λ asked. IsSomeAnd result (IsAnswered S.Store book.old book.new asked)) }
-        ensures moves { IfSome result (λ answer. IfOk answer (λ _. self.new ≡ record self.old { next = self.old.next + 1 })) }
+        ensures none { length self.old.pairings < self.old.next
+            → (result ≡ None) × (self.new ≡ self.old) × (book.new ≡ book.old) }
+        ensures part { MatchOption (part_of self.old) (result ≡ None)
+            (λ asked. IsSomeAnd result (IsAnswered S.Store book.old book.new asked)) }
+        ensures moves { IfSome result
+            (λ answer. IfOk answer (λ _. self.new ≡ record self.old { next = self.old.next + 1 })) }
         ensures stays { IfSome result (λ answer. IfErr answer (λ _. self.new ≡ self.old)) }
     {
         let pairing = self.pairings.get(usize::from(self.next - 1))?;

@@ -5,9 +5,9 @@ use Rattle.std.proofs.lemmas.Str.{IsUtf8-from_is_utf8, is_utf8-from_IsUtf8}
 use Rattle.std.specs.Prelude.{Bool}
 use Rattle.std.specs.Str.{IsUtf8, is_utf8}
 use Rattle.codec.specs.Requests.{read_body}
-use Rattle.kept.specs.CommandJson.{read_object}
-use Rattle.kept.specs.declared.fault.CodecFault.TheVariants.{BadJson}
-use Rattle.kept.specs.declared.field.JsonField.TheVariants.{Body}
+use Rattle.stored_json.specs.CommandJson.{read_object}
+use Rattle.stored_json.specs.declared.fault.CodecFault.TheVariants.{BadJson}
+use Rattle.stored_json.specs.declared.field.JsonField.TheVariants.{Body}
 
 within : (n : ℕ) → n ≤ 1_048_576 → nat_le n 1_048_576 ≡ true
 within n h = grind (arith, nat_tests)

@@ -7,9 +7,9 @@ use Rattle.command.specs.declared.exceedance.Exceedance.{Exceedance}
 use Rattle.command.specs.declared.refusal.Refusal.{Refusal}
 use Rattle.command.specs.declared.refusal.Refusal.TheVariants.{NumberUsed, NoSuchCrew, CrewExists, NoSuchPairing, PairingExists, SeatTaken, WrongSeat, NotAssigned, PairingCrewed, Flown, Overlap, Limits, NoSuchDuty, GroundExists, NoSuchGround, SegmentCount}
 use Rattle.codec.specs.RefusalText.{refusal_json, fault_json}
-use Rattle.kept.specs.ReplyText.{exceedance_json}
-use Rattle.kept.specs.declared.fault.CodecFault.{CodecFault}
-use Rattle.kept.specs.declared.fault.CodecFault.TheVariants.{BadJson, BadCsv, Duty, Memory}
+use Rattle.stored_json.specs.ReplyText.{exceedance_json}
+use Rattle.stored_json.specs.declared.fault.CodecFault.{CodecFault}
+use Rattle.stored_json.specs.declared.fault.CodecFault.TheVariants.{BadJson, BadCsv, Duty, Memory}
 
 exceedances_no_float : (es : List Exceedance) → items_have_float (items_of (map exceedance_json es)) ≡ false
 exceedances_no_float [] = refl

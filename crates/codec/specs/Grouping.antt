@@ -18,12 +18,15 @@ use Rattle.codec.specs.declared.grouping.Grouping.{Grouping}
 abbrev pub told : Draft → ℕ × Plan
 told d = (d.first, plan d.id d.periods.items)
 
+-- the period of the segments so far
 abbrev pub open_fdp : OpenPeriod → Fdp
 open_fdp p = record { planned_report = p.report; report = p.report; release = p.release; segments = p.segments.items }
 
+-- the pairing that may go on, as it is so far, with its first record
 abbrev pub told_open : OpenPairing → ℕ × Plan
 told_open o = (o.draft.first, plan o.draft.id (o.draft.periods.items ++ open_fdp o.period ∷ []))
 
+-- the same, if there is one
 abbrev pub told_if_open : Option OpenPairing → List (ℕ × Plan)
 told_if_open None = []
 told_if_open (Some o) = told_open o ∷ []
@@ -32,6 +35,7 @@ told_if_open (Some o) = told_open o ∷ []
 abbrev pub told_all : Grouping → List (ℕ × Plan)
 told_all g = map told g.whole.items ++ told_if_open g.open
 
+-- the pairings without their records
 abbrev pub plans_of : List (ℕ × Plan) → List Plan
 plans_of tolds = map (λ t. t.1) tolds
 
@@ -39,6 +43,7 @@ plans_of tolds = map (λ t. t.1) tolds
 abbrev pub open_place : OpenPairing → Place
 open_place o = record { pairing = o.draft.id; period = length o.draft.periods.items + 1; report = o.period.report; release = o.period.release }
 
+-- the place of the last segment, if there is one
 abbrev pub last_place : Grouping → Option Place
 last_place g = option_map open_place g.open
 
@@ -84,6 +89,7 @@ Extends it old new =
 abbrev pub Adds : ℕ → ScheduledSegment → List (ℕ × Plan) → List (ℕ × Plan) → Type 0
 Adds number it old new = (is : ℕ × Plan) × (new ≡ old ++ is ∷ []) × IsBegun number it is
 
+-- the segment goes on with the last pairing, or a pairing more begins with it
 abbrev pub Grows : ℕ → ScheduledSegment → Grouping → Grouping → Type 0
 Grows number it old new =
     MatchBool (goes_on (last_place old) it.place) (Extends it (told_all old) (told_all new)) (Adds number it (told_all old) (told_all new))

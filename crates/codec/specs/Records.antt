@@ -10,6 +10,7 @@ use Rattle.duty.specs.declared.segment.Segment.{Segment}
 use Rattle.codec.specs.declared.scheduled.Place.{Place}
 use Rattle.codec.specs.declared.scheduled.ScheduledSegment.{ScheduledSegment}
 
+-- a field that is there and is this name
 abbrev pub is_name : List ℕ → Option (List ℕ) → Bool
 is_name name None = false
 is_name name (Some field) = bytes_eq field name
@@ -18,6 +19,7 @@ is_name name (Some field) = bytes_eq field name
 abbrev pub is_at : ℕ → List ℕ → List (List ℕ) → Bool
 is_at place name fields = is_name name (field_at fields place)
 
+-- the nine names, in their order
 abbrev pub is_header : List (List ℕ) → Bool
 is_header fields =
     (length fields == 9)
@@ -30,6 +32,7 @@ is_header fields =
 abbrev pub read_text : (List ℕ → Bool) → List ℕ → Option (List ℕ)
 read_text has_shape field = if has_shape field then Some field else None
 
+-- an instant, in either of its written forms
 abbrev pub read_time : List ℕ → Option ℕ
 read_time field = result_ok (read_instant field)
 
@@ -38,6 +41,7 @@ abbrev pub period_numbers : List (List ℕ × ℕ)
 period_numbers = (codes "1", 1) ∷ (codes "2", 2) ∷ (codes "3", 3) ∷ (codes "4", 4) ∷ (codes "5", 5) ∷ (codes "6", 6)
     ∷ (codes "7", 7) ∷ (codes "8", 8) ∷ (codes "9", 9) ∷ (codes "10", 10) ∷ []
 
+-- the number of a period, from 1 to 10, without a leading zero
 abbrev pub read_period : List ℕ → Option ℕ
 read_period field = option_map (λ it. it.1) (find (λ it. bytes_eq field it.0) period_numbers)
 
@@ -50,6 +54,7 @@ with_field (Some field) next = next field
 abbrev pub at : {A : Type 0} → ℕ → (List ℕ → Option A) → List (List ℕ) → Option A
 at place reads fields = with_field (field_at fields place) (λ field. if is_utf8 field then reads field else None)
 
+-- where a segment stands: the first four fields
 abbrev pub read_place : List (List ℕ) → Option Place
 read_place fields =
     with_field (at 0 (read_text is_id) fields) (λ pairing.
@@ -58,6 +63,7 @@ read_place fields =
     with_field (at 3 read_time fields) (λ release.
     Some (record { pairing = pairing; period = period; report = report; release = release })))))
 
+-- a segment: the last five fields
 abbrev pub read_segment : List (List ℕ) → Option Segment
 read_segment fields =
     with_field (at 4 (read_text is_flight) fields) (λ flight.

@@ -9,28 +9,33 @@ use Rattle.command.specs.Texts.{refusal_number, refusal_name}
 use Rattle.command.specs.declared.exceedance.Exceedance.{Exceedance}
 use Rattle.command.specs.declared.refusal.Refusal.{Refusal}
 use Rattle.command.specs.declared.refusal.Refusal.TheVariants.{Limits, SegmentCount}
-use Rattle.kept.specs.Fields.{field_name}
-use Rattle.kept.specs.ReplyText.{exceedance_json}
-use Rattle.kept.specs.Values.{object_of, array_of}
-use Rattle.kept.specs.declared.fault.CodecFault.{CodecFault}
-use Rattle.kept.specs.declared.fault.CodecFault.TheVariants.{BadJson, BadCsv, Duty, Memory}
+use Rattle.stored_json.specs.Fields.{field_name}
+use Rattle.stored_json.specs.ReplyText.{exceedance_json}
+use Rattle.stored_json.specs.Values.{object_of, array_of}
+use Rattle.stored_json.specs.declared.fault.CodecFault.{CodecFault}
+use Rattle.stored_json.specs.declared.fault.CodecFault.TheVariants.{BadJson, BadCsv, Duty, Memory}
 
 -- the members that come last
 abbrev pub refused : ℕ → List (List ℕ × Data)
 refused n = (codes "refusal", number (unsigned n)) ∷ (codes "result", string (codes "refused")) ∷ []
 
+-- a refusal of a number and a name alone
 abbrev pub plain_refusal : ℕ → List ℕ → Data
 plain_refusal n name = object_of ((codes "name", string name) ∷ refused n)
 
+-- one that tells a period
 abbrev pub period_refusal : ℕ → List ℕ → ℕ → Data
 period_refusal n name period = object_of ((codes "name", string name) ∷ (codes "period", number (unsigned period)) ∷ refused n)
 
+-- one that tells a field
 abbrev pub field_refusal : ℕ → List ℕ → List ℕ → Data
 field_refusal n name field = object_of ((codes "field", string field) ∷ (codes "name", string name) ∷ refused n)
 
+-- one that tells a line of a schedule
 abbrev pub line_refusal : ℕ → List ℕ → ℕ → Data
 line_refusal n name line = object_of ((codes "line", number (unsigned line)) ∷ (codes "name", string name) ∷ refused n)
 
+-- one that tells the limits that are broken
 abbrev pub limits_refusal : ℕ → List ℕ → List Exceedance → Data
 limits_refusal n name broken =
     object_of ((codes "limits", array_of (map exceedance_json broken)) ∷ (codes "name", string name) ∷ refused n)
@@ -42,9 +47,11 @@ refusal_json (SegmentCount period) =
     period_refusal (refusal_number (SegmentCount period)) (refusal_name (SegmentCount period)) period
 refusal_json refusal = plain_refusal (refusal_number refusal) (refusal_name refusal)
 
+-- the compact text of a refusal of the book
 unfoldable pub refusal_text : Refusal → List ℕ
 refusal_text refusal = compact_text (refusal_json refusal)
 
+-- the fault of a pairing, a ground duty or an actual
 abbrev pub duty_fault_json : DutyFault → Data
 duty_fault_json (duty.BadTimes period) = period_refusal 16 (codes "BadTimes") period
 duty_fault_json (duty.BadChain period) = period_refusal 17 (codes "BadChain") period
@@ -59,5 +66,6 @@ fault_json (BadCsv line) = line_refusal 30 (codes "BadCsv") line
 fault_json (Duty fault) = duty_fault_json fault
 fault_json Memory = plain_refusal 91 (codes "Memory")
 
+-- the compact text of why a request isn't read
 unfoldable pub fault_reply : CodecFault → List ℕ
 fault_reply fault = compact_text (fault_json fault)

@@ -4,13 +4,13 @@ use Rattle.std.specs.Str.{is_utf8}
 use Rattle.serde_json.specs.Data.{Data}
 use Rattle.serde_json.specs.Find.{as_number, as_u64}
 use Rattle.duty.specs.Shape.{is_within}
-use Rattle.command.specs.declared.order.Order.{Order}
+use Rattle.command.specs.declared.instruction.Instruction.{Instruction}
 use Rattle.codec.specs.Bounds.{most_bytes}
-use Rattle.kept.specs.CommandJson.{and_then, field_of, read_object, read_order}
-use Rattle.kept.specs.Parts.{with_part}
-use Rattle.kept.specs.declared.fault.CodecFault.{CodecFault}
-use Rattle.kept.specs.declared.fault.CodecFault.TheVariants.{BadJson}
-use Rattle.kept.specs.declared.field.JsonField.TheVariants.{Body, Number}
+use Rattle.stored_json.specs.CommandJson.{and_then, field_of, read_object, read_instruction}
+use Rattle.stored_json.specs.Parts.{with_part}
+use Rattle.stored_json.specs.declared.fault.CodecFault.{CodecFault}
+use Rattle.stored_json.specs.declared.fault.CodecFault.TheVariants.{BadJson}
+use Rattle.stored_json.specs.declared.field.JsonField.TheVariants.{Body, Number}
 
 -- The number of a request. Of a number as serde_json reads it `as_u64` is what is written in digits alone and is under 2^64:
 -- one with a point or an exponent, as 1.0 and 1e0, is a float whatever its value, and so are -0 and a whole number that 64
@@ -25,8 +25,8 @@ abbrev pub read_body : List ℕ → Result Data CodecFault
 read_body body = if nat_le (length body) most_bytes && is_utf8 body then read_object body else Err (BadJson Body)
 
 -- the command of a request's body, under its number, which is looked at first
-abbrev pub read_request : List ℕ → Result (ℕ × Order) CodecFault
+abbrev pub read_request : List ℕ → Result (ℕ × Instruction) CodecFault
 read_request body =
     and_then (read_body body) (λ d.
     and_then (field_of read_number Number d) (λ number.
-    and_then (read_order d) (λ asked. Ok (number, asked))))
+    and_then (read_instruction d) (λ asked. Ok (number, asked))))

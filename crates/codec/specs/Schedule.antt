@@ -36,6 +36,7 @@ schedule_segments (p ∷ ps) = periods_segments p.id 1 p.periods ++ schedule_seg
 abbrev pub shows : Plan → Bool
 shows p = nat_lt 0 (length p.periods) && list_all (λ f. nat_lt 0 (length f.segments)) p.periods
 
+-- two pairings have different ids
 abbrev pub differ : Plan → Plan → Bool
 differ p q = not (bytes_eq p.id q.id)
 
@@ -63,6 +64,7 @@ Holds text segments =
     IsText text × (records : List (List (List ℕ))) × (names : List (List ℕ)) × HasRecords text (names ∷ records) × (is_header names ≡ true)
     × (map read_record records ≡ map Some segments)
 
+-- a plan that has no fault
 abbrev pub is_pairing : Plan → Bool
 is_pairing p = not (is_some (pairing_fault p))
 

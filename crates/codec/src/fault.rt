@@ -1,5 +1,7 @@
-use kept::Unread;
+//! The refusal of a schedule, by its record, before it becomes a refusal 30.
+//! Each record's: `tests/texts.py`.
 use std::alloc::{AllocError, AllocFailed};
+use stored_json::Unread;
 use values::MemoryFault;
 
 /// Why a schedule isn't read.
@@ -13,10 +15,10 @@ pub enum ScheduleFault {
 
 impl ScheduleFault {
     ghost use Rattle.std.specs.Prelude.{◌≡◌};
-    ghost use Rattle.kept.specs.declared.part.Unread.TheVariants as unread;
+    ghost use Rattle.stored_json.specs.declared.part.Unread.TheVariants as unread;
     ghost use Rattle.codec.specs.declared.fault.ScheduleFault.TheVariants.{Record, Memory};
 
-    /// The fault of a schedule of which this record isn't taken.
+    /// Names the fault of a schedule of which this record isn't taken.
     pub fn of_record(number: usize, why: Unread) -> ScheduleFault
         ensures memory { why ≡ unread.Memory → result ≡ Memory }
         ensures refused { why ≡ unread.Refused → result ≡ Record number }

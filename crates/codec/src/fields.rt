@@ -1,23 +1,24 @@
-//! Reading the fields of a record.
+//! Reading the fields of a record of a schedule. The definitions are in `specs/Records.antt`.
+//! Schedules with a fault each: `tests/texts.py`. Wrong bodies: `must-fail-more/`.
 ghost use Rattle.std.specs.Prelude.{◌≡◌, ◌⊎◌, true, false, Some, None, IfSome, IfOk, IfErr};
 ghost use Rattle.std.specs.Str.{is_utf8};
 ghost use Rattle.csv.specs.Records.{fields_of, field_at};
 ghost use Rattle.codec.specs.Records as spec;
-ghost use Rattle.kept.specs.declared.part.Unread.TheVariants.{Memory};
+ghost use Rattle.stored_json.specs.declared.part.Unread.TheVariants.{Memory};
 
 use crate::scheduled::{Place, ScheduledSegment};
 use csv::ByteRecord;
 use duty::{Id, Segment, Shaped};
-use kept::Unread;
 use std::alloc::Global;
 use std::str;
+use stored_json::Unread;
 use time117::Minute;
 use values::Text;
 
 /// The number of a record's fields.
 const FIELDS: usize = 9;
 
-/// Whether a record is the header.
+/// Returns whether a record is the header.
 pub fn is_header(row: &ByteRecord) -> bool
     ensures { result ≡ spec.is_header (fields_of row.now) }
 {
@@ -33,7 +34,7 @@ pub fn is_header(row: &ByteRecord) -> bool
         && is_at(row, 8, "in")
 }
 
-/// Whether the field at a place, counted from 0, is this one.
+/// Returns whether the field at a place, counted from 0, is this one.
 fn is_at(row: &ByteRecord, place: usize, name: &str) -> bool
     ensures { result ≡ spec.is_at place name.now (fields_of row.now) }
 {
@@ -43,10 +44,11 @@ fn is_at(row: &ByteRecord, place: usize, name: &str) -> bool
     }
 }
 
-/// What a record tells.
+/// Reads what a record tells.
 pub fn read_record(alloc: Global, row: &ByteRecord) -> Result<ScheduledSegment, Unread>
     ensures read { IfOk result (λ segment. spec.read_record (fields_of row.now) ≡ Some segment) }
-    ensures refused { IfErr result (λ unread. (unread ≡ Memory) ⊎ (spec.read_record (fields_of row.now) ≡ None)) }
+    ensures refused { IfErr result
+        (λ unread. (unread ≡ Memory) ⊎ (spec.read_record (fields_of row.now) ≡ None)) }
 {
     if row.len() != FIELDS {
         return Err(Unread::Refused);
@@ -56,10 +58,11 @@ pub fn read_record(alloc: Global, row: &ByteRecord) -> Result<ScheduledSegment, 
     Ok(ScheduledSegment { place, segment })
 }
 
-/// Where the segment of a record stands.
+/// Reads where the segment of a record stands.
 fn read_place(alloc: Global, row: &ByteRecord) -> Result<Place, Unread>
     ensures read { IfOk result (λ place. spec.read_place (fields_of row.now) ≡ Some place) }
-    ensures refused { IfErr result (λ unread. (unread ≡ Memory) ⊎ (spec.read_place (fields_of row.now) ≡ None)) }
+    ensures refused { IfErr result
+        (λ unread. (unread ≡ Memory) ⊎ (spec.read_place (fields_of row.now) ≡ None)) }
 {
     let period = period_at(row, 1)?;
     let report = time_at(row, 2)?;
@@ -72,10 +75,11 @@ fn read_place(alloc: Global, row: &ByteRecord) -> Result<Place, Unread>
     })
 }
 
-/// The segment of a record.
+/// Reads the segment of a record.
 fn read_segment(alloc: Global, row: &ByteRecord) -> Result<Segment, Unread>
     ensures read { IfOk result (λ segment. spec.read_segment (fields_of row.now) ≡ Some segment) }
-    ensures refused { IfErr result (λ unread. (unread ≡ Memory) ⊎ (spec.read_segment (fields_of row.now) ≡ None)) }
+    ensures refused { IfErr result
+        (λ unread. (unread ≡ Memory) ⊎ (spec.read_segment (fields_of row.now) ≡ None)) }
 {
     let block_out = time_at(row, 6)?;
     let block_in = time_at(row, 8)?;
@@ -88,11 +92,13 @@ fn read_segment(alloc: Global, row: &ByteRecord) -> Result<Segment, Unread>
     })
 }
 
-/// The text of the field at a place, counted from 0.
+/// Returns the text of the field at a place, counted from 0.
 #[tactic(auto, using(crate::proofs::Text::is_text, crate::proofs::Text::is_no_text))]
 fn field(row: &ByteRecord, place: usize) -> Result<&str, Unread>
-    ensures found { IfOk result (λ text. (field_at (fields_of row.now) place ≡ Some text.now) × (is_utf8 text.now ≡ true)) }
-    ensures missing { IfErr result (λ _. IfSome (field_at (fields_of row.now) place) (λ field. is_utf8 field ≡ false)) }
+    ensures found { IfOk result
+        (λ text. (field_at (fields_of row.now) place ≡ Some text.now) × (is_utf8 text.now ≡ true)) }
+    ensures missing { IfErr result
+        (λ _. IfSome (field_at (fields_of row.now) place) (λ field. is_utf8 field ≡ false)) }
 {
     let field = row.get(place).ok_or(Unread::Refused)?;
     match str::from_utf8(field) {
@@ -101,34 +107,40 @@ fn field(row: &ByteRecord, place: usize) -> Result<&str, Unread>
     }
 }
 
-/// The id, flight or airport in the field at a place.
+/// Reads the id, flight or airport in the field at a place.
 fn id_at<T: Shaped>(alloc: Global, row: &ByteRecord, place: usize) -> Result<Id<T>, Unread>
-    ensures read { IfOk result (λ id. spec.at place (spec.read_text T.has_shape) (fields_of row.now) ≡ Some id) }
-    ensures refused { IfErr result (λ unread. (unread ≡ Memory) ⊎ (spec.at place (spec.read_text T.has_shape) (fields_of row.now) ≡ None)) }
+    ensures read { IfOk result
+        (λ id. spec.at place (spec.read_text T.has_shape) (fields_of row.now) ≡ Some id) }
+    ensures refused { IfErr result (λ unread. (unread ≡ Memory)
+        ⊎ (spec.at place (spec.read_text T.has_shape) (fields_of row.now) ≡ None)) }
 {
     read_id(alloc, field(row, place)?)
 }
 
-/// The instant in the field at a place.
+/// Reads the instant in the field at a place.
 fn time_at(row: &ByteRecord, place: usize) -> Result<Minute, Unread>
-    ensures read { IfOk result (λ minute. spec.at place spec.read_time (fields_of row.now) ≡ Some minute) }
+    ensures read { IfOk result
+        (λ minute. spec.at place spec.read_time (fields_of row.now) ≡ Some minute) }
     ensures refused { IfErr result (λ _. spec.at place spec.read_time (fields_of row.now) ≡ None) }
 {
     read_time(field(row, place)?)
 }
 
-/// The number of a period in the field at a place.
+/// Reads the number of a period in the field at a place.
 fn period_at(row: &ByteRecord, place: usize) -> Result<usize, Unread>
-    ensures read { IfOk result (λ period. spec.at place spec.read_period (fields_of row.now) ≡ Some period) }
-    ensures refused { IfErr result (λ _. spec.at place spec.read_period (fields_of row.now) ≡ None) }
+    ensures read { IfOk result
+        (λ period. spec.at place spec.read_period (fields_of row.now) ≡ Some period) }
+    ensures refused { IfErr result
+        (λ _. spec.at place spec.read_period (fields_of row.now) ≡ None) }
 {
     read_period(field(row, place)?)
 }
 
-/// An id, a flight or an airport.
+/// Reads an id, a flight or an airport.
 fn read_id<T: Shaped>(alloc: Global, text: &str) -> Result<Id<T>, Unread>
     ensures read { IfOk result (λ id. spec.read_text T.has_shape text.now ≡ Some id) }
-    ensures refused { IfErr result (λ unread. (unread ≡ Memory) ⊎ (spec.read_text T.has_shape text.now ≡ None)) }
+    ensures refused { IfErr result
+        (λ unread. (unread ≡ Memory) ⊎ (spec.read_text T.has_shape text.now ≡ None)) }
 {
     let id = Id::new(Text::new(String::from_str(alloc, text)?));
     if !id.has_shape() {
@@ -144,7 +156,7 @@ fn read_time(text: &str) -> Result<Minute, Unread>
     Minute::read(text.as_bytes()).or(Err(Unread::Refused))
 }
 
-/// The number of a period.
+/// Reads the number of a period.
 fn read_period(text: &str) -> Result<usize, Unread>
     ensures read { IfOk result (λ period. spec.read_period text.now ≡ Some period) }
     ensures refused { IfErr result (λ _. spec.read_period text.now ≡ None) }

@@ -16,8 +16,10 @@ mod schedules;
 /// The most bytes of a request's body, and of a schedule.
 pub const MOST_BYTES: usize = 1_048_576;
 
-pub use kept::{CodecFault, JsonField, canonical, read_canonical, read_reply, reply_to_json};
 pub use refusal_text::{fault_to_json, refusal_to_json};
 pub use request_number::RequestNumber;
 pub use requests::command_of_json;
 pub use schedules::schedule_of_csv;
+pub use stored_json::{
+    CodecFault, JsonField, canonical, read_canonical, read_reply, reply_to_json,
+};

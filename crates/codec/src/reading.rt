@@ -1,4 +1,6 @@
-//! Reading a schedule.
+//! Reading a schedule: the text, its records, their segments, and the pairings. What is read is `IsSchedule`, and what
+//! is at fault `IsAtFault` (`specs/Schedule.antt`).
+//! Schedules with a fault each: `tests/texts.py`. Wrong bodies: `must-fail/`.
 ghost use Rattle.std.specs.Prelude.{◌≡◌, ◌⊎◌, ◌∷◌, ℕ, List, true, Some, map, IfOk, IfErr};
 ghost use Rattle.csv.specs.Reading.{AreRecords, default_config, strip_bom};
 ghost use Rattle.csv.specs.Records.{fields_of};
@@ -17,7 +19,7 @@ use duty::Pairing;
 use std::alloc::Global;
 use values::MemoryFault;
 
-/// The text without a byte order mark at its start.
+/// Drops a byte order mark at the start of the text.
 #[tactic(auto, using(crate::proofs::Marks::strip_marked, crate::proofs::Marks::strip_short, crate::proofs::Marks::strip_unmarked))]
 fn without_mark(text: &[u8]) -> &[u8]
     ensures { result.now ≡ strip_bom text.now }
@@ -29,7 +31,7 @@ fn without_mark(text: &[u8]) -> &[u8]
     }
 }
 
-/// The text that has the records. One byte order mark may stand before it.
+/// Returns the text that has the records. One byte order mark may stand before it.
 #[tactic(auto, using(crate::proofs::Marks::strip_as_long))]
 fn unmarked(text: &[u8]) -> Result<&[u8], ScheduleFault>
     ensures text { IfOk result (λ rest. (rest.now ≡ strip_bom text.now) × IsText text.now) }
@@ -45,9 +47,10 @@ fn unmarked(text: &[u8]) -> Result<&[u8], ScheduleFault>
     Ok(rest)
 }
 
-/// The records of a text, one byte order mark at its start aside.
+/// Reads the records of a text, one byte order mark at its start aside.
 fn records(alloc: Global, text: &[u8]) -> Result<Vec<ByteRecord>, MemoryFault>
-    ensures { IfOk result (λ records. AreRecords default_config StartRecord (strip_bom text.now) (map fields_of records.items)) }
+    ensures { IfOk result (λ records.
+        AreRecords default_config StartRecord (strip_bom text.now) (map fields_of records.items)) }
 {
     let reader = ReaderBuilder::new()
         .has_headers(false)
@@ -63,13 +66,16 @@ fn records(alloc: Global, text: &[u8]) -> Result<Vec<ByteRecord>, MemoryFault>
     Ok(records)
 }
 
-/// The segments of a schedule's records, the first of which is the header.
+/// Reads the segments of a schedule's records, the first of which is the header.
 fn segments_of(
     alloc: Global,
     records: &[ByteRecord],
 ) -> Result<Vec<ScheduledSegment>, ScheduleFault>
-    ensures read { IfOk result (λ segments. (names : List (List ℕ)) × (rows : List (List (List ℕ))) × (map fields_of records.now ≡ names ∷ rows) × (spec.is_header names ≡ true) × (map spec.read_record rows ≡ map Some segments.items)) }
-    ensures refused { IfErr result (λ fault. (fault ≡ Memory) ⊎ ((n : ℕ) × (fault ≡ Record n) × (spec.first_unread (map fields_of records.now) ≡ Some n))) }
+    ensures read { IfOk result (λ segments. (names : List (List ℕ)) × (rows : List (List (List ℕ)))
+        × (map fields_of records.now ≡ names ∷ rows) × (spec.is_header names ≡ true)
+        × (map spec.read_record rows ≡ map Some segments.items)) }
+    ensures refused { IfErr result (λ fault. (fault ≡ Memory) ⊎ ((n : ℕ) × (fault ≡ Record n)
+        × (spec.first_unread (map fields_of records.now) ≡ Some n))) }
 {
     let Some((first, rest)) = records.split_first() else {
         return Err(ScheduleFault::Record(1));
@@ -80,10 +86,12 @@ fn segments_of(
     read_all(alloc, rest)
 }
 
-/// What the records after the header tell.
+/// Reads what the records after the header tell.
 fn read_all(alloc: Global, rows: &[ByteRecord]) -> Result<Vec<ScheduledSegment>, ScheduleFault>
-    ensures read { IfOk result (λ segments. map spec.read_record (map fields_of rows.now) ≡ map Some segments.items) }
-    ensures refused { IfErr result (λ fault. (fault ≡ Memory) ⊎ ((n : ℕ) × (fault ≡ Record n) × (spec.first_unread_after (map fields_of rows.now) ≡ Some n))) }
+    ensures read { IfOk result
+        (λ segments. map spec.read_record (map fields_of rows.now) ≡ map Some segments.items) }
+    ensures refused { IfErr result (λ fault. (fault ≡ Memory) ⊎ ((n : ℕ) × (fault ≡ Record n)
+        × (spec.first_unread_after (map fields_of rows.now) ≡ Some n))) }
 {
     let mut segments = Vec::new(alloc);
     for (index, row) in rows.iter().enumerate() {
@@ -95,12 +103,14 @@ fn read_all(alloc: Global, rows: &[ByteRecord]) -> Result<Vec<ScheduledSegment>,
     Ok(segments)
 }
 
-/// The pairings of a schedule in CSV. Refused is the record at fault, counted from the header, which is record 1: 0 for a
-/// text of more than 1,048,576 bytes; 1 for a second byte order mark, or a header that isn't there or isn't this one; or the
-/// first that isn't read; then the first that may not stand where it does; then the first of a pairing that is none.
+/// Reads the pairings of a schedule in CSV. Refused is the record at fault, counted from the header, which is record 1:
+/// 0 for a text of more than 1,048,576 bytes; 1 for a second byte order mark, or a header that isn't there or isn't
+/// this one; or the first that isn't read; then the first that may not stand where it does; then the first of a pairing
+/// that is none.
 pub fn schedule_of_csv(alloc: Global, text: &[u8]) -> Result<Vec<Pairing>, ScheduleFault>
     ensures read { IfOk result (λ pairings. IsSchedule text.now pairings.items) }
-    ensures refused { IfErr result (λ fault. (fault ≡ Memory) ⊎ ((n : ℕ) × (fault ≡ Record n) × IsAtFault text.now n)) }
+    ensures refused { IfErr result
+        (λ fault. (fault ≡ Memory) ⊎ ((n : ℕ) × (fault ≡ Record n) × IsAtFault text.now n)) }
 {
     let records = records(alloc, unmarked(text)?)?;
     let segments = segments_of(alloc, &records)?;

@@ -1,17 +1,18 @@
-//! Refusals in JSON.
+//! Refusals in JSON. The definitions are in `specs/RefusalText.antt`.
+//! Refusals of `do`: `tests/answers.py` and `tests/texts.py`. Wrong bodies: `must-fail/`.
 ghost use Rattle.std.specs.Prelude.{◌≡◌, string_bytes, IfOk};
 ghost use Rattle.serde_json.specs.View.{view};
 ghost use Rattle.codec.specs.RefusalText as spec;
 
 use command::{Exceedance, Refusal};
 use duty::DutyFault;
-use kept::{CodecFault, Scalar, object_of, object_with_list};
 use serde_json::Value;
 use std::alloc::Global;
+use stored_json::{CodecFault, Scalar, object_of, object_with_list};
 use values::MemoryFault;
 
-/// A refusal of the book in JSON, as `{"name":"SeatTaken","refusal":6,"result":"refused"}`: that of 12 with its list `limits`,
-/// each as `{"crew":"C1","section":"117.13(a)"}`, and that of 19 with its `period`.
+/// Writes a refusal of the book in JSON, as `{"name":"SeatTaken","refusal":6,"result":"refused"}`: that of 12 with its
+/// list `limits`, each as `{"crew":"C1","section":"117.13(a)"}`, and that of 19 with its `period`.
 #[tactic(auto, unfolding(crate::specs::RefusalText::refusal_text), using(crate::proofs::RefusalLemmas::refusal_no_float))]
 pub fn refusal_to_json(alloc: Global, refusal: &Refusal) -> Result<String, MemoryFault>
     ensures { IfOk result (λ text. string_bytes text ≡ spec.refusal_text refusal.now) }
@@ -20,9 +21,8 @@ pub fn refusal_to_json(alloc: Global, refusal: &Refusal) -> Result<String, Memor
     Ok(value.to_string(alloc)?)
 }
 
-/// Why a text isn't read, in JSON: 16, 17 and 19 with their `period`, 18 and 31 with their `field`, 30 with its
-/// `line`; want of memory as
-/// `{"name":"Memory","refusal":91,"result":"refused"}`.
+/// Writes in JSON why a text isn't read: 16, 17 and 19 with their `period`, 18 and 31 with their `field`, 30 with its
+/// `line`; want of memory as `{"name":"Memory","refusal":91,"result":"refused"}`.
 #[tactic(auto, unfolding(crate::specs::RefusalText::fault_reply), using(crate::proofs::RefusalLemmas::fault_no_float))]
 pub fn fault_to_json(alloc: Global, fault: CodecFault) -> Result<String, MemoryFault>
     ensures { IfOk result (λ text. string_bytes text ≡ spec.fault_reply fault) }

@@ -1,7 +1,9 @@
-use kept::{Part, Unread};
+//! The number that a client gives a request, under which its command is done once.
+//! Numbers out of range: `tests/texts.py`. Wrong bodies: `must-fail-more/`.
 use serde_json::Value;
 use std::alloc::Global;
 use std::marker::Model;
+use stored_json::{Part, Unread};
 
 /// The number of a request, from 1 to 9,223,372,036,854,775,807.
 #[derive(Clone, Copy, Debug, PartialEq, Eq)]
@@ -25,9 +27,10 @@ impl RequestNumber {
     ghost use Rattle.std.specs.Prelude.{◌≡◌, ◌≤◌, Some, None, if◌then◌else◌};
     ghost use Rattle.duty.specs.Shape.{is_within};
 
-    /// The number, where it is from 1 to 9,223,372,036,854,775,807.
+    /// Takes the number, if it is from 1 to 9,223,372,036,854,775,807.
     pub fn new(number: u64) -> Option<RequestNumber>
-        ensures { result ≡ (if is_within 1 9_223_372_036_854_775_807 number then Some number else None) }
+        ensures { result
+            ≡ (if is_within 1 9_223_372_036_854_775_807 number then Some number else None) }
     {
         if (1..=9_223_372_036_854_775_807).contains(&number) {
             Some(RequestNumber { number })
@@ -36,7 +39,7 @@ impl RequestNumber {
         }
     }
 
-    /// From 1 to 9,223,372,036,854,775,807.
+    /// Returns the number, from 1 to 9,223,372,036,854,775,807.
     pub fn get(self) -> u64
         ensures number { result ≡ self }
         ensures low { 1 ≤ result }

@@ -1,3 +1,4 @@
+//! A record of a schedule: a segment, and where it stands.
 use duty::{PairingId, Segment};
 use time117::Minute;
 

@@ -1,5 +1,5 @@
 pub mod Keys
-pub mod OrderSame
-pub mod Orders
+pub mod InstructionSame
+pub mod Instructions
 pub mod SeatSame
 pub mod Texts

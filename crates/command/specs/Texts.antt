@@ -6,10 +6,12 @@ use Rattle.command.specs.declared.member.Seat.TheVariants.{Captain, FirstOfficer
 use Rattle.command.specs.declared.refusal.Refusal.{Refusal}
 use Rattle.command.specs.declared.refusal.Refusal.TheVariants.{NumberUsed, NoSuchCrew, CrewExists, NoSuchPairing, PairingExists, SeatTaken, WrongSeat, NotAssigned, PairingCrewed, Flown, Overlap, Limits, NoSuchDuty, GroundExists, NoSuchGround, SegmentCount}
 
+-- a seat as it is printed
 abbrev pub seat_text : Seat → List ℕ
 seat_text Captain = codes "captain"
 seat_text FirstOfficer = codes "first officer"
 
+-- the number of a refusal
 abbrev pub refusal_number : Refusal → ℕ
 refusal_number NumberUsed = 1
 refusal_number NoSuchCrew = 2
@@ -28,6 +30,7 @@ refusal_number GroundExists = 14
 refusal_number NoSuchGround = 15
 refusal_number (SegmentCount _) = 19
 
+-- the name of a refusal
 abbrev pub refusal_name : Refusal → List ℕ
 refusal_name NumberUsed = codes "NumberUsed"
 refusal_name NoSuchCrew = codes "NoSuchCrew"

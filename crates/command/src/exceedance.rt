@@ -1,7 +1,8 @@
+//! Exceedances, which an actual records, and the reply that tells of them.
 use duty::CrewId;
 use limits::Section;
 use std::alloc::Global;
-use values::{Copied, Items, MemoryFault};
+use values::{MemoryFault, Sequence, TryClone};
 
 /// A limit that a member's duties break.
 #[derive(PartialEq, Eq, Drop)]
@@ -10,10 +11,10 @@ pub struct Exceedance {
     pub section: Section,
 }
 
-impl Copied for Exceedance {
-    fn copy(&self, alloc: Global) -> Result<Exceedance, MemoryFault> {
+impl TryClone for Exceedance {
+    fn try_clone(&self, alloc: Global) -> Result<Exceedance, MemoryFault> {
         Ok(Exceedance {
-            crew: self.crew.copy(alloc)?,
+            crew: self.crew.try_clone(alloc)?,
             section: self.section,
         })
     }
@@ -23,13 +24,13 @@ impl Copied for Exceedance {
 /// of [`Section`].
 #[derive(PartialEq, Eq, Drop)]
 pub struct Reply {
-    pub exceedances: Items<Exceedance>,
+    pub exceedances: Sequence<Exceedance>,
 }
 
-impl Copied for Reply {
-    fn copy(&self, alloc: Global) -> Result<Reply, MemoryFault> {
+impl TryClone for Reply {
+    fn try_clone(&self, alloc: Global) -> Result<Reply, MemoryFault> {
         Ok(Reply {
-            exceedances: self.exceedances.copy(alloc)?,
+            exceedances: self.exceedances.try_clone(alloc)?,
         })
     }
 }

@@ -1,9 +1,12 @@
+//! Keys: the number of a request, and the part of it. Under one key one command is done, once.
+//! Numbers out of range: `tests/texts.py`; both ends: `tests/transcripts/import_numbers.txt`. Wrong bodies:
+//! `must-fail-more/`.
 ghost use Rattle.std.specs.Prelude.{◌≡◌, ◌≤◌};
 ghost use Rattle.command.specs.Keys.{KeyParts};
 
 use std::alloc::Global;
 use std::marker::Model;
-use values::{Copied, MemoryFault, Named};
+use values::{MemoryFault, OrdKey, TryClone};
 
 /// What a command comes under: the number of its request, from 1 to 9,223,372,036,854,775,807, and its part. A single
 /// command has part 0; part i of an import is its i-th pairing, of at most 10,000. Keys are ordered by number, then part.
@@ -21,13 +24,14 @@ impl Model for Key {
 
     ghost view = { λ k. record { number = k.number; part = k.part } };
 
-    ghost invariant = { λ k. (1 ≤ k.number) × (k.number ≤ 9_223_372_036_854_775_807) × (k.part ≤ 10_000) };
+    ghost invariant = { λ k. (1 ≤ k.number) × (k.number ≤ 9_223_372_036_854_775_807)
+        × (k.part ≤ 10_000) };
 
     ghost inverse = { λ k. record { number = k.number; part = k.part } };
 }
 
 impl Key {
-    /// The key of a request's part.
+    /// Makes the key of a request's part.
     pub fn new(number: u64, part: u16) -> Key
         requires low { 1 ≤ number }
         requires high { number ≤ 9_223_372_036_854_775_807 }
@@ -37,7 +41,7 @@ impl Key {
         Key { number, part }
     }
 
-    /// The number of the request.
+    /// Returns the number of the request.
     pub fn number(self) -> u64
         ensures number { result ≡ self.number }
         ensures low { 1 ≤ result }
@@ -46,7 +50,7 @@ impl Key {
         self.number
     }
 
-    /// The part of an import, from 1, or 0 of a single command.
+    /// Returns the part of an import, from 1, or 0 of a single command.
     pub fn part(self) -> u16
         ensures part { result ≡ self.part }
         ensures high { result ≤ 10_000 }
@@ -55,7 +59,7 @@ impl Key {
     }
 }
 
-impl Named for Key {
+impl OrdKey for Key {
     ghost use Rattle.command.specs.Keys.{key_name, keys_order};
 
     ghost name = { key_name };
@@ -63,8 +67,8 @@ impl Named for Key {
     ghost same_order = { keys_order };
 }
 
-impl Copied for Key {
-    fn copy(&self, _alloc: Global) -> Result<Key, MemoryFault> {
+impl TryClone for Key {
+    fn try_clone(&self, _alloc: Global) -> Result<Key, MemoryFault> {
         Ok(*self)
     }
 }

@@ -1,6 +1,7 @@
+//! Members of the crew, and the two kinds of seats.
 use std::alloc::Global;
 use std::fmt;
-use values::{Copied, Exact, MemoryFault, Text};
+use values::{LawfulEq, MemoryFault, Text, TryClone};
 
 /// A seat of a pairing, and the kind of a member, who takes the seat of that kind.
 #[derive(Clone, Copy, Debug, PartialEq, Eq, PartialOrd, Ord)]
@@ -24,7 +25,7 @@ impl fmt::Display for Seat {
     }
 }
 
-impl Exact for Seat {
+impl LawfulEq for Seat {
     ghost use Rattle.command.specs.SeatSame.{seat_same};
 
     ghost exact = { seat_same };
@@ -37,20 +38,20 @@ pub struct Member {
     pub name: Text,
 }
 
-impl Copied for Member {
-    fn copy(&self, alloc: Global) -> Result<Member, MemoryFault> {
+impl TryClone for Member {
+    fn try_clone(&self, alloc: Global) -> Result<Member, MemoryFault> {
         Ok(Member {
             seat: self.seat,
-            name: self.name.copy(alloc)?,
+            name: self.name.try_clone(alloc)?,
         })
     }
 }
 
-impl Exact for Member {
+impl LawfulEq for Member {
     ghost use Rattle.std.specs.Prelude.{refl};
     ghost use Rattle.std.proofs.lemmas.Slice.Eq.{bytes_eq-Decides};
     ghost use Rattle.values.specs.Same.{both_same, parts_same};
-    ghost use Rattle.command.specs.contracts.member.SeatExact.TheImpl.Laws.{exact-law};
+    ghost use Rattle.command.specs.contracts.member.SeatLawfulEq.TheImpl.Laws.{exact-law};
 
     ghost exact = { λ a b. parts_same
         (λ m. (m.seat, m.name)) (λ p. record { seat = p.0; name = p.1 }) (λ _. refl) a b _

@@ -1,10 +1,12 @@
+//! The refusals of the book, 1 to 15 and 19, in the order in which they are looked for.
+//! Worked rows of each: `tests/answers.py`. Wrong bodies: `must-fail-more/`.
 ghost use Rattle.std.specs.Prelude.{◌≡◌};
 ghost use Rattle.command.specs.Texts.{refusal_number, refusal_name};
 
 use crate::exceedance::Exceedance;
 use std::alloc::Global;
 use std::fmt;
-use values::{Copied, Items, MemoryFault};
+use values::{MemoryFault, Sequence, TryClone};
 
 /// Why the book refuses a command. It is printed as the program prints a refusal: its number, its name, and the period
 /// where there is one.
@@ -33,7 +35,7 @@ pub enum Refusal {
     /// A minute of the new duties is a duty minute of the member's others.
     Overlap,
     /// The limits that the new duties break, with the member each, never none.
-    Limits(Items<Exceedance>),
+    Limits(Sequence<Exceedance>),
     /// The pairing has no such period.
     NoSuchDuty,
     /// The ground duty's id is there.
@@ -45,7 +47,7 @@ pub enum Refusal {
 }
 
 impl Refusal {
-    /// The refusal's number.
+    /// Returns the refusal's number.
     pub fn number(&self) -> u8
         ensures { result ≡ refusal_number self.now }
     {
@@ -69,7 +71,7 @@ impl Refusal {
         }
     }
 
-    /// The refusal's name.
+    /// Returns the refusal's name.
     pub fn name(&self) -> &'static str
         ensures { result.now ≡ refusal_name self.now }
     {
@@ -108,8 +110,8 @@ impl fmt::Display for Refusal {
     }
 }
 
-impl Copied for Refusal {
-    fn copy(&self, alloc: Global) -> Result<Refusal, MemoryFault> {
+impl TryClone for Refusal {
+    fn try_clone(&self, alloc: Global) -> Result<Refusal, MemoryFault> {
         Ok(match self {
             Refusal::NumberUsed => Refusal::NumberUsed,
             Refusal::NoSuchCrew => Refusal::NoSuchCrew,
@@ -122,7 +124,7 @@ impl Copied for Refusal {
             Refusal::PairingCrewed => Refusal::PairingCrewed,
             Refusal::Flown => Refusal::Flown,
             Refusal::Overlap => Refusal::Overlap,
-            Refusal::Limits(broken) => Refusal::Limits(broken.copy(alloc)?),
+            Refusal::Limits(broken) => Refusal::Limits(broken.try_clone(alloc)?),
             Refusal::NoSuchDuty => Refusal::NoSuchDuty,
             Refusal::GroundExists => Refusal::GroundExists,
             Refusal::NoSuchGround => Refusal::NoSuchGround,

@@ -1,4 +1,5 @@
-//! The words after the program's name, read by `clap`.
+//! The words after the program's name, read by `clap`. The definition is `command_line` (`specs/CommandLine.antt`).
+//! Command lines and help: `tests/program.sh`. Wrong bodies: `must-fail/`.
 ghost use Rattle.std.specs.Prelude.{◌≡◌, ◌∷◌, ◌⊎◌, ℕ, IfOk, IsErrAnd, IsSomeAnd, List, MatchResult, None, Option};
 ghost use Rattle.std.specs.Prelude.{Some, [], codes, false, is_some, map, option_and_then, string_bytes, true};
 ghost use Rattle.std.specs.List.{list_all};
@@ -159,8 +160,12 @@ YYYY-MM-DDThh:mmZ such as 2025-06-10T16:30Z 2025-06-10T20:30Z";
 /// Reads `words`, the command line after the program's name. An error is `clap`'s own for these
 /// words: a mistake, a call for help or the version, or want of memory.
 pub fn action(alloc: Global, words: &[&str]) -> Result<Action, Error>
-    ensures ok { IfOk result (λ a. IsSomeAnd (subcommand_of command_line (texts words.now)) (States a)) }
+    // By the definition of the command line: what is asked for, or the mistake.
+    ensures ok { IfOk result
+        (λ a. IsSomeAnd (subcommand_of command_line (texts words.now)) (States a)) }
     ensures refused { FailsBy (fault_of command_line (texts words.now)) result }
+
+    // What the words of each subcommand ask for, where none of them begins as an option does.
     ensures duty { (zone report time : Text) (times : List Text)
         → texts words.now ≡ duty_words zone report time times
         → list_all is_plain (zone ∷ report ∷ time ∷ times) ≡ true
@@ -182,13 +187,16 @@ pub fn action(alloc: Global, words: &[&str]) -> Result<Action, Error>
     ensures pairing { (file id : Text) → texts words.now ≡ pairing_words file id
         → list_all is_plain (file ∷ id ∷ []) ≡ true
         → MatchResult result (IsPairing file id) (λ e. kind_of e ≡ OutOfMemory) }
-    ensures exceedances { (file : Text) → texts words.now ≡ exceedances_words file → is_plain file ≡ true
+    ensures exceedances { (file : Text) → texts words.now ≡ exceedances_words file
+        → is_plain file ≡ true
         → MatchResult result (IsExceedances file) (λ e. kind_of e ≡ OutOfMemory) }
     ensures serve { (file port : Text) (count : Option Text) (p n : ℕ)
         → texts words.now ≡ serve_words file port count
         → list_all is_plain (file ∷ port ∷ []) ≡ true → option_map_or is_plain count true ≡ true
         → number_up_to last_port port ≡ Some p → asked_connections count ≡ Some n
         → MatchResult result (IsServe file p n) (λ e. kind_of e ≡ OutOfMemory) }
+
+    // Numbers out of their ranges.
     ensures import_number { (file number : Text)
         → texts words.now ≡ import_words file number
         → list_all is_plain (file ∷ number ∷ []) ≡ true → request_number number ≡ None
@@ -202,16 +210,17 @@ pub fn action(alloc: Global, words: &[&str]) -> Result<Action, Error>
     read(alloc, words)
 }
 
-/// The same, as `clap` states it alone.
+/// Reads the same, as `clap` states it alone.
 fn read(alloc: Global, words: &[&str]) -> Result<Action, Error>
-    ensures ok { IfOk result (λ a. IsSomeAnd (subcommand_of command_line (texts words.now)) (States a)) }
+    ensures ok { IfOk result
+        (λ a. IsSomeAnd (subcommand_of command_line (texts words.now)) (States a)) }
     ensures refused { FailsBy (fault_of command_line (texts words.now)) result }
 {
     let matches = command(alloc)?.try_get_matches_from(words)?;
     Ok(action_of(alloc, &matches)?)
 }
 
-/// The whole command line.
+/// Makes the whole command line.
 fn command<'a>(alloc: Global) -> Result<Command<'a>, AllocError>
     ensures { IfOk result (IsCommand command_line) }
 {
@@ -226,7 +235,7 @@ fn command<'a>(alloc: Global) -> Result<Command<'a>, AllocError>
         .subcommand(serve_command(alloc)?)
 }
 
-/// The program without its subcommands.
+/// Makes the program without its subcommands.
 fn bare_command<'a>(alloc: Global) -> Result<Command<'a>, AllocError>
     ensures { IfOk result (IsCommand bare) }
 {
@@ -241,7 +250,7 @@ fn bare_command<'a>(alloc: Global) -> Result<Command<'a>, AllocError>
         .bin_name("rosterbook")
 }
 
-/// The subcommand `duty`.
+/// Makes the subcommand `duty`.
 fn duty_command<'a>(alloc: Global) -> Result<Command<'a>, AllocError>
     ensures { IfOk result (IsCommand duty) }
 {
@@ -258,7 +267,7 @@ fn duty_command<'a>(alloc: Global) -> Result<Command<'a>, AllocError>
         .arg(times)
 }
 
-/// The subcommand `init`.
+/// Makes the subcommand `init`.
 fn init_command<'a>(alloc: Global) -> Result<Command<'a>, AllocError>
     ensures { IfOk result (IsCommand init) }
 {
@@ -271,7 +280,7 @@ fn init_command<'a>(alloc: Global) -> Result<Command<'a>, AllocError>
         .arg(zone)
 }
 
-/// The subcommand `do`.
+/// Makes the subcommand `do`.
 fn do_command<'a>(alloc: Global) -> Result<Command<'a>, AllocError>
     ensures { IfOk result (IsCommand do_one) }
 {
@@ -282,7 +291,7 @@ fn do_command<'a>(alloc: Global) -> Result<Command<'a>, AllocError>
         .arg(file)
 }
 
-/// The subcommand `import`.
+/// Makes the subcommand `import`.
 fn import_command<'a>(alloc: Global) -> Result<Command<'a>, AllocError>
     ensures { IfOk result (IsCommand import) }
 {
@@ -297,7 +306,7 @@ fn import_command<'a>(alloc: Global) -> Result<Command<'a>, AllocError>
         .arg(number)
 }
 
-/// The subcommand `roster`.
+/// Makes the subcommand `roster`.
 fn roster_command<'a>(alloc: Global) -> Result<Command<'a>, AllocError>
     ensures { IfOk result (IsCommand roster) }
 {
@@ -310,7 +319,7 @@ fn roster_command<'a>(alloc: Global) -> Result<Command<'a>, AllocError>
         .arg(crew)
 }
 
-/// The subcommand `pairing`.
+/// Makes the subcommand `pairing`.
 fn pairing_command<'a>(alloc: Global) -> Result<Command<'a>, AllocError>
     ensures { IfOk result (IsCommand pairing) }
 {
@@ -323,7 +332,7 @@ fn pairing_command<'a>(alloc: Global) -> Result<Command<'a>, AllocError>
         .arg(id)
 }
 
-/// The subcommand `exceedances`.
+/// Makes the subcommand `exceedances`.
 fn exceedances_command<'a>(alloc: Global) -> Result<Command<'a>, AllocError>
     ensures { IfOk result (IsCommand exceedances) }
 {
@@ -334,7 +343,7 @@ fn exceedances_command<'a>(alloc: Global) -> Result<Command<'a>, AllocError>
         .arg(file)
 }
 
-/// The subcommand `serve`.
+/// Makes the subcommand `serve`.
 fn serve_command<'a>(alloc: Global) -> Result<Command<'a>, AllocError>
     ensures { IfOk result (IsCommand serve) }
 {
@@ -347,7 +356,7 @@ fn serve_command<'a>(alloc: Global) -> Result<Command<'a>, AllocError>
         .arg(connections_option(alloc))
 }
 
-/// The port of `serve`.
+/// Makes the argument for the port of `serve`.
 fn port_argument<'a>(alloc: Global) -> Arg<'a>
     ensures rule { rule_of result ≡ wanted_number last_port (codes "port") }
     ensures local { result.global ≡ false }
@@ -357,7 +366,7 @@ fn port_argument<'a>(alloc: Global) -> Arg<'a>
         .value_parser(value_parser!(u64).range(1..=65_535))
 }
 
-/// How many connections `serve` takes: 1,000,000 where the option isn't given.
+/// Makes the option for how many connections `serve` takes: 1,000,000 where it isn't given.
 fn connections_option<'a>(alloc: Global) -> Arg<'a>
     ensures rule { rule_of result ≡ optional_connections }
     ensures local { result.global ≡ false }
@@ -370,7 +379,7 @@ fn connections_option<'a>(alloc: Global) -> Arg<'a>
         .value_parser(value_parser!(u64).range(1..=1_000_000))
 }
 
-/// An argument by its place that must be there.
+/// Makes an argument by its place that must be there.
 fn positional<'a>(alloc: Global, id: &'a str, value_name: &'a str) -> Arg<'a>
     ensures rule { rule_of result ≡ wanted id.entry.now }
     ensures local { result.global ≡ false }
@@ -378,7 +387,7 @@ fn positional<'a>(alloc: Global, id: &'a str, value_name: &'a str) -> Arg<'a>
     Arg::new(alloc, id).value_name(value_name).required(true)
 }
 
-/// The action that the subcommand of the matches asks for.
+/// Reads the action that the subcommand of the matches asks for.
 fn action_of(alloc: Global, matches: &ArgMatches<'_>) -> Result<Action, AllocError>
     requires { HasArguments (subcommand_rows_of matches.now) }
     ensures { IfOk result (λ a. IsSomeAnd (subcommand_rows_of matches.now) (States a)) }
@@ -397,7 +406,7 @@ fn action_of(alloc: Global, matches: &ArgMatches<'_>) -> Result<Action, AllocErr
     }
 }
 
-/// The arguments of `duty`.
+/// Reads the arguments of `duty`.
 fn duty_of(alloc: Global, matches: &ArgMatches<'_>) -> Result<Action, AllocError>
     requires { HasDuty (rows_of (found_of matches.now)) }
     ensures { IfOk result (λ a. States a (codes "duty", rows_of (found_of matches.now))) }
@@ -409,7 +418,7 @@ fn duty_of(alloc: Global, matches: &ArgMatches<'_>) -> Result<Action, AllocError
     })
 }
 
-/// The arguments of `init`.
+/// Reads the arguments of `init`.
 fn init_of(alloc: Global, matches: &ArgMatches<'_>) -> Result<Action, AllocError>
     requires { HasInit (rows_of (found_of matches.now)) }
     ensures { IfOk result (λ a. States a (codes "init", rows_of (found_of matches.now))) }
@@ -419,7 +428,7 @@ fn init_of(alloc: Global, matches: &ArgMatches<'_>) -> Result<Action, AllocError
     Ok(Action::Init { file, zone })
 }
 
-/// The arguments of `do`.
+/// Reads the arguments of `do`.
 fn do_of(alloc: Global, matches: &ArgMatches<'_>) -> Result<Action, AllocError>
     requires { HasDo (rows_of (found_of matches.now)) }
     ensures { IfOk result (λ a. States a (codes "do", rows_of (found_of matches.now))) }
@@ -428,7 +437,7 @@ fn do_of(alloc: Global, matches: &ArgMatches<'_>) -> Result<Action, AllocError>
     Ok(Action::Do { file })
 }
 
-/// The arguments of `import`.
+/// Reads the arguments of `import`.
 fn import_of(alloc: Global, matches: &ArgMatches<'_>) -> Result<Action, AllocError>
     requires { HasImport (rows_of (found_of matches.now)) }
     ensures { IfOk result (λ a. States a (codes "import", rows_of (found_of matches.now))) }
@@ -438,7 +447,7 @@ fn import_of(alloc: Global, matches: &ArgMatches<'_>) -> Result<Action, AllocErr
     Ok(Action::Import { file, number })
 }
 
-/// The arguments of `roster`.
+/// Reads the arguments of `roster`.
 fn roster_of(alloc: Global, matches: &ArgMatches<'_>) -> Result<Action, AllocError>
     requires { HasRoster (rows_of (found_of matches.now)) }
     ensures { IfOk result (λ a. States a (codes "roster", rows_of (found_of matches.now))) }
@@ -448,7 +457,7 @@ fn roster_of(alloc: Global, matches: &ArgMatches<'_>) -> Result<Action, AllocErr
     Ok(Action::Roster { file, crew })
 }
 
-/// The arguments of `pairing`.
+/// Reads the arguments of `pairing`.
 fn pairing_of(alloc: Global, matches: &ArgMatches<'_>) -> Result<Action, AllocError>
     requires { HasPairing (rows_of (found_of matches.now)) }
     ensures { IfOk result (λ a. States a (codes "pairing", rows_of (found_of matches.now))) }
@@ -458,7 +467,7 @@ fn pairing_of(alloc: Global, matches: &ArgMatches<'_>) -> Result<Action, AllocEr
     Ok(Action::Pairing { file, pairing })
 }
 
-/// The arguments of `exceedances`.
+/// Reads the arguments of `exceedances`.
 fn exceedances_of(alloc: Global, matches: &ArgMatches<'_>) -> Result<Action, AllocError>
     requires { HasExceedances (rows_of (found_of matches.now)) }
     ensures { IfOk result (λ a. States a (codes "exceedances", rows_of (found_of matches.now))) }
@@ -467,7 +476,7 @@ fn exceedances_of(alloc: Global, matches: &ArgMatches<'_>) -> Result<Action, All
     Ok(Action::Exceedances { file })
 }
 
-/// The arguments of `serve`.
+/// Reads the arguments of `serve`.
 fn serve_of(alloc: Global, matches: &ArgMatches<'_>) -> Result<Action, AllocError>
     requires { HasServe (rows_of (found_of matches.now)) }
     ensures { IfOk result (λ a. States a (codes "serve", rows_of (found_of matches.now))) }
@@ -482,51 +491,56 @@ fn serve_of(alloc: Global, matches: &ArgMatches<'_>) -> Result<Action, AllocErro
     })
 }
 
-/// The value of an argument that is a port.
+/// Reads the value of an argument that is a port.
 fn port_of(matches: &ArgMatches<'_>, id: &str) -> u16
     requires { HasNumber last_port id.now (rows_of (found_of matches.now)) }
-    ensures { option_and_then (number_up_to last_port) (first_of id.now (rows_of (found_of matches.now))) ≡ Some result }
+    ensures { option_and_then (number_up_to last_port)
+        (first_of id.now (rows_of (found_of matches.now))) ≡ Some result }
 {
     let port = matches.get_one::<u64>(id).unwrap();
     port as u16
 }
 
-/// The value of an argument that is a number of connections.
+/// Reads the value of an argument that is a number of connections.
 fn connections_of(matches: &ArgMatches<'_>, id: &str) -> u32
     requires { HasNumber most_connections id.now (rows_of (found_of matches.now)) }
-    ensures { option_and_then (number_up_to most_connections) (first_of id.now (rows_of (found_of matches.now)))
+    ensures { option_and_then (number_up_to most_connections)
+        (first_of id.now (rows_of (found_of matches.now)))
         ≡ Some result }
 {
     let connections = matches.get_one::<u64>(id).unwrap();
     connections as u32
 }
 
-/// The value of an argument that is a request's number.
+/// Reads the value of an argument that is a request's number.
 fn number_of(matches: &ArgMatches<'_>, id: &str) -> RequestNumber
     requires { HasNumber last_number id.now (rows_of (found_of matches.now)) }
-    ensures { option_and_then request_number (first_of id.now (rows_of (found_of matches.now))) ≡ Some result }
+    ensures { option_and_then request_number (first_of id.now (rows_of (found_of matches.now)))
+        ≡ Some result }
 {
     let number = matches.get_one::<u64>(id).unwrap();
     RequestNumber::new(number).unwrap()
 }
 
-/// The first value of an argument that has one.
+/// Returns the first value of an argument that has one.
 fn text_of(alloc: Global, matches: &ArgMatches<'_>, id: &str) -> Result<String, AllocError>
     requires { is_some (first_of id.now (rows_of (found_of matches.now))) ≡ true }
-    ensures { IfOk result (λ s. first_of id.now (rows_of (found_of matches.now)) ≡ Some (string_bytes s)) }
+    ensures { IfOk result
+        (λ s. first_of id.now (rows_of (found_of matches.now)) ≡ Some (string_bytes s)) }
 {
     String::from_str(alloc, matches.get_str(id).unwrap())
 }
 
-/// The values of an argument that was used.
+/// Returns the values of an argument that was used.
 fn texts_of(alloc: Global, matches: &ArgMatches<'_>, id: &str) -> Result<Vec<String>, AllocError>
     requires { is_some (all_of id.now (rows_of (found_of matches.now))) ≡ true }
-    ensures { IfOk result (λ v. all_of id.now (rows_of (found_of matches.now)) ≡ Some (map string_bytes v.items)) }
+    ensures { IfOk result
+        (λ v. all_of id.now (rows_of (found_of matches.now)) ≡ Some (map string_bytes v.items)) }
 {
     owned(alloc, matches.get_strs(id).unwrap())
 }
 
-/// A copy of each text.
+/// Copies each text.
 fn owned(alloc: Global, words: &[&str]) -> Result<Vec<String>, AllocError>
     ensures { IfOk result (λ v. map string_bytes v.items ≡ texts words.now) }
 {

@@ -23,6 +23,7 @@ fdp_times zone f = record {
   segments = map span_of f.segments;
 }
 
+-- a duty with its times in force, its planned report read on the zone's clock
 abbrev pub in_force : List ℕ → Duty → DutyInForce
 in_force zone (duty.Fdp f) = times.Fdp (fdp_times zone f)
 in_force zone (duty.Ground g) = times.Ground (record { from = g.begin; to = g.end })

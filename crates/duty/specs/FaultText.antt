@@ -17,6 +17,7 @@ field_text OtherCrew = codes "other_crew"
 field_text Ground = codes "ground"
 field_text Task = codes "task"
 
+-- a fault as it is printed
 abbrev pub fault_text : DutyFault → List ℕ
 fault_text (BadTimes period) = codes "16 BadTimes " ++ decimal period
 fault_text (BadChain period) = codes "17 BadChain " ++ decimal period

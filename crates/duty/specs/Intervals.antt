@@ -14,6 +14,7 @@ AreApart least (span ∷ rest) = (least ≤ span.from) × (span.from < span.to) 
 abbrev pub lengths : List Span → ℕ
 lengths = sum_by (λ span. span.to - span.from)
 
+-- the spans of intervals
 abbrev pub spans_in : List Interval → List Span
 spans_in = map (λ interval. interval.span)
 
@@ -22,6 +23,7 @@ abbrev pub AreSummed : ℕ → List Interval → Type 0
 AreSummed n intervals = (k : ℕ) (d : Interval) → k < n →
     (slice_index_or intervals k d).total ≡ lengths (take (k + 1) (spans_in intervals))
 
+-- the intervals are in order and apart, and each has the sum of the minutes up to its end
 pub record IsIndex (intervals : List Interval) : Type 0 where
   pub apart : AreApart 0 (spans_in intervals)
   pub summed : AreSummed (length intervals) intervals

@@ -19,11 +19,13 @@ use Rattle.duty.specs.declared.segment.BlockTimes.{BlockTimes}
 abbrev pub has_shapes : Segment → Bool
 has_shapes s = is_flight s.flight && is_airport s.from && is_airport s.to
 
+-- each segment of the period has its shapes
 abbrev pub are_shaped : Fdp → Bool
 are_shaped f = list_all has_shapes f.segments
 
 -- ---- Counts (19)
 
+-- a period has 1 to 12 segments
 abbrev pub is_segment_count : ℕ → Bool
 is_segment_count = is_within 1 12
 
@@ -78,6 +80,7 @@ chain_fault periods = option_map BadChain (first_failing is_chained (beside [] (
 
 -- ---- The first fault
 
+-- the first fault of a pairing: shapes, then counts, then orders of times, then the chain of airports
 unfoldable pub pairing_fault : Plan → Option DutyFault
 pairing_fault p =
     first_fault (unless (is_id p.id) (BadField field.Pairing)
@@ -87,6 +90,7 @@ pairing_fault p =
     ∷ chain_fault p.periods
     ∷ [])
 
+-- the first fault of a ground duty: shapes, in the order of the fields, then an end that is not after the begin
 unfoldable pub ground_fault : GroundPlan → Option DutyFault
 ground_fault g =
     first_fault (unless (is_id g.id) (BadField field.Ground)
@@ -95,6 +99,7 @@ ground_fault g =
     ∷ unless (nat_lt g.begin g.end) (BadTimes 0)
     ∷ [])
 
+-- the first fault of actual times: the number of segments, then their order
 unfoldable pub actual_fault : ActualTimes → Option DutyFault
 actual_fault a =
     first_fault (unless (is_segment_count (length a.segments)) (SegmentCount a.period)

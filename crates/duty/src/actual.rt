@@ -1,3 +1,5 @@
+//! Actual times: how a period of a pairing was really flown.
+//! Worked rows: `tests/answers.py`. Wrong bodies: `must-fail-more/`.
 ghost use Rattle.std.specs.Prelude.{◌≡◌, ◌≤◌};
 ghost use Rattle.duty.specs.Pairings.{actual_fault};
 ghost use Rattle.duty.specs.Plans.{ActualTimes};
@@ -9,7 +11,7 @@ use crate::segment::BlockTimes;
 use std::alloc::Global;
 use std::marker::Model;
 use time117::Minute;
-use values::{Copied, Exact, Items, MemoryFault};
+use values::{LawfulEq, MemoryFault, Sequence, TryClone};
 
 /// How one period of a pairing was really flown: 1 to 12 segments, whose times are in order.
 #[derive(PartialEq, Eq, Drop)]
@@ -17,7 +19,7 @@ pub struct Actual {
     period: u8,
     report: Minute,
     release: Minute,
-    segments: Items<BlockTimes>,
+    segments: Sequence<BlockTimes>,
 }
 
 impl Model for Actual {
@@ -27,17 +29,21 @@ impl Model for Actual {
 
     ghost Value = { ActualTimes };
 
-    ghost view = { λ a. record { period = a.period; report = a.report; release = a.release; segments = a.segments } };
+    ghost view = { λ a. record
+        { period = a.period; report = a.report; release = a.release; segments = a.segments } };
 
     ghost invariant = { λ a. (1 ≤ a.period) × (a.period ≤ 10) × (actual_fault
-        (record { period = a.period; report = a.report; release = a.release; segments = a.segments }) ≡ None) };
+        (record
+        { period = a.period; report = a.report; release = a.release; segments = a.segments })
+        ≡ None) };
 
-    ghost inverse = { λ a. record { period = a.period; report = a.report; release = a.release; segments = a.segments } };
+    ghost inverse = { λ a. record
+        { period = a.period; report = a.report; release = a.release; segments = a.segments } };
 }
 
 impl Actual {
-    /// The times of a period, by its number from 1 to 10. A number of segments out of range comes
-    /// before times out of order.
+    /// Makes the actual times of a period, by its number from 1 to 10. A number of segments out of
+    /// range comes before times out of order.
     #[tactic(auto, unfolding(crate::specs::Pairings::actual_fault))]
     pub fn new(
         period: u8,
@@ -47,7 +53,8 @@ impl Actual {
     ) -> Result<Actual, DutyFault>
         requires low { 1 ≤ period }
         requires high { period ≤ 10 }
-        ensures { let a : ActualTimes = record { period = period; report = report; release = release; segments = segments.items } in
+        ensures { let a : ActualTimes = record
+            { period = period; report = report; release = release; segments = segments.items } in
             result ≡ checked (actual_fault a) a }
     {
         if !is_segment_count(segments.len()) {
@@ -60,11 +67,11 @@ impl Actual {
             period,
             report,
             release,
-            segments: Items::new(segments),
+            segments: Sequence::new(segments),
         })
     }
 
-    /// The number of the period in its pairing, from 1.
+    /// Returns the number of the period in its pairing, from 1.
     pub fn period(&self) -> u8
         ensures period { result ≡ self.now.period }
         ensures low { 1 ≤ result }
@@ -93,23 +100,23 @@ impl Actual {
     }
 }
 
-impl Copied for Actual {
-    fn copy(&self, alloc: Global) -> Result<Actual, MemoryFault> {
+impl TryClone for Actual {
+    fn try_clone(&self, alloc: Global) -> Result<Actual, MemoryFault> {
         Ok(Actual {
             period: self.period,
             report: self.report,
             release: self.release,
-            segments: self.segments.copy(alloc)?,
+            segments: self.segments.try_clone(alloc)?,
         })
     }
 }
 
-impl Exact for Actual {
+impl LawfulEq for Actual {
     ghost use Rattle.std.specs.Prelude.{refl};
     ghost use Rattle.std.proofs.lemmas.Bool.Decides.{Decides-eqb};
     ghost use Rattle.std.proofs.lemmas.Slice.Eq.{slice_eq-Decides};
     ghost use Rattle.values.specs.Same.{both_same, parts_same};
-    ghost use Rattle.duty.specs.contracts.segment.BlockTimesExact.TheImpl.Laws.{exact-law};
+    ghost use Rattle.duty.specs.contracts.segment.BlockTimesLawfulEq.TheImpl.Laws.{exact-law};
 
     ghost exact = { λ a b. parts_same
         (λ t. (t.period, (t.report, (t.release, t.segments))))

@@ -1,4 +1,5 @@
 //! What the constructors test, in the order of the faults: shapes, counts, times and chains.
+//! Worked rows: `tests/answers.py`. Wrong bodies: `must-fail/`.
 ghost use Rattle.std.specs.Prelude.{◌≡◌, ◌≤◌, ◌++◌, length, map, take, IfOk};
 ghost use Rattle.std.specs.List.{list_all};
 ghost use Rattle.duty.specs.Pairings as spec;
@@ -11,8 +12,9 @@ use crate::id::PairingId;
 use crate::segment::{BlockTimes, Segment, Timed};
 use time117::Minute;
 
-/// Whether the report is at or before the first block-out, each block-out before its block-in, each
-/// block-in at or before the next block-out, and the last block-in at or before the release.
+/// Returns whether the report is at or before the first block-out, each block-out before its
+/// block-in, each block-in at or before the next block-out, and the last block-in at or before the
+/// release.
 pub fn are_in_order<S: Timed>(report: Minute, release: Minute, segments: &[S]) -> bool
     ensures { result ≡ spec.is_in_order report release (map S.times segments.now) }
 {
@@ -48,8 +50,8 @@ fn is_before(times: BlockTimes, next: BlockTimes) -> bool
     times.block_in <= next.block_out
 }
 
-/// The first fault of a pairing: shapes, then counts, then orders of times, then the chain of
-/// airports, each over all periods.
+/// Looks for the first fault of a pairing: shapes, then counts, then orders of times, then the
+/// chain of airports, each over all periods.
 #[tactic(auto, unfolding(crate::specs::Pairings::pairing_fault))]
 pub fn check_pairing(id: &PairingId, periods: &[Fdp]) -> Result<(), DutyFault>
     ensures { let plan : Plan = record { id = id.now; periods = periods.now } in
@@ -66,7 +68,7 @@ pub fn check_pairing(id: &PairingId, periods: &[Fdp]) -> Result<(), DutyFault>
     check_chain(periods)
 }
 
-/// Whether so many segments are of one period.
+/// Returns whether a period may have so many segments.
 pub fn is_segment_count(segments: usize) -> bool
     ensures { result ≡ spec.is_segment_count segments }
 {
@@ -87,7 +89,7 @@ fn are_shaped(segments: &[Segment]) -> bool
     segments.iter().all(|segment| segment.has_shapes())
 }
 
-/// 1 to 10 periods, each of 1 to 12 segments.
+/// Checks that there are 1 to 10 periods, each of 1 to 12 segments.
 #[tactic(auto, unfolding(crate::specs::Pairings::count_fault))]
 fn check_counts(periods: &[Fdp]) -> Result<(), DutyFault>
     ensures fault { result ≡ checked (spec.count_fault periods.now) tt }
@@ -104,7 +106,7 @@ fn check_counts(periods: &[Fdp]) -> Result<(), DutyFault>
     Ok(())
 }
 
-/// Each period in order, and its report at or after the release of the one before it.
+/// Checks that each period is in order, and reports at or after the release of the one before it.
 #[tactic(auto, unfolding(crate::specs::Pairings::times_fault))]
 fn check_times(periods: &[Fdp]) -> Result<(), DutyFault>
     requires { length periods.now ≤ 10 }
@@ -120,7 +122,7 @@ fn check_times(periods: &[Fdp]) -> Result<(), DutyFault>
     Ok(())
 }
 
-/// Each segment but the first departs from where the one before it arrived.
+/// Checks that each segment but the first departs from where the one before it arrived.
 #[tactic(auto, unfolding(crate::specs::Pairings::chain_fault))]
 fn check_chain(periods: &[Fdp]) -> Result<(), DutyFault>
     requires { length periods.now ≤ 10 }
@@ -137,15 +139,16 @@ fn check_chain(periods: &[Fdp]) -> Result<(), DutyFault>
     Ok(())
 }
 
-/// Whether each segment departs from where the one before it arrived, the first of them from where
-/// the last of `before` did.
+/// Returns whether each segment departs from where the one before it arrived, the first of them
+/// from where the last of `before` did.
 fn is_chained(before: &[Segment], segments: &[Segment]) -> bool
     ensures { result ≡ each_next spec.connects (last_of before.now ++ segments.now) }
 {
     is_joined(before, segments) && are_joined(segments)
 }
 
-/// Whether the first of the segments departs from where the last of those before them arrived.
+/// Returns whether the first of the segments departs from where the last of those before them
+/// arrived.
 fn is_joined(before: &[Segment], segments: &[Segment]) -> bool
     ensures { result ≡ each_next spec.connects (last_of before.now ++ take 1 segments.now) }
 {
@@ -155,7 +158,7 @@ fn is_joined(before: &[Segment], segments: &[Segment]) -> bool
     }
 }
 
-/// Whether each segment but the first departs from where the one before it arrived.
+/// Returns whether each segment but the first departs from where the one before it arrived.
 fn are_joined(segments: &[Segment]) -> bool
     ensures { result ≡ each_next spec.connects segments.now }
 {

@@ -1,3 +1,5 @@
+//! Duties as the limits see them: times alone, without ids, and the spans of minutes that each kind of time has.
+//! Wrong bodies: `must-fail-more/`.
 ghost use Rattle.std.specs.Prelude.{◌≡◌, ◌<◌, ◌++◌, length, slice_get, Some, OnOk};
 ghost use Rattle.duty.specs.Minutes.{spans_of};
 
@@ -6,7 +8,7 @@ use super::kind::Kind;
 use super::merging::Spans;
 use super::span::Span;
 use std::alloc::Global;
-use values::{Copied, MemoryFault};
+use values::{MemoryFault, TryClone};
 
 /// A duty of a crew member with its times in force.
 #[derive(Drop)]
@@ -16,7 +18,7 @@ pub enum DutyInForce {
 }
 
 impl DutyInForce {
-    /// How many spans of that kind the duty has. They may overlap.
+    /// Counts the spans of that kind that the duty has. They may overlap.
     pub fn span_count(&self, kind: Kind) -> usize
         ensures { result ≡ length (spans_of kind self.now) }
     {
@@ -28,7 +30,7 @@ impl DutyInForce {
         }
     }
 
-    /// The span of that kind at an index.
+    /// Returns the span of that kind at an index.
     pub fn span_at(&self, kind: Kind, index: usize) -> Span
         requires { index < length (spans_of kind self.now) }
         ensures { slice_get (spans_of kind self.now) index ≡ Some result }
@@ -59,7 +61,7 @@ impl DutyInForce {
         Ok(())
     }
 
-    /// The spans of that kind.
+    /// Returns the spans of that kind.
     pub(crate) fn spans(&self, kind: Kind) -> DutySpans<'_>
         ensures duty { result.duty.now ≡ self.now }
         ensures kind { result.kind ≡ kind }
@@ -89,10 +91,10 @@ impl Spans for DutySpans<'_> {
     }
 }
 
-impl Copied for DutyInForce {
-    fn copy(&self, alloc: Global) -> Result<DutyInForce, MemoryFault> {
+impl TryClone for DutyInForce {
+    fn try_clone(&self, alloc: Global) -> Result<DutyInForce, MemoryFault> {
         match self {
-            DutyInForce::Fdp(fdp) => Ok(DutyInForce::Fdp(fdp.copy(alloc)?)),
+            DutyInForce::Fdp(fdp) => Ok(DutyInForce::Fdp(fdp.try_clone(alloc)?)),
             DutyInForce::Ground(span) => Ok(DutyInForce::Ground(*span)),
         }
     }

@@ -1,3 +1,5 @@
+//! Flight duty periods (14 CFR 117.3), planned or flown. A `Pairing` has those whose times are in order.
+//! Wrong bodies: `must-fail/`.
 ghost use Rattle.std.specs.Prelude.{◌≡◌, ◌≤◌, ◌⊎◌, length, map, Ok, Err, IfOk, IfErr};
 ghost use Rattle.std.specs.List.{zip};
 ghost use Rattle.duty.specs.Pairings.{is_in_order, block_times, with_actual};
@@ -10,7 +12,7 @@ use crate::fault::DutyFault;
 use crate::segment::{BlockTimes, Segment};
 use std::alloc::Global;
 use time117::Minute;
-use values::{Copied, Exact, Items, MemoryFault};
+use values::{LawfulEq, MemoryFault, Sequence, TryClone};
 
 /// A flight duty period (117.3), which runs from its report to the last block-in; duty goes on to
 /// its release. It may hold any times, in any order, and any number of segments.
@@ -21,13 +23,14 @@ pub struct Fdp {
     pub planned_report: Minute,
     pub report: Minute,
     pub release: Minute,
-    pub segments: Items<Segment>,
+    pub segments: Sequence<Segment>,
 }
 
 impl Fdp {
-    /// A period as it is planned.
-    pub fn new(report: Minute, release: Minute, segments: Items<Segment>) -> Fdp
-        ensures { result ≡ record { planned_report = report; report = report; release = release; segments = segments } }
+    /// Makes a period as it is planned.
+    pub fn new(report: Minute, release: Minute, segments: Sequence<Segment>) -> Fdp
+        ensures { result ≡ record
+            { planned_report = report; report = report; release = release; segments = segments } }
     {
         Fdp {
             planned_report: report,
@@ -37,20 +40,21 @@ impl Fdp {
         }
     }
 
-    /// Whether the report is at or before the first block-out, each block-out before its block-in,
-    /// each block-in at or before the next block-out, and the last block-in at or before the
-    /// release.
+    /// Returns whether the report is at or before the first block-out, each block-out before its block-in, each
+    /// block-in at or before the next block-out, and the last block-in at or before the release.
     pub fn is_in_order(&self) -> bool
-        ensures { result ≡ is_in_order self.now.report self.now.release (map block_times self.now.segments) }
+        ensures { result
+            ≡ is_in_order self.now.report self.now.release (map block_times self.now.segments) }
     {
         are_in_order(self.report, self.release, self.segments.as_slice())
     }
 
-    /// This period with the times when it was flown; the planned report stays. Where the numbers of
-    /// segments differ it is refused, with the actual's period.
+    /// Gives a copy of this period the times when it was flown; the planned report stays. Where the numbers of segments
+    /// differ it is refused, with the actual's period.
     pub fn with_actual(&self, alloc: Global, actual: &Actual) -> Result<Fdp, DutyFault>
         ensures value { IfOk result (λ f. with_actual self.now actual.now ≡ Ok f) }
-        ensures refused { IfErr result (λ fault. (fault ≡ Memory) ⊎ (with_actual self.now actual.now ≡ Err fault)) }
+        ensures refused { IfErr result
+            (λ fault. (fault ≡ Memory) ⊎ (with_actual self.now actual.now ≡ Err fault)) }
     {
         if self.segments.as_slice().len() != actual.segments().len() {
             return Err(DutyFault::SegmentCount(actual.period()));
@@ -58,8 +62,8 @@ impl Fdp {
         Ok(self.flown(alloc, actual)?)
     }
 
-    /// This period with the times when it was flown, segment by segment as far as both have segments; the planned report
-    /// stays.
+    /// Gives a copy of this period the times when it was flown, segment by segment as far as both have segments; the
+    /// planned report stays.
     pub fn flown(&self, alloc: Global, actual: &Actual) -> Result<Fdp, MemoryFault>
         ensures { IfOk result (λ f. f ≡ in_force self.now actual.now) }
     {
@@ -68,12 +72,12 @@ impl Fdp {
             planned_report: self.planned_report,
             report: actual.report(),
             release: actual.release(),
-            segments: Items::new(flown),
+            segments: Sequence::new(flown),
         })
     }
 }
 
-/// Each segment with the times when it was flown.
+/// Copies each segment with the times when it was flown.
 fn retimed(
     alloc: Global,
     segments: &[Segment],
@@ -88,27 +92,28 @@ fn retimed(
     Ok(flown)
 }
 
-impl Copied for Fdp {
-    fn copy(&self, alloc: Global) -> Result<Fdp, MemoryFault> {
+impl TryClone for Fdp {
+    fn try_clone(&self, alloc: Global) -> Result<Fdp, MemoryFault> {
         Ok(Fdp {
             planned_report: self.planned_report,
             report: self.report,
             release: self.release,
-            segments: self.segments.copy(alloc)?,
+            segments: self.segments.try_clone(alloc)?,
         })
     }
 }
 
-impl Exact for Fdp {
+impl LawfulEq for Fdp {
     ghost use Rattle.std.specs.Prelude.{refl};
     ghost use Rattle.std.proofs.lemmas.Bool.Decides.{Decides-eqb};
     ghost use Rattle.std.proofs.lemmas.Slice.Eq.{slice_eq-Decides};
     ghost use Rattle.values.specs.Same.{both_same, parts_same};
-    ghost use Rattle.duty.specs.contracts.segment.SegmentExact.TheImpl.Laws.{exact-law};
+    ghost use Rattle.duty.specs.contracts.segment.SegmentLawfulEq.TheImpl.Laws.{exact-law};
 
     ghost exact = { λ a b. parts_same
         (λ f. (f.planned_report, (f.report, (f.release, f.segments))))
-        (λ p. record { planned_report = p.0; report = p.1.0; release = p.1.1.0; segments = p.1.1.1 })
+        (λ p.
+        record { planned_report = p.0; report = p.1.0; release = p.1.1.0; segments = p.1.1.1 })
         (λ _. refl) a b _
         (both_same _ _ (Decides-eqb a.planned_report b.planned_report)
         (both_same _ _ (Decides-eqb a.report b.report)

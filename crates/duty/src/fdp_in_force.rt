@@ -1,3 +1,6 @@
+//! Flight duty periods as the limits see them: spans of minutes, and the local start by which Tables A and B are
+//! entered.
+//! Wrong bodies: `must-fail-more/`.
 ghost use Rattle.std.specs.Prelude.{◌≡◌};
 ghost use Rattle.duty.specs.Minutes.{last_in, fdp_length};
 
@@ -5,7 +8,7 @@ use super::span::Span;
 use std::alloc::Global;
 use std::marker::Model;
 use time117::Minute;
-use values::{Copied, MemoryFault};
+use values::{MemoryFault, TryClone};
 
 /// A flight duty period (14 CFR 117.3) with its times in force: the actual ones where there are any, else the planned
 /// ones. It keeps the acclimated minute of the day of the planned report, by which Tables A and B are entered in
@@ -32,8 +35,8 @@ impl Model for FdpInForce {
 }
 
 impl FdpInForce {
-    /// The period of these times: the segments from block-out to block-in, and as `start` the acclimated minute of the
-    /// day of the planned report.
+    /// Makes a period of these times: the segments from block-out to block-in, and as `start` the acclimated minute of
+    /// the day of the planned report.
     pub fn new(start: u16, report: Minute, release: Minute, segments: Vec<Span>) -> Self
         ensures start { result.start ≡ start }
         ensures report { result.report ≡ report }
@@ -48,35 +51,35 @@ impl FdpInForce {
         }
     }
 
-    /// The acclimated minute of the day of the planned report.
+    /// Returns the acclimated minute of the day of the planned report.
     pub fn start(&self) -> u16
         ensures { result ≡ self.now.start }
     {
         self.start
     }
 
-    /// The report in force.
+    /// Returns the report in force.
     pub fn report(&self) -> Minute
         ensures { result ≡ self.now.report }
     {
         self.report
     }
 
-    /// The release in force.
+    /// Returns the release in force.
     pub fn release(&self) -> Minute
         ensures { result ≡ self.now.release }
     {
         self.release
     }
 
-    /// The segments from block-out to block-in.
+    /// Returns the segments from block-out to block-in.
     pub fn segments(&self) -> &[Span]
         ensures { result.now ≡ self.now.segments }
     {
         self.segments.as_slice()
     }
 
-    /// The end of the period: the last block-in, or the report where there is no segment.
+    /// Returns the end of the period: the last block-in, or the report where there is no segment.
     pub fn last_in(&self) -> Minute
         ensures { result ≡ last_in self.now.report self.now.segments }
     {
@@ -86,7 +89,8 @@ impl FdpInForce {
         }
     }
 
-    /// The length of the period in minutes, from report to the last block-in, or 0 where that is before the report.
+    /// Returns the length of the period in minutes, from report to the last block-in, or 0 where that is before the
+    /// report.
     pub fn length(&self) -> u32
         ensures { result ≡ fdp_length self.now }
     {
@@ -94,8 +98,8 @@ impl FdpInForce {
     }
 }
 
-impl Copied for FdpInForce {
-    fn copy(&self, alloc: Global) -> Result<FdpInForce, MemoryFault> {
+impl TryClone for FdpInForce {
+    fn try_clone(&self, alloc: Global) -> Result<FdpInForce, MemoryFault> {
         Ok(FdpInForce {
             start: self.start,
             report: self.report,

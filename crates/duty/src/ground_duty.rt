@@ -1,3 +1,5 @@
+//! Ground duties: duty (14 CFR 117.3) outside of any pairing, as training.
+//! Worked rows: `tests/answers.py`. Wrong bodies: `must-fail-more/`.
 ghost use Rattle.std.specs.Prelude.{◌≡◌, ◌<◌};
 ghost use Rattle.duty.specs.Pairings.{ground_fault};
 ghost use Rattle.duty.specs.Plans.{GroundPlan};
@@ -9,7 +11,7 @@ use crate::shape::is_plain_text;
 use std::alloc::Global;
 use std::marker::Model;
 use time117::Minute;
-use values::{Copied, Exact, MemoryFault, Text};
+use values::{LawfulEq, MemoryFault, Text, TryClone};
 
 /// A ground duty of a crew member, from its begin up to its end.
 #[derive(PartialEq, Eq, Drop)]
@@ -28,17 +30,20 @@ impl Model for Ground {
 
     ghost Value = { GroundPlan };
 
-    ghost view = { λ g. record { id = g.id; crew = g.crew; begin = g.begin; end = g.end; task = g.task } };
+    ghost view = { λ g.
+        record { id = g.id; crew = g.crew; begin = g.begin; end = g.end; task = g.task } };
 
     ghost invariant = { λ g.
-        ground_fault (record { id = g.id; crew = g.crew; begin = g.begin; end = g.end; task = g.task }) ≡ None };
+        ground_fault
+        (record { id = g.id; crew = g.crew; begin = g.begin; end = g.end; task = g.task }) ≡ None };
 
-    ghost inverse = { λ g. record { id = g.id; crew = g.crew; begin = g.begin; end = g.end; task = g.task } };
+    ghost inverse = { λ g.
+        record { id = g.id; crew = g.crew; begin = g.begin; end = g.end; task = g.task } };
 }
 
 impl Ground {
-    /// The ground duty of these. Of several faults the first comes: a text outside its shape, in
-    /// the order of the arguments, then an end that is not after the begin.
+    /// Makes a ground duty of these. Of several faults the first comes: a text outside its shape,
+    /// in the order of the arguments, then an end that is not after the begin.
     #[tactic(auto, unfolding(crate::specs::Pairings::ground_fault))]
     pub fn new(
         id: GroundId,
@@ -47,7 +52,8 @@ impl Ground {
         end: Minute,
         task: Text,
     ) -> Result<Ground, DutyFault>
-        ensures { let g : GroundPlan = record { id = id; crew = crew; begin = begin; end = end; task = task } in
+        ensures { let g : GroundPlan = record
+            { id = id; crew = crew; begin = begin; end = end; task = task } in
             result ≡ checked (ground_fault g) g }
     {
         if !id.has_shape() {
@@ -90,7 +96,7 @@ impl Ground {
         self.begin
     }
 
-    /// The first minute after the duty.
+    /// Returns the first minute after the duty.
     pub fn end(&self) -> Minute
         ensures { result ≡ self.now.end }
     {
@@ -104,19 +110,19 @@ impl Ground {
     }
 }
 
-impl Copied for Ground {
-    fn copy(&self, alloc: Global) -> Result<Ground, MemoryFault> {
+impl TryClone for Ground {
+    fn try_clone(&self, alloc: Global) -> Result<Ground, MemoryFault> {
         Ok(Ground {
-            id: self.id.copy(alloc)?,
-            crew: self.crew.copy(alloc)?,
+            id: self.id.try_clone(alloc)?,
+            crew: self.crew.try_clone(alloc)?,
             begin: self.begin,
             end: self.end,
-            task: self.task.copy(alloc)?,
+            task: self.task.try_clone(alloc)?,
         })
     }
 }
 
-impl Exact for Ground {
+impl LawfulEq for Ground {
     ghost use Rattle.std.specs.Prelude.{refl};
     ghost use Rattle.std.proofs.lemmas.Bool.Decides.{Decides-eqb};
     ghost use Rattle.std.proofs.lemmas.Slice.Eq.{bytes_eq-Decides};

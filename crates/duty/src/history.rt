@@ -1,4 +1,5 @@
 //! The duties of a crew member, with their minutes in order of time.
+//! A history is tested below; new duties in one, beside a slow count: `tests/judgement.py`. Wrong bodies: `must-fail/`.
 ghost use Rattle.std.specs.Prelude.{◌≡◌, ◌<◌, ◌≤◌, ◌-◌, ◌++◌, ◌∷◌, [], IfOk, OnOk, OnErr, pos, negsuc, ◌-ℤ◌, ◌≤ℤ◌, unsigned_abs, IsFalse, IsTrue, ◌⊎◌, ◌↔◌};
 ghost use Rattle.std.specs.List.{flat_map};
 ghost use Rattle.duty.specs.Minutes.{count, minutes_in, spans_of, Meets, HasFreeRun, Overlap};
@@ -13,7 +14,7 @@ use super::merging::Spans;
 use super::span::Span;
 use std::alloc::Global;
 use std::marker::Model;
-use values::{Copied, MemoryFault, copies_of};
+use values::{MemoryFault, TryClone, copies_of};
 
 /// The duties of a crew member in force, in the order in which they were added. They may overlap. Beside them stand their
 /// minutes of each kind, in order and each minute once.
@@ -34,11 +35,12 @@ impl Model for History {
 
     ghost view = { λ h. h.duties.items };
 
-    ghost invariant = { λ h. AreIndexes h.duties.items h.flying.spans h.flight_duty.spans h.on_duty.spans };
+    ghost invariant = { λ h.
+        AreIndexes h.duties.items h.flying.spans h.flight_duty.spans h.on_duty.spans };
 }
 
 impl History {
-    /// No duties.
+    /// Makes a history of no duties.
     pub fn empty(alloc: Global) -> Self
         ensures { result ≡ [] }
     {
@@ -50,7 +52,8 @@ impl History {
         }
     }
 
-    /// These duties, in this order. Their minutes are sorted once, so that it takes about as long in any order.
+    /// Makes a history of these duties, in this order. Their minutes are sorted once, so that it takes about as long in
+    /// any order.
     pub fn of(alloc: Global, duties: Vec<DutyInForce>) -> Result<Self, MemoryFault>
         ensures { IfOk result (λ history. history ≡ duties.items) }
     {
@@ -98,14 +101,14 @@ impl History {
         Ok(())
     }
 
-    /// The duties in their order.
+    /// Returns the duties in their order.
     pub fn duties(&self) -> &[DutyInForce]
         ensures { result.now ≡ self.now }
     {
         self.duties.as_slice()
     }
 
-    /// The minutes of that kind.
+    /// Returns the minutes of that kind.
     pub fn intervals(&self, kind: Kind) -> &Intervals
         ensures { HasMinutes result.now.spans kind self.now }
     {
@@ -116,7 +119,7 @@ impl History {
         }
     }
 
-    /// How many of the `width` minutes before `end`, a number of minutes since 2000-01-01T00:00Z, are of that kind. A
+    /// Counts the minutes of that kind among the `width` before `end`, a number of minutes since 2000-01-01T00:00Z. A
     /// minute counts once, however many duties hold it. The minutes may begin before the year 2000.
     pub fn minutes_before(&self, kind: Kind, end: u64, width: u64) -> u64
         ensures { result ≡ count (minutes_in kind self.now) (pos end -ℤ pos width) width }
@@ -124,15 +127,15 @@ impl History {
         self.intervals(kind).minutes_before(end, width)
     }
 
-    /// Whether some of the `width` minutes before `end` is of that kind.
+    /// Returns whether some of the `width` minutes before `end` is of that kind.
     pub fn meets(&self, kind: Kind, end: u64, width: u64) -> bool
         ensures { IsTrue result ↔ Meets (minutes_in kind self.now) (pos end -ℤ pos width) width }
     {
         self.intervals(kind).meets(end, width)
     }
 
-    /// Whether some `length` minutes in a row, all of them among the `width` minutes before `end`, hold none of that
-    /// kind. `end` is a number of minutes since 2000-01-01T00:00Z; the minutes may begin before the year 2000.
+    /// Returns whether some `length` minutes in a row, all of them among the `width` minutes before `end`, hold none of
+    /// that kind. `end` is a number of minutes since 2000-01-01T00:00Z; the minutes may begin before the year 2000.
     pub fn has_free_run(&self, kind: Kind, end: u64, width: u64, length: u64) -> bool
         requires { 0 < length }
         ensures { IsTrue result
@@ -141,7 +144,7 @@ impl History {
         self.intervals(kind).has_free_run(end, width, length)
     }
 
-    /// How many minutes from `from` up to, and without, `to` are flight minutes. Minutes before the year 2000 are negative.
+    /// Counts the flight minutes from `from` up to, and without, `to`. Minutes before the year 2000 are negative.
     pub fn flight_minutes(&self, from: i64, to: i64) -> u64
         requires order { from ≤ℤ to }
         requires begin { negsuc 99_999_999 ≤ℤ from }
@@ -151,7 +154,7 @@ impl History {
         self.flying.minutes_between(from, to)
     }
 
-    /// How many minutes from `from` up to, and without, `to` are minutes of a flight duty period.
+    /// Counts the minutes of a flight duty period from `from` up to, and without, `to`.
     pub fn fdp_minutes(&self, from: i64, to: i64) -> u64
         requires order { from ≤ℤ to }
         requires begin { negsuc 99_999_999 ≤ℤ from }
@@ -161,7 +164,7 @@ impl History {
         self.flight_duty.minutes_between(from, to)
     }
 
-    /// How many minutes from `from` up to, and without, `to` are duty minutes.
+    /// Counts the duty minutes from `from` up to, and without, `to`.
     pub fn duty_minutes(&self, from: i64, to: i64) -> u64
         requires order { from ≤ℤ to }
         requires begin { negsuc 99_999_999 ≤ℤ from }
@@ -171,7 +174,8 @@ impl History {
         self.on_duty.minutes_between(from, to)
     }
 
-    /// Whether some `length` minutes in a row, all of them from `from` up to, and without, `to`, hold no duty minute.
+    /// Returns whether some `length` minutes in a row, all of them from `from` up to, and without, `to`, hold no duty
+    /// minute.
     pub fn free_run(&self, from: i64, to: i64, length: u32) -> bool
         requires order { from ≤ℤ to }
         requires begin { negsuc 99_999_999 ≤ℤ from }
@@ -183,7 +187,7 @@ impl History {
         self.on_duty.free_run(from, to, length)
     }
 
-    /// Whether some minute is a duty minute of both. A duty that holds no minute overlaps nothing.
+    /// Returns whether some minute is a duty minute of both. A duty that holds no minute overlaps nothing.
     pub fn overlaps(&self, other: &History) -> bool
         ensures test { result ≡ do_overlap self.now other.now }
         ensures minute { IsTrue result ↔ Overlap self.now other.now }
@@ -192,7 +196,7 @@ impl History {
     }
 }
 
-/// The minutes of that kind that the duties hold.
+/// Collects the minutes of that kind that the duties hold.
 fn minutes_held(alloc: Global, kind: Kind, duties: &[DutyInForce]) -> Result<Intervals, MemoryFault>
     ensures { IfOk result (λ minutes. HasMinutes minutes.spans kind duties.now) }
 {
@@ -201,7 +205,7 @@ fn minutes_held(alloc: Global, kind: Kind, duties: &[DutyInForce]) -> Result<Int
     Intervals::of(alloc, &spans)
 }
 
-/// The spans of that kind, duty after duty.
+/// Collects the spans of that kind, duty after duty.
 fn spans_held(alloc: Global, kind: Kind, duties: &[DutyInForce]) -> Result<Vec<Span>, MemoryFault>
     ensures { IfOk result (λ spans. spans.items ≡ flat_map (spans_of kind) duties.now) }
 {
@@ -212,13 +216,13 @@ fn spans_held(alloc: Global, kind: Kind, duties: &[DutyInForce]) -> Result<Vec<S
     Ok(spans)
 }
 
-impl Copied for History {
-    fn copy(&self, alloc: Global) -> Result<History, MemoryFault> {
+impl TryClone for History {
+    fn try_clone(&self, alloc: Global) -> Result<History, MemoryFault> {
         Ok(History {
             duties: copies_of(alloc, self.duties())?,
-            flying: self.flying.copy(alloc)?,
-            flight_duty: self.flight_duty.copy(alloc)?,
-            on_duty: self.on_duty.copy(alloc)?,
+            flying: self.flying.try_clone(alloc)?,
+            flight_duty: self.flight_duty.try_clone(alloc)?,
+            on_duty: self.on_duty.try_clone(alloc)?,
         })
     }
 }

@@ -1,3 +1,6 @@
+//! Ids of crew members, pairings and ground duties, flights and airports. A tag tells them apart, so that none is taken
+//! for another.
+//! Wrong bodies: `must-fail-more/`.
 ghost use Rattle.std.specs.Prelude.{◌≡◌};
 ghost use Rattle.std.specs.Ordering.{nat_cmp, as_partial_cmp};
 ghost use Rattle.std.specs.Cmp.{partial_order_from_own_ties};
@@ -11,7 +14,7 @@ use crate::tag::Shaped;
 use std::alloc::Global;
 use std::cmp::Ordering;
 use std::marker::{Model, PhantomData};
-use values::{Copied, Exact, MemoryFault, Named, Text};
+use values::{LawfulEq, MemoryFault, OrdKey, Text, TryClone};
 
 /// The id of a crew member.
 pub type CrewId = Id<tag::Crew>;
@@ -45,7 +48,7 @@ impl<T> Model for Id<T> {
 }
 
 impl<T> Id<T> {
-    /// The id of this text, in the same memory.
+    /// Makes an id of this text, in the same memory.
     pub fn new(text: Text) -> Id<T>
         ensures { result ≡ text }
     {
@@ -55,7 +58,7 @@ impl<T> Id<T> {
         }
     }
 
-    /// The text itself.
+    /// Returns the text itself.
     pub fn as_str(&self) -> &str
         ensures { result.now ≡ self.now }
     {
@@ -64,7 +67,7 @@ impl<T> Id<T> {
 }
 
 impl<T: Shaped> Id<T> {
-    /// Whether the text has the shape of such an id.
+    /// Returns whether the text has the shape of such an id.
     pub fn has_shape(&self) -> bool
         ensures { result ≡ T.has_shape self.now }
     {
@@ -72,9 +75,9 @@ impl<T: Shaped> Id<T> {
     }
 }
 
-impl<T: Drop> Copied for Id<T> {
-    fn copy(&self, alloc: Global) -> Result<Id<T>, MemoryFault> {
-        Ok(Id::new(self.text.copy(alloc)?))
+impl<T: Drop> TryClone for Id<T> {
+    fn try_clone(&self, alloc: Global) -> Result<Id<T>, MemoryFault> {
+        Ok(Id::new(self.text.try_clone(alloc)?))
     }
 }
 
@@ -95,7 +98,8 @@ impl<T> Eq for Id<T> {
 impl<T> PartialOrd for Id<T> {
     ghost partial_cmp = { as_partial_cmp (slice_cmp nat_cmp) };
 
-    ghost laws = { partial_order_from_own_ties (Prim.search (comparing, rules)) (Prim.search (comparing, rules)) };
+    ghost laws = { partial_order_from_own_ties (Prim.search (comparing, rules))
+        (Prim.search (comparing, rules)) };
 
     fn partial_cmp(&self, other: &Id<T>) -> Option<Ordering> {
         Some(self.cmp(other))
@@ -116,13 +120,13 @@ impl<T> Ord for Id<T> {
     }
 }
 
-impl<T> Exact for Id<T> {
+impl<T> LawfulEq for Id<T> {
     ghost use Rattle.std.proofs.lemmas.Slice.Eq.{bytes_eq-Decides};
 
     ghost exact = { bytes_eq-Decides };
 }
 
-impl<T> Named for Id<T> {
+impl<T> OrdKey for Id<T> {
     ghost use Rattle.std.specs.Prelude.{refl};
 
     ghost name = { λ id. id };

@@ -1,4 +1,5 @@
 //! Minutes as a sorted list of disjoint intervals with running sums, and what is asked of it.
+//! Against a slow count of minutes: `tests/judgement.py`. Wrong bodies: `must-fail/`.
 ghost use Rattle.std.specs.Prelude.{◌≡◌, ℕ, ◌<◌, ◌≤◌, ◌+◌, ◌^◌, [], length, slice_index_or, slice_range, OnOk, IfOk, ◌||◌, ℤ, nat_lt, IsTrue, IsFalse, IfSome, IfNone, pos, negsuc, ◌-ℤ◌, ◌≤ℤ◌, unsigned_abs, ◌↔◌, ◌⊎◌, ◌&&◌};
 ghost use Rattle.std.specs.List.{list_any};
 ghost use Rattle.duty.specs.Intervals.{AreApart, IsIndex, spans_in};
@@ -44,7 +45,7 @@ impl Model for Intervals {
 }
 
 impl Intervals {
-    /// No minutes.
+    /// Makes an empty set of minutes.
     pub fn empty(alloc: Global) -> Self
         ensures { result.spans ≡ [] }
     {
@@ -53,9 +54,10 @@ impl Intervals {
         }
     }
 
-    /// The minutes of spans.
+    /// Collects the minutes of spans.
     pub(crate) fn of<S: Spans>(alloc: Global, spans: &S) -> Result<Self, MemoryFault>
-        ensures { IfOk result (λ it. (minute : ℤ) → minutes_of it.spans minute ≡ minutes_of (S.spans spans.now) minute) }
+        ensures { IfOk result (λ it. (minute : ℤ)
+            → minutes_of it.spans minute ≡ minutes_of (S.spans spans.now) minute) }
     {
         let mut intervals = Intervals::empty(alloc);
         intervals.reserve(spans.count())?;
@@ -63,8 +65,8 @@ impl Intervals {
         Ok(intervals)
     }
 
-    /// How many of the `width` minutes before `end`, a number of minutes since 2000-01-01T00:00Z, there are. They may begin
-    /// before the year 2000.
+    /// Counts the minutes that are there among the `width` before `end`, a number of minutes since 2000-01-01T00:00Z.
+    /// They may begin before the year 2000.
     pub fn minutes_before(&self, end: u64, width: u64) -> u64
         ensures { result ≡ count (minutes_of self.now.spans) (pos end -ℤ pos width) width }
     {
@@ -72,23 +74,26 @@ impl Intervals {
         minutes_below(intervals, end) - minutes_below(intervals, end.saturating_sub(width))
     }
 
-    /// The minutes from the first to the last that is there, if one is.
+    /// Returns the minutes from the first to the last that is there, if one is.
     pub fn hull(&self) -> Option<Span>
-        ensures some { IfSome result (λ span. (minute : ℕ) → IsTrue (at (minutes_of self.now.spans) minute)
+        ensures some { IfSome result
+            (λ span. (minute : ℕ) → IsTrue (at (minutes_of self.now.spans) minute)
             → (span.from ≤ minute) × (minute < span.to)) }
-        ensures none { IfNone result ((minute : ℕ) → IsFalse (at (minutes_of self.now.spans) minute)) }
+        ensures none { IfNone result
+            ((minute : ℕ) → IsFalse (at (minutes_of self.now.spans) minute)) }
     {
         hull_of(self.intervals.as_slice())
     }
 
-    /// Whether some interval that ends after `after` and before `before` passes.
+    /// Returns whether some interval that ends after `after` and before `before` passes.
     pub fn any_ending<T: SpanTest>(&self, after: u32, before: u64, test: &T) -> bool
-        ensures { result ≡ list_any (λ span. (nat_lt after span.to && nat_lt span.to before) && T.passes test.now span) self.now.spans }
+        ensures { result ≡ list_any (λ span. (nat_lt after span.to && nat_lt span.to before)
+            && T.passes test.now span) self.now.spans }
     {
         any_ending_of(self.intervals.as_slice(), after, before, test)
     }
 
-    /// How many minutes are there in all: no window holds more.
+    /// Counts all minutes that are there: no window holds more.
     pub fn total(&self) -> u64
         ensures { (start : ℤ) (width : ℕ) → count (minutes_of self.now.spans) start width ≤ result }
     {
@@ -96,7 +101,7 @@ impl Intervals {
         total_of(intervals, intervals.len()) as u64
     }
 
-    /// Whether some of the `width` minutes before `end` is there.
+    /// Returns whether some of the `width` minutes before `end` is there.
     pub fn meets(&self, end: u64, width: u64) -> bool
         ensures { IsTrue result ↔ Meets (minutes_of self.now.spans) (pos end -ℤ pos width) width }
     {
@@ -104,7 +109,7 @@ impl Intervals {
         is_near(self.intervals.as_slice(), first, end) && 0 < self.minutes_before(end, width)
     }
 
-    /// Whether some minute of the span is there.
+    /// Returns whether some minute of the span is there.
     fn meets_span(&self, span: Span) -> bool
         ensures { result ≡ list_any (meets_span span) self.now.spans }
     {
@@ -113,9 +118,10 @@ impl Intervals {
         from < to && self.meets(to, to - from)
     }
 
-    /// Whether some minute is in both.
+    /// Returns whether some minute is in both.
     pub(crate) fn shares(&self, other: &Intervals) -> bool
-        ensures { result ≡ list_any (λ span. list_any (meets_span span) other.now.spans) self.now.spans }
+        ensures { result
+            ≡ list_any (λ span. list_any (meets_span span) other.now.spans) self.now.spans }
     {
         for interval in self.intervals.as_slice() {
             if other.meets_span(interval.span) {
@@ -125,7 +131,7 @@ impl Intervals {
         false
     }
 
-    /// The end of the interval that has the minute, or the minute.
+    /// Returns the end of the interval that has the minute, or the minute.
     pub(crate) fn covered_from(&self, minute: u64) -> u64
         ensures forward { minute ≤ result }
         ensures covered { IsFull (minutes_of self.now.spans) minute result }
@@ -137,7 +143,7 @@ impl Intervals {
         }
     }
 
-    /// The first minute after `minute` and before `limit` at which an interval begins, or `limit`.
+    /// Returns the first minute after `minute` and before `limit` at which an interval begins, or `limit`.
     pub(crate) fn next_after(&self, minute: u64, limit: u64) -> u64
         requires { minute < limit }
         ensures after { minute < result }
@@ -151,8 +157,8 @@ impl Intervals {
         }
     }
 
-    /// Whether some `length` minutes in a row, all of them among the `width` minutes before `end`, are not there. `end` is a
-    /// number of minutes since 2000-01-01T00:00Z; the minutes may begin before the year 2000.
+    /// Returns whether some `length` minutes in a row, all of them among the `width` minutes before `end`, are not
+    /// there. `end` is a number of minutes since 2000-01-01T00:00Z; the minutes may begin before the year 2000.
     pub fn has_free_run(&self, end: u64, width: u64, length: u64) -> bool
         requires { 0 < length }
         ensures { IsTrue result
@@ -181,7 +187,7 @@ impl Intervals {
         false
     }
 
-    /// How many minutes from `from` up to, and without, `to` are there.
+    /// Counts the minutes that are there from `from` up to, and without, `to`.
     pub(crate) fn minutes_between(&self, from: i64, to: i64) -> u64
         requires order { from ≤ℤ to }
         ensures { result ≡ count (minutes_of self.now.spans) from (unsigned_abs (to -ℤ from)) }
@@ -190,7 +196,7 @@ impl Intervals {
         minutes_below(intervals, natural(to)) - minutes_below(intervals, natural(from))
     }
 
-    /// Whether some `length` minutes in a row, all of them from `from` up to, and without, `to`, are not there.
+    /// Returns whether some `length` minutes in a row, all of them from `from` up to, and without, `to`, are not there.
     pub(crate) fn free_run(&self, from: i64, to: i64, length: u32) -> bool
         requires order { from ≤ℤ to }
         requires begin { negsuc 99_999_999 ≤ℤ from }
@@ -206,15 +212,15 @@ impl Intervals {
         self.has_free_run(natural(to), width, length as u64)
     }
 
-    /// A copy of the same spans.
-    pub(crate) fn copy(&self, alloc: Global) -> Result<Intervals, MemoryFault>
+    /// Copies the same spans.
+    pub(crate) fn try_clone(&self, alloc: Global) -> Result<Intervals, MemoryFault>
         ensures { IfOk result (λ copy. copy.spans ≡ self.now.spans) }
     {
         let intervals = self.intervals.as_slice().to_vec(alloc)?;
         Ok(Intervals { intervals })
     }
 
-    /// The intervals in their order.
+    /// Returns the intervals in their order.
     pub(crate) fn as_slice(&self) -> &[Interval]
         ensures { spans_in result.now ≡ self.now.spans }
     {
@@ -245,13 +251,19 @@ impl Intervals {
     /// Adds the minutes of the span at `first`, and of those after it that go into the same gap, and gives the index of the
     /// first span that is left.
     fn add_from<S: Spans>(&mut self, spans: &S, first: usize) -> usize
+        // The spans from `first` on, which there is room for.
         requires some { first < length (S.spans spans.now) }
         requires fits { length (S.spans spans.now) < 2 ^ 64 }
         requires room { length (S.spans spans.now) ≤ self.old.room + first }
+
+        // How far the call came.
         ensures some { first < result }
         ensures within { result ≤ length (S.spans spans.now) }
+
+        // What it added, and the room that is left.
         ensures minutes { (minute : ℤ) → minutes_of self.new.spans minute
-            ≡ (minutes_of (slice_range (S.spans spans.now) first result) minute || minutes_of self.old.spans minute) }
+            ≡ (minutes_of (slice_range (S.spans spans.now) first result) minute
+            || minutes_of self.old.spans minute) }
         ensures room { self.old.room + first ≤ self.new.room + result }
     {
         if spans.span(first).is_empty() {
@@ -282,12 +294,14 @@ impl Spans for Intervals {
     }
 }
 
-/// The minutes from the first begin to the last end.
+/// Returns the minutes from the first begin to the last end.
 fn hull_of(intervals: &[Interval]) -> Option<Span>
     requires { AreApart 0 (spans_in intervals.now) }
-    ensures some { IfSome result (λ span. (minute : ℕ) → IsTrue (at (minutes_of (spans_in intervals.now)) minute)
+    ensures some { IfSome result
+        (λ span. (minute : ℕ) → IsTrue (at (minutes_of (spans_in intervals.now)) minute)
         → (span.from ≤ minute) × (minute < span.to)) }
-    ensures none { IfNone result ((minute : ℕ) → IsFalse (at (minutes_of (spans_in intervals.now)) minute)) }
+    ensures none { IfNone result
+        ((minute : ℕ) → IsFalse (at (minutes_of (spans_in intervals.now)) minute)) }
 {
     let count = intervals.len();
     if count == 0 {
@@ -299,10 +313,11 @@ fn hull_of(intervals: &[Interval]) -> Option<Span>
     })
 }
 
-/// Whether some interval that ends after `after` and before `before` passes.
+/// Returns whether some interval that ends after `after` and before `before` passes.
 fn any_ending_of<T: SpanTest>(intervals: &[Interval], after: u32, before: u64, test: &T) -> bool
     requires { AreApart 0 (spans_in intervals.now) }
-    ensures { result ≡ list_any (λ span. (nat_lt after span.to && nat_lt span.to before) && T.passes test.now span) (spans_in intervals.now) }
+    ensures { result ≡ list_any (λ span. (nat_lt after span.to && nat_lt span.to before)
+        && T.passes test.now span) (spans_in intervals.now) }
 {
     let first = first_ending_from(intervals, after as u64 + 1);
     let last = first_ending_from(intervals, before);
@@ -314,11 +329,12 @@ fn any_ending_of<T: SpanTest>(intervals: &[Interval], after: u32, before: u64, t
     false
 }
 
-/// Whether some interval begins before `to`, and some ends after `from`. If not, no minute from `from` up to, and without,
-/// `to` is there.
+/// Returns whether some interval begins before `to`, and some ends after `from`. If not, no minute from `from` up to,
+/// and without, `to` is there.
 fn is_near(intervals: &[Interval], from: u64, to: u64) -> bool
     requires { AreApart 0 (spans_in intervals.now) }
-    ensures { IsFalse result → (minute : ℕ) → from ≤ minute → minute < to → IsFalse (at (minutes_of (spans_in intervals.now)) minute) }
+    ensures { IsFalse result → (minute : ℕ) → from ≤ minute → minute < to
+        → IsFalse (at (minutes_of (spans_in intervals.now)) minute) }
 {
     let count = intervals.len();
     if count == 0 {
@@ -330,11 +346,13 @@ fn is_near(intervals: &[Interval], from: u64, to: u64) -> bool
     from < intervals[count - 1].span.to.number() as u64
 }
 
-/// The first interval that ends after `minute`.
+/// Finds the first interval that ends after `minute`.
 fn first_after(intervals: &[Interval], minute: u64) -> Option<Span>
     requires { AreApart 0 (spans_in intervals.now) }
-    ensures some { IfSome result (λ span. IsNext (minutes_of (spans_in intervals.now)) minute span) }
-    ensures none { IfNone result ((other : ℕ) → minute ≤ other → IsFalse (at (minutes_of (spans_in intervals.now)) other)) }
+    ensures some { IfSome result
+        (λ span. IsNext (minutes_of (spans_in intervals.now)) minute span) }
+    ensures none { IfNone result
+        ((other : ℕ) → minute ≤ other → IsFalse (at (minutes_of (spans_in intervals.now)) other)) }
 {
     let place = first_ending_from(intervals, minute.saturating_add(1));
     if place == intervals.len() {
@@ -347,7 +365,7 @@ fn first_after(intervals: &[Interval], minute: u64) -> Option<Span>
     }
 }
 
-/// How many minutes of the intervals are before `minute`.
+/// Counts the minutes of the intervals before `minute`.
 fn minutes_below(intervals: &[Interval], minute: u64) -> u64
     requires { IsIndex intervals.now }
     ensures { result ≡ below (at (minutes_of (spans_in intervals.now))) minute }
@@ -362,14 +380,14 @@ fn minutes_below(intervals: &[Interval], minute: u64) -> u64
     interval.total as u64 - (end - minute.max(begin))
 }
 
-/// The number, or 0 where it is negative.
+/// Returns the number, or 0 where it is negative.
 fn natural(number: i64) -> u64
     ensures { result ≡ natural_of number }
 {
     if number < 0 { 0 } else { number as u64 }
 }
 
-/// How many minutes there are from `from` up to, and without, `to`.
+/// Counts the minutes from `from` up to, and without, `to`.
 fn width_of(from: i64, to: i64) -> u64
     requires order { from ≤ℤ to }
     requires begin { negsuc 99_999_999 ≤ℤ from }

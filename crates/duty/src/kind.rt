@@ -1,3 +1,5 @@
+//! The three kinds of time that the limits count.
+
 /// Which minutes of a duty are counted.
 #[derive(Clone, Copy, Debug, PartialEq, Eq)]
 pub enum Kind {

@@ -1,4 +1,5 @@
 //! Spans put into sorted lists of disjoint intervals, and the running sums made anew.
+//! Against a slow count of minutes: `tests/judgement.py`. Wrong bodies: `must-fail/`.
 ghost use Rattle.std.specs.Prelude.{◌≡◌, ℕ, ◌<◌, ◌≤◌, ◌+◌, ◌-◌, ◌++◌, ◌∷◌, [], List, Some, length, map, slice_get, slice_index_or, slice_range, take, ◌||◌, ℤ, vec_len, vec_capacity, nat_lt, IsTrue, IsFalse};
 ghost use Rattle.std.specs.List.{insert, insert_slice};
 ghost use Rattle.duty.specs.Intervals.{AreApart, AreSummed, IsIndex, lengths, spans_in, unsummed, joined as join};
@@ -14,11 +15,11 @@ use time117::Minute;
 pub(crate) trait Spans {
     ghost spans: { Self → List Minutes };
 
-    /// How many spans there are.
+    /// Counts the spans.
     fn count(&self) -> usize
         ensures { result ≡ length (spans self.now) };
 
-    /// The span at an index.
+    /// Returns the span at an index.
     fn span(&self, index: usize) -> Span
         requires { index < length (spans self.now) }
         ensures { slice_get (spans self.now) index ≡ Some result };
@@ -36,12 +37,14 @@ impl Spans for Vec<Span> {
     }
 }
 
-/// The place of the first interval that ends at `minute` or later, or their number.
+/// Finds the place of the first interval that ends at `minute` or later, or their number.
 pub(crate) fn first_ending_from(intervals: &[Interval], minute: u64) -> usize
     requires { AreApart 0 (spans_in intervals.now) }
     ensures within { result ≤ length intervals.now }
-    ensures before { (k : ℕ) (d : Spanned) → k < result → (slice_index_or intervals.now k d).span.to < minute }
-    ensures after { (k : ℕ) (d : Spanned) → result ≤ k → k < length intervals.now → minute ≤ (slice_index_or intervals.now k d).span.to }
+    ensures before { (k : ℕ) (d : Spanned) → k < result
+        → (slice_index_or intervals.now k d).span.to < minute }
+    ensures after { (k : ℕ) (d : Spanned) → result ≤ k → k < length intervals.now
+        → minute ≤ (slice_index_or intervals.now k d).span.to }
 {
     intervals.partition_point(
         |interval: &Interval| -> bool
@@ -52,13 +55,21 @@ pub(crate) fn first_ending_from(intervals: &[Interval], minute: u64) -> usize
 
 /// Takes out the intervals that meet or touch the span, and gives the place of the span that they and it make, and that span.
 pub(crate) fn absorb(intervals: &mut Vec<Interval>, span: Span) -> (usize, Span)
+    // A list in order, and a span that holds a minute.
     requires index { IsIndex intervals.old.items }
     requires some { span.from < span.to }
+
+    // Where the span goes, as long as it has become.
     ensures within { result.0 ≤ vec_len intervals.new }
     ensures apart { AreApart 0 (insert (spans_in intervals.new.items) result.0 result.1) }
     ensures summed { AreSummed result.0 intervals.new.items }
-    ensures minutes { (minute : ℤ) → (covers minute result.1 || minutes_of (spans_in intervals.new.items) minute)
+
+    // No minute is lost, none is new.
+    ensures minutes { (minute : ℤ)
+        → (covers minute result.1 || minutes_of (spans_in intervals.new.items) minute)
         ≡ (covers minute span || minutes_of (spans_in intervals.old.items) minute) }
+
+    // The list is no longer, and its room stays.
     ensures fewer { vec_len intervals.new ≤ vec_len intervals.old }
     ensures capacity { vec_capacity intervals.new ≡ vec_capacity intervals.old }
 {
@@ -68,16 +79,28 @@ pub(crate) fn absorb(intervals: &mut Vec<Interval>, span: Span) -> (usize, Span)
 
 /// Takes out the intervals from `place` on that meet or touch the span, and gives the span that they and it make.
 fn absorb_at(intervals: &mut Vec<Interval>, place: usize, span: Span) -> Span
+    // A list in order, and a span that holds a minute.
     requires apart { AreApart 0 (spans_in intervals.old.items) }
     requires some { span.from < span.to }
+
+    // The place behind the intervals that end before the span.
     requires within { place ≤ vec_len intervals.old }
-    requires before { (k : ℕ) (d : Spanned) → k < place → (slice_index_or intervals.old.items k d).span.to < span.from }
-    requires after { (k : ℕ) (d : Spanned) → place ≤ k → k < vec_len intervals.old → span.from ≤ (slice_index_or intervals.old.items k d).span.to }
+    requires before { (k : ℕ) (d : Spanned) → k < place
+        → (slice_index_or intervals.old.items k d).span.to < span.from }
+    requires after { (k : ℕ) (d : Spanned) → place ≤ k → k < vec_len intervals.old
+        → span.from ≤ (slice_index_or intervals.old.items k d).span.to }
+
+    // What the span has become still goes there.
     ensures some { result.from < result.to }
     ensures within { place ≤ vec_len intervals.new }
     ensures apart { AreApart 0 (insert (spans_in intervals.new.items) place result) }
-    ensures minutes { (minute : ℤ) → (covers minute result || minutes_of (spans_in intervals.new.items) minute)
+
+    // No minute is lost, none is new.
+    ensures minutes { (minute : ℤ)
+        → (covers minute result || minutes_of (spans_in intervals.new.items) minute)
         ≡ (covers minute span || minutes_of (spans_in intervals.old.items) minute) }
+
+    // The list is no longer, its room stays, and so do the sums before the place.
     ensures fewer { vec_len intervals.new ≤ vec_len intervals.old }
     ensures capacity { vec_capacity intervals.new ≡ vec_capacity intervals.old }
     ensures same_sums { AreSummed place intervals.old.items → AreSummed place intervals.new.items }
@@ -89,16 +112,18 @@ fn absorb_at(intervals: &mut Vec<Interval>, place: usize, span: Span) -> Span
     merged
 }
 
-/// Whether there is an interval at `place` that begins at `minute` or before.
+/// Returns whether there is an interval at `place` that begins at `minute` or before.
 fn begins_by(intervals: &[Interval], place: usize, minute: Minute) -> bool
     ensures some { IsTrue result → place < length intervals.now }
-    ensures begins { IsTrue result → (d : Spanned) → (slice_index_or intervals.now place d).span.from ≤ minute }
-    ensures none { IsFalse result → (d : Spanned) → place < length intervals.now → minute < (slice_index_or intervals.now place d).span.from }
+    ensures begins { IsTrue result → (d : Spanned)
+        → (slice_index_or intervals.now place d).span.from ≤ minute }
+    ensures none { IsFalse result → (d : Spanned) → place < length intervals.now
+        → minute < (slice_index_or intervals.now place d).span.from }
 {
     place < intervals.len() && intervals[place].span.from <= minute
 }
 
-/// The span from the first begin to the last end.
+/// Joins the spans, from the first begin to the last end.
 fn joined(one: Span, other: Span) -> Span
     ensures { result ≡ join one other }
 {
@@ -108,7 +133,8 @@ fn joined(one: Span, other: Span) -> Span
     }
 }
 
-/// Up to which index the spans from `first` on go, one after another, between `end` and the interval at `place`.
+/// Finds the index up to which the spans from `first` on go, one after another, between `end` and the interval at
+/// `place`.
 pub(crate) fn fitting<S: Spans>(
     intervals: &[Interval],
     place: usize,
@@ -119,8 +145,10 @@ pub(crate) fn fitting<S: Spans>(
     requires { first ≤ length (S.spans spans.now) }
     ensures order { first ≤ result }
     ensures within { result ≤ length (S.spans spans.now) }
-    ensures apart { (before : Minutes) → before.to ≡ end → AreApart 0 (insert (spans_in intervals.now) place before)
-        → AreApart 0 (insert_slice (spans_in intervals.now) place (before ∷ slice_range (S.spans spans.now) first result)) }
+    ensures apart { (before : Minutes) → before.to ≡ end
+        → AreApart 0 (insert (spans_in intervals.now) place before)
+        → AreApart 0 (insert_slice (spans_in intervals.now) place
+        (before ∷ slice_range (S.spans spans.now) first result)) }
 {
     for index in first..spans.count() {
         if !goes_on(intervals, place, end, spans.span(index)) {
@@ -131,10 +159,11 @@ pub(crate) fn fitting<S: Spans>(
     spans.count()
 }
 
-/// Whether a span has a minute, begins after `end`, and ends before the interval at `place` begins.
+/// Returns whether a span has a minute, begins after `end`, and ends before the interval at `place` begins.
 fn goes_on(intervals: &[Interval], place: usize, end: Minute, span: Span) -> bool
     ensures order { IsTrue result → (end < span.from) × (span.from < span.to) }
-    ensures before { IsTrue result → (d : Spanned) → place < length intervals.now → span.to < (slice_index_or intervals.now place d).span.from }
+    ensures before { IsTrue result → (d : Spanned) → place < length intervals.now
+        → span.to < (slice_index_or intervals.now place d).span.from }
 {
     end < span.from && span.from < span.to && !begins_by(intervals, place, span.to)
 }
@@ -149,14 +178,23 @@ pub(crate) fn put<S: Spans>(
     first: usize,
     last: usize,
 )
-    requires apart { AreApart 0 (insert_slice (spans_in intervals.old.items) place (span ∷ slice_range (S.spans spans.now) first last)) }
+    // The spans that go to the place, in order with the intervals there.
+    requires apart { AreApart 0 (insert_slice (spans_in intervals.old.items) place
+        (span ∷ slice_range (S.spans spans.now) first last)) }
     requires order { first ≤ last }
     requires in_list { last ≤ length (S.spans spans.now) }
+
+    // The place, the room, and the sums before it.
     requires within { place ≤ vec_len intervals.old }
     requires room { vec_len intervals.old + (last - first) < vec_capacity intervals.old }
     requires summed { AreSummed place intervals.old.items }
-    ensures spans { spans_in intervals.new.items ≡ insert_slice (spans_in intervals.old.items) place (span ∷ slice_range (S.spans spans.now) first last) }
+
+    // The list is in order, with all sums.
+    ensures spans { spans_in intervals.new.items ≡ insert_slice (spans_in intervals.old.items) place
+        (span ∷ slice_range (S.spans spans.now) first last) }
     ensures summed { AreSummed (length intervals.new.items) intervals.new.items }
+
+    // It has grown within its room.
     ensures len { vec_len intervals.new ≡ vec_len intervals.old + 1 + (last - first) }
     ensures capacity { vec_capacity intervals.old ≤ vec_capacity intervals.new }
 {
@@ -174,10 +212,14 @@ fn push_all<S: Spans>(
     first: usize,
     last: usize,
 )
+    // The spans, and the room for them.
     requires order { first ≤ last }
     requires within { last ≤ length (S.spans spans.now) }
     requires room { vec_len intervals.old + (last - first) < vec_capacity intervals.old }
-    ensures items { intervals.new.items ≡ intervals.old.items ++ map unsummed (span ∷ slice_range (S.spans spans.now) first last) }
+
+    // They stand behind the intervals, without sums.
+    ensures items { intervals.new.items
+        ≡ intervals.old.items ++ map unsummed (span ∷ slice_range (S.spans spans.now) first last) }
     ensures len { vec_len intervals.new ≡ vec_len intervals.old + 1 + (last - first) }
     ensures capacity { vec_capacity intervals.old ≤ vec_capacity intervals.new }
 {
@@ -201,7 +243,8 @@ fn push(intervals: &mut Vec<Interval>, span: Span)
 fn move_tail(intervals: &mut Vec<Interval>, tail: usize, place: usize)
     requires order { place ≤ tail }
     requires within { tail ≤ vec_len intervals.old }
-    ensures items { (front back : List Spanned) → intervals.old.items ≡ front ++ back → length front ≡ tail
+    ensures items { (front back : List Spanned) → intervals.old.items ≡ front ++ back
+        → length front ≡ tail
         → intervals.new.items ≡ insert_slice front place back }
     ensures len { vec_len intervals.new ≡ vec_len intervals.old }
     ensures capacity { vec_capacity intervals.new ≡ vec_capacity intervals.old }
@@ -211,9 +254,12 @@ fn move_tail(intervals: &mut Vec<Interval>, tail: usize, place: usize)
 
 /// Adds up the lengths from `place` on.
 fn sum_from(intervals: &mut Vec<Interval>, place: usize)
+    // A list in order, with the sums before the place.
     requires apart { AreApart 0 (spans_in intervals.old.items) }
     requires within { place ≤ vec_len intervals.old }
     requires summed { AreSummed place intervals.old.items }
+
+    // The same list, with all sums.
     ensures spans { spans_in intervals.new.items ≡ spans_in intervals.old.items }
     ensures summed { AreSummed (length intervals.new.items) intervals.new.items }
     ensures len { vec_len intervals.new ≡ vec_len intervals.old }
@@ -226,7 +272,7 @@ fn sum_from(intervals: &mut Vec<Interval>, place: usize)
     }
 }
 
-/// How many minutes the first `count` intervals have.
+/// Counts the minutes of the first `count` intervals.
 pub(crate) fn total_of(intervals: &[Interval], count: usize) -> u32
     requires within { count ≤ length intervals.now }
     requires summed { AreSummed count intervals.now }
@@ -239,7 +285,7 @@ pub(crate) fn total_of(intervals: &[Interval], count: usize) -> u32
     }
 }
 
-/// How many minutes the span has.
+/// Counts the minutes of the span.
 fn length_of(span: Span) -> u32
     requires { span.from ≤ span.to }
     ensures value { result ≡ span.to - span.from }

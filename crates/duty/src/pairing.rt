@@ -1,3 +1,5 @@
+//! Pairings: what a crew flies together, checked once, where it is made.
+//! Worked rows: `tests/answers.py`. Wrong bodies: `must-fail-more/`.
 ghost use Rattle.std.specs.Prelude.{◌≡◌, map};
 ghost use Rattle.duty.specs.Pairings.{pairing_fault};
 ghost use Rattle.duty.specs.Plans.{plan, as_planned};
@@ -9,7 +11,7 @@ use crate::fdp::Fdp;
 use crate::id::PairingId;
 use std::alloc::Global;
 use std::marker::Model;
-use values::{Copied, Exact, Items, MemoryFault};
+use values::{LawfulEq, MemoryFault, Sequence, TryClone};
 
 /// A plan of 1 to 10 flight duty periods that a crew flies together, each of 1 to 12 segments. The
 /// times of each period are in order, each report is at or after the release before it, and each
@@ -17,7 +19,7 @@ use values::{Copied, Exact, Items, MemoryFault};
 #[derive(PartialEq, Eq, Drop)]
 pub struct Pairing {
     id: PairingId,
-    periods: Items<Fdp>,
+    periods: Sequence<Fdp>,
 }
 
 impl Model for Pairing {
@@ -36,9 +38,9 @@ impl Model for Pairing {
 }
 
 impl Pairing {
-    /// The pairing of these periods, each planned at its report. Of several faults the first comes:
-    /// a text outside its shape, then a number of periods or segments out of range, then times out
-    /// of order, then airports that don't chain, each in the lowest period that has it.
+    /// Makes a pairing of these periods, each planned at its report. Of several faults the first
+    /// comes: a text outside its shape, then a number of periods or segments out of range, then
+    /// times out of order, then airports that don't chain, each in the lowest period that has it.
     pub fn new(id: PairingId, periods: Vec<Fdp>) -> Result<Pairing, DutyFault>
         ensures { let p = plan id periods.items in result ≡ checked (pairing_fault p) p }
     {
@@ -46,7 +48,7 @@ impl Pairing {
         check_pairing(&id, &periods)?;
         Ok(Pairing {
             id,
-            periods: Items::new(periods),
+            periods: Sequence::new(periods),
         })
     }
 
@@ -57,7 +59,7 @@ impl Pairing {
         &self.id
     }
 
-    /// The periods in turn, each as it is planned.
+    /// Returns the periods in turn, each as it is planned.
     pub fn periods(&self) -> &[Fdp]
         ensures periods { result.now ≡ self.now.periods }
         ensures sound { pairing_fault self.now ≡ None }
@@ -67,7 +69,7 @@ impl Pairing {
     }
 }
 
-/// The periods with each report as the planned one.
+/// Makes each report the planned one.
 fn planned(periods: Vec<Fdp>) -> Vec<Fdp>
     ensures { result.items ≡ map as_planned periods.items }
 {
@@ -78,22 +80,23 @@ fn planned(periods: Vec<Fdp>) -> Vec<Fdp>
     periods
 }
 
-impl Copied for Pairing {
-    fn copy(&self, alloc: Global) -> Result<Pairing, MemoryFault> {
+impl TryClone for Pairing {
+    fn try_clone(&self, alloc: Global) -> Result<Pairing, MemoryFault> {
         Ok(Pairing {
-            id: self.id.copy(alloc)?,
-            periods: self.periods.copy(alloc)?,
+            id: self.id.try_clone(alloc)?,
+            periods: self.periods.try_clone(alloc)?,
         })
     }
 }
 
-impl Exact for Pairing {
+impl LawfulEq for Pairing {
     ghost use Rattle.std.specs.Prelude.{refl};
     ghost use Rattle.std.proofs.lemmas.Slice.Eq.{bytes_eq-Decides, slice_eq-Decides};
     ghost use Rattle.values.specs.Same.{both_same, parts_same};
-    ghost use Rattle.duty.specs.contracts.fdp.FdpExact.TheImpl.Laws.{exact-law};
+    ghost use Rattle.duty.specs.contracts.fdp.FdpLawfulEq.TheImpl.Laws.{exact-law};
 
     ghost exact = { λ a b. parts_same
         (λ p. (p.id, p.periods)) (λ p. record { id = p.0; periods = p.1 }) (λ _. refl) a b _
-        (both_same _ _ (bytes_eq-Decides a.id b.id) (slice_eq-Decides exact-law a.periods b.periods _ refl)) };
+        (both_same _ _ (bytes_eq-Decides a.id b.id)
+        (slice_eq-Decides exact-law a.periods b.periods _ refl)) };
 }

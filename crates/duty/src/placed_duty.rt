@@ -1,3 +1,6 @@
+//! Duties placed in time: a planned report is read on the clock of the acclimated zone, and the duty goes into a
+//! history.
+//! Worked rows: `tests/answers.py`; new duties beside a slow count: `tests/judgement.py`. Wrong bodies: `must-fail/`.
 ghost use Rattle.std.specs.Prelude.{◌≡◌, ◌++◌, ◌∷◌, [], map, IfOk, OnOk, OnErr};
 ghost use Rattle.duty.specs.DutiesInForce as spec;
 
@@ -10,7 +13,7 @@ use crate::segment::Segment;
 use crate::span::Span;
 use std::alloc::{AllocError, Global};
 use time117::Zone;
-use values::{Copied, MemoryFault};
+use values::{MemoryFault, TryClone};
 
 /// A duty of a crew member, which a history takes.
 #[derive(Drop)]
@@ -32,8 +35,8 @@ impl History {
 }
 
 impl Duty {
-    /// The duty with its times in force. A flight duty period's planned report is read on the clock of `zone`, the
-    /// acclimated one.
+    /// Returns the duty with its times in force. A flight duty period's planned report is read on the clock of `zone`,
+    /// the acclimated one.
     pub fn in_force(&self, alloc: Global, zone: &Zone) -> Result<DutyInForce, MemoryFault>
         ensures { IfOk result (λ duty. duty ≡ spec.in_force zone.now self.now) }
     {
@@ -48,7 +51,7 @@ impl Duty {
 }
 
 impl Fdp {
-    /// The period's times, with the minute of the day of its planned report on the clock of `zone`.
+    /// Returns the period's times, with the minute of the day of its planned report on the clock of `zone`.
     pub fn in_force(&self, alloc: Global, zone: &Zone) -> Result<FdpInForce, MemoryFault>
         ensures { IfOk result (λ times. times ≡ spec.fdp_times zone.now self.now) }
     {
@@ -58,7 +61,7 @@ impl Fdp {
     }
 }
 
-/// The segments' times.
+/// Copies the segments' times.
 fn spans_of(alloc: Global, segments: &[Segment]) -> Result<Vec<Span>, AllocError>
     ensures { IfOk result (λ spans. spans.items ≡ map spec.span_of segments.now) }
 {
@@ -71,11 +74,11 @@ fn spans_of(alloc: Global, segments: &[Segment]) -> Result<Vec<Span>, AllocError
         .collect(alloc)
 }
 
-impl Copied for Duty {
-    fn copy(&self, alloc: Global) -> Result<Duty, MemoryFault> {
+impl TryClone for Duty {
+    fn try_clone(&self, alloc: Global) -> Result<Duty, MemoryFault> {
         match self {
-            Duty::Fdp(fdp) => Ok(Duty::Fdp(fdp.copy(alloc)?)),
-            Duty::Ground(ground) => Ok(Duty::Ground(ground.copy(alloc)?)),
+            Duty::Fdp(fdp) => Ok(Duty::Fdp(fdp.try_clone(alloc)?)),
+            Duty::Ground(ground) => Ok(Duty::Ground(ground.try_clone(alloc)?)),
         }
     }
 }

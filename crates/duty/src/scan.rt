@@ -1,3 +1,5 @@
+//! Searches through duties and through their spans, by a test that contracts can name.
+//! Wrong bodies: `must-fail-more/`.
 ghost use Rattle.std.specs.Prelude.{◌≡◌, Bool};
 ghost use Rattle.std.specs.List.{list_any, flat_map};
 ghost use Rattle.duty.specs.Minutes.{spans_of};
@@ -12,12 +14,12 @@ use super::span::Span;
 pub trait SpanTest {
     ghost passes: { Self → Minutes → Bool };
 
-    /// Whether the span passes.
+    /// Returns whether the span passes.
     fn passes(&self, span: Span) -> bool
         ensures { result ≡ passes self.now span };
 }
 
-/// Whether some span of that kind of the duties passes.
+/// Returns whether some span of that kind of the duties passes.
 pub fn any_span<T: SpanTest>(duties: &[DutyInForce], kind: Kind, test: &T) -> bool
     ensures { result ≡ list_any (T.passes test.now) (flat_map (spans_of kind) duties.now) }
 {
@@ -29,7 +31,7 @@ pub fn any_span<T: SpanTest>(duties: &[DutyInForce], kind: Kind, test: &T) -> bo
     false
 }
 
-/// Whether some span of that kind of the duty passes.
+/// Returns whether some span of that kind of the duty passes.
 fn any_span_of<T: SpanTest>(duty: &DutyInForce, kind: Kind, test: &T) -> bool
     ensures { result ≡ list_any (T.passes test.now) (spans_of kind duty.now) }
 {
@@ -45,12 +47,12 @@ fn any_span_of<T: SpanTest>(duty: &DutyInForce, kind: Kind, test: &T) -> bool
 pub trait DutyTest {
     ghost passes: { Self → InForce → Bool };
 
-    /// Whether the duty passes.
+    /// Returns whether the duty passes.
     fn passes(&self, duty: &DutyInForce) -> bool
         ensures { result ≡ passes self.now duty.now };
 }
 
-/// Whether some duty passes.
+/// Returns whether some duty passes.
 pub fn any_duty<T: DutyTest>(duties: &[DutyInForce], test: &T) -> bool
     ensures { result ≡ list_any (T.passes test.now) duties.now }
 {

@@ -1,3 +1,5 @@
+//! Segments: one flight each, from block-out to block-in (14 CFR 1.1), and the times at which it was flown.
+//! Wrong bodies: `must-fail-more/`.
 ghost use Rattle.std.specs.Prelude.{◌≡◌, IfOk};
 ghost use Rattle.duty.specs.Pairings.{has_shapes};
 ghost use Rattle.duty.specs.Plans.{retimed};
@@ -5,7 +7,7 @@ ghost use Rattle.duty.specs.Plans.{retimed};
 use crate::id::{Airport, Flight};
 use std::alloc::Global;
 use time117::Minute;
-use values::{Copied, Exact, MemoryFault};
+use values::{LawfulEq, MemoryFault, TryClone};
 
 /// One flight of a flight duty period, from block-out to block-in.
 #[derive(PartialEq, Eq, Drop)]
@@ -18,34 +20,34 @@ pub struct Segment {
 }
 
 impl Segment {
-    /// Whether the flight and both airports have their shapes.
+    /// Returns whether the flight and both airports have their shapes.
     pub fn has_shapes(&self) -> bool
         ensures { result ≡ has_shapes self.now }
     {
         self.flight.has_shape() && self.from.has_shape() && self.to.has_shape()
     }
 
-    /// A copy with other times.
+    /// Copies the segment with other times.
     pub fn retimed(&self, alloc: Global, times: BlockTimes) -> Result<Segment, MemoryFault>
         ensures { IfOk result (λ s. s ≡ retimed (self.now, times)) }
     {
         Ok(Segment {
-            flight: self.flight.copy(alloc)?,
-            from: self.from.copy(alloc)?,
+            flight: self.flight.try_clone(alloc)?,
+            from: self.from.try_clone(alloc)?,
             block_out: times.block_out,
-            to: self.to.copy(alloc)?,
+            to: self.to.try_clone(alloc)?,
             block_in: times.block_in,
         })
     }
 }
 
-impl Copied for Segment {
-    fn copy(&self, alloc: Global) -> Result<Segment, MemoryFault> {
+impl TryClone for Segment {
+    fn try_clone(&self, alloc: Global) -> Result<Segment, MemoryFault> {
         self.retimed(alloc, self.times())
     }
 }
 
-impl Exact for Segment {
+impl LawfulEq for Segment {
     ghost use Rattle.std.specs.Prelude.{refl};
     ghost use Rattle.std.proofs.lemmas.Bool.Decides.{Decides-eqb};
     ghost use Rattle.std.proofs.lemmas.Slice.Eq.{bytes_eq-Decides};
@@ -53,7 +55,8 @@ impl Exact for Segment {
 
     ghost exact = { λ a b. parts_same
         (λ s. (s.flight, (s.from, (s.block_out, (s.to, s.block_in)))))
-        (λ p. record { flight = p.0; from = p.1.0; block_out = p.1.1.0; to = p.1.1.1.0; block_in = p.1.1.1.1 })
+        (λ p. record
+        { flight = p.0; from = p.1.0; block_out = p.1.1.0; to = p.1.1.1.0; block_in = p.1.1.1.1 })
         (λ _. refl) a b _
         (both_same _ _ (bytes_eq-Decides a.flight b.flight)
         (both_same _ _ (bytes_eq-Decides a.from b.from)
@@ -68,7 +71,7 @@ pub trait Timed: Drop {
 
     ghost times: { Self → BlockTimes };
 
-    /// The times.
+    /// Returns the times.
     fn times(&self) -> BlockTimes
         ensures { result ≡ times self.now };
 }
@@ -101,13 +104,13 @@ pub struct BlockTimes {
     pub block_in: Minute,
 }
 
-impl Copied for BlockTimes {
-    fn copy(&self, _alloc: Global) -> Result<BlockTimes, MemoryFault> {
+impl TryClone for BlockTimes {
+    fn try_clone(&self, _alloc: Global) -> Result<BlockTimes, MemoryFault> {
         Ok(*self)
     }
 }
 
-impl Exact for BlockTimes {
+impl LawfulEq for BlockTimes {
     ghost use Rattle.std.specs.Prelude.{refl};
     ghost use Rattle.std.proofs.lemmas.Bool.Decides.{Decides-eqb};
     ghost use Rattle.values.specs.Same.{both_same, parts_same};

@@ -1,3 +1,4 @@
+//! Spans of minutes, from a first minute up to one that is no longer in it.
 ghost use Rattle.std.specs.Prelude.{◌≡◌, ◌<◌, ◌≤◌, ◌⊎◌, IsTrue, IsFalse};
 
 use time117::Minute;
@@ -10,7 +11,7 @@ pub struct Span {
 }
 
 impl Span {
-    /// Whether the span holds no minute.
+    /// Returns whether the span holds no minute.
     pub(crate) fn is_empty(self) -> bool
         ensures empty { IsTrue result → self.to ≤ self.from }
         ensures some { IsFalse result → self.from < self.to }
@@ -18,7 +19,7 @@ impl Span {
         self.to <= self.from
     }
 
-    /// Where the span begins, if it holds a minute and begins after `minute` and before `limit`; else `limit`.
+    /// Returns where the span begins, if it holds a minute and begins after `minute` and before `limit`; else `limit`.
     pub(crate) fn begin_within(self, minute: u64, limit: u64) -> u64
         requires { minute < limit }
         ensures after { minute < result }

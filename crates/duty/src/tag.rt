@@ -9,7 +9,7 @@ pub trait Shaped: Drop {
 
     ghost has_shape: { List ℕ → Bool };
 
-    /// Whether a text has that shape.
+    /// Returns whether a text has that shape.
     fn has_shape(text: &str) -> bool
         ensures { result ≡ has_shape text.now };
 }

@@ -19,7 +19,7 @@ use Rattle.http_exchange.specs.declared.handler.HandlerFault.{HandlerFault}
 use Rattle.http_exchange.specs.declared.sending.ChannelFault.{ChannelFault}
 use Rattle.http_exchange.specs.declared.sending.ChannelFault.TheVariants.{Reader, Writer}
 use Rattle.http_exchange.specs.declared.exchanges.Served.TheVariants.{Answered, Nothing}
-use Rattle.http_exchange.specs.Exchange.{Held, asks, interim_bytes, receiving, AsksOnce, IsSettled, Answers, IsServed, MayHaveAsked, BreaksOff, IsBrokenOff, IsAsked}
+use Rattle.http_exchange.specs.Exchange.{Held, asks, interim_bytes, receiving, AsksOnce, IsSettled, Responds, IsServed, MayHaveAsked, BreaksOff, IsBrokenOff, IsAsked}
 
 -- what was written after other bytes
 told_after : (front : List ℕ) (out mid out' : Held) (code : ℕ) (final : Final) (is_head : Bool) → Appends out mid front → IsTold [] mid out' code final is_head → IsTold front out out' code final is_head
@@ -48,14 +48,14 @@ module _ {K : Type 0} (handles : K → K → Asked → Result Answer HandlerFaul
 
   pub refused : (fault : RequestFault) (is_head : Bool) (had out out' : Held) (old : K) (r : Result ℕ ChannelFault)
       → OrFails r (λ code. IsTold [] out out' code (of_fault fault is_head) is_head)
-      → IfOk r (λ code. Answers handles (record { is_head = is_head; step = refuse fault }) had had out out' old old code)
+      → IfOk r (λ code. Responds handles (record { is_head = is_head; step = refuse fault }) had had out out' old old code)
   refused fault is_head had out out' old (Err e) told = tt
   refused fault is_head None out out' old (Ok code) told = tt
   refused fault is_head (Some rest) out out' old (Ok code) told = inl (record { left_is = refl; settled = (refl, told) })
 
   pub shown : (what : Subject) (is_head : Bool) (had out out' : Held) (old new : K) (r : Result ℕ ChannelFault)
       → IsAsked handles (show what) out out' old new is_head r
-      → IfOk r (λ code. Answers handles (record { is_head = is_head; step = planning.show what }) had had out out' old new code)
+      → IfOk r (λ code. Responds handles (record { is_head = is_head; step = planning.show what }) had had out out' old new code)
   shown what is_head had out out' old new (Err e) asked = tt
   shown what is_head None out out' old new (Ok code) asked = tt
   shown what is_head (Some rest) out out' old new (Ok code) asked = inl (record { left_is = refl; settled = asked })
@@ -73,7 +73,7 @@ module _ {K : Type 0} (handles : K → K → Asked → Result Answer HandlerFaul
 
   pub short : (p : Planned) (had out out' : Held) (old : K) (r : Result ℕ ChannelFault)
       → OrFails r (λ code. IsSent [] out out' code (of_no_memory p.is_head))
-      → IfOk r (λ code. Answers handles p had had out out' old old code)
+      → IfOk r (λ code. Responds handles p had had out out' old old code)
   short p had out out' old (Err e) sent = tt
   short p None out out' old (Ok code) sent = tt
   short p (Some rest) out out' old (Ok code) sent = inr (record { left_is = refl; unasked = refl; sent = sent })
@@ -89,7 +89,7 @@ module _ {K : Type 0} (handles : K → K → Asked → Result Answer HandlerFaul
 
     pub taken : (had left out mid out' : Held) (old new : K) (body : List ℕ) (r : Result ℕ ChannelFault)
         → Appends out mid (interim_bytes expected.continues) → IsWholeAt expected.length had left body → IsAsked handles (submit expected.to body) mid out' old new is_head r
-        → IfOk r (λ code. Answers handles (receiving expected is_head) had left out out' old new code)
+        → IfOk r (λ code. Responds handles (receiving expected is_head) had left out out' old new code)
     taken had left out mid out' old new body (Err e) first whole asked = tt
     taken None left out mid out' old new body (Ok code) first whole asked = tt
     taken (Some rest) left out mid out' old new body (Ok code) first whole asked =
@@ -113,7 +113,7 @@ module _ {K : Type 0} (handles : K → K → Asked → Result Answer HandlerFaul
 
     pub cut : (had left out mid out' : Held) (old : K) (r : Result ℕ ChannelFault)
         → Appends out mid (interim_bytes expected.continues) → IsCutAt expected.length had left → OrFails r (λ code. IsTold [] mid out' code (of_fault CutBody is_head) is_head)
-        → IfOk r (λ code. Answers handles (receiving expected is_head) had left out out' old old code)
+        → IfOk r (λ code. Responds handles (receiving expected is_head) had left out out' old old code)
     cut had left out mid out' old (Err e) first short told = tt
     cut None left out mid out' old (Ok code) first short told = tt
     cut (Some rest) left out mid out' old (Ok code) first short told =
@@ -135,12 +135,12 @@ module _ {K : Type 0} (handles : K → K → Asked → Result Answer HandlerFaul
   no_head (Some input) left out out' old code none told = (none.0, inl (none.1, (refl, told)))
 
   -- what was read of the input, and what was answered to it
-  pub served : (had mid left out out' : Held) (old new : K) (head : Heading) (code : ℕ) → reading.IsReadWhole had mid head → Answers handles (plan head) mid left out out' old new code
+  pub served : (had mid left out out' : Held) (old new : K) (head : Heading) (code : ℕ) → reading.IsReadWhole had mid head → Responds handles (plan head) mid left out out' old new code
       → IsServed handles had left out out' old new (Answered code)
   served None mid left out out' old new head code is answers = tt
   served (Some input) mid left out out' old new head code (h, rest, has, is, there) answers =
-      let after = subst (λ m. Answers handles (plan head) m left out out' old new code) there answers in
-      (has_byte input h rest has.reads, inr (inl (h, rest, has, subst (λ head. Answers handles (plan head) (Some rest) left out out' old new code) is after)))
+      let after = subst (λ m. Responds handles (plan head) m left out out' old new code) there answers in
+      (has_byte input h rest has.reads, inr (inl (h, rest, has, subst (λ head. Responds handles (plan head) (Some rest) left out out' old new code) is after)))
 
   pub broken_off : (had mid : Held) (old new : K) (head : Heading) (fault : ChannelFault) → reading.IsReadWhole had mid head → BreaksOff handles (plan head) mid old new fault
       → IsBrokenOff handles had old new fault

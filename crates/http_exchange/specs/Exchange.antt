@@ -31,6 +31,7 @@ unread (refuse fault) rest = rest
 unread (planning.show what) rest = rest
 unread (receive expected) rest = drop expected.length rest
 
+-- what is written before the body is read: that a client that waits may go on
 abbrev pub interim_bytes : Bool → List ℕ
 interim_bytes waits = if waits then continue_bytes else []
 
@@ -67,7 +68,7 @@ module _ {K : Type 0} (handles : K → K → Asked → Result Answer HandlerFaul
       (answer : Result Answer HandlerFault) × handles old new asked answer × IsAnswerTold front out out' code answer is_head
 
   -- what the plan makes of the bytes that stand after a head
-  pub record IsAnswered (p : Planned) (rest : List ℕ) (left out out' : Held) (old new : K) (code : ℕ) : Type 0 where
+  pub record IsResponded (p : Planned) (rest : List ℕ) (left out out' : Held) (old new : K) (code : ℕ) : Type 0 where
     pub left_is : left ≡ Some (unread p.step rest)
     pub settled : IsSettled (asks p.step rest) (interim p.step) p.is_head out out' old new code
 
@@ -78,10 +79,10 @@ module _ {K : Type 0} (handles : K → K → Asked → Result Answer HandlerFaul
     pub sent : IsSent [] out out' code (of_no_memory is_head)
 
   -- after a head, where it is known what the reader has
-  abbrev pub Answers : Planned → Held → Held → Held → Held → K → K → ℕ → Type 0
-  Answers p None left out out' old new code = ⊤
-  Answers p (Some rest) left out out' old new code =
-      IsAnswered p rest left out out' old new code ⊎ IsShort rest p.is_head left out out' old new code
+  abbrev pub Responds : Planned → Held → Held → Held → Held → K → K → ℕ → Type 0
+  Responds p None left out out' old new code = ⊤
+  Responds p (Some rest) left out out' old new code =
+      IsResponded p rest left out out' old new code ⊎ IsShort rest p.is_head left out out' old new code
 
   -- an input without a byte is served nothing; one without a whole head is refused; else the plan of its head is followed. Where no
   -- memory is found for a head, one byte was read
@@ -90,7 +91,7 @@ module _ {K : Type 0} (handles : K → K → Asked → Result Answer HandlerFaul
   IsServedOf input left out out' old new (Answered code) =
       (0 < length input) × (
       (HasNoHead input × IsSettled (Err NoHead) [] false out out' old new code)
-      ⊎ (((h : RequestHead) × (rest : List ℕ) × HasHead input h rest × Answers (plan (heading h)) (Some rest) left out out' old new code)
+      ⊎ (((h : RequestHead) × (rest : List ℕ) × HasHead input h rest × Responds (plan (heading h)) (Some rest) left out out' old new code)
       ⊎ IsShort (drop 1 input) false left out out' old new code)
       )
 
@@ -101,6 +102,7 @@ module _ {K : Type 0} (handles : K → K → Asked → Result Answer HandlerFaul
 
   -- ---- a channel that failed
 
+  -- nothing was asked, or what the request asks for, if it asks for anything
   abbrev pub MayHaveAsked : Result Asked RequestFault → K → K → Type 0
   MayHaveAsked (Err fault) old new = new ≡ old
   MayHaveAsked (Ok asked) old new = (new ≡ old) ⊎ WasAsked asked old new
@@ -111,6 +113,7 @@ module _ {K : Type 0} (handles : K → K → Asked → Result Answer HandlerFaul
   BreaksOff p None old new Writer = ⊤
   BreaksOff p (Some rest) old new Writer = MayHaveAsked (asks p.step rest) old new
 
+  -- the same from the head on
   abbrev pub IsBrokenOff : Held → K → K → ChannelFault → Type 0
   IsBrokenOff had old new Reader = new ≡ old
   IsBrokenOff None old new Writer = ⊤

@@ -34,6 +34,7 @@ of_answer (Ok a) is_head = record { status = a.status; bytes = response a.status
 of_answer (Err Store) is_head = of_no_store is_head
 of_answer (Err Memory) is_head = of_no_memory is_head
 
+-- the final response of what a handler answers
 abbrev pub of_response : Response → Bool → Final
 of_response r is_head = of_answer (Ok (answer r)) is_head
 

@@ -21,13 +21,16 @@ pub record Answer : Type 0 where
 
 -- ---- as the program holds them
 
+-- a request as contracts see it
 abbrev pub asked : Request → Asked
 asked (rust.Submit to body) = submit to body.now
 asked (rust.Show report) = show (subject report)
 
+-- a response as contracts see it
 abbrev pub answer : Response → Answer
 answer r = record { status = r.status; media_type = r.media_type; text = string_bytes r.text }
 
+-- the same of what may be a fault
 abbrev pub answer_of : Result Response HandlerFault → Result Answer HandlerFault
 answer_of (Ok r) = Ok (answer r)
 answer_of (Err fault) = Err fault

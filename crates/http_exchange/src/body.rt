@@ -1,4 +1,5 @@
 //! A body as a reader gives it.
+//! What clients send: `tests/exchanges.py`. Wrong bodies: `must-fail/`.
 ghost use Rattle.std.specs.Prelude.{◌≡◌, ◌≤◌, [], IfOk};
 ghost use Rattle.std.specs.Vec.{vec_capacity};
 ghost use Rattle.http_exchange.specs.Body as spec;
@@ -23,7 +24,8 @@ pub(crate) fn read_body<R: Read>(
 ) -> Result<BodyRead, ReadFault>
     requires empty { room.items ≡ [] }
     requires wide { length ≤ vec_capacity room }
-    ensures { IfOk result (λ it. spec.IsRead length (R.remaining reader.old) (R.remaining reader.new) it) }
+    ensures { IfOk result
+        (λ it. spec.IsRead length (R.remaining reader.old) (R.remaining reader.new) it) }
 {
     let mut bytes = room;
     for _count in 0..length {

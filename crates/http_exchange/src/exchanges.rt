@@ -1,4 +1,6 @@
-//! One exchange.
+//! One exchange: a head is read, then a body, then the handler is asked, and then its answer is written. The definitions
+//! are in `specs/Exchange.antt`.
+//! What clients send and are answered: `tests/exchanges.py`. Wrong bodies: `must-fail/`.
 ghost use Rattle.std.specs.Prelude.{◌≡◌, IfErr, IfOk, MatchResult};
 ghost use Rattle.std.specs.Io.KnownBytes.{Appends};
 ghost use Rattle.http_message.specs.Plan.{plan, planned};
@@ -35,8 +37,11 @@ pub fn exchange<R: Read, W: Write, K, H: Handler<K>>(
     handler: &H,
     kept: &mut K,
 ) -> Result<Served, ChannelFault>
-    ensures served { IfOk result (λ it. spec.IsServed H.handles (R.remaining reader.old) (R.remaining reader.new) (W.contents writer.old) (W.contents writer.new) kept.old kept.new it) }
-    ensures failed { IfErr result (λ fault. spec.IsBrokenOff H.handles (R.remaining reader.old) kept.old kept.new fault) }
+    ensures served { IfOk result
+        (λ it. spec.IsServed H.handles (R.remaining reader.old) (R.remaining reader.new)
+        (W.contents writer.old) (W.contents writer.new) kept.old kept.new it) }
+    ensures failed { IfErr result
+        (λ fault. spec.IsBrokenOff H.handles (R.remaining reader.old) kept.old kept.new fault) }
     ensures once { spec.AsksOnce H.handles kept.old kept.new }
 {
     match read_head(alloc, reader) {
@@ -46,7 +51,7 @@ pub fn exchange<R: Read, W: Write, K, H: Handler<K>>(
             Ok(Served::Answered(status))
         }
         Ok(HeadRead::Whole(head)) => {
-            let status = answer(alloc, reader, writer, handler, kept, &head)?;
+            let status = respond(alloc, reader, writer, handler, kept, &head)?;
             Ok(Served::Answered(status))
         }
         Err(ReadFault::Memory) => Ok(Served::Answered(send_no_memory(writer, false)?)),
@@ -55,7 +60,7 @@ pub fn exchange<R: Read, W: Write, K, H: Handler<K>>(
 }
 
 /// Answers a request whose head was read.
-fn answer<R: Read, W: Write, K, H: Handler<K>>(
+fn respond<R: Read, W: Write, K, H: Handler<K>>(
     alloc: Global,
     reader: &mut R,
     writer: &mut W,
@@ -63,8 +68,11 @@ fn answer<R: Read, W: Write, K, H: Handler<K>>(
     kept: &mut K,
     head: &Head,
 ) -> Result<StatusCode, ChannelFault>
-    ensures answered { IfOk result (λ status. spec.Answers H.handles (plan head.now) (R.remaining reader.old) (R.remaining reader.new) (W.contents writer.old) (W.contents writer.new) kept.old kept.new status) }
-    ensures broken { IfErr result (λ fault. spec.BreaksOff H.handles (plan head.now) (R.remaining reader.old) kept.old kept.new fault) }
+    ensures answered { IfOk result (λ status.
+        spec.Responds H.handles (plan head.now) (R.remaining reader.old) (R.remaining reader.new)
+        (W.contents writer.old) (W.contents writer.new) kept.old kept.new status) }
+    ensures broken { IfErr result (λ fault.
+        spec.BreaksOff H.handles (plan head.now) (R.remaining reader.old) kept.old kept.new fault) }
     ensures once { spec.AsksOnce H.handles kept.old kept.new }
 {
     match plan_of(alloc, head) {
@@ -82,8 +90,11 @@ fn follow<R: Read, W: Write, K, H: Handler<K>>(
     kept: &mut K,
     plan: &Plan<'_>,
 ) -> Result<StatusCode, ChannelFault>
-    ensures answered { IfOk result (λ status. spec.Answers H.handles (planned plan.now) (R.remaining reader.old) (R.remaining reader.new) (W.contents writer.old) (W.contents writer.new) kept.old kept.new status) }
-    ensures broken { IfErr result (λ fault. spec.BreaksOff H.handles (planned plan.now) (R.remaining reader.old) kept.old kept.new fault) }
+    ensures answered { IfOk result (λ status.
+        spec.Responds H.handles (planned plan.now) (R.remaining reader.old) (R.remaining reader.new)
+        (W.contents writer.old) (W.contents writer.new) kept.old kept.new status) }
+    ensures broken { IfErr result (λ fault. spec.BreaksOff H.handles (planned plan.now)
+        (R.remaining reader.old) kept.old kept.new fault) }
     ensures once { spec.AsksOnce H.handles kept.old kept.new }
 {
     let is_head = plan.is_head;
@@ -108,7 +119,8 @@ fn ask<W: Write, K, H: Handler<K>>(
     request: &Request<'_>,
     is_head: bool,
 ) -> Result<StatusCode, ChannelFault>
-    ensures { spec.IsAsked H.handles (asked request.now) (W.contents writer.old) (W.contents writer.new) kept.old kept.new is_head result }
+    ensures { spec.IsAsked H.handles (asked request.now) (W.contents writer.old)
+        (W.contents writer.new) kept.old kept.new is_head result }
 {
     let answer = handler.handle(alloc, kept, request);
     send_answer(alloc, writer, answer, is_head)
@@ -124,8 +136,11 @@ fn take_in<R: Read, W: Write, K, H: Handler<K>>(
     expected: ExpectedBody,
     is_head: bool,
 ) -> Result<StatusCode, ChannelFault>
-    ensures answered { IfOk result (λ status. spec.Answers H.handles (spec.receiving expected is_head) (R.remaining reader.old) (R.remaining reader.new) (W.contents writer.old) (W.contents writer.new) kept.old kept.new status) }
-    ensures broken { IfErr result (λ fault. spec.BreaksOff H.handles (spec.receiving expected is_head) (R.remaining reader.old) kept.old kept.new fault) }
+    ensures answered { IfOk result (λ status. spec.Responds H.handles
+        (spec.receiving expected is_head) (R.remaining reader.old) (R.remaining reader.new)
+        (W.contents writer.old) (W.contents writer.new) kept.old kept.new status) }
+    ensures broken { IfErr result (λ fault. spec.BreaksOff H.handles
+        (spec.receiving expected is_head) (R.remaining reader.old) kept.old kept.new fault) }
     ensures once { spec.AsksOnce H.handles kept.old kept.new }
 {
     let Ok(room) = Vec::with_capacity(alloc, expected.length) else {
@@ -144,7 +159,9 @@ fn take_in<R: Read, W: Write, K, H: Handler<K>>(
 
 /// Tells a client that waits for it to go on and send the body.
 fn go_on<W: Write>(writer: &mut W, waits: bool) -> Result<(), ChannelFault>
-    ensures { MatchResult result (λ _. Appends (W.contents writer.old) (W.contents writer.new) (spec.interim_bytes waits)) (λ fault. fault ≡ Writer) }
+    ensures { MatchResult result
+        (λ _. Appends (W.contents writer.old) (W.contents writer.new) (spec.interim_bytes waits))
+        (λ fault. fault ≡ Writer) }
 {
     if waits {
         send(writer, CONTINUE)?;

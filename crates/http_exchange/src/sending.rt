@@ -1,4 +1,5 @@
 //! Final responses, as they are written.
+//! What clients are answered: `tests/exchanges.py`. Wrong bodies: `must-fail/`.
 ghost use Rattle.std.specs.Prelude.{◌≡◌, [], IfErr, IfOk, MatchResult};
 ghost use Rattle.std.specs.Io.KnownBytes.{Appends};
 ghost use Rattle.http_exchange.specs.Handler.{answer_of};
@@ -22,7 +23,9 @@ pub enum ChannelFault {
 
 /// Writes all bytes, and hands them on at once.
 pub(crate) fn send<W: Write>(writer: &mut W, bytes: &[u8]) -> Result<(), ChannelFault>
-    ensures { MatchResult result (λ _. Appends (W.contents writer.old) (W.contents writer.new) bytes.now) (λ fault. fault ≡ Writer) }
+    ensures { MatchResult result
+        (λ _. Appends (W.contents writer.old) (W.contents writer.new) bytes.now)
+        (λ fault. fault ≡ Writer) }
 {
     if writer.write_all(bytes).is_err() || writer.flush().is_err() {
         return Err(ChannelFault::Writer);
@@ -37,7 +40,8 @@ pub(crate) fn send_fault<W: Write>(
     fault: RequestFault,
     is_head: bool,
 ) -> Result<StatusCode, ChannelFault>
-    ensures { spec.OrFails result (λ code. spec.IsTold [] (W.contents writer.old) (W.contents writer.new) code (spec.of_fault fault is_head) is_head) }
+    ensures { spec.OrFails result (λ code. spec.IsTold [] (W.contents writer.old)
+        (W.contents writer.new) code (spec.of_fault fault is_head) is_head) }
 {
     match fault_response(alloc, fault, is_head) {
         Ok(bytes) => {
@@ -53,7 +57,8 @@ pub(crate) fn send_no_memory<W: Write>(
     writer: &mut W,
     is_head: bool,
 ) -> Result<StatusCode, ChannelFault>
-    ensures { spec.OrFails result (λ code. spec.IsSent [] (W.contents writer.old) (W.contents writer.new) code (spec.of_no_memory is_head)) }
+    ensures { spec.OrFails result (λ code. spec.IsSent [] (W.contents writer.old)
+        (W.contents writer.new) code (spec.of_no_memory is_head)) }
 {
     send(writer, no_memory_response(is_head))?;
     Ok(StatusCode::SERVICE_UNAVAILABLE)
@@ -61,7 +66,8 @@ pub(crate) fn send_no_memory<W: Write>(
 
 /// Writes that the store failed.
 fn send_no_store<W: Write>(writer: &mut W, is_head: bool) -> Result<StatusCode, ChannelFault>
-    ensures { spec.OrFails result (λ code. spec.IsSent [] (W.contents writer.old) (W.contents writer.new) code (spec.of_no_store is_head)) }
+    ensures { spec.OrFails result (λ code. spec.IsSent [] (W.contents writer.old)
+        (W.contents writer.new) code (spec.of_no_store is_head)) }
 {
     send(writer, no_store_response(is_head))?;
     Ok(StatusCode::SERVICE_UNAVAILABLE)
@@ -74,7 +80,8 @@ fn send_response<W: Write>(
     answer: &Response,
     is_head: bool,
 ) -> Result<StatusCode, ChannelFault>
-    ensures { spec.OrFails result (λ code. spec.IsTold [] (W.contents writer.old) (W.contents writer.new) code (spec.of_response answer.now is_head) is_head) }
+    ensures { spec.OrFails result (λ code. spec.IsTold [] (W.contents writer.old)
+        (W.contents writer.new) code (spec.of_response answer.now is_head) is_head) }
 {
     match response(
         alloc,
@@ -98,7 +105,8 @@ pub(crate) fn send_answer<W: Write>(
     answer: Result<Response, HandlerFault>,
     is_head: bool,
 ) -> Result<StatusCode, ChannelFault>
-    ensures { spec.OrFails result (λ code. spec.IsAnswerTold [] (W.contents writer.old) (W.contents writer.new) code (answer_of answer) is_head) }
+    ensures { spec.OrFails result (λ code. spec.IsAnswerTold [] (W.contents writer.old)
+        (W.contents writer.new) code (answer_of answer) is_head) }
 {
     match answer {
         Ok(answer) => send_response(alloc, writer, &answer, is_head),

@@ -31,11 +31,13 @@ pub data Step : Type 0 where
   receive : ExpectedBody → Step
   show : Subject → Step
 
+-- what is to be done for a head, and whether its method is `HEAD`
 pub record Planned : Type 0 where
   pub is_head : Bool
   pub step : Step
 
 module _ (h : Heading) where
+  -- the method is this one
   abbrev pub is_method : List ℕ → Bool
   is_method name = bytes_eq h.method name
 
@@ -45,30 +47,37 @@ module _ (h : Heading) where
 
   -- ---- the method, the length and the expectation
 
+  -- a report is shown to `GET` and to `HEAD` alone
   abbrev pub shown : Subject → Step
   shown what = if is_method (codes "GET") || is_method (codes "HEAD") then show what else refuse (NoMethod methods.GetAndHead)
 
+  -- a client of HTTP/1.1 waits before it sends a body of so many bytes, if it has any
   abbrev pub continues : ℕ → Bool
   continues n = h.minor == 1 && (nat_lt 0 n && has (codes "100-continue") (field (codes "expect")))
 
+  -- a body of a length that is known and is at most 1,048,576 bytes is received
   abbrev pub with_length : Submission → Option ℕ → Step
   with_length to None = refuse BadLength
   with_length to (Some n) = if nat_lt 1_048_576 n then refuse TooLong else receive (record { to = to; length = n; continues = continues n })
 
+  -- just one field has to tell the length
   abbrev pub with_lengths : Submission → List (List ℕ) → Step
   with_lengths to [] = refuse NoLength
   with_lengths to (value ∷ []) = with_length to (length_of value)
   with_lengths to (value ∷ other ∷ more) = refuse BadLength
 
+  -- a body is received from `POST` alone
   abbrev pub posted : Submission → Step
   posted to = if is_method (codes "POST") then with_lengths to (field (codes "content-length")) else refuse (NoMethod methods.Post)
 
   -- ---- the path
 
+  -- an import, if the path has a number for it
   abbrev pub imported : Option ℕ → Step
   imported None = refuse NoResource
   imported (Some number) = posted (Import number)
 
+  -- what each resource is asked for
   abbrev pub at_place : Option (Route × List ℕ) → Step
   at_place None = refuse NoResource
   at_place (Some (route.Requests, id)) = posted Command
@@ -77,34 +86,41 @@ module _ (h : Heading) where
   at_place (Some (route.Pairing, id)) = shown (pairing id)
   at_place (Some (route.Exceedances, id)) = shown exceedances
 
+  -- the resource of a path that is UTF-8
   abbrev pub at_path : List ℕ → Step
   at_path path = if is_utf8 path then at_place (place path) else refuse NoResource
 
   -- ---- from the first check on: the host, a transfer coding, the path
 
+  -- HTTP/1.1 wants just one `Host`
   abbrev pub lacks_host : Bool
   lacks_host = h.minor == 1 && not (length (field (codes "host")) == 1)
 
+  -- the checks in their order
   abbrev pub checked : Step
   checked =
       if lacks_host then refuse NotOneHost
       else (if nat_lt 0 (length (field (codes "transfer-encoding"))) then refuse TransferCoding
       else at_path (path_of h.target))
 
+  -- what is to be done for this head
   abbrev pub plan : Planned
   plan = record { is_head = is_method (codes "HEAD"); step = checked }
 
 -- ---- as the program holds it
 
+-- what a report is of
 abbrev pub subject : Report → Subject
 subject (report.Crew id) = crew id.now
 subject (report.Pairing id) = pairing id.now
 subject report.Exceedances = exceedances
 
+-- an action as contracts see it
 abbrev pub step : Action → Step
 step (rust.Refuse fault) = refuse fault
 step (rust.Receive expected) = receive expected
 step (rust.Show what) = show (subject what)
 
+-- a plan as contracts see it
 abbrev pub planned : Plan → Planned
 planned p = record { is_head = p.is_head; step = step p.action }

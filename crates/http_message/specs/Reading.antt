@@ -26,10 +26,12 @@ abbrev pub IsReadWhole : Option (List ℕ) → Option (List ℕ) → Heading →
 IsReadWhole None left head = ⊤
 IsReadWhole (Some input) left head = (h : RequestHead) × (rest : List ℕ) × HasHead input h rest × (head ≡ heading h) × (left ≡ Some rest)
 
+-- an input that is not empty and begins with no whole head; unless nothing is known of it
 abbrev pub IsReadBad : Option (List ℕ) → Type 0
 IsReadBad None = ⊤
 IsReadBad (Some input) = (0 < length input) × HasNoHead input
 
+-- an input of no byte; unless nothing is known of it
 abbrev pub IsReadEmpty : Option (List ℕ) → Type 0
 IsReadEmpty None = ⊤
 IsReadEmpty (Some input) = input ≡ []

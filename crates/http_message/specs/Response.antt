@@ -8,6 +8,7 @@ use Rattle.http_message.specs.declared.refusals.RequestFault.{RequestFault}
 use Rattle.http_message.specs.declared.responses.MediaType.{MediaType}
 use Rattle.http_message.specs.declared.responses.MediaType.TheVariants as media
 
+-- the end of a line
 abbrev pub crlf : List ℕ
 crlf = 13 ∷ 10 ∷ []
 
@@ -15,18 +16,22 @@ crlf = 13 ∷ 10 ∷ []
 unfoldable pub status_line : ℕ → List ℕ
 status_line code = codes "HTTP/1.1 " ++ status_text code ++ crlf
 
+-- the field that tells the type of the text
 unfoldable pub type_line : MediaType → List ℕ
 type_line media.Json = codes "Content-Type: application/json" ++ crlf
 type_line media.PlainText = codes "Content-Type: text/plain; charset=utf-8" ++ crlf
 
+-- the field that tells how many bytes the text has
 unfoldable pub length_line : ℕ → List ℕ
 length_line length = codes "Content-Length: " ++ decimal length ++ crlf
 
+-- the field that tells which methods a resource takes, if they are told
 unfoldable pub allow_line : Option Methods → List ℕ
 allow_line None = []
 allow_line (Some methods.Post) = codes "Allow: POST" ++ crlf
 allow_line (Some methods.GetAndHead) = codes "Allow: GET, HEAD" ++ crlf
 
+-- the field that says that the connection ends
 unfoldable pub close_line : List ℕ
 close_line = codes "Connection: close" ++ crlf
 
@@ -42,6 +47,7 @@ message code media allowed text is_head = head code media allowed (length text) 
 abbrev pub response : ℕ → MediaType → List ℕ → Bool → List ℕ
 response code media text is_head = message code media None text is_head
 
+-- the text that tells a status
 unfoldable pub fault_text : ℕ → List ℕ
 fault_text code = codes "{\"result\":\"error\",\"status\":" ++ decimal code ++ codes "}"
 
@@ -49,6 +55,7 @@ fault_text code = codes "{\"result\":\"error\",\"status\":" ++ decimal code ++ c
 abbrev pub fault_response : RequestFault → Bool → List ℕ
 fault_response fault is_head = message (status fault) media.Json (allow fault) (fault_text (status fault)) is_head
 
+-- the text that tells want of memory (91)
 unfoldable pub memory_text : List ℕ
 memory_text = codes "{\"name\":\"Memory\",\"refusal\":91,\"result\":\"refused\"}"
 
@@ -56,6 +63,7 @@ memory_text = codes "{\"name\":\"Memory\",\"refusal\":91,\"result\":\"refused\"}
 abbrev pub no_memory : Bool → List ℕ
 no_memory is_head = response 503 media.Json memory_text is_head
 
+-- the text that tells a fault of the store (90)
 unfoldable pub store_text : List ℕ
 store_text = codes "{\"name\":\"Store\",\"refusal\":90,\"result\":\"refused\"}"
 

@@ -17,6 +17,7 @@ id_after [] path = if is_id path then Some path else None
 id_after (a ∷ front) [] = None
 id_after (a ∷ front) (b ∷ path) = if a == b then id_after front path else None
 
+-- the first, if it is there, else the other
 abbrev pub first_of : {A : Type 0} → Option A → Option A → Option A
 first_of (Some a) other = Some a
 first_of None other = other
@@ -29,6 +30,7 @@ exactly name path = if bytes_eq name path then Some [] else None
 abbrev pub at : Route → Option (List ℕ) → Option (Route × List ℕ)
 at route id = option_map (λ id. (route, id)) id
 
+-- what a path names, and the id or the number in it
 abbrev pub place : List ℕ → Option (Route × List ℕ)
 place path =
     first_of (at Requests (exactly (codes "/requests") path))
@@ -47,9 +49,11 @@ name Crew = codes "/crew/"
 name Pairing = codes "/pairings/"
 name Exceedances = codes "/exceedances"
 
+-- a row of the router's table: a pattern, its text, where its names stand in the text, and the route
 abbrev pub row : List ℕ → List ℕ → List (ℕ × ℕ) → Route → List ℕ × RouteOf Route
 row pattern text names route = (pattern, record { pattern = pattern; text = text; names = names; value = route })
 
+-- the rows of the router, in the order in which it keeps them
 abbrev pub table : RowsOf (RouteOf Route)
 table =
     row (codes "/crew/" ++ 256 ∷ []) (codes "/crew/{id}") ((7, 9) ∷ []) Crew

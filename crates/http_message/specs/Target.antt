@@ -7,6 +7,7 @@ abbrev pub up_to : Option ℕ → List ℕ → List ℕ
 up_to None text = text
 up_to (Some n) text = take n text
 
+-- the target up to a `?`
 abbrev pub before_query : List ℕ → List ℕ
 before_query target = up_to (position (λ b. b == 63) target) target
 
@@ -15,6 +16,7 @@ abbrev pub from_place : Option ℕ → List ℕ → List ℕ
 from_place None text = 47 ∷ []
 from_place (Some n) text = drop n text
 
+-- the text from its first `/` on
 abbrev pub from_slash : List ℕ → List ℕ
 from_slash text = from_place (position (λ b. b == 47) text) text
 

@@ -1,4 +1,5 @@
 //! The head of a request.
+//! What clients send: `tests/exchanges.py`. Wrong bodies: `must-fail-more/`.
 ghost use Rattle.std.specs.Prelude.{◌≡◌, ◌≤◌, bytes_eq, codes, length, option_map, slice_get};
 ghost use Rattle.httparse.specs.Spans.{IsRequestWithin};
 ghost use Rattle.http_message.specs.Fields as spec;
@@ -25,11 +26,12 @@ impl Model for Head {
 
     ghost view = { λ h. shown_head h.bytes.items h.fields h.spans };
 
-    ghost invariant = { λ h. IsRequestWithin h.bytes.items h.fields h.spans × (h.spans.headers ≤ 64) };
+    ghost invariant = { λ h. IsRequestWithin h.bytes.items h.fields h.spans
+        × (h.spans.headers ≤ 64) };
 }
 
 impl Head {
-    /// The head whose parts stand there in the bytes.
+    /// Makes the head whose parts stand there in the bytes.
     pub(crate) fn new(bytes: Vec<u8>, spans: RequestSpans, fields: [HeaderSpan; 64]) -> Head
         requires within { IsRequestWithin bytes.items fields spans }
         requires few { spans.headers ≤ 64 }
@@ -42,49 +44,50 @@ impl Head {
         }
     }
 
-    /// The method, in its own case (RFC 9110, section 9.1).
+    /// Returns the method, in its own case (RFC 9110, section 9.1).
     pub fn method(&self) -> &[u8]
         ensures { result.now ≡ self.now.method }
     {
         self.spans.method.of(&self.bytes)
     }
 
-    /// Whether the method is `HEAD`, to which no response has a body (RFC 9110, section 9.3.2).
+    /// Returns whether the method is `HEAD`, to which no response has a body (RFC 9110, section 9.3.2).
     pub fn is_for_head(&self) -> bool
         ensures { result ≡ bytes_eq self.now.method (codes "HEAD") }
     {
         self.method() == b"HEAD".as_slice()
     }
 
-    /// The request target (RFC 9112, section 3.2).
+    /// Returns the request target (RFC 9112, section 3.2).
     pub fn target(&self) -> &[u8]
         ensures { result.now ≡ self.now.target }
     {
         self.spans.path.of(&self.bytes)
     }
 
-    /// The minor version: 1 in HTTP/1.1.
+    /// Returns the minor version: 1 in HTTP/1.1.
     pub fn minor(&self) -> u8
         ensures { result ≡ self.now.minor }
     {
         self.spans.version
     }
 
-    /// How many fields have this name, in any case (RFC 9110, section 5.1).
+    /// Counts the fields of this name, in any case (RFC 9110, section 5.1).
     pub fn count(&self, name: &[u8]) -> usize
         ensures { result ≡ length (spec.values name.now self.now.fields) }
     {
         fields::count(&self.bytes, &self.fields[..self.spans.headers], name)
     }
 
-    /// The value of the first field of this name, without the blanks and tabs round it (RFC 9110, section 5.5).
+    /// Finds the value of the first field of this name, without the blanks and tabs round it (RFC 9110, section 5.5).
     pub fn value(&self, name: &[u8]) -> Option<&[u8]>
-        ensures { option_map (λ v. v.now) result ≡ slice_get (spec.values name.now self.now.fields) 0 }
+        ensures { option_map (λ v. v.now) result
+            ≡ slice_get (spec.values name.now self.now.fields) 0 }
     {
         fields::value(&self.bytes, &self.fields[..self.spans.headers], name)
     }
 
-    /// Whether a field of this name has this value, in any case.
+    /// Returns whether a field of this name has this value, in any case.
     pub fn has(&self, name: &[u8], value: &[u8]) -> bool
         ensures { result ≡ spec.has value.now (spec.values name.now self.now.fields) }
     {

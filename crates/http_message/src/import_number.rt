@@ -1,3 +1,4 @@
+//! The number of an import in a path, as `/imports/7`.
 use std::marker::Model;
 
 /// The number of an import, from 1 to 9,223,372,036,854,775,807.
@@ -22,7 +23,7 @@ impl ImportNumber {
     ghost use Rattle.std.specs.Prelude.{◌≡◌, ◌≤◌, Some, None, if◌then◌else◌};
     ghost use Rattle.http_message.specs.ImportNumbers.{is_in_range};
 
-    /// The number, where it is from 1 to 9,223,372,036,854,775,807.
+    /// Takes the number, if it is from 1 to 9,223,372,036,854,775,807.
     pub(crate) fn new(number: u64) -> Option<ImportNumber>
         ensures { result ≡ (if is_in_range number then Some number else None) }
     {
@@ -33,7 +34,7 @@ impl ImportNumber {
         }
     }
 
-    /// From 1 to 9,223,372,036,854,775,807.
+    /// Returns the number, from 1 to 9,223,372,036,854,775,807.
     pub fn get(self) -> u64
         ensures number { result ≡ self }
         ensures low { 1 ≤ result }

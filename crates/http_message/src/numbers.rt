@@ -1,4 +1,5 @@
 //! Numbers in a head, which are plain decimals (RFC 9110, section 8.6).
+//! What clients send: `tests/exchanges.py`. Wrong bodies: `must-fail-more/`.
 ghost use Rattle.std.specs.Prelude.{◌≡◌, min, true};
 ghost use Rattle.std.specs.Char.{is_ascii_digit};
 ghost use Rattle.std.specs.List.{list_all};
@@ -10,7 +11,7 @@ use crate::import_number::ImportNumber;
 /// The most bytes of a body.
 pub(crate) const MOST_BODY: usize = 1_048_576;
 
-/// The length that a field's value tells, up to one byte more than a body may have.
+/// Reads the length that a field's value tells, up to one byte more than a body may have.
 pub(crate) fn length_of(value: &[u8]) -> Option<usize>
     ensures { result ≡ spec.length_of value.now }
 {
@@ -21,28 +22,28 @@ pub(crate) fn length_of(value: &[u8]) -> Option<usize>
     }
 }
 
-/// One decimal digit or more.
+/// Returns whether a text is one decimal digit or more.
 fn is_number(text: &[u8]) -> bool
     ensures { result ≡ spec.is_number text.now }
 {
     !text.is_empty() && are_digits(text)
 }
 
-/// Whether each byte is a decimal digit.
+/// Returns whether each byte is a decimal digit.
 fn are_digits(text: &[u8]) -> bool
     ensures { result ≡ list_all is_ascii_digit text.now }
 {
     text.iter().all(|b| is_digit(*b))
 }
 
-/// Whether a byte is a decimal digit.
+/// Returns whether a byte is a decimal digit.
 fn is_digit(byte: u8) -> bool
     ensures { result ≡ is_ascii_digit byte }
 {
     byte.is_ascii_digit()
 }
 
-/// The number of these digits, up to one byte more than a body may have.
+/// Reads the number of these digits, up to one byte more than a body may have.
 fn saturated(text: &[u8]) -> usize
     requires { spec.is_number text.now ≡ true }
     ensures { result ≡ min (digits_value 10 text.now) 1_048_577 }
@@ -54,7 +55,7 @@ fn saturated(text: &[u8]) -> usize
     number
 }
 
-/// The number of an import in a path.
+/// Reads the number of an import in a path.
 pub(crate) fn number_of_import(text: &[u8]) -> Option<ImportNumber>
     ensures { result ≡ spec.import_number text.now }
 {
@@ -64,7 +65,7 @@ pub(crate) fn number_of_import(text: &[u8]) -> Option<ImportNumber>
     ImportNumber::new(saturated_long(text))
 }
 
-/// The number of these digits, up to the greatest of its type.
+/// Reads the number of these digits, up to the greatest of its type.
 fn saturated_long(text: &[u8]) -> u64
     requires { spec.is_number text.now ≡ true }
     ensures { result ≡ min (digits_value 10 text.now) 18_446_744_073_709_551_615 }

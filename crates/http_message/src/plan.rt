@@ -1,4 +1,5 @@
-//! What a head asks for, before any byte of a body is read.
+//! What a head asks for, before any byte of a body is read. The definition is `plan` (`specs/Plan.antt`).
+//! What clients send: `tests/exchanges.py`. Wrong bodies: `must-fail/`.
 ghost use Rattle.std.specs.Prelude.{◌≡◌, IfOk, Some, codes, length};
 ghost use Rattle.http_message.specs.Fields.{values};
 ghost use Rattle.http_message.specs.Plan as spec;
@@ -64,7 +65,7 @@ pub enum Report<'h> {
     Exceedances,
 }
 
-/// What a head asks for. Each check comes after those before it in `specs/Plan.antt`.
+/// Decides what a head asks for. Each check comes after those before it in `specs/Plan.antt`.
 pub fn plan_of(alloc: Global, head: &Head) -> Result<Plan<'_>, MemoryFault>
     ensures { IfOk result (λ it. spec.planned it ≡ spec.plan head.now) }
 {
@@ -77,7 +78,7 @@ pub fn plan_of(alloc: Global, head: &Head) -> Result<Plan<'_>, MemoryFault>
     }
 }
 
-/// The checks from the first on.
+/// Makes the checks from the first on.
 fn checked(alloc: Global, head: &Head) -> Result<Action<'_>, MemoryFault>
     ensures { IfOk result (λ it. spec.step it ≡ spec.checked head.now) }
 {
@@ -90,14 +91,14 @@ fn checked(alloc: Global, head: &Head) -> Result<Action<'_>, MemoryFault>
     placed(alloc, head, path_of(head.target()))
 }
 
-/// Whether a head of HTTP/1.1 hasn't one `Host`.
+/// Returns whether a head of HTTP/1.1 hasn't one `Host`.
 fn lacks_host(head: &Head) -> bool
     ensures { result ≡ spec.lacks_host head.now }
 {
     head.minor() == 1 && head.count(b"host") != 1
 }
 
-/// The checks from the path on.
+/// Makes the checks from the path on.
 fn placed<'h>(alloc: Global, head: &'h Head, path: &'h [u8]) -> Result<Action<'h>, MemoryFault>
     ensures { IfOk result (λ it. spec.step it ≡ spec.at_path head.now path.now) }
 {
@@ -110,7 +111,7 @@ fn placed<'h>(alloc: Global, head: &'h Head, path: &'h [u8]) -> Result<Action<'h
     Ok(routed(head, route, id))
 }
 
-/// What a resource is asked for.
+/// Decides what a resource is asked for.
 fn routed<'h>(head: &'h Head, route: Route, id: &'h str) -> Action<'h>
     ensures { spec.step result ≡ spec.at_place head.now (Some (route, id.now)) }
 {
@@ -126,7 +127,7 @@ fn routed<'h>(head: &'h Head, route: Route, id: &'h str) -> Action<'h>
     }
 }
 
-/// What is asked of a report.
+/// Decides what is asked of a report.
 fn shown<'h>(head: &Head, report: Report<'h>) -> Action<'h>
     ensures { spec.step result ≡ spec.shown head.now (spec.subject report.entry) }
 {
@@ -138,7 +139,7 @@ fn shown<'h>(head: &Head, report: Report<'h>) -> Action<'h>
     }
 }
 
-/// What is asked of a resource that takes a body.
+/// Decides what is asked of a resource that takes a body.
 fn posted<'h>(head: &'h Head, to: Submission) -> Action<'h>
     ensures { spec.step result ≡ spec.posted head.now to }
 {
@@ -152,10 +153,11 @@ fn posted<'h>(head: &'h Head, to: Submission) -> Action<'h>
     }
 }
 
-/// The same where one field tells the length.
+/// Decides the same where one field tells the length.
 fn sized<'h>(head: &'h Head, to: Submission) -> Action<'h>
     requires { length (values (codes "content-length") head.now.fields) ≡ 1 }
-    ensures { spec.step result ≡ spec.with_lengths head.now to (values (codes "content-length") head.now.fields) }
+    ensures { spec.step result
+        ≡ spec.with_lengths head.now to (values (codes "content-length") head.now.fields) }
 {
     let Some(value) = head.value(b"content-length") else {
         unreachable!();
@@ -171,7 +173,7 @@ fn sized<'h>(head: &'h Head, to: Submission) -> Action<'h>
     }
 }
 
-/// Whether a client waits before it sends a body of so many bytes.
+/// Returns whether a client waits before it sends a body of so many bytes.
 fn continues(head: &Head, length: usize) -> bool
     ensures { result ≡ spec.continues head.now length }
 {

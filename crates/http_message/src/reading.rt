@@ -1,4 +1,5 @@
-//! A head as a reader gives it.
+//! A head as a reader gives it. What is a whole head is `HasHead` (`specs/Reading.antt`).
+//! What clients send: `tests/exchanges.py`. Wrong bodies: `must-fail/`.
 ghost use Rattle.std.specs.Prelude.{◌≡◌, [], ◌∷◌, IfErr, IfOk, MatchOption};
 ghost use Rattle.std.specs.Io.KnownBytes.{Consumes, IsAtEnd, Keeps};
 ghost use Rattle.http_message.specs.Reading as spec;
@@ -39,8 +40,10 @@ pub enum ReadFault {
 /// Reads a head (RFC 9112, section 2.2), and no byte after it. No end of a line is a head before the request line began, so
 /// empty lines in front cost no parse, and a parse comes at most once for each line of a head that has 64 fields at most.
 pub fn read_head<R: Read>(alloc: Global, reader: &mut R) -> Result<HeadRead, ReadFault>
-    ensures read { IfOk result (λ it. spec.IsRead (R.remaining reader.old) (R.remaining reader.new) it) }
-    ensures unread { IfErr result (λ fault. spec.IsUnread fault (R.remaining reader.old) (R.remaining reader.new)) }
+    ensures read { IfOk result
+        (λ it. spec.IsRead (R.remaining reader.old) (R.remaining reader.new) it) }
+    ensures unread { IfErr result
+        (λ fault. spec.IsUnread fault (R.remaining reader.old) (R.remaining reader.new)) }
 {
     let Some(first) = read_byte(reader)? else {
         return Ok(HeadRead::Nothing);
@@ -74,7 +77,7 @@ pub fn read_head<R: Read>(alloc: Global, reader: &mut R) -> Result<HeadRead, Rea
     Ok(HeadRead::NoHead)
 }
 
-/// Whether a byte is one of those that end a line.
+/// Returns whether a byte is one of those that end a line.
 fn is_line_end(byte: u8) -> bool
     ensures { result ≡ spec.is_line_end byte }
 {
@@ -92,7 +95,7 @@ enum Parsed {
     Hopeless,
 }
 
-/// What bytes are to a head of at most 64 fields.
+/// Parses bytes as a head of at most 64 fields.
 fn parse(bytes: &[u8], fields: &mut [HeaderSpan; 64]) -> Parsed
     ensures { spec.IsParsed bytes.now fields.new result }
 {
@@ -103,10 +106,13 @@ fn parse(bytes: &[u8], fields: &mut [HeaderSpan; 64]) -> Parsed
     }
 }
 
-/// The next byte of a reader, or `None` at its end. A read that was interrupted is made again.
+/// Reads the next byte of a reader, or `None` at its end. A read that was interrupted is made again.
 pub fn read_byte<R: Read>(reader: &mut R) -> Result<Option<u8>, ReadFault>
-    ensures read { IfOk result (λ it. MatchOption it (IsAtEnd (R.remaining reader.old) × Keeps (R.remaining reader.old) (R.remaining reader.new)) (λ byte. Consumes (R.remaining reader.old) (R.remaining reader.new) (byte ∷ []))) }
-    ensures failed { IfErr result (λ fault. (fault ≡ Reader) × Keeps (R.remaining reader.old) (R.remaining reader.new)) }
+    ensures read { IfOk result (λ it. MatchOption it
+        (IsAtEnd (R.remaining reader.old) × Keeps (R.remaining reader.old) (R.remaining reader.new))
+        (λ byte. Consumes (R.remaining reader.old) (R.remaining reader.new) (byte ∷ []))) }
+    ensures failed { IfErr result
+        (λ fault. (fault ≡ Reader) × Keeps (R.remaining reader.old) (R.remaining reader.new)) }
 {
     let mut one = [0u8; 1];
     for _ in 0..u64::MAX {

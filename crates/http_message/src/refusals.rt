@@ -1,4 +1,5 @@
 //! Why a request is refused by its head or its length alone.
+//! What clients are answered: `tests/exchanges.py`. Wrong bodies: `must-fail/`.
 ghost use Rattle.std.specs.Prelude.{◌≡◌};
 ghost use Rattle.http_message.specs.Refusals as spec;
 
@@ -37,7 +38,7 @@ pub enum RequestFault {
 }
 
 impl RequestFault {
-    /// The status that tells the fault (RFC 9110, section 15).
+    /// Returns the status that tells the fault (RFC 9110, section 15).
     pub fn status(self) -> StatusCode
         ensures { result ≡ spec.status self }
     {
@@ -54,7 +55,7 @@ impl RequestFault {
         }
     }
 
-    /// The methods that are told with it: those of the resource, beside 405 alone.
+    /// Returns the methods that are told with the fault: those of the resource, beside 405 alone.
     pub(crate) fn allow(self) -> Option<Methods>
         ensures { result ≡ spec.allow self }
     {

@@ -1,4 +1,5 @@
-//! A response as bytes.
+//! A response as bytes. The definitions are in `specs/Response.antt`.
+//! What clients are answered: `tests/exchanges.py`. Wrong bodies: `must-fail/`.
 ghost use Rattle.std.specs.Prelude.{◌≡◌, ◌++◌, IfOk, string_bytes};
 ghost use Rattle.http_message.specs.Response as spec;
 
@@ -19,7 +20,7 @@ pub enum MediaType {
     PlainText,
 }
 
-/// A response with a text, which to `HEAD` is left out.
+/// Writes a response with a text, which to `HEAD` is left out.
 pub fn response(
     alloc: Global,
     status: StatusCode,
@@ -27,12 +28,13 @@ pub fn response(
     text: &str,
     is_head: bool,
 ) -> Result<String, MemoryFault>
-    ensures { IfOk result (λ it. string_bytes it ≡ spec.response status media_type text.now is_head) }
+    ensures { IfOk result
+        (λ it. string_bytes it ≡ spec.response status media_type text.now is_head) }
 {
     message(alloc, status, media_type, None, text, is_head)
 }
 
-/// The response to a request that is refused: its status, in JSON too.
+/// Writes the response to a request that is refused: its status, in JSON too.
 pub fn fault_response(
     alloc: Global,
     fault: RequestFault,
@@ -52,7 +54,7 @@ pub fn fault_response(
     )
 }
 
-/// The response where no memory is left, which takes none.
+/// Returns the response where no memory is left, which takes none.
 pub fn no_memory_response(is_head: bool) -> &'static [u8]
     ensures { result.now ≡ spec.no_memory is_head }
 {
@@ -63,7 +65,8 @@ pub fn no_memory_response(is_head: bool) -> &'static [u8]
     }
 }
 
-/// The response where the store failed, which takes no memory either: for want of it 91 would be told of a store that failed.
+/// Returns the response where the store failed, which takes no memory either: for want of it 91 would be told of a
+/// store that failed.
 pub fn no_store_response(is_head: bool) -> &'static [u8]
     ensures { result.now ≡ spec.no_store is_head }
 {
@@ -74,7 +77,7 @@ pub fn no_store_response(is_head: bool) -> &'static [u8]
     }
 }
 
-/// Head and text of a response.
+/// Writes head and text of a response.
 fn message(
     alloc: Global,
     status: StatusCode,
@@ -83,7 +86,8 @@ fn message(
     text: &str,
     is_head: bool,
 ) -> Result<String, MemoryFault>
-    ensures { IfOk result (λ it. string_bytes it ≡ spec.message status media_type allow text.now is_head) }
+    ensures { IfOk result
+        (λ it. string_bytes it ≡ spec.message status media_type allow text.now is_head) }
 {
     let mut out = head(alloc, status, media_type, allow, text.len())?;
     if !is_head {
@@ -92,7 +96,7 @@ fn message(
     Ok(out)
 }
 
-/// The head of a response to a text of so many bytes.
+/// Writes the head of a response to a text of so many bytes.
 fn head(
     alloc: Global,
     status: StatusCode,
@@ -110,7 +114,7 @@ fn head(
     Ok(out)
 }
 
-/// The status with its phrase (RFC 9112, section 4).
+/// Writes the status with its phrase (RFC 9112, section 4).
 #[tactic(auto, unfolding(crate::specs::Response::status_line))]
 fn status_line(alloc: Global, status: StatusCode) -> Result<String, MemoryFault>
     ensures { IfOk result (λ it. string_bytes it ≡ spec.status_line status) }
@@ -146,7 +150,7 @@ fn allow_line(allow: Option<Methods>) -> &'static str
     }
 }
 
-/// The last field, and the empty line that ends the head.
+/// Returns the last field, and the empty line that ends the head.
 #[tactic(auto, unfolding(crate::specs::Response::close_line))]
 fn close_line() -> &'static str
     ensures { result.now ≡ spec.close_line ++ spec.crlf }
@@ -154,7 +158,7 @@ fn close_line() -> &'static str
     "Connection: close\r\n\r\n"
 }
 
-/// The text that tells a status in JSON.
+/// Writes the text that tells a status in JSON.
 #[tactic(auto, unfolding(crate::specs::Response::fault_text))]
 fn fault_text(alloc: Global, status: u16) -> Result<String, MemoryFault>
     ensures { IfOk result (λ it. string_bytes it ≡ spec.fault_text status) }

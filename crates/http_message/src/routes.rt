@@ -1,4 +1,5 @@
-//! The resources of a book, by their paths.
+//! The resources of a book, by their paths. The definition is `place` (`specs/Routes.antt`).
+//! What clients send: `tests/exchanges.py`. Wrong bodies: `must-fail-more/`.
 ghost use Rattle.std.specs.Prelude.{◌≡◌, ◌++◌, IfOk, drop, length, option_map};
 ghost use Rattle.http_message.specs.Routes as spec;
 
@@ -21,9 +22,10 @@ pub enum Route {
     Exceedances,
 }
 
-/// What a path names, and the id or the number in it.
+/// Finds what a path names, and the id or the number in it.
 pub fn route_of<'p>(alloc: Global, path: &'p str) -> Result<Option<(Route, &'p str)>, MemoryFault>
-    ensures { IfOk result (λ it. option_map (λ found. (found.0, found.1.now)) it ≡ spec.place path.now) }
+    ensures { IfOk result
+        (λ it. option_map (λ found. (found.0, found.1.now)) it ≡ spec.place path.now) }
 {
     let Ok(router) = router(alloc) else {
         return Err(MemoryFault);
@@ -35,7 +37,7 @@ pub fn route_of<'p>(alloc: Global, path: &'p str) -> Result<Option<(Route, &'p s
     Ok(Some((route, id_of(route, path))))
 }
 
-/// What stands in the path of a resource after its name.
+/// Returns what stands in the path of a resource after its name.
 fn id_of(route: Route, path: &str) -> &str
     requires { path.now ≡ spec.name route ++ drop (length (spec.name route)) path.now }
     ensures { result.now ≡ drop (length (spec.name route)) path.now }
@@ -46,7 +48,7 @@ fn id_of(route: Route, path: &str) -> &str
     }
 }
 
-/// What the path of a resource is before its id.
+/// Returns what the path of a resource is before its id.
 fn name_of(route: Route) -> &'static str
     ensures { result.now ≡ spec.name route }
 {
@@ -59,7 +61,7 @@ fn name_of(route: Route) -> &'static str
     }
 }
 
-/// The table of the resources.
+/// Makes the table of the resources.
 fn router(alloc: Global) -> Result<Router<Route>, InsertError>
     ensures { IfOk result (λ router. router ≡ spec.table) }
 {

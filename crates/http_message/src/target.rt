@@ -1,10 +1,11 @@
 //! The path of a target.
+//! What clients send: `tests/exchanges.py`. Wrong bodies: `must-fail-more/`.
 ghost use Rattle.std.specs.Prelude.{◌≡◌, ◌==◌, ◌<◌, IfSome, length, position};
 ghost use Rattle.http_message.specs.Target as spec;
 
 use crate::fields::is_same;
 
-/// The path of a target: up to a `?`, and without `http://` and an authority.
+/// Returns the path of a target: up to a `?`, and without `http://` and an authority.
 pub(crate) fn path_of(target: &[u8]) -> &[u8]
     ensures { result.now ≡ spec.path_of target.now }
 {
@@ -25,7 +26,7 @@ fn before_query(target: &[u8]) -> &[u8]
     }
 }
 
-/// From the first slash on, or a slash.
+/// Returns the text from the first slash on, or a slash.
 fn from_slash(text: &[u8]) -> &[u8]
     ensures { result.now ≡ spec.from_slash text.now }
 {
@@ -35,7 +36,7 @@ fn from_slash(text: &[u8]) -> &[u8]
     }
 }
 
-/// Where a byte stands first.
+/// Finds where a byte stands first.
 fn find(text: &[u8], byte: u8) -> Option<usize>
     ensures found { result ≡ position (λ b. b == byte) text.now }
     ensures within { IfSome result (λ at. at < length text.now) }

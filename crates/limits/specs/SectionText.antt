@@ -3,6 +3,7 @@ use Rattle.std.specs.Prelude.{ℕ, List, codes}
 use Rattle.limits.specs.declared.section.Section.{Section}
 use Rattle.limits.specs.declared.section.Section.TheVariants.{FlightTime, FlightDutyPeriod, FlightTime672Hours, FlightTime365Days, FlightDutyPeriods168Hours, FlightDutyPeriods672Hours, ThirtyHourRest, TenHourRest}
 
+-- a section as it is printed
 abbrev pub section_text : Section → List ℕ
 section_text FlightTime = codes "117.11(a)(1)"
 section_text FlightDutyPeriod = codes "117.13(a)"

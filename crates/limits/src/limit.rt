@@ -1,3 +1,5 @@
+//! What a limit is: a test of new duties in a history, which passes if and only if they break the rule of
+//! `specs/Rules.antt`, and the two laws that each rule keeps.
 ghost use Rattle.std.specs.Prelude.{◌↔◌, ◌⊎◌, IsTrue, List};
 ghost use Rattle.duty.specs.declared.duty_in_force.DutyInForce.{DutyInForce as InForce};
 ghost use Rattle.limits.specs.Rules.{Rule};
@@ -14,12 +16,14 @@ pub trait Limit {
 
     ghost SECTION: { Section };
 
-    /// Whether the new duties break the limit. `history` has the member's duties in force with the new ones in it.
+    /// Returns whether the new duties break the limit. `history` has the member's duties in force with the new ones in
+    /// it.
     fn broken(&self, history: &History, new: &History) -> bool
         ensures { IsTrue result ↔ Rule SECTION history.now new.now };
 
     /// What fewer duties break, more duties break.
-    ghost grows: { (fewer history some new : List InForce) → IsWithin fewer history → IsWithin some new
+    ghost grows: { (fewer history some new : List InForce) → IsWithin fewer history
+        → IsWithin some new
         → Rule SECTION fewer some → Rule SECTION history new };
 
     /// Where duties are added to others, what all of them break was broken by the others, or the added ones break it.

@@ -1,3 +1,5 @@
+//! The judgement: which of the eight limits new duties break. Its definition is `Broken` (`specs/Judgement.antt`).
+//! Worked rows: `tests/answers.py`; against a slow count: `tests/judgement.py`. Wrong bodies: `must-fail-more/`.
 ghost use Rattle.std.specs.Prelude.{◌≡◌, ◌↔◌, ◌++◌, ◌∷◌, [], IsTrue, IfOk, OnOk, Contains};
 ghost use Rattle.std.specs.List.{filter};
 ghost use Rattle.limits.specs.Judgement.{Broken};
@@ -47,7 +49,7 @@ impl Model for Sections {
 }
 
 impl Sections {
-    /// Whether the section is one of them.
+    /// Returns whether the section is one of them.
     pub fn has(&self, section: Section) -> bool
         ensures { IsTrue result ↔ Contains self.now section }
     {
@@ -63,7 +65,7 @@ impl Sections {
         }
     }
 
-    /// Whether there is none.
+    /// Returns whether no section is one of them.
     pub fn is_empty(&self) -> bool
         ensures { IsTrue result ↔ (self.now ≡ []) }
     {
@@ -77,7 +79,7 @@ impl Sections {
             || self.ten_hour_rest)
     }
 
-    /// The sections, in the order of [`Section`].
+    /// Lists the sections, in the order of [`Section`].
     pub fn list(&self, alloc: Global) -> Result<Vec<Section>, MemoryFault>
         ensures { IfOk result (λ list. list.items ≡ self.now) }
     {
@@ -116,7 +118,8 @@ impl Sections {
 
 /// Appends the section if it is found broken.
 fn push_if(list: &mut Vec<Section>, is_broken: bool, section: Section) -> Result<(), MemoryFault>
-    ensures { OnOk result (list.new.items ≡ list.old.items ++ filter (λ _. is_broken) (section ∷ [])) }
+    ensures { OnOk result
+        (list.new.items ≡ list.old.items ++ filter (λ _. is_broken) (section ∷ [])) }
 {
     if is_broken {
         list.push(section)?;
@@ -124,7 +127,7 @@ fn push_if(list: &mut Vec<Section>, is_broken: bool, section: Section) -> Result
     Ok(())
 }
 
-/// Whether the limit is broken.
+/// Returns whether the limit is broken.
 fn is_broken<L: Limit>(limit: &L, history: &History, new: &History) -> bool
     ensures { result ≡ breaks L.SECTION history.now new.now }
 {
@@ -140,7 +143,7 @@ pub fn judge(history: &History, new: &History) -> Sections
     judged(history, new)
 }
 
-/// The same, by the list alone.
+/// Judges the same, by the list alone.
 #[tactic(auto, unfolding(crate::specs::Judgement::Broken))]
 fn judged(history: &History, new: &History) -> Sections
     ensures { result ≡ Broken history.now new.now }

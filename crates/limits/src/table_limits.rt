@@ -1,3 +1,6 @@
+//! The limits of one flight duty period alone: its flight time by Table A, 117.11(a)(1), and its length by Table B,
+//! 117.13(a).
+//! At the edges of each row: `tests/judgement.py`. Wrong bodies: `must-fail/`.
 ghost use Rattle.std.specs.Prelude.{◌≡◌, ◌-◌, nat_lt};
 ghost use Rattle.std.specs.List.{sum_by};
 
@@ -6,7 +9,7 @@ use super::section::Section;
 use super::tables::{table_a, table_b};
 use duty::{DutyInForce, DutyTest, History, Span, any_duty};
 
-/// Whether the segments have more than `most` minutes of flight time.
+/// Returns whether the segments have more than `most` minutes of flight time.
 fn is_longer(segments: &[Span], most: u32) -> bool
     ensures { result ≡ nat_lt most
         (sum_by (λ segment. segment.to - segment.from) segments.now) }
@@ -21,7 +24,7 @@ fn is_longer(segments: &[Span], most: u32) -> bool
     false
 }
 
-/// How many minutes the span has.
+/// Counts the minutes of the span.
 fn length_of(span: Span) -> u32
     ensures { result ≡ span.to - span.from }
 {

@@ -1,8 +1,10 @@
+//! Tables A and B of Part 117, in minutes.
+//! At the first and the last minute of each row: `tests/judgement.py`. Wrong bodies: `must-fail/`.
 ghost use Rattle.std.specs.Prelude.{◌≡◌, ◌<◌};
 ghost use Rattle.limits.specs.Tables.{table_a as minutes_a, table_b as minutes_b, row_of};
 
-/// The flight time in minutes that Table A gives for a flight duty period (117.11(a)(1)), by the acclimated minute of
-/// the day of its report. A start of 1,440 or more reads the last row.
+/// Reads in Table A the flight time in minutes that it gives for a flight duty period (117.11(a)(1)), by the acclimated
+/// minute of the day of its report. A start of 1,440 or more reads the last row.
 pub fn table_a(start: u16) -> u32
     ensures { result ≡ minutes_a start }
 {
@@ -12,16 +14,16 @@ pub fn table_a(start: u16) -> u32
     }
 }
 
-/// The length in minutes that Table B gives for a flight duty period (117.13(a)), by the acclimated minute of the day
-/// of its report and its number of segments. A start of 1,440 or more reads the last row, and no segment the first
-/// column.
+/// Reads in Table B the length in minutes that it gives for a flight duty period (117.13(a)), by the acclimated minute
+/// of the day of its report and its number of segments. A start of 1,440 or more reads the last row, and no segment the
+/// first column.
 pub fn table_b(start: u16, segments: usize) -> u32
     ensures { result ≡ minutes_b start segments }
 {
     row(start)[segments.clamp(1, 7) - 1]
 }
 
-/// The row of Table B for that start: the minutes for 1 to 7 segments.
+/// Reads the row of Table B for that start: the minutes for 1 to 7 segments.
 fn row(start: u16) -> [u32; 7]
     ensures { result ≡ row_of start }
 {

@@ -1,3 +1,5 @@
+//! How a limit on windows is tried: of all windows of minutes a few suffice, which `specs/Laws/SumRule.antt` proves.
+//! Against a count over every window: `tests/judgement.py`. Wrong bodies: `must-fail/`.
 ghost use Rattle.std.specs.Prelude.{◌≡◌, ◌<◌, ◌^◌, ◌↔◌, IsTrue};
 ghost use Rattle.std.specs.List.{list_any, flat_map};
 ghost use Rattle.duty.specs.Minutes.{spans_of, minutes_in};
@@ -6,7 +8,7 @@ ghost use Rattle.limits.specs.Laws.Windows.{reaches};
 
 use duty::{History, Kind, Span, SpanTest, any_span};
 
-/// Whether one of the `width` minutes before `end` is a minute of that kind.
+/// Returns whether one of the `width` minutes before `end` is a minute of that kind.
 pub(crate) fn is_reached(history: &History, kind: Kind, end: u64, width: u32) -> bool
     requires { 0 < width }
     ensures { result ≡ list_any (reaches end width) (flat_map (spans_of kind) history.now) }
@@ -75,9 +77,10 @@ impl SpanTest for AtEdge<'_> {
     }
 }
 
-/// Whether some `width` minutes in a row meet the new minutes of that kind and hold more than `most` of all. It tries
-/// the windows that end where the minutes of an interval end and that the new ones may reach, those that end with the first
-/// minute of a new span, and those that begin with its last: where any window breaks the rule, one of these does.
+/// Returns whether some `width` minutes in a row meet the new minutes of that kind and hold more than `most` of all. It
+/// tries the windows that end where the minutes of an interval end and that the new ones may reach, those that end with
+/// the first minute of a new span, and those that begin with its last: where any window breaks the rule, one of these
+/// does.
 pub(crate) fn is_over(all: &History, new: &History, kind: Kind, width: u32, most: u64) -> bool
     requires { 0 < width }
     ensures { IsTrue result

@@ -11,7 +11,7 @@ use Rattle.values.proofs.Names.{alike, itself}
 use Rattle.sqlite_value.specs.Order.{Row}
 use Rattle.sqlite_rules.specs.Lists.{Has}
 use Rattle.loading.specs.Reading.{Mapped, AreOnce}
-use Rattle.rows.proofs.Lists.{some_same}
+use Rattle.state_rows.proofs.Lists.{some_same}
 
 pub of_appended : (xs ys : List Row) (x : Row) → Has (xs ++ ys) x → Has xs x ⊎ Has ys x
 of_appended [] ys x h = inr h

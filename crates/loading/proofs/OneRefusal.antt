@@ -7,7 +7,7 @@ use Rattle.roster.specs.State.{State}
 use Rattle.tables.specs.Records.{book_row}
 use Rattle.tables.specs.Schema.{IsOfBook, book_table}
 use Rattle.tables.specs.declared.book.BookRecord.{BookRecord}
-use Rattle.rows.specs.Rows.{book, crew, pairing, period, segment, seat, ground_duty, exceedance, request}
+use Rattle.state_rows.specs.Rows.{book, crew, pairing, period, segment, seat, ground_duty, exceedance, request}
 use Rattle.loading.specs.Loading.{AreRight, AreRightAbove, IsDamaged, IsNoBook, IsRight, named}
 use Rattle.loading.specs.Refusals.{IsNotRefused, IsOneRefusal}
 use Rattle.loading.specs.declared.fault.LoadFault.TheVariants.{NotABook, Damaged, Version, Fault}

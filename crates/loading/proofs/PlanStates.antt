@@ -10,22 +10,22 @@ use Rattle.duty.specs.Plans.{ActualTimes}
 use Rattle.duty.specs.declared.fdp.Fdp.{Fdp}
 use Rattle.duty.specs.declared.segment.BlockTimes.{BlockTimes}
 use Rattle.duty.specs.declared.segment.Segment.{Segment}
-use Rattle.kept.specs.Instants.{is_instant, times_have_instants, segment_has_instants, period_has_instants}
+use Rattle.stored_json.specs.Instants.{is_instant, times_have_instants, segment_has_instants, period_has_instants}
 use Rattle.roster.specs.State.{State}
-use Rattle.roster.specs.declared.state.Rostered.{Rostered}
+use Rattle.roster.specs.declared.state.PairingEntry.{PairingEntry}
 use Rattle.tables.specs.Records.{period_row, segment_row}
 use Rattle.tables.specs.declared.period.PeriodRecord.{PeriodRecord}
 use Rattle.tables.specs.declared.segment.SegmentRecord.{SegmentRecord}
-use Rattle.rows.proofs.FewPeriods.{few_segments}
-use Rattle.rows.proofs.Lists.{same_list, some_same, one_value}
+use Rattle.state_rows.proofs.FewPeriods.{few_segments}
+use Rattle.state_rows.proofs.Lists.{same_list, some_same, one_value}
 use Rattle.loading.proofs.PlanKeys.{period_names_same, segment_names_same}
 use Rattle.loading.proofs.PlanLemmas.{there_within, same_plan, same_listed, times_once, block_pairs_same, Beside, beside, beside_once}
 use Rattle.loading.proofs.SamePairings.{planned_report}
-use Rattle.rows.proofs.Values.{numbers_same, text_is, number_is}
+use Rattle.state_rows.proofs.Values.{numbers_same, text_is, number_is}
 use Rattle.loading.specs.Loading.{IsPlanned, actual_has_instants}
 use Rattle.loading.specs.PlanRows.{Periods, Segments, period_name, segment_name, AreTimes, block_pair, actual_pair, IsSegment, HasRowOf, HasPeriodRow, IsReadPeriod, HasSegments, IsTold}
 use Rattle.loading.specs.PlanRows.{PeriodRows, SegmentRows, ArePeriodsKeyed, AreSegmentsKeyed}
-use Rattle.rows.specs.Rows.{InPeriod, InSegment, At, PeriodOf, SegmentOf, row_of_period, row_of_segment, times_flown}
+use Rattle.state_rows.specs.Rows.{InPeriod, InSegment, At, PeriodOf, SegmentOf, row_of_period, row_of_segment, times_flown}
 
 pub all_at : {A : Type 0} (test : A → Bool) (xs : List A) → list_all test xs ≡ true → (i : ℕ) (x : A) → slice_get xs i ≡ Some x → test x ≡ true
 all_at test [] e i x there = absurd (cc)
@@ -104,7 +104,7 @@ block_instants (Some a) (Some b) t are = and_from _ _ (ap (λ p. is_instant p.0)
 
 module _ (s : State) (m : Periods) (n : Segments) (m_keyed : ArePeriodsKeyed m) (n_keyed : AreSegmentsKeyed n)
     (periods : (row : Row) → PeriodRows m row ↔ InPeriod s row) (segments : (row : Row) → SegmentRows n row ↔ InSegment s row)
-    (id : List ℕ) (r : Rostered) (here : fin.get s.pairings id ≡ Some r) (is : IsPlanned id r) where
+    (id : List ℕ) (r : PairingEntry) (here : fin.get s.pairings id ≡ Some r) (is : IsPlanned id r) where
   flown_at : (place : ℕ) (actual : Option ActualTimes) → slice_get r.actuals place ≡ Some actual → (j : ℕ) (x : BlockTimes) → times_flown actual j ≡ Some x → times_have_instants x ≡ true
   flown_at place None b j x e = absurd (cc)
   flown_at place (Some a) b j x e = all_at times_have_instants a.segments (is.actuals place a b).1.2 j x e
@@ -152,7 +152,7 @@ module _ (s : State) (m : Periods) (n : Segments) (m_keyed : ArePeriodsKeyed m) 
         let same_period : place + 1 ≡ row.1.place + 1 = known.1 ∙ number_is (at_column 1) in
         let same_place : place ≡ row.1.place = omega (arith, same_period) in
         let same : r ≡ row.0.value = one_value here (ap (fin.get s.pairings) same_id ∙ row.0.there) in
-        let fdp_is : row.1.fdp ≡ fdp = one_value row.1.planned (ap (λ (x : Rostered). slice_get x.plan.periods row.1.place) (sym same) ∙ ap (slice_get r.plan.periods) (sym same_place) ∙ a) in
+        let fdp_is : row.1.fdp ≡ fdp = one_value row.1.planned (ap (λ (x : PairingEntry). slice_get x.plan.periods row.1.place) (sym same) ∙ ap (slice_get r.plan.periods) (sym same_place) ∙ a) in
         (row.2.place, known.2 ∙ number_is (at_column 2), subst (λ (x : Fdp). row.2.place < length x.segments) fdp_is (slice_get_within row.1.fdp.segments row.2.place row.2.segment row.2.planned))
 
     period_each : HasPeriodRow m n id place fdp actual
@@ -189,7 +189,7 @@ module _ (s : State) (m : Periods) (n : Segments) (m_keyed : ArePeriodsKeyed m) 
       let at_column = λ (k : ℕ). ap (λ (x : Row). column x k) f in
       let same_id : id ≡ row.0.name = known.0 ∙ text_is (at_column 0) in
       let same : row.0.value ≡ r = one_value (ap (fin.get s.pairings) same_id ∙ row.0.there) here in
-      (row.1.place, known.1 ∙ number_is (at_column 1), subst (λ (x : Rostered). row.1.place < length x.plan.periods) same (slice_get_within row.0.value.plan.periods row.1.place row.1.fdp row.1.planned))
+      (row.1.place, known.1 ∙ number_is (at_column 1), subst (λ (x : PairingEntry). row.1.place < length x.plan.periods) same (slice_get_within row.0.value.plan.periods row.1.place row.1.fdp row.1.planned))
 
   -- so the refusal of a pairing is right: no state has it
   pub state_told : IsTold m n id r
@@ -197,7 +197,7 @@ module _ (s : State) (m : Periods) (n : Segments) (m_keyed : ArePeriodsKeyed m) 
 
 -- ---- What rows tell has those rows, and is a pairing that is planned
 
-module _ (m : Periods) (n : Segments) (m_keyed : ArePeriodsKeyed m) (n_keyed : AreSegmentsKeyed n) (id : List ℕ) (r : Rostered) (told : IsTold m n id r) where
+module _ (m : Periods) (n : Segments) (m_keyed : ArePeriodsKeyed m) (n_keyed : AreSegmentsKeyed n) (id : List ℕ) (r : PairingEntry) (told : IsTold m n id r) where
   period_same : (place : ℕ) (fdp : Fdp) (actual : Option ActualTimes) (it : PeriodRecord) → fin.get m (period_name id (place + 1)) ≡ Some it → IsReadPeriod n id (place + 1) it fdp actual →
       row_of_period id place fdp actual ≡ period_row it
   period_same place fdp actual it e is =
@@ -318,7 +318,7 @@ module _ (n : Segments) (id : List ℕ) (number : ℕ) (fdp : Fdp) where
       let same : a ≡ b = λ i. record { period = (w.0 ∙ sym v.0) i; report = (pair i).0; release = (pair i).1; segments = segments i } in
       ap Some same
 
-module _ (m : Periods) (n : Segments) (id : List ℕ) (r q : Rostered) (told : IsTold m n id r) (also : IsTold m n id q) where
+module _ (m : Periods) (n : Segments) (id : List ℕ) (r q : PairingEntry) (told : IsTold m n id r) (also : IsTold m n id q) where
   periods_once : r.plan.periods ≡ q.plan.periods
   periods_once = same_listed (λ k. fin.get m (period_name id k)) (Beside m n id r.actuals) (Beside m n id q.actuals) r.plan.periods q.plan.periods
       (beside m n id r.plan.periods r.actuals told.places told.each, told.all) (beside m n id q.plan.periods q.actuals also.places also.each, also.all) (beside_once m n id r.actuals q.actuals)
@@ -334,7 +334,7 @@ module _ (m : Periods) (n : Segments) (id : List ℕ) (r q : Rostered) (told : I
       let same : a ≡ b.0 = actual_once n id (i + 1) fdp.0 row.0 a b.0 row.2 (subst (λ v. IsReadPeriod n id (i + 1) v fdp.0 b.0) alike other.2) in
       b.1 ∙ ap Some (sym same)
 
-pub told_once : (m : Periods) (n : Segments) (id : List ℕ) (r q : Rostered) → IsTold m n id r → IsTold m n id q → (r.plan ≡ q.plan) × (r.actuals ≡ q.actuals)
+pub told_once : (m : Periods) (n : Segments) (id : List ℕ) (r q : PairingEntry) → IsTold m n id r → IsTold m n id q → (r.plan ≡ q.plan) × (r.actuals ≡ q.actuals)
 told_once m n id r q told also = (
   λ i. record { id = (told.named ∙ sym also.named) i; periods = periods_once m n id r q told also i },
   same_list r.actuals q.actuals (actual_kept m n id r q told also) (actual_kept m n id q r also told),
@@ -343,8 +343,8 @@ told_once m n id r q told also = (
 -- ---- A state of which the rows tell each pairing has just these rows
 
 module _ (s : State) (m : Periods) (n : Segments) (m_keyed : ArePeriodsKeyed m) (n_keyed : AreSegmentsKeyed n)
-    (told : (id : List ℕ) (r : Rostered) → fin.get s.pairings id ≡ Some r → IsTold m n id r)
-    (of_pairing : (it : PeriodRecord) → fin.get m (period_name it.pairing it.number) ≡ Some it → (r : Rostered) × (fin.get s.pairings it.pairing ≡ Some r))
+    (told : (id : List ℕ) (r : PairingEntry) → fin.get s.pairings id ≡ Some r → IsTold m n id r)
+    (of_pairing : (it : PeriodRecord) → fin.get m (period_name it.pairing it.number) ≡ Some it → (r : PairingEntry) × (fin.get s.pairings it.pairing ≡ Some r))
     (of_period : (it : SegmentRecord) → fin.get n (segment_name it.pairing it.period it.number) ≡ Some it → (p : PeriodRecord) × (fin.get m (period_name it.pairing it.period) ≡ Some p)) where
   pub periods_are : (row : Row) → PeriodRows m row ↔ InPeriod s row
   periods_are row = (
@@ -358,14 +358,14 @@ module _ (s : State) (m : Periods) (n : Segments) (m_keyed : ArePeriodsKeyed m) 
   )
 
   -- the pairing of a segment's period is there
-  pairing_there : (it : SegmentRecord) (p : PeriodRecord) → fin.get m (period_name it.pairing it.period) ≡ Some p → (r : Rostered) × (fin.get s.pairings it.pairing ≡ Some r)
+  pairing_there : (it : SegmentRecord) (p : PeriodRecord) → fin.get m (period_name it.pairing it.period) ≡ Some p → (r : PairingEntry) × (fin.get s.pairings it.pairing ≡ Some r)
   pairing_there it p e =
       let name = m_keyed (period_name it.pairing it.period) p e in
       let r = of_pairing p (ap (fin.get m) (sym name) ∙ e) in
       (r.0, ap (fin.get s.pairings) (period_names_same it.pairing p.pairing it.period p.number name).0 ∙ r.1)
 
   segment_there : (it : SegmentRecord) → fin.get n (segment_name it.pairing it.period it.number) ≡ Some it → (p : PeriodRecord) → fin.get m (period_name it.pairing it.period) ≡ Some p →
-      (r : Rostered) → fin.get s.pairings it.pairing ≡ Some r → InSegment s (segment_row it)
+      (r : PairingEntry) → fin.get s.pairings it.pairing ≡ Some r → InSegment s (segment_row it)
   segment_there it e p there r here =
       let is = told it.pairing r here in
       let same = (period_names_same it.pairing p.pairing it.period p.number (m_keyed (period_name it.pairing it.period) p there)).1 in

@@ -9,17 +9,17 @@ use Rattle.sqlite.specs.State.{HasCleanDisk, IsUnchanged}
 use Rattle.sqlite.specs.State as conn
 use Rattle.time117.specs.Local.{is_zone_text}
 use Rattle.roster.specs.State.{State, empty}
-use Rattle.tables.specs.Calls.{LeavesNothing}
+use Rattle.tables.specs.Calls.{CrashLeavesNoMore}
 use Rattle.tables.specs.Records.{IsBookRow, book_row}
 use Rattle.tables.specs.Rows.{rows_of}
 use Rattle.tables.specs.declared.book.BookRecord.{BookRecord}
 use Rattle.loading.proofs.Ascii.{zone_utf8}
 use Rattle.loading.proofs.Mapping.{mapped_at}
 use Rattle.loading.proofs.Telling.{nothing_left, unread}
-use Rattle.rows.proofs.Values.{text_is}
-use Rattle.loading.specs.Loading.{IsNoBook, IsOfOtherVersion, AreRight, IsDamaged, Says, named}
-use Rattle.loading.specs.Reading.{Saw, Blames, BlamesBook, HasRows, IsNoBookRow, IsOnly, IsReadTo, IsUnreadable, book_of}
-use Rattle.rows.specs.Rows.{book, table}
+use Rattle.state_rows.proofs.Values.{text_is}
+use Rattle.loading.specs.Loading.{IsNoBook, IsOfOtherVersion, AreRight, IsDamaged, Justifies, named}
+use Rattle.loading.specs.Reading.{ReadsAs, Blames, BlamesBook, HasRows, IsNoBookRow, IsOnly, AgreesThrough, IsUnreadable, book_of}
+use Rattle.state_rows.specs.Rows.{book, table}
 use Rattle.loading.specs.declared.fault.LoadFault.{LoadFault}
 use Rattle.loading.specs.declared.fault.LoadFault.TheVariants.{NotABook, Version, Damaged, Fault}
 use Rattle.loading.specs.declared.fault.TableName.TheVariants as table_name
@@ -140,7 +140,7 @@ module _ (db : Database) (there : IsNoBook db → ⊥) where
     pub other_version : (it : BookRecord) → IsOnly records it → IsUtf8 it.zone → (it.version ≡ pos 1 → ⊥) → IsOfOtherVersion db
     other_version it only utf8 other = record { there = read.there; it = it; utf8 = utf8; one_row = only_rows db records it read only; other = other }
 
-    pub right : (r : State) → r ≡ empty r.zone → IsOnly records (book_of r.zone) → is_zone_text r.zone ≡ true → IsReadTo book r db
+    pub right : (r : State) → r ≡ empty r.zone → IsOnly records (book_of r.zone) → is_zone_text r.zone ≡ true → AgreesThrough book r db
     right r is only zone = record {
       stored = (read.stored, tt);
       book = there;
@@ -151,23 +151,23 @@ module _ (db : Database) (there : IsNoBook db → ⊥) where
 -- ---- The call
 
 abbrev pub Now : Database → State → Type 0
-Now db r = IsReadTo book r db × (r ≡ empty r.zone)
+Now db r = AgreesThrough book r db × (r ≡ empty r.zone)
 
 module _ (old new : conn.State) (there : IsNoBook old.now → ⊥) where
-  pub not_read : (fault : LoadFault) → (HasCleanDisk new → Blames table_name.Book (IsUnreadable book IsBookRow old.now) fault) → LeavesNothing old new →
-      Saw (Now old.now) (λ f. Says f old.now) old new (Err fault)
+  pub not_read : (fault : LoadFault) → (HasCleanDisk new → Blames table_name.Book (IsUnreadable book IsBookRow old.now) fault) → CrashLeavesNoMore old new →
+      ReadsAs (Now old.now) (λ f. Justifies f old.now) old new (Err fault)
   not_read fault told left = unread table_name.Book _ (Now old.now) old new fault (λ clean. unreadable old.now there) told left
 
-  said : (records : List BookRecord) → HasRows book old.now (map book_row records) → (fault : LoadFault) → BlamesBook records fault → Says fault old.now
+  said : (records : List BookRecord) → HasRows book old.now (map book_row records) → (fault : LoadFault) → BlamesBook records fault → Justifies fault old.now
   said records read NotABook blame = absurd blame
   said records read Version blame = other_version old.now there records read blame.0 blame.1 blame.2 blame.3
   said records read (Damaged other) blame = subst (λ t. IsDamaged (named t) old.now) (sym blame.0) (no_book_row old.now there records read blame.1)
   said records read (Fault fault) blame = tt
 
   pub is_read : (records seen : List BookRecord) (result : Result State LoadFault) → seen ≡ records →
-      (HasCleanDisk new → IsUnchanged old new × HasRows book old.now (map book_row records)) → LeavesNothing old new →
+      (HasCleanDisk new → IsUnchanged old new × HasRows book old.now (map book_row records)) → CrashLeavesNoMore old new →
       MatchResult result (λ r. (r ≡ empty r.zone) × IsOnly seen (book_of r.zone) × (is_zone_text r.zone ≡ true)) (BlamesBook seen) →
-      Saw (Now old.now) (λ f. Says f old.now) old new result
+      ReadsAs (Now old.now) (λ f. Justifies f old.now) old new result
   is_read records seen (Ok r) same saw left done = record {
     told = λ clean. let it = saw clean in (it.0, (right old.now there records it.1 r done.0 (subst (λ l. IsOnly l (book_of r.zone)) same done.1) done.2, done.0));
     left = left;
@@ -177,5 +177,5 @@ module _ (old new : conn.State) (there : IsNoBook old.now → ⊥) where
     left = left;
   }
 
-pub no_book : (s : conn.State) → IsNoBook s.now → Saw (Now s.now) (λ f. Says f s.now) s s (Err NotABook)
+pub no_book : (s : conn.State) → IsNoBook s.now → ReadsAs (Now s.now) (λ f. Justifies f s.now) s s (Err NotABook)
 no_book s none = record { told = λ clean. none; left = nothing_left s }

@@ -16,20 +16,20 @@ use Rattle.roster.specs.State.{State}
 use Rattle.roster.specs.declared.put.Entry.{Entry}
 use Rattle.roster.specs.declared.put.Entry.TheVariants as entry
 use Rattle.tables.proofs.KeyLemmas.{crew_once}
-use Rattle.tables.specs.Calls.{LeavesNothing}
+use Rattle.tables.specs.Calls.{CrashLeavesNoMore}
 use Rattle.tables.specs.Records.{IsCrewRow, crew_row}
 use Rattle.tables.specs.Rows.{begins_with}
 use Rattle.tables.specs.declared.crew.CrewRecord.{CrewRecord}
 use Rattle.loading.proofs.Ascii.{id_utf8}
 use Rattle.loading.proofs.Mapping.{all_taken, nothing_mapped, next_mapped, mapped_at, mapped_place}
-use Rattle.rows.proofs.Tests.{passes}
-use Rattle.rows.proofs.Values.{text_is, number_is}
+use Rattle.state_rows.proofs.Tests.{passes}
+use Rattle.state_rows.proofs.Values.{text_is, number_is}
 use Rattle.loading.proofs.Telling.{unread, of_blame, clean_before}
-use Rattle.loading.specs.Loading.{IsMember, IsRight, AreRight, IsDamaged, Says}
-use Rattle.loading.specs.Reading.{seat_of, MembersRead, Saw, Blames, HasRows, IsUnreadable, IsReadTo, Mapped, AreOnce, TellsOf, HasStranger}
+use Rattle.loading.specs.Loading.{IsMember, IsRight, AreRight, IsDamaged, Justifies}
+use Rattle.loading.specs.Reading.{seat_of, MembersRead, ReadsAs, Blames, HasRows, IsUnreadable, AgreesThrough, Mapped, AreOnce, TellsOf, HasStranger}
 use Rattle.loading.specs.declared.fault.LoadFault.{LoadFault}
 use Rattle.loading.specs.declared.fault.TableName.TheVariants as table_name
-use Rattle.rows.specs.Rows.{seat_number, row_of_member, crew, book}
+use Rattle.state_rows.specs.Rows.{seat_number, row_of_member, crew, book}
 
 pub seat_known : (seat : Seat) → seat_of (seat_number seat) ≡ Some seat
 seat_known Captain = refl
@@ -115,7 +115,7 @@ no_stranger db rows read stranger right =
 itself : (id : List ℕ) (m : Member) → begins_with (Text id ∷ []) (row_of_member id m) ≡ true
 itself id m = passes (Text id ∷ []) (row_of_member id m) (refl, tt)
 
-module _ (s : State) (db : Database) (above : IsReadTo book s db) where
+module _ (s : State) (db : Database) (above : AgreesThrough book s db) where
   damaged : (AreRight crew db → ⊥) → IsDamaged crew db
   damaged wrong = record { book = above.book; version = above.version; above = (s, above.right); damaged = wrong }
 
@@ -131,7 +131,7 @@ module _ (s : State) (db : Database) (above : IsReadTo book s db) where
       ((read.all (row_of_member id m)).1 first) ((read.all (row_of_member id n)).1 second) (itself id m) (itself id n)
 
   pub right : (rows : List Row) (t : State) → HasRows crew db rows → t ≡ record s { crew = t.crew } →
-      (AreOnce row_of_member rows → Mapped (λ id. id) row_of_member IsMember rows t.crew) → IsReadTo crew t db
+      (AreOnce row_of_member rows → Mapped (λ id. id) row_of_member IsMember rows t.crew) → AgreesThrough crew t db
   right rows t read same mapped =
       let map = mapped (members_once rows read) in
       record {
@@ -153,18 +153,18 @@ module _ (s : State) (db : Database) (above : IsReadTo book s db) where
 
 -- ---- The call
 
-module _ (s : State) (old new : conn.State) (above : HasCleanDisk old → IsReadTo book s old.now) where
+module _ (s : State) (old new : conn.State) (above : HasCleanDisk old → AgreesThrough book s old.now) where
   abbrev pub Now : State → Type 0
-  Now r = IsReadTo crew r old.now × (r ≡ record s { crew = r.crew })
+  Now r = AgreesThrough crew r old.now × (r ≡ record s { crew = r.crew })
 
-  pub not_read : (fault : LoadFault) → (HasCleanDisk new → Blames table_name.Crew (IsUnreadable crew IsCrewRow old.now) fault) → LeavesNothing old new →
-      Saw Now (λ f. Says f old.now) old new (Err fault)
+  pub not_read : (fault : LoadFault) → (HasCleanDisk new → Blames table_name.Crew (IsUnreadable crew IsCrewRow old.now) fault) → CrashLeavesNoMore old new →
+      ReadsAs Now (λ f. Justifies f old.now) old new (Err fault)
   not_read fault told left = unread table_name.Crew _ Now old new fault (λ clean. unreadable s old.now (above clean)) told left
 
   pub is_read : (records seen : List CrewRecord) (result : Result State LoadFault) → seen ≡ records →
-      (HasCleanDisk new → IsUnchanged old new × HasRows crew old.now (map crew_row records)) → LeavesNothing old new →
+      (HasCleanDisk new → IsUnchanged old new × HasRows crew old.now (map crew_row records)) → CrashLeavesNoMore old new →
       MatchResult result (MembersRead seen (length seen) s) (Blames table_name.Crew (HasStranger row_of_member IsMember (map crew_row seen))) →
-      Saw Now (λ f. Says f old.now) old new result
+      ReadsAs Now (λ f. Justifies f old.now) old new result
   is_read records seen (Ok r) same saw left done = record {
     told = λ clean.
         let it = saw clean in

@@ -22,30 +22,30 @@ use Rattle.roster.specs.declared.put.Entry.{Entry}
 use Rattle.roster.specs.declared.put.Entry.TheVariants as entry
 use Rattle.roster.specs.declared.state.ExceedanceId.{ExceedanceId}
 use Rattle.roster.specs.declared.state.PeriodId.{PeriodId}
-use Rattle.roster.specs.declared.state.Rostered.{Rostered}
+use Rattle.roster.specs.declared.state.PairingEntry.{PairingEntry}
 use Rattle.tables.proofs.KeyLemmas.{exceedance_once}
-use Rattle.tables.specs.Calls.{LeavesNothing}
+use Rattle.tables.specs.Calls.{CrashLeavesNoMore}
 use Rattle.tables.specs.Records.{IsExceedanceRow, exceedance_row}
 use Rattle.tables.specs.Rows.{rows_of, begins_with}
 use Rattle.tables.specs.Schema.{BookTable, pairing_table, period_table, segment_table, seat_table, exceedance_table}
 use Rattle.tables.specs.declared.exceedance.ExceedanceRecord.{ExceedanceRecord}
 use Rattle.loading.proofs.Ascii.{id_utf8}
-use Rattle.rows.proofs.FewPeriods.{few_periods}
+use Rattle.state_rows.proofs.FewPeriods.{few_periods}
 use Rattle.loading.proofs.Mapping.{all_taken, nothing_mapped, next_mapped, mapped_at, mapped_place}
 use Rattle.loading.proofs.ReadGrounds.{crew_part, members_same}
 use Rattle.loading.proofs.SamePairings.{same_pairing}
-use Rattle.rows.proofs.Tests.{passes}
-use Rattle.rows.proofs.Values.{ids_same, int_is, text_is, number_is}
+use Rattle.state_rows.proofs.Tests.{passes}
+use Rattle.state_rows.proofs.Values.{ids_same, int_is, text_is, number_is}
 use Rattle.loading.proofs.Telling.{unread, of_blame, clean_before}
-use Rattle.loading.specs.Loading.{IsKey, IsExceedance, ArePlanned, AreSeated, name_of, IsRight, IsSeatRight, AreRight, IsDamaged, Says}
-use Rattle.loading.specs.Reading.{ExceedancesRead, IsFlown, IsRecorded, row_of_recorded, Saw, Blames, HasRows, IsUnreadable, IsReadTo, Mapped, AreOnce, TellsOf, HasStranger}
+use Rattle.loading.specs.Loading.{IsKey, IsExceedance, ArePlanned, AreSeated, name_of, IsRight, IsSeatRight, AreRight, IsDamaged, Justifies}
+use Rattle.loading.specs.Reading.{ExceedancesRead, IsFlown, IsRecorded, row_of_recorded, ReadsAs, Blames, HasRows, IsUnreadable, AgreesThrough, Mapped, AreOnce, TellsOf, HasStranger}
 use Rattle.loading.specs.declared.fault.LoadFault.{LoadFault}
 use Rattle.loading.specs.declared.fault.TableName.TheVariants as table_name
-use Rattle.rows.specs.Rows.{HasJust, row_of_pairing, exceedance, ground_duty}
+use Rattle.state_rows.specs.Rows.{HasJust, row_of_pairing, exceedance, ground_duty}
 
 -- ---- One record
 
-module _ (members : Crew) (pairings : fin.FinMap name_cmp Rostered) (it : ExceedanceRecord) where
+module _ (members : Crew) (pairings : fin.FinMap name_cmp PairingEntry) (it : ExceedanceRecord) where
   abbrev Tells : Option Entry → Type 0
   Tells = TellsOf (λ id p e. e ≡ entry.Exceedance id p) row_of_recorded (IsRecorded members pairings) (exceedance_row it)
 
@@ -139,7 +139,7 @@ module _ (records : List ExceedanceRecord) (at : ℕ) (it : ExceedanceRecord) (t
 -- ---- States with the same rows down to the seats have the same pairings
 
 -- a pairing that is planned and seated is sound
-sound : (s : State) → ArePlanned s → AreSeated s → (id : List ℕ) (r : Rostered) → fin.get s.pairings id ≡ Some r → SoundPairing s.crew id r
+sound : (s : State) → ArePlanned s → AreSeated s → (id : List ℕ) (r : PairingEntry) → fin.get s.pairings id ≡ Some r → SoundPairing s.crew id r
 sound s planned seated id r e =
     let p = planned id r e in
     let h = seated id r e in
@@ -158,7 +158,7 @@ sound s planned seated id r e =
 of_other : (it : BookTable) (db : Database) (Is Other : Row → Type 0) → HasJust it db Is → HasJust it db Other → (row : Row) → Other row → Is row
 of_other it db Is Other a b row other = (a row).0 ((b row).1 other)
 
-pub pairing_here : (s t : State) (db : Database) → IsSeatRight s db → IsSeatRight t db → (id : List ℕ) (r : Rostered) → fin.get t.pairings id ≡ Some r → fin.get s.pairings id ≡ Some r
+pub pairing_here : (s t : State) (db : Database) → IsSeatRight s db → IsSeatRight t db → (id : List ℕ) (r : PairingEntry) → fin.get t.pairings id ≡ Some r → fin.get s.pairings id ≡ Some r
 pairing_here s t db a b id r e =
     let it = of_other pairing_table db _ _ a.0.0.0.1.1 b.0.0.0.1.1 (row_of_pairing id) (record { name = id; value = r; there = e }, refl) in
     let same_id : id ≡ it.0.name = text_is (ap (λ (row : Row). column row 0) it.1) in
@@ -235,7 +235,7 @@ not_unreadable db (inr x) right =
 itself : (id : ExceedanceId) (p : PeriodId) → begins_with (Int (pos id.key.number) ∷ Int (pos id.key.part) ∷ Text id.crew ∷ Int (pos (section_number id.section)) ∷ []) (row_of_recorded id p) ≡ true
 itself id p = passes (Int (pos id.key.number) ∷ Int (pos id.key.part) ∷ Text id.crew ∷ Int (pos (section_number id.section)) ∷ []) (row_of_recorded id p) (refl, (refl, (refl, (refl, tt))))
 
-module _ (s : State) (db : Database) (above : IsReadTo ground_duty s db) where
+module _ (s : State) (db : Database) (above : AgreesThrough ground_duty s db) where
   damaged : (AreRight exceedance db → ⊥) → IsDamaged exceedance db
   damaged wrong = record { book = above.book; version = above.version; above = (s, above.right); damaged = wrong }
 
@@ -254,7 +254,7 @@ module _ (s : State) (db : Database) (above : IsReadTo ground_duty s db) where
       ((read.all (row_of_recorded id p)).1 first) ((read.all (row_of_recorded id q)).1 second) (itself id p) (itself id q)
 
   pub right : (rows : List Row) (t : State) → HasRows exceedance db rows → t ≡ record s { exceedances = t.exceedances } →
-      (AreOnce row_of_recorded rows → Mapped name_of row_of_recorded (IsRecorded s.crew s.pairings) rows t.exceedances) → IsReadTo exceedance t db
+      (AreOnce row_of_recorded rows → Mapped name_of row_of_recorded (IsRecorded s.crew s.pairings) rows t.exceedances) → AgreesThrough exceedance t db
   right rows t read same mapped =
       let map = mapped (exceedances_once rows read) in
       record {
@@ -280,18 +280,18 @@ module _ (s : State) (db : Database) (above : IsReadTo ground_duty s db) where
 
 -- ---- The call
 
-module _ (s : State) (old new : conn.State) (above : HasCleanDisk old → IsReadTo ground_duty s old.now) where
+module _ (s : State) (old new : conn.State) (above : HasCleanDisk old → AgreesThrough ground_duty s old.now) where
   abbrev pub Now : State → Type 0
-  Now r = IsReadTo exceedance r old.now × (r ≡ record s { exceedances = r.exceedances })
+  Now r = AgreesThrough exceedance r old.now × (r ≡ record s { exceedances = r.exceedances })
 
-  pub not_read : (fault : LoadFault) → (HasCleanDisk new → Blames table_name.Exceedance (IsUnreadable exceedance IsExceedanceRow old.now) fault) → LeavesNothing old new →
-      Saw Now (λ f. Says f old.now) old new (Err fault)
+  pub not_read : (fault : LoadFault) → (HasCleanDisk new → Blames table_name.Exceedance (IsUnreadable exceedance IsExceedanceRow old.now) fault) → CrashLeavesNoMore old new →
+      ReadsAs Now (λ f. Justifies f old.now) old new (Err fault)
   not_read fault told left = unread table_name.Exceedance _ Now old new fault (λ clean. unreadable s old.now (above clean)) told left
 
   pub is_read : (records seen : List ExceedanceRecord) (result : Result State LoadFault) → seen ≡ records →
-      (HasCleanDisk new → IsUnchanged old new × HasRows exceedance old.now (map exceedance_row records)) → LeavesNothing old new →
+      (HasCleanDisk new → IsUnchanged old new × HasRows exceedance old.now (map exceedance_row records)) → CrashLeavesNoMore old new →
       MatchResult result (ExceedancesRead seen (length seen) s) (Blames table_name.Exceedance (HasStranger row_of_recorded (IsRecorded s.crew s.pairings) (map exceedance_row seen))) →
-      Saw Now (λ f. Says f old.now) old new result
+      ReadsAs Now (λ f. Justifies f old.now) old new result
   is_read records seen (Ok r) same saw left done = record {
     told = λ clean.
         let it = saw clean in

@@ -16,28 +16,28 @@ use Rattle.duty.specs.Shape.{is_id}
 use Rattle.duty.specs.Words.{checked}
 use Rattle.duty.specs.declared.fault.DutyFault.{DutyFault}
 use Rattle.command.specs.declared.member.Member.{Member}
-use Rattle.kept.specs.Instants.{is_instant}
+use Rattle.stored_json.specs.Instants.{is_instant}
 use Rattle.roster.specs.Entries.{put}
 use Rattle.roster.specs.Sound.{Crew}
 use Rattle.roster.specs.State.{State}
 use Rattle.roster.specs.declared.put.Entry.{Entry}
 use Rattle.roster.specs.declared.put.Entry.TheVariants as entry
 use Rattle.tables.proofs.KeyLemmas.{ground_once}
-use Rattle.tables.specs.Calls.{LeavesNothing}
+use Rattle.tables.specs.Calls.{CrashLeavesNoMore}
 use Rattle.tables.specs.Records.{IsGroundRow, ground_row}
 use Rattle.tables.specs.Rows.{begins_with}
 use Rattle.tables.specs.declared.ground.GroundRecord.{GroundRecord}
 use Rattle.loading.proofs.Ascii.{id_utf8}
 use Rattle.loading.proofs.Mapping.{all_taken, nothing_mapped, next_mapped, mapped_at, mapped_place}
 use Rattle.loading.proofs.SameStates.{crew_told}
-use Rattle.rows.proofs.Tests.{passes}
-use Rattle.rows.proofs.Values.{text_is, number_is}
+use Rattle.state_rows.proofs.Tests.{passes}
+use Rattle.state_rows.proofs.Values.{text_is, number_is}
 use Rattle.loading.proofs.Telling.{unread, of_blame, clean_before}
-use Rattle.loading.specs.Loading.{IsGround, IsRight, IsCrewRight, IsSeatRight, AreRight, IsDamaged, Says}
-use Rattle.loading.specs.Reading.{GroundsRead, Saw, Blames, HasRows, IsUnreadable, IsReadTo, Mapped, AreOnce, TellsOf, HasStranger}
+use Rattle.loading.specs.Loading.{IsGround, IsRight, IsCrewRight, IsSeatRight, AreRight, IsDamaged, Justifies}
+use Rattle.loading.specs.Reading.{GroundsRead, ReadsAs, Blames, HasRows, IsUnreadable, AgreesThrough, Mapped, AreOnce, TellsOf, HasStranger}
 use Rattle.loading.specs.declared.fault.LoadFault.{LoadFault}
 use Rattle.loading.specs.declared.fault.TableName.TheVariants as table_name
-use Rattle.rows.specs.Rows.{row_of_ground, ground_duty, seat}
+use Rattle.state_rows.specs.Rows.{row_of_ground, ground_duty, seat}
 
 -- ---- One record
 
@@ -192,7 +192,7 @@ itself id g = passes (Text id ∷ []) (row_of_ground id g) (refl, tt)
 pub crew_part : (s : State) (db : Database) → IsSeatRight s db → IsCrewRight s db
 crew_part s db right = right.0.0.0.0
 
-module _ (s : State) (db : Database) (above : IsReadTo seat s db) where
+module _ (s : State) (db : Database) (above : AgreesThrough seat s db) where
   damaged : (AreRight ground_duty db → ⊥) → IsDamaged ground_duty db
   damaged wrong = record { book = above.book; version = above.version; above = (s, above.right); damaged = wrong }
 
@@ -212,7 +212,7 @@ module _ (s : State) (db : Database) (above : IsReadTo seat s db) where
       ((read.all (row_of_ground id m)).1 first) ((read.all (row_of_ground id n)).1 second) (itself id m) (itself id n)
 
   pub right : (rows : List Row) (t : State) → HasRows ground_duty db rows → t ≡ record s { grounds = t.grounds } →
-      (AreOnce row_of_ground rows → Mapped (λ id. id) row_of_ground (IsGround s.crew) rows t.grounds) → IsReadTo ground_duty t db
+      (AreOnce row_of_ground rows → Mapped (λ id. id) row_of_ground (IsGround s.crew) rows t.grounds) → AgreesThrough ground_duty t db
   right rows t read same mapped =
       let map = mapped (grounds_once rows read) in
       record {
@@ -234,18 +234,18 @@ module _ (s : State) (db : Database) (above : IsReadTo seat s db) where
 
 -- ---- The call
 
-module _ (s : State) (old new : conn.State) (above : HasCleanDisk old → IsReadTo seat s old.now) where
+module _ (s : State) (old new : conn.State) (above : HasCleanDisk old → AgreesThrough seat s old.now) where
   abbrev pub Now : State → Type 0
-  Now r = IsReadTo ground_duty r old.now × (r ≡ record s { grounds = r.grounds })
+  Now r = AgreesThrough ground_duty r old.now × (r ≡ record s { grounds = r.grounds })
 
-  pub not_read : (fault : LoadFault) → (HasCleanDisk new → Blames table_name.Ground (IsUnreadable ground_duty IsGroundRow old.now) fault) → LeavesNothing old new →
-      Saw Now (λ f. Says f old.now) old new (Err fault)
+  pub not_read : (fault : LoadFault) → (HasCleanDisk new → Blames table_name.Ground (IsUnreadable ground_duty IsGroundRow old.now) fault) → CrashLeavesNoMore old new →
+      ReadsAs Now (λ f. Justifies f old.now) old new (Err fault)
   not_read fault told left = unread table_name.Ground _ Now old new fault (λ clean. unreadable s old.now (above clean)) told left
 
   pub is_read : (records seen : List GroundRecord) (result : Result State LoadFault) → seen ≡ records →
-      (HasCleanDisk new → IsUnchanged old new × HasRows ground_duty old.now (map ground_row records)) → LeavesNothing old new →
+      (HasCleanDisk new → IsUnchanged old new × HasRows ground_duty old.now (map ground_row records)) → CrashLeavesNoMore old new →
       MatchResult result (GroundsRead seen (length seen) s) (Blames table_name.Ground (HasStranger row_of_ground (IsGround s.crew) (map ground_row seen))) →
-      Saw Now (λ f. Says f old.now) old new result
+      ReadsAs Now (λ f. Justifies f old.now) old new result
   is_read records seen (Ok r) same saw left done = record {
     told = λ clean.
         let it = saw clean in

@@ -10,10 +10,10 @@ use Rattle.tables.specs.Records.{IsPairingRow, pairing_row}
 use Rattle.tables.specs.declared.pairing.PairingRecord.{PairingRecord}
 use Rattle.loading.proofs.Ascii.{id_utf8}
 use Rattle.loading.proofs.Mapping.{all_taken, nothing_mapped, next_mapped, mapped_at, mapped_place}
-use Rattle.rows.proofs.Values.{text_is}
+use Rattle.state_rows.proofs.Values.{text_is}
 use Rattle.loading.specs.Keyed.{Ids, IdsRead, IsId, AreIds, HasIds, row_of_id}
 use Rattle.loading.specs.Reading.{HasRows, HasStranger, IsUnreadable, Mapped}
-use Rattle.rows.specs.Rows.{pairing}
+use Rattle.state_rows.specs.Rows.{pairing}
 
 -- ---- Records in turn
 

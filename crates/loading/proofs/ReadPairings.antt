@@ -18,11 +18,11 @@ use Rattle.duty.specs.Pairings.{are_shaped, has_shapes}
 use Rattle.duty.specs.Plans.{ActualTimes}
 use Rattle.duty.specs.declared.segment.BlockTimes.{BlockTimes}
 use Rattle.duty.specs.declared.segment.Segment.{Segment}
-use Rattle.kept.specs.Instants.{period_has_instants, segment_has_instants, times_have_instants}
+use Rattle.stored_json.specs.Instants.{period_has_instants, segment_has_instants, times_have_instants}
 use Rattle.roster.specs.Entries.{put}
 use Rattle.roster.specs.State.{State}
 use Rattle.roster.specs.declared.put.Entry.TheVariants as entry
-use Rattle.roster.specs.declared.state.Rostered.{Rostered}
+use Rattle.roster.specs.declared.state.PairingEntry.{PairingEntry}
 use Rattle.tables.specs.Records.{IsNumberIfAny, IsSegmentRow, period_row, segment_row}
 use Rattle.tables.specs.Rows.{rows_of}
 use Rattle.tables.specs.Schema.{segment_table}
@@ -30,20 +30,20 @@ use Rattle.tables.specs.declared.period.PeriodRecord.{PeriodRecord}
 use Rattle.tables.specs.declared.segment.SegmentRecord.{SegmentRecord}
 use Rattle.loading.proofs.Ascii.{id_utf8, flight_utf8, airport_utf8}
 use Rattle.loading.proofs.Entries.{Passed, none_passed, next_passed, is_there, all_passed, passed_more}
-use Rattle.rows.proofs.FewPeriods.{all_shaped, few_periods, few_segments}
+use Rattle.state_rows.proofs.FewPeriods.{all_shaped, few_periods, few_segments}
 use Rattle.loading.proofs.Following.{has_value}
-use Rattle.rows.proofs.Lists.{some_same}
+use Rattle.state_rows.proofs.Lists.{some_same}
 use Rattle.loading.proofs.PlanLemmas.{there_within}
 use Rattle.loading.proofs.PlanStates.{all_at, state_told, told_planned, periods_are, segments_are}
 use Rattle.loading.proofs.ReadPeriods.{number_fits, of_row}
 use Rattle.loading.proofs.ReadTables.{then_saw}
 use Rattle.loading.proofs.Telling.{clean_before, of_blame}
-use Rattle.rows.proofs.Values.{text_is}
+use Rattle.state_rows.proofs.Values.{text_is}
 use Rattle.loading.specs.Keyed.{Ids, AreIds, HasIds, HasPeriods, HasSegmentsOf, HasUntold, IsPairingOf, IsPeriodTable, IsSegmentOf, IsSegmentTable, PairingsRead}
-use Rattle.loading.specs.Loading.{AreRight, IsCrewRight, IsDamaged, IsPairingRight, IsPlanned, IsSegmentRight, Says, named}
+use Rattle.loading.specs.Loading.{AreRight, IsCrewRight, IsDamaged, IsPairingRight, IsPlanned, IsSegmentRight, Justifies, named}
 use Rattle.loading.specs.PlanRows.{IsTold, PeriodRows, Periods, SegmentRows, Segments, period_name, segment_name}
-use Rattle.loading.specs.Reading.{AreFree, Blames, IsFree, IsReadTo, Saw}
-use Rattle.rows.specs.Rows.{At, InPeriod, InSegment, PeriodOf, SegmentOf, crew, pairing, period, segment, row_of_pairing, row_of_period, row_of_segment, times_flown}
+use Rattle.loading.specs.Reading.{AreFree, Blames, IsFree, AgreesThrough, ReadsAs}
+use Rattle.state_rows.specs.Rows.{At, InPeriod, InSegment, PeriodOf, SegmentOf, crew, pairing, period, segment, row_of_pairing, row_of_period, row_of_segment, times_flown}
 use Rattle.loading.specs.declared.fault.LoadFault.{LoadFault}
 use Rattle.loading.specs.declared.fault.TableName as name
 use Rattle.loading.specs.declared.fault.TableName.TheVariants as table_name
@@ -54,7 +54,7 @@ module _ (ids : Ids) (m : Periods) (n : Segments) where
   -- the pairings of the ids before these are set
   pub record Adding (old new : State) (left : List (List ℕ × ⊤)) : Type 0 where
     pub same : new ≡ record old { pairings = new.pairings }
-    pub known : (id : List ℕ) (r : Rostered) → fin.get new.pairings id ≡ Some r → IsPairingOf ids m n id r
+    pub known : (id : List ℕ) (r : PairingEntry) → fin.get new.pairings id ≡ Some r → IsPairingOf ids m n id r
     pub passed : Passed (λ id. id) (λ id. fin.contains_key new.pairings id ≡ true) ids left
 
   pub none_added : (s : State) (items : List (List ℕ × ⊤)) → s.pairings ≡ fin.empty → named_rows (λ id. id) items ≡ fin.entries ids → Adding s s items
@@ -68,10 +68,10 @@ module _ (ids : Ids) (m : Periods) (n : Segments) where
     its_id : fin.contains_key ids x.0 ≡ true
     its_id = ap is_some (is_there (λ id. id) (λ id. fin.contains_key t.pairings id ≡ true) ids x left adding.passed).1
 
-    pub untold : ((r : Rostered) → IsTold m n x.0 r → ⊥) → HasUntold ids m n
+    pub untold : ((r : PairingEntry) → IsTold m n x.0 r → ⊥) → HasUntold ids m n
     untold none = record { id = x.0; here = its_id; untold = none }
 
-    module _ (u : State) (r : Rostered) (told : IsTold m n x.0 r) (free : IsFree r) (made : u ≡ put t (entry.Pairing r)) where
+    module _ (u : State) (r : PairingEntry) (told : IsTold m n x.0 r) (free : IsFree r) (made : u ≡ put t (entry.Pairing r)) where
       pairings_are : u.pairings ≡ fin.insert t.pairings x.0 r
       pairings_are = ap (λ (w : State). w.pairings) made ∙ ap (λ k. fin.insert t.pairings k r) told.named
 
@@ -84,7 +84,7 @@ module _ (ids : Ids) (m : Periods) (n : Segments) where
       elsewhere : (q : List ℕ) → eq_by_cmp name_cmp q x.0 ≡ false → fin.get u.pairings q ≡ fin.get t.pairings q
       elsewhere q apart = get_new q ∙ ap (λ b. cond b (Some r) (fin.get t.pairings q)) apart
 
-      known_now : (q : List ℕ) (v : Rostered) → fin.get u.pairings q ≡ Some v → IsPairingOf ids m n q v
+      known_now : (q : List ℕ) (v : PairingEntry) → fin.get u.pairings q ≡ Some v → IsPairingOf ids m n q v
       known_now q v e = elim (cases_Bool (eq_by_cmp name_cmp q x.0)) [
         | inl tied ↦
             let value : r ≡ v = some_same (sym (here q tied) ∙ e) in
@@ -119,7 +119,7 @@ module _ (ids : Ids) (m : Periods) (n : Segments) where
 
 module _ (s : State) (db : Database) (above : IsCrewRight s db) (ids : Ids) (has : HasIds db ids) where
   -- it is right with whatever pairings have these ids
-  pub kept_pairings : (pairings : fin.FinMap name_cmp Rostered) → ((id : List ℕ) → fin.contains_key pairings id ≡ true → fin.contains_key ids id ≡ true) →
+  pub kept_pairings : (pairings : fin.FinMap name_cmp PairingEntry) → ((id : List ℕ) → fin.contains_key pairings id ≡ true → fin.contains_key ids id ≡ true) →
       ((id : List ℕ) → fin.contains_key ids id ≡ true → fin.contains_key pairings id ≡ true) → IsPairingRight (record s { pairings = pairings }) db
   kept_pairings pairings of_id of_pairing = (
     above,
@@ -137,10 +137,10 @@ module _ (s : State) (db : Database) (above : IsCrewRight s db) (ids : Ids) (has
   )
 
 -- so with bare ones
-abbrev bare : List ℕ → Rostered
+abbrev bare : List ℕ → PairingEntry
 bare id = record { plan = record { id = id; periods = [] }; actuals = []; captain = None; first_officer = None }
 
-abbrev bare_pairings : Ids → fin.FinMap name_cmp Rostered
+abbrev bare_pairings : Ids → fin.FinMap name_cmp PairingEntry
 bare_pairings ids = fin.from_entries (map (λ e. (e.0, bare e.0)) (fin.entries ids))
 
 same_keys : (es : List (List ℕ × ⊤)) (q : List ℕ) → is_some (fin.find name_cmp q (map (λ e. (e.0, bare e.0)) es)) ≡ is_some (fin.find name_cmp q es)
@@ -270,7 +270,7 @@ module _ (t : State) (db : Database) (right : IsSegmentRight t db) where
 
 -- ---- Which table is the first that is damaged, and when none is
 
-module _ (s : State) (db : Database) (above : IsReadTo crew s db) where
+module _ (s : State) (db : Database) (above : AgreesThrough crew s db) where
   pub ids_wrong : (AreIds db → ⊥) → IsDamaged pairing db
   ids_wrong wrong = record {
     book = above.book;
@@ -317,10 +317,10 @@ module _ (s : State) (db : Database) (above : IsReadTo crew s db) where
             it.untold at.0.value (subst (λ k. IsTold m n k at.0.value) (sym same) told))
 
         module _ (t : State) (read : PairingsRead ids m n s t) where
-          told : (id : List ℕ) (r : Rostered) → fin.get t.pairings id ≡ Some r → IsTold m n id r
+          told : (id : List ℕ) (r : PairingEntry) → fin.get t.pairings id ≡ Some r → IsTold m n id r
           told id r e = (read.known id r e).told
 
-          of_pairing : (it : PeriodRecord) → fin.get m (period_name it.pairing it.number) ≡ Some it → (r : Rostered) × (fin.get t.pairings it.pairing ≡ Some r)
+          of_pairing : (it : PeriodRecord) → fin.get m (period_name it.pairing it.number) ≡ Some it → (r : PairingEntry) × (fin.get t.pairings it.pairing ≡ Some r)
           of_pairing it e =
               let is = periods.right.1 (period_row it) ((periods.rows (period_row it)).1 (it, e, refl)) in
               let same : it.pairing ≡ is.it.pairing = text_is (ap (λ (r : Row). column r 0) is.is) in
@@ -330,7 +330,7 @@ module _ (s : State) (db : Database) (above : IsReadTo crew s db) where
           of_period_here : (it : SegmentRecord) → fin.get n (segment_name it.pairing it.period it.number) ≡ Some it → (p : PeriodRecord) × (fin.get m (period_name it.pairing it.period) ≡ Some p)
           of_period_here it e = has_value (fin.get m (period_name it.pairing it.period)) (segments.of_periods (segment_name it.pairing it.period it.number) it e)
 
-          pub all_right : IsReadTo segment t db
+          pub all_right : AgreesThrough segment t db
           all_right =
               let period_rows = periods_are t m n periods.keyed segments.keyed told of_pairing of_period_here in
               let segment_rows = segments_are t m n periods.keyed segments.keyed told of_pairing of_period_here in
@@ -353,34 +353,34 @@ module _ (s : State) (db : Database) (above : IsReadTo crew s db) where
 
 -- ---- The call
 
-refuses : {A B : Type 0} (Is : A → Type 0) (Tells : B → Type 0) (its : name.TableName) (Why : Type 0) (old new : conn.State) (fault : LoadFault) → Saw Is (Blames its Why) old new (Err fault) →
-    (HasCleanDisk new → Why → IsDamaged (named its) old.now) → Saw Tells (λ f. Says f old.now) old new (Err fault)
+refuses : {A B : Type 0} (Is : A → Type 0) (Tells : B → Type 0) (its : name.TableName) (Why : Type 0) (old new : conn.State) (fault : LoadFault) → ReadsAs Is (Blames its Why) old new (Err fault) →
+    (HasCleanDisk new → Why → IsDamaged (named its) old.now) → ReadsAs Tells (λ f. Justifies f old.now) old new (Err fault)
 refuses Is Tells its Why old new fault saw damaged = record {
   told = λ clean. of_blame its Why old.now (damaged clean) fault (saw.told clean);
   left = saw.left;
 }
 
 abbrev pub SawIds : conn.State → conn.State → Result Ids LoadFault → Type 0
-SawIds old new = Saw (HasIds old.now) (Blames table_name.Pairing (AreIds old.now → ⊥)) old new
+SawIds old new = ReadsAs (HasIds old.now) (Blames table_name.Pairing (AreIds old.now → ⊥)) old new
 
 abbrev pub SawPeriods : conn.State → conn.State → Result Periods LoadFault → Type 0
-SawPeriods old new = Saw (HasPeriods old.now) (Blames table_name.Period (IsPeriodTable old.now → ⊥)) old new
+SawPeriods old new = ReadsAs (HasPeriods old.now) (Blames table_name.Period (IsPeriodTable old.now → ⊥)) old new
 
 abbrev pub SawSegments : Periods → conn.State → conn.State → Result Segments LoadFault → Type 0
-SawSegments m old new = Saw (HasSegmentsOf old.now m) (Blames table_name.Segment (IsSegmentTable old.now → ⊥)) old new
+SawSegments m old new = ReadsAs (HasSegmentsOf old.now m) (Blames table_name.Segment (IsSegmentTable old.now → ⊥)) old new
 
-module _ (s : State) (old : conn.State) (above : HasCleanDisk old → IsReadTo crew s old.now) where
+module _ (s : State) (old : conn.State) (above : HasCleanDisk old → AgreesThrough crew s old.now) where
   abbrev pub Now : State → Type 0
-  Now r = IsReadTo segment r old.now × (r ≡ record s { pairings = r.pairings }) × AreFree r
+  Now r = AgreesThrough segment r old.now × (r ≡ record s { pairings = r.pairings }) × AreFree r
 
   abbrev pub Reads : conn.State → Result State LoadFault → Type 0
-  Reads new result = Saw Now (λ f. Says f old.now) old new result
+  Reads new result = ReadsAs Now (λ f. Justifies f old.now) old new result
 
   pub no_ids : (new : conn.State) (fault : LoadFault) → SawIds old new (Err fault) → Reads new (Err fault)
   no_ids new fault saw = refuses (HasIds old.now) Now table_name.Pairing (AreIds old.now → ⊥) old new fault saw (λ clean. ids_wrong s old.now (above (clean_before old new saw.left clean)))
 
   module _ (ids : Ids) (one : conn.State) (first : SawIds old one (Ok ids)) where
-    up : HasCleanDisk one → IsReadTo crew s old.now
+    up : HasCleanDisk one → AgreesThrough crew s old.now
     up clean = above (clean_before old one first.left clean)
 
     pub no_periods : (new : conn.State) (fault : LoadFault) → SawPeriods one new (Err fault) → Reads new (Err fault)

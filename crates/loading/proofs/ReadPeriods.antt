@@ -6,7 +6,7 @@ use Rattle.sqlite_value.specs.declared.value.Value.TheVariants.{Int, Text}
 use Rattle.sqlite_value.specs.Order.{Row, column}
 use Rattle.sqlite_rules.specs.Lists.{Has}
 use Rattle.sqlite.specs.Effect.{Database}
-use Rattle.kept.specs.Instants.{is_instant}
+use Rattle.stored_json.specs.Instants.{is_instant}
 use Rattle.tables.proofs.KeyLemmas.{period_once}
 use Rattle.tables.specs.Records.{IsNumber, IsNumberIfAny, IsPeriodRow, period_row}
 use Rattle.tables.specs.Rows.{begins_with, rows_of}
@@ -15,13 +15,13 @@ use Rattle.tables.specs.declared.period.PeriodRecord.{PeriodRecord}
 use Rattle.loading.proofs.Ascii.{id_utf8}
 use Rattle.loading.proofs.Mapping.{all_taken, nothing_mapped, next_mapped, mapped_at, mapped_place}
 use Rattle.loading.proofs.PlanKeys.{period_names_same}
-use Rattle.rows.proofs.Tests.{passes}
-use Rattle.rows.proofs.Values.{text_is, number_is, numbers_same}
+use Rattle.state_rows.proofs.Tests.{passes}
+use Rattle.state_rows.proofs.Values.{text_is, number_is, numbers_same}
 use Rattle.loading.specs.Keyed.{Ids, HasIds, AtInstants, IsKeyedPeriod, PeriodsRead, ArePeriodsWhole, ArePeriodsWanting, IsPeriodTable, HasPeriods, name_of_period, row_of_keyed_period}
 use Rattle.loading.specs.Loading.{IsInstantIfAny, ArePeriods}
 use Rattle.loading.specs.PlanRows.{Periods, PeriodRows, ArePeriodsKeyed, AreUngapped, period_name}
 use Rattle.loading.specs.Reading.{AreOnce, HasRows, HasStranger, IsUnreadable, Mapped, TellsOf, Under}
-use Rattle.rows.specs.Rows.{period, row_of_pairing}
+use Rattle.state_rows.specs.Rows.{period, row_of_pairing}
 use Rattle.loading.specs.declared.plan_rows.PeriodKey.{PeriodKey}
 
 pub names_same : (i j : PeriodKey) → name_of_period i ≡ name_of_period j → i ≡ j

@@ -19,34 +19,34 @@ use Rattle.sqlite.specs.State as conn
 use Rattle.limits.specs.declared.section.Section.{Section}
 use Rattle.command.specs.Keys.{KeyParts, key_name}
 use Rattle.command.specs.declared.exceedance.Reply.{Reply}
-use Rattle.command.specs.declared.order.Order.{Order}
-use Rattle.kept.proofs.OrdersBack.{kept_back}
-use Rattle.kept.proofs.ReplyBack.{reply_back}
-use Rattle.kept.specs.CommandJson.{read_kept}
-use Rattle.kept.specs.KeptText.{kept_text}
-use Rattle.kept.specs.Laws.{IsCommand}
-use Rattle.kept.specs.ReplyText.{reply_text, read_reply}
-use Rattle.kept.specs.declared.fault.CodecFault.{CodecFault}
+use Rattle.command.specs.declared.instruction.Instruction.{Instruction}
+use Rattle.stored_json.proofs.InstructionsBack.{kept_back}
+use Rattle.stored_json.proofs.ReplyBack.{reply_back}
+use Rattle.stored_json.specs.CommandJson.{read_kept}
+use Rattle.stored_json.specs.KeptText.{kept_text}
+use Rattle.stored_json.specs.Laws.{IsCommand}
+use Rattle.stored_json.specs.ReplyText.{reply_text, read_reply}
+use Rattle.stored_json.specs.declared.fault.CodecFault.{CodecFault}
 use Rattle.roster.specs.Entries.{put}
 use Rattle.roster.specs.State.{State}
 use Rattle.roster.specs.declared.put.Entry.{Entry}
 use Rattle.roster.specs.declared.put.Entry.TheVariants as entry
-use Rattle.roster.specs.declared.state.Request.{Request}
+use Rattle.roster.specs.declared.state.LoggedCommand.{LoggedCommand}
 use Rattle.tables.proofs.KeyLemmas.{request_once}
-use Rattle.tables.specs.Calls.{LeavesNothing}
+use Rattle.tables.specs.Calls.{CrashLeavesNoMore}
 use Rattle.tables.specs.Records.{IsRequestRow, request_row}
 use Rattle.tables.specs.Rows.{begins_with}
 use Rattle.tables.specs.declared.request.RequestRecord.{RequestRecord}
 use Rattle.loading.proofs.Mapping.{all_taken, nothing_mapped, next_mapped, mapped_at, mapped_place}
-use Rattle.rows.proofs.Tests.{passes}
-use Rattle.rows.proofs.Values.{ids_same, int_is, text_is, number_is}
+use Rattle.state_rows.proofs.Tests.{passes}
+use Rattle.state_rows.proofs.Values.{ids_same, int_is, text_is, number_is}
 use Rattle.loading.proofs.Telling.{unread, of_blame, clean_before}
-use Rattle.loading.specs.Loading.{IsKey, IsRequest, name_of, IsRight, AreRight, AreHeld, IsDamaged, Says}
-use Rattle.loading.specs.Reading.{AreWanting, RequestsRead, Saw, Blames, HasRows, IsUnreadable, IsReadTo, Mapped, AreOnce, TellsOf, HasStranger}
+use Rattle.loading.specs.Loading.{IsKey, IsRequest, name_of, IsRight, AreRight, AreHeld, IsDamaged, Justifies}
+use Rattle.loading.specs.Reading.{AreWanting, RequestsRead, ReadsAs, Blames, HasRows, IsUnreadable, AgreesThrough, Mapped, AreOnce, TellsOf, HasStranger}
 use Rattle.loading.specs.declared.fault.LoadFault.{LoadFault}
 use Rattle.loading.specs.declared.fault.LoadFault.TheVariants.{NotABook, Damaged, Version, Fault}
 use Rattle.loading.specs.declared.fault.TableName.TheVariants as table_name
-use Rattle.rows.specs.Rows.{RequestAt, ExceedanceAt, row_of_request, row_of_exceedance, request, exceedance}
+use Rattle.state_rows.specs.Rows.{RequestAt, ExceedanceAt, row_of_request, row_of_exceedance, request, exceedance}
 
 -- ---- Texts
 
@@ -54,13 +54,13 @@ ok_same : {A E : Type 0} {a b : A} → ◌≡◌ {A = Result A E} (Ok a) (Ok b) 
 ok_same e = cc
 
 -- a text that isn't read is no command's
-pub not_kept : (text : List ℕ) (fault : CodecFault) → read_kept text ≡ Err fault → (order : Order) → IsCommand order → kept_text order ≡ text → ⊥
-not_kept text fault failed order is same = absurd (let f = sym failed ∙ ap read_kept (sym same) ∙ kept_back order is.0 is.1 in cc)
+pub not_kept : (text : List ℕ) (fault : CodecFault) → read_kept text ≡ Err fault → (instruction : Instruction) → IsCommand instruction → kept_text instruction ≡ text → ⊥
+not_kept text fault failed instruction is same = absurd (let f = sym failed ∙ ap read_kept (sym same) ∙ kept_back instruction is.0 is.1 in cc)
 
 -- nor is one from which a command is read that is kept as another text
-pub kept_otherwise : (text : List ℕ) (command : Order) → read_kept text ≡ Ok command → (kept_text command ≡ text → ⊥) → (order : Order) → IsCommand order → kept_text order ≡ text → ⊥
-kept_otherwise text command read other order is same =
-    let one : order ≡ command = ok_same (sym (kept_back order is.0 is.1) ∙ ap read_kept same ∙ read) in
+pub kept_otherwise : (text : List ℕ) (command : Instruction) → read_kept text ≡ Ok command → (kept_text command ≡ text → ⊥) → (instruction : Instruction) → IsCommand instruction → kept_text instruction ≡ text → ⊥
+kept_otherwise text command read other instruction is same =
+    let one : instruction ≡ command = ok_same (sym (kept_back instruction is.0 is.1) ∙ ap read_kept same ∙ read) in
     other (ap kept_text (sym one) ∙ same)
 
 pub not_reply : (text : List ℕ) (fault : CodecFault) → read_reply text ≡ Err fault → (reply : Reply) → reply_text reply ≡ text → ⊥
@@ -75,20 +75,20 @@ told_otherwise text told read other reply same =
 
 module _ (it : RequestRecord) where
   abbrev Tells : Option Entry → Type 0
-  Tells = TellsOf (λ key kept e. e ≡ entry.Request key kept) row_of_request IsRequest (request_row it)
+  Tells = TellsOf (λ key kept e. e ≡ entry.LoggedCommand key kept) row_of_request IsRequest (request_row it)
 
   pub no_key : ((key : KeyParts) → IsKey key → it.number ≡ pos key.number → it.part ≡ key.part → ⊥) → Tells None
   no_key none key r e is = none key is.is_key (int_is (ap (λ (row : Row). column row 0) e)) (number_is (ap (λ (row : Row). column row 1) e))
 
-  pub no_command : ((order : Order) → IsCommand order → kept_text order ≡ it.command → ⊥) → Tells None
+  pub no_command : ((instruction : Instruction) → IsCommand instruction → kept_text instruction ≡ it.command → ⊥) → Tells None
   no_command none key r e is = none r.command is.command (sym (text_is (ap (λ (row : Row). column row 2) e)))
 
   pub no_reply : ((reply : Reply) → reply_text reply ≡ it.reply → ⊥) → Tells None
   no_reply none key r e is = none r.reply (sym (text_is (ap (λ (row : Row). column row 3) e)))
 
-  pub tells : (key : KeyParts) (command : Order) (reply : Reply) → IsKey key × (it.number ≡ pos key.number) × (it.part ≡ key.part) →
+  pub tells : (key : KeyParts) (command : Instruction) (reply : Reply) → IsKey key × (it.number ≡ pos key.number) × (it.part ≡ key.part) →
       IsCommand command × (kept_text command ≡ it.command) × IsUtf8 it.command → (reply_text reply ≡ it.reply) × IsUtf8 it.reply →
-      Tells (Some (entry.Request key (record { command = command; reply = reply })))
+      Tells (Some (entry.LoggedCommand key (record { command = command; reply = reply })))
   tells key command reply is_key is_command is_reply = (
     key,
     record { command = command; reply = reply },
@@ -149,10 +149,10 @@ not_unreadable db (inr x) right =
       it.1,
     )
 
-itself : (key : KeyParts) (r : Request) → begins_with (Int (pos key.number) ∷ Int (pos key.part) ∷ []) (row_of_request key r) ≡ true
+itself : (key : KeyParts) (r : LoggedCommand) → begins_with (Int (pos key.number) ∷ Int (pos key.part) ∷ []) (row_of_request key r) ≡ true
 itself key r = passes (Int (pos key.number) ∷ Int (pos key.part) ∷ []) (row_of_request key r) (refl, (refl, tt))
 
-module _ (s : State) (db : Database) (above : IsReadTo exceedance s db) where
+module _ (s : State) (db : Database) (above : AgreesThrough exceedance s db) where
   damaged : (AreRight request db → ⊥) → IsDamaged request db
   damaged wrong = record { book = above.book; version = above.version; above = (s, above.right); damaged = wrong }
 
@@ -173,7 +173,7 @@ module _ (s : State) (db : Database) (above : IsReadTo exceedance s db) where
 
   -- all but that each key of an exceedance is held
   pub kept_requests : (rows : List Row) (t : State) → HasRows request db rows → t ≡ record s { requests = t.requests } →
-      (AreOnce row_of_request rows → Mapped key_name row_of_request IsRequest rows t.requests) → AreHeld t → IsReadTo request t db
+      (AreOnce row_of_request rows → Mapped key_name row_of_request IsRequest rows t.requests) → AreHeld t → AgreesThrough request t db
   kept_requests rows t read same mapped held =
       let map = mapped (requests_once rows read) in
       record {
@@ -259,7 +259,7 @@ exceedance_key a b x y m n p q e =
     let part : a.part ≡ b.part = number_is (ap (λ (row : Row). column row 1) e) in
     λ i. record { number = number i; part = part i }
 
-request_key : (a b : KeyParts) (r q : Request) → row_of_request a r ≡ row_of_request b q → a ≡ b
+request_key : (a b : KeyParts) (r q : LoggedCommand) → row_of_request a r ≡ row_of_request b q → a ≡ b
 request_key a b r q e =
     let number : a.number ≡ b.number = number_is (ap (λ (row : Row). column row 0) e) in
     let part : a.part ≡ b.part = number_is (ap (λ (row : Row). column row 1) e) in
@@ -279,7 +279,7 @@ module _ (s t u : State) (db : Database) (rows : List Row) (read : HasRows reque
       (other, it.0.period, it.0.there, exceedance_key id.key it.0.key id.crew it.0.crew id.section it.0.section p it.0.period it.1)
 
   -- a key that is held in the other is held in this one
-  from_other : (key : KeyParts) (r : Request) → fin.get u.requests (key_name key) ≡ Some r → (q : Request) × (fin.get t.requests (key_name key) ≡ Some q)
+  from_other : (key : KeyParts) (r : LoggedCommand) → fin.get u.requests (key_name key) ≡ Some r → (q : LoggedCommand) × (fin.get t.requests (key_name key) ≡ Some q)
   from_other key r there =
       let row = row_of_request key r in
       let kept : RequestAt u.requests = record { key = key; kept = r; there = there } in
@@ -307,12 +307,12 @@ read_stranger records s (Fault fault) blame = tt
 pub not_all_held : (records : List RequestRecord) (s r : State) → RequestsRead records (length records) s r → (AreHeld r → ⊥) → AreWanting records s
 not_all_held records s r read none = inr (r, read, none)
 
-module _ (s : State) (old new : conn.State) (above : HasCleanDisk old → IsReadTo exceedance s old.now) where
+module _ (s : State) (old new : conn.State) (above : HasCleanDisk old → AgreesThrough exceedance s old.now) where
   abbrev pub Now : State → Type 0
-  Now r = IsReadTo request r old.now
+  Now r = AgreesThrough request r old.now
 
-  pub not_read : (fault : LoadFault) → (HasCleanDisk new → Blames table_name.Request (IsUnreadable request IsRequestRow old.now) fault) → LeavesNothing old new →
-      Saw Now (λ f. Says f old.now) old new (Err fault)
+  pub not_read : (fault : LoadFault) → (HasCleanDisk new → Blames table_name.Request (IsUnreadable request IsRequestRow old.now) fault) → CrashLeavesNoMore old new →
+      ReadsAs Now (λ f. Justifies f old.now) old new (Err fault)
   not_read fault told left = unread table_name.Request _ Now old new fault (λ clean. unreadable s old.now (above clean)) told left
 
   all_mapped : (records : List RequestRecord) (r : State) → RequestsRead records (length records) s r → AreOnce row_of_request (map request_row records) →
@@ -320,16 +320,16 @@ module _ (s : State) (old new : conn.State) (above : HasCleanDisk old → IsRead
   all_mapped records r read once = subst (λ l. Mapped key_name row_of_request IsRequest l r.requests) (all_taken request_row records) (read.mapped once)
 
   -- some row is wrong, or some exceedance has no request in any state with these rows
-  wanting : (records : List RequestRecord) → IsReadTo exceedance s old.now → HasRows request old.now (map request_row records) → AreWanting records s → IsDamaged request old.now
+  wanting : (records : List RequestRecord) → AgreesThrough exceedance s old.now → HasRows request old.now (map request_row records) → AreWanting records s → IsDamaged request old.now
   wanting records up read (inl stranger) = strange s old.now up (map request_row records) read stranger
   wanting records up read (inr it) = damaged s old.now up (λ right.
       it.2 (held_here s it.0 right.0 old.now (map request_row records) read up.right it.1.same
       (all_mapped records it.0 it.1 (requests_once s old.now up (map request_row records) read)) right.1))
 
   pub is_read : (records seen : List RequestRecord) (result : Result State LoadFault) → seen ≡ records →
-      (HasCleanDisk new → IsUnchanged old new × HasRows request old.now (map request_row records)) → LeavesNothing old new →
+      (HasCleanDisk new → IsUnchanged old new × HasRows request old.now (map request_row records)) → CrashLeavesNoMore old new →
       MatchResult result (λ r. RequestsRead seen (length seen) s r × AreHeld r) (Blames table_name.Request (AreWanting seen s)) →
-      Saw Now (λ f. Says f old.now) old new result
+      ReadsAs Now (λ f. Justifies f old.now) old new result
   is_read records seen (Ok r) same saw left done = record {
     told = λ clean.
         let it = saw clean in

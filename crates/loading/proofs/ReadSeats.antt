@@ -18,15 +18,15 @@ use Rattle.roster.proofs.Members.{first_or_later, is_first, is_later, from_rows,
 use Rattle.roster.specs.Pairings.{holder, with_holder, is_flown, is_fully_crewed}
 use Rattle.roster.specs.Sound.{Crew, IsHolder}
 use Rattle.roster.specs.State.{State}
-use Rattle.roster.specs.declared.state.Rostered.{Rostered}
+use Rattle.roster.specs.declared.state.PairingEntry.{PairingEntry}
 use Rattle.tables.specs.Records.{seat_row}
 use Rattle.tables.specs.declared.seat.SeatRecord.{SeatRecord}
-use Rattle.rows.proofs.Lists.{one_value, some_same}
+use Rattle.state_rows.proofs.Lists.{one_value, some_same}
 use Rattle.loading.proofs.Mapping.{mapped_at, mapped_place, of_appended, in_appended, of_taken, take_next, has_at}
 use Rattle.loading.proofs.ReadCrew.{seat_known, number_known}
-use Rattle.rows.proofs.Values.{text_is, number_is}
+use Rattle.state_rows.proofs.Values.{text_is, number_is}
 use Rattle.loading.specs.Reading.{seat_of, AreOnce, SeatIndex, SeatsRead, IsHeld, IsSamePlan, AreCrewed, AreFree, AreUnseated, Blames, row_of_held, TellsOf, HasStranger}
-use Rattle.rows.specs.Rows.{InSeat, row_of_seat}
+use Rattle.state_rows.specs.Rows.{InSeat, row_of_seat}
 use Rattle.loading.specs.declared.fault.LoadFault.{LoadFault}
 use Rattle.loading.specs.declared.fault.LoadFault.TheVariants.{NotABook, Version, Damaged, Fault}
 use Rattle.loading.specs.declared.fault.TableName.TheVariants as table_name
@@ -34,7 +34,7 @@ use Rattle.loading.specs.declared.read_seats.HeldSeat.{HeldSeat}
 
 -- ---- One record
 
-module _ (members : Crew) (pairings : fin.FinMap name_cmp Rostered) (it : SeatRecord) where
+module _ (members : Crew) (pairings : fin.FinMap name_cmp PairingEntry) (it : SeatRecord) where
   abbrev Tells : Option HeldSeat → Type 0
   Tells = TellsOf (λ at who held. (held.pairing ≡ at.pairing) × (held.taken.seat ≡ at.seat) × (held.taken.crew ≡ who)) row_of_held (IsHeld members pairings) (seat_row it)
 
@@ -54,7 +54,7 @@ module _ (members : Crew) (pairings : fin.FinMap name_cmp Rostered) (it : SeatRe
       let kind : at.seat ≡ seat = some_same (sym (same_seat at who e) ∙ is_seat) in
       none (is.member, ap (fin.get members) (text_is (ap (λ (row : Row). column row 2) e)) ∙ is.of_member, is.of_kind ∙ kind)
 
-  pairing_there : (o : Option Rostered) → is_some o ≡ true → (r : Rostered) × (o ≡ Some r)
+  pairing_there : (o : Option PairingEntry) → is_some o ≡ true → (r : PairingEntry) × (o ≡ Some r)
   pairing_there None e = absurd (cc)
   pairing_there (Some r) e = (r, refl)
 
@@ -77,30 +77,30 @@ seats_alike Captain FirstOfficer = inr (λ e. absurd (cc))
 seats_alike FirstOfficer Captain = inr (λ e. absurd (cc))
 seats_alike FirstOfficer FirstOfficer = inl refl
 
-taken_here : (seat : Seat) (w : Option (List ℕ)) (r : Rostered) → holder seat (with_holder seat w r) ≡ w
+taken_here : (seat : Seat) (w : Option (List ℕ)) (r : PairingEntry) → holder seat (with_holder seat w r) ≡ w
 taken_here Captain w r = refl
 taken_here FirstOfficer w r = refl
 
-taken_beside : (seat other : Seat) (w : Option (List ℕ)) (r : Rostered) → (seat ≡ other → ⊥) → holder other (with_holder seat w r) ≡ holder other r
+taken_beside : (seat other : Seat) (w : Option (List ℕ)) (r : PairingEntry) → (seat ≡ other → ⊥) → holder other (with_holder seat w r) ≡ holder other r
 taken_beside Captain Captain w r apart = absurd (apart refl)
 taken_beside Captain FirstOfficer w r apart = refl
 taken_beside FirstOfficer Captain w r apart = refl
 taken_beside FirstOfficer FirstOfficer w r apart = absurd (apart refl)
 
-plan_stays : (seat : Seat) (w : Option (List ℕ)) (r : Rostered) → ((with_holder seat w r).plan ≡ r.plan) × ((with_holder seat w r).actuals ≡ r.actuals)
+plan_stays : (seat : Seat) (w : Option (List ℕ)) (r : PairingEntry) → ((with_holder seat w r).plan ≡ r.plan) × ((with_holder seat w r).actuals ≡ r.actuals)
 plan_stays Captain w r = (refl, refl)
 plan_stays FirstOfficer w r = (refl, refl)
 
-pub plan_itself : (o : Option Rostered) → IsSamePlan o o
+pub plan_itself : (o : Option PairingEntry) → IsSamePlan o o
 plan_itself None = tt
 plan_itself (Some r) = (refl, refl)
 
-plan_taken : (o : Option Rostered) (r : Rostered) (seat : Seat) (w : Option (List ℕ)) → IsSamePlan o (Some r) → IsSamePlan o (Some (with_holder seat w r))
+plan_taken : (o : Option PairingEntry) (r : PairingEntry) (seat : Seat) (w : Option (List ℕ)) → IsSamePlan o (Some r) → IsSamePlan o (Some (with_holder seat w r))
 plan_taken None r seat w same = same
 plan_taken (Some q) r seat w same = let stays = plan_stays seat w r in (stays.0 ∙ same.0, stays.1 ∙ same.1)
 
-module _ (t : State) (at : SeatIndex) (who : List ℕ) (r : Rostered) (there : fin.get t.pairings at.pairing ≡ Some r) where
-  abbrev with : Rostered → Rostered
+module _ (t : State) (at : SeatIndex) (who : List ℕ) (r : PairingEntry) (there : fin.get t.pairings at.pairing ≡ Some r) where
+  abbrev with : PairingEntry → PairingEntry
   with = with_holder at.seat (Some who)
 
   abbrev pub taken : State
@@ -158,8 +158,8 @@ module _ (t : State) (at : SeatIndex) (who : List ℕ) (r : Rostered) (there : f
   ]
 
   kinds : (members : Crew) (m : Member) → fin.get members who ≡ Some m → m.seat ≡ at.seat →
-      ((id : List ℕ) (q : Rostered) (seat : Seat) → fin.get t.pairings id ≡ Some q → IsHolder members seat (holder seat q)) →
-      (id : List ℕ) (q : Rostered) (seat : Seat) → fin.get taken.pairings id ≡ Some q → IsHolder members seat (holder seat q)
+      ((id : List ℕ) (q : PairingEntry) (seat : Seat) → fin.get t.pairings id ≡ Some q → IsHolder members seat (holder seat q)) →
+      (id : List ℕ) (q : PairingEntry) (seat : Seat) → fin.get taken.pairings id ≡ Some q → IsHolder members seat (holder seat q)
   kinds members m is_member of_kind known id q seat found w held = elim (cases_Bool (eq_by_cmp name_cmp id at.pairing)) [
     | inl tied ↦
         let value : q ≡ with r = one_value found (ap (fin.get taken.pairings) (alike _ _ tied) ∙ here) in
@@ -173,7 +173,7 @@ module _ (t : State) (at : SeatIndex) (who : List ℕ) (r : Rostered) (there : f
     | inr apart ↦ known id q seat (sym (elsewhere id apart) ∙ found) w held
   ]
 
-  plans : (m : fin.FinMap name_cmp Rostered) → ((id : List ℕ) → IsSamePlan (fin.get m id) (fin.get t.pairings id)) → (id : List ℕ) → IsSamePlan (fin.get m id) (fin.get taken.pairings id)
+  plans : (m : fin.FinMap name_cmp PairingEntry) → ((id : List ℕ) → IsSamePlan (fin.get m id) (fin.get t.pairings id)) → (id : List ℕ) → IsSamePlan (fin.get m id) (fin.get taken.pairings id)
   plans m planned id = elim (cases_Bool (eq_by_cmp name_cmp id at.pairing)) [
     | inl tied ↦
         let n : id ≡ at.pairing = alike _ _ tied in
@@ -184,7 +184,7 @@ module _ (t : State) (at : SeatIndex) (who : List ℕ) (r : Rostered) (there : f
 
 -- ---- Records in turn
 
-no_holder_yet : (r : Rostered) → (r.captain ≡ None) × (r.first_officer ≡ None) → (seat : Seat) (who : List ℕ) → holder seat r ≡ Some who → ⊥
+no_holder_yet : (r : PairingEntry) → (r.captain ≡ None) × (r.first_officer ≡ None) → (seat : Seat) (who : List ℕ) → holder seat r ≡ Some who → ⊥
 no_holder_yet r free Captain who held = absurd (let e = sym free.0 ∙ held in cc)
 no_holder_yet r free FirstOfficer who held = absurd (let e = sym free.1 ∙ held in cc)
 
@@ -201,7 +201,7 @@ module _ (records : List SeatRecord) (count : ℕ) (it : SeatRecord) (there : sl
   rows = map seat_row records
 
   -- the members stay, and so does whether a pairing is there
-  pairing_was : (o p : Option Rostered) (r : Rostered) → IsSamePlan o p → o ≡ Some r → (q : Rostered) × (p ≡ Some q)
+  pairing_was : (o p : Option PairingEntry) (r : PairingEntry) → IsSamePlan o p → o ≡ Some r → (q : PairingEntry) × (p ≡ Some q)
   pairing_was None None r same e = absurd (cc)
   pairing_was (Some a) (Some b) r same e = (b, refl)
   pairing_was (Some a) None r same e = absurd same
@@ -263,26 +263,26 @@ module _ (records : List SeatRecord) (count : ℕ) (it : SeatRecord) (there : sl
 
 -- ---- That both seats of each flown pairing are held
 
-module _ (test : Rostered → Bool) where
-  all_in : (items : List (List ℕ × Rostered)) → list_all (λ e. test e.1) items ≡ true → (row : List ℕ × Rostered) → Contains items row → test row.1 ≡ true
+module _ (test : PairingEntry → Bool) where
+  all_in : (items : List (List ℕ × PairingEntry)) → list_all (λ e. test e.1) items ≡ true → (row : List ℕ × PairingEntry) → Contains items row → test row.1 ≡ true
   all_in [] all row c = absurd (none_in row c)
   all_in (x ∷ xs) all row c =
       let parts = and_parts (test x.1) (list_all (λ e. test e.1) xs) all in
       elim (first_or_later x xs row c) [
-        | inl is ↦ ap (λ (e : List ℕ × Rostered). test e.1) (sym is) ∙ parts.0
+        | inl is ↦ ap (λ (e : List ℕ × PairingEntry). test e.1) (sym is) ∙ parts.0
         | inr later ↦ all_in xs parts.1 row later
       ]
 
-  in_all : (items : List (List ℕ × Rostered)) → ((row : List ℕ × Rostered) → Contains items row → test row.1 ≡ true) → list_all (λ e. test e.1) items ≡ true
+  in_all : (items : List (List ℕ × PairingEntry)) → ((row : List ℕ × PairingEntry) → Contains items row → test row.1 ≡ true) → list_all (λ e. test e.1) items ≡ true
   in_all [] each = refl
   in_all (x ∷ xs) each = and_from _ _ (each x (is_first x xs x refl)) (in_all xs (λ row c. each row (is_later x xs row c)))
 
-  rows_same : (items : List (List ℕ × Rostered)) → rows_of (λ (id : List ℕ). id) items ≡ items
+  rows_same : (items : List (List ℕ × PairingEntry)) → rows_of (λ (id : List ℕ). id) items ≡ items
   rows_same [] = refl
   rows_same (x ∷ xs) = ap (λ l. x ∷ l) (rows_same xs)
 
-  pub passes_all : (items : List (List ℕ × Rostered)) (m : fin.FinMap name_cmp Rostered) → rows_of (λ (id : List ℕ). id) items ≡ fin.entries m →
-      (list_all (λ e. test e.1) items ≡ true) ↔ ((id : List ℕ) (r : Rostered) → fin.get m id ≡ Some r → test r ≡ true)
+  pub passes_all : (items : List (List ℕ × PairingEntry)) (m : fin.FinMap name_cmp PairingEntry) → rows_of (λ (id : List ℕ). id) items ≡ fin.entries m →
+      (list_all (λ e. test e.1) items ≡ true) ↔ ((id : List ℕ) (r : PairingEntry) → fin.get m id ≡ Some r → test r ≡ true)
   passes_all items m listed =
       let same : items ≡ fin.entries m = sym (rows_same items) ∙ listed in (
         λ all id r there. all_in items all (id, r) (subst (λ l. Contains l (id, r)) (sym same) (in_rows m id r there)),
@@ -290,14 +290,14 @@ module _ (test : Rostered → Bool) where
       )
 
 -- where it is flown, both its seats are held
-abbrev pub is_seated : Rostered → Bool
+abbrev pub is_seated : PairingEntry → Bool
 is_seated r = not (is_flown r) || is_fully_crewed r
 
 seated_if : (flown crewed : Bool) → (not flown || crewed ≡ true) ↔ (flown ≡ true → crewed ≡ true)
 seated_if true crewed = (λ e _. e, λ f. f refl)
 seated_if false crewed = (λ _ e. absurd (cc), λ _. refl)
 
-pub all_crewed : (items : List (List ℕ × Rostered)) (s : State) → rows_of (λ (id : List ℕ). id) items ≡ fin.entries s.pairings → (list_all (λ e. is_seated e.1) items ≡ true) ↔ AreCrewed s
+pub all_crewed : (items : List (List ℕ × PairingEntry)) (s : State) → rows_of (λ (id : List ℕ). id) items ≡ fin.entries s.pairings → (list_all (λ e. is_seated e.1) items ≡ true) ↔ AreCrewed s
 all_crewed items s listed =
     let pass = passes_all is_seated items s.pairings listed in (
       λ all id r here. (seated_if (is_flown r) (is_fully_crewed r)).0 (pass.0 all id r here),
@@ -315,17 +315,17 @@ pub not_all_crewed : (records : List SeatRecord) (s t : State) → SeatsRead rec
 not_all_crewed records s t read none = inr (t, read, none)
 
 -- the rest of some pairings, after one
-module _ {I : Type 0} (items rest : List (I × Rostered)) (i : I) (r : Rostered) (P : Type 0) (steps : items ≡ (i, r) ∷ rest)
+module _ {I : Type 0} (items rest : List (I × PairingEntry)) (i : I) (r : PairingEntry) (P : Type 0) (steps : items ≡ (i, r) ∷ rest)
     (all : (list_all (λ e. is_seated e.1) items ≡ true) ↔ P) where
-  first : list_all (λ (e : I × Rostered). is_seated e.1) items ≡ (is_seated r && list_all (λ (e : I × Rostered). is_seated e.1) rest)
-  first = ap (list_all (λ (e : I × Rostered). is_seated e.1)) steps
+  first : list_all (λ (e : I × PairingEntry). is_seated e.1) items ≡ (is_seated r && list_all (λ (e : I × PairingEntry). is_seated e.1) rest)
+  first = ap (list_all (λ (e : I × PairingEntry). is_seated e.1)) steps
 
   pub falls : is_seated r ≡ false → (false ≡ true) ↔ P
   falls none =
-      let no : list_all (λ (e : I × Rostered). is_seated e.1) items ≡ false = first ∙ ap (λ b. b && list_all (λ (e : I × Rostered). is_seated e.1) rest) none in
+      let no : list_all (λ (e : I × PairingEntry). is_seated e.1) items ≡ false = first ∙ ap (λ b. b && list_all (λ (e : I × PairingEntry). is_seated e.1) rest) none in
       (λ e. absurd (cc), λ p. sym no ∙ all.1 p)
 
   pub stands : is_seated r ≡ true → (list_all (λ e. is_seated e.1) rest ≡ true) ↔ P
   stands is =
-      let same : list_all (λ (e : I × Rostered). is_seated e.1) items ≡ list_all (λ (e : I × Rostered). is_seated e.1) rest = first ∙ ap (λ b. b && list_all (λ (e : I × Rostered). is_seated e.1) rest) is in
+      let same : list_all (λ (e : I × PairingEntry). is_seated e.1) items ≡ list_all (λ (e : I × PairingEntry). is_seated e.1) rest = first ∙ ap (λ b. b && list_all (λ (e : I × PairingEntry). is_seated e.1) rest) is in
       (λ e. all.0 (same ∙ e), λ p. sym same ∙ all.1 p)

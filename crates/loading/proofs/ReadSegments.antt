@@ -14,12 +14,12 @@ use Rattle.tables.specs.declared.period.PeriodRecord.{PeriodRecord}
 use Rattle.tables.specs.declared.segment.SegmentRecord.{SegmentRecord}
 use Rattle.loading.proofs.Mapping.{all_taken, nothing_mapped, next_mapped, mapped_at, mapped_place}
 use Rattle.loading.proofs.PlanKeys.{segment_names_same}
-use Rattle.rows.proofs.Tests.{passes}
-use Rattle.rows.proofs.Values.{text_is, number_is, numbers_same}
+use Rattle.state_rows.proofs.Tests.{passes}
+use Rattle.state_rows.proofs.Values.{text_is, number_is, numbers_same}
 use Rattle.loading.specs.Keyed.{IsKeyedSegment, SegmentsRead, AreSegmentsWhole, AreSegmentsWanting, IsSegmentTable, AreOfPeriods, HasPeriods, HasSegmentsOf, name_of_segment, row_of_keyed_segment}
 use Rattle.loading.specs.PlanRows.{Periods, Segments, SegmentRows, AreSegmentsKeyed, HasNoGaps, period_name, segment_name}
 use Rattle.loading.specs.Reading.{AreOnce, HasRows, HasStranger, IsUnreadable, Mapped, TellsOf, Under}
-use Rattle.rows.specs.Rows.{segment}
+use Rattle.state_rows.specs.Rows.{segment}
 use Rattle.loading.specs.declared.plan_rows.SegmentKey.{SegmentKey}
 
 pub names_same : (i j : SegmentKey) → name_of_segment i ≡ name_of_segment j → i ≡ j

@@ -4,10 +4,10 @@ use Rattle.sqlite_value.specs.Order.{Row}
 use Rattle.sqlite.proofs.StateLemmas.{survives_then}
 use Rattle.sqlite.specs.Effect.{Database}
 use Rattle.sqlite.specs.State.{State, HasCleanDisk, IsUnchanged}
-use Rattle.tables.specs.Calls.{LeavesNothing}
+use Rattle.tables.specs.Calls.{CrashLeavesNoMore}
 use Rattle.loading.proofs.Telling.{clean_before}
-use Rattle.loading.specs.Reading.{Saw, HasRows, IsUnreadable, Blames}
-use Rattle.rows.specs.Rows.{TableName}
+use Rattle.loading.specs.Reading.{ReadsAs, HasRows, IsUnreadable, Blames}
+use Rattle.state_rows.specs.Rows.{TableName}
 use Rattle.loading.specs.declared.fault.LoadFault.{LoadFault}
 use Rattle.loading.specs.declared.fault.LoadFault.TheVariants.{NotABook, Version, Damaged, Fault}
 use Rattle.loading.specs.declared.fault.TableName as name
@@ -27,9 +27,9 @@ if_read Is Also Refuses f (Err fault) is = tt
 -- ---- A table whose records are read, and then looked at
 
 module _ {R A : Type 0} (it : TableName) (its : name.TableName) (IsRecord : Row → Type 0) (row : R → Row) (IsRight : Type 0) (Tells : A → Type 0)
-    (old new : State) (left : LeavesNothing old new) where
+    (old new : State) (left : CrashLeavesNoMore old new) where
   pub not_read : (fault : LoadFault) → (HasCleanDisk old → IsUnreadable it IsRecord old.now → IsRight → ⊥) →
-      (HasCleanDisk new → Blames its (IsUnreadable it IsRecord old.now) fault) → Saw Tells (Blames its (IsRight → ⊥)) old new (Err fault)
+      (HasCleanDisk new → Blames its (IsUnreadable it IsRecord old.now) fault) → ReadsAs Tells (Blames its (IsRight → ⊥)) old new (Err fault)
   not_read fault unreadable told = record {
     told = λ clean. blames_for its (IsUnreadable it IsRecord old.now) (IsRight → ⊥) (unreadable (clean_before old new left clean)) fault (told clean);
     left = left;
@@ -39,7 +39,7 @@ module _ {R A : Type 0} (it : TableName) (its : name.TableName) (IsRecord : Row 
       (saw : HasCleanDisk new → IsUnchanged old new × HasRows it old.now (map row records))
       (right : HasCleanDisk old → HasRows it old.now (map row records) → (a : A) → Found records a → Tells a)
       (wrong : HasCleanDisk old → HasRows it old.now (map row records) → Wanting records → IsRight → ⊥) where
-    pub is_read : (result : Result A LoadFault) → MatchResult result (Found seen) (Blames its (Wanting seen)) → Saw Tells (Blames its (IsRight → ⊥)) old new result
+    pub is_read : (result : Result A LoadFault) → MatchResult result (Found seen) (Blames its (Wanting seen)) → ReadsAs Tells (Blames its (IsRight → ⊥)) old new result
     is_read (Ok a) done = record {
       told = λ clean.
           let both = saw clean in
@@ -68,12 +68,12 @@ unchanged_then a b c one two = (
   two.2 ∙ one.2,
 )
 
-left_then : (a b c : State) → LeavesNothing a b → LeavesNothing b c → LeavesNothing a c
+left_then : (a b c : State) → CrashLeavesNoMore a b → CrashLeavesNoMore b c → CrashLeavesNoMore a c
 left_then a b c one two = survives_then a b c _ _ _ (λ _ _ none. none) (λ _ _ none. none) one two
 
 pub then_saw : {A B : Type 0} (Is : A → Type 0) (Refuses : LoadFault → Type 0) (IsNext : Database → B → Type 0) (RefusesNext : Database → LoadFault → Type 0)
-    (a : A) (old mid new : State) (result : Result B LoadFault) → Saw Is Refuses old mid (Ok a) → Saw (IsNext mid.now) (RefusesNext mid.now) mid new result →
-    Saw (IsNext old.now) (RefusesNext old.now) old new result
+    (a : A) (old mid new : State) (result : Result B LoadFault) → ReadsAs Is Refuses old mid (Ok a) → ReadsAs (IsNext mid.now) (RefusesNext mid.now) mid new result →
+    ReadsAs (IsNext old.now) (RefusesNext old.now) old new result
 then_saw Is Refuses IsNext RefusesNext a old mid new (Ok b) one two = record {
   told = λ clean.
       let first = one.told (clean_before mid new two.left clean) in
@@ -89,5 +89,5 @@ then_saw Is Refuses IsNext RefusesNext a old mid new (Err fault) one two = recor
 }
 
 -- what was told of the database before a read holds of it after
-pub seen_here : {A : Type 0} (Is : Database → A → Type 0) (Refuses : LoadFault → Type 0) (a : A) (old new : State) → Saw (Is old.now) Refuses old new (Ok a) → HasCleanDisk new → Is new.now a
+pub seen_here : {A : Type 0} (Is : Database → A → Type 0) (Refuses : LoadFault → Type 0) (a : A) (old new : State) → ReadsAs (Is old.now) Refuses old new (Ok a) → HasCleanDisk new → Is new.now a
 seen_here Is Refuses a old new saw clean = let it = saw.told clean in subst (λ db. Is db a) (sym it.0.0.now_is) it.1

@@ -10,7 +10,7 @@ use Rattle.duty.specs.Shape.{is_id, is_plain_text}
 use Rattle.roster.specs.Sound.{Sound}
 use Rattle.roster.specs.State.{State}
 use Rattle.loading.specs.Loading.{IsRight}
-use Rattle.rows.specs.Rows.{request}
+use Rattle.state_rows.specs.Rows.{request}
 use Rattle.loading.specs.SameRows.{HasInstants}
 
 begins_first : (g : GroundPlan) → ground_fault g ≡ None → g.begin < g.end

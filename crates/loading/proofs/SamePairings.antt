@@ -13,14 +13,14 @@ use Rattle.command.specs.declared.member.Seat.TheVariants.{Captain, FirstOfficer
 use Rattle.roster.specs.Pairings.{holder}
 use Rattle.roster.specs.Sound.{IsActual, SoundPairing}
 use Rattle.roster.specs.State.{State}
-use Rattle.roster.specs.declared.state.Rostered.{Rostered}
-use Rattle.rows.specs.Rows.{InPeriod, InSegment, InSeat, At, PeriodOf, SegmentOf, HeldSeat, row_of_period, row_of_segment, row_of_seat, seat_number, times_flown}
-use Rattle.rows.proofs.Lists.{Answers, same_list, same_option, one_value}
-use Rattle.rows.proofs.Values.{seats_same, numbers_same, times_same, text_is, number_is}
+use Rattle.roster.specs.declared.state.PairingEntry.{PairingEntry}
+use Rattle.state_rows.specs.Rows.{InPeriod, InSegment, InSeat, At, PeriodOf, SegmentOf, HeldSeat, row_of_period, row_of_segment, row_of_seat, seat_number, times_flown}
+use Rattle.state_rows.proofs.Lists.{Answers, same_list, same_option, one_value}
+use Rattle.state_rows.proofs.Values.{seats_same, numbers_same, times_same, text_is, number_is}
 
 -- ---- What the rows of one state tell of another, which has them too
 
-module _ (s t : State) (id : List ℕ) (r q : Rostered) (here : fin.get s.pairings id ≡ Some r) (there : fin.get t.pairings id ≡ Some q) where
+module _ (s t : State) (id : List ℕ) (r q : PairingEntry) (here : fin.get s.pairings id ≡ Some r) (there : fin.get t.pairings id ≡ Some q) where
   pub record Period (place : ℕ) (fdp : Fdp) (actual : Option ActualTimes) : Type 0 where
     pub its : Fdp
     pub flight : Option ActualTimes
@@ -46,8 +46,8 @@ module _ (s t : State) (id : List ℕ) (r q : Rostered) (here : fin.get s.pairin
       record {
         its = it.1.fdp;
         flight = it.1.actual;
-        planned = ap₂ (λ (x : Rostered) i. slice_get x.plan.periods i) (sym same) same_place ∙ it.1.planned;
-        flown = ap₂ (λ (x : Rostered) i. slice_get x.actuals i) (sym same) same_place ∙ it.1.flown;
+        planned = ap₂ (λ (x : PairingEntry) i. slice_get x.plan.periods i) (sym same) same_place ∙ it.1.planned;
+        flown = ap₂ (λ (x : PairingEntry) i. slice_get x.actuals i) (sym same) same_place ∙ it.1.flown;
         report = number_is (at_column 2);
         release = number_is (at_column 3);
         act_report = numbers_same _ _ (at_column 4);
@@ -76,9 +76,9 @@ module _ (s t : State) (id : List ℕ) (r q : Rostered) (here : fin.get s.pairin
       let same_number : number ≡ it.2.place = omega (arith, m) in
       let same : it.0.value ≡ q = one_value (ap (fin.get t.pairings) same_id ∙ it.0.there) there in
       let same_fdp : its ≡ it.1.fdp =
-      one_value its_planned (ap₂ (λ (x : Rostered) i. slice_get x.plan.periods i) (sym same) same_place ∙ it.1.planned) in
+      one_value its_planned (ap₂ (λ (x : PairingEntry) i. slice_get x.plan.periods i) (sym same) same_place ∙ it.1.planned) in
       let same_flight : flight ≡ it.1.actual =
-      one_value its_flown (ap₂ (λ (x : Rostered) i. slice_get x.actuals i) (sym same) same_place ∙ it.1.flown) in
+      one_value its_flown (ap₂ (λ (x : PairingEntry) i. slice_get x.actuals i) (sym same) same_place ∙ it.1.flown) in
       let same_segment : it.2.segment ≡ segment = λ i. record {
         flight = text_is (sym (at_column 3)) i;
         from = text_is (sym (at_column 4)) i;
@@ -135,13 +135,13 @@ within fdp a count i v e =
 -- ---- The whole pairing
 
 -- a plan as it was made, with a place for the actual of each period
-pub record Planned (id : List ℕ) (r : Rostered) : Type 0 where
+pub record Planned (id : List ℕ) (r : PairingEntry) : Type 0 where
   pub named : r.plan.id ≡ id
   pub planned : map as_planned r.plan.periods ≡ r.plan.periods
   pub places : length r.actuals ≡ length r.plan.periods
   pub actuals : (i : ℕ) (a : ActualTimes) → slice_get r.actuals i ≡ Some (Some a) → IsActual r.plan i a
 
-module _ (s t : State) (id : List ℕ) (r q : Rostered) (here : fin.get s.pairings id ≡ Some r) (there : fin.get t.pairings id ≡ Some q)
+module _ (s t : State) (id : List ℕ) (r q : PairingEntry) (here : fin.get s.pairings id ≡ Some r) (there : fin.get t.pairings id ≡ Some q)
     (sr : Planned id r) (sq : Planned id q)
     (periods : (row : Row) → InPeriod s row → InPeriod t row) (periods' : (row : Row) → InPeriod t row → InPeriod s row)
     (segments : (row : Row) → InSegment s row → InSegment t row) (segments' : (row : Row) → InSegment t row → InSegment s row) where
@@ -209,11 +209,11 @@ beside xs ys count i x e =
     ]
 
 -- two pairings, but for who holds their seats
-pub record SamePlan (r q : Rostered) : Type 0 where
+pub record SamePlan (r q : PairingEntry) : Type 0 where
   pub plan : r.plan ≡ q.plan
   pub actuals : r.actuals ≡ q.actuals
 
-pub same_plan : (s t : State) (id : List ℕ) (r q : Rostered) → fin.get s.pairings id ≡ Some r → fin.get t.pairings id ≡ Some q →
+pub same_plan : (s t : State) (id : List ℕ) (r q : PairingEntry) → fin.get s.pairings id ≡ Some r → fin.get t.pairings id ≡ Some q →
     Planned id r → Planned id q →
     ((row : Row) → InPeriod s row → InPeriod t row) → ((row : Row) → InPeriod t row → InPeriod s row) →
     ((row : Row) → InSegment s row → InSegment t row) → ((row : Row) → InSegment t row → InSegment s row) → SamePlan r q
@@ -230,10 +230,10 @@ same_plan s t id r q here there sr sq periods periods' segments segments' =
           (λ i v e. let o = beside q.actuals q.plan.periods sq.places i v e in (back i o.0 v o.1 e).flown);
     }
 
-of_sound : (s : State) (id : List ℕ) (r : Rostered) → SoundPairing s.crew id r → Planned id r
+of_sound : (s : State) (id : List ℕ) (r : PairingEntry) → SoundPairing s.crew id r → Planned id r
 of_sound s id r is = record { named = is.named; planned = is.planned; places = is.places; actuals = is.actuals }
 
-pub same_pairing : (s t : State) (id : List ℕ) (r q : Rostered) → fin.get s.pairings id ≡ Some r → fin.get t.pairings id ≡ Some q →
+pub same_pairing : (s t : State) (id : List ℕ) (r q : PairingEntry) → fin.get s.pairings id ≡ Some r → fin.get t.pairings id ≡ Some q →
     SoundPairing s.crew id r → SoundPairing t.crew id q →
     ((row : Row) → InPeriod s row → InPeriod t row) → ((row : Row) → InPeriod t row → InPeriod s row) →
     ((row : Row) → InSegment s row → InSegment t row) → ((row : Row) → InSegment t row → InSegment s row) →

@@ -4,27 +4,27 @@ use Rattle.std.specs.FinMap as fin
 use Rattle.sqlite_value.specs.Order.{Row, column}
 use Rattle.sqlite.specs.Effect.{Database}
 use Rattle.roster.specs.State.{State}
-use Rattle.roster.specs.declared.state.Rostered.{Rostered}
+use Rattle.roster.specs.declared.state.PairingEntry.{PairingEntry}
 use Rattle.loading.specs.Loading.{IsPlanned, IsSegmentRight}
-use Rattle.rows.specs.Rows.{TableName, table, HasJust, pairing, period, segment, row_of_pairing}
+use Rattle.state_rows.specs.Rows.{TableName, table, HasJust, pairing, period, segment, row_of_pairing}
 use Rattle.loading.proofs.SamePairings.{Planned, SamePlan, same_plan}
-use Rattle.rows.proofs.Values.{text_is}
+use Rattle.state_rows.proofs.Values.{text_is}
 
 -- what one has another has too, if both have just the rows of a table
 pub told : (it : TableName) (db : Database) (P Q : Row → Type 0) → HasJust (table it) db P → HasJust (table it) db Q → (row : Row) → P row → Q row
 told it db P Q p q row is = (q row).0 ((p row).1 is)
 
-of_planned : (id : List ℕ) (r : Rostered) → IsPlanned id r → Planned id r
+of_planned : (id : List ℕ) (r : PairingEntry) → IsPlanned id r → Planned id r
 of_planned id r is = record { named = is.named; planned = is.planned; places = is.places; actuals = λ i a e. (is.actuals i a e).0 }
 
 -- the pairing of an id in the other state
-pub record Beside (t : State) (id : List ℕ) (r : Rostered) : Type 0 where
-  pub other : Rostered
+pub record Beside (t : State) (id : List ℕ) (r : PairingEntry) : Type 0 where
+  pub other : PairingEntry
   pub there : fin.get t.pairings id ≡ Some other
   pub same : SamePlan r other
 
 module _ (s t : State) (db : Database) (a : IsSegmentRight s db) (b : IsSegmentRight t db) where
-  pub beside : (id : List ℕ) (r : Rostered) → fin.get s.pairings id ≡ Some r → Beside t id r
+  pub beside : (id : List ℕ) (r : PairingEntry) → fin.get s.pairings id ≡ Some r → Beside t id r
   beside id r here =
       let crew_and_pairings = a.0.0 in
       let its = b.0.0 in

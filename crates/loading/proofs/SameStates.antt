@@ -7,15 +7,15 @@ use Rattle.command.specs.Keys.{key_name}
 use Rattle.command.specs.declared.exceedance.Reply.{Reply}
 use Rattle.roster.specs.Sound.{Sound}
 use Rattle.roster.specs.State.{State, exceedance_name}
-use Rattle.kept.specs.KeptText.{kept_text}
-use Rattle.kept.specs.ReplyText.{reply_text, read_reply}
-use Rattle.kept.proofs.OrdersBack.{kept_differ}
-use Rattle.kept.proofs.ReplyBack.{reply_back}
-use Rattle.rows.specs.Rows.{book, crew, pairing, period, segment, seat, ground_duty, exceedance, request, InBook, InCrew, InGround, InExceedance, InRequest, row_of_member, row_of_pairing, row_of_ground, row_of_exceedance, row_of_request, seat_number}
+use Rattle.stored_json.specs.KeptText.{kept_text}
+use Rattle.stored_json.specs.ReplyText.{reply_text, read_reply}
+use Rattle.stored_json.proofs.InstructionsBack.{kept_differ}
+use Rattle.stored_json.proofs.ReplyBack.{reply_back}
+use Rattle.state_rows.specs.Rows.{book, crew, pairing, period, segment, seat, ground_duty, exceedance, request, InBook, InCrew, InGround, InExceedance, InRequest, row_of_member, row_of_pairing, row_of_ground, row_of_exceedance, row_of_request, seat_number}
 use Rattle.loading.specs.SameRows.{HasInstants, SameRows, RowsSayAll, HoldsOneState}
-use Rattle.rows.proofs.Lists.{Answers, same_map}
+use Rattle.state_rows.proofs.Lists.{Answers, same_map}
 use Rattle.loading.proofs.SamePairings.{same_pairing}
-use Rattle.rows.proofs.Values.{members_same, sections_same, text_is, number_is}
+use Rattle.state_rows.proofs.Values.{members_same, sections_same, text_is, number_is}
 
 zones_same : (s t : State) → ((row : Row) → InBook s row → InBook t row) → s.zone ≡ t.zone
 zones_same s t told = text_is (ap (λ (row : Row). column row 2) (told _ refl))

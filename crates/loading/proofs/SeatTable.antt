@@ -16,51 +16,51 @@ use Rattle.command.specs.declared.member.Seat.TheVariants.{Captain, FirstOfficer
 use Rattle.roster.specs.Pairings.{holder, is_fully_crewed}
 use Rattle.roster.specs.Sound.{Crew, IsHolder}
 use Rattle.roster.specs.State.{State}
-use Rattle.roster.specs.declared.state.Rostered.{Rostered}
+use Rattle.roster.specs.declared.state.PairingEntry.{PairingEntry}
 use Rattle.tables.proofs.KeyLemmas.{seat_once}
-use Rattle.tables.specs.Calls.{LeavesNothing}
+use Rattle.tables.specs.Calls.{CrashLeavesNoMore}
 use Rattle.tables.specs.Records.{IsSeatRow, seat_row}
 use Rattle.tables.specs.Rows.{begins_with, rows_of}
 use Rattle.tables.specs.declared.seat.SeatRecord.{SeatRecord}
 use Rattle.loading.proofs.Ascii.{id_utf8}
-use Rattle.rows.proofs.Lists.{same_option}
+use Rattle.state_rows.proofs.Lists.{same_option}
 use Rattle.loading.proofs.Mapping.{all_taken}
 use Rattle.loading.proofs.ReadCrew.{number_fits}
 use Rattle.loading.proofs.SamePairings.{holder_told}
 use Rattle.loading.proofs.SamePlans.{beside, told}
 use Rattle.loading.proofs.SameStates.{crew_told}
 use Rattle.loading.proofs.Telling.{unread, of_blame, clean_before}
-use Rattle.rows.proofs.Tests.{passes}
-use Rattle.loading.specs.Loading.{IsPlanned, IsSegmentRight, AreRight, IsDamaged, Says}
-use Rattle.loading.specs.Reading.{AreOnce, SeatIndex, SeatsRead, IsHeld, IsSamePlan, AreCrewed, AreUnseated, row_of_held, Saw, Blames, HasRows, IsUnreadable, IsReadTo, HasStranger}
-use Rattle.rows.specs.Rows.{table, crew, InPairing, InPeriod, InSegment, InSeat, seat_number, seat, segment}
+use Rattle.state_rows.proofs.Tests.{passes}
+use Rattle.loading.specs.Loading.{IsPlanned, IsSegmentRight, AreRight, IsDamaged, Justifies}
+use Rattle.loading.specs.Reading.{AreOnce, SeatIndex, SeatsRead, IsHeld, IsSamePlan, AreCrewed, AreUnseated, row_of_held, ReadsAs, Blames, HasRows, IsUnreadable, AgreesThrough, HasStranger}
+use Rattle.state_rows.specs.Rows.{table, crew, InPairing, InPeriod, InSegment, InSeat, seat_number, seat, segment}
 use Rattle.loading.specs.declared.fault.LoadFault.{LoadFault}
 use Rattle.loading.specs.declared.fault.TableName.TheVariants as table_name
 
 -- ---- States that differ in who holds the seats
 
-pub record Other (m : fin.FinMap name_cmp Rostered) (id : List ℕ) (r : Rostered) : Type 0 where
-  pub other : Rostered
+pub record Other (m : fin.FinMap name_cmp PairingEntry) (id : List ℕ) (r : PairingEntry) : Type 0 where
+  pub other : PairingEntry
   pub there : fin.get m id ≡ Some other
   pub plan : r.plan ≡ other.plan
   pub actuals : r.actuals ≡ other.actuals
 
-abbrev HasOthers : fin.FinMap name_cmp Rostered → fin.FinMap name_cmp Rostered → Type 0
-HasOthers m n = (id : List ℕ) (r : Rostered) → fin.get m id ≡ Some r → Other n id r
+abbrev HasOthers : fin.FinMap name_cmp PairingEntry → fin.FinMap name_cmp PairingEntry → Type 0
+HasOthers m n = (id : List ℕ) (r : PairingEntry) → fin.get m id ≡ Some r → Other n id r
 
-forward : (m n : fin.FinMap name_cmp Rostered) (id : List ℕ) (r : Rostered) (o p : Option Rostered) → fin.get m id ≡ o → fin.get n id ≡ p → IsSamePlan o p → o ≡ Some r → Other n id r
+forward : (m n : fin.FinMap name_cmp PairingEntry) (id : List ℕ) (r : PairingEntry) (o p : Option PairingEntry) → fin.get m id ≡ o → fin.get n id ≡ p → IsSamePlan o p → o ≡ Some r → Other n id r
 forward m n id r None p a b same e = absurd (cc)
 forward m n id r (Some x) None a b same e = absurd same
 forward m n id r (Some x) (Some y) a b same e =
     let is : x ≡ r = cc in
-    record { other = y; there = b; plan = sym (ap (λ (z : Rostered). z.plan) is) ∙ sym same.0; actuals = sym (ap (λ (z : Rostered). z.actuals) is) ∙ sym same.1 }
+    record { other = y; there = b; plan = sym (ap (λ (z : PairingEntry). z.plan) is) ∙ sym same.0; actuals = sym (ap (λ (z : PairingEntry). z.actuals) is) ∙ sym same.1 }
 
-back : (m n : fin.FinMap name_cmp Rostered) (id : List ℕ) (r : Rostered) (o p : Option Rostered) → fin.get m id ≡ o → fin.get n id ≡ p → IsSamePlan o p → p ≡ Some r → Other m id r
+back : (m n : fin.FinMap name_cmp PairingEntry) (id : List ℕ) (r : PairingEntry) (o p : Option PairingEntry) → fin.get m id ≡ o → fin.get n id ≡ p → IsSamePlan o p → p ≡ Some r → Other m id r
 back m n id r o None a b same e = absurd (cc)
 back m n id r None (Some y) a b same e = absurd same
 back m n id r (Some x) (Some y) a b same e =
     let is : y ≡ r = cc in
-    record { other = x; there = a; plan = sym (ap (λ (z : Rostered). z.plan) is) ∙ same.0; actuals = sym (ap (λ (z : Rostered). z.actuals) is) ∙ same.1 }
+    record { other = x; there = a; plan = sym (ap (λ (z : PairingEntry). z.plan) is) ∙ same.0; actuals = sym (ap (λ (z : PairingEntry). z.actuals) is) ∙ same.1 }
 
 module _ (s t : State) (others : HasOthers s.pairings t.pairings) where
   pairing_stays : (row : Row) → InPairing s row → InPairing t row
@@ -98,7 +98,7 @@ module _ (s t : State) (others : HasOthers s.pairings t.pairings) where
       )
 
 -- a plan's being right says nothing of who flies it
-planned_stays : (id : List ℕ) (r q : Rostered) → r.plan ≡ q.plan → r.actuals ≡ q.actuals → IsPlanned id r → IsPlanned id q
+planned_stays : (id : List ℕ) (r q : PairingEntry) → r.plan ≡ q.plan → r.actuals ≡ q.actuals → IsPlanned id r → IsPlanned id q
 planned_stays id r q plan actuals is =
     let same : record r { captain = q.captain; first_officer = q.first_officer } ≡ q = λ i. record { plan = plan i; actuals = actuals i; captain = q.captain; first_officer = q.first_officer } in
     subst (IsPlanned id) same (record {
@@ -110,7 +110,7 @@ planned_stays id r q plan actuals is =
       actuals = is.actuals;
     })
 
-module _ (s : State) (m : fin.FinMap name_cmp Rostered) (planned : (id : List ℕ) → IsSamePlan (fin.get s.pairings id) (fin.get m id)) where
+module _ (s : State) (m : fin.FinMap name_cmp PairingEntry) (planned : (id : List ℕ) → IsSamePlan (fin.get s.pairings id) (fin.get m id)) where
   abbrev t : State
   t = record s { pairings = m }
 
@@ -120,7 +120,7 @@ module _ (s : State) (m : fin.FinMap name_cmp Rostered) (planned : (id : List �
   pub here_too : HasOthers m s.pairings
   here_too id r e = back s.pairings m id r _ _ refl refl (planned id) e
 
-  named_stays : ((id : List ℕ) (r : Rostered) → fin.get s.pairings id ≡ Some r → is_id id ≡ true) → (id : List ℕ) (q : Rostered) → fin.get m id ≡ Some q → is_id id ≡ true
+  named_stays : ((id : List ℕ) (r : PairingEntry) → fin.get s.pairings id ≡ Some r → is_id id ≡ true) → (id : List ℕ) (q : PairingEntry) → fin.get m id ≡ Some q → is_id id ≡ true
   named_stays named id q e = let o = here_too id q e in named id o.other o.there
 
   pub right_stays : (db : Database) → IsSegmentRight s db → IsSegmentRight t db
@@ -161,10 +161,10 @@ not_unreadable db (inr x) right =
 itself : (at : SeatIndex) (who : List ℕ) → begins_with (Text at.pairing ∷ Int (pos (seat_number at.seat)) ∷ []) (row_of_held at who) ≡ true
 itself at who = passes (Text at.pairing ∷ Int (pos (seat_number at.seat)) ∷ []) (row_of_held at who) (refl, (refl, tt))
 
-crewed_same : (r q : Rostered) → holder Captain r ≡ holder Captain q → holder FirstOfficer r ≡ holder FirstOfficer q → is_fully_crewed r ≡ is_fully_crewed q
+crewed_same : (r q : PairingEntry) → holder Captain r ≡ holder Captain q → holder FirstOfficer r ≡ holder FirstOfficer q → is_fully_crewed r ≡ is_fully_crewed q
 crewed_same r q a b = ap₂ (λ x y. is_some x && is_some y) a b
 
-module _ (s : State) (db : Database) (above : IsReadTo segment s db) where
+module _ (s : State) (db : Database) (above : AgreesThrough segment s db) where
   damaged : (AreRight seat db → ⊥) → IsDamaged seat db
   damaged wrong = record { book = above.book; version = above.version; above = (s, above.right); damaged = wrong }
 
@@ -204,7 +204,7 @@ module _ (s : State) (db : Database) (above : IsReadTo segment s db) where
     -- if each flown pairing is crewed in any state with these rows, it is here
     uncrewed_wrong : (AreCrewed t → ⊥) → AreRight seat db → ⊥
     uncrewed_wrong wrong right = wrong (λ id q e flown.
-        let here = subst (λ (x : State). (r : Rostered) → fin.get x.pairings id ≡ Some r → Other s.pairings id r) (sym seats.same)
+        let here = subst (λ (x : State). (r : PairingEntry) → fin.get x.pairings id ≡ Some r → Other s.pairings id r) (sym seats.same)
         (here_too s t.pairings seats.planned id) q e in
         let there = beside s right.0 db above.right right.1.0 id here.other here.there in
         let actuals : q.actuals ≡ there.other.actuals = here.actuals ∙ there.same.actuals in
@@ -216,7 +216,7 @@ module _ (s : State) (db : Database) (above : IsReadTo segment s db) where
         same_option _ _ (holder_told t right.0 id q there.other e there.there to k) (holder_told right.0 t id there.other q there.there e from k) in
         crewed_same q there.other (holds Captain) (holds FirstOfficer) ∙ crewed)
 
-    pub right : AreCrewed t → IsReadTo seat t db
+    pub right : AreCrewed t → AgreesThrough seat t db
     right crewed = record {
       stored = (read.stored, above.stored);
       book = above.book;
@@ -238,18 +238,18 @@ module _ (s : State) (db : Database) (above : IsReadTo segment s db) where
 
 -- ---- The call
 
-module _ (s : State) (old new : conn.State) (above : HasCleanDisk old → IsReadTo segment s old.now) where
+module _ (s : State) (old new : conn.State) (above : HasCleanDisk old → AgreesThrough segment s old.now) where
   abbrev pub Now : State → Type 0
-  Now r = IsReadTo seat r old.now × (r ≡ record s { pairings = r.pairings })
+  Now r = AgreesThrough seat r old.now × (r ≡ record s { pairings = r.pairings })
 
-  pub not_read : (fault : LoadFault) → (HasCleanDisk new → Blames table_name.Seat (IsUnreadable seat IsSeatRow old.now) fault) → LeavesNothing old new →
-      Saw Now (λ f. Says f old.now) old new (Err fault)
+  pub not_read : (fault : LoadFault) → (HasCleanDisk new → Blames table_name.Seat (IsUnreadable seat IsSeatRow old.now) fault) → CrashLeavesNoMore old new →
+      ReadsAs Now (λ f. Justifies f old.now) old new (Err fault)
   not_read fault told left = unread table_name.Seat _ Now old new fault (λ clean. unreadable s old.now (above clean)) told left
 
   pub is_read : (records seen : List SeatRecord) (result : Result State LoadFault) → seen ≡ records →
-      (HasCleanDisk new → IsUnchanged old new × HasRows seat old.now (map seat_row records)) → LeavesNothing old new →
+      (HasCleanDisk new → IsUnchanged old new × HasRows seat old.now (map seat_row records)) → CrashLeavesNoMore old new →
       MatchResult result (λ r. SeatsRead seen (length seen) s r × AreCrewed r) (Blames table_name.Seat (AreUnseated seen s)) →
-      Saw Now (λ f. Says f old.now) old new result
+      ReadsAs Now (λ f. Justifies f old.now) old new result
   is_read records seen (Ok r) same saw left done = record {
     told = λ clean.
         let it = saw clean in

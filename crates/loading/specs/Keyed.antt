@@ -6,9 +6,9 @@ use Rattle.sqlite_value.specs.Order.{Row}
 use Rattle.sqlite_rules.specs.Lists.{Has}
 use Rattle.sqlite.specs.Effect.{Database}
 use Rattle.duty.specs.Shape.{is_id}
-use Rattle.kept.specs.Instants.{is_instant}
+use Rattle.stored_json.specs.Instants.{is_instant}
 use Rattle.roster.specs.State.{State}
-use Rattle.roster.specs.declared.state.Rostered.{Rostered}
+use Rattle.roster.specs.declared.state.PairingEntry.{PairingEntry}
 use Rattle.tables.specs.Records.{IsNumber, IsSegmentRow, pairing_row, period_row, segment_row}
 use Rattle.tables.specs.Rows.{IsStored, rows_of}
 use Rattle.tables.specs.Schema.{IsOfBook, pairing_table, period_table, segment_table}
@@ -18,7 +18,7 @@ use Rattle.tables.specs.declared.segment.SegmentRecord.{SegmentRecord}
 use Rattle.loading.specs.Loading.{ArePeriods, IsInstantIfAny}
 use Rattle.loading.specs.PlanRows.{Periods, Segments, PeriodRows, SegmentRows, ArePeriodsKeyed, AreSegmentsKeyed, AreUngapped, HasNoGaps, IsTold, period_name, segment_name}
 use Rattle.loading.specs.Reading.{AreOnce, HasStranger, IsFree, Mapped}
-use Rattle.rows.specs.Rows.{HasJust, row_of_pairing}
+use Rattle.state_rows.specs.Rows.{HasJust, row_of_pairing}
 use Rattle.loading.specs.declared.plan_rows.PeriodKey.{PeriodKey}
 use Rattle.loading.specs.declared.plan_rows.SegmentKey.{SegmentKey}
 
@@ -28,12 +28,15 @@ Follows {V} get number = (number ≡ 1) ⊎ ((before : ℕ) × (other : V) × (b
 
 -- ---- The ids of pairings
 
+-- ids alone
 abbrev pub Ids : Type 0
 Ids = fin.FinMap name_cmp ⊤
 
+-- the row of `pairing` that an id has
 abbrev pub row_of_id : List ℕ → ⊤ → Row
 row_of_id id _ = row_of_pairing id
 
+-- an id that has its shape
 abbrev pub IsId : List ℕ → ⊤ → Type 0
 IsId id _ = is_id id ≡ true
 
@@ -62,6 +65,7 @@ pub record HasIds (db : Database) (ids : Ids) : Type 0 where
 
 -- ---- Periods by their keys
 
+-- the name that a period's key is ordered by
 abbrev pub name_of_period : PeriodKey → List ℕ
 name_of_period key = period_name key.pairing key.number
 
@@ -109,9 +113,11 @@ pub record HasPeriods (db : Database) (periods : Periods) : Type 0 where
 
 -- ---- Segments by their keys
 
+-- the name that a segment's key is ordered by
 abbrev pub name_of_segment : SegmentKey → List ℕ
 name_of_segment key = segment_name key.pairing key.period key.number
 
+-- the row of `segment` of a record under a key
 abbrev pub row_of_keyed_segment : SegmentKey → SegmentRecord → Row
 row_of_keyed_segment key it = segment_row (record it { pairing = key.pairing; period = key.period; number = key.number })
 
@@ -166,7 +172,7 @@ pub record HasSegmentsOf (db : Database) (periods : Periods) (segments : Segment
 -- ---- Pairings
 
 -- the pairing of one of these ids, as the rows tell it
-pub record IsPairingOf (ids : Ids) (periods : Periods) (segments : Segments) (id : List ℕ) (r : Rostered) : Type 0 where
+pub record IsPairingOf (ids : Ids) (periods : Periods) (segments : Segments) (id : List ℕ) (r : PairingEntry) : Type 0 where
   pub of_id : fin.contains_key ids id ≡ true
   pub told : IsTold periods segments id r
   pub free : IsFree r
@@ -174,11 +180,11 @@ pub record IsPairingOf (ids : Ids) (periods : Periods) (segments : Segments) (id
 -- just the pairings of these ids are set in a roster
 pub record PairingsRead (ids : Ids) (periods : Periods) (segments : Segments) (old new : State) : Type 0 where
   pub same : new ≡ record old { pairings = new.pairings }
-  pub known : (id : List ℕ) (r : Rostered) → fin.get new.pairings id ≡ Some r → IsPairingOf ids periods segments id r
+  pub known : (id : List ℕ) (r : PairingEntry) → fin.get new.pairings id ≡ Some r → IsPairingOf ids periods segments id r
   pub all : (id : List ℕ) → fin.contains_key ids id ≡ true → fin.contains_key new.pairings id ≡ true
 
 -- of one of the ids the rows tell no pairing
 pub record HasUntold (ids : Ids) (periods : Periods) (segments : Segments) : Type 0 where
   pub id : List ℕ
   pub here : fin.contains_key ids id ≡ true
-  pub untold : (r : Rostered) → IsTold periods segments id r → ⊥
+  pub untold : (r : PairingEntry) → IsTold periods segments id r → ⊥

@@ -13,17 +13,17 @@ use Rattle.duty.specs.Shape.{is_id, is_plain_text}
 use Rattle.command.specs.Keys.{KeyParts, key_name}
 use Rattle.command.specs.declared.member.Member.{Member}
 use Rattle.command.specs.declared.member.Seat.TheVariants.{Captain, FirstOfficer}
-use Rattle.kept.specs.Instants.{is_instant, period_has_instants, times_have_instants}
-use Rattle.kept.specs.KeptText.{kept_text}
-use Rattle.kept.specs.Laws.{IsCommand}
-use Rattle.kept.specs.ReplyText.{reply_text}
+use Rattle.stored_json.specs.Instants.{is_instant, period_has_instants, times_have_instants}
+use Rattle.stored_json.specs.KeptText.{kept_text}
+use Rattle.stored_json.specs.Laws.{IsCommand}
+use Rattle.stored_json.specs.ReplyText.{reply_text}
 use Rattle.roster.specs.Pairings.{is_flown, is_fully_crewed}
 use Rattle.roster.specs.Sound.{Crew, IsHolder, IsActual}
 use Rattle.roster.specs.State.{State, exceedance_name}
 use Rattle.roster.specs.declared.state.ExceedanceId.{ExceedanceId}
 use Rattle.roster.specs.declared.state.PeriodId.{PeriodId}
-use Rattle.roster.specs.declared.state.Request.{Request}
-use Rattle.roster.specs.declared.state.Rostered.{Rostered}
+use Rattle.roster.specs.declared.state.LoggedCommand.{LoggedCommand}
+use Rattle.roster.specs.declared.state.PairingEntry.{PairingEntry}
 use Rattle.tables.specs.Records.{IsNumber, book_row, period_row, pairing_row}
 use Rattle.tables.specs.Schema.{IsOfBook, book_table, pairing_table, period_table, table_found}
 use Rattle.tables.specs.Rows.{rows_of}
@@ -33,7 +33,7 @@ use Rattle.loading.specs.declared.fault.LoadFault.{LoadFault}
 use Rattle.loading.specs.declared.fault.LoadFault.TheVariants.{NotABook, Damaged, Version, Fault}
 use Rattle.loading.specs.declared.fault.TableName as name
 use Rattle.loading.specs.declared.fault.TableName.TheVariants as table_name
-use Rattle.rows.specs.Rows.{TableName, book, crew, pairing, period, segment, seat, ground_duty, exceedance, request, table, In, InPeriod, HasJust}
+use Rattle.state_rows.specs.Rows.{TableName, book, crew, pairing, period, segment, seat, ground_duty, exceedance, request, table, In, InPeriod, HasJust}
 
 -- ---- What the values of a table are
 
@@ -43,13 +43,15 @@ pub record IsMember (id : List ℕ) (m : Member) : Type 0 where
   pub name_shape : is_plain_text m.name ≡ true
   pub utf8 : IsUtf8 m.name
 
+-- each member is such
 abbrev pub AreMembers : State → Type 0
 AreMembers s = (id : List ℕ) (m : Member) → fin.get s.crew id ≡ Some m → IsMember id m
 
 -- so has the id of each pairing
 abbrev pub AreNamed : State → Type 0
-AreNamed s = (id : List ℕ) (r : Rostered) → fin.get s.pairings id ≡ Some r → is_id id ≡ true
+AreNamed s = (id : List ℕ) (r : PairingEntry) → fin.get s.pairings id ≡ Some r → is_id id ≡ true
 
+-- a number that is missing, or that of an instant
 abbrev pub IsInstantIfAny : Option ℕ → Type 0
 IsInstantIfAny None = ⊤
 IsInstantIfAny (Some minute) = is_instant minute ≡ true
@@ -66,6 +68,7 @@ pub record IsPeriod (db : Database) (row : Row) : Type 0 where
   pub of_pairing : Has (rows_of pairing_table db) (pairing_row (record { id = it.pairing }))
   pub no_gap : (it.number ≡ 1) ⊎ ((before : PeriodRecord) × Has (rows_of period_table db) (period_row before) × (before.pairing ≡ it.pairing) × (before.number + 1 ≡ it.number))
 
+-- each row of `period` is such
 abbrev pub ArePeriods : Database → Type 0
 ArePeriods db = (row : Row) → Has (rows_of period_table db) row → IsPeriod db row
 
@@ -74,7 +77,7 @@ abbrev pub actual_has_instants : ActualTimes → Type 0
 actual_has_instants a = (is_instant a.report ≡ true) × (is_instant a.release ≡ true) × (list_all times_have_instants a.segments ≡ true)
 
 -- a pairing is one that `Pairing::new` makes, and each actual is of a period, whole and in order
-pub record IsPlanned (id : List ℕ) (r : Rostered) : Type 0 where
+pub record IsPlanned (id : List ℕ) (r : PairingEntry) : Type 0 where
   pub named : r.plan.id ≡ id
   pub plan : pairing_fault r.plan ≡ None
   pub planned : map as_planned r.plan.periods ≡ r.plan.periods
@@ -82,17 +85,19 @@ pub record IsPlanned (id : List ℕ) (r : Rostered) : Type 0 where
   pub places : length r.actuals ≡ length r.plan.periods
   pub actuals : (i : ℕ) (a : ActualTimes) → slice_get r.actuals i ≡ Some (Some a) → IsActual r.plan i a × actual_has_instants a
 
+-- each pairing is such
 abbrev pub ArePlanned : State → Type 0
-ArePlanned s = (id : List ℕ) (r : Rostered) → fin.get s.pairings id ≡ Some r → IsPlanned id r
+ArePlanned s = (id : List ℕ) (r : PairingEntry) → fin.get s.pairings id ≡ Some r → IsPlanned id r
 
 -- a holder is a member of the seat's kind, and a flown pairing has both
-pub record IsSeated (members : Crew) (r : Rostered) : Type 0 where
+pub record IsSeated (members : Crew) (r : PairingEntry) : Type 0 where
   pub captain : IsHolder members Captain r.captain
   pub first_officer : IsHolder members FirstOfficer r.first_officer
   pub crewed : is_flown r ≡ true → is_fully_crewed r ≡ true
 
+-- each pairing is seated so
 abbrev pub AreSeated : State → Type 0
-AreSeated s = (id : List ℕ) (r : Rostered) → fin.get s.pairings id ≡ Some r → IsSeated s.crew r
+AreSeated s = (id : List ℕ) (r : PairingEntry) → fin.get s.pairings id ≡ Some r → IsSeated s.crew r
 
 -- a ground duty is one that `Ground::new` makes, of a member
 pub record IsGround (members : Crew) (id : List ℕ) (g : GroundPlan) : Type 0 where
@@ -104,42 +109,47 @@ pub record IsGround (members : Crew) (id : List ℕ) (g : GroundPlan) : Type 0 w
   pub member : Member
   pub of_member : fin.get members g.crew ≡ Some member
 
+-- each ground duty is such
 abbrev pub AreGrounds : State → Type 0
 AreGrounds s = (id : List ℕ) (g : GroundPlan) → fin.get s.grounds id ≡ Some g → IsGround s.crew id g
 
+-- the numbers of a key are in their ranges
 abbrev pub IsKey : KeyParts → Type 0
 IsKey key = (1 ≤ key.number) × (key.number ≤ 9_223_372_036_854_775_807) × (key.part ≤ 10_000)
 
 -- an exceedance is of a member, and of a period with an actual
-pub record IsExceedance (members : Crew) (pairings : fin.FinMap name_cmp Rostered) (id : ExceedanceId) (p : PeriodId) : Type 0 where
+pub record IsExceedance (members : Crew) (pairings : fin.FinMap name_cmp PairingEntry) (id : ExceedanceId) (p : PeriodId) : Type 0 where
   pub is_key : IsKey id.key
   pub member : Member
   pub of_member : fin.get members id.crew ≡ Some member
-  pub rostered : Rostered
+  pub rostered : PairingEntry
   pub of_pairing : fin.get pairings p.pairing ≡ Some rostered
   pub place : ℕ
   pub number : p.number ≡ place + 1
   pub actual : ActualTimes
   pub flown : slice_get rostered.actuals place ≡ Some (Some actual)
 
+-- the name that an exceedance stands under
 abbrev pub name_of : ExceedanceId → List ℕ
 name_of id = exceedance_name id.key id.crew id.section
 
+-- each exceedance is such, and stands under its name
 abbrev pub AreExceedances : State → Type 0
 AreExceedances s = (name : List ℕ) (p : PeriodId) → fin.get s.exceedances name ≡ Some p → (id : ExceedanceId) × (name ≡ name_of id) × IsExceedance s.crew s.pairings id p
 
 -- what is kept is a command, and it and its reply are texts
-pub record IsRequest (key : KeyParts) (r : Request) : Type 0 where
+pub record IsRequest (key : KeyParts) (r : LoggedCommand) : Type 0 where
   pub is_key : IsKey key
   pub command : IsCommand r.command
   pub utf8 : IsUtf8 (kept_text r.command) × IsUtf8 (reply_text r.reply)
 
 -- each key that an exceedance names is held
 abbrev pub AreHeld : State → Type 0
-AreHeld s = (id : ExceedanceId) (p : PeriodId) → fin.get s.exceedances (name_of id) ≡ Some p → (r : Request) × (fin.get s.requests (key_name id.key) ≡ Some r)
+AreHeld s = (id : ExceedanceId) (p : PeriodId) → fin.get s.exceedances (name_of id) ≡ Some p → (r : LoggedCommand) × (fin.get s.requests (key_name id.key) ≡ Some r)
 
+-- each kept command is such, and stands under its key's name; and each key that an exceedance names is held
 abbrev pub AreRequests : State → Type 0
-AreRequests s = ((name : List ℕ) (r : Request) → fin.get s.requests name ≡ Some r → (key : KeyParts) × (name ≡ key_name key) × IsRequest key r) × AreHeld s
+AreRequests s = ((name : List ℕ) (r : LoggedCommand) → fin.get s.requests name ≡ Some r → (key : KeyParts) × (name ≡ key_name key) × IsRequest key r) × AreHeld s
 
 -- ---- The tables in turn
 
@@ -151,9 +161,11 @@ Kept name s db = IsOfBook (table name) db.schema × HasJust (table name) db (In 
 abbrev pub IsBookRight : State → Database → Type 0
 IsBookRight s db = Kept book s db × (is_zone_text s.zone ≡ true)
 
+-- down to `crew`
 abbrev pub IsCrewRight : State → Database → Type 0
 IsCrewRight s db = IsBookRight s db × Kept crew s db × AreMembers s
 
+-- down to `pairing`
 abbrev pub IsPairingRight : State → Database → Type 0
 IsPairingRight s db = IsCrewRight s db × Kept pairing s db × AreNamed s
 
@@ -161,21 +173,27 @@ IsPairingRight s db = IsCrewRight s db × Kept pairing s db × AreNamed s
 abbrev pub IsPeriodRight : State → Database → Type 0
 IsPeriodRight s db = IsPairingRight s db × IsOfBook period_table db.schema × ArePeriods db
 
+-- down to `segment`: now periods are compared with the state's too
 abbrev pub IsSegmentRight : State → Database → Type 0
 IsSegmentRight s db = IsPeriodRight s db × HasJust period_table db (InPeriod s) × Kept segment s db × ArePlanned s
 
+-- down to `seat`
 abbrev pub IsSeatRight : State → Database → Type 0
 IsSeatRight s db = IsSegmentRight s db × Kept seat s db × AreSeated s
 
+-- down to `ground`
 abbrev pub IsGroundRight : State → Database → Type 0
 IsGroundRight s db = IsSeatRight s db × Kept ground_duty s db × AreGrounds s
 
+-- down to `exceedance`
 abbrev pub IsExceedanceRight : State → Database → Type 0
 IsExceedanceRight s db = IsGroundRight s db × Kept exceedance s db × AreExceedances s
 
+-- down to `request`, the last
 abbrev pub IsRequestRight : State → Database → Type 0
 IsRequestRight s db = IsExceedanceRight s db × Kept request s db × AreRequests s
 
+-- the tables down to the one of this name are right, with the rows of this state
 abbrev pub IsRight : TableName → State → Database → Type 0
 IsRight book = IsBookRight
 IsRight crew = IsCrewRight
@@ -239,8 +257,8 @@ named table_name.Exceedance = exceedance
 named table_name.Request = request
 
 -- what a refusal says of the database: a fault of the store (90) and want of memory (91) say nothing
-abbrev pub Says : LoadFault → Database → Type 0
-Says NotABook db = IsNoBook db
-Says Version db = IsOfOtherVersion db
-Says (Damaged it) db = IsDamaged (named it) db
-Says (Fault fault) db = ⊤
+abbrev pub Justifies : LoadFault → Database → Type 0
+Justifies NotABook db = IsNoBook db
+Justifies Version db = IsOfOtherVersion db
+Justifies (Damaged it) db = IsDamaged (named it) db
+Justifies (Fault fault) db = ⊤

@@ -9,23 +9,26 @@ use Rattle.duty.specs.Plans.{ActualTimes}
 use Rattle.duty.specs.declared.fdp.Fdp.{Fdp}
 use Rattle.duty.specs.declared.segment.BlockTimes.{BlockTimes}
 use Rattle.duty.specs.declared.segment.Segment.{Segment}
-use Rattle.kept.specs.Instants.{is_instant, segment_has_instants}
-use Rattle.roster.specs.declared.state.Rostered.{Rostered}
+use Rattle.stored_json.specs.Instants.{is_instant, segment_has_instants}
+use Rattle.roster.specs.declared.state.PairingEntry.{PairingEntry}
 use Rattle.tables.specs.Records.{period_row, segment_row}
 use Rattle.tables.specs.declared.period.PeriodRecord.{PeriodRecord}
 use Rattle.tables.specs.declared.segment.SegmentRecord.{SegmentRecord}
-use Rattle.rows.specs.Rows.{times_flown}
+use Rattle.state_rows.specs.Rows.{times_flown}
 
 -- the names of the keys: so periods are in the order of pairing and number, and segments of pairing, period and number
 abbrev pub period_name : List ℕ → ℕ → List ℕ
 period_name pairing number = text_then pairing (number ∷ [])
 
+-- the name of a segment's key
 abbrev pub segment_name : List ℕ → ℕ → ℕ → List ℕ
 segment_name pairing period number = text_then pairing (period ∷ number ∷ [])
 
+-- the rows of `period` by their keys
 abbrev pub Periods : Type 0
 Periods = fin.FinMap name_cmp PeriodRecord
 
+-- the rows of `segment` by their keys
 abbrev pub Segments : Type 0
 Segments = fin.FinMap name_cmp SegmentRecord
 
@@ -34,9 +37,11 @@ abbrev pub HasNoGap : {V : Type 0} → (ℕ → Option V) → Type 0
 HasNoGap {V} get = (number : ℕ) (it : V) → get number ≡ Some it →
     (number ≡ 1) ⊎ ((before : ℕ) × (other : V) × (before + 1 ≡ number) × (get before ≡ Some other))
 
+-- the segments of each period are numbered so
 abbrev pub HasNoGaps : Segments → Type 0
 HasNoGaps segments = (pairing : List ℕ) (period : ℕ) → HasNoGap (λ number. fin.get segments (segment_name pairing period number))
 
+-- the periods of each pairing are numbered so
 abbrev pub AreUngapped : Periods → Type 0
 AreUngapped periods = (pairing : List ℕ) → HasNoGap (λ number. fin.get periods (period_name pairing number))
 
@@ -52,14 +57,17 @@ AreTimes None None None = ⊤
 AreTimes (Some first) (Some second) (Some times) = (times ≡ (first, second)) × (is_instant first ≡ true) × (is_instant second ≡ true)
 AreTimes _ _ _ = ⊥
 
+-- block-out and block-in
 abbrev pub block_pair : BlockTimes → ℕ × ℕ
 block_pair t = (t.block_out, t.block_in)
 
+-- report and release as they were
 abbrev pub actual_pair : ActualTimes → ℕ × ℕ
 actual_pair a = (a.report, a.release)
 
 -- ---- A segment
 
+-- the segment of a row, as it is planned
 abbrev pub planned_segment : SegmentRecord → Segment
 planned_segment it = record { flight = it.flight; from = it.origin; block_out = it.out_at; to = it.destination; block_in = it.in_at }
 
@@ -131,7 +139,7 @@ HasNoPeriods periods segments id = (number : ℕ) × (it : PeriodRecord) × (fin
 -- ---- A pairing
 
 -- the pairing that the rows tell of: its periods are just those with a row
-pub record IsTold (periods : Periods) (segments : Segments) (id : List ℕ) (r : Rostered) : Type 0 where
+pub record IsTold (periods : Periods) (segments : Segments) (id : List ℕ) (r : PairingEntry) : Type 0 where
   pub named : r.plan.id ≡ id
   pub plan : pairing_fault r.plan ≡ None
   pub places : length r.actuals ≡ length r.plan.periods
@@ -145,6 +153,7 @@ pub record IsTold (periods : Periods) (segments : Segments) (id : List ℕ) (r :
 abbrev pub ArePeriodsKeyed : Periods → Type 0
 ArePeriodsKeyed periods = (key : List ℕ) (it : PeriodRecord) → fin.get periods key ≡ Some it → key ≡ period_name it.pairing it.number
 
+-- each row of `segment` stands under its own key
 abbrev pub AreSegmentsKeyed : Segments → Type 0
 AreSegmentsKeyed segments = (key : List ℕ) (it : SegmentRecord) → fin.get segments key ≡ Some it → key ≡ segment_name it.pairing it.period it.number
 
@@ -152,5 +161,6 @@ AreSegmentsKeyed segments = (key : List ℕ) (it : SegmentRecord) → fin.get se
 abbrev pub PeriodRows : Periods → Row → Type 0
 PeriodRows periods row = (it : PeriodRecord) × (fin.get periods (period_name it.pairing it.number) ≡ Some it) × (row ≡ period_row it)
 
+-- the rows of `segment` that stand under their own keys
 abbrev pub SegmentRows : Segments → Row → Type 0
 SegmentRows segments row = (it : SegmentRecord) × (fin.get segments (segment_name it.pairing it.period it.number) ≡ Some it) × (row ≡ segment_row it)

@@ -1,4 +1,4 @@
--- What the functions that load a book say to one another. Of these the public clause of `read_all` names `Saw` and `IsReadTo`.
+-- What the functions that load a book say to one another. Of these the public clause of `read_all` names `ReadsAs` and `AgreesThrough`.
 use Rattle.std.specs.Prelude.{◌≡◌, ◌⊎◌, ◌↔◌, ◌+◌, ◌<◌, ⊤, true, false, pos, IsUtf8, ℕ, zero, suc, List, [], ◌∷◌, map, take, length, Option, None, Some, Result, MatchResult, slice_get}
 use Rattle.std.specs.FinMap as fin
 use Rattle.std.specs.List.{AllByRecursion}
@@ -17,8 +17,8 @@ use Rattle.roster.specs.Sound.{Crew, IsHolder}
 use Rattle.roster.specs.State as roster
 use Rattle.roster.specs.declared.state.ExceedanceId.{ExceedanceId}
 use Rattle.roster.specs.declared.state.PeriodId.{PeriodId}
-use Rattle.roster.specs.declared.state.Rostered.{Rostered}
-use Rattle.tables.specs.Calls.{LeavesNothing}
+use Rattle.roster.specs.declared.state.PairingEntry.{PairingEntry}
+use Rattle.tables.specs.Calls.{CrashLeavesNoMore}
 use Rattle.tables.specs.Rows.{IsStored, rows_of, HasNoRecord, begins_with}
 use Rattle.tables.specs.Schema.{IsOfBook}
 use Rattle.tables.specs.Records.{book_row, crew_row, ground_row, exceedance_row, request_row, seat_row}
@@ -29,7 +29,7 @@ use Rattle.tables.specs.declared.ground.GroundRecord.{GroundRecord}
 use Rattle.tables.specs.declared.request.RequestRecord.{RequestRecord}
 use Rattle.tables.specs.declared.seat.SeatRecord.{SeatRecord}
 use Rattle.loading.specs.Loading.{IsMember, IsGround, IsExceedance, IsRequest, AreHeld, name_of, IsRight, IsNoBook, IsOfOtherVersion}
-use Rattle.rows.specs.Rows.{TableName, book, crew, pairing, period, segment, seat, ground_duty, exceedance, request, table, row_of_member, row_of_seat, row_of_ground, row_of_exceedance, row_of_request, InSeat}
+use Rattle.state_rows.specs.Rows.{TableName, book, crew, pairing, period, segment, seat, ground_duty, exceedance, request, table, row_of_member, row_of_seat, row_of_ground, row_of_exceedance, row_of_request, InSeat}
 use Rattle.loading.specs.declared.fault.LoadFault.{LoadFault}
 use Rattle.loading.specs.declared.fault.LoadFault.TheVariants.{NotABook, Damaged, Version, Fault}
 use Rattle.loading.specs.declared.fault.TableName as name
@@ -37,9 +37,9 @@ use Rattle.loading.specs.declared.fault.TableName.TheVariants as its
 use Rattle.time117.specs.Local.{is_zone_text}
 
 -- what a call comes to that reads the database: what its answer tells, or why it was refused
-pub record Saw {A : Type 0} (Is : A → Type 0) (Refuses : LoadFault → Type 0) (old new : State) (result : Result A LoadFault) : Type 0 where
+pub record ReadsAs {A : Type 0} (Is : A → Type 0) (Refuses : LoadFault → Type 0) (old new : State) (result : Result A LoadFault) : Type 0 where
   pub told : HasCleanDisk new → MatchResult result (λ a. IsUnchanged old new × Is a) Refuses
-  pub left : LeavesNothing old new
+  pub left : CrashLeavesNoMore old new
 
 -- the table is there, each row of it under a number of its own, and these are its rows
 pub record HasRows (it : TableName) (db : Database) (rows : List Row) : Type 0 where
@@ -72,7 +72,7 @@ down_to exceedance = exceedance ∷ ground_duty ∷ seat ∷ segment ∷ period 
 down_to request = request ∷ exceedance ∷ ground_duty ∷ seat ∷ segment ∷ period ∷ pairing ∷ crew ∷ book ∷ []
 
 -- the book is of this version, and its tables down to one are right, with each row under a number of its own
-pub record IsReadTo (it : TableName) (s : roster.State) (db : Database) : Type 0 where
+pub record AgreesThrough (it : TableName) (s : roster.State) (db : Database) : Type 0 where
   pub stored : AllByRecursion (λ name. IsStored (table name) db) (down_to it)
   pub book : ¬ IsNoBook db
   pub version : ¬ IsOfOtherVersion db
@@ -114,8 +114,8 @@ seat_of (suc zero) = Some FirstOfficer
 seat_of (suc (suc n)) = None
 
 -- the period is there, and it has an actual
-pub record IsFlown (pairings : fin.FinMap name_cmp Rostered) (p : PeriodId) : Type 0 where
-  pub rostered : Rostered
+pub record IsFlown (pairings : fin.FinMap name_cmp PairingEntry) (p : PeriodId) : Type 0 where
+  pub rostered : PairingEntry
   pub of_pairing : fin.get pairings p.pairing ≡ Some rostered
   pub place : ℕ
   pub number : p.number ≡ place + 1
@@ -123,7 +123,7 @@ pub record IsFlown (pairings : fin.FinMap name_cmp Rostered) (p : PeriodId) : Ty
   pub flown : slice_get rostered.actuals place ≡ Some (Some actual)
 
 -- an exceedance whose period has a number of eight bits, as each period of a pairing has
-pub record IsRecorded (members : Crew) (pairings : fin.FinMap name_cmp Rostered) (id : ExceedanceId) (p : PeriodId) : Type 0 where
+pub record IsRecorded (members : Crew) (pairings : fin.FinMap name_cmp PairingEntry) (id : ExceedanceId) (p : PeriodId) : Type 0 where
   pub is : IsExceedance members pairings id p
   pub fits : p.number < 256
 
@@ -162,19 +162,20 @@ pub record SeatIndex : Type 0 where
   pub pairing : List ℕ
   pub seat : Seat
 
+-- the row of a seat that a member holds
 abbrev pub row_of_held : SeatIndex → List ℕ → Row
 row_of_held at who = row_of_seat at.pairing at.seat who
 
 -- the pairing is there, and the holder is a member of the seat's kind
-pub record IsHeld (members : Crew) (pairings : fin.FinMap name_cmp Rostered) (at : SeatIndex) (who : List ℕ) : Type 0 where
-  pub rostered : Rostered
+pub record IsHeld (members : Crew) (pairings : fin.FinMap name_cmp PairingEntry) (at : SeatIndex) (who : List ℕ) : Type 0 where
+  pub rostered : PairingEntry
   pub of_pairing : fin.get pairings at.pairing ≡ Some rostered
   pub member : Member
   pub of_member : fin.get members who ≡ Some member
   pub of_kind : member.seat ≡ at.seat
 
 -- two pairings alike, but for who holds their seats; or none
-abbrev pub IsSamePlan : Option Rostered → Option Rostered → Type 0
+abbrev pub IsSamePlan : Option PairingEntry → Option PairingEntry → Type 0
 IsSamePlan None None = ⊤
 IsSamePlan (Some r) (Some q) = (q.plan ≡ r.plan) × (q.actuals ≡ r.actuals)
 IsSamePlan _ _ = ⊥
@@ -184,18 +185,19 @@ pub record SeatsRead (records : List SeatRecord) (count : ℕ) (old new : roster
   pub same : new ≡ record old { pairings = new.pairings }
   pub planned : (id : List ℕ) → IsSamePlan (fin.get old.pairings id) (fin.get new.pairings id)
   pub rows : AreOnce row_of_held (map seat_row records) → (row : Row) → Has (take count (map seat_row records)) row ↔ InSeat new row
-  pub known : (id : List ℕ) (r : Rostered) (seat : Seat) → fin.get new.pairings id ≡ Some r → IsHolder old.crew seat (holder seat r)
+  pub known : (id : List ℕ) (r : PairingEntry) (seat : Seat) → fin.get new.pairings id ≡ Some r → IsHolder old.crew seat (holder seat r)
 
 -- both seats of each flown pairing are held
 abbrev pub AreCrewed : roster.State → Type 0
-AreCrewed s = (id : List ℕ) (r : Rostered) → fin.get s.pairings id ≡ Some r → is_flown r ≡ true → is_fully_crewed r ≡ true
+AreCrewed s = (id : List ℕ) (r : PairingEntry) → fin.get s.pairings id ≡ Some r → is_flown r ≡ true → is_fully_crewed r ≡ true
 
 -- no seat is held
-abbrev pub IsFree : Rostered → Type 0
+abbrev pub IsFree : PairingEntry → Type 0
 IsFree r = (r.captain ≡ None) × (r.first_officer ≡ None)
 
+-- no seat of any pairing is held
 abbrev pub AreFree : roster.State → Type 0
-AreFree s = (id : List ℕ) (r : Rostered) → fin.get s.pairings id ≡ Some r → IsFree r
+AreFree s = (id : List ℕ) (r : PairingEntry) → fin.get s.pairings id ≡ Some r → IsFree r
 
 -- some row is of no seat, or some flown pairing has a free one
 abbrev pub AreUnseated : List SeatRecord → roster.State → Type 0

@@ -2,10 +2,10 @@
 use Rattle.std.specs.Prelude.{◌≡◌, Bool, true, false}
 use Rattle.sqlite.specs.Effect.{Database}
 use Rattle.roster.specs.State.{State}
-use Rattle.loading.specs.Loading.{IsRight, Says}
+use Rattle.loading.specs.Loading.{IsRight, Justifies}
 use Rattle.loading.specs.declared.fault.LoadFault.{LoadFault}
 use Rattle.loading.specs.declared.fault.LoadFault.TheVariants.{NotABook, Damaged, Version, Fault}
-use Rattle.rows.specs.Rows.{request}
+use Rattle.state_rows.specs.Rows.{request}
 
 -- a refusal that tells of the database (40, 41 or 42); a fault of the store (90) and want of memory (91) don't
 abbrev pub tells : LoadFault → Bool
@@ -16,8 +16,8 @@ tells (Fault fault) = false
 
 -- two of them that are true of one database are the same, of the same table
 abbrev pub IsOneRefusal : Type 0
-IsOneRefusal = (db : Database) (a b : LoadFault) → tells a ≡ true → tells b ≡ true → Says a db → Says b db → a ≡ b
+IsOneRefusal = (db : Database) (a b : LoadFault) → tells a ≡ true → tells b ≡ true → Justifies a db → Justifies b db → a ≡ b
 
 -- of a database in which each table is right none is true
 abbrev pub IsNotRefused : Type 0
-IsNotRefused = (s : State) (db : Database) (fault : LoadFault) → tells fault ≡ true → IsRight request s db → ¬ (Says fault db)
+IsNotRefused = (s : State) (db : Database) (fault : LoadFault) → tells fault ≡ true → IsRight request s db → ¬ (Justifies fault db)

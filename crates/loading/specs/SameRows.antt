@@ -3,15 +3,15 @@ use Rattle.std.specs.Prelude.{◌≡◌, ◌↔◌, ℕ, true, List, Some}
 use Rattle.std.specs.FinMap as fin
 use Rattle.sqlite_value.specs.Order.{Row}
 use Rattle.sqlite.specs.Effect.{Database}
-use Rattle.kept.specs.Instants.{order_has_instants}
+use Rattle.stored_json.specs.Instants.{instruction_has_instants}
 use Rattle.roster.specs.Sound.{Sound}
 use Rattle.roster.specs.State.{State}
-use Rattle.roster.specs.declared.state.Request.{Request}
-use Rattle.rows.specs.Rows.{Rows, TableName, In}
+use Rattle.roster.specs.declared.state.LoggedCommand.{LoggedCommand}
+use Rattle.state_rows.specs.Rows.{Rows, TableName, In}
 
 -- the instants of kept commands are of the years 2000 to 2099, as the type of an instant sees to
 abbrev pub HasInstants : State → Type 0
-HasInstants s = (name : List ℕ) (r : Request) → fin.get s.requests name ≡ Some r → order_has_instants r.command ≡ true
+HasInstants s = (name : List ℕ) (r : LoggedCommand) → fin.get s.requests name ≡ Some r → instruction_has_instants r.command ≡ true
 
 -- two states have the same rows in each table
 abbrev pub SameRows : State → State → Type 0

@@ -1,4 +1,7 @@
-use rows::StoreFault;
+//! The refusals 40, 41 and 42 of a file that is no book, is damaged, or is of another version. What each says of the
+//! database is `Justifies` (`specs/Loading.antt`).
+//! Files with one damage and with two: `tests/tables.py`.
+use state_rows::StoreFault;
 use std::alloc::{AllocError, AllocFailed};
 use std::fmt;
 use tables::TableFault;
@@ -75,7 +78,7 @@ impl std::error::Error for LoadFault {}
 
 impl From<TableFault> for LoadFault {
     ghost use Rattle.std.specs.Prelude.{◌≡◌};
-    ghost use Rattle.rows.specs.Faults.{fault_of};
+    ghost use Rattle.state_rows.specs.Faults.{fault_of};
     ghost use Rattle.loading.specs.declared.fault.LoadFault.TheVariants.{Fault};
 
     ghost from_gives = { λ fault given. given ≡ Fault (fault_of fault) };
@@ -88,7 +91,7 @@ impl From<TableFault> for LoadFault {
 impl From<MemoryFault> for LoadFault {
     ghost use Rattle.std.specs.Prelude.{◌≡◌};
     ghost use Rattle.loading.specs.declared.fault.LoadFault.TheVariants.{Fault};
-    ghost use Rattle.rows.specs.declared.fault.StoreFault.TheVariants.{Memory};
+    ghost use Rattle.state_rows.specs.declared.fault.StoreFault.TheVariants.{Memory};
 
     ghost from_gives = { λ _ fault. fault ≡ Fault Memory };
 
@@ -100,7 +103,7 @@ impl From<MemoryFault> for LoadFault {
 impl From<AllocError> for LoadFault {
     ghost use Rattle.std.specs.Prelude.{◌≡◌};
     ghost use Rattle.loading.specs.declared.fault.LoadFault.TheVariants.{Fault};
-    ghost use Rattle.rows.specs.declared.fault.StoreFault.TheVariants.{Memory};
+    ghost use Rattle.state_rows.specs.declared.fault.StoreFault.TheVariants.{Memory};
 
     ghost from_gives = { λ _ fault. fault ≡ Fault Memory };
 
@@ -112,7 +115,7 @@ impl From<AllocError> for LoadFault {
 impl<T: Drop> From<AllocFailed<T>> for LoadFault {
     ghost use Rattle.std.specs.Prelude.{◌≡◌};
     ghost use Rattle.loading.specs.declared.fault.LoadFault.TheVariants.{Fault};
-    ghost use Rattle.rows.specs.declared.fault.StoreFault.TheVariants.{Memory};
+    ghost use Rattle.state_rows.specs.declared.fault.StoreFault.TheVariants.{Memory};
 
     ghost from_gives = { λ _ fault. fault ≡ Fault Memory };
 

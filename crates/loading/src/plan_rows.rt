@@ -9,7 +9,7 @@ use duty::PairingId;
 use std::alloc::Global;
 use tables::period::PeriodRecord;
 use tables::segment::SegmentRecord;
-use values::{Copied, MemoryFault, Named, Table};
+use values::{MemoryFault, OrdKey, OrdMap, TryClone};
 
 /// What a row of `period` is known by: the pairing, and the period's number in it from 1.
 #[derive(PartialEq, Eq, PartialOrd, Ord, Drop)]
@@ -26,7 +26,7 @@ pub(crate) struct SegmentKey {
     pub(crate) number: u32,
 }
 
-impl Named for PeriodKey {
+impl OrdKey for PeriodKey {
     ghost use Rattle.loading.specs.PlanRows.{period_name};
     ghost use Rattle.loading.specs.PlanOrder.{periods_order};
 
@@ -35,7 +35,7 @@ impl Named for PeriodKey {
     ghost same_order = { periods_order };
 }
 
-impl Named for SegmentKey {
+impl OrdKey for SegmentKey {
     ghost use Rattle.loading.specs.PlanRows.{segment_name};
     ghost use Rattle.loading.specs.PlanOrder.{segments_order};
 
@@ -47,28 +47,29 @@ impl Named for SegmentKey {
 /// The rows of both tables.
 #[derive(Drop)]
 pub(crate) struct PlanRows {
-    pub(crate) periods: Table<PeriodKey, PeriodRecord>,
-    pub(crate) segments: Table<SegmentKey, SegmentRecord>,
+    pub(crate) periods: OrdMap<PeriodKey, PeriodRecord>,
+    pub(crate) segments: OrdMap<SegmentKey, SegmentRecord>,
 }
 
 impl PlanRows {
-    /// The row of a period, if there is one.
+    /// Finds the row of a period, if there is one.
     pub(crate) fn period(
         &self,
         alloc: Global,
         pairing: &PairingId,
         number: u32,
     ) -> Result<Option<&PeriodRecord>, MemoryFault>
-        ensures { IfOk result (λ found. option_copied found ≡ fin.get self.now.periods (period_name pairing.now number)) }
+        ensures { IfOk result (λ found.
+            option_copied found ≡ fin.get self.now.periods (period_name pairing.now number)) }
     {
         let key = PeriodKey {
-            pairing: pairing.copy(alloc)?,
+            pairing: pairing.try_clone(alloc)?,
             number,
         };
         Ok(self.periods.get(&key))
     }
 
-    /// The row of a segment, if there is one.
+    /// Finds the row of a segment, if there is one.
     pub(crate) fn segment(
         &self,
         alloc: Global,
@@ -76,10 +77,11 @@ impl PlanRows {
         period: u32,
         number: u32,
     ) -> Result<Option<&SegmentRecord>, MemoryFault>
-        ensures { IfOk result (λ found. option_copied found ≡ fin.get self.now.segments (segment_name pairing.now period number)) }
+        ensures { IfOk result (λ found. option_copied found
+            ≡ fin.get self.now.segments (segment_name pairing.now period number)) }
     {
         let key = SegmentKey {
-            pairing: pairing.copy(alloc)?,
+            pairing: pairing.try_clone(alloc)?,
             period,
             number,
         };

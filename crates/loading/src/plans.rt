@@ -1,12 +1,13 @@
 //! A pairing, as the rows of its periods and segments tell it.
+//! Periods and segments that are damaged: `tests/tables.py`. Wrong bodies: `must-fail/`.
 
 ghost use Rattle.std.specs.Prelude.{◌≡◌, ◌≤◌, ℕ, map, true, false, slice_get, IfOk, MatchResult, Option, Some, None};
 ghost use Rattle.duty.specs.declared.segment.BlockTimes as declared_times;
 ghost use Rattle.duty.specs.declared.fdp.Fdp as declared_fdp;
 ghost use Rattle.duty.specs.declared.segment.Segment as declared_segment;
-ghost use Rattle.kept.specs.Instants.{is_instant};
+ghost use Rattle.stored_json.specs.Instants.{is_instant};
 ghost use Rattle.duty.specs.Plans.{ActualTimes};
-ghost use Rattle.roster.specs.declared.state.Rostered as declared_rostered;
+ghost use Rattle.roster.specs.declared.state.PairingEntry as declared_rostered;
 ghost use Rattle.loading.specs.PlanRows.{AreTimes, planned_segment, IsSegment, HasNoGaps, AreUngapped, AreSegments, HasNoSegments, IsActualOf, IsReadPeriod, ArePeriodsRead, HasNoPeriods, IsTold};
 ghost use Rattle.loading.specs.Reading.{Blames};
 ghost use Rattle.loading.specs.declared.fault.TableName.TheVariants as table_name;
@@ -14,12 +15,12 @@ ghost use Rattle.loading.specs.declared.fault.TableName.TheVariants as table_nam
 use crate::fault::{LoadFault, TableName};
 use crate::plan_rows::PlanRows;
 use duty::{Actual, Airport, BlockTimes, Fdp, Flight, Pairing, PairingId, Segment};
-use roster::Rostered;
+use roster::PairingEntry;
 use std::alloc::Global;
 use tables::period::PeriodRecord;
 use tables::segment::SegmentRecord;
 use time117::Minute;
-use values::{Copied, Items, MemoryFault};
+use values::{MemoryFault, Sequence, TryClone};
 
 /// What a row of `segment` tells: the segment as it is planned, and its times where it is flown.
 #[derive(Drop)]
@@ -58,19 +59,21 @@ const TOO_MANY_SEGMENTS: u32 = 13;
 /// What is said of a pairing that its rows don't tell.
 const UNFIT: LoadFault = LoadFault::Damaged(TableName::Segment);
 
-/// The instant of a number of minutes since 2000-01-01T00:00Z.
+/// Returns the instant of a number of minutes since 2000-01-01T00:00Z.
 fn instant(number: u32) -> Result<Minute, LoadFault>
-    ensures { MatchResult result (λ minute. (minute ≡ number) × (is_instant number ≡ true)) (Blames table_name.Segment (is_instant number ≡ false)) }
+    ensures { MatchResult result (λ minute. (minute ≡ number) × (is_instant number ≡ true))
+        (Blames table_name.Segment (is_instant number ≡ false)) }
 {
     Minute::from_number(number).ok_or(UNFIT)
 }
 
-/// Two times, or none of either.
+/// Returns two times, or none of either.
 fn times_if_any(
     first: Option<u32>,
     second: Option<u32>,
 ) -> Result<Option<(Minute, Minute)>, LoadFault>
-    ensures { MatchResult result (AreTimes first second) (Blames table_name.Segment ((times : Option (ℕ × ℕ)) → AreTimes first second times → ⊥)) }
+    ensures { MatchResult result (AreTimes first second)
+        (Blames table_name.Segment ((times : Option (ℕ × ℕ)) → AreTimes first second times → ⊥)) }
 {
     match (first, second) {
         (None, None) => Ok(None),
@@ -83,7 +86,7 @@ fn times_if_any(
     }
 }
 
-/// The segment of a row at these times.
+/// Makes the segment of a row at these times.
 fn planned_segment(
     alloc: Global,
     row: &SegmentRecord,
@@ -94,17 +97,19 @@ fn planned_segment(
     ensures { IfOk result (λ segment. segment ≡ planned_segment row.now) }
 {
     Ok(Segment {
-        flight: Flight::new(row.flight.copy(alloc)?),
-        from: Airport::new(row.origin.copy(alloc)?),
+        flight: Flight::new(row.flight.try_clone(alloc)?),
+        from: Airport::new(row.origin.try_clone(alloc)?),
         block_out: times.block_out,
-        to: Airport::new(row.destination.copy(alloc)?),
+        to: Airport::new(row.destination.try_clone(alloc)?),
         block_in: times.block_in,
     })
 }
 
-/// What a row tells of a segment.
+/// Reads what a row tells of a segment.
 fn segment_of(alloc: Global, row: &SegmentRecord) -> Result<ReadSegment, LoadFault>
-    ensures { MatchResult result (λ it. IsSegment row.now it.segment it.flown) (Blames table_name.Segment ((segment : declared_segment.Segment) (flown : Option declared_times.BlockTimes) → IsSegment row.now segment flown → ⊥)) }
+    ensures { MatchResult result (λ it. IsSegment row.now it.segment it.flown)
+        (Blames table_name.Segment ((segment : declared_segment.Segment)
+        (flown : Option declared_times.BlockTimes) → IsSegment row.now segment flown → ⊥)) }
 {
     let block_out = instant(row.out_at)?;
     let block_in = instant(row.in_at)?;
@@ -123,7 +128,7 @@ fn segment_of(alloc: Global, row: &SegmentRecord) -> Result<ReadSegment, LoadFau
     Ok(ReadSegment { segment, flown })
 }
 
-/// What the rows tell of the segments of a period, by its number.
+/// Reads what the rows tell of the segments of a period, by its number.
 #[tactic(auto, using(crate::proofs::PlanLemmas::no_segment, crate::proofs::PlanLemmas::segments_done))]
 fn segments_of(
     alloc: Global,
@@ -131,7 +136,9 @@ fn segments_of(
     id: &PairingId,
     period: u32,
 ) -> Result<ReadSegments, LoadFault>
-    ensures { MatchResult result (λ found. AreSegments rows.now.segments id.now period found.planned.items found.flown.items) (Blames table_name.Segment (HasNoSegments rows.now.segments id.now period)) }
+    ensures { MatchResult result
+        (λ found. AreSegments rows.now.segments id.now period found.planned.items found.flown.items)
+        (Blames table_name.Segment (HasNoSegments rows.now.segments id.now period)) }
 {
     let mut planned = Vec::new(alloc);
     let mut flown = Vec::new(alloc);
@@ -149,9 +156,10 @@ fn segments_of(
     Err(UNFIT)
 }
 
-/// The times of all segments, where each has them.
+/// Collects the times of all segments, where each has them.
 fn all_times(alloc: Global, flown: &[Option<BlockTimes>]) -> Result<Vec<BlockTimes>, LoadFault>
-    ensures { MatchResult result (λ all. flown.now ≡ map Some all.items) (Blames table_name.Segment ((i : ℕ) × (slice_get flown.now i ≡ Some None))) }
+    ensures { MatchResult result (λ all. flown.now ≡ map Some all.items)
+        (Blames table_name.Segment ((i : ℕ) × (slice_get flown.now i ≡ Some None))) }
 {
     let mut all = Vec::new(alloc);
     for times in flown {
@@ -163,7 +171,7 @@ fn all_times(alloc: Global, flown: &[Option<BlockTimes>]) -> Result<Vec<BlockTim
     Ok(all)
 }
 
-/// The actual of a period, by its number, with its times and those of its segments.
+/// Makes the actual of a period, by its number, with its times and those of its segments.
 #[tactic(auto, using(crate::proofs::PlanLemmas::none_flown, crate::proofs::PlanLemmas::some_flown, crate::proofs::PlanLemmas::not_all_flown, crate::proofs::PlanLemmas::is_actual))]
 fn actual_of(
     alloc: Global,
@@ -173,7 +181,8 @@ fn actual_of(
 ) -> Result<Option<Actual>, LoadFault>
     requires low { 1 ≤ number }
     requires high { number ≤ 10 }
-    ensures { MatchResult result (IsActualOf number times flown.now) (Blames table_name.Segment ((actual : Option ActualTimes) → IsActualOf number times flown.now actual → ⊥)) }
+    ensures { MatchResult result (IsActualOf number times flown.now) (Blames table_name.Segment
+        ((actual : Option ActualTimes) → IsActualOf number times flown.now actual → ⊥)) }
 {
     let Some((report, release)) = times else {
         if flown.iter().any(|times| times.is_some()) {
@@ -188,7 +197,7 @@ fn actual_of(
     }
 }
 
-/// What the rows tell of a period, by its number.
+/// Reads what the rows tell of a period, by its number.
 fn period_of(
     alloc: Global,
     rows: &PlanRows,
@@ -199,7 +208,10 @@ fn period_of(
     requires low { 1 ≤ number }
     requires high { number ≤ 10 }
     requires whole { HasNoGaps rows.now.segments }
-    ensures { MatchResult result (λ it. IsReadPeriod rows.now.segments id.now number row.now it.planned it.actual) (Blames table_name.Segment ((fdp : declared_fdp.Fdp) (actual : Option ActualTimes) → IsReadPeriod rows.now.segments id.now number row.now fdp actual → ⊥)) }
+    ensures { MatchResult result
+        (λ it. IsReadPeriod rows.now.segments id.now number row.now it.planned it.actual)
+        (Blames table_name.Segment ((fdp : declared_fdp.Fdp) (actual : Option ActualTimes)
+        → IsReadPeriod rows.now.segments id.now number row.now fdp actual → ⊥)) }
 {
     let report = instant(row.report_at)?;
     let release = instant(row.release_at)?;
@@ -207,16 +219,18 @@ fn period_of(
     let found = segments_of(alloc, rows, id, number)?;
     let actual = actual_of(alloc, number as u8, times, &found.flown)?;
     Ok(ReadPeriod {
-        planned: Fdp::new(report, release, Items::new(found.planned)),
+        planned: Fdp::new(report, release, Sequence::new(found.planned)),
         actual,
     })
 }
 
-/// What the rows tell of the periods of a pairing.
+/// Reads what the rows tell of the periods of a pairing.
 #[tactic(auto, using(crate::proofs::PlanLemmas::no_period, crate::proofs::PlanLemmas::periods_done))]
 fn periods_of(alloc: Global, rows: &PlanRows, id: &PairingId) -> Result<ReadPeriods, LoadFault>
     requires whole { HasNoGaps rows.now.segments }
-    ensures { MatchResult result (λ found. ArePeriodsRead rows.now.periods rows.now.segments id.now found.planned.items found.actuals.items) (Blames table_name.Segment (HasNoPeriods rows.now.periods rows.now.segments id.now)) }
+    ensures { MatchResult result (λ found. ArePeriodsRead rows.now.periods rows.now.segments id.now
+        found.planned.items found.actuals.items)
+        (Blames table_name.Segment (HasNoPeriods rows.now.periods rows.now.segments id.now)) }
 {
     let mut planned = Vec::new(alloc);
     let mut actuals = Vec::new(alloc);
@@ -237,22 +251,24 @@ fn periods_of(alloc: Global, rows: &PlanRows, id: &PairingId) -> Result<ReadPeri
     }
 }
 
-/// The pairing that the rows tell of under an id; no seat is held.
+/// Makes the pairing that the rows tell of under an id; no seat is held.
 pub(crate) fn pairing_of(
     alloc: Global,
     rows: &PlanRows,
     id: &PairingId,
-) -> Result<Rostered, LoadFault>
+) -> Result<PairingEntry, LoadFault>
     requires periods { AreUngapped rows.now.periods }
     requires segments { HasNoGaps rows.now.segments }
-    ensures told { MatchResult result (IsTold rows.now.periods rows.now.segments id.now) (Blames table_name.Segment ((r : declared_rostered.Rostered) → IsTold rows.now.periods rows.now.segments id.now r → ⊥)) }
+    ensures told { MatchResult result (IsTold rows.now.periods rows.now.segments id.now)
+        (Blames table_name.Segment ((r : declared_rostered.PairingEntry)
+        → IsTold rows.now.periods rows.now.segments id.now r → ⊥)) }
     ensures free { IfOk result (λ r. (r.captain ≡ None) × (r.first_officer ≡ None)) }
 {
     let found = periods_of(alloc, rows, id)?;
-    match Pairing::new(id.copy(alloc)?, found.planned) {
-        Ok(plan) => Ok(Rostered {
+    match Pairing::new(id.try_clone(alloc)?, found.planned) {
+        Ok(plan) => Ok(PairingEntry {
             plan,
-            actuals: Items::new(found.actuals),
+            actuals: Sequence::new(found.actuals),
             captain: None,
             first_officer: None,
         }),

@@ -1,4 +1,5 @@
-//! The book's own row, as it is loaded.
+//! The book's own row, as it is loaded. What is right is `IsBookRight` (`specs/Loading.antt`).
+//! Files with such a damage: `tests/tables.py`. Wrong bodies: `must-fail/`.
 
 ghost use Rattle.std.specs.Prelude.{◌≡◌, ◌↔◌, ℕ, List, map, true, IfOk, IsTrue, MatchOption, MatchResult};
 ghost use Rattle.std.specs.Option.{option_copied};
@@ -7,15 +8,15 @@ ghost use Rattle.time117.specs.Local.{is_zone_text};
 ghost use Rattle.roster.specs.State.{empty};
 ghost use Rattle.tables.specs.Records.{book_row, IsBookRow};
 ghost use Rattle.tables.specs.declared.book.BookRecord.{BookRecord as RecordOf};
-ghost use Rattle.loading.specs.Loading.{Says};
-ghost use Rattle.loading.specs.Reading.{Blames, BlamesBook, book_of, IsOnly, Saw, HasRows, IsReadTo, IsUnreadable};
-ghost use Rattle.rows.specs.Rows.{book};
+ghost use Rattle.loading.specs.Loading.{Justifies};
+ghost use Rattle.loading.specs.Reading.{Blames, BlamesBook, book_of, IsOnly, ReadsAs, HasRows, AgreesThrough, IsUnreadable};
+ghost use Rattle.state_rows.specs.Rows.{book};
 ghost use Rattle.loading.specs.declared.fault.TableName.TheVariants as table_name;
 
 use crate::fault::{LoadFault, TableName};
 use roster::Roster;
-use rows::StoreFault;
 use sqlite::{Alter, Connection};
+use state_rows::StoreFault;
 use std::alloc::Global;
 use tables::TableFault;
 use tables::book::{BookRecord, is_book_there, load_book};
@@ -25,18 +26,22 @@ use time117::{Zone, ZoneFault};
 /// The version of the tables that this program knows.
 const VERSION: i64 = 1;
 
-/// The records of the table.
+/// Reads the records of the table.
 #[tactic(auto, using(crate::proofs::Telling::found, crate::proofs::Telling::not_there, crate::proofs::Telling::no_record, crate::proofs::Telling::failed))]
 fn book_records<S: Alter>(
     alloc: Global,
     conn: &mut Connection<S>,
 ) -> Result<Vec<BookRecord>, LoadFault>
-    ensures { Saw (λ found. HasRows book (state S.Store conn.old).now (map book_row found.items)) (Blames table_name.Book (IsUnreadable book IsBookRow (state S.Store conn.old).now)) (state S.Store conn.old) (state S.Store conn.new) result }
+    ensures { ReadsAs (λ found. HasRows book (state S.Store conn.old).now
+        (map book_row found.items))
+        (Blames table_name.Book (IsUnreadable book IsBookRow (state S.Store conn.old).now))
+        (state S.Store conn.old) (state S.Store conn.new) result }
 {
     if !is_book_there(alloc, conn)? || !is_unreferenced(conn, "book") {
         return Err(LoadFault::Damaged(TableName::Book));
     }
     let loaded = load_book(alloc, conn);
+    // The clause of this call says that an open connection shows a database.
     let _live = conn.schema();
     match loaded {
         Ok(records) => Ok(records),
@@ -45,7 +50,7 @@ fn book_records<S: Alter>(
     }
 }
 
-/// Whether two records are the same.
+/// Returns whether two records are the same.
 #[tactic(auto, using(crate::proofs::ReadBook::same_record))]
 fn is_same(first: &BookRecord, other: &BookRecord) -> bool
     ensures { IsTrue result ↔ (first.now ≡ other.now) }
@@ -53,10 +58,12 @@ fn is_same(first: &BookRecord, other: &BookRecord) -> bool
     first.one == other.one && first.version == other.version && first.zone == other.zone
 }
 
-/// The one record, if there is one, and no other. (Two of one row can't be: its number is UNIQUE.)
+/// Finds the one record, if there is one, and no other. (Two of one row can't be: its number is
+/// UNIQUE.)
 #[tactic(auto, using(crate::proofs::ReadBook::nothing_only, crate::proofs::ReadBook::other_only, crate::proofs::ReadBook::is_only, crate::proofs::ReadBook::none_same, crate::proofs::ReadBook::next_same))]
 fn only(records: &[BookRecord]) -> Option<&BookRecord>
-    ensures { MatchOption (option_copied result) ((it : RecordOf) → IsOnly records.now it → ⊥) (IsOnly records.now) }
+    ensures { MatchOption (option_copied result)
+        ((it : RecordOf) → IsOnly records.now it → ⊥) (IsOnly records.now) }
 {
     let Some(first) = records.first() else {
         return None;
@@ -69,10 +76,11 @@ fn only(records: &[BookRecord]) -> Option<&BookRecord>
     Some(first)
 }
 
-/// An empty roster of the zone that the one record names.
+/// Makes an empty roster of the zone that the one record names.
 #[tactic(auto, using(crate::proofs::ReadBook::no_row, crate::proofs::ReadBook::other_number, crate::proofs::ReadBook::no_zone, crate::proofs::ReadBook::of_book))]
 fn roster_of(alloc: Global, records: &[BookRecord]) -> Result<Roster, LoadFault>
-    ensures { MatchResult result (λ r. (r ≡ empty r.zone) × IsOnly records.now (book_of r.zone) × (is_zone_text r.zone ≡ true)) (BlamesBook records.now) }
+    ensures { MatchResult result (λ r. (r ≡ empty r.zone) × IsOnly records.now (book_of r.zone)
+        × (is_zone_text r.zone ≡ true)) (BlamesBook records.now) }
 {
     let Some(book) = only(records) else {
         return Err(LoadFault::Damaged(TableName::Book));
@@ -97,7 +105,10 @@ pub(crate) fn read_book<S: Alter>(
     alloc: Global,
     conn: &mut Connection<S>,
 ) -> Result<Roster, LoadFault>
-    ensures read { Saw (λ r. IsReadTo book r (state S.Store conn.old).now × (r ≡ empty r.zone)) (λ fault. Says fault (state S.Store conn.old).now) (state S.Store conn.old) (state S.Store conn.new) result }
+    ensures read { ReadsAs (λ r. AgreesThrough book r (state S.Store conn.old).now
+        × (r ≡ empty r.zone))
+        (λ fault. Justifies fault (state S.Store conn.old).now) (state S.Store conn.old)
+        (state S.Store conn.new) result }
     ensures rest { IfOk result (λ r. r ≡ empty r.zone) }
 {
     if !has_table(conn, "book") {

@@ -1,4 +1,5 @@
-//! The table `crew`, as it is loaded.
+//! The table `crew`, as it is loaded. What is right is `IsCrewRight` (`specs/Loading.antt`).
+//! Files with such a damage: `tests/tables.py`. Wrong bodies: `must-fail-more/`.
 
 ghost use Rattle.std.specs.Prelude.{◌≡◌, length, map, IfOk, MatchResult};
 ghost use Rattle.std.specs.FinMap as fin;
@@ -6,9 +7,9 @@ ghost use Rattle.sqlite.specs.Held.{state};
 ghost use Rattle.sqlite.specs.State.{HasCleanDisk};
 ghost use Rattle.sqlite_rules.specs.Lists.{Has};
 ghost use Rattle.tables.specs.Records.{crew_row, IsCrewRow};
-ghost use Rattle.loading.specs.Loading.{IsMember, Says};
-ghost use Rattle.loading.specs.Reading.{seat_of, MembersRead, Saw, HasRows, IsUnreadable, Blames, IsReadTo, TellsOf, HasStranger};
-ghost use Rattle.rows.specs.Rows.{row_of_member, crew, book};
+ghost use Rattle.loading.specs.Loading.{IsMember, Justifies};
+ghost use Rattle.loading.specs.Reading.{seat_of, MembersRead, ReadsAs, HasRows, IsUnreadable, Blames, AgreesThrough, TellsOf, HasStranger};
+ghost use Rattle.state_rows.specs.Rows.{row_of_member, crew, book};
 ghost use Rattle.loading.specs.declared.fault.TableName.TheVariants as table_name;
 
 use crate::fault::{LoadFault, TableName};
@@ -20,20 +21,24 @@ use std::alloc::Global;
 use tables::TableFault;
 use tables::book_schema::is_unreferenced;
 use tables::crew::{CrewRecord, is_crew_there, load_crew};
-use values::{Copied, MemoryFault, Text};
+use values::{MemoryFault, Text, TryClone};
 
-/// The records of the table.
+/// Reads the records of the table.
 #[tactic(auto, using(crate::proofs::Telling::found, crate::proofs::Telling::not_there, crate::proofs::Telling::no_record, crate::proofs::Telling::failed))]
 fn crew_records<S: Alter>(
     alloc: Global,
     conn: &mut Connection<S>,
 ) -> Result<Vec<CrewRecord>, LoadFault>
-    ensures { Saw (λ found. HasRows crew (state S.Store conn.old).now (map crew_row found.items)) (Blames table_name.Crew (IsUnreadable crew IsCrewRow (state S.Store conn.old).now)) (state S.Store conn.old) (state S.Store conn.new) result }
+    ensures { ReadsAs (λ found. HasRows crew (state S.Store conn.old).now
+        (map crew_row found.items))
+        (Blames table_name.Crew (IsUnreadable crew IsCrewRow (state S.Store conn.old).now))
+        (state S.Store conn.old) (state S.Store conn.new) result }
 {
     if !is_crew_there(alloc, conn)? || !is_unreferenced(conn, "crew") {
         return Err(LoadFault::Damaged(TableName::Crew));
     }
     let loaded = load_crew(alloc, conn);
+    // The clause of this call says that an open connection shows a database.
     let _live = conn.schema();
     match loaded {
         Ok(records) => Ok(records),
@@ -42,7 +47,7 @@ fn crew_records<S: Alter>(
     }
 }
 
-/// The seat of a number in the tables.
+/// Returns the seat of a number in the tables.
 pub(crate) fn seat_of_number(number: u32) -> Option<Seat>
     ensures { result ≡ seat_of number }
 {
@@ -53,15 +58,16 @@ pub(crate) fn seat_of_number(number: u32) -> Option<Seat>
     }
 }
 
-/// The member that a record tells of, if it tells of one.
+/// Reads the member that a record tells of, if it tells of one.
 #[tactic(auto, using(crate::proofs::ReadCrew::no_seat, crate::proofs::ReadCrew::bad_id, crate::proofs::ReadCrew::bad_name, crate::proofs::ReadCrew::tells))]
 fn member_of(alloc: Global, row: &CrewRecord) -> Result<Option<Entry>, MemoryFault>
-    ensures { IfOk result (TellsOf (λ id member entry. entry ≡ Entry.Member id member) row_of_member IsMember (crew_row row.now)) }
+    ensures { IfOk result (TellsOf (λ id member entry. entry ≡ Entry.Member id member) row_of_member
+        IsMember (crew_row row.now)) }
 {
     let Some(seat) = seat_of_number(row.seat) else {
         return Ok(None);
     };
-    let id = CrewId::new(row.id.copy(alloc)?);
+    let id = CrewId::new(row.id.try_clone(alloc)?);
     let name = Text::new(String::from_str(alloc, row.name.as_str())?);
     if !id.has_shape() || !is_plain_text(&name) {
         return Ok(None);
@@ -73,7 +79,8 @@ fn member_of(alloc: Global, row: &CrewRecord) -> Result<Option<Entry>, MemoryFau
 #[tactic(auto, using(crate::proofs::ReadCrew::none_read, crate::proofs::ReadCrew::stranger, crate::proofs::ReadCrew::one_read))]
 fn add_members(alloc: Global, roster: Roster, records: &[CrewRecord]) -> Result<Roster, LoadFault>
     requires { roster.crew ≡ fin.empty }
-    ensures { MatchResult result (MembersRead records.now (length records.now) roster) (Blames table_name.Crew (HasStranger row_of_member IsMember (map crew_row records.now))) }
+    ensures { MatchResult result (MembersRead records.now (length records.now) roster)
+        (Blames table_name.Crew (HasStranger row_of_member IsMember (map crew_row records.now))) }
 {
     let mut roster = roster;
     for row in records {
@@ -93,8 +100,11 @@ pub(crate) fn read_crew<S: Alter>(
     roster: Roster,
 ) -> Result<Roster, LoadFault>
     requires none { roster.crew ≡ fin.empty }
-    requires above { HasCleanDisk (state S.Store conn.old) → IsReadTo book roster (state S.Store conn.old).now }
-    ensures read { Saw (λ r. IsReadTo crew r (state S.Store conn.old).now × (r ≡ record roster { crew = r.crew })) (λ fault. Says fault (state S.Store conn.old).now) (state S.Store conn.old) (state S.Store conn.new) result }
+    requires above { HasCleanDisk (state S.Store conn.old)
+        → AgreesThrough book roster (state S.Store conn.old).now }
+    ensures read { ReadsAs (λ r. AgreesThrough crew r (state S.Store conn.old).now
+        × (r ≡ record roster { crew = r.crew })) (λ fault. Justifies fault (state S.Store conn.old).now)
+        (state S.Store conn.old) (state S.Store conn.new) result }
     ensures rest { IfOk result (λ r. r ≡ record roster { crew = r.crew }) }
 {
     let records = crew_records(alloc, conn)?;

@@ -1,13 +1,14 @@
-//! The table `ground`, as it is loaded.
+//! The table `ground`, as it is loaded. What is right is `IsGroundRight` (`specs/Loading.antt`).
+//! Files with such a damage: `tests/tables.py`. Wrong bodies: `must-fail-more/`.
 
 ghost use Rattle.std.specs.Prelude.{◌≡◌, length, map, IfOk, MatchResult};
 ghost use Rattle.std.specs.FinMap as fin;
 ghost use Rattle.sqlite.specs.Held.{state};
 ghost use Rattle.sqlite.specs.State.{HasCleanDisk};
 ghost use Rattle.tables.specs.Records.{ground_row, IsGroundRow};
-ghost use Rattle.loading.specs.Loading.{IsGround, Says};
-ghost use Rattle.loading.specs.Reading.{GroundsRead, Saw, HasRows, IsUnreadable, Blames, IsReadTo, TellsOf, HasStranger};
-ghost use Rattle.rows.specs.Rows.{row_of_ground, ground_duty, seat};
+ghost use Rattle.loading.specs.Loading.{IsGround, Justifies};
+ghost use Rattle.loading.specs.Reading.{GroundsRead, ReadsAs, HasRows, IsUnreadable, Blames, AgreesThrough, TellsOf, HasStranger};
+ghost use Rattle.state_rows.specs.Rows.{row_of_ground, ground_duty, seat};
 ghost use Rattle.loading.specs.declared.fault.TableName.TheVariants as table_name;
 
 use crate::fault::{LoadFault, TableName};
@@ -19,20 +20,25 @@ use tables::TableFault;
 use tables::book_schema::is_unreferenced;
 use tables::ground::{GroundRecord, is_ground_there, load_grounds};
 use time117::Minute;
-use values::{Copied, MemoryFault, Text};
+use values::{MemoryFault, Text, TryClone};
 
-/// The records of the table.
+/// Reads the records of the table.
 #[tactic(auto, using(crate::proofs::Telling::found, crate::proofs::Telling::not_there, crate::proofs::Telling::no_record, crate::proofs::Telling::failed))]
 fn ground_records<S: Alter>(
     alloc: Global,
     conn: &mut Connection<S>,
 ) -> Result<Vec<GroundRecord>, LoadFault>
-    ensures { Saw (λ found. HasRows ground_duty (state S.Store conn.old).now (map ground_row found.items)) (Blames table_name.Ground (IsUnreadable ground_duty IsGroundRow (state S.Store conn.old).now)) (state S.Store conn.old) (state S.Store conn.new) result }
+    ensures { ReadsAs
+        (λ found. HasRows ground_duty (state S.Store conn.old).now (map ground_row found.items))
+        (Blames table_name.Ground
+        (IsUnreadable ground_duty IsGroundRow (state S.Store conn.old).now))
+        (state S.Store conn.old) (state S.Store conn.new) result }
 {
     if !is_ground_there(alloc, conn)? || !is_unreferenced(conn, "ground") {
         return Err(LoadFault::Damaged(TableName::Ground));
     }
     let loaded = load_grounds(alloc, conn);
+    // The clause of this call says that an open connection shows a database.
     let _live = conn.schema();
     match loaded {
         Ok(records) => Ok(records),
@@ -41,14 +47,15 @@ fn ground_records<S: Alter>(
     }
 }
 
-/// The ground duty that a record tells of, if it tells of one of a member.
+/// Reads the ground duty that a record tells of, if it tells of one of a member.
 #[tactic(auto, using(crate::proofs::ReadGrounds::no_begin, crate::proofs::ReadGrounds::no_end, crate::proofs::ReadGrounds::no_member, crate::proofs::ReadGrounds::no_ground, crate::proofs::ReadGrounds::tells))]
 fn ground_of(
     alloc: Global,
     roster: &Roster,
     row: &GroundRecord,
 ) -> Result<Option<Entry>, MemoryFault>
-    ensures { IfOk result (TellsOf (λ id g entry. entry ≡ Entry.Ground g) row_of_ground (IsGround roster.now.crew) (ground_row row.now)) }
+    ensures { IfOk result (TellsOf (λ id g entry. entry ≡ Entry.Ground g) row_of_ground
+        (IsGround roster.now.crew) (ground_row row.now)) }
 {
     let Some(begin) = Minute::from_number(row.begin_at) else {
         return Ok(None);
@@ -56,11 +63,11 @@ fn ground_of(
     let Some(end) = Minute::from_number(row.end_at) else {
         return Ok(None);
     };
-    let crew = CrewId::new(row.crew.copy(alloc)?);
+    let crew = CrewId::new(row.crew.try_clone(alloc)?);
     if !roster.crew.contains(&crew) {
         return Ok(None);
     }
-    let id = GroundId::new(row.id.copy(alloc)?);
+    let id = GroundId::new(row.id.try_clone(alloc)?);
     let task = Text::new(String::from_str(alloc, row.task.as_str())?);
     match Ground::new(id, crew, begin, end, task) {
         Ok(ground) => Ok(Some(Entry::Ground(ground))),
@@ -71,7 +78,9 @@ fn ground_of(
 /// Sets the ground duties that the records tell of.
 fn add_grounds(alloc: Global, roster: Roster, records: &[GroundRecord]) -> Result<Roster, LoadFault>
     requires { roster.grounds ≡ fin.empty }
-    ensures { MatchResult result (GroundsRead records.now (length records.now) roster) (Blames table_name.Ground (HasStranger row_of_ground (IsGround roster.crew) (map ground_row records.now))) }
+    ensures { MatchResult result (GroundsRead records.now (length records.now) roster)
+        (Blames table_name.Ground
+        (HasStranger row_of_ground (IsGround roster.crew) (map ground_row records.now))) }
 {
     let mut roster = roster;
     for row in records {
@@ -90,8 +99,12 @@ pub(crate) fn read_grounds<S: Alter>(
     roster: Roster,
 ) -> Result<Roster, LoadFault>
     requires none { roster.grounds ≡ fin.empty }
-    requires above { HasCleanDisk (state S.Store conn.old) → IsReadTo seat roster (state S.Store conn.old).now }
-    ensures read { Saw (λ r. IsReadTo ground_duty r (state S.Store conn.old).now × (r ≡ record roster { grounds = r.grounds })) (λ fault. Says fault (state S.Store conn.old).now) (state S.Store conn.old) (state S.Store conn.new) result }
+    requires above { HasCleanDisk (state S.Store conn.old)
+        → AgreesThrough seat roster (state S.Store conn.old).now }
+    ensures read { ReadsAs (λ r. AgreesThrough ground_duty r (state S.Store conn.old).now
+        × (r ≡ record roster { grounds = r.grounds }))
+        (λ fault. Justifies fault (state S.Store conn.old).now) (state S.Store conn.old)
+        (state S.Store conn.new) result }
     ensures rest { IfOk result (λ r. r ≡ record roster { grounds = r.grounds }) }
 {
     let records = ground_records(alloc, conn)?;

@@ -1,4 +1,5 @@
 //! The table `pairing`, as it is loaded, with what the tables `period` and `segment` tell of each pairing.
+//! Files with such a damage: `tests/tables.py`. Wrong bodies: `must-fail-more/`.
 
 ghost use Rattle.std.specs.Prelude.{◌≡◌, length, map, IfOk, MatchResult};
 ghost use Rattle.std.specs.FinMap as fin;
@@ -6,10 +7,10 @@ ghost use Rattle.sqlite.specs.Held.{state};
 ghost use Rattle.sqlite.specs.State.{HasCleanDisk};
 ghost use Rattle.tables.specs.Records.{pairing_row, IsPairingRow};
 ghost use Rattle.loading.specs.Keyed.{AreIds, HasIds, HasUntold, IdsRead, IsId, PairingsRead, row_of_id};
-ghost use Rattle.loading.specs.Loading.{Says};
+ghost use Rattle.loading.specs.Loading.{Justifies};
 ghost use Rattle.loading.specs.PlanRows.{AreUngapped, HasNoGaps};
-ghost use Rattle.loading.specs.Reading.{AreFree, Saw, HasRows, IsUnreadable, Blames, HasStranger, IsReadTo};
-ghost use Rattle.rows.specs.Rows.{crew, pairing, segment};
+ghost use Rattle.loading.specs.Reading.{AreFree, ReadsAs, HasRows, IsUnreadable, Blames, HasStranger, AgreesThrough};
+ghost use Rattle.state_rows.specs.Rows.{crew, pairing, segment};
 ghost use Rattle.loading.specs.declared.fault.TableName.TheVariants as table_name;
 
 use crate::fault::{LoadFault, TableName};
@@ -24,20 +25,24 @@ use std::alloc::Global;
 use tables::TableFault;
 use tables::book_schema::is_unreferenced;
 use tables::pairing::{PairingRecord, is_pairing_there, load_pairings};
-use values::{Copied, Table};
+use values::{OrdMap, TryClone};
 
-/// The records of the table.
+/// Reads the records of the table.
 #[tactic(auto, using(crate::proofs::Telling::found, crate::proofs::Telling::not_there, crate::proofs::Telling::no_record, crate::proofs::Telling::failed))]
 fn pairing_records<S: Alter>(
     alloc: Global,
     conn: &mut Connection<S>,
 ) -> Result<Vec<PairingRecord>, LoadFault>
-    ensures { Saw (λ found. HasRows pairing (state S.Store conn.old).now (map pairing_row found.items)) (Blames table_name.Pairing (IsUnreadable pairing IsPairingRow (state S.Store conn.old).now)) (state S.Store conn.old) (state S.Store conn.new) result }
+    ensures { ReadsAs
+        (λ found. HasRows pairing (state S.Store conn.old).now (map pairing_row found.items))
+        (Blames table_name.Pairing (IsUnreadable pairing IsPairingRow (state S.Store conn.old).now))
+        (state S.Store conn.old) (state S.Store conn.new) result }
 {
     if !is_pairing_there(alloc, conn)? || !is_unreferenced(conn, "pairing") {
         return Err(LoadFault::Damaged(TableName::Pairing));
     }
     let loaded = load_pairings(alloc, conn);
+    // The clause of this call says that an open connection shows a database.
     let _live = conn.schema();
     match loaded {
         Ok(records) => Ok(records),
@@ -46,13 +51,14 @@ fn pairing_records<S: Alter>(
     }
 }
 
-/// The ids of the records, each of which has to have its shape.
-fn ids_of(alloc: Global, records: &[PairingRecord]) -> Result<Table<PairingId, ()>, LoadFault>
-    ensures { MatchResult result (IdsRead records.now (length records.now)) (Blames table_name.Pairing (HasStranger row_of_id IsId (map pairing_row records.now))) }
+/// Collects the ids of the records, each of which has to have its shape.
+fn ids_of(alloc: Global, records: &[PairingRecord]) -> Result<OrdMap<PairingId, ()>, LoadFault>
+    ensures { MatchResult result (IdsRead records.now (length records.now))
+        (Blames table_name.Pairing (HasStranger row_of_id IsId (map pairing_row records.now))) }
 {
-    let mut ids = Table::new(alloc);
+    let mut ids = OrdMap::new(alloc);
     for row in records {
-        let id = PairingId::new(row.id.copy(alloc)?);
+        let id = PairingId::new(row.id.try_clone(alloc)?);
         if !id.has_shape() {
             return Err(LoadFault::Damaged(TableName::Pairing));
         }
@@ -65,8 +71,10 @@ fn ids_of(alloc: Global, records: &[PairingRecord]) -> Result<Table<PairingId, (
 fn read_ids<S: Alter>(
     alloc: Global,
     conn: &mut Connection<S>,
-) -> Result<Table<PairingId, ()>, LoadFault>
-    ensures { Saw (HasIds (state S.Store conn.old).now) (Blames table_name.Pairing (AreIds (state S.Store conn.old).now → ⊥)) (state S.Store conn.old) (state S.Store conn.new) result }
+) -> Result<OrdMap<PairingId, ()>, LoadFault>
+    ensures { ReadsAs (HasIds (state S.Store conn.old).now)
+        (Blames table_name.Pairing (AreIds (state S.Store conn.old).now → ⊥))
+        (state S.Store conn.old) (state S.Store conn.new) result }
 {
     let records = pairing_records(alloc, conn)?;
     ids_of(alloc, &records)
@@ -76,13 +84,14 @@ fn read_ids<S: Alter>(
 fn add_pairings(
     alloc: Global,
     roster: Roster,
-    ids: &Table<PairingId, ()>,
+    ids: &OrdMap<PairingId, ()>,
     rows: &PlanRows,
 ) -> Result<Roster, LoadFault>
     requires none { roster.pairings ≡ fin.empty }
     requires periods { AreUngapped rows.now.periods }
     requires segments { HasNoGaps rows.now.segments }
-    ensures { MatchResult result (PairingsRead ids.now rows.now.periods rows.now.segments roster) (Blames table_name.Segment (HasUntold ids.now rows.now.periods rows.now.segments)) }
+    ensures { MatchResult result (PairingsRead ids.now rows.now.periods rows.now.segments roster)
+        (Blames table_name.Segment (HasUntold ids.now rows.now.periods rows.now.segments)) }
 {
     let mut roster = roster;
     for (id, _) in ids.iter() {
@@ -99,8 +108,12 @@ pub(crate) fn read_pairings<S: Alter>(
     roster: Roster,
 ) -> Result<Roster, LoadFault>
     requires none { roster.pairings ≡ fin.empty }
-    requires above { HasCleanDisk (state S.Store conn.old) → IsReadTo crew roster (state S.Store conn.old).now }
-    ensures read { Saw (λ r. IsReadTo segment r (state S.Store conn.old).now × (r ≡ record roster { pairings = r.pairings }) × AreFree r) (λ fault. Says fault (state S.Store conn.old).now) (state S.Store conn.old) (state S.Store conn.new) result }
+    requires above { HasCleanDisk (state S.Store conn.old)
+        → AgreesThrough crew roster (state S.Store conn.old).now }
+    ensures read { ReadsAs (λ r. AgreesThrough segment r (state S.Store conn.old).now
+        × (r ≡ record roster { pairings = r.pairings }) × AreFree r)
+        (λ fault. Justifies fault (state S.Store conn.old).now) (state S.Store conn.old)
+        (state S.Store conn.new) result }
     ensures rest { IfOk result (λ r. r ≡ record roster { pairings = r.pairings }) }
     ensures free { IfOk result AreFree }
 {

@@ -1,4 +1,5 @@
-//! The table `seat`, as it is loaded.
+//! The table `seat`, as it is loaded. What is right is `IsSeatRight` (`specs/Loading.antt`).
+//! Files with such a damage: `tests/tables.py`. Wrong bodies: `must-fail/`.
 
 ghost use Rattle.std.specs.Prelude.{◌≡◌, ◌||◌, not, length, map, true, IfOk, IsTrue, ◌↔◌, MatchResult, Some};
 ghost use Rattle.std.specs.FinMap as fin;
@@ -7,22 +8,22 @@ ghost use Rattle.sqlite.specs.State.{HasCleanDisk};
 ghost use Rattle.command.specs.declared.member.Member.{Member as MemberOf};
 ghost use Rattle.roster.specs.Pairings.{is_flown, is_fully_crewed};
 ghost use Rattle.tables.specs.Records.{seat_row, IsSeatRow};
-ghost use Rattle.loading.specs.Loading.{Says};
-ghost use Rattle.loading.specs.Reading.{AreCrewed, AreFree, AreUnseated, IsHeld, SeatsRead, row_of_held, Saw, HasRows, IsUnreadable, Blames, IsReadTo, TellsOf, HasStranger};
-ghost use Rattle.rows.specs.Rows.{seat, segment};
+ghost use Rattle.loading.specs.Loading.{Justifies};
+ghost use Rattle.loading.specs.Reading.{AreCrewed, AreFree, AreUnseated, IsHeld, SeatsRead, row_of_held, ReadsAs, HasRows, IsUnreadable, Blames, AgreesThrough, TellsOf, HasStranger};
+ghost use Rattle.state_rows.specs.Rows.{seat, segment};
 ghost use Rattle.loading.specs.declared.fault.TableName.TheVariants as table_name;
 
 use crate::fault::{LoadFault, TableName};
 use crate::read_crew::seat_of_number;
 use command::Seat;
 use duty::{CrewId, PairingId};
-use roster::{Roster, Rostered};
+use roster::{PairingEntry, Roster};
 use sqlite::{Alter, Connection};
 use std::alloc::Global;
 use tables::TableFault;
 use tables::book_schema::is_unreferenced;
 use tables::seat::{SeatRecord, is_seat_there, load_seats};
-use values::{Copied, Edit, MemoryFault};
+use values::{Edit, MemoryFault, TryClone};
 
 /// A member takes a seat.
 #[derive(Drop)]
@@ -31,13 +32,13 @@ struct Taken {
     crew: CrewId,
 }
 
-impl Edit<Rostered> for Taken {
+impl Edit<PairingEntry> for Taken {
     ghost use Rattle.std.specs.Prelude.{Some};
     ghost use Rattle.roster.specs.Pairings.{with_holder};
 
     ghost edited = { λ taken rostered. with_holder taken.seat (Some taken.crew) rostered };
 
-    fn edit(self, rostered: &mut Rostered) {
+    fn edit(self, rostered: &mut PairingEntry) {
         match self.seat {
             Seat::Captain => rostered.captain = Some(self.crew),
             Seat::FirstOfficer => rostered.first_officer = Some(self.crew),
@@ -52,18 +53,22 @@ struct HeldSeat {
     taken: Taken,
 }
 
-/// The records of the table.
+/// Reads the records of the table.
 #[tactic(auto, using(crate::proofs::Telling::found, crate::proofs::Telling::not_there, crate::proofs::Telling::no_record, crate::proofs::Telling::failed))]
 fn seat_records<S: Alter>(
     alloc: Global,
     conn: &mut Connection<S>,
 ) -> Result<Vec<SeatRecord>, LoadFault>
-    ensures { Saw (λ found. HasRows seat (state S.Store conn.old).now (map seat_row found.items)) (Blames table_name.Seat (IsUnreadable seat IsSeatRow (state S.Store conn.old).now)) (state S.Store conn.old) (state S.Store conn.new) result }
+    ensures { ReadsAs (λ found. HasRows seat (state S.Store conn.old).now
+        (map seat_row found.items))
+        (Blames table_name.Seat (IsUnreadable seat IsSeatRow (state S.Store conn.old).now))
+        (state S.Store conn.old) (state S.Store conn.new) result }
 {
     if !is_seat_there(alloc, conn)? || !is_unreferenced(conn, "seat") {
         return Err(LoadFault::Damaged(TableName::Seat));
     }
     let loaded = load_seats(alloc, conn);
+    // The clause of this call says that an open connection shows a database.
     let _live = conn.schema();
     match loaded {
         Ok(records) => Ok(records),
@@ -72,9 +77,10 @@ fn seat_records<S: Alter>(
     }
 }
 
-/// Whether a member of this id takes such a seat.
+/// Returns whether a member of this id takes such a seat.
 fn takes(roster: &Roster, crew: &CrewId, seat: Seat) -> bool
-    ensures { IsTrue result ↔ ((m : MemberOf) × (fin.get roster.now.crew crew.now ≡ Some m) × (m.seat ≡ seat)) }
+    ensures { IsTrue result
+        ↔ ((m : MemberOf) × (fin.get roster.now.crew crew.now ≡ Some m) × (m.seat ≡ seat)) }
 {
     match roster.crew.get(crew) {
         Some(member) => member.seat == seat,
@@ -82,23 +88,25 @@ fn takes(roster: &Roster, crew: &CrewId, seat: Seat) -> bool
     }
 }
 
-/// The seat that a record tells of, if it tells of one of a pairing, held by a member who takes such seats.
+/// Reads the seat that a record tells of, if it tells of one of a pairing, held by a member who takes such seats.
 #[tactic(auto, using(crate::proofs::ReadSeats::no_seat, crate::proofs::ReadSeats::no_pairing, crate::proofs::ReadSeats::no_holder))]
 fn held_seat_of(
     alloc: Global,
     roster: &Roster,
     row: &SeatRecord,
 ) -> Result<Option<HeldSeat>, MemoryFault>
-    ensures { IfOk result (TellsOf (λ at who it. (it.pairing ≡ at.pairing) × (it.taken.seat ≡ at.seat) × (it.taken.crew ≡ who)) row_of_held (IsHeld roster.now.crew roster.now.pairings) (seat_row row.now)) }
+    ensures { IfOk result (TellsOf
+        (λ at who it. (it.pairing ≡ at.pairing) × (it.taken.seat ≡ at.seat) × (it.taken.crew ≡ who))
+        row_of_held (IsHeld roster.now.crew roster.now.pairings) (seat_row row.now)) }
 {
     let Some(seat) = seat_of_number(row.seat) else {
         return Ok(None);
     };
-    let pairing = PairingId::new(row.pairing.copy(alloc)?);
+    let pairing = PairingId::new(row.pairing.try_clone(alloc)?);
     if !roster.pairings.contains(&pairing) {
         return Ok(None);
     }
-    let crew = CrewId::new(row.crew.copy(alloc)?);
+    let crew = CrewId::new(row.crew.try_clone(alloc)?);
     if !takes(roster, &crew, seat) {
         return Ok(None);
     }
@@ -111,7 +119,9 @@ fn held_seat_of(
 /// Puts the members into the seats that the records tell of.
 fn take_seats(alloc: Global, roster: Roster, records: &[SeatRecord]) -> Result<Roster, LoadFault>
     requires { AreFree roster }
-    ensures { MatchResult result (SeatsRead records.now (length records.now) roster) (Blames table_name.Seat (HasStranger row_of_held (IsHeld roster.crew roster.pairings) (map seat_row records.now))) }
+    ensures { MatchResult result (SeatsRead records.now (length records.now) roster)
+        (Blames table_name.Seat
+        (HasStranger row_of_held (IsHeld roster.crew roster.pairings) (map seat_row records.now))) }
 {
     let mut roster = roster;
     for row in records {
@@ -123,14 +133,14 @@ fn take_seats(alloc: Global, roster: Roster, records: &[SeatRecord]) -> Result<R
     Ok(roster)
 }
 
-/// Whether both seats of a pairing are held, if it is flown.
-fn is_seated(rostered: &Rostered) -> bool
+/// Returns whether both seats of a pairing are held, if it is flown.
+fn is_seated(rostered: &PairingEntry) -> bool
     ensures { result ≡ not (is_flown rostered.now) || is_fully_crewed rostered.now }
 {
     !rostered.is_flown() || rostered.captain.is_some() && rostered.first_officer.is_some()
 }
 
-/// Whether both seats of each flown pairing are held.
+/// Returns whether both seats of each flown pairing are held.
 #[tactic(auto, using(crate::proofs::ReadSeats::all_crewed))]
 fn are_crewed(roster: &Roster) -> bool
     ensures { IsTrue result ↔ AreCrewed roster.now }
@@ -147,7 +157,8 @@ fn are_crewed(roster: &Roster) -> bool
 #[tactic(auto, using(crate::proofs::ReadSeats::read_stranger, crate::proofs::ReadSeats::not_all_crewed))]
 fn seat_all(alloc: Global, roster: Roster, records: &[SeatRecord]) -> Result<Roster, LoadFault>
     requires { AreFree roster }
-    ensures { MatchResult result (λ r. SeatsRead records.now (length records.now) roster r × AreCrewed r) (Blames table_name.Seat (AreUnseated records.now roster)) }
+    ensures { MatchResult result (λ r. SeatsRead records.now (length records.now) roster r
+        × AreCrewed r) (Blames table_name.Seat (AreUnseated records.now roster)) }
 {
     let roster = take_seats(alloc, roster, records)?;
     if !are_crewed(&roster) {
@@ -163,8 +174,12 @@ pub(crate) fn read_seats<S: Alter>(
     roster: Roster,
 ) -> Result<Roster, LoadFault>
     requires free { AreFree roster }
-    requires above { HasCleanDisk (state S.Store conn.old) → IsReadTo segment roster (state S.Store conn.old).now }
-    ensures read { Saw (λ r. IsReadTo seat r (state S.Store conn.old).now × (r ≡ record roster { pairings = r.pairings })) (λ fault. Says fault (state S.Store conn.old).now) (state S.Store conn.old) (state S.Store conn.new) result }
+    requires above { HasCleanDisk (state S.Store conn.old)
+        → AgreesThrough segment roster (state S.Store conn.old).now }
+    ensures read { ReadsAs (λ r. AgreesThrough seat r (state S.Store conn.old).now
+        × (r ≡ record roster { pairings = r.pairings }))
+        (λ fault. Justifies fault (state S.Store conn.old).now) (state S.Store conn.old)
+        (state S.Store conn.new) result }
     ensures rest { IfOk result (λ r. r ≡ record roster { pairings = r.pairings }) }
 {
     let records = seat_records(alloc, conn)?;

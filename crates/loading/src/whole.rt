@@ -1,12 +1,14 @@
-//! A book, read table by table in the order of the formats.
+//! A book, read table by table in the order of the formats: the first table that isn't right is the one that a refusal
+//! names.
+//! Files with one damage and with two: `tests/tables.py`. Wrong bodies: `must-fail/`.
 
 ghost use Rattle.std.specs.Prelude.{◌≡◌, IfOk};
 ghost use Rattle.std.specs.FinMap as fin;
 ghost use Rattle.sqlite.specs.Held.{state};
 ghost use Rattle.sqlite.specs.State.{HasCleanDisk};
-ghost use Rattle.loading.specs.Loading.{Says};
-ghost use Rattle.loading.specs.Reading.{AreFree, HasNoDuties, IsReadTo, Saw};
-ghost use Rattle.rows.specs.Rows.{ground_duty, request, segment};
+ghost use Rattle.loading.specs.Loading.{Justifies};
+ghost use Rattle.loading.specs.Reading.{AreFree, HasNoDuties, AgreesThrough, ReadsAs};
+ghost use Rattle.state_rows.specs.Rows.{ground_duty, request, segment};
 
 use crate::fault::LoadFault;
 use crate::read_book::read_book;
@@ -22,7 +24,9 @@ use std::alloc::Global;
 
 /// Reads the book's row, the members, and the pairings with their periods and segments.
 fn read_plans<S: Alter>(alloc: Global, conn: &mut Connection<S>) -> Result<Roster, LoadFault>
-    ensures read { Saw (λ r. IsReadTo segment r (state S.Store conn.old).now) (λ fault. Says fault (state S.Store conn.old).now) (state S.Store conn.old) (state S.Store conn.new) result }
+    ensures read { ReadsAs (λ r. AgreesThrough segment r (state S.Store conn.old).now)
+        (λ fault. Justifies fault (state S.Store conn.old).now) (state S.Store conn.old)
+        (state S.Store conn.new) result }
     ensures free { IfOk result AreFree }
     ensures rest { IfOk result HasNoDuties }
 {
@@ -39,8 +43,11 @@ fn read_duties<S: Alter>(
 ) -> Result<Roster, LoadFault>
     requires free { AreFree roster }
     requires none { HasNoDuties roster }
-    requires above { HasCleanDisk (state S.Store conn.old) → IsReadTo segment roster (state S.Store conn.old).now }
-    ensures read { Saw (λ r. IsReadTo ground_duty r (state S.Store conn.old).now) (λ fault. Says fault (state S.Store conn.old).now) (state S.Store conn.old) (state S.Store conn.new) result }
+    requires above { HasCleanDisk (state S.Store conn.old)
+        → AgreesThrough segment roster (state S.Store conn.old).now }
+    ensures read { ReadsAs (λ r. AgreesThrough ground_duty r (state S.Store conn.old).now)
+        (λ fault. Justifies fault (state S.Store conn.old).now) (state S.Store conn.old)
+        (state S.Store conn.new) result }
     ensures rest { IfOk result (λ r. (r.exceedances ≡ fin.empty) × (r.requests ≡ fin.empty)) }
 {
     let roster = read_seats(alloc, conn, roster)?;
@@ -54,8 +61,11 @@ fn read_records<S: Alter>(
     roster: Roster,
 ) -> Result<Roster, LoadFault>
     requires none { (roster.exceedances ≡ fin.empty) × (roster.requests ≡ fin.empty) }
-    requires above { HasCleanDisk (state S.Store conn.old) → IsReadTo ground_duty roster (state S.Store conn.old).now }
-    ensures read { Saw (λ r. IsReadTo request r (state S.Store conn.old).now) (λ fault. Says fault (state S.Store conn.old).now) (state S.Store conn.old) (state S.Store conn.new) result }
+    requires above { HasCleanDisk (state S.Store conn.old)
+        → AgreesThrough ground_duty roster (state S.Store conn.old).now }
+    ensures read { ReadsAs (λ r. AgreesThrough request r (state S.Store conn.old).now)
+        (λ fault. Justifies fault (state S.Store conn.old).now) (state S.Store conn.old)
+        (state S.Store conn.new) result }
 {
     let roster = read_exceedances(alloc, conn, roster)?;
     read_requests(alloc, conn, roster)
@@ -64,7 +74,9 @@ fn read_records<S: Alter>(
 /// Reads a whole book, table by table, and changes nothing. Refused is a database without a table `book` (40), tables of
 /// another version (42), the first table that is at fault (41), a store's fault (90), and want of memory (91).
 pub fn read_all<S: Alter>(alloc: Global, conn: &mut Connection<S>) -> Result<Roster, LoadFault>
-    ensures read { Saw (λ r. IsReadTo request r (state S.Store conn.old).now) (λ fault. Says fault (state S.Store conn.old).now) (state S.Store conn.old) (state S.Store conn.new) result }
+    ensures read { ReadsAs (λ r. AgreesThrough request r (state S.Store conn.old).now)
+        (λ fault. Justifies fault (state S.Store conn.old).now) (state S.Store conn.old)
+        (state S.Store conn.new) result }
 {
     let roster = read_plans(alloc, conn)?;
     let roster = read_duties(alloc, conn, roster)?;

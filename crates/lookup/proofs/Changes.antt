@@ -5,7 +5,7 @@ use Rattle.lookup.specs.Reads.{ChangesNothing, Stays}
 
 pub nothing_changes : (s : conn.State) → ChangesNothing s s
 nothing_changes s = record {
-  left = record { honest = λ clean. clean; crash = λ clean trees may. may };
+  left = record { disk = λ clean. clean; crash = λ clean trees may. may };
   shown = λ clean opened. (opened, refl);
   counts = omega (arith);
   still_open = λ clean opened. inl opened;
@@ -15,15 +15,15 @@ nothing_changes s = record {
 pub changes_then : (a b c : conn.State) → ChangesNothing a b → ChangesNothing b c → ChangesNothing a c
 changes_then a b c p q = record {
   left = record {
-    honest = λ clean. p.left.honest (q.left.honest clean);
-    crash = λ clean trees may. p.left.crash (q.left.honest clean) trees (q.left.crash clean trees may);
+    disk = λ clean. p.left.disk (q.left.disk clean);
+    crash = λ clean trees may. p.left.crash (q.left.disk clean) trees (q.left.crash clean trees may);
   };
   shown = λ clean opened.
       let late = q.shown clean opened in
-      let early = p.shown (q.left.honest clean) late.0 in
+      let early = p.shown (q.left.disk clean) late.0 in
       (early.0, late.1 ∙ early.1);
   counts = omega (arith, p.counts, q.counts);
-  still_open = λ clean opened. elim (p.still_open (q.left.honest clean) opened) [
+  still_open = λ clean opened. elim (p.still_open (q.left.disk clean) opened) [
     | inl mid ↦ elim (q.still_open clean mid) [
       | inl last ↦ inl last
       | inr more ↦ inr (omega (arith, more, p.counts))

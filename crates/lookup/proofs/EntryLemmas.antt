@@ -16,44 +16,44 @@ use Rattle.duty.specs.Words.{checked}
 use Rattle.duty.specs.declared.fault.DutyFault.{DutyFault}
 use Rattle.command.specs.Keys.{KeyParts, key_name}
 use Rattle.command.specs.declared.exceedance.Reply.{Reply}
-use Rattle.kept.specs.KeptText.{kept_text}
-use Rattle.kept.specs.ReplyText.{reply_text, read_reply}
-use Rattle.kept.proofs.OrdersBack.{kept_differ}
-use Rattle.kept.proofs.ReplyBack.{reply_back}
+use Rattle.stored_json.specs.KeptText.{kept_text}
+use Rattle.stored_json.specs.ReplyText.{reply_text, read_reply}
+use Rattle.stored_json.proofs.InstructionsBack.{kept_differ}
+use Rattle.stored_json.proofs.ReplyBack.{reply_back}
 use Rattle.loading.specs.SameRows.{HasInstants}
 use Rattle.roster.proofs.Members.{first_or_later, is_first, is_later, none_in}
 use Rattle.roster.specs.Sound.{Sound}
 use Rattle.roster.specs.State as roster
-use Rattle.roster.specs.declared.state.Request.{Request}
+use Rattle.roster.specs.declared.state.LoggedCommand.{LoggedCommand}
 use Rattle.tables.specs.Records.{book_row, ground_row, request_row}
 use Rattle.tables.specs.Rows.{Finds, begins_with, equals_at}
 use Rattle.tables.specs.declared.book.BookRecord.{BookRecord}
 use Rattle.tables.specs.declared.ground.GroundRecord.{GroundRecord}
 use Rattle.tables.specs.declared.request.RequestRecord.{RequestRecord}
-use Rattle.rows.specs.Rows.{table, book, ground_duty, request, row_of_ground, row_of_request, At, RequestAt}
-use Rattle.rows.proofs.Tests.{found, passes}
-use Rattle.rows.proofs.Values.{number_is, text_is}
+use Rattle.state_rows.specs.Rows.{table, book, ground_duty, request, row_of_ground, row_of_request, At, RequestAt}
+use Rattle.state_rows.proofs.Tests.{found, passes}
+use Rattle.state_rows.proofs.Values.{number_is, text_is}
 use Rattle.writing.specs.Kept.{IsBookOf}
-use Rattle.writing.specs.Outcomes.{AddsNothing}
+use Rattle.writing.specs.Outcomes.{CrashAddsNothing}
 use Rattle.part.specs.Sources.{AreJust, IsGroundOf}
 use Rattle.lookup.specs.Reads.{Shows}
 use Rattle.lookup.specs.Entries.{HasFirstRequest, HasFirstGround, HasFirstZone, ground_told, grounds_in}
 use Rattle.lookup.proofs.HeldLemmas.{text_same}
 use Rattle.lookup.proofs.ReadLemmas.{in_found, of_found}
 
-pub shown_still : (old new : State) (s : roster.State) → IsUnchanged old new → AddsNothing old new → Shows old s → Shows new s
+pub shown_still : (old new : State) (s : roster.State) → IsUnchanged old new → CrashAddsNothing old new → Shows old s → Shows new s
 shown_still old new s same left shows = record {
   sound = shows.sound;
   instants = shows.instants;
-  book = λ now opened. subst (λ (db : Database). IsBookOf s db) (sym same.0.now_is) (shows.book (left.honest now) same.0.was_open);
+  book = λ now opened. subst (λ (db : Database). IsBookOf s db) (sym same.0.now_is) (shows.book (left.disk now) same.0.was_open);
 }
 
 -- what the records tell, as the state's, once they are those of the tables that show it
 pub is_told : {A E : Type 0} (P : A → Type 0) (Is : roster.State → A → Type 0) (old new : State) (s : roster.State) (result : Result A E) → HasCleanDisk new →
-    IsUnchanged old new → AddsNothing old new → Shows old s → (IsBookOf s old.now → (a : A) → P a → Is s a) → IfOk result P → IfOk result (λ a. Shows new s × Is s a)
+    IsUnchanged old new → CrashAddsNothing old new → Shows old s → (IsBookOf s old.now → (a : A) → P a → Is s a) → IfOk result P → IfOk result (λ a. Shows new s × Is s a)
 is_told P Is old new s (Err fault) clean same left shows means told = tt
 is_told P Is old new s (Ok a) clean same left shows means told =
-    (shown_still old new s same left shows, means (shows.book (left.honest clean) same.0.was_open) a told)
+    (shown_still old new s same left shows, means (shows.book (left.disk clean) same.0.was_open) a told)
 
 replies_same : (a b : Reply) → reply_text a ≡ reply_text b → a ≡ b
 replies_same a b e = let same : ◌≡◌ {A = Result Reply _} (Ok a) (Ok b) = sym (reply_back a) ∙ ap read_reply e ∙ reply_back b in cc
@@ -64,14 +64,14 @@ module _ (s : roster.State) (sound : Sound s) (instants : HasInstants s) (db : D
   abbrev by_key : Row → Bool
   by_key = begins_with (Int (pos key.number) ∷ Int (pos key.part) ∷ [])
 
-  none_there : (o : Option Request) → fin.get s.requests (key_name key) ≡ o → Finds (table request) by_key db [] → o ≡ None
+  none_there : (o : Option LoggedCommand) → fin.get s.requests (key_name key) ≡ o → Finds (table request) by_key db [] → o ≡ None
   none_there None here finds = refl
   none_there (Some r) here finds =
       let row = row_of_request key r in
       let at : RequestAt s.requests = record { key = key; kept = r; there = here } in
       absurd (in_found request by_key db [] finds row ((is_book.rows request row).1 (at, refl)) (passes (Int (pos key.number) ∷ Int (pos key.part) ∷ []) row (refl, (refl, tt))))
 
-  pub request_is : (records : List RequestRecord) → Finds (table request) by_key db (map request_row records) → (answer : Option Request) → HasFirstRequest records answer →
+  pub request_is : (records : List RequestRecord) → Finds (table request) by_key db (map request_row records) → (answer : Option LoggedCommand) → HasFirstRequest records answer →
       answer ≡ fin.get s.requests (key_name key)
   request_is [] finds answer first = first ∙ sym (none_there (fin.get s.requests (key_name key)) refl finds)
   request_is (row ∷ rows) finds answer first =

@@ -17,14 +17,14 @@ use Rattle.command.specs.declared.member.Seat.TheVariants.{Captain, FirstOfficer
 use Rattle.roster.proofs.Members.{first_or_later, is_first, is_later, none_in}
 use Rattle.roster.specs.Pairings.{holder, holds, is_held_by}
 use Rattle.roster.specs.State as roster
-use Rattle.roster.specs.declared.state.Rostered.{Rostered}
+use Rattle.roster.specs.declared.state.PairingEntry.{PairingEntry}
 use Rattle.tables.specs.Records.{seat_row}
 use Rattle.tables.specs.Rows.{Finds, equals_at}
 use Rattle.tables.specs.declared.seat.SeatRecord.{SeatRecord}
-use Rattle.rows.specs.Rows.{table, seat, row_of_seat, At, HeldSeat}
-use Rattle.rows.proofs.Values.{text_is}
+use Rattle.state_rows.specs.Rows.{table, seat, row_of_seat, At, HeldSeat}
+use Rattle.state_rows.proofs.Values.{text_is}
 use Rattle.writing.specs.Kept.{IsBookOf}
-use Rattle.writing.specs.Outcomes.{AddsNothing}
+use Rattle.writing.specs.Outcomes.{CrashAddsNothing}
 use Rattle.part.specs.Sources.{AreJust, IsHeldBy}
 use Rattle.lookup.specs.Reads.{Shows, ids_in}
 use Rattle.lookup.proofs.ReadLemmas.{in_found, of_found}
@@ -57,11 +57,11 @@ of_held who (Some other) is = ap Some ((bytes_eq-Decides other who).0 is)
 is_held : (who : List ℕ) (o : Option (List ℕ)) → o ≡ Some who → is_held_by who o ≡ true
 is_held who o is = ap (is_held_by who) is ∙ (bytes_eq-Decides who who).1 refl
 
-seat_held : (who : List ℕ) (r : Rostered) (x : Seat) → holder x r ≡ Some who → holds who r ≡ true
+seat_held : (who : List ℕ) (r : PairingEntry) (x : Seat) → holder x r ≡ Some who → holds who r ≡ true
 seat_held who r Captain held = ap (λ b. b || is_held_by who r.first_officer) (is_held who r.captain held)
 seat_held who r FirstOfficer held = elim (is_held_by who r.captain) as (λ b. (b || is_held_by who r.first_officer) ≡ true) [ true ↦ refl | false ↦ is_held who r.first_officer held ]
 
-some_seat : (who : List ℕ) (r : Rostered) → holds who r ≡ true → (x : Seat) × (holder x r ≡ Some who)
+some_seat : (who : List ℕ) (r : PairingEntry) → holds who r ≡ true → (x : Seat) × (holder x r ≡ Some who)
 some_seat who r is = elim (cases_Bool (is_held_by who r.captain)) [
   | inl captain ↦ (Captain, of_held who r.captain captain)
   | inr other ↦ (FirstOfficer, of_held who r.first_officer (ap (λ b. b || is_held_by who r.first_officer) (sym other) ∙ is))
@@ -88,13 +88,13 @@ module _ (s : roster.State) (db : Database) (book : IsBookOf s db) (who : List �
   )
 
 pub held_told : (old new : State) (s : roster.State) (who : List ℕ) (records : List SeatRecord) (ids : List (List ℕ)) → HasCleanDisk new →
-    IsUnchanged old new → Finds (table seat) (equals_at 2 (Text who)) old.now (map seat_row records) → AddsNothing old new → Shows old s → ids ≡ ids_in records →
+    IsUnchanged old new → Finds (table seat) (equals_at 2 (Text who)) old.now (map seat_row records) → CrashAddsNothing old new → Shows old s → ids ≡ ids_in records →
     Shows new s × AreJust (IsHeldBy s who) ids
 held_told old new s who records ids clean same finds left shows is = (
   record {
     sound = shows.sound;
     instants = shows.instants;
-    book = λ now opened. subst (λ (db : Database). IsBookOf s db) (sym same.0.now_is) (shows.book (left.honest now) same.0.was_open);
+    book = λ now opened. subst (λ (db : Database). IsBookOf s db) (sym same.0.now_is) (shows.book (left.disk now) same.0.was_open);
   },
-  subst (AreJust (IsHeldBy s who)) (sym is) (held_are s old.now (shows.book (left.honest clean) same.0.was_open) who records finds),
+  subst (AreJust (IsHeldBy s who)) (sym is) (held_are s old.now (shows.book (left.disk clean) same.0.was_open) who records finds),
 )

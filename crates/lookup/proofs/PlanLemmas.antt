@@ -22,7 +22,7 @@ use Rattle.command.specs.declared.member.Seat.TheVariants.{Captain, FirstOfficer
 use Rattle.roster.specs.Pairings.{holder}
 use Rattle.roster.specs.Sound.{Sound}
 use Rattle.roster.specs.State as roster
-use Rattle.roster.specs.declared.state.Rostered.{Rostered}
+use Rattle.roster.specs.declared.state.PairingEntry.{PairingEntry}
 use Rattle.tables.proofs.KeyLemmas.{period_once, segment_once}
 use Rattle.tables.specs.Records.{period_row, seat_row, segment_row}
 use Rattle.tables.specs.Rows.{Finds, begins_with, rows_of}
@@ -30,14 +30,14 @@ use Rattle.tables.specs.Schema.{period_table, segment_table}
 use Rattle.tables.specs.declared.period.PeriodRecord.{PeriodRecord}
 use Rattle.tables.specs.declared.seat.SeatRecord.{SeatRecord}
 use Rattle.tables.specs.declared.segment.SegmentRecord.{SegmentRecord}
-use Rattle.rows.specs.Rows.{TableName, table, period, seat, segment, row_of_period, row_of_seat, seat_number, At, PeriodOf, HeldSeat}
-use Rattle.rows.specs.declared.fault.StoreFault.{StoreFault}
-use Rattle.rows.proofs.Lists.{one_value}
-use Rattle.rows.proofs.Tests.{found, passes}
-use Rattle.rows.proofs.Values.{text_is, number_is, seats_same}
+use Rattle.state_rows.specs.Rows.{TableName, table, period, seat, segment, row_of_period, row_of_seat, seat_number, At, PeriodOf, HeldSeat}
+use Rattle.state_rows.specs.declared.fault.StoreFault.{StoreFault}
+use Rattle.state_rows.proofs.Lists.{one_value}
+use Rattle.state_rows.proofs.Tests.{found, passes}
+use Rattle.state_rows.proofs.Values.{text_is, number_is, seats_same}
 use Rattle.writing.specs.Kept.{IsBookOf}
 use Rattle.writing.proofs.Tables.{is_there}
-use Rattle.writing.specs.Outcomes.{AddsNothing}
+use Rattle.writing.specs.Outcomes.{CrashAddsNothing}
 use Rattle.loading.proofs.Mapping.{all_taken}
 use Rattle.loading.proofs.ReadPeriods.{names_same as period_keys_same}
 use Rattle.loading.proofs.ReadSegments.{names_same as segment_keys_same}
@@ -151,7 +151,7 @@ module _ (s : roster.State) (sound : Sound s) (db : Database) (book : IsBookOf s
   abbrev by_id : Row → Bool
   by_id = begins_with (Text id ∷ [])
 
-  none_there : (o : Option Rostered) → fin.get s.pairings id ≡ o → Finds (table period) by_id db [] → o ≡ None
+  none_there : (o : Option PairingEntry) → fin.get s.pairings id ≡ o → Finds (table period) by_id db [] → o ≡ None
   none_there None here finds = refl
   none_there (Some r) here finds =
       let is = sound.pairings id r here in
@@ -163,7 +163,7 @@ module _ (s : roster.State) (sound : Sound s) (db : Database) (book : IsBookOf s
       absurd (in_found period by_id db [] finds row ((book.rows period row).1 (at, p, refl)) (passes (Text id ∷ []) row (refl, tt)))
 
   -- a row of a seat with this id
-  module _ (r : Rostered) (here : fin.get s.pairings id ≡ Some r) (records : List SeatRecord) (finds : Finds (table seat) by_id db (map seat_row records)) where
+  module _ (r : PairingEntry) (here : fin.get s.pairings id ≡ Some r) (records : List SeatRecord) (finds : Finds (table seat) by_id db (map seat_row records)) where
     held_by : (x : Seat) (row : SeatRecord) → Has (map seat_row records) (seat_row row) → row.seat ≡ seat_number x → holder x r ≡ Some row.crew
     held_by x row h number =
         let there = of_found seat by_id db (map seat_row records) finds (seat_row row) h in
@@ -209,7 +209,7 @@ module _ (s : roster.State) (sound : Sound s) (db : Database) (book : IsBookOf s
         segment_once db book.database (is_there db.schema book.tables segment) (book.stored segment) key.pairing (pos key.period) (pos key.number) (row_of_keyed_segment key v) (row_of_keyed_segment key w)
         (in_segments (row_of_keyed_segment key v) first).0 (in_segments (row_of_keyed_segment key w) second).0 (itself v) (itself w)
 
-    plan_is : (r free : Rostered) → fin.get s.pairings id ≡ Some r → IsToldBy id periods segments free → SamePlan r free
+    plan_is : (r free : PairingEntry) → fin.get s.pairings id ≡ Some r → IsToldBy id periods segments free → SamePlan r free
     plan_is r free here told =
         let of_p = periods_just told.ids periods once_period told.by_number told.periods_read in
         let of_s = segments_just told.by_number segments once_segment told.by_numbers told.segments_read in
@@ -221,7 +221,7 @@ module _ (s : roster.State) (sound : Sound s) (db : Database) (book : IsBookOf s
         (λ row. (λ it. in_segments row ((of_s row).0 it), λ h. (of_s row).1 (in_found segment by_id db (map segment_row segments) also row h.0 h.1)))
         (of_periods told.by_number segments once_segment told.by_numbers told.segments_read)
 
-  pub pairing_told : (periods : List PeriodRecord) (segments : List SegmentRecord) (seats : List SeatRecord) (answer : Option Rostered) →
+  pub pairing_told : (periods : List PeriodRecord) (segments : List SegmentRecord) (seats : List SeatRecord) (answer : Option PairingEntry) →
       Finds (table period) by_id db (map period_row periods) → IfSome periods (Finds (table segment) by_id db (map segment_row segments)) →
       IfSome periods (Finds (table seat) by_id db (map seat_row seats)) → TellsPairing id periods segments seats answer → answer ≡ fin.get s.pairings id
   pairing_told [] segments seats answer finds also held told = told ∙ sym (none_there (fin.get s.pairings id) refl finds)
@@ -243,15 +243,15 @@ module _ (s : roster.State) (sound : Sound s) (db : Database) (book : IsBookOf s
       } in
       told.1 ∙ ap Some value ∙ sym here
 
-pub plan_told : {E : Type 0} (old new : State) (s : roster.State) (id : List ℕ) (rows : PlanRecords) (result : Result (Option Rostered) E) → HasCleanDisk new →
-    IsUnchanged old new → FindsPlan id old.now rows → AddsNothing old new → Shows old s →
+pub plan_told : {E : Type 0} (old new : State) (s : roster.State) (id : List ℕ) (rows : PlanRecords) (result : Result (Option PairingEntry) E) → HasCleanDisk new →
+    IsUnchanged old new → FindsPlan id old.now rows → CrashAddsNothing old new → Shows old s →
     IfOk result (TellsPairing id rows.periods.items rows.segments.items rows.seats.items) → IfOk result (λ a. Shows new s × (a ≡ fin.get s.pairings id))
 plan_told old new s id rows (Err fault) clean same finds left shows told = tt
 plan_told old new s id rows (Ok a) clean same finds left shows told = (
   record {
     sound = shows.sound;
     instants = shows.instants;
-    book = λ now opened. subst (λ (db : Database). IsBookOf s db) (sym same.0.now_is) (shows.book (left.honest now) same.0.was_open);
+    book = λ now opened. subst (λ (db : Database). IsBookOf s db) (sym same.0.now_is) (shows.book (left.disk now) same.0.was_open);
   },
-  pairing_told s shows.sound old.now (shows.book (left.honest clean) same.0.was_open) id rows.periods.items rows.segments.items rows.seats.items a finds.periods finds.segments finds.seats told,
+  pairing_told s shows.sound old.now (shows.book (left.disk clean) same.0.was_open) id rows.periods.items rows.segments.items rows.seats.items a finds.periods finds.segments finds.seats told,
 )

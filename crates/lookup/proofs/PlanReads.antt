@@ -7,8 +7,8 @@ use Rattle.sqlite.specs.Effect.{Database}
 use Rattle.sqlite.specs.State.{State, HasCleanDisk, IsUnchanged}
 use Rattle.tables.specs.Records.{period_row, seat_row, segment_row}
 use Rattle.tables.specs.Rows.{Finds, begins_with}
-use Rattle.rows.specs.Rows.{TableName, table, period, seat, segment}
-use Rattle.rows.specs.declared.fault.StoreFault.{StoreFault}
+use Rattle.state_rows.specs.Rows.{TableName, table, period, seat, segment}
+use Rattle.state_rows.specs.declared.fault.StoreFault.{StoreFault}
 use Rattle.lookup.specs.Reads.{ReadsRows, Stays}
 use Rattle.lookup.specs.Plans.{FindsPlan, IfSome, ReadsPlan}
 use Rattle.lookup.proofs.Changes.{changes_then, of_stays}
@@ -60,8 +60,8 @@ module _ (id : List ℕ) where
     stays = stays_on a c d (stays_on a b c p q) r;
     told = λ clean.
         let third = three clean in
-        let second = two (r.left.honest clean) in
-        let first = one (q.left.honest (r.left.honest clean)) in
+        let second = two (r.left.disk clean) in
+        let first = one (q.left.disk (r.left.disk clean)) in
         let same_b = first.0.0.now_is in
         let same_c = second.0.0.now_is ∙ same_b in (
           unchanged_on a c d (unchanged_on a b c first.0 second.0) third.0,

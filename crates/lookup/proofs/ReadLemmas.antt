@@ -10,35 +10,35 @@ use Rattle.sqlite.specs.State.{State, HasCleanDisk, IsUnchanged}
 use Rattle.command.specs.declared.member.Member.{Member}
 use Rattle.roster.specs.State as roster
 use Rattle.tables.proofs.Answering.{has_permuted}
-use Rattle.tables.specs.Calls.{HasStepLimit, HoldsWhileOpen, LeavesNothing, Loaded, Read, ReadAs, Leaves as NotMade}
+use Rattle.tables.specs.Calls.{HasStepLimit, HoldsWhileOpen, CrashLeavesNoMore, Loaded, Read, ReadAs, IsUnchangedOrUndone as NotMade}
 use Rattle.tables.specs.Records.{crew_row}
 use Rattle.tables.specs.Rows.{Finds, HasNoRecord, IsStored, begins_with, rows_of}
 use Rattle.std.specs.Bool.{⊤}
 use Rattle.tables.specs.declared.crew.CrewRecord.{CrewRecord}
 use Rattle.tables.specs.declared.table_fault.TableFault.{TableFault}
-use Rattle.rows.specs.Rows.{TableName, table, crew, row_of_member, seat_number}
-use Rattle.rows.specs.declared.fault.StoreFault.{StoreFault}
-use Rattle.rows.proofs.Tests.{found, passes}
-use Rattle.rows.proofs.Values.{text_is, number_is, members_same}
+use Rattle.state_rows.specs.Rows.{TableName, table, crew, row_of_member, seat_number}
+use Rattle.state_rows.specs.declared.fault.StoreFault.{StoreFault}
+use Rattle.state_rows.proofs.Tests.{found, passes}
+use Rattle.state_rows.proofs.Values.{text_is, number_is, members_same}
 use Rattle.writing.specs.Kept.{AreStored, IsBookOf}
 use Rattle.writing.proofs.Tables.{is_there}
 use Rattle.tables.specs.Schema.{IsBook}
-use Rattle.writing.specs.Outcomes.{AddsNothing, IsOutside, IsOverBook}
+use Rattle.writing.specs.Outcomes.{CrashAddsNothing, IsOutside, IsOverBook}
 use Rattle.writing.proofs.Committing.{unbegun_shows}
 use Rattle.loading.proofs.Telling.{clean_before}
 use Rattle.lookup.specs.Reads.{HasFirst, ReadsRows, Shows, Stays, IsOpen}
 
 -- ---- Nothing is changed
 
-adds_nothing : (old new : State) → LeavesNothing old new → AddsNothing old new
+adds_nothing : (old new : State) → CrashLeavesNoMore old new → CrashAddsNothing old new
 adds_nothing old new left = record {
-  honest = clean_before old new left;
+  disk = clean_before old new left;
   crash = λ clean trees may. elim (left.crash clean trees may) [ inl was ↦ was | inr none ↦ absurd none ];
 }
 
 pub at_rest : (s : State) → IsOutside s → Stays s s
 at_rest s outside = record {
-  left = record { honest = λ clean. clean; crash = λ clean trees may. may };
+  left = record { disk = λ clean. clean; crash = λ clean trees may. may };
   shown = λ clean opened. (opened, refl);
   outside = outside;
   counts = omega (arith);
@@ -47,7 +47,7 @@ at_rest s outside = record {
 }
 
 module _ {A : Type 0} (Is : Database → A → Type 0) (IsDamaged : Database → Type 0) (why : Type 0) (old new : State)
-    (left : LeavesNothing old new) (outside : IsOutside old) (same : HasCleanDisk old → IsTrue old.is_open → old.now ≡ old.committed) where
+    (left : CrashLeavesNoMore old new) (outside : IsOutside old) (same : HasCleanDisk old → IsTrue old.is_open → old.now ≡ old.committed) where
   not_made : (result : Result A TableFault) → ReadAs Is IsDamaged why old new result → HasCleanDisk new → NotMade old new
   not_made (Ok a) read clean = inl (read clean).1
   not_made (Err fault) read clean = elim (read clean) [
@@ -72,7 +72,7 @@ module _ {A : Type 0} (Is : Database → A → Type 0) (IsDamaged : Database →
   }
 
 module _ {A : Type 0} (it : TableName) (test : Row → Bool) (IsRecord : Row → Type 0) (rows : A → List Row) (old new : State)
-    (left : LeavesNothing old new) (outside : IsOutside old) (same : HasCleanDisk old → IsTrue old.is_open → old.now ≡ old.committed) where
+    (left : CrashLeavesNoMore old new) (outside : IsOutside old) (same : HasCleanDisk old → IsTrue old.is_open → old.now ≡ old.committed) where
   abbrev FindsThem : Database → A → Type 0
   FindsThem db found = Finds (table it) test db (rows found)
 
@@ -115,7 +115,7 @@ abbrev IsFit : Database → Type 0
 IsFit db = IsBook db.schema × AreStored db
 
 pub over_on : (old new : State) → Stays old new → IsOverBook old → IsOverBook new
-over_on old new stays over clean opened = let it = stays.shown clean opened in subst IsFit (sym it.1) (over (stays.left.honest clean) it.0)
+over_on old new stays over clean opened = let it = stays.shown clean opened in subst IsFit (sym it.1) (over (stays.left.disk clean) it.0)
 
 -- ---- Rows that pass a test
 
@@ -176,16 +176,16 @@ module _ (s : roster.State) (db : Database) (book : IsBookOf s db) (id : List �
       first.1 ∙ ap Some (members_same first.0 at.0.value seat name) ∙ sym (ap (fin.get s.crew) same_id ∙ at.0.there)
 
 pub member_told : {E : Type 0} (old new : State) (s : roster.State) (id : List ℕ) (records : List CrewRecord) (result : Result (Option Member) E) → HasCleanDisk new →
-    IsUnchanged old new → Finds (table crew) (begins_with (Text id ∷ [])) old.now (map crew_row records) → AddsNothing old new → Shows old s → IfOk result (HasFirst records) →
+    IsUnchanged old new → Finds (table crew) (begins_with (Text id ∷ [])) old.now (map crew_row records) → CrashAddsNothing old new → Shows old s → IfOk result (HasFirst records) →
     IfOk result (λ a. Shows new s × (a ≡ fin.get s.crew id))
 member_told old new s id records (Err fault) clean same finds left shows first = tt
 member_told old new s id records (Ok a) clean same finds left shows first = (
   record {
     sound = shows.sound;
     instants = shows.instants;
-    book = λ now opened. subst (λ (db : Database). IsBookOf s db) (sym same.0.now_is) (shows.book (left.honest now) same.0.was_open);
+    book = λ now opened. subst (λ (db : Database). IsBookOf s db) (sym same.0.now_is) (shows.book (left.disk now) same.0.was_open);
   },
-  member_is s old.now (shows.book (left.honest clean) same.0.was_open) id records a first finds,
+  member_is s old.now (shows.book (left.disk clean) same.0.was_open) id records a first finds,
 )
 
 pub opened_ok : {A E : Type 0} (result : Result A E) (old new : State) → (HasCleanDisk new → IsUnchanged old new) → OnOk result (IsOpen new)

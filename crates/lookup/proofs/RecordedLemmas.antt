@@ -17,17 +17,17 @@ use Rattle.roster.specs.State.{exceedance_name}
 use Rattle.roster.specs.declared.state.ExceedanceId.{ExceedanceId}
 use Rattle.roster.specs.declared.state.PeriodId.{PeriodId}
 use Rattle.tables.proofs.KeyLemmas.{exceedance_once}
-use Rattle.tables.specs.Calls.{HasStepLimit, LeavesNothing, ReadAs}
+use Rattle.tables.specs.Calls.{HasStepLimit, CrashLeavesNoMore, ReadAs}
 use Rattle.tables.specs.Records.{exceedance_row}
 use Rattle.tables.specs.Rows.{Finds, FindsInOrder, HasNoRecord, begins_with}
 use Rattle.tables.specs.Schema.{exceedance_table}
 use Rattle.tables.specs.declared.exceedance.ExceedanceRecord.{ExceedanceRecord}
 use Rattle.tables.specs.declared.table_fault.TableFault.{TableFault}
-use Rattle.rows.specs.Rows.{table, exceedance, row_of_exceedance, ExceedanceAt}
-use Rattle.rows.specs.declared.fault.StoreFault.{StoreFault}
-use Rattle.rows.proofs.Lists.{same_map}
-use Rattle.rows.proofs.Tests.{passes}
-use Rattle.rows.proofs.Values.{ids_same, sections_same, number_is, text_is}
+use Rattle.state_rows.specs.Rows.{table, exceedance, row_of_exceedance, ExceedanceAt}
+use Rattle.state_rows.specs.declared.fault.StoreFault.{StoreFault}
+use Rattle.state_rows.proofs.Lists.{same_map}
+use Rattle.state_rows.proofs.Tests.{passes}
+use Rattle.state_rows.proofs.Values.{ids_same, sections_same, number_is, text_is}
 use Rattle.writing.specs.Kept.{IsBookOf}
 use Rattle.writing.proofs.Tables.{is_there}
 use Rattle.writing.specs.Outcomes.{IsOutside}
@@ -41,7 +41,7 @@ use Rattle.lookup.proofs.ReadLemmas.{in_found, of_found, stays}
 -- ---- The call
 
 module _ {A : Type 0} (IsRecord : Row → Type 0) (rows : A → List Row) (old new : State)
-    (left : LeavesNothing old new) (outside : IsOutside old) (same : HasCleanDisk old → IsTrue old.is_open → old.now ≡ old.committed) where
+    (left : CrashLeavesNoMore old new) (outside : IsOutside old) (same : HasCleanDisk old → IsTrue old.is_open → old.now ≡ old.committed) where
   abbrev InOrder : Database → A → Type 0
   InOrder db found = FindsInOrder 4 exceedance_table db (rows found)
 

@@ -4,14 +4,14 @@ use Rattle.sqlite_value.specs.declared.value.Value.TheVariants.{Text}
 use Rattle.sqlite.specs.Effect.{Database}
 use Rattle.sqlite.specs.State as conn
 use Rattle.sqlite.specs.State.{HasCleanDisk, IsUnchanged}
-use Rattle.roster.specs.declared.state.Rostered.{Rostered}
+use Rattle.roster.specs.declared.state.PairingEntry.{PairingEntry}
 use Rattle.tables.specs.Records.{period_row, seat_row, segment_row}
 use Rattle.tables.specs.Rows.{Finds, begins_with}
 use Rattle.tables.specs.declared.period.PeriodRecord.{PeriodRecord}
 use Rattle.tables.specs.declared.seat.SeatRecord.{SeatRecord}
 use Rattle.tables.specs.declared.segment.SegmentRecord.{SegmentRecord}
-use Rattle.rows.specs.Rows.{table, period, seat, segment}
-use Rattle.rows.specs.declared.fault.StoreFault.{StoreFault}
+use Rattle.state_rows.specs.Rows.{table, period, seat, segment}
+use Rattle.state_rows.specs.declared.fault.StoreFault.{StoreFault}
 use Rattle.loading.specs.OnePairing.{IsToldBy}
 use Rattle.lookup.specs.Reads.{Stays}
 use Rattle.lookup.specs.declared.pairing.PlanRecords.{PlanRecords}
@@ -38,8 +38,8 @@ HoldsSeat number seats None = (i : ℕ) (row : SeatRecord) → slice_get seats i
 HoldsSeat number seats (Some who) = (i : ℕ) × (row : SeatRecord) × (slice_get seats i ≡ Some row) × (row.seat ≡ number) × (who ≡ row.crew)
 
 -- the pairing that some records tell of, with who holds its seats
-pub record IsTold (id : List ℕ) (periods : List PeriodRecord) (segments : List SegmentRecord) (seats : List SeatRecord) (r : Rostered) : Type 0 where
-  pub free : Rostered
+pub record IsTold (id : List ℕ) (periods : List PeriodRecord) (segments : List SegmentRecord) (seats : List SeatRecord) (r : PairingEntry) : Type 0 where
+  pub free : PairingEntry
   pub told : IsToldBy id periods segments free
   pub plan : r.plan ≡ free.plan
   pub actuals : r.actuals ≡ free.actuals
@@ -47,6 +47,6 @@ pub record IsTold (id : List ℕ) (periods : List PeriodRecord) (segments : List
   pub first_officer : HoldsSeat 1 seats r.first_officer
 
 -- there is none where there is no period
-abbrev pub TellsPairing : List ℕ → List PeriodRecord → List SegmentRecord → List SeatRecord → Option Rostered → Type 0
+abbrev pub TellsPairing : List ℕ → List PeriodRecord → List SegmentRecord → List SeatRecord → Option PairingEntry → Type 0
 TellsPairing id [] segments seats found = found ≡ None
-TellsPairing id (p ∷ ps) segments seats found = (r : Rostered) × (found ≡ Some r) × IsTold id (p ∷ ps) segments seats r
+TellsPairing id (p ∷ ps) segments seats found = (r : PairingEntry) × (found ≡ Some r) × IsTold id (p ∷ ps) segments seats r

@@ -10,10 +10,10 @@ use Rattle.loading.specs.SameRows.{HasInstants}
 use Rattle.tables.specs.Rows.{Finds}
 use Rattle.tables.specs.declared.crew.CrewRecord.{CrewRecord}
 use Rattle.tables.specs.declared.seat.SeatRecord.{SeatRecord}
-use Rattle.rows.specs.Rows.{TableName, table, seat_number}
-use Rattle.rows.specs.declared.fault.StoreFault.{StoreFault}
+use Rattle.state_rows.specs.Rows.{TableName, table, seat_number}
+use Rattle.state_rows.specs.declared.fault.StoreFault.{StoreFault}
 use Rattle.writing.specs.Kept.{IsBookOf}
-use Rattle.writing.specs.Outcomes.{AddsNothing, IsOutside, StaysOpen, StillShows}
+use Rattle.writing.specs.Outcomes.{CrashAddsNothing, IsOutside, StaysOpen, StillShows}
 
 -- it shows the tables of a book in this state, which is sound, while it is open
 pub record Shows (now : conn.State) (s : State) : Type 0 where
@@ -24,7 +24,7 @@ pub record Shows (now : conn.State) (s : State) : Type 0 where
 -- Nothing is changed: a crash leaves nothing that it could not leave before, and what was shown is shown. No fault of the disk is
 -- forgotten, only one shuts the connection, and no limit is set on later statements.
 pub record Stays (old new : conn.State) : Type 0 where
-  pub left : AddsNothing old new
+  pub left : CrashAddsNothing old new
   pub shown : StillShows old new
   pub outside : IsOutside new
   pub counts : old.faults ≤ new.faults
@@ -59,7 +59,7 @@ ids_in records = map (λ row. row.pairing) records
 
 -- what some reads, one after the other, leave of a connection
 pub record ChangesNothing (old new : conn.State) : Type 0 where
-  pub left : AddsNothing old new
+  pub left : CrashAddsNothing old new
   pub shown : StillShows old new
   pub counts : old.faults ≤ new.faults
   pub still_open : StaysOpen old new

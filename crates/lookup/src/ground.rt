@@ -1,4 +1,5 @@
 //! Ground duties, read by id and by member.
+//! Through the program: `tests/answers.py`. Wrong bodies: `must-fail/`.
 
 ghost use Rattle.std.specs.Prelude.{◌≡◌, IfOk, [], ◌∷◌, map};
 ghost use Rattle.std.specs.FinMap as fin;
@@ -7,20 +8,20 @@ ghost use Rattle.sqlite_value.specs.declared.value.Value.TheVariants as value;
 ghost use Rattle.tables.specs.Records.{ground_row};
 ghost use Rattle.tables.specs.Rows.{begins_with, equals_at};
 ghost use Rattle.writing.specs.Outcomes.{IsOutside, IsOverBook};
-ghost use Rattle.rows.specs.Rows.{ground_duty};
+ghost use Rattle.state_rows.specs.Rows.{ground_duty};
 ghost use Rattle.part.specs.Sources.{AreJust, IsGroundOf};
 ghost use Rattle.lookup.specs.Reads.{Reads, ReadsRows};
 ghost use Rattle.lookup.specs.Entries.{HasFirstGround, grounds_in};
 
 use duty::{CrewId, Ground, GroundId};
-use rows::StoreFault;
 use sqlite::{Alter, Connection};
+use state_rows::StoreFault;
 use std::alloc::Global;
 use tables::ground::{GroundRecord, ground_by_id, grounds_by_crew};
 use time117::Minute;
-use values::{Copied, MemoryFault};
+use values::{MemoryFault, TryClone};
 
-/// The records of the ground duties with this id.
+/// Reads the records of the ground duties with this id.
 #[tactic(auto, using(crate::proofs::ReadLemmas::was_read, crate::proofs::ReadLemmas::not_read, crate::proofs::ReadLemmas::holds_open))]
 fn ground_rows<S: Alter>(
     alloc: Global,
@@ -29,8 +30,11 @@ fn ground_rows<S: Alter>(
 ) -> Result<Vec<GroundRecord>, StoreFault>
     requires outside { IsOutside (state S.Store conn.old) }
     requires over { IsOverBook (state S.Store conn.old) }
-    ensures { ReadsRows ground_duty (begins_with (value.Text id.now ∷ [])) (λ found. map ground_row found.items) (state S.Store conn.old) (state S.Store conn.new) result }
+    ensures { ReadsRows ground_duty (begins_with (value.Text id.now ∷ []))
+        (λ found. map ground_row found.items) (state S.Store conn.old)
+        (state S.Store conn.new) result }
 {
+    // The clause of this call says that outside a transaction what is shown is committed.
     let _settled = conn.is_autocommit();
     match ground_by_id(alloc, conn, id) {
         Ok(records) => Ok(records),
@@ -38,7 +42,7 @@ fn ground_rows<S: Alter>(
     }
 }
 
-/// The records of a member's ground duties.
+/// Reads the records of a member's ground duties.
 #[tactic(auto, using(crate::proofs::ReadLemmas::was_read, crate::proofs::ReadLemmas::not_read, crate::proofs::ReadLemmas::holds_open))]
 fn crew_ground_rows<S: Alter>(
     alloc: Global,
@@ -47,8 +51,11 @@ fn crew_ground_rows<S: Alter>(
 ) -> Result<Vec<GroundRecord>, StoreFault>
     requires outside { IsOutside (state S.Store conn.old) }
     requires over { IsOverBook (state S.Store conn.old) }
-    ensures { ReadsRows ground_duty (equals_at 1 (value.Text who.now)) (λ found. map ground_row found.items) (state S.Store conn.old) (state S.Store conn.new) result }
+    ensures { ReadsRows ground_duty (equals_at 1 (value.Text who.now))
+        (λ found. map ground_row found.items) (state S.Store conn.old)
+        (state S.Store conn.new) result }
 {
+    // The clause of this call says that outside a transaction what is shown is committed.
     let _settled = conn.is_autocommit();
     match grounds_by_crew(alloc, conn, who) {
         Ok(records) => Ok(records),
@@ -56,7 +63,7 @@ fn crew_ground_rows<S: Alter>(
     }
 }
 
-/// The ground duty that the first of some records tells of.
+/// Returns the ground duty that the first of some records tells of.
 fn first_ground(alloc: Global, records: &[GroundRecord]) -> Result<Option<Ground>, StoreFault>
     ensures { IfOk result (HasFirstGround records.now) }
 {
@@ -69,27 +76,27 @@ fn first_ground(alloc: Global, records: &[GroundRecord]) -> Result<Option<Ground
     let Some(end) = Minute::from_number(row.end_at) else {
         return Err(StoreFault::Store);
     };
-    let id = GroundId::new(row.id.copy(alloc)?);
-    let crew = CrewId::new(row.crew.copy(alloc)?);
-    let task = row.task.copy(alloc)?;
+    let id = GroundId::new(row.id.try_clone(alloc)?);
+    let crew = CrewId::new(row.crew.try_clone(alloc)?);
+    let task = row.task.try_clone(alloc)?;
     match Ground::new(id, crew, begin, end, task) {
         Ok(ground) => Ok(Some(ground)),
         Err(_) => Err(StoreFault::Store),
     }
 }
 
-/// The ids of the ground duties that the records name.
+/// Returns the ids of the ground duties that the records name.
 fn ids_in(alloc: Global, records: &[GroundRecord]) -> Result<Vec<GroundId>, MemoryFault>
     ensures { IfOk result (λ ids. ids.items ≡ grounds_in records.now) }
 {
     let mut ids = Vec::new(alloc);
     for row in records {
-        ids.push(GroundId::new(row.id.copy(alloc)?))?;
+        ids.push(GroundId::new(row.id.try_clone(alloc)?))?;
     }
     Ok(ids)
 }
 
-/// The ground duty of an id.
+/// Reads the ground duty of an id.
 pub fn ground_at<S: Alter>(
     alloc: Global,
     conn: &mut Connection<S>,
@@ -97,13 +104,14 @@ pub fn ground_at<S: Alter>(
 ) -> Result<Option<Ground>, StoreFault>
     requires outside { IsOutside (state S.Store conn.old) }
     requires over { IsOverBook (state S.Store conn.old) }
-    ensures { Reads (λ s found. found ≡ fin.get s.grounds id.now) (state S.Store conn.old) (state S.Store conn.new) result }
+    ensures { Reads (λ s found. found ≡ fin.get s.grounds id.now) (state S.Store conn.old)
+        (state S.Store conn.new) result }
 {
     let records = ground_rows(alloc, conn, id.as_str())?;
     first_ground(alloc, &records)
 }
 
-/// The ids of a member's ground duties.
+/// Reads the ids of a member's ground duties.
 pub fn grounds_held_at<S: Alter>(
     alloc: Global,
     conn: &mut Connection<S>,
@@ -111,7 +119,8 @@ pub fn grounds_held_at<S: Alter>(
 ) -> Result<Vec<GroundId>, StoreFault>
     requires outside { IsOutside (state S.Store conn.old) }
     requires over { IsOverBook (state S.Store conn.old) }
-    ensures { Reads (λ s found. AreJust (IsGroundOf s who.now) found.items) (state S.Store conn.old) (state S.Store conn.new) result }
+    ensures { Reads (λ s found. AreJust (IsGroundOf s who.now) found.items) (state S.Store conn.old)
+        (state S.Store conn.new) result }
 {
     let records = crew_ground_rows(alloc, conn, who.as_str())?;
     match ids_in(alloc, &records) {

@@ -1,4 +1,5 @@
 //! A member, read by id.
+//! Through the program: `tests/answers.py`. Wrong bodies: `must-fail-more/`.
 
 ghost use Rattle.std.specs.Prelude.{◌≡◌, IfOk, [], ◌∷◌, map};
 ghost use Rattle.std.specs.FinMap as fin;
@@ -7,18 +8,18 @@ ghost use Rattle.sqlite_value.specs.declared.value.Value.TheVariants as value;
 ghost use Rattle.tables.specs.Records.{crew_row};
 ghost use Rattle.tables.specs.Rows.{begins_with};
 ghost use Rattle.writing.specs.Outcomes.{IsOutside, IsOverBook};
-ghost use Rattle.rows.specs.Rows.{crew};
+ghost use Rattle.state_rows.specs.Rows.{crew};
 ghost use Rattle.lookup.specs.Reads.{HasFirst, Reads, ReadsRows};
 
 use command::{Member, Seat};
 use duty::CrewId;
-use rows::StoreFault;
 use sqlite::{Alter, Connection};
+use state_rows::StoreFault;
 use std::alloc::Global;
 use tables::crew::{CrewRecord, crew_by_id};
-use values::Copied;
+use values::TryClone;
 
-/// The records of the members with this id.
+/// Reads the records of the members with this id.
 #[tactic(auto, using(crate::proofs::ReadLemmas::was_read, crate::proofs::ReadLemmas::not_read, crate::proofs::ReadLemmas::holds_open))]
 fn crew_rows<S: Alter>(
     alloc: Global,
@@ -27,8 +28,11 @@ fn crew_rows<S: Alter>(
 ) -> Result<Vec<CrewRecord>, StoreFault>
     requires outside { IsOutside (state S.Store conn.old) }
     requires over { IsOverBook (state S.Store conn.old) }
-    ensures { ReadsRows crew (begins_with (value.Text id.now ∷ [])) (λ found. map crew_row found.items) (state S.Store conn.old) (state S.Store conn.new) result }
+    ensures { ReadsRows crew (begins_with (value.Text id.now ∷ []))
+        (λ found. map crew_row found.items) (state S.Store conn.old)
+        (state S.Store conn.new) result }
 {
+    // The clause of this call says that outside a transaction what is shown is committed.
     let _settled = conn.is_autocommit();
     match crew_by_id(alloc, conn, id) {
         Ok(records) => Ok(records),
@@ -36,7 +40,7 @@ fn crew_rows<S: Alter>(
     }
 }
 
-/// The member that the first of some records tells of.
+/// Returns the member that the first of some records tells of.
 fn first_member(alloc: Global, records: &[CrewRecord]) -> Result<Option<Member>, StoreFault>
     ensures { IfOk result (HasFirst records.now) }
 {
@@ -50,11 +54,11 @@ fn first_member(alloc: Global, records: &[CrewRecord]) -> Result<Option<Member>,
     };
     Ok(Some(Member {
         seat,
-        name: row.name.copy(alloc)?,
+        name: row.name.try_clone(alloc)?,
     }))
 }
 
-/// The member of an id.
+/// Reads the member of an id.
 pub fn member_at<S: Alter>(
     alloc: Global,
     conn: &mut Connection<S>,
@@ -62,7 +66,8 @@ pub fn member_at<S: Alter>(
 ) -> Result<Option<Member>, StoreFault>
     requires outside { IsOutside (state S.Store conn.old) }
     requires over { IsOverBook (state S.Store conn.old) }
-    ensures { Reads (λ s found. found ≡ fin.get s.crew id.now) (state S.Store conn.old) (state S.Store conn.new) result }
+    ensures { Reads (λ s found. found ≡ fin.get s.crew id.now) (state S.Store conn.old)
+        (state S.Store conn.new) result }
 {
     let records = crew_rows(alloc, conn, id.as_str())?;
     first_member(alloc, &records)

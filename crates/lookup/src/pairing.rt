@@ -1,4 +1,5 @@
 //! A pairing with its actuals and holders, read by id.
+//! Through the program: `tests/answers.py`. Wrong bodies: `must-fail/`.
 
 ghost use Rattle.std.specs.Prelude.{◌≡◌, IfOk, [], ◌∷◌, map};
 ghost use Rattle.std.specs.FinMap as fin;
@@ -7,20 +8,20 @@ ghost use Rattle.sqlite_value.specs.declared.value.Value.TheVariants as value;
 ghost use Rattle.tables.specs.Records.{period_row, seat_row, segment_row};
 ghost use Rattle.tables.specs.Rows.{begins_with};
 ghost use Rattle.writing.specs.Outcomes.{IsOutside, IsOverBook};
-ghost use Rattle.rows.specs.Rows.{period, seat, segment};
+ghost use Rattle.state_rows.specs.Rows.{period, seat, segment};
 ghost use Rattle.lookup.specs.Reads.{Reads, ReadsRows};
 ghost use Rattle.lookup.specs.Plans.{HoldsSeat, ReadsPlan, TellsPairing};
 
 use duty::{CrewId, PairingId};
 use loading::{LoadFault, pairing_of_records};
-use roster::Rostered;
-use rows::StoreFault;
+use roster::PairingEntry;
 use sqlite::{Alter, Connection};
+use state_rows::StoreFault;
 use std::alloc::Global;
 use tables::period::{PeriodRecord, periods_of};
 use tables::seat::{SeatRecord, seats_of};
 use tables::segment::{SegmentRecord, segments_of};
-use values::{Copied, MemoryFault};
+use values::{MemoryFault, TryClone};
 
 /// The records of one pairing; of one that isn't there, none.
 #[derive(Drop)]
@@ -30,7 +31,7 @@ pub(crate) struct PlanRecords {
     pub(crate) seats: Vec<SeatRecord>,
 }
 
-/// The records of its periods.
+/// Reads the records of the pairing's periods.
 #[tactic(auto, using(crate::proofs::ReadLemmas::was_read, crate::proofs::ReadLemmas::not_read, crate::proofs::ReadLemmas::holds_open))]
 fn period_rows<S: Alter>(
     alloc: Global,
@@ -39,8 +40,11 @@ fn period_rows<S: Alter>(
 ) -> Result<Vec<PeriodRecord>, StoreFault>
     requires outside { IsOutside (state S.Store conn.old) }
     requires over { IsOverBook (state S.Store conn.old) }
-    ensures { ReadsRows period (begins_with (value.Text id.now ∷ [])) (λ found. map period_row found.items) (state S.Store conn.old) (state S.Store conn.new) result }
+    ensures { ReadsRows period (begins_with (value.Text id.now ∷ []))
+        (λ found. map period_row found.items) (state S.Store conn.old)
+        (state S.Store conn.new) result }
 {
+    // The clause of this call says that outside a transaction what is shown is committed.
     let _settled = conn.is_autocommit();
     match periods_of(alloc, conn, id) {
         Ok(records) => Ok(records),
@@ -48,7 +52,7 @@ fn period_rows<S: Alter>(
     }
 }
 
-/// The records of its segments.
+/// Reads the records of the pairing's segments.
 #[tactic(auto, using(crate::proofs::ReadLemmas::was_read, crate::proofs::ReadLemmas::not_read, crate::proofs::ReadLemmas::holds_open))]
 fn segment_rows<S: Alter>(
     alloc: Global,
@@ -57,8 +61,11 @@ fn segment_rows<S: Alter>(
 ) -> Result<Vec<SegmentRecord>, StoreFault>
     requires outside { IsOutside (state S.Store conn.old) }
     requires over { IsOverBook (state S.Store conn.old) }
-    ensures { ReadsRows segment (begins_with (value.Text id.now ∷ [])) (λ found. map segment_row found.items) (state S.Store conn.old) (state S.Store conn.new) result }
+    ensures { ReadsRows segment (begins_with (value.Text id.now ∷ []))
+        (λ found. map segment_row found.items) (state S.Store conn.old)
+        (state S.Store conn.new) result }
 {
+    // The clause of this call says that outside a transaction what is shown is committed.
     let _settled = conn.is_autocommit();
     match segments_of(alloc, conn, id) {
         Ok(records) => Ok(records),
@@ -66,7 +73,7 @@ fn segment_rows<S: Alter>(
     }
 }
 
-/// The records of its seats that are held.
+/// Reads the records of the pairing's seats that are held.
 #[tactic(auto, using(crate::proofs::ReadLemmas::was_read, crate::proofs::ReadLemmas::not_read, crate::proofs::ReadLemmas::holds_open))]
 fn seat_rows<S: Alter>(
     alloc: Global,
@@ -75,8 +82,11 @@ fn seat_rows<S: Alter>(
 ) -> Result<Vec<SeatRecord>, StoreFault>
     requires outside { IsOutside (state S.Store conn.old) }
     requires over { IsOverBook (state S.Store conn.old) }
-    ensures { ReadsRows seat (begins_with (value.Text id.now ∷ [])) (λ found. map seat_row found.items) (state S.Store conn.old) (state S.Store conn.new) result }
+    ensures { ReadsRows seat (begins_with (value.Text id.now ∷ []))
+        (λ found. map seat_row found.items) (state S.Store conn.old)
+        (state S.Store conn.new) result }
 {
+    // The clause of this call says that outside a transaction what is shown is committed.
     let _settled = conn.is_autocommit();
     match seats_of(alloc, conn, id) {
         Ok(records) => Ok(records),
@@ -84,7 +94,7 @@ fn seat_rows<S: Alter>(
     }
 }
 
-/// All three. Without a period there is no pairing, and nothing more is read.
+/// Reads all three. Without a period there is no pairing, and nothing more is read.
 #[tactic(auto, using(crate::proofs::PlanReads::no_plan, crate::proofs::PlanReads::not_first, crate::proofs::PlanReads::not_second, crate::proofs::PlanReads::not_third, crate::proofs::PlanReads::all_read, crate::proofs::ReadLemmas::over_on))]
 fn plan_rows<S: Alter>(
     alloc: Global,
@@ -112,7 +122,7 @@ fn plan_rows<S: Alter>(
     })
 }
 
-/// Who holds the seat of a number.
+/// Returns who holds the seat of a number.
 fn holder_in(
     alloc: Global,
     number: u32,
@@ -122,19 +132,20 @@ fn holder_in(
 {
     for row in seats {
         if row.seat == number {
-            return Ok(Some(CrewId::new(row.crew.copy(alloc)?)));
+            return Ok(Some(CrewId::new(row.crew.try_clone(alloc)?)));
         }
     }
     Ok(None)
 }
 
-/// The pairing that the records tell of.
+/// Returns the pairing that the records tell of.
 fn pairing_told(
     alloc: Global,
     id: &PairingId,
     rows: &PlanRecords,
-) -> Result<Option<Rostered>, StoreFault>
-    ensures { IfOk result (TellsPairing id.now rows.now.periods.items rows.now.segments.items rows.now.seats.items) }
+) -> Result<Option<PairingEntry>, StoreFault>
+    ensures { IfOk result
+        (TellsPairing id.now rows.now.periods.items rows.now.segments.items rows.now.seats.items) }
 {
     let Some(_) = rows.periods.first() else {
         return Ok(None);
@@ -146,7 +157,7 @@ fn pairing_told(
     };
     let captain = holder_in(alloc, 0, &rows.seats)?;
     let first_officer = holder_in(alloc, 1, &rows.seats)?;
-    Ok(Some(Rostered {
+    Ok(Some(PairingEntry {
         plan: free.plan,
         actuals: free.actuals,
         captain,
@@ -154,15 +165,16 @@ fn pairing_told(
     }))
 }
 
-/// The pairing of an id.
+/// Reads the pairing of an id.
 pub fn pairing_at<S: Alter>(
     alloc: Global,
     conn: &mut Connection<S>,
     id: &PairingId,
-) -> Result<Option<Rostered>, StoreFault>
+) -> Result<Option<PairingEntry>, StoreFault>
     requires outside { IsOutside (state S.Store conn.old) }
     requires over { IsOverBook (state S.Store conn.old) }
-    ensures { Reads (λ s found. found ≡ fin.get s.pairings id.now) (state S.Store conn.old) (state S.Store conn.new) result }
+    ensures { Reads (λ s found. found ≡ fin.get s.pairings id.now) (state S.Store conn.old)
+        (state S.Store conn.new) result }
 {
     let rows = plan_rows(alloc, conn, id.as_str())?;
     pairing_told(alloc, id, &rows)

@@ -1,4 +1,5 @@
 //! What a key holds, read by key.
+//! Through the program: `tests/answers.py`. Wrong bodies: `must-fail/`.
 
 ghost use Rattle.std.specs.Prelude.{◌≡◌, IfOk, [], ◌∷◌, map, pos};
 ghost use Rattle.std.specs.FinMap as fin;
@@ -8,19 +9,19 @@ ghost use Rattle.command.specs.Keys.{key_name};
 ghost use Rattle.tables.specs.Records.{request_row};
 ghost use Rattle.tables.specs.Rows.{begins_with};
 ghost use Rattle.writing.specs.Outcomes.{IsOutside, IsOverBook};
-ghost use Rattle.rows.specs.Rows.{request};
+ghost use Rattle.state_rows.specs.Rows.{request};
 ghost use Rattle.lookup.specs.Reads.{Reads, ReadsRows};
 ghost use Rattle.lookup.specs.Entries.{HasFirstRequest};
 
 use command::Key;
 use loading::{command_of, reply_of};
-use roster::Request;
-use rows::StoreFault;
+use roster::LoggedCommand;
 use sqlite::{Alter, Connection};
+use state_rows::StoreFault;
 use std::alloc::Global;
 use tables::request::{RequestRecord, request_by_key};
 
-/// The records under a key.
+/// Reads the records under a key.
 #[tactic(auto, using(crate::proofs::ReadLemmas::was_read, crate::proofs::ReadLemmas::not_read, crate::proofs::ReadLemmas::holds_open))]
 fn request_rows<S: Alter>(
     alloc: Global,
@@ -29,8 +30,12 @@ fn request_rows<S: Alter>(
 ) -> Result<Vec<RequestRecord>, StoreFault>
     requires outside { IsOutside (state S.Store conn.old) }
     requires over { IsOverBook (state S.Store conn.old) }
-    ensures { ReadsRows request (begins_with (value.Int (pos key.number) ∷ value.Int (pos key.part) ∷ [])) (λ found. map request_row found.items) (state S.Store conn.old) (state S.Store conn.new) result }
+    ensures { ReadsRows request
+        (begins_with (value.Int (pos key.number) ∷ value.Int (pos key.part) ∷ []))
+        (λ found. map request_row found.items) (state S.Store conn.old)
+        (state S.Store conn.new) result }
 {
+    // The clause of this call says that outside a transaction what is shown is committed.
     let _settled = conn.is_autocommit();
     match request_by_key(alloc, conn, key.number() as i64, u32::from(key.part())) {
         Ok(records) => Ok(records),
@@ -38,8 +43,11 @@ fn request_rows<S: Alter>(
     }
 }
 
-/// The command and reply that the first of some records tells of.
-fn first_request(alloc: Global, records: &[RequestRecord]) -> Result<Option<Request>, StoreFault>
+/// Returns the command and reply that the first of some records tells of.
+fn first_request(
+    alloc: Global,
+    records: &[RequestRecord],
+) -> Result<Option<LoggedCommand>, StoreFault>
     ensures { IfOk result (HasFirstRequest records.now) }
 {
     let Some(row) = records.first() else {
@@ -51,18 +59,19 @@ fn first_request(alloc: Global, records: &[RequestRecord]) -> Result<Option<Requ
     let Some(command) = command_of(alloc, row.command.as_str())? else {
         return Err(StoreFault::Store);
     };
-    Ok(Some(Request { command, reply }))
+    Ok(Some(LoggedCommand { command, reply }))
 }
 
-/// What a key holds.
+/// Reads what a key holds.
 pub fn request_at<S: Alter>(
     alloc: Global,
     conn: &mut Connection<S>,
     key: Key,
-) -> Result<Option<Request>, StoreFault>
+) -> Result<Option<LoggedCommand>, StoreFault>
     requires outside { IsOutside (state S.Store conn.old) }
     requires over { IsOverBook (state S.Store conn.old) }
-    ensures { Reads (λ s found. found ≡ fin.get s.requests (key_name key)) (state S.Store conn.old) (state S.Store conn.new) result }
+    ensures { Reads (λ s found. found ≡ fin.get s.requests (key_name key)) (state S.Store conn.old)
+        (state S.Store conn.new) result }
 {
     let records = request_rows(alloc, conn, key)?;
     first_request(alloc, &records)

@@ -1,40 +1,41 @@
 //! The zone of the book.
+//! Through the program: `tests/answers.py`. Wrong bodies: `must-fail-more/`.
 
 ghost use Rattle.std.specs.Prelude.{◌≡◌, IfOk, [], map};
 ghost use Rattle.sqlite.specs.Held.{state};
 ghost use Rattle.tables.specs.Records.{book_row};
 ghost use Rattle.tables.specs.Rows.{begins_with};
-ghost use Rattle.writing.specs.Outcomes.{IsOutside};
-ghost use Rattle.rows.specs.Rows.{book};
+ghost use Rattle.writing.specs.Outcomes.{IsOutside, IsOverBook};
+ghost use Rattle.state_rows.specs.Rows.{book};
 ghost use Rattle.lookup.specs.Reads.{Reads, ReadsRows};
 ghost use Rattle.lookup.specs.Entries.{HasFirstZone};
 
-use rows::StoreFault;
 use sqlite::{Alter, Connection};
+use state_rows::StoreFault;
 use std::alloc::Global;
-use tables::book::{BookRecord, is_book_there, load_book};
+use tables::book::{BookRecord, book_records};
 use time117::{Zone, ZoneFault};
 
-/// The book's own records.
-#[tactic(auto, using(crate::proofs::ReadLemmas::was_loaded, crate::proofs::ReadLemmas::not_loaded, crate::proofs::ReadLemmas::not_tried))]
+/// Reads the book's own records.
+#[tactic(auto, using(crate::proofs::ReadLemmas::was_read, crate::proofs::ReadLemmas::not_read, crate::proofs::ReadLemmas::holds_open))]
 fn book_rows<S: Alter>(
     alloc: Global,
     conn: &mut Connection<S>,
 ) -> Result<Vec<BookRecord>, StoreFault>
-    requires { IsOutside (state S.Store conn.old) }
-    ensures { ReadsRows book (begins_with []) (λ found. map book_row found.items) (state S.Store conn.old) (state S.Store conn.new) result }
+    requires outside { IsOutside (state S.Store conn.old) }
+    requires over { IsOverBook (state S.Store conn.old) }
+    ensures { ReadsRows book (begins_with []) (λ found. map book_row found.items)
+        (state S.Store conn.old) (state S.Store conn.new) result }
 {
+    // The clause of this call says that outside a transaction what is shown is committed.
     let _settled = conn.is_autocommit();
-    if !is_book_there(alloc, conn)? {
-        return Err(StoreFault::Store);
-    }
-    match load_book(alloc, conn) {
+    match book_records(alloc, conn) {
         Ok(records) => Ok(records),
         Err(fault) => Err(StoreFault::from(fault)),
     }
 }
 
-/// The zone that the first of some records names.
+/// Returns the zone that the first of some records names.
 fn first_zone(alloc: Global, records: &[BookRecord]) -> Result<Zone, StoreFault>
     ensures { IfOk result (HasFirstZone records.now) }
 {
@@ -48,10 +49,12 @@ fn first_zone(alloc: Global, records: &[BookRecord]) -> Result<Zone, StoreFault>
     }
 }
 
-/// The zone.
+/// Reads the zone.
 pub fn zone_at<S: Alter>(alloc: Global, conn: &mut Connection<S>) -> Result<Zone, StoreFault>
-    requires { IsOutside (state S.Store conn.old) }
-    ensures { Reads (λ s zone. zone ≡ s.zone) (state S.Store conn.old) (state S.Store conn.new) result }
+    requires outside { IsOutside (state S.Store conn.old) }
+    requires over { IsOverBook (state S.Store conn.old) }
+    ensures { Reads (λ s zone. zone ≡ s.zone) (state S.Store conn.old)
+        (state S.Store conn.new) result }
 {
     let records = book_rows(alloc, conn)?;
     first_zone(alloc, &records)

@@ -1,4 +1,4 @@
--- States that agree on what an order looks at answer it alike.
+-- States that agree on what an instruction looks at answer it alike.
 use Rattle.std.proofs.Common.{◌≡◌, ℕ, ◌-◌, ◌==◌, Bool, true, false, not, ◌&&◌, ◌||◌, List, [], ◌∷◌, ◌++◌, length, refl, ap, ◌∙◌, Option, Some, None, is_some, is_none, slice_get}
 use Rattle.std.specs.FinMap as fin
 use Rattle.std.specs.Option.{option_and_then, option_map_or}
@@ -10,8 +10,8 @@ use Rattle.duty.specs.declared.fdp.Fdp.{Fdp}
 use Rattle.duty.specs.declared.placed_duty.Duty.TheVariants as duty
 use Rattle.command.specs.Keys.{KeyParts, key_name}
 use Rattle.command.specs.contracts.member.SeatPartialEq.TheImpl.{ghosts as seats}
-use Rattle.command.specs.declared.order.Order.{Order}
-use Rattle.command.specs.declared.order.Order.TheVariants.{AddCrew, AddPairing, CancelPairing, Assign, Release, Swap, AddGround, CancelGround, Actual}
+use Rattle.command.specs.declared.instruction.Instruction.{Instruction}
+use Rattle.command.specs.declared.instruction.Instruction.TheVariants.{AddCrew, AddPairing, CancelPairing, Assign, Release, Swap, AddGround, CancelGround, Actual}
 use Rattle.command.specs.declared.refusal.Refusal.{Refusal}
 use Rattle.command.specs.declared.refusal.Refusal.TheVariants.{NoSuchCrew, CrewExists, NoSuchPairing, PairingExists, SeatTaken, WrongSeat, NotAssigned, PairingCrewed, Flown, Overlap, NoSuchDuty, GroundExists, NoSuchGround, SegmentCount}
 use Rattle.roster.specs.Pairings.{holder, is_held_by, is_flown, is_crewed, is_fully_crewed}
@@ -20,19 +20,19 @@ use Rattle.roster.specs.Refusals.{holder_of_own_seat, planned, duties_of, broken
 use Rattle.roster.specs.State.{State, zone_of}
 use Rattle.roster.specs.Steps.{seat_change, seats_of, flown_duty, broken_by_holder, recorded_by, judged, answered, step_of}
 use Rattle.roster.specs.declared.change.Verdict.TheVariants.{Accept}
-use Rattle.roster.specs.declared.state.Request.{Request}
-use Rattle.roster.specs.declared.state.Rostered.{Rostered}
+use Rattle.roster.specs.declared.state.LoggedCommand.{LoggedCommand}
+use Rattle.roster.specs.declared.state.PairingEntry.{PairingEntry}
 use Rattle.part.specs.Part.{members_named, pairings_named, grounds_named, held_by, holders, judged_by, is_one_of}
 use Rattle.part.proofs.Retained.{same_name, any_first, any_later}
 
--- the two agree on what the key holds, on what the order names, and on the zone and the other duties of each member whom it judges
-pub record Agree (s t : State) (key : KeyParts) (order : Order) : Type 0 where
-  pub zone : (who : List ℕ) → is_one_of (judged_by t order) who ≡ true → zone_of s who ≡ zone_of t who
+-- the two agree on what the key holds, on what the instruction names, and on the zone and the other duties of each member whom it judges
+pub record Agree (s t : State) (key : KeyParts) (instruction : Instruction) : Type 0 where
+  pub zone : (who : List ℕ) → is_one_of (judged_by t instruction) who ≡ true → zone_of s who ≡ zone_of t who
   pub request : fin.get s.requests (key_name key) ≡ fin.get t.requests (key_name key)
-  pub crew : (who : List ℕ) → is_one_of (members_named order) who ≡ true → fin.get s.crew who ≡ fin.get t.crew who
-  pub pairings : (id : List ℕ) → is_one_of (pairings_named order) id ≡ true → fin.get s.pairings id ≡ fin.get t.pairings id
-  pub grounds : (id : List ℕ) → is_one_of (grounds_named order) id ≡ true → fin.get s.grounds id ≡ fin.get t.grounds id
-  pub others : (who : List ℕ) → is_one_of (judged_by t order) who ≡ true → (out : Place → Bool) → others s who out ≡ others t who out
+  pub crew : (who : List ℕ) → is_one_of (members_named instruction) who ≡ true → fin.get s.crew who ≡ fin.get t.crew who
+  pub pairings : (id : List ℕ) → is_one_of (pairings_named instruction) id ≡ true → fin.get s.pairings id ≡ fin.get t.pairings id
+  pub grounds : (id : List ℕ) → is_one_of (grounds_named instruction) id ≡ true → fin.get s.grounds id ≡ fin.get t.grounds id
+  pub others : (who : List ℕ) → is_one_of (judged_by t instruction) who ≡ true → (out : Place → Bool) → others s who out ≡ others t who out
 
 first_name : (name : List ℕ) (names : List (List ℕ)) → is_one_of (name ∷ names) name ≡ true
 first_name name names = any_first (λ other. bytes_eq other name) name names (same_name name)
@@ -64,7 +64,7 @@ module _ (s t : State) where
 
 -- ---- Refusals
 
-same_refusals : (s t : State) (key : KeyParts) (order : Order) → Agree s t key order → refusals s order ≡ refusals t order
+same_refusals : (s t : State) (key : KeyParts) (instruction : Instruction) → Agree s t key instruction → refusals s instruction ≡ refusals t instruction
 unfolding refusals
 same_refusals s t key (AddCrew who member) h =
     let m = h.crew who (first_name who []) in
@@ -138,7 +138,7 @@ same_refusals s t key (Actual id a) h =
 
 -- ---- What is accepted
 
-same_seats : (s t : State) (key : KeyParts) (order : Order) → Agree s t key order → seats_of s order ≡ seats_of t order
+same_seats : (s t : State) (key : KeyParts) (instruction : Instruction) → Agree s t key instruction → seats_of s instruction ≡ seats_of t instruction
 same_seats s t key (AddCrew who member) h = refl
 same_seats s t key (AddPairing plan) h = refl
 same_seats s t key (CancelPairing id) h = refl
@@ -180,7 +180,7 @@ one_of_right : (xs ys : List (List ℕ)) (name : List ℕ) → is_one_of ys name
 one_of_right [] ys name is = is
 one_of_right (x ∷ xs) ys name is = any_later (λ other. bytes_eq other name) x (xs ++ ys) (one_of_right xs ys name is)
 
-same_recorded_of : (s t : State) (id : List ℕ) (a : ActualTimes) → fin.get s.pairings id ≡ fin.get t.pairings id → (o : Option Rostered) →
+same_recorded_of : (s t : State) (id : List ℕ) (a : ActualTimes) → fin.get s.pairings id ≡ fin.get t.pairings id → (o : Option PairingEntry) →
     ((who : List ℕ) → is_one_of (option_map_or holders o []) who ≡ true → Alike s t id a who) →
     option_map_or (λ r. broken_by_holder s id a r.captain ++ broken_by_holder s id a r.first_officer) o []
     ≡ option_map_or (λ r. broken_by_holder t id a r.captain ++ broken_by_holder t id a r.first_officer) o []
@@ -190,7 +190,7 @@ same_recorded_of s t id a p (Some r) alike =
     let other = same_broken s t id a p r.first_officer (λ who is. alike who (one_of_right (held_by r.captain) (held_by r.first_officer) who is)) in
     λ i. captain i ++ other i
 
-same_recorded : (s t : State) (key : KeyParts) (order : Order) → Agree s t key order → recorded_by s order ≡ recorded_by t order
+same_recorded : (s t : State) (key : KeyParts) (instruction : Instruction) → Agree s t key instruction → recorded_by s instruction ≡ recorded_by t instruction
 unfolding recorded_by
 same_recorded s t key (AddCrew who member) h = refl
 same_recorded s t key (AddPairing plan) h = refl
@@ -205,20 +205,20 @@ same_recorded s t key (Actual id a) h =
     ap (λ o. option_map_or (λ r. broken_by_holder s id a r.captain ++ broken_by_holder s id a r.first_officer) o []) p
     ∙ same_recorded_of s t id a p (fin.get t.pairings id) (λ who is. (h.zone who is, h.others who is (the_period id a.period)))
 
-same_judged : (s t : State) (key : KeyParts) (order : Order) → seats_of s order ≡ seats_of t order → recorded_by s order ≡ recorded_by t order →
-    (o : Option Refusal) → judged s key order o ≡ judged t key order o
-same_judged s t key order same records (Some refusal) = refl
-same_judged s t key order same records None =
-    λ i. Accept (record { key = key; command = order; reply = record { exceedances = records i }; seats = same i }) (record { exceedances = records i })
+same_judged : (s t : State) (key : KeyParts) (instruction : Instruction) → seats_of s instruction ≡ seats_of t instruction → recorded_by s instruction ≡ recorded_by t instruction →
+    (o : Option Refusal) → judged s key instruction o ≡ judged t key instruction o
+same_judged s t key instruction same records (Some refusal) = refl
+same_judged s t key instruction same records None =
+    λ i. Accept (record { key = key; command = instruction; reply = record { exceedances = records i }; seats = same i }) (record { exceedances = records i })
 
-same_answered : (s t : State) (key : KeyParts) (order : Order) → Agree s t key order → (o : Option Request) →
-    answered s key order o ≡ answered t key order o
-same_answered s t key order h (Some kept) = refl
-same_answered s t key order h None =
-    ap (λ rows. judged s key order (first_of rows)) (same_refusals s t key order h)
-    ∙ same_judged s t key order (same_seats s t key order h) (same_recorded s t key order h) (refusal_of t order)
+same_answered : (s t : State) (key : KeyParts) (instruction : Instruction) → Agree s t key instruction → (o : Option LoggedCommand) →
+    answered s key instruction o ≡ answered t key instruction o
+same_answered s t key instruction h (Some kept) = refl
+same_answered s t key instruction h None =
+    ap (λ rows. judged s key instruction (first_of rows)) (same_refusals s t key instruction h)
+    ∙ same_judged s t key instruction (same_seats s t key instruction h) (same_recorded s t key instruction h) (refusal_of t instruction)
 
-pub same_step : (s t : State) (key : KeyParts) (order : Order) → Agree s t key order → step_of s key order ≡ step_of t key order
+pub same_step : (s t : State) (key : KeyParts) (instruction : Instruction) → Agree s t key instruction → step_of s key instruction ≡ step_of t key instruction
 unfolding step_of
-same_step s t key order h =
-    ap (answered s key order) h.request ∙ same_answered s t key order h (fin.get t.requests (key_name key))
+same_step s t key instruction h =
+    ap (answered s key instruction) h.request ∙ same_answered s t key instruction h (fin.get t.requests (key_name key))

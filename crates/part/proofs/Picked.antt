@@ -10,12 +10,12 @@ use Rattle.std.proofs.lemmas.Bool.{true≢false, cases_Bool}
 use Rattle.std.proofs.lemmas.Slice.Eq.{bytes_eq-Decides}
 use Rattle.values.specs.Name.{name_cmp}
 use Rattle.values.proofs.Names.{exact_names, alike, itself}
-use Rattle.command.specs.declared.order.Order.{Order}
-use Rattle.command.specs.declared.order.Order.TheVariants.{AddCrew, AddPairing, CancelPairing, Assign, Release, Swap, AddGround, CancelGround, Actual}
+use Rattle.command.specs.declared.instruction.Instruction.{Instruction}
+use Rattle.command.specs.declared.instruction.Instruction.TheVariants.{AddCrew, AddPairing, CancelPairing, Assign, Release, Swap, AddGround, CancelGround, Actual}
 use Rattle.duty.specs.Plans.{GroundPlan}
 use Rattle.roster.specs.Pairings.{holds, is_held_by}
 use Rattle.roster.specs.State.{State}
-use Rattle.roster.specs.declared.state.Rostered.{Rostered}
+use Rattle.roster.specs.declared.state.PairingEntry.{PairingEntry}
 use Rattle.roster.proofs.Members.{first_or_later, is_first, is_later, none_in}
 use Rattle.part.specs.Part.{members_named, pairings_named, grounds_named, held_by, holders, is_one_of, judged_by, judged_in, needs_member, needs_pairing, needs_ground, pairings_of, grounds_of}
 use Rattle.part.specs.Sources.{AreJust, IsGroundOfOne, IsHeldByOne, IsPartOf, members_wanted, pick, picked}
@@ -216,55 +216,55 @@ held_in None who = refl
 held_in (Some other) who = or_false (bytes_eq other who)
 
 module _ (s : State) where
-  of_order : (order : Order) (p : fin.FinMap name_cmp Rostered) → p ≡ picked s.pairings fin.empty (pairings_named order) → judged_in p order ≡ judged_by s order
-  of_order (AddCrew who member) p is = refl
-  of_order (AddPairing plan) p is = refl
-  of_order (CancelPairing id) p is = refl
-  of_order (Assign id who) p is = refl
-  of_order (Release id who) p is = refl
-  of_order (Swap w) p is = refl
-  of_order (AddGround g) p is = refl
-  of_order (CancelGround id) p is = refl
-  of_order (Actual id a) p is =
+  of_instruction : (instruction : Instruction) (p : fin.FinMap name_cmp PairingEntry) → p ≡ picked s.pairings fin.empty (pairings_named instruction) → judged_in p instruction ≡ judged_by s instruction
+  of_instruction (AddCrew who member) p is = refl
+  of_instruction (AddPairing plan) p is = refl
+  of_instruction (CancelPairing id) p is = refl
+  of_instruction (Assign id who) p is = refl
+  of_instruction (Release id who) p is = refl
+  of_instruction (Swap w) p is = refl
+  of_instruction (AddGround g) p is = refl
+  of_instruction (CancelGround id) p is = refl
+  of_instruction (Actual id a) p is =
       ap (λ o. option_map_or holders o [])
       (ap (λ m. fin.get m id) is
       ∙ picked_at s.pairings (id ∷ []) id
       ∙ ap (λ b. cond b (fin.get s.pairings id) None) (any_first (λ other. bytes_eq other id) id [] (same_name id)))
 
-module _ (s : State) (order : Order) where
+module _ (s : State) (instruction : Instruction) where
   -- the pairings that a judged member holds
-  pub pairings_are : (ids : List (List ℕ)) → AreJust (IsHeldByOne s (judged_by s order)) ids →
-      picked s.pairings (picked s.pairings fin.empty (pairings_named order)) ids ≡ pairings_of s order
-  pairings_are ids just = picked_twice s.pairings (pairings_named order) ids (needs_pairing s order) (λ q r there.
-      ap (λ b. is_one_of (pairings_named order) q || b)
-      (same_test (is_one_of ids q) (list_any (λ who. holds who r) (judged_by s order))
+  pub pairings_are : (ids : List (List ℕ)) → AreJust (IsHeldByOne s (judged_by s instruction)) ids →
+      picked s.pairings (picked s.pairings fin.empty (pairings_named instruction)) ids ≡ pairings_of s instruction
+  pairings_are ids just = picked_twice s.pairings (pairings_named instruction) ids (needs_pairing s instruction) (λ q r there.
+      ap (λ b. is_one_of (pairings_named instruction) q || b)
+      (same_test (is_one_of ids q) (list_any (λ who. holds who r) (judged_by s instruction))
       (λ one.
       let it = (just q).0 (of_one ids q one) in
       let same : it.2.0 ≡ r = same_Some it.2.0 r (sym it.2.1 ∙ there) in
-      any_of (λ who. holds who r) (judged_by s order) it.0 it.1 (ap (holds it.0) (sym same) ∙ it.2.2))
+      any_of (λ who. holds who r) (judged_by s instruction) it.0 it.1 (ap (holds it.0) (sym same) ∙ it.2.2))
       (λ some.
-      let it = of_any (λ who. holds who r) (judged_by s order) some in
+      let it = of_any (λ who. holds who r) (judged_by s instruction) some in
       one_of ids q ((just q).1 (it.0, it.1, (r, there, it.2))))
-      ∙ ap (λ o. option_map_or (λ x. list_any (λ who. holds who x) (judged_by s order)) o false) (sym there)))
+      ∙ ap (λ o. option_map_or (λ x. list_any (λ who. holds who x) (judged_by s instruction)) o false) (sym there)))
 
-  pub grounds_are : (ids : List (List ℕ)) → AreJust (IsGroundOfOne s (judged_by s order)) ids →
-      picked s.grounds (picked s.grounds fin.empty (grounds_named order)) ids ≡ grounds_of s order
-  grounds_are ids just = picked_twice s.grounds (grounds_named order) ids (needs_ground s order) (λ q g there.
-      ap (λ b. is_one_of (grounds_named order) q || b)
-      (same_test (is_one_of ids q) (is_one_of (judged_by s order) g.crew)
+  pub grounds_are : (ids : List (List ℕ)) → AreJust (IsGroundOfOne s (judged_by s instruction)) ids →
+      picked s.grounds (picked s.grounds fin.empty (grounds_named instruction)) ids ≡ grounds_of s instruction
+  grounds_are ids just = picked_twice s.grounds (grounds_named instruction) ids (needs_ground s instruction) (λ q g there.
+      ap (λ b. is_one_of (grounds_named instruction) q || b)
+      (same_test (is_one_of ids q) (is_one_of (judged_by s instruction) g.crew)
       (λ one.
       let it = (just q).0 (of_one ids q one) in
       let same : it.2.0 ≡ g = same_Some it.2.0 g (sym it.2.1 ∙ there) in
       let who : it.0 ≡ g.crew = sym ((bytes_eq-Decides it.2.0.crew it.0).0 it.2.2) ∙ ap (λ (x : GroundPlan). x.crew) same in
-      one_of (judged_by s order) g.crew (subst (Contains (judged_by s order)) who it.1))
-      (λ some. one_of ids q ((just q).1 (g.crew, of_one (judged_by s order) g.crew some, (g, there, same_name g.crew))))
-      ∙ ap (λ o. option_map_or (λ x. is_one_of (judged_by s order) x.crew) o false) (sym there)))
+      one_of (judged_by s instruction) g.crew (subst (Contains (judged_by s instruction)) who it.1))
+      (λ some. one_of ids q ((just q).1 (g.crew, of_one (judged_by s instruction) g.crew some, (g, there, same_name g.crew))))
+      ∙ ap (λ o. option_map_or (λ x. is_one_of (judged_by s instruction) x.crew) o false) (sym there)))
 
   -- the members
-  held_one : (r : Rostered) (who : List ℕ) → is_one_of (holders r) who ≡ holds who r
+  held_one : (r : PairingEntry) (who : List ℕ) → is_one_of (holders r) who ≡ holds who r
   held_one r who = any_append (λ other. bytes_eq other who) (held_by r.captain) (held_by r.first_officer) ∙ (λ i. held_in r.captain who i || held_in r.first_officer who i)
 
-  all_held : (rows : List (List ℕ × Rostered)) (who : List ℕ) → is_one_of (flat_map (λ row. holders row.1) rows) who ≡ list_any (λ row. holds who row.1) rows
+  all_held : (rows : List (List ℕ × PairingEntry)) (who : List ℕ) → is_one_of (flat_map (λ row. holders row.1) rows) who ≡ list_any (λ row. holds who row.1) rows
   all_held [] who = refl
   all_held (row ∷ rows) who =
       any_append (λ other. bytes_eq other who) (holders row.1) (flat_map (λ x. holders x.1) rows) ∙ (λ i. held_one row.1 who i || all_held rows who i)
@@ -273,34 +273,34 @@ module _ (s : State) (order : Order) where
   all_theirs [] who = refl
   all_theirs (row ∷ rows) who = ap (λ b. bytes_eq row.1.crew who || b) (all_theirs rows who)
 
-  pub members_are : (pairings : fin.FinMap name_cmp Rostered) (grounds : fin.FinMap name_cmp GroundPlan) → pairings ≡ pairings_of s order → grounds ≡ grounds_of s order →
-      picked s.crew fin.empty (members_wanted order pairings grounds) ≡ fin.retain_keys s.crew (needs_member s order)
-  members_are pairings grounds p g = picked_once s.crew (members_wanted order pairings grounds) (needs_member s order) (λ who.
-      any_append (λ other. bytes_eq other who) (members_named order ++ flat_map (λ row. holders row.1) (fin.entries pairings)) (map (λ row. row.1.crew) (fin.entries grounds))
-      ∙ (λ i. any_append (λ other. bytes_eq other who) (members_named order) (flat_map (λ row. holders row.1) (fin.entries pairings)) i || all_theirs (fin.entries grounds) who i)
-      ∙ (λ i. (is_one_of (members_named order) who || all_held (fin.entries pairings) who i) || list_any (λ row. bytes_eq row.1.crew who) (fin.entries grounds))
-      ∙ (λ i. (is_one_of (members_named order) who || list_any (λ row. holds who row.1) (fin.entries (p i))) || list_any (λ row. bytes_eq row.1.crew who) (fin.entries (g i))))
+  pub members_are : (pairings : fin.FinMap name_cmp PairingEntry) (grounds : fin.FinMap name_cmp GroundPlan) → pairings ≡ pairings_of s instruction → grounds ≡ grounds_of s instruction →
+      picked s.crew fin.empty (members_wanted instruction pairings grounds) ≡ fin.retain_keys s.crew (needs_member s instruction)
+  members_are pairings grounds p g = picked_once s.crew (members_wanted instruction pairings grounds) (needs_member s instruction) (λ who.
+      any_append (λ other. bytes_eq other who) (members_named instruction ++ flat_map (λ row. holders row.1) (fin.entries pairings)) (map (λ row. row.1.crew) (fin.entries grounds))
+      ∙ (λ i. any_append (λ other. bytes_eq other who) (members_named instruction) (flat_map (λ row. holders row.1) (fin.entries pairings)) i || all_theirs (fin.entries grounds) who i)
+      ∙ (λ i. (is_one_of (members_named instruction) who || all_held (fin.entries pairings) who i) || list_any (λ row. bytes_eq row.1.crew who) (fin.entries grounds))
+      ∙ (λ i. (is_one_of (members_named instruction) who || list_any (λ row. holds who row.1) (fin.entries (p i))) || list_any (λ row. bytes_eq row.1.crew who) (fin.entries (g i))))
 
-  -- what was picked first has what the order names
-  judged_same : (p : fin.FinMap name_cmp Rostered) → p ≡ picked s.pairings fin.empty (pairings_named order) → judged_in p order ≡ judged_by s order
-  judged_same p is = of_order s order p is
+  -- what was picked first has what the instruction names
+  judged_same : (p : fin.FinMap name_cmp PairingEntry) → p ≡ picked s.pairings fin.empty (pairings_named instruction) → judged_in p instruction ≡ judged_by s instruction
+  judged_same p is = of_instruction s instruction p is
 
-  pub plans_are : (p0 p1 p2 : fin.FinMap name_cmp Rostered) (names names' judged judged' held held' : List (List ℕ)) →
-      p0 ≡ fin.empty → names ≡ pairings_named order → names' ≡ names → p1 ≡ picked s.pairings p0 names' →
-      judged ≡ judged_in p1 order → judged' ≡ judged → AreJust (IsHeldByOne s judged') held → held' ≡ held → p2 ≡ picked s.pairings p1 held' →
-      (p2 ≡ pairings_of s order) × (judged ≡ judged_by s order)
+  pub plans_are : (p0 p1 p2 : fin.FinMap name_cmp PairingEntry) (names names' judged judged' held held' : List (List ℕ)) →
+      p0 ≡ fin.empty → names ≡ pairings_named instruction → names' ≡ names → p1 ≡ picked s.pairings p0 names' →
+      judged ≡ judged_in p1 instruction → judged' ≡ judged → AreJust (IsHeldByOne s judged') held → held' ≡ held → p2 ≡ picked s.pairings p1 held' →
+      (p2 ≡ pairings_of s instruction) × (judged ≡ judged_by s instruction)
   plans_are p0 p1 p2 names names' judged judged' held held' e0 en en' e1 ej ej' just eh e2 =
-      let first : p1 ≡ picked s.pairings fin.empty (pairings_named order) = e1 ∙ (λ i. picked s.pairings (e0 i) ((en' ∙ en) i)) in
+      let first : p1 ≡ picked s.pairings fin.empty (pairings_named instruction) = e1 ∙ (λ i. picked s.pairings (e0 i) ((en' ∙ en) i)) in
       let same = ej ∙ judged_same p1 first in (
         e2 ∙ (λ i. picked s.pairings (first i) (eh i)) ∙ pairings_are held (subst (λ l. AreJust (IsHeldByOne s l) held) (ej' ∙ same) just),
         same,
       )
 
   pub grounds_as : (p0 p1 p2 : fin.FinMap name_cmp GroundPlan) (names names' judged theirs theirs' : List (List ℕ)) →
-      p0 ≡ fin.empty → names ≡ grounds_named order → names' ≡ names → p1 ≡ picked s.grounds p0 names' →
-      AreJust (IsGroundOfOne s judged) theirs → theirs' ≡ theirs → p2 ≡ picked s.grounds p1 theirs' → judged ≡ judged_by s order → p2 ≡ grounds_of s order
+      p0 ≡ fin.empty → names ≡ grounds_named instruction → names' ≡ names → p1 ≡ picked s.grounds p0 names' →
+      AreJust (IsGroundOfOne s judged) theirs → theirs' ≡ theirs → p2 ≡ picked s.grounds p1 theirs' → judged ≡ judged_by s instruction → p2 ≡ grounds_of s instruction
   grounds_as p0 p1 p2 names names' judged theirs theirs' e0 en en' e1 just et e2 ej =
-      let first : p1 ≡ picked s.grounds fin.empty (grounds_named order) = e1 ∙ (λ i. picked s.grounds (e0 i) ((en' ∙ en) i)) in
+      let first : p1 ≡ picked s.grounds fin.empty (grounds_named instruction) = e1 ∙ (λ i. picked s.grounds (e0 i) ((en' ∙ en) i)) in
       e2 ∙ (λ i. picked s.grounds (first i) (et i)) ∙ grounds_are theirs (subst (λ l. AreJust (IsGroundOfOne s l) theirs) ej just)
 
 -- ---- Lists that grow

@@ -12,7 +12,7 @@ use Rattle.command.specs.declared.member.Member.{Member}
 use Rattle.duty.specs.Plans.{GroundPlan}
 use Rattle.roster.specs.Pairings.{holds}
 use Rattle.roster.specs.State.{State}
-use Rattle.roster.specs.declared.state.Rostered.{Rostered}
+use Rattle.roster.specs.declared.state.PairingEntry.{PairingEntry}
 use Rattle.part.specs.Shown.{HasExceedanceText, HasMemberText, HasPairingText, exceedances_part, is_ground_of, is_held_of, member_part}
 use Rattle.part.proofs.Retained.{same_name, retained, from_retained, same_passing}
 
@@ -23,7 +23,7 @@ module _ (s : State) (who : List ℕ) where
   crew_same : fin.get part.crew who ≡ fin.get s.crew who
   crew_same = retained s.crew (bytes_eq who) who (same_name who)
 
-  pairings_same : filter (λ (row : List ℕ × Rostered). holds who row.1) (fin.entries part.pairings) ≡ filter (λ (row : List ℕ × Rostered). holds who row.1) (fin.entries s.pairings)
+  pairings_same : filter (λ (row : List ℕ × PairingEntry). holds who row.1) (fin.entries part.pairings) ≡ filter (λ (row : List ℕ × PairingEntry). holds who row.1) (fin.entries s.pairings)
   pairings_same = same_passing (holds who) part.pairings s.pairings
       (λ id r there. (from_retained s.pairings (is_held_of s who) id r there).1)
       (λ id r there held. retained s.pairings (is_held_of s who) id (ap (λ o. option_map_or (holds who) o false) there ∙ held) ∙ there)

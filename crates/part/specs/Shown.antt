@@ -9,9 +9,11 @@ use Rattle.report.specs.RosterText.{IsRosterText}
 use Rattle.roster.specs.Pairings.{holds}
 use Rattle.roster.specs.State.{State}
 
+-- the member holds a seat of this pairing
 abbrev pub is_held_of : State → List ℕ → List ℕ → Bool
 is_held_of s who id = option_map_or (holds who) (fin.get s.pairings id) false
 
+-- this ground duty is the member's
 abbrev pub is_ground_of : State → List ℕ → List ℕ → Bool
 is_ground_of s who id = option_map_or (λ g. bytes_eq g.crew who) (fin.get s.grounds id) false
 

@@ -6,11 +6,11 @@ use Rattle.std.specs.Option.{option_map_or}
 use Rattle.std.specs.Str.{bytes_eq}
 use Rattle.values.specs.Name.{name_cmp}
 use Rattle.duty.specs.Plans.{GroundPlan}
-use Rattle.command.specs.declared.order.Order.{Order}
+use Rattle.command.specs.declared.instruction.Instruction.{Instruction}
 use Rattle.part.specs.Part.{holders, members_named}
 use Rattle.roster.specs.Pairings.{holds}
 use Rattle.roster.specs.State.{State}
-use Rattle.roster.specs.declared.state.Rostered.{Rostered}
+use Rattle.roster.specs.declared.state.PairingEntry.{PairingEntry}
 
 -- what a call tells: while the source may be believed it shows the state that it showed, and the answer is the state's
 abbrev pub Tells : {X A E : Type 0} → (X → Type 0) → (X → State → Type 0) → (State → A → Type 0) → X → X → Result A E → Type 0
@@ -19,7 +19,7 @@ Tells IsClean Shows Is old new result =
 
 -- the member holds the pairing of this id
 abbrev pub IsHeldBy : State → List ℕ → List ℕ → Type 0
-IsHeldBy s who id = (r : Rostered) × (fin.get s.pairings id ≡ Some r) × (holds who r ≡ true)
+IsHeldBy s who id = (r : PairingEntry) × (fin.get s.pairings id ≡ Some r) × (holds who r ≡ true)
 
 -- the ground duty of this id is the member's
 abbrev pub IsGroundOf : State → List ℕ → List ℕ → Type 0
@@ -33,6 +33,7 @@ AreJust Is ids = (id : List ℕ) → Contains ids id ↔ Is id
 abbrev pub pick : {V : Type 0} → fin.FinMap name_cmp V → fin.FinMap name_cmp V → List ℕ → fin.FinMap name_cmp V
 pick from to id = option_map_or (λ value. fin.insert to id value) (fin.get from id) to
 
+-- the entries of these ids, put into a map in turn
 abbrev pub picked : {V : Type 0} → fin.FinMap name_cmp V → fin.FinMap name_cmp V → List (List ℕ) → fin.FinMap name_cmp V
 picked from to ids = fold (pick from) to ids
 
@@ -44,10 +45,11 @@ IsPartOf {V} part whole = (id : List ℕ) (value : V) → fin.get part id ≡ So
 abbrev pub IsHeldByOne : State → List (List ℕ) → List ℕ → Type 0
 IsHeldByOne s names id = (who : List ℕ) × Contains names who × IsHeldBy s who id
 
+-- the ground duty is of one of these members
 abbrev pub IsGroundOfOne : State → List (List ℕ) → List ℕ → Type 0
 IsGroundOfOne s names id = (who : List ℕ) × Contains names who × IsGroundOf s who id
 
--- the members whom an order names, and whom these pairings and ground duties name
-abbrev pub members_wanted : Order → fin.FinMap name_cmp Rostered → fin.FinMap name_cmp GroundPlan → List (List ℕ)
-members_wanted order pairings grounds =
-    (members_named order ++ flat_map (λ row. holders row.1) (fin.entries pairings)) ++ map (λ row. row.1.crew) (fin.entries grounds)
+-- the members whom an instruction names, and whom these pairings and ground duties name
+abbrev pub members_wanted : Instruction → fin.FinMap name_cmp PairingEntry → fin.FinMap name_cmp GroundPlan → List (List ℕ)
+members_wanted instruction pairings grounds =
+    (members_named instruction ++ flat_map (λ row. holders row.1) (fin.entries pairings)) ++ map (λ row. row.1.crew) (fin.entries grounds)

@@ -1,4 +1,5 @@
-//! The part of a state, gathered from a source.
+//! The part of a state, gathered from a source. Its definition is `Part` (`specs/Part.antt`).
+//! Through the program: `tests/answers.py`. Wrong bodies: `must-fail/`.
 
 ghost use Rattle.std.specs.Prelude.{◌≡◌, ◌++◌, OnOk};
 ghost use Rattle.std.specs.FinMap as fin;
@@ -10,11 +11,11 @@ ghost use Rattle.part.specs.Sources.{AreJust, IsGroundOfOne, IsHeldByOne, Tells}
 use crate::named::{grounds_named, judged_in, members_wanted, pairings_named};
 use crate::pick::{pick_grounds, pick_members, pick_pairings, pick_request};
 use crate::source::Source;
-use command::{Command, Key, Member, Order};
+use command::{Command, Instruction, Key, Member};
 use duty::{CrewId, Ground, GroundId, PairingId};
-use roster::{Request, Roster, Rostered};
+use roster::{LoggedCommand, PairingEntry, Roster};
 use std::alloc::Global;
-use values::{MemoryFault, Table};
+use values::{MemoryFault, OrdMap};
 
 /// Adds all values of a list to another.
 fn add_all<T: Drop>(list: &mut Vec<T>, other: Vec<T>) -> Result<(), MemoryFault>
@@ -25,13 +26,14 @@ fn add_all<T: Drop>(list: &mut Vec<T>, other: Vec<T>) -> Result<(), MemoryFault>
     Ok(())
 }
 
-/// The ids of the pairings that some members hold.
+/// Reads the ids of the pairings that some members hold.
 fn held_by_one<S: Source>(
     alloc: Global,
     source: &mut S,
     judged: &[CrewId],
 ) -> Result<Vec<PairingId>, S::Fault>
-    ensures told { Tells S.is_clean S.shows (λ s found. AreJust (IsHeldByOne s judged.now) found.items) source.old source.new result }
+    ensures told { Tells S.is_clean S.shows
+        (λ s found. AreJust (IsHeldByOne s judged.now) found.items) source.old source.new result }
     ensures left { S.stays source.old source.new }
     ensures serves { OnOk result (S.serves source.old source.new) }
 {
@@ -43,13 +45,14 @@ fn held_by_one<S: Source>(
     Ok(all)
 }
 
-/// The ids of some members' ground duties.
+/// Reads the ids of some members' ground duties.
 fn grounds_of_one<S: Source>(
     alloc: Global,
     source: &mut S,
     judged: &[CrewId],
 ) -> Result<Vec<GroundId>, S::Fault>
-    ensures told { Tells S.is_clean S.shows (λ s found. AreJust (IsGroundOfOne s judged.now) found.items) source.old source.new result }
+    ensures told { Tells S.is_clean S.shows
+        (λ s found. AreJust (IsGroundOfOne s judged.now) found.items) source.old source.new result }
     ensures left { S.stays source.old source.new }
     ensures serves { OnOk result (S.serves source.old source.new) }
 {
@@ -63,104 +66,116 @@ fn grounds_of_one<S: Source>(
 
 /// The pairings of a part, and whose histories are judged.
 struct Plans {
-    pairings: Table<PairingId, Rostered>,
+    pairings: OrdMap<PairingId, PairingEntry>,
     judged: Vec<CrewId>,
 }
 
-/// The pairings of a part, and the members whose histories are judged.
+/// Gathers the pairings of a part, and the members whose histories are judged.
 #[tactic(auto, using(crate::proofs::Picked::pairings_are))]
-fn gather_plans<S: Source>(alloc: Global, source: &mut S, order: &Order) -> Result<Plans, S::Fault>
-    ensures told { Tells S.is_clean S.shows (λ s it. (it.pairings ≡ pairings_of s order.now) × (it.judged.items ≡ judged_by s order.now)) source.old source.new result }
+fn gather_plans<S: Source>(
+    alloc: Global,
+    source: &mut S,
+    instruction: &Instruction,
+) -> Result<Plans, S::Fault>
+    ensures told { Tells S.is_clean S.shows (λ s it. (it.pairings ≡ pairings_of s instruction.now)
+        × (it.judged.items ≡ judged_by s instruction.now)) source.old source.new result }
     ensures left { S.stays source.old source.new }
     ensures serves { OnOk result (S.serves source.old source.new) }
 {
-    let mut pairings = Table::new(alloc);
-    let named = pairings_named(alloc, order)?;
+    let mut pairings = OrdMap::new(alloc);
+    let named = pairings_named(alloc, instruction)?;
     pick_pairings(alloc, source, &named, &mut pairings)?;
-    let judged = judged_in(alloc, order, &pairings)?;
+    let judged = judged_in(alloc, instruction, &pairings)?;
     let held = held_by_one(alloc, source, &judged)?;
     pick_pairings(alloc, source, &held, &mut pairings)?;
     Ok(Plans { pairings, judged })
 }
 
-/// The ground duties of a part.
+/// Gathers the ground duties of a part.
 #[tactic(auto, using(crate::proofs::Picked::grounds_are))]
 fn gather_grounds<S: Source>(
     alloc: Global,
     source: &mut S,
-    order: &Order,
+    instruction: &Instruction,
     judged: &[CrewId],
-) -> Result<Table<GroundId, Ground>, S::Fault>
-    ensures told { Tells S.is_clean S.shows (λ s it. judged.now ≡ judged_by s order.now → it ≡ grounds_of s order.now) source.old source.new result }
+) -> Result<OrdMap<GroundId, Ground>, S::Fault>
+    ensures told { Tells S.is_clean S.shows (λ s it. judged.now ≡ judged_by s instruction.now
+        → it ≡ grounds_of s instruction.now) source.old source.new result }
     ensures left { S.stays source.old source.new }
     ensures serves { OnOk result (S.serves source.old source.new) }
 {
-    let mut grounds = Table::new(alloc);
-    let named = grounds_named(alloc, order)?;
+    let mut grounds = OrdMap::new(alloc);
+    let named = grounds_named(alloc, instruction)?;
     pick_grounds(alloc, source, &named, &mut grounds)?;
     let theirs = grounds_of_one(alloc, source, judged)?;
     pick_grounds(alloc, source, &theirs, &mut grounds)?;
     Ok(grounds)
 }
 
-/// The members of a part.
+/// Gathers the members of a part.
 fn gather_members<S: Source>(
     alloc: Global,
     source: &mut S,
-    order: &Order,
-    pairings: &Table<PairingId, Rostered>,
-    grounds: &Table<GroundId, Ground>,
-) -> Result<Table<CrewId, Member>, S::Fault>
-    ensures told { Tells S.is_clean S.shows (λ s it. pairings.now ≡ pairings_of s order.now → grounds.now ≡ grounds_of s order.now → it ≡ fin.retain_keys s.crew (needs_member s order.now)) source.old source.new result }
+    instruction: &Instruction,
+    pairings: &OrdMap<PairingId, PairingEntry>,
+    grounds: &OrdMap<GroundId, Ground>,
+) -> Result<OrdMap<CrewId, Member>, S::Fault>
+    ensures told { Tells S.is_clean S.shows
+        (λ s it. pairings.now ≡ pairings_of s instruction.now
+        → grounds.now ≡ grounds_of s instruction.now
+        → it ≡ fin.retain_keys s.crew (needs_member s instruction.now)) source.old source.new result }
     ensures left { S.stays source.old source.new }
     ensures serves { OnOk result (S.serves source.old source.new) }
 {
-    let mut crew = Table::new(alloc);
-    let wanted = members_wanted(alloc, order, pairings, grounds)?;
+    let mut crew = OrdMap::new(alloc);
+    let wanted = members_wanted(alloc, instruction, pairings, grounds)?;
     pick_members(alloc, source, &wanted, &mut crew)?;
     Ok(crew)
 }
 
-/// What the key holds.
+/// Gathers what the key holds.
 #[tactic(auto, using(crate::proofs::Picked::entry_is))]
 fn gather_requests<S: Source>(
     alloc: Global,
     source: &mut S,
     key: Key,
-) -> Result<Table<Key, Request>, S::Fault>
-    ensures told { Tells S.is_clean S.shows (λ s it. it ≡ fin.retain_keys s.requests (bytes_eq (key_name key))) source.old source.new result }
+) -> Result<OrdMap<Key, LoggedCommand>, S::Fault>
+    ensures told { Tells S.is_clean S.shows
+        (λ s it. it ≡ fin.retain_keys s.requests (bytes_eq (key_name key)))
+        source.old source.new result }
     ensures left { S.stays source.old source.new }
     ensures serves { OnOk result (S.serves source.old source.new) }
 {
-    let mut requests = Table::new(alloc);
+    let mut requests = OrdMap::new(alloc);
     pick_request(alloc, source, key, &mut requests)?;
     Ok(requests)
 }
 
-/// What a command needs to be answered under its key.
+/// Gathers what a command needs to be answered under its key.
 pub fn gather<S: Source>(
     alloc: Global,
     source: &mut S,
     key: Key,
     command: &Command,
 ) -> Result<Roster, S::Fault>
-    ensures told { Tells S.is_clean S.shows (λ s it. it ≡ Part s key command.now) source.old source.new result }
+    ensures told { Tells S.is_clean S.shows
+        (λ s it. it ≡ Part s key command.now) source.old source.new result }
     ensures left { S.stays source.old source.new }
     ensures serves { OnOk result (S.serves source.old source.new) }
     ensures there { OnOk result (S.is_there source.new) }
 {
-    let order = command.order();
+    let instruction = command.instruction();
     let zone = source.zone(alloc)?;
     let requests = gather_requests(alloc, source, key)?;
-    let Plans { pairings, judged } = gather_plans(alloc, source, order)?;
-    let grounds = gather_grounds(alloc, source, order, &judged)?;
-    let crew = gather_members(alloc, source, order, &pairings, &grounds)?;
+    let Plans { pairings, judged } = gather_plans(alloc, source, instruction)?;
+    let grounds = gather_grounds(alloc, source, instruction, &judged)?;
+    let crew = gather_members(alloc, source, instruction, &pairings, &grounds)?;
     Ok(Roster {
         zone,
         crew,
         pairings,
         grounds,
-        exceedances: Table::new(alloc),
+        exceedances: OrdMap::new(alloc),
         requests,
     })
 }

@@ -7,18 +7,20 @@ ghost use Rattle.part.specs.Sources.{IsPartOf, Tells, picked, pick};
 use crate::source::Source;
 use command::{Key, Member};
 use duty::{CrewId, Ground, GroundId, PairingId};
-use roster::{Request, Rostered};
+use roster::{LoggedCommand, PairingEntry};
 use std::alloc::Global;
-use values::{Copied, Table};
+use values::{OrdMap, TryClone};
 
 /// Sets what the source has under a key.
 pub(crate) fn pick_request<S: Source>(
     alloc: Global,
     source: &mut S,
     key: Key,
-    requests: &mut Table<Key, Request>,
+    requests: &mut OrdMap<Key, LoggedCommand>,
 ) -> Result<(), S::Fault>
-    ensures told { Tells S.is_clean S.shows (λ s _. requests.new ≡ pick s.requests requests.old (key_name key)) source.old source.new result }
+    ensures told { Tells S.is_clean S.shows
+        (λ s _. requests.new ≡ pick s.requests requests.old (key_name key))
+        source.old source.new result }
     ensures left { S.stays source.old source.new }
     ensures serves { OnOk result (S.serves source.old source.new) }
 {
@@ -33,14 +35,15 @@ pub(crate) fn pick_pairing<S: Source>(
     alloc: Global,
     source: &mut S,
     id: &PairingId,
-    pairings: &mut Table<PairingId, Rostered>,
+    pairings: &mut OrdMap<PairingId, PairingEntry>,
 ) -> Result<(), S::Fault>
-    ensures told { Tells S.is_clean S.shows (λ s _. pairings.new ≡ pick s.pairings pairings.old id.now) source.old source.new result }
+    ensures told { Tells S.is_clean S.shows
+        (λ s _. pairings.new ≡ pick s.pairings pairings.old id.now) source.old source.new result }
     ensures left { S.stays source.old source.new }
     ensures serves { OnOk result (S.serves source.old source.new) }
 {
     if let Some(rostered) = source.pairing(alloc, id)? {
-        pairings.insert(id.copy(alloc)?, rostered)?;
+        pairings.insert(id.try_clone(alloc)?, rostered)?;
     }
     Ok(())
 }
@@ -50,9 +53,11 @@ pub(crate) fn pick_pairings<S: Source>(
     alloc: Global,
     source: &mut S,
     ids: &[PairingId],
-    pairings: &mut Table<PairingId, Rostered>,
+    pairings: &mut OrdMap<PairingId, PairingEntry>,
 ) -> Result<(), S::Fault>
-    ensures told { Tells S.is_clean S.shows (λ s _. pairings.new ≡ picked s.pairings pairings.old ids.now) source.old source.new result }
+    ensures told { Tells S.is_clean S.shows
+        (λ s _. pairings.new ≡ picked s.pairings pairings.old ids.now)
+        source.old source.new result }
     ensures left { S.stays source.old source.new }
     ensures serves { OnOk result (S.serves source.old source.new) }
 {
@@ -67,14 +72,15 @@ fn pick_ground<S: Source>(
     alloc: Global,
     source: &mut S,
     id: &GroundId,
-    grounds: &mut Table<GroundId, Ground>,
+    grounds: &mut OrdMap<GroundId, Ground>,
 ) -> Result<(), S::Fault>
-    ensures told { Tells S.is_clean S.shows (λ s _. grounds.new ≡ pick s.grounds grounds.old id.now) source.old source.new result }
+    ensures told { Tells S.is_clean S.shows
+        (λ s _. grounds.new ≡ pick s.grounds grounds.old id.now) source.old source.new result }
     ensures left { S.stays source.old source.new }
     ensures serves { OnOk result (S.serves source.old source.new) }
 {
     if let Some(ground) = source.ground(alloc, id)? {
-        grounds.insert(id.copy(alloc)?, ground)?;
+        grounds.insert(id.try_clone(alloc)?, ground)?;
     }
     Ok(())
 }
@@ -84,9 +90,10 @@ pub(crate) fn pick_grounds<S: Source>(
     alloc: Global,
     source: &mut S,
     ids: &[GroundId],
-    grounds: &mut Table<GroundId, Ground>,
+    grounds: &mut OrdMap<GroundId, Ground>,
 ) -> Result<(), S::Fault>
-    ensures told { Tells S.is_clean S.shows (λ s _. grounds.new ≡ picked s.grounds grounds.old ids.now) source.old source.new result }
+    ensures told { Tells S.is_clean S.shows
+        (λ s _. grounds.new ≡ picked s.grounds grounds.old ids.now) source.old source.new result }
     ensures left { S.stays source.old source.new }
     ensures serves { OnOk result (S.serves source.old source.new) }
 {
@@ -102,9 +109,10 @@ pub(crate) fn pick_member<S: Source>(
     alloc: Global,
     source: &mut S,
     id: &CrewId,
-    crew: &mut Table<CrewId, Member>,
+    crew: &mut OrdMap<CrewId, Member>,
 ) -> Result<(), S::Fault>
-    ensures told { Tells S.is_clean S.shows (λ s _. IsPartOf crew.old s.crew → crew.new ≡ pick s.crew crew.old id.now) source.old source.new result }
+    ensures told { Tells S.is_clean S.shows (λ s _. IsPartOf crew.old s.crew
+        → crew.new ≡ pick s.crew crew.old id.now) source.old source.new result }
     ensures left { S.stays source.old source.new }
     ensures serves { OnOk result (S.serves source.old source.new) }
 {
@@ -112,7 +120,7 @@ pub(crate) fn pick_member<S: Source>(
         return Ok(());
     }
     if let Some(member) = source.member(alloc, id)? {
-        crew.insert(id.copy(alloc)?, member)?;
+        crew.insert(id.try_clone(alloc)?, member)?;
     }
     Ok(())
 }
@@ -122,9 +130,10 @@ pub(crate) fn pick_members<S: Source>(
     alloc: Global,
     source: &mut S,
     ids: &[CrewId],
-    crew: &mut Table<CrewId, Member>,
+    crew: &mut OrdMap<CrewId, Member>,
 ) -> Result<(), S::Fault>
-    ensures told { Tells S.is_clean S.shows (λ s _. IsPartOf crew.old s.crew → crew.new ≡ picked s.crew crew.old ids.now) source.old source.new result }
+    ensures told { Tells S.is_clean S.shows (λ s _. IsPartOf crew.old s.crew
+        → crew.new ≡ picked s.crew crew.old ids.now) source.old source.new result }
     ensures left { S.stays source.old source.new }
     ensures serves { OnOk result (S.serves source.old source.new) }
 {

@@ -1,4 +1,5 @@
 //! What is shown of a member, of a pairing or of the exceedances, gathered from a source.
+//! Through the program: `tests/reports.py`. Wrong bodies: `must-fail/`.
 
 ghost use Rattle.std.specs.Prelude.{◌≡◌, OnOk};
 ghost use Rattle.std.specs.FinMap as fin;
@@ -10,80 +11,87 @@ use crate::pick::{pick_grounds, pick_member, pick_pairing, pick_pairings};
 use crate::source::Source;
 use command::Member;
 use duty::{CrewId, Ground, GroundId, PairingId};
-use roster::{Roster, Rostered};
+use roster::{PairingEntry, Roster};
 use std::alloc::Global;
-use values::Table;
+use values::OrdMap;
 
-/// The pairings that a member holds.
+/// Gathers the pairings that a member holds.
 fn held_pairings<S: Source>(
     alloc: Global,
     source: &mut S,
     who: &CrewId,
-) -> Result<Table<PairingId, Rostered>, S::Fault>
-    ensures told { Tells S.is_clean S.shows (λ s it. it ≡ fin.retain_keys s.pairings (is_held_of s who.now)) source.old source.new result }
+) -> Result<OrdMap<PairingId, PairingEntry>, S::Fault>
+    ensures told { Tells S.is_clean S.shows
+        (λ s it. it ≡ fin.retain_keys s.pairings (is_held_of s who.now))
+        source.old source.new result }
     ensures left { S.stays source.old source.new }
     ensures serves { OnOk result (S.serves source.old source.new) }
 {
-    let mut pairings = Table::new(alloc);
+    let mut pairings = OrdMap::new(alloc);
     let ids = source.pairings_of(alloc, who)?;
     pick_pairings(alloc, source, &ids, &mut pairings)?;
     Ok(pairings)
 }
 
-/// A member's ground duties.
+/// Gathers a member's ground duties.
 fn grounds_held<S: Source>(
     alloc: Global,
     source: &mut S,
     who: &CrewId,
-) -> Result<Table<GroundId, Ground>, S::Fault>
-    ensures told { Tells S.is_clean S.shows (λ s it. it ≡ fin.retain_keys s.grounds (is_ground_of s who.now)) source.old source.new result }
+) -> Result<OrdMap<GroundId, Ground>, S::Fault>
+    ensures told { Tells S.is_clean S.shows
+        (λ s it. it ≡ fin.retain_keys s.grounds (is_ground_of s who.now))
+        source.old source.new result }
     ensures left { S.stays source.old source.new }
     ensures serves { OnOk result (S.serves source.old source.new) }
 {
-    let mut grounds = Table::new(alloc);
+    let mut grounds = OrdMap::new(alloc);
     let ids = source.grounds_of(alloc, who)?;
     pick_grounds(alloc, source, &ids, &mut grounds)?;
     Ok(grounds)
 }
 
-/// The member of an id, if there is one.
+/// Gathers the member of an id, if there is one.
 fn one_member<S: Source>(
     alloc: Global,
     source: &mut S,
     who: &CrewId,
-) -> Result<Table<CrewId, Member>, S::Fault>
-    ensures told { Tells S.is_clean S.shows (λ s it. it ≡ fin.retain_keys s.crew (bytes_eq who.now)) source.old source.new result }
+) -> Result<OrdMap<CrewId, Member>, S::Fault>
+    ensures told { Tells S.is_clean S.shows
+        (λ s it. it ≡ fin.retain_keys s.crew (bytes_eq who.now)) source.old source.new result }
     ensures left { S.stays source.old source.new }
     ensures serves { OnOk result (S.serves source.old source.new) }
 {
-    let mut crew = Table::new(alloc);
+    let mut crew = OrdMap::new(alloc);
     pick_member(alloc, source, who, &mut crew)?;
     Ok(crew)
 }
 
-/// The pairing of an id, if there is one.
+/// Gathers the pairing of an id, if there is one.
 #[tactic(auto, using(crate::proofs::Picked::entry_is))]
 fn one_pairing<S: Source>(
     alloc: Global,
     source: &mut S,
     id: &PairingId,
-) -> Result<Table<PairingId, Rostered>, S::Fault>
-    ensures told { Tells S.is_clean S.shows (λ s it. it ≡ fin.retain_keys s.pairings (bytes_eq id.now)) source.old source.new result }
+) -> Result<OrdMap<PairingId, PairingEntry>, S::Fault>
+    ensures told { Tells S.is_clean S.shows
+        (λ s it. it ≡ fin.retain_keys s.pairings (bytes_eq id.now)) source.old source.new result }
     ensures left { S.stays source.old source.new }
     ensures serves { OnOk result (S.serves source.old source.new) }
 {
-    let mut pairings = Table::new(alloc);
+    let mut pairings = OrdMap::new(alloc);
     pick_pairing(alloc, source, id, &mut pairings)?;
     Ok(pairings)
 }
 
-/// A member, with the pairings that the member holds and the member's ground duties.
+/// Gathers a member, with the pairings that the member holds and the member's ground duties.
 pub fn gather_member<S: Source>(
     alloc: Global,
     source: &mut S,
     who: &CrewId,
 ) -> Result<Roster, S::Fault>
-    ensures told { Tells S.is_clean S.shows (λ s it. it ≡ member_part s who.now) source.old source.new result }
+    ensures told { Tells S.is_clean S.shows
+        (λ s it. it ≡ member_part s who.now) source.old source.new result }
     ensures left { S.stays source.old source.new }
     ensures serves { OnOk result (S.serves source.old source.new) }
     ensures there { OnOk result (S.is_there source.new) }
@@ -97,18 +105,19 @@ pub fn gather_member<S: Source>(
         crew,
         pairings,
         grounds,
-        exceedances: Table::new(alloc),
-        requests: Table::new(alloc),
+        exceedances: OrdMap::new(alloc),
+        requests: OrdMap::new(alloc),
     })
 }
 
-/// A pairing alone.
+/// Gathers a pairing alone.
 pub fn gather_pairing<S: Source>(
     alloc: Global,
     source: &mut S,
     id: &PairingId,
 ) -> Result<Roster, S::Fault>
-    ensures told { Tells S.is_clean S.shows (λ s it. it ≡ pairing_part s id.now) source.old source.new result }
+    ensures told { Tells S.is_clean S.shows
+        (λ s it. it ≡ pairing_part s id.now) source.old source.new result }
     ensures left { S.stays source.old source.new }
     ensures serves { OnOk result (S.serves source.old source.new) }
     ensures there { OnOk result (S.is_there source.new) }
@@ -117,17 +126,18 @@ pub fn gather_pairing<S: Source>(
     let pairings = one_pairing(alloc, source, id)?;
     Ok(Roster {
         zone,
-        crew: Table::new(alloc),
+        crew: OrdMap::new(alloc),
         pairings,
-        grounds: Table::new(alloc),
-        exceedances: Table::new(alloc),
-        requests: Table::new(alloc),
+        grounds: OrdMap::new(alloc),
+        exceedances: OrdMap::new(alloc),
+        requests: OrdMap::new(alloc),
     })
 }
 
-/// The exceedances alone.
+/// Gathers the exceedances alone.
 pub fn gather_exceedances<S: Source>(alloc: Global, source: &mut S) -> Result<Roster, S::Fault>
-    ensures told { Tells S.is_clean S.shows (λ s it. it ≡ exceedances_part s) source.old source.new result }
+    ensures told { Tells S.is_clean S.shows
+        (λ s it. it ≡ exceedances_part s) source.old source.new result }
     ensures left { S.stays source.old source.new }
     ensures serves { OnOk result (S.serves source.old source.new) }
     ensures there { OnOk result (S.is_there source.new) }
@@ -136,10 +146,10 @@ pub fn gather_exceedances<S: Source>(alloc: Global, source: &mut S) -> Result<Ro
     let exceedances = source.exceedances(alloc)?;
     Ok(Roster {
         zone,
-        crew: Table::new(alloc),
-        pairings: Table::new(alloc),
-        grounds: Table::new(alloc),
+        crew: OrdMap::new(alloc),
+        pairings: OrdMap::new(alloc),
+        grounds: OrdMap::new(alloc),
         exceedances,
-        requests: Table::new(alloc),
+        requests: OrdMap::new(alloc),
     })
 }

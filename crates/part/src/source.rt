@@ -8,10 +8,10 @@ ghost use Rattle.part.specs.Sources.{Tells, IsHeldBy, IsGroundOf, AreJust};
 
 use command::{Key, Member};
 use duty::{CrewId, Ground, GroundId, PairingId};
-use roster::{ExceedanceId, PeriodId, Request, Rostered};
+use roster::{ExceedanceId, LoggedCommand, PairingEntry, PeriodId};
 use std::alloc::Global;
 use time117::Zone;
-use values::{MemoryFault, Table};
+use values::{MemoryFault, OrdMap};
 
 /// What shows a state of the book, read by key.
 pub trait Source {
@@ -43,52 +43,63 @@ pub trait Source {
 
     ghost still_there: { (x y : Self) → serves x y → is_there x → is_there y };
 
-    /// The zone.
+    /// Reads the zone.
     fn zone(&mut self, alloc: Global) -> Result<Zone, Self::Fault>
         ensures told { Tells is_clean shows (λ s zone. zone ≡ s.zone) self.old self.new result }
         ensures left { stays self.old self.new }
         ensures serves { OnOk result (serves self.old self.new) }
         ensures there { OnOk result (is_there self.new) };
 
-    /// What a key holds.
-    fn request(&mut self, alloc: Global, key: Key) -> Result<Option<Request>, Self::Fault>
-        ensures told { Tells is_clean shows (λ s found. found ≡ fin.get s.requests (key_name key)) self.old self.new result }
+    /// Reads what a key holds.
+    fn request(&mut self, alloc: Global, key: Key) -> Result<Option<LoggedCommand>, Self::Fault>
+        ensures told { Tells is_clean shows
+            (λ s found. found ≡ fin.get s.requests (key_name key)) self.old self.new result }
         ensures left { stays self.old self.new }
         ensures serves { OnOk result (serves self.old self.new) };
 
-    /// The member of an id.
+    /// Reads the member of an id.
     fn member(&mut self, alloc: Global, id: &CrewId) -> Result<Option<Member>, Self::Fault>
-        ensures told { Tells is_clean shows (λ s found. found ≡ fin.get s.crew id.now) self.old self.new result }
+        ensures told { Tells is_clean shows
+            (λ s found. found ≡ fin.get s.crew id.now) self.old self.new result }
         ensures left { stays self.old self.new }
         ensures serves { OnOk result (serves self.old self.new) };
 
-    /// The pairing of an id, with its actuals and holders.
-    fn pairing(&mut self, alloc: Global, id: &PairingId) -> Result<Option<Rostered>, Self::Fault>
-        ensures told { Tells is_clean shows (λ s found. found ≡ fin.get s.pairings id.now) self.old self.new result }
+    /// Reads the pairing of an id, with its actuals and holders.
+    fn pairing(
+        &mut self,
+        alloc: Global,
+        id: &PairingId,
+    ) -> Result<Option<PairingEntry>, Self::Fault>
+        ensures told { Tells is_clean shows
+            (λ s found. found ≡ fin.get s.pairings id.now) self.old self.new result }
         ensures left { stays self.old self.new }
         ensures serves { OnOk result (serves self.old self.new) };
 
-    /// The ground duty of an id.
+    /// Reads the ground duty of an id.
     fn ground(&mut self, alloc: Global, id: &GroundId) -> Result<Option<Ground>, Self::Fault>
-        ensures told { Tells is_clean shows (λ s found. found ≡ fin.get s.grounds id.now) self.old self.new result }
+        ensures told { Tells is_clean shows
+            (λ s found. found ≡ fin.get s.grounds id.now) self.old self.new result }
         ensures left { stays self.old self.new }
         ensures serves { OnOk result (serves self.old self.new) };
 
-    /// The ids of the pairings that a member holds, in any order.
+    /// Reads the ids of the pairings that a member holds, in any instruction.
     fn pairings_of(&mut self, alloc: Global, who: &CrewId) -> Result<Vec<PairingId>, Self::Fault>
-        ensures told { Tells is_clean shows (λ s found. AreJust (IsHeldBy s who.now) found.items) self.old self.new result }
+        ensures told { Tells is_clean shows
+            (λ s found. AreJust (IsHeldBy s who.now) found.items) self.old self.new result }
         ensures left { stays self.old self.new }
         ensures serves { OnOk result (serves self.old self.new) };
 
-    /// The ids of the member's ground duties, in any order.
+    /// Reads the ids of the member's ground duties, in any instruction.
     fn grounds_of(&mut self, alloc: Global, who: &CrewId) -> Result<Vec<GroundId>, Self::Fault>
-        ensures told { Tells is_clean shows (λ s found. AreJust (IsGroundOf s who.now) found.items) self.old self.new result }
+        ensures told { Tells is_clean shows
+            (λ s found. AreJust (IsGroundOf s who.now) found.items) self.old self.new result }
         ensures left { stays self.old self.new }
         ensures serves { OnOk result (serves self.old self.new) };
 
-    /// All exceedances.
-    fn exceedances(&mut self, alloc: Global) -> Result<Table<ExceedanceId, PeriodId>, Self::Fault>
-        ensures told { Tells is_clean shows (λ s found. found ≡ s.exceedances) self.old self.new result }
+    /// Reads all exceedances.
+    fn exceedances(&mut self, alloc: Global) -> Result<OrdMap<ExceedanceId, PeriodId>, Self::Fault>
+        ensures told { Tells is_clean shows
+            (λ s found. found ≡ s.exceedances) self.old self.new result }
         ensures left { stays self.old self.new }
         ensures serves { OnOk result (serves self.old self.new) };
 }

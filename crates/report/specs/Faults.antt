@@ -3,6 +3,7 @@ use Rattle.std.specs.Prelude.{ℕ, List, codes}
 use Rattle.report.specs.declared.fault.ReportFault.{ReportFault}
 use Rattle.report.specs.declared.fault.ReportFault.TheVariants.{NoSuchCrew, NoSuchPairing, Memory}
 
+-- a fault as it is printed
 abbrev pub fault_text : ReportFault → List ℕ
 fault_text NoSuchCrew = codes "2 NoSuchCrew"
 fault_text NoSuchPairing = codes "4 NoSuchPairing"

@@ -7,7 +7,7 @@ use Rattle.std.specs.Option.{option_map}
 use Rattle.time117.specs.Instant.{written}
 use Rattle.duty.specs.declared.segment.Segment.{Segment}
 use Rattle.roster.specs.State.{State}
-use Rattle.roster.specs.declared.state.Rostered.{Rostered}
+use Rattle.roster.specs.declared.state.PairingEntry.{PairingEntry}
 use Rattle.report.specs.Periods.{periods_of, word}
 use Rattle.report.specs.declared.periods.PeriodInForce.{PeriodInForce}
 
@@ -16,6 +16,7 @@ abbrev pub holder_text : Option (List ℕ) → List ℕ
 holder_text None = codes "-"
 holder_text (Some crew) = crew
 
+-- the line of a seat: its name and its holder
 abbrev pub seat_line : List ℕ → Option (List ℕ) → List ℕ
 seat_line seat holder = seat ++ codes " " ++ holder_text holder ++ codes "\n"
 
@@ -25,6 +26,7 @@ period_line number p =
     (decimal number ++ codes " " ++ word p)
     ++ codes " report " ++ written p.fdp.report ++ codes " release " ++ written p.fdp.release ++ codes "\n"
 
+-- the line of a segment: period and number, flight, airports and times
 abbrev pub segment_line : ℕ → ℕ × Segment → List ℕ
 segment_line period (number, s) =
     (decimal period ++ codes "." ++ decimal number ++ codes " " ++ s.flight)
@@ -35,10 +37,12 @@ segment_line period (number, s) =
 abbrev pub period_lines : ℕ × PeriodInForce → List ℕ
 period_lines (number, p) = period_line number p ++ flat_map (segment_line number) (enumerate_from 1 p.fdp.segments)
 
-abbrev pub lines_of_periods : Rostered → List ℕ
+-- the lines of the periods in turn, each with its segments
+abbrev pub lines_of_periods : PairingEntry → List ℕ
 lines_of_periods r = flat_map period_lines (enumerate_from 1 (periods_of r))
 
-abbrev pub pairing_lines : List ℕ → Rostered → List ℕ
+-- the lines of a pairing: its id, its two seats, its periods
+abbrev pub pairing_lines : List ℕ → PairingEntry → List ℕ
 pairing_lines id r =
     (codes "PAIRING " ++ id ++ codes "\n")
     ++ seat_line (codes "captain") r.captain

@@ -6,7 +6,7 @@ use Rattle.duty.specs.Minutes.{last_in}
 use Rattle.duty.specs.Plans.{ActualTimes}
 use Rattle.duty.specs.declared.fdp.Fdp.{Fdp}
 use Rattle.roster.specs.Pairings.{flown}
-use Rattle.roster.specs.declared.state.Rostered.{Rostered}
+use Rattle.roster.specs.declared.state.PairingEntry.{PairingEntry}
 use Rattle.report.specs.declared.periods.PeriodInForce.{PeriodInForce}
 
 -- a period with the times of its actual, if it has one, else as it is planned
@@ -14,7 +14,7 @@ abbrev pub period_of : Fdp × Option ActualTimes → PeriodInForce
 period_of planned = record { fdp = flown planned; is_flown = is_some planned.1 }
 
 -- the periods of a pairing in turn
-abbrev pub periods_of : Rostered → List PeriodInForce
+abbrev pub periods_of : PairingEntry → List PeriodInForce
 periods_of r = map period_of (zip r.plan.periods r.actuals)
 
 -- where its times come from
@@ -22,6 +22,7 @@ abbrev pub source : Bool → List ℕ
 source true = codes "actual"
 source false = codes "plan"
 
+-- where the times of a period come from
 abbrev pub word : PeriodInForce → List ℕ
 word p = source p.is_flown
 

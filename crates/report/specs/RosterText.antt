@@ -11,8 +11,8 @@ use Rattle.command.specs.Texts.{seat_text}
 use Rattle.command.specs.declared.member.Member.{Member}
 use Rattle.roster.specs.Pairings.{holds}
 use Rattle.roster.specs.State.{State}
-use Rattle.roster.specs.declared.state.Rostered.{Rostered}
-use Rattle.verdict.specs.Texts.{hours_text}
+use Rattle.roster.specs.declared.state.PairingEntry.{PairingEntry}
+use Rattle.period_verdict.specs.Texts.{hours_text}
 use Rattle.report.specs.Lines.{IsInOrder}
 use Rattle.report.specs.Periods.{periods_of, word, length_of, flight_time_of}
 use Rattle.report.specs.declared.line.Line.{Line}
@@ -39,6 +39,7 @@ period_line id (number, p) = record {
       ++ (codes " pairing " ++ id ++ codes "/" ++ decimal number ++ codes " " ++ word p) ++ lengths_text p.fdp;
 }
 
+-- the line of a ground duty
 abbrev pub ground_line : List ℕ × GroundPlan → Line
 ground_line (id, g) = record {
   begin = g.begin;
@@ -49,9 +50,11 @@ ground_line (id, g) = record {
 
 -- ---- A member's lines
 
-abbrev pub period_lines : List ℕ × Rostered → List Line
+-- the lines of a pairing's periods in turn
+abbrev pub period_lines : List ℕ × PairingEntry → List Line
 period_lines (id, r) = map (period_line id) (enumerate_from 1 (periods_of r))
 
+-- the lines of a member's ground duties
 abbrev pub ground_lines : State → List ℕ → List Line
 ground_lines s who = map ground_line (filter (λ row. bytes_eq row.1.crew who) (fin.entries s.grounds))
 
@@ -61,6 +64,7 @@ lines_of s who = flat_map period_lines (filter (λ row. holds who row.1) (fin.en
 
 -- ---- The text
 
+-- the first line: the member's id, seat and name
 abbrev pub header : List ℕ → Member → List ℕ
 header who member = codes "ROSTER " ++ who ++ codes " " ++ seat_text member.seat ++ codes " " ++ member.name ++ codes "\n"
 

@@ -1,4 +1,5 @@
-//! The exceedances.
+//! The exceedances as a text. Its definition is `IsExceedanceText` (`specs/ExceedanceText.antt`).
+//! Worked texts: `tests/reports.py`. Wrong bodies: `must-fail/`.
 ghost use Rattle.std.specs.Prelude.{◌≡◌, ◌++◌, IfErr, IfOk, codes, decimal, string_bytes};
 ghost use Rattle.report.specs.ExceedanceText as spec;
 
@@ -7,8 +8,8 @@ use roster::{ExceedanceId, PeriodId, Roster};
 use std::alloc::Global;
 use values::MemoryFault;
 
-/// The exceedances: how many there are, and a line each, in order of the number and the part of the command that recorded it,
-/// the member's id in byte order, and the section.
+/// Writes the exceedances: how many there are, and a line each, in order of the number and the part of the command that
+/// recorded it, the member's id in byte order, and the section.
 pub fn exceedance_text(alloc: Global, roster: &Roster) -> Result<String, ReportFault>
     ensures text { IfOk result (λ text. spec.IsExceedanceText roster.now (string_bytes text)) }
     ensures memory { IfErr result (λ fault. fault ≡ ReportFault.Memory) }

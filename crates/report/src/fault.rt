@@ -1,3 +1,4 @@
+//! The refusals 2 and 4 of a report, and want of memory.
 use std::alloc::{AllocError, AllocFailed};
 use std::error::Error;
 use std::fmt;

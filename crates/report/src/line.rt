@@ -1,4 +1,5 @@
 //! The lines of a roster, and their order.
+//! Worked texts: `tests/reports.py`. Wrong bodies: `must-fail/`.
 ghost use Rattle.std.specs.Prelude.{◌≡◌, ◌++◌, IfOk, string_bytes};
 ghost use Rattle.std.specs.List.{flat_map};
 ghost use Rattle.report.specs.Lines.{IsInOrder};
@@ -25,7 +26,7 @@ pub struct Line {
     pub text: Text,
 }
 
-/// The same lines in their order.
+/// Sorts the lines into their order.
 pub fn in_order(lines: Vec<Line>) -> Result<Vec<Line>, MemoryFault>
     ensures { IfOk result (λ sorted. IsInOrder lines.items sorted.items) }
 {
@@ -34,9 +35,10 @@ pub fn in_order(lines: Vec<Line>) -> Result<Vec<Line>, MemoryFault>
     Ok(lines)
 }
 
-/// A first line, and lines after it.
+/// Joins a first line and the lines after it.
 pub fn text_of(first: String, lines: &[Line]) -> Result<String, MemoryFault>
-    ensures { IfOk result (λ text. string_bytes text ≡ string_bytes first ++ flat_map (λ line. line.text) lines.now) }
+    ensures { IfOk result
+        (λ text. string_bytes text ≡ string_bytes first ++ flat_map (λ line. line.text) lines.now) }
 {
     let mut text = first;
     for line in lines {

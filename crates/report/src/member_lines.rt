@@ -1,9 +1,10 @@
-//! A member's roster.
+//! A member's roster as a text. Its definition is `IsRosterText` (`specs/RosterText.antt`).
+//! Worked texts: `tests/reports.py`. Wrong bodies: `must-fail-more/`.
 ghost use Rattle.std.specs.Prelude.{◌≡◌, ◌≤◌, ◌↔◌, ◌⊎◌, ◌++◌, Err, None, IfOk, IfErr, OnOk, codes, length, string_bytes};
 ghost use Rattle.std.specs.Fmt.{decimal};
 ghost use Rattle.std.specs.FinMap as fin;
 ghost use Rattle.time117.specs.Instant.{written};
-ghost use Rattle.verdict.specs.Texts.{hours_text};
+ghost use Rattle.period_verdict.specs.Texts.{hours_text};
 ghost use Rattle.report.specs.RosterText as spec;
 ghost use Rattle.report.specs.Periods.{word};
 
@@ -13,18 +14,21 @@ use crate::line::{Line, Place, in_order, text_of};
 use crate::periods::{PeriodInForce, periods_of};
 use command::Member;
 use duty::{CrewId, Ground, GroundId, PairingId};
-use roster::{Roster, Rostered};
+use period_verdict::Hours;
+use roster::{PairingEntry, Roster};
 use std::alloc::Global;
 use time117::Minute;
-use values::{Copied, MemoryFault, Text};
-use verdict::Hours;
+use values::{MemoryFault, Text, TryClone};
 
-/// A member's roster: the member, and then a line for each duty in force, in order of begin, end, periods before ground
-/// duties, id in byte order, and period. Times are those in force, as UTC instants; lengths are hours and minutes.
+/// Writes a member's roster: the member, and then a line for each duty in force, in order of begin, end, periods before
+/// ground duties, id in byte order, and period. Times are those in force, as UTC instants; lengths are hours and
+/// minutes.
 pub fn roster_text(alloc: Global, roster: &Roster, who: &CrewId) -> Result<String, ReportFault>
     ensures text { IfOk result (λ text. spec.IsRosterText roster.now who.now (string_bytes text)) }
-    ensures absent { (result ≡ Err ReportFault.NoSuchCrew) ↔ (fin.get roster.now.crew who.now ≡ None) }
-    ensures refused { IfErr result (λ fault. (fault ≡ ReportFault.NoSuchCrew) ⊎ (fault ≡ ReportFault.Memory)) }
+    ensures absent { (result ≡ Err ReportFault.NoSuchCrew)
+        ↔ (fin.get roster.now.crew who.now ≡ None) }
+    ensures refused { IfErr result
+        (λ fault. (fault ≡ ReportFault.NoSuchCrew) ⊎ (fault ≡ ReportFault.Memory)) }
 {
     let Some(member) = roster.crew.get(who) else {
         return Err(ReportFault::NoSuchCrew);
@@ -32,20 +36,21 @@ pub fn roster_text(alloc: Global, roster: &Roster, who: &CrewId) -> Result<Strin
     Ok(member_text(alloc, roster, who, member)?)
 }
 
-/// The roster of a member who is there.
+/// Writes the roster of a member who is there.
 fn member_text(
     alloc: Global,
     roster: &Roster,
     who: &CrewId,
     member: &Member,
 ) -> Result<String, MemoryFault>
-    ensures { IfOk result (λ text. spec.IsTextOf roster.now who.now member.now (string_bytes text)) }
+    ensures { IfOk result
+        (λ text. spec.IsTextOf roster.now who.now member.now (string_bytes text)) }
 {
     let lines = in_order(lines_of(alloc, roster, who)?)?;
     text_of(header(alloc, who, member)?, &lines)
 }
 
-/// The first line: the member's id, seat and name.
+/// Writes the first line: the member's id, seat and name.
 fn header(alloc: Global, who: &CrewId, member: &Member) -> Result<String, MemoryFault>
     ensures { IfOk result (λ text. string_bytes text ≡ spec.header who.now member.now) }
 {
@@ -54,7 +59,7 @@ fn header(alloc: Global, who: &CrewId, member: &Member) -> Result<String, Memory
     Ok(text)
 }
 
-/// A line for each duty of the member, in no order.
+/// Makes a line for each duty of the member, in no order.
 fn lines_of(alloc: Global, roster: &Roster, who: &CrewId) -> Result<Vec<Line>, MemoryFault>
     ensures { IfOk result (λ lines. lines.items ≡ spec.lines_of roster.now who.now) }
 {
@@ -72,10 +77,11 @@ fn lines_of(alloc: Global, roster: &Roster, who: &CrewId) -> Result<Vec<Line>, M
 fn add_periods(
     alloc: Global,
     id: &PairingId,
-    rostered: &Rostered,
+    rostered: &PairingEntry,
     lines: &mut Vec<Line>,
 ) -> Result<(), MemoryFault>
-    ensures { OnOk result (lines.new.items ≡ lines.old.items ++ spec.period_lines (id.now, rostered.now)) }
+    ensures { OnOk result
+        (lines.new.items ≡ lines.old.items ++ spec.period_lines (id.now, rostered.now)) }
 {
     let periods = periods_of(alloc, rostered)?;
     for (index, period) in periods.iter().enumerate() {
@@ -91,7 +97,8 @@ fn add_grounds(
     who: &CrewId,
     lines: &mut Vec<Line>,
 ) -> Result<(), MemoryFault>
-    ensures { OnOk result (lines.new.items ≡ lines.old.items ++ spec.ground_lines roster.now who.now) }
+    ensures { OnOk result
+        (lines.new.items ≡ lines.old.items ++ spec.ground_lines roster.now who.now) }
 {
     for (id, duty) in roster.grounds.iter() {
         if duty.crew() == who {
@@ -117,12 +124,12 @@ fn period_line(
     Ok(Line {
         begin,
         end,
-        place: Place::Period(id.copy(alloc)?, number),
+        place: Place::Period(id.try_clone(alloc)?, number),
         text: Text::new(text),
     })
 }
 
-/// The length of a period and the flight time in it.
+/// Writes the length of a period and the flight time in it.
 fn lengths_text(alloc: Global, period: &PeriodInForce) -> Result<String, MemoryFault>
     requires { length period.now.fdp.segments ≤ 12 }
     ensures { IfOk result (λ text. string_bytes text ≡ spec.lengths_text period.now.fdp) }
@@ -145,12 +152,12 @@ fn ground_line(alloc: Global, id: &GroundId, duty: &Ground) -> Result<Line, Memo
     Ok(Line {
         begin,
         end,
-        place: Place::Ground(id.copy(alloc)?),
+        place: Place::Ground(id.try_clone(alloc)?),
         text: Text::new(text),
     })
 }
 
-/// When a duty begins and ends.
+/// Writes when a duty begins and ends.
 fn span_text(alloc: Global, begin: Minute, end: Minute) -> Result<String, MemoryFault>
     ensures { IfOk result (λ text. string_bytes text ≡ spec.span_text begin end) }
 {

@@ -1,4 +1,5 @@
-//! A pairing, and who flies it.
+//! A pairing as a text, and who flies it. Its definition is `pairing_text` (`specs/PairingText.antt`).
+//! Worked texts: `tests/reports.py`. Wrong bodies: `must-fail/`.
 ghost use Rattle.std.specs.Prelude.{◌≡◌, ◌↔◌, ◌⊎◌, ◌++◌, Err, None, Some, IfOk, IfErr, codes, string_bytes};
 ghost use Rattle.std.specs.FinMap as fin;
 ghost use Rattle.report.specs.PairingText as spec;
@@ -7,16 +8,19 @@ use crate::fault::ReportFault;
 use crate::instant::instant;
 use crate::periods::{PeriodInForce, periods_of};
 use duty::{CrewId, PairingId, Segment};
-use roster::{Roster, Rostered};
+use roster::{PairingEntry, Roster};
 use std::alloc::Global;
 use values::MemoryFault;
 
-/// A pairing: who holds its seats, and its periods in turn, each with its segments. Times are those in force, as UTC
-/// instants.
+/// Writes a pairing: who holds its seats, and its periods in turn, each with its segments. Times are those in force, as
+/// UTC instants.
 pub fn pairing_text(alloc: Global, roster: &Roster, id: &PairingId) -> Result<String, ReportFault>
-    ensures text { IfOk result (λ text. spec.pairing_text roster.now id.now ≡ Some (string_bytes text)) }
-    ensures absent { (result ≡ Err ReportFault.NoSuchPairing) ↔ (fin.get roster.now.pairings id.now ≡ None) }
-    ensures refused { IfErr result (λ fault. (fault ≡ ReportFault.NoSuchPairing) ⊎ (fault ≡ ReportFault.Memory)) }
+    ensures text { IfOk result
+        (λ text. spec.pairing_text roster.now id.now ≡ Some (string_bytes text)) }
+    ensures absent { (result ≡ Err ReportFault.NoSuchPairing)
+        ↔ (fin.get roster.now.pairings id.now ≡ None) }
+    ensures refused { IfErr result
+        (λ fault. (fault ≡ ReportFault.NoSuchPairing) ⊎ (fault ≡ ReportFault.Memory)) }
 {
     let Some(rostered) = roster.pairings.get(id) else {
         return Err(ReportFault::NoSuchPairing);
@@ -24,8 +28,8 @@ pub fn pairing_text(alloc: Global, roster: &Roster, id: &PairingId) -> Result<St
     Ok(lines_of(alloc, id, rostered)?)
 }
 
-/// The lines of a pairing that is there.
-fn lines_of(alloc: Global, id: &PairingId, rostered: &Rostered) -> Result<String, MemoryFault>
+/// Writes the lines of a pairing that is there.
+fn lines_of(alloc: Global, id: &PairingId, rostered: &PairingEntry) -> Result<String, MemoryFault>
     ensures { IfOk result (λ text. string_bytes text ≡ spec.pairing_lines id.now rostered.now) }
 {
     let mut text = format!(in alloc; "PAIRING {}\n", id.as_str())?;
@@ -35,7 +39,7 @@ fn lines_of(alloc: Global, id: &PairingId, rostered: &Rostered) -> Result<String
     Ok(text)
 }
 
-/// Who holds a seat; a free one has a dash.
+/// Writes who holds a seat; a free one has a dash.
 fn seat_line(alloc: Global, seat: &str, holder: &Option<CrewId>) -> Result<String, MemoryFault>
     ensures { IfOk result (λ text. string_bytes text ≡ spec.seat_line seat.now holder.now) }
 {
@@ -46,8 +50,8 @@ fn seat_line(alloc: Global, seat: &str, holder: &Option<CrewId>) -> Result<Strin
     Ok(format!(in alloc; "{seat} {holder}\n")?)
 }
 
-/// The lines of the periods in turn.
-fn lines_of_periods(alloc: Global, rostered: &Rostered) -> Result<String, MemoryFault>
+/// Writes the lines of the periods in turn.
+fn lines_of_periods(alloc: Global, rostered: &PairingEntry) -> Result<String, MemoryFault>
     ensures { IfOk result (λ text. string_bytes text ≡ spec.lines_of_periods rostered.now) }
 {
     let mut text = String::new(alloc);
@@ -58,7 +62,7 @@ fn lines_of_periods(alloc: Global, rostered: &Rostered) -> Result<String, Memory
     Ok(text)
 }
 
-/// A period's line, and those of its segments.
+/// Writes a period's line, and those of its segments.
 fn period_lines(alloc: Global, number: usize, period: &PeriodInForce) -> Result<String, MemoryFault>
     ensures { IfOk result (λ text. string_bytes text ≡ spec.period_lines (number, period.now)) }
 {
@@ -85,7 +89,8 @@ fn segment_line(
     number: usize,
     segment: &Segment,
 ) -> Result<String, MemoryFault>
-    ensures { IfOk result (λ text. string_bytes text ≡ spec.segment_line period (number, segment.now)) }
+    ensures { IfOk result
+        (λ text. string_bytes text ≡ spec.segment_line period (number, segment.now)) }
 {
     let block_out = instant(alloc, segment.block_out)?;
     let block_in = instant(alloc, segment.block_in)?;

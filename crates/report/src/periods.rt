@@ -1,4 +1,5 @@
 //! The periods of a pairing with their times in force.
+//! Worked texts: `tests/reports.py`. Wrong bodies: `must-fail/`.
 ghost use Rattle.std.specs.Prelude.{◌≡◌, ◌≤◌, IfOk, length, map};
 ghost use Rattle.std.specs.List.{All};
 ghost use Rattle.duty.specs.DutiesInForce.{span_of};
@@ -6,7 +7,7 @@ ghost use Rattle.duty.specs.Minutes.{last_in};
 ghost use Rattle.report.specs.Periods as spec;
 
 use duty::{Fdp, Segment};
-use roster::{Rostered, in_force};
+use roster::{PairingEntry, in_force};
 use std::alloc::Global;
 use time117::Minute;
 use values::MemoryFault;
@@ -20,14 +21,14 @@ pub struct PeriodInForce {
 }
 
 impl PeriodInForce {
-    /// `actual` or `plan`, by where its times come from.
+    /// Returns `actual` or `plan`, by where the period's times come from.
     pub fn word(&self) -> &'static str
         ensures { result.now ≡ spec.word self.now }
     {
         if self.is_flown { "actual" } else { "plan" }
     }
 
-    /// The length in minutes, from report to the last block-in.
+    /// Returns the length in minutes, from report to the last block-in.
     pub fn length(&self) -> u32
         ensures { result ≡ spec.length_of self.now.fdp }
     {
@@ -35,7 +36,7 @@ impl PeriodInForce {
         end.number().saturating_sub(self.fdp.report.number())
     }
 
-    /// The flight time in minutes, from block-out to block-in of each segment (14 CFR 1.1).
+    /// Counts the minutes of flight time, from block-out to block-in of each segment (14 CFR 1.1).
     pub fn flight_time(&self) -> u32
         requires { length self.now.fdp.segments ≤ 12 }
         ensures { result ≡ spec.flight_time_of self.now.fdp }
@@ -51,7 +52,7 @@ impl PeriodInForce {
     }
 }
 
-/// The last block-in, or the report where there is no segment.
+/// Returns the last block-in, or the report where there is no segment.
 fn last_block_in(report: Minute, segments: &[Segment]) -> Minute
     ensures { result ≡ last_in report (map span_of segments.now) }
 {
@@ -61,10 +62,11 @@ fn last_block_in(report: Minute, segments: &[Segment]) -> Minute
     }
 }
 
-/// The periods of a pairing in turn.
-pub fn periods_of(alloc: Global, rostered: &Rostered) -> Result<Vec<PeriodInForce>, MemoryFault>
+/// Copies the periods of a pairing in turn, with their times in force.
+pub fn periods_of(alloc: Global, rostered: &PairingEntry) -> Result<Vec<PeriodInForce>, MemoryFault>
     ensures periods { IfOk result (λ periods. periods.items ≡ spec.periods_of rostered.now) }
-    ensures few { IfOk result (λ periods. All (λ period. length period.fdp.segments ≤ 12) periods.items) }
+    ensures few { IfOk result
+        (λ periods. All (λ period. length period.fdp.segments ≤ 12) periods.items) }
 {
     let mut periods = Vec::new(alloc);
     for (period, actual) in rostered

@@ -1,4 +1,4 @@
--- What an accepted order has passed, and what a map has after a change.
+-- What an accepted instruction has passed, and what a map has after a change.
 use Rattle.std.proofs.Common.{◌≡◌, ◌⊎◌, inl, inr, refl, sym, ap, ◌∙◌, arith, ℕ, zero, suc, Bool, true, false, cond}
 use Rattle.std.proofs.Common.{List, [], ◌∷◌, Contains, Option, Some, None, option_map}
 use Rattle.std.specs.Ordering.{eq_by_cmp}
@@ -8,9 +8,9 @@ use Rattle.std.proofs.lemmas.Bool.{true≢false}
 use Rattle.values.specs.Name.{name_cmp, changed_at}
 use Rattle.values.proofs.Names.{alike, itself, get-changed_at}
 use Rattle.command.specs.Keys.{KeyParts, key_name}
-use Rattle.command.specs.contracts.order.CommandPartialEq.TheImpl.{ghosts as commands}
+use Rattle.command.specs.contracts.instruction.CommandPartialEq.TheImpl.{ghosts as commands}
 use Rattle.command.specs.declared.exceedance.Reply.{Reply}
-use Rattle.command.specs.declared.order.Order.{Order}
+use Rattle.command.specs.declared.instruction.Instruction.{Instruction}
 use Rattle.command.specs.declared.refusal.Refusal.{Refusal}
 use Rattle.command.specs.declared.refusal.Refusal.TheVariants.{NumberUsed}
 use Rattle.roster.specs.Refusals.{Row, first_of, refusals, refusal_of}
@@ -18,9 +18,9 @@ use Rattle.roster.specs.State.{State}
 use Rattle.roster.specs.Steps.{judged, answered, change_of, step_of}
 use Rattle.roster.specs.declared.change.Change.{Change}
 use Rattle.roster.specs.declared.change.Verdict.TheVariants.{Repeat, Accept, Refuse}
-use Rattle.roster.specs.declared.state.Request.{Request}
+use Rattle.roster.specs.declared.state.LoggedCommand.{LoggedCommand}
 
--- ---- An accepted order
+-- ---- An accepted instruction
 
 -- no row applies
 abbrev pub Passed : List Row → Type 0
@@ -37,35 +37,35 @@ passed_each [] p row (k, within, e) = absurd (omega arith)
 passed_each (x ∷ rows) p row (zero, within, e) = ap (λ (r : Row). r.1) (sym e) ∙ p.0
 passed_each (x ∷ rows) p row (suc k, within, e) = passed_each rows p.1 row (k, omega arith, e)
 
-pub record Accepted (s : State) (key : KeyParts) (order : Order) (change : Change) : Type 0 where
+pub record Accepted (s : State) (key : KeyParts) (instruction : Instruction) (change : Change) : Type 0 where
   pub free : fin.get s.requests (key_name key) ≡ None
-  pub passes : Passed (refusals s order)
-  pub is : change ≡ change_of s key order
+  pub passes : Passed (refusals s instruction)
+  pub is : change ≡ change_of s key instruction
 
-judged_none : (s : State) (key : KeyParts) (order : Order) (o : Option Refusal) (change : Change) (reply : Reply) →
-    judged s key order o ≡ Accept change reply → (o ≡ None) × (change ≡ change_of s key order)
-judged_none s key order None change reply e = (refl, cc)
-judged_none s key order (Some refusal) change reply e = cc
+judged_none : (s : State) (key : KeyParts) (instruction : Instruction) (o : Option Refusal) (change : Change) (reply : Reply) →
+    judged s key instruction o ≡ Accept change reply → (o ≡ None) × (change ≡ change_of s key instruction)
+judged_none s key instruction None change reply e = (refl, cc)
+judged_none s key instruction (Some refusal) change reply e = cc
 
-no_repeat : (same : Bool) (kept : Request) (change : Change) (reply : Reply) →
+no_repeat : (same : Bool) (kept : LoggedCommand) (change : Change) (reply : Reply) →
     cond same (Repeat kept.reply) (Refuse NumberUsed) ≡ Accept change reply → ⊥
 no_repeat true kept change reply e = cc
 no_repeat false kept change reply e = cc
 
-answered_free : (s : State) (key : KeyParts) (order : Order) (o : Option Request) (change : Change) (reply : Reply) →
-    answered s key order o ≡ Accept change reply →
-    (o ≡ None) × (refusal_of s order ≡ None) × (change ≡ change_of s key order)
-answered_free s key order None change reply e =
-    let j = judged_none s key order (refusal_of s order) change reply e in (refl, j.0, j.1)
-answered_free s key order (Some kept) change reply e =
-    absurd (no_repeat (commands.eq kept.command order) kept change reply e)
+answered_free : (s : State) (key : KeyParts) (instruction : Instruction) (o : Option LoggedCommand) (change : Change) (reply : Reply) →
+    answered s key instruction o ≡ Accept change reply →
+    (o ≡ None) × (refusal_of s instruction ≡ None) × (change ≡ change_of s key instruction)
+answered_free s key instruction None change reply e =
+    let j = judged_none s key instruction (refusal_of s instruction) change reply e in (refl, j.0, j.1)
+answered_free s key instruction (Some kept) change reply e =
+    absurd (no_repeat (commands.eq kept.command instruction) kept change reply e)
 
-pub accepted : (s : State) (key : KeyParts) (order : Order) (change : Change) (reply : Reply) →
-    step_of s key order ≡ Accept change reply → Accepted s key order change
+pub accepted : (s : State) (key : KeyParts) (instruction : Instruction) (change : Change) (reply : Reply) →
+    step_of s key instruction ≡ Accept change reply → Accepted s key instruction change
 unfolding step_of
-accepted s key order change reply e =
-    let a = answered_free s key order (fin.get s.requests (key_name key)) change reply e in
-    record { free = a.0; passes = passed (refusals s order) a.1; is = a.2 }
+accepted s key instruction change reply e =
+    let a = answered_free s key instruction (fin.get s.requests (key_name key)) change reply e in
+    record { free = a.0; passes = passed (refusals s instruction) a.1; is = a.2 }
 
 -- ---- A map after a change
 

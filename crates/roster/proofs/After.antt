@@ -5,15 +5,15 @@ use Rattle.std.specs.Ordering.{eq_by_cmp}
 use Rattle.std.specs.Cmp.Lexicographic.{nat_list_cmp_total}
 use Rattle.values.specs.Name.{name_cmp}
 use Rattle.values.proofs.Names.{exact_names, alike}
-use Rattle.command.specs.declared.order.Order.{Order}
-use Rattle.command.specs.declared.order.Order.TheVariants.{AddCrew, AddPairing, CancelPairing, Assign, Release, Swap, AddGround, CancelGround, Actual}
+use Rattle.command.specs.declared.instruction.Instruction.{Instruction}
+use Rattle.command.specs.declared.instruction.Instruction.TheVariants.{AddCrew, AddPairing, CancelPairing, Assign, Release, Swap, AddGround, CancelGround, Actual}
 use Rattle.roster.specs.State.{State}
 use Rattle.roster.specs.Steps.{effect, kept}
 use Rattle.roster.specs.declared.change.Change.{Change}
 
 -- the order of the two parts of a change doesn't matter
-pub after_effect : (s : State) (change : Change) (order : Order) →
-    effect (kept s change) change order ≡ kept (effect s change order) change
+pub after_effect : (s : State) (change : Change) (instruction : Instruction) →
+    effect (kept s change) change instruction ≡ kept (effect s change instruction) change
 after_effect s change (AddCrew who member) = refl
 after_effect s change (AddPairing plan) = refl
 after_effect s change (CancelPairing id) = refl

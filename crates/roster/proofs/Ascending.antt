@@ -1,6 +1,6 @@
--- The refusals of an order stand in the order of their numbers.
+-- The refusals of an instruction stand in the order of their numbers.
 use Rattle.std.proofs.Common.{refl}
-use Rattle.command.specs.declared.order.Order.TheVariants.{AddCrew, AddPairing, CancelPairing, Assign, Release, Swap, AddGround, CancelGround, Actual}
+use Rattle.command.specs.declared.instruction.Instruction.TheVariants.{AddCrew, AddPairing, CancelPairing, Assign, Release, Swap, AddGround, CancelGround, Actual}
 use Rattle.roster.specs.Laws.{IsAscending}
 use Rattle.roster.specs.Refusals.{refusals}
 

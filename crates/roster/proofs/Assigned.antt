@@ -7,7 +7,7 @@ use Rattle.std.proofs.lemmas.Slice.Eq.{bytes_eq-Decides}
 use Rattle.duty.specs.Plans.{GroundPlan}
 use Rattle.duty.specs.declared.duty_in_force.DutyInForce.{DutyInForce}
 use Rattle.command.specs.Keys.{KeyParts}
-use Rattle.command.specs.declared.order.Order.TheVariants.{Assign, AddGround}
+use Rattle.command.specs.declared.instruction.Instruction.TheVariants.{Assign, AddGround}
 use Rattle.roster.specs.Honest.{IsHonestOf, Honest}
 use Rattle.roster.specs.Places.{Place, period, on_ground, no_place, the_pairing, others, ground_at}
 use Rattle.roster.specs.Refusals.{duties_of}

@@ -17,7 +17,7 @@ use Rattle.duty.specs.declared.fdp.Fdp.{Fdp}
 use Rattle.duty.specs.declared.placed_duty.Duty.TheVariants as duty
 use Rattle.command.specs.Keys.{KeyParts, key_name}
 use Rattle.command.specs.declared.exceedance.Exceedance.{Exceedance}
-use Rattle.command.specs.declared.order.Order.TheVariants.{Actual}
+use Rattle.command.specs.declared.instruction.Instruction.TheVariants.{Actual}
 use Rattle.roster.specs.Honest.{IsHonestOf, Honest}
 use Rattle.roster.specs.Pairings.{is_held_by, holds, flown, periods_in_force}
 use Rattle.roster.specs.Places.{Place, period, on_ground, Placed, the_period, others}
@@ -26,7 +26,7 @@ use Rattle.roster.specs.Sound.{Sound}
 use Rattle.roster.specs.State.{State, exceedance_name, zone_of}
 use Rattle.roster.specs.Steps.{after, change_of, with_actual, flown_duty, broken_by_holder, recorded_by, recorded}
 use Rattle.roster.specs.declared.state.PeriodId.{PeriodId}
-use Rattle.roster.specs.declared.state.Rostered.{Rostered}
+use Rattle.roster.specs.declared.state.PairingEntry.{PairingEntry}
 use Rattle.roster.proofs.Accepted.{Passed, decide, changed, change_here, insert_here, insert_elsewhere}
 use Rattle.roster.proofs.Gaining.{Stay, loses, IsOld, IsFresh, AreRecorded, gains}
 use Rattle.roster.proofs.Records.{names_same}
@@ -57,7 +57,7 @@ zip_here {A = A} {B = B} (x ∷ xs) (z ∷ ys) zero y p e =
 zip_here (x ∷ xs) (z ∷ ys) (suc k) y p e = zip_here xs ys k y p e
 
 -- a period that is flown again is another than the rest
-still_period : (zone : List ℕ) (a : ActualTimes) (old r : Rostered) → with_actual a old ≡ r → (number : ℕ)
+still_period : (zone : List ℕ) (a : ActualTimes) (old r : PairingEntry) → with_actual a old ≡ r → (number : ℕ)
     (d : DutyInForce) → 1 ≤ a.period → (a.period ≡ number → ⊥) → IsPeriod zone r number d → IsPeriod zone old number d
 still_period zone a old r is number d positive apart h =
     let counted = h.counted in
@@ -80,7 +80,7 @@ from_map f None y e = cc
 from_map f (Some x) y e = (x, refl, same_Some (f x) y e)
 
 -- the period that is flown is the new duty
-new_period : (s : State) (who id : List ℕ) (a : ActualTimes) (f : Found s id a) (r : Rostered) →
+new_period : (s : State) (who id : List ℕ) (a : ActualTimes) (f : Found s id a) (r : PairingEntry) →
     with_actual a f.rostered ≡ r → (number : ℕ) (d : DutyInForce) → a.period ≡ number → IsPeriod (zone_of s who) r number d →
     Contains (flown_duty s who id a) d
 new_period s who id a f r is number d same h =
@@ -92,7 +92,7 @@ new_period s who id a f r is number d same h =
     let parts = zip_here f.rostered.plan.periods f.rostered.actuals (a.period - 1) (Some a) p.0 p.1 in
     let at = λ (x : Fdp). in_force (zone_of s who) (duty.Fdp x) in
     let planned_is : planned s id a.period ≡ Some f.fdp =
-    ap (option_and_then (λ (x : Rostered). slice_get x.plan.periods (a.period - 1))) f.there ∙ f.planned in
+    ap (option_and_then (λ (x : PairingEntry). slice_get x.plan.periods (a.period - 1))) f.there ∙ f.planned in
     let same_fdp = one_value (slice_get f.rostered.plan.periods (a.period - 1)) f.fdp p.0.0 f.planned parts.0 in
     subst (λ o. Contains (option_map_or (λ fdp. at (flown_at fdp a) ∷ []) o []) d) (sym planned_is)
     (is_first (at (flown_at f.fdp a)) [] d
@@ -131,13 +131,13 @@ module _ (key : KeyParts) (named : PeriodId) where
       (insert_elsewhere m (exceedance_name key x.crew x.section) named name (other x) ∙ e)
 
 -- a holder's are recorded
-of_holder : (s : State) (id : List ℕ) (a : ActualTimes) (r : Rostered) (who : List ℕ) → fin.get s.pairings id ≡ Some r →
+of_holder : (s : State) (id : List ℕ) (a : ActualTimes) (r : PairingEntry) (who : List ℕ) → fin.get s.pairings id ≡ Some r →
     holds who r ≡ true → (e : Exceedance) → Contains (broken_by_holder s id a (Some who)) e →
     Contains (recorded_by s (Actual id a)) e
 unfolding recorded_by
 of_holder s id a r who there held e c =
     let of = λ (holder : Option (List ℕ)). broken_by_holder s id a holder in
-    subst (λ o. Contains (option_map_or (λ (x : Rostered). of x.captain ++ of x.first_officer) o []) e) (sym there)
+    subst (λ o. Contains (option_map_or (λ (x : PairingEntry). of x.captain ++ of x.first_officer) o []) e) (sym there)
     (elim (or_cases (is_held_by who r.captain) (is_held_by who r.first_officer) held) [
       | inl is ↦ Contains-append_left (of r.captain) (of r.first_officer) e
           (subst (λ o. Contains (of o) e) (sym (held_is who r.captain is)) c)
@@ -145,7 +145,7 @@ of_holder s id a r who there held e c =
           (subst (λ o. Contains (of o) e) (sym (held_is who r.first_officer is)) c)
     ])
 
--- ---- The order
+-- ---- The instruction
 
 at_period : (id : List ℕ) (number : ℕ) (place : Place) → the_period id number place ≡ true → place ≡ period id number
 at_period id number (period q n) e =

@@ -9,8 +9,8 @@ use Rattle.values.specs.Name.{name_cmp}
 use Rattle.values.proofs.Names.{alike}
 use Rattle.duty.specs.Plans.{Plan}
 use Rattle.command.specs.Keys.{KeyParts, key_name}
-use Rattle.command.specs.contracts.order.CommandPartialEq.TheImpl.{ghosts as commands}
-use Rattle.command.specs.declared.order.Order.TheVariants.{AddPairing}
+use Rattle.command.specs.contracts.instruction.CommandPartialEq.TheImpl.{ghosts as commands}
+use Rattle.command.specs.declared.instruction.Instruction.TheVariants.{AddPairing}
 use Rattle.command.specs.declared.refusal.Refusal.{Refusal}
 use Rattle.command.specs.declared.refusal.Refusal.TheVariants.{PairingExists}
 use Rattle.roster.specs.Folds.{Asked, left_by, next, Fold}
@@ -20,7 +20,7 @@ use Rattle.roster.specs.State.{State}
 use Rattle.roster.specs.Steps.{step_of, judged, change_of, after, recorded_by}
 use Rattle.roster.specs.declared.change.Verdict.{Verdict}
 use Rattle.roster.specs.declared.change.Verdict.TheVariants.{Accept, Refuse}
-use Rattle.roster.specs.declared.state.Rostered.{Rostered}
+use Rattle.roster.specs.declared.state.PairingEntry.{PairingEntry}
 use Rattle.roster.proofs.Requests.{under_held, under_free, held_leaves, get-after}
 
 -- ---- One command of an import
@@ -71,7 +71,7 @@ added_pairings s key plan = refl
 still_there : (s : State) (key : KeyParts) (plan : Plan) (id : List ℕ) → is_pairing s id ≡ true →
     is_pairing (added s key plan) id ≡ true
 still_there s key plan id there =
-    ap (λ (m : fin.FinMap name_cmp Rostered). is_some (fin.get m id)) (added_pairings s key plan)
+    ap (λ (m : fin.FinMap name_cmp PairingEntry). is_some (fin.get m id)) (added_pairings s key plan)
     ∙ ap is_some (fin.get-insert nat_list_cmp_total s.pairings plan.id (unheld plan) id)
     ∙ elim (eq_by_cmp name_cmp id plan.id) as
     (λ b. is_some (cond b (Some (unheld plan)) (fin.get s.pairings id)) ≡ true) [

@@ -2,10 +2,10 @@
 use Rattle.std.proofs.Common.{◌≡◌, [], ◌∷◌, None, refl, sym, subst}
 use Rattle.std.specs.FinMap as fin
 use Rattle.command.specs.Keys.{KeyParts, key_name}
-use Rattle.command.specs.Orders.{IsMade}
-use Rattle.command.specs.declared.order.Order.{Order}
-use Rattle.command.specs.declared.order.Order.TheVariants.{AddCrew, AddPairing, CancelPairing, Assign, Release}
-use Rattle.command.specs.declared.order.Order.TheVariants.{Swap, AddGround, CancelGround, Actual}
+use Rattle.command.specs.Instructions.{IsMade}
+use Rattle.command.specs.declared.instruction.Instruction.{Instruction}
+use Rattle.command.specs.declared.instruction.Instruction.TheVariants.{AddCrew, AddPairing, CancelPairing, Assign, Release}
+use Rattle.command.specs.declared.instruction.Instruction.TheVariants.{Swap, AddGround, CancelGround, Actual}
 use Rattle.roster.specs.Folds.{Asked, left_by, next}
 use Rattle.roster.specs.Laws.{KeepsRecords}
 use Rattle.roster.specs.Refusals.{refusals}
@@ -22,8 +22,8 @@ use Rattle.roster.proofs.MadeByCommands.{sound_next}
 use Rattle.roster.proofs.Sound.{keeps_sound}
 use Rattle.roster.proofs.Sound.Flown.{found}
 
-keeps : (s : State) (key : KeyParts) (order : Order) → IsMade order → Sound s →
-    fin.get s.requests (key_name key) ≡ None → Passed (refusals s order) → Stay s (after s (change_of s key order))
+keeps : (s : State) (key : KeyParts) (instruction : Instruction) → IsMade instruction → Sound s →
+    fin.get s.requests (key_name key) ≡ None → Passed (refusals s instruction) → Stay s (after s (change_of s key instruction))
 unfolding after
 keeps s key (AddCrew who member) made sound free passed name p e = e
 keeps s key (AddPairing plan) made sound free passed name p e = e
@@ -36,19 +36,19 @@ keeps s key (CancelGround id) made sound free passed name p e = e
 keeps s key (Actual id a) made sound free passed name p e =
     all_stay s key free sound id a made.1.0 (found s id a passed) name p e
 
-stay_after : (s : State) (key : KeyParts) (order : Order) (v : Verdict) → step_of s key order ≡ v → IsMade order →
+stay_after : (s : State) (key : KeyParts) (instruction : Instruction) (v : Verdict) → step_of s key instruction ≡ v → IsMade instruction →
     Sound s → Stay s (left_by s v)
-stay_after s key order (Repeat reply) is made sound name p e = e
-stay_after s key order (Accept change reply) is made sound name p e =
-    let a = accepted s key order change reply is in
-    subst (λ c. Stay s (after s c)) (sym a.is) (keeps s key order made sound a.free a.passes) name p e
-stay_after s key order (Refuse refusal) is made sound name p e = e
+stay_after s key instruction (Repeat reply) is made sound name p e = e
+stay_after s key instruction (Accept change reply) is made sound name p e =
+    let a = accepted s key instruction change reply is in
+    subst (λ c. Stay s (after s c)) (sym a.is) (keeps s key instruction made sound a.free a.passes) name p e
+stay_after s key instruction (Refuse refusal) is made sound name p e = e
 
 pub keeps_records : KeepsRecords
 keeps_records s [] made sound name p e = e
-keeps_records s ((key, order) ∷ asked) made sound name p e =
-    let first : Asked = (key, order) in
+keeps_records s ((key, instruction) ∷ asked) made sound name p e =
+    let first : Asked = (key, instruction) in
     let is_made = made first (first_of_all first asked) in
     keeps_records (next s first) asked (λ b c. made b (later first asked b c))
     (sound_next keeps_sound s first is_made sound) name p
-    (stay_after s key order (step_of s key order) refl is_made sound name p e)
+    (stay_after s key instruction (step_of s key instruction) refl is_made sound name p e)

@@ -1,10 +1,10 @@
--- Orders by which nobody gains a duty.
+-- Instructions by which nobody gains a duty.
 use Rattle.std.proofs.Common.{ℕ, List, None, inl, inr, refl, ap, ◌∙◌}
 use Rattle.std.proofs.lemmas.Bool.{false≢true}
 use Rattle.duty.specs.Plans.{Plan}
 use Rattle.command.specs.Keys.{KeyParts}
 use Rattle.command.specs.declared.member.Member.{Member}
-use Rattle.command.specs.declared.order.Order.TheVariants.{AddCrew, AddPairing, CancelPairing, Release, CancelGround}
+use Rattle.command.specs.declared.instruction.Instruction.TheVariants.{AddCrew, AddPairing, CancelPairing, Release, CancelGround}
 use Rattle.roster.specs.Honest.{Honest}
 use Rattle.roster.specs.Pairings.{unheld, holds}
 use Rattle.roster.specs.State.{State}

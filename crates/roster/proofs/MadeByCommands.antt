@@ -15,8 +15,8 @@ use Rattle.limits.specs.Rules.{Rule}
 use Rattle.limits.specs.declared.section.Section.{Section}
 use Rattle.limits.specs.declared.section.Section.TheVariants as section
 use Rattle.command.specs.Keys.{KeyParts}
-use Rattle.command.specs.Orders.{IsMade}
-use Rattle.command.specs.declared.order.Order.{Order}
+use Rattle.command.specs.Instructions.{IsMade}
+use Rattle.command.specs.declared.instruction.Instruction.{Instruction}
 use Rattle.roster.specs.Folds.{Asked, left_by, next}
 use Rattle.roster.specs.Honest.{Honest}
 use Rattle.roster.specs.Laws.{KeepsHonest, KeepsSound, MadeByCommands, StartsSound, StaysHonest, StaysSound}
@@ -83,14 +83,14 @@ starts_sound zone = (empty_sound zone, empty_honest zone)
 -- ---- After each command
 
 module _ (keeps_sound : KeepsSound) where
-  sound_after : (s : State) (key : KeyParts) (order : Order) (v : Verdict) → step_of s key order ≡ v → IsMade order →
+  sound_after : (s : State) (key : KeyParts) (instruction : Instruction) (v : Verdict) → step_of s key instruction ≡ v → IsMade instruction →
       Sound s → Sound (left_by s v)
-  sound_after s key order (Repeat reply) is made sound = sound
-  sound_after s key order (Accept change reply) is made sound = keeps_sound s key order change reply made sound is
-  sound_after s key order (Refuse refusal) is made sound = sound
+  sound_after s key instruction (Repeat reply) is made sound = sound
+  sound_after s key instruction (Accept change reply) is made sound = keeps_sound s key instruction change reply made sound is
+  sound_after s key instruction (Refuse refusal) is made sound = sound
 
   pub sound_next : (s : State) (a : Asked) → IsMade a.1 → Sound s → Sound (next s a)
-  sound_next s (key, order) made sound = sound_after s key order (step_of s key order) refl made sound
+  sound_next s (key, instruction) made sound = sound_after s key instruction (step_of s key instruction) refl made sound
 
   pub stays_sound : StaysSound
   stays_sound s [] made sound = sound
@@ -99,21 +99,21 @@ module _ (keeps_sound : KeepsSound) where
       (sound_next s a (made a (first_of_all a asked)) sound)
 
 module _ (keeps_sound : KeepsSound) (keeps_honest : KeepsHonest) where
-  honest_after : (s : State) (key : KeyParts) (order : Order) (v : Verdict) → step_of s key order ≡ v → IsMade order →
+  honest_after : (s : State) (key : KeyParts) (instruction : Instruction) (v : Verdict) → step_of s key instruction ≡ v → IsMade instruction →
       Sound s → Honest s → Honest (left_by s v)
-  honest_after s key order (Repeat reply) is made sound honest = honest
-  honest_after s key order (Accept change reply) is made sound honest =
-      keeps_honest s key order change reply made sound honest is
-  honest_after s key order (Refuse refusal) is made sound honest = honest
+  honest_after s key instruction (Repeat reply) is made sound honest = honest
+  honest_after s key instruction (Accept change reply) is made sound honest =
+      keeps_honest s key instruction change reply made sound honest is
+  honest_after s key instruction (Refuse refusal) is made sound honest = honest
 
   pub stays_honest : StaysHonest
   stays_honest s [] made sound honest = honest
-  stays_honest s ((key, order) ∷ asked) made sound honest =
-      let first : Asked = (key, order) in
+  stays_honest s ((key, instruction) ∷ asked) made sound honest =
+      let first : Asked = (key, instruction) in
       let is_made = made first (first_of_all first asked) in
       stays_honest (next s first) asked (λ b c. made b (later first asked b c))
       (sound_next keeps_sound s first is_made sound)
-      (honest_after s key order (step_of s key order) refl is_made sound honest)
+      (honest_after s key instruction (step_of s key instruction) refl is_made sound honest)
 
   pub made_by_commands : MadeByCommands
   made_by_commands zone asked made = (

@@ -6,11 +6,11 @@ use Rattle.std.specs.Cmp.Lexicographic.{nat_list_cmp_total}
 use Rattle.values.specs.Name.{name_cmp}
 use Rattle.values.proofs.Names.{alike, itself}
 use Rattle.command.specs.Keys.{KeyParts, key_name}
-use Rattle.command.specs.contracts.order.CommandPartialEq.TheImpl.{ghosts as commands}
-use Rattle.command.specs.contracts.order.CommandExact.TheImpl.Laws.{exact-law}
+use Rattle.command.specs.contracts.instruction.CommandPartialEq.TheImpl.{ghosts as commands}
+use Rattle.command.specs.contracts.instruction.CommandLawfulEq.TheImpl.Laws.{exact-law}
 use Rattle.command.specs.declared.exceedance.Reply.{Reply}
-use Rattle.command.specs.declared.order.Order.{Order}
-use Rattle.command.specs.declared.order.Order.TheVariants.{AddCrew, AddPairing, CancelPairing, Assign, Release, Swap, AddGround, CancelGround, Actual}
+use Rattle.command.specs.declared.instruction.Instruction.{Instruction}
+use Rattle.command.specs.declared.instruction.Instruction.TheVariants.{AddCrew, AddPairing, CancelPairing, Assign, Release, Swap, AddGround, CancelGround, Actual}
 use Rattle.command.specs.declared.refusal.Refusal.{Refusal}
 use Rattle.command.specs.declared.refusal.Refusal.TheVariants.{NumberUsed}
 use Rattle.roster.specs.Folds.{Asked, left_by, next}
@@ -20,67 +20,67 @@ use Rattle.roster.specs.State.{State}
 use Rattle.roster.specs.Steps.{step_of, answered, judged, change_of, effect, after}
 use Rattle.roster.specs.declared.change.Change.{Change}
 use Rattle.roster.specs.declared.change.Verdict.TheVariants.{Repeat, Refuse}
-use Rattle.roster.specs.declared.state.Request.{Request}
+use Rattle.roster.specs.declared.state.LoggedCommand.{LoggedCommand}
 
 -- ---- The answer under a held key, and under a free one
 
-pub under_held : (s : State) (key : KeyParts) (order : Order) (kept : Request) →
+pub under_held : (s : State) (key : KeyParts) (instruction : Instruction) (kept : LoggedCommand) →
     fin.get s.requests (key_name key) ≡ Some kept →
-    step_of s key order ≡ cond (commands.eq kept.command order) (Repeat kept.reply) (Refuse NumberUsed)
+    step_of s key instruction ≡ cond (commands.eq kept.command instruction) (Repeat kept.reply) (Refuse NumberUsed)
 unfolding step_of
-under_held s key order kept held = ap (answered s key order) held
+under_held s key instruction kept held = ap (answered s key instruction) held
 
-pub under_free : (s : State) (key : KeyParts) (order : Order) → fin.get s.requests (key_name key) ≡ None →
-    step_of s key order ≡ judged s key order (refusal_of s order)
+pub under_free : (s : State) (key : KeyParts) (instruction : Instruction) → fin.get s.requests (key_name key) ≡ None →
+    step_of s key instruction ≡ judged s key instruction (refusal_of s instruction)
 unfolding step_of
-under_free s key order free = ap (answered s key order) free
+under_free s key instruction free = ap (answered s key instruction) free
 
-pub repeats : (s : State) (key : KeyParts) (request : Request) → fin.get s.requests (key_name key) ≡ Some request →
+pub repeats : (s : State) (key : KeyParts) (request : LoggedCommand) → fin.get s.requests (key_name key) ≡ Some request →
     step_of s key request.command ≡ Repeat request.reply
 repeats s key request held =
     under_held s key request.command request held
     ∙ ap (λ b. cond b (Repeat request.reply) (Refuse NumberUsed)) ((exact-law request.command request.command).1 refl)
 
 -- a repeat comes from a key that holds the command
-judged_not : (s : State) (key : KeyParts) (order : Order) (o : Option Refusal) (reply : Reply) →
-    judged s key order o ≡ Repeat reply → ⊥
-judged_not s key order None reply e = cc
-judged_not s key order (Some refusal) reply e = cc
+judged_not : (s : State) (key : KeyParts) (instruction : Instruction) (o : Option Refusal) (reply : Reply) →
+    judged s key instruction o ≡ Repeat reply → ⊥
+judged_not s key instruction None reply e = cc
+judged_not s key instruction (Some refusal) reply e = cc
 
-same_kept : (kept : Request) (order : Order) (reply : Reply) (b : Bool) → commands.eq kept.command order ≡ b →
+same_kept : (kept : LoggedCommand) (instruction : Instruction) (reply : Reply) (b : Bool) → commands.eq kept.command instruction ≡ b →
     cond b (Repeat kept.reply) (Refuse NumberUsed) ≡ Repeat reply →
-    Some kept ≡ Some (record { command = order; reply = reply })
-same_kept kept order reply true is e =
-    let command : kept.command ≡ order = (exact-law kept.command order).0 is in
+    Some kept ≡ Some (record { command = instruction; reply = reply })
+same_kept kept instruction reply true is e =
+    let command : kept.command ≡ instruction = (exact-law kept.command instruction).0 is in
     let same : kept.reply ≡ reply = cc in
-    ap₂ (λ c r. let request : Request = record { command = c; reply = r } in Some request) command same
-same_kept kept order reply false is e = cc
+    ap₂ (λ c r. let request : LoggedCommand = record { command = c; reply = r } in Some request) command same
+same_kept kept instruction reply false is e = cc
 
-repeated : (s : State) (key : KeyParts) (order : Order) (reply : Reply) → step_of s key order ≡ Repeat reply →
-    fin.get s.requests (key_name key) ≡ Some (record { command = order; reply = reply })
-repeated s key order reply e =
+repeated : (s : State) (key : KeyParts) (instruction : Instruction) (reply : Reply) → step_of s key instruction ≡ Repeat reply →
+    fin.get s.requests (key_name key) ≡ Some (record { command = instruction; reply = reply })
+repeated s key instruction reply e =
     elim (fin.get s.requests (key_name key)) as (λ o. fin.get s.requests (key_name key) ≡ o →
-    o ≡ Some (record { command = order; reply = reply })) [
+    o ≡ Some (record { command = instruction; reply = reply })) [
       | None ↦ λ free.
-          absurd (judged_not s key order (refusal_of s order) reply (sym (under_free s key order free) ∙ e))
+          absurd (judged_not s key instruction (refusal_of s instruction) reply (sym (under_free s key instruction free) ∙ e))
       | Some kept ↦ λ held.
-          same_kept kept order reply (commands.eq kept.command order) refl (sym (under_held s key order kept held) ∙ e)
+          same_kept kept instruction reply (commands.eq kept.command instruction) refl (sym (under_held s key instruction kept held) ∙ e)
     ] refl
 
 pub repeats_both : Repeats
-repeats_both s key order reply =
-    (repeated s key order reply, repeats s key (record { command = order; reply = reply }))
+repeats_both s key instruction reply =
+    (repeated s key instruction reply, repeats s key (record { command = instruction; reply = reply }))
 
 -- ---- The next state
 
 -- the answer under a held key leaves any state as it is
-pub held_leaves : (t : State) (b : Bool) (kept : Request) →
+pub held_leaves : (t : State) (b : Bool) (kept : LoggedCommand) →
     left_by t (cond b (Repeat kept.reply) (Refuse NumberUsed)) ≡ t
 held_leaves t true kept = refl
 held_leaves t false kept = refl
 
 -- no effect touches a request
-effect_requests : (s : State) (change : Change) (order : Order) → (effect s change order).requests ≡ s.requests
+effect_requests : (s : State) (change : Change) (instruction : Instruction) → (effect s change instruction).requests ≡ s.requests
 effect_requests s change (AddCrew who member) = refl
 effect_requests s change (AddPairing plan) = refl
 effect_requests s change (CancelPairing id) = refl
@@ -91,7 +91,7 @@ effect_requests s change (AddGround g) = refl
 effect_requests s change (CancelGround id) = refl
 effect_requests s change (Actual id a) = refl
 
-abbrev pub request_of : Change → Request
+abbrev pub request_of : Change → LoggedCommand
 request_of change = record { command = change.command; reply = change.reply }
 
 pub after_requests : (s : State) (change : Change) →
@@ -116,7 +116,7 @@ now_held s change =
     (itself (key_name change.key) (key_name change.key) refl)
 
 -- a name that is held stays held where a free key is taken
-kept_after : (s : State) (change : Change) (name : List ℕ) (request : Request) →
+kept_after : (s : State) (change : Change) (name : List ℕ) (request : LoggedCommand) →
     fin.get s.requests (key_name change.key) ≡ None → fin.get s.requests name ≡ Some request →
     fin.get (after s change).requests name ≡ Some request
 kept_after s change name request free held =
@@ -128,24 +128,24 @@ kept_after s change name request free held =
       | false ↦ λ _. held
     ] refl
 
-kept_judged : (s : State) (key : KeyParts) (order : Order) (o : Option Refusal) (name : List ℕ) (request : Request) →
+kept_judged : (s : State) (key : KeyParts) (instruction : Instruction) (o : Option Refusal) (name : List ℕ) (request : LoggedCommand) →
     fin.get s.requests (key_name key) ≡ None → fin.get s.requests name ≡ Some request →
-    fin.get (left_by s (judged s key order o)).requests name ≡ Some request
-kept_judged s key order None name request free held =
-    kept_after s (change_of s key order) name request free held
-kept_judged s key order (Some refusal) name request free held = held
+    fin.get (left_by s (judged s key instruction o)).requests name ≡ Some request
+kept_judged s key instruction None name request free held =
+    kept_after s (change_of s key instruction) name request free held
+kept_judged s key instruction (Some refusal) name request free held = held
 
-kept_next : (s : State) (a : Asked) (name : List ℕ) (request : Request) → fin.get s.requests name ≡ Some request →
+kept_next : (s : State) (a : Asked) (name : List ℕ) (request : LoggedCommand) → fin.get s.requests name ≡ Some request →
     fin.get (next s a).requests name ≡ Some request
-kept_next s (key, order) name request held =
+kept_next s (key, instruction) name request held =
     elim (fin.get s.requests (key_name key)) as (λ o. fin.get s.requests (key_name key) ≡ o →
-    fin.get (left_by s (step_of s key order)).requests name ≡ Some request) [
+    fin.get (left_by s (step_of s key instruction)).requests name ≡ Some request) [
       | None ↦ λ free.
-          subst (λ v. fin.get (left_by s v).requests name ≡ Some request) (sym (under_free s key order free))
-          (kept_judged s key order (refusal_of s order) name request free held)
+          subst (λ v. fin.get (left_by s v).requests name ≡ Some request) (sym (under_free s key instruction free))
+          (kept_judged s key instruction (refusal_of s instruction) name request free held)
       | Some kept ↦ λ there.
-          ap (λ v. fin.get (left_by s v).requests name) (under_held s key order kept there)
-          ∙ ap (λ (t : State). fin.get t.requests name) (held_leaves s (commands.eq kept.command order) kept)
+          ap (λ v. fin.get (left_by s v).requests name) (under_held s key instruction kept there)
+          ∙ ap (λ (t : State). fin.get t.requests name) (held_leaves s (commands.eq kept.command instruction) kept)
           ∙ held
     ] refl
 

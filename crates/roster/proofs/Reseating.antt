@@ -17,7 +17,7 @@ use Rattle.roster.specs.Refusals.{broken_by, duties_of}
 use Rattle.roster.specs.State.{State, zone_of}
 use Rattle.roster.specs.Steps.{seat_change, reseated}
 use Rattle.roster.specs.declared.change.SeatChange.{SeatChange}
-use Rattle.roster.specs.declared.state.Rostered.{Rostered}
+use Rattle.roster.specs.declared.state.PairingEntry.{PairingEntry}
 use Rattle.roster.proofs.Accepted.{changed}
 use Rattle.roster.proofs.Gaining.{Loses, AreRecorded}
 use Rattle.roster.proofs.Members.{in_map}
@@ -26,13 +26,13 @@ use Rattle.roster.proofs.Standing.{IsPeriod, Stands, period_of}
 
 -- ---- One seat
 
-same_periods : (seat : Seat) (new : Option (List ℕ)) (r : Rostered) →
+same_periods : (seat : Seat) (new : Option (List ℕ)) (r : PairingEntry) →
     periods_in_force (with_holder seat new r) ≡ periods_in_force r
 same_periods Captain new r = refl
 same_periods FirstOfficer new r = refl
 
 -- the periods don't change
-pub moved : (zone : List ℕ) (seat : Seat) (new : Option (List ℕ)) (old r : Rostered) → with_holder seat new old ≡ r →
+pub moved : (zone : List ℕ) (seat : Seat) (new : Option (List ℕ)) (old r : PairingEntry) → with_holder seat new old ≡ r →
     (number : ℕ) (d : DutyInForce) → IsPeriod zone r number d → IsPeriod zone old number d
 moved zone seat new old r is number d h = record {
   place = h.place;
@@ -51,7 +51,7 @@ before_last true b f e = refl
 before_last false b f e = absurd (true≢false (sym e ∙ f))
 
 -- one who isn't put into the seat held the pairing before
-held_before : (seat : Seat) (who : List ℕ) (new : Option (List ℕ)) (old r : Rostered) →
+held_before : (seat : Seat) (who : List ℕ) (new : Option (List ℕ)) (old r : PairingEntry) →
     with_holder seat new old ≡ r → is_held_by who new ≡ false → holds who r ≡ true → holds who old ≡ true
 held_before Captain who new old r is other e =
     or_right (is_held_by who old.captain) (is_held_by who old.first_officer)
@@ -70,11 +70,11 @@ abbrev pub seat_for : List ℕ → Seat → Option (List ℕ) → SeatChange
 seat_for id seat new = record { pairing = id; seat = seat; holder = new }
 
 -- the pairing is this one, with another holder in a seat
-abbrev pub IsReseated : Pairings → List ℕ → Option (List ℕ) → List ℕ → Rostered → Type 0
+abbrev pub IsReseated : Pairings → List ℕ → Option (List ℕ) → List ℕ → PairingEntry → Type 0
 IsReseated m id new q r =
-    (q ≡ id) × (seat : Seat) × (old : Rostered) × (fin.get m id ≡ Some old) × (with_holder seat new old ≡ r)
+    (q ≡ id) × (seat : Seat) × (old : PairingEntry) × (fin.get m id ≡ Some old) × (with_holder seat new old ≡ r)
 
-pub seated : (s : State) (m : Pairings) (id who : List ℕ) (new : Option (List ℕ)) (q : List ℕ) (r : Rostered) →
+pub seated : (s : State) (m : Pairings) (id who : List ℕ) (new : Option (List ℕ)) (q : List ℕ) (r : PairingEntry) →
     fin.get (fold reseated m (seat_change s id who new)) q ≡ Some r →
     IsReseated m id new q r ⊎ (fin.get m q ≡ Some r)
 seated s m id who new q r e =
@@ -91,7 +91,7 @@ seated s m id who new q r e =
 -- ---- Where a member's duties stood before
 
 -- a member who isn't put into a seat has a period at no new place
-pub not_gained : (s : State) (who : List ℕ) (new : Option (List ℕ)) (id q : List ℕ) (r : Rostered) (number : ℕ)
+pub not_gained : (s : State) (who : List ℕ) (new : Option (List ℕ)) (id q : List ℕ) (r : PairingEntry) (number : ℕ)
     (d : DutyInForce) → is_held_by who new ≡ false → IsReseated s.pairings id new q r → holds who r ≡ true →
     IsPeriod (zone_of s who) r number d → Stands s who (period q number) d
 not_gained s who new id q r number d other h held at = (
@@ -109,7 +109,7 @@ lost s t who periods grounds (period id n) d h = periods id n d h
 lost s t who periods grounds (on_ground id) d h = grounds id d h
 
 -- a period of a pairing is one of its duties
-pub of_pairing : (s : State) (who id : List ℕ) (r : Rostered) (number : ℕ) (d : DutyInForce) →
+pub of_pairing : (s : State) (who id : List ℕ) (r : PairingEntry) (number : ℕ) (d : DutyInForce) →
     fin.get s.pairings id ≡ Some r → IsPeriod (zone_of s who) r number d → Contains (duties_of s who id) d
 of_pairing s who id r number d there h =
     subst (λ ds. Contains ds d) (ap (λ o. option_map_or (λ r. duties (periods_at (zone_of s who) (id, r))) o []) (sym there))

@@ -3,30 +3,30 @@ use Rattle.std.proofs.Common.{◌≡◌, ℕ, zero, suc, ◌+◌, true, false, L
 use Rattle.std.specs.FinMap as fin
 use Rattle.duty.specs.Plans.{Plan}
 use Rattle.command.specs.Keys.{KeyParts, key_name}
-use Rattle.command.specs.contracts.order.CommandPartialEq.TheImpl.{ghosts as commands}
-use Rattle.command.specs.declared.order.Order.{Order}
-use Rattle.command.specs.declared.order.Order.TheVariants.{AddPairing}
+use Rattle.command.specs.contracts.instruction.CommandPartialEq.TheImpl.{ghosts as commands}
+use Rattle.command.specs.declared.instruction.Instruction.{Instruction}
+use Rattle.command.specs.declared.instruction.Instruction.TheVariants.{AddPairing}
 use Rattle.roster.specs.Folds.{Asked, answer_of, left_by, next, Fold, Replies, import}
 use Rattle.roster.specs.Laws.{Resumes}
 use Rattle.roster.specs.Refusals.{is_pairing}
 use Rattle.roster.specs.State.{State}
 use Rattle.roster.specs.Steps.{step_of, change_of, after}
-use Rattle.roster.specs.declared.state.Request.{Request}
+use Rattle.roster.specs.declared.state.LoggedCommand.{LoggedCommand}
 use Rattle.roster.proofs.Requests.{request_of, under_held, held_leaves, now_held, keeps_requests, repeats}
 use Rattle.roster.proofs.Importing.{key_of, parts_from, accepted, refused_new, accepted_new, keep_pairing, keep_free}
 
 -- ---- A command asked again after those that followed it
 
 -- is answered as it was, and changes nothing
-pub record Again (s t : State) (key : KeyParts) (order : Order) : Type 0 where
-  pub answer : answer_of (step_of t key order) ≡ answer_of (step_of s key order)
-  pub state : next t (key, order) ≡ t
+pub record Again (s t : State) (key : KeyParts) (instruction : Instruction) : Type 0 where
+  pub answer : answer_of (step_of t key instruction) ≡ answer_of (step_of s key instruction)
+  pub state : next t (key, instruction) ≡ t
 
-again_held : (s t : State) (key : KeyParts) (order : Order) (kept : Request) →
-    fin.get s.requests (key_name key) ≡ Some kept → fin.get t.requests (key_name key) ≡ Some kept → Again s t key order
-again_held s t key order kept before then = record {
-  answer = ap answer_of (under_held t key order kept then ∙ sym (under_held s key order kept before));
-  state = ap (left_by t) (under_held t key order kept then) ∙ held_leaves t (commands.eq kept.command order) kept;
+again_held : (s t : State) (key : KeyParts) (instruction : Instruction) (kept : LoggedCommand) →
+    fin.get s.requests (key_name key) ≡ Some kept → fin.get t.requests (key_name key) ≡ Some kept → Again s t key instruction
+again_held s t key instruction kept before then = record {
+  answer = ap answer_of (under_held t key instruction kept then ∙ sym (under_held s key instruction kept before));
+  state = ap (left_by t) (under_held t key instruction kept then) ∙ held_leaves t (commands.eq kept.command instruction) kept;
 }
 
 again_refused : (s t : State) (key : KeyParts) (plan : Plan) →
@@ -110,8 +110,8 @@ fold_both s (x ∷ xs) ys = fold_both (next s x) xs ys
 
 replies_both : (s : State) (xs ys : List Asked) → Replies s (xs ++ ys) ≡ Replies s xs ++ Replies (Fold s xs) ys
 replies_both s [] ys = refl
-replies_both s ((key, order) ∷ xs) ys =
-    ap (λ replies. answer_of (step_of s key order) ∷ replies) (replies_both (next s (key, order)) xs ys)
+replies_both s ((key, instruction) ∷ xs) ys =
+    ap (λ replies. answer_of (step_of s key instruction) ∷ replies) (replies_both (next s (key, instruction)) xs ys)
 
 -- what follows a list that is repeated is asked in the same state
 and_then : (s t : State) (xs ys : List Asked) → Repeated s t xs → Repeated s t (xs ++ ys)

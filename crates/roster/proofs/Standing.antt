@@ -13,11 +13,11 @@ use Rattle.duty.specs.declared.placed_duty.Duty.TheVariants as duty
 use Rattle.roster.specs.Pairings.{holds, periods_in_force}
 use Rattle.roster.specs.Places.{Place, period, on_ground, Placed, periods_at, ground_at, periods_of, grounds_of, history_of, duties, others}
 use Rattle.roster.specs.State.{State, zone_of}
-use Rattle.roster.specs.declared.state.Rostered.{Rostered}
+use Rattle.roster.specs.declared.state.PairingEntry.{PairingEntry}
 use Rattle.roster.proofs.Members.{in_filter, from_filter, in_map, from_map, in_flat_map, from_flat_map, in_numbers, from_numbers, in_rows, from_rows}
 
 -- the duty is the period of this number, from 1
-pub record IsPeriod (zone : List ℕ) (r : Rostered) (number : ℕ) (d : DutyInForce) : Type 0 where
+pub record IsPeriod (zone : List ℕ) (r : PairingEntry) (number : ℕ) (d : DutyInForce) : Type 0 where
   pub place : ℕ
   pub counted : 1 + place ≡ number
   pub fdp : Fdp
@@ -27,7 +27,7 @@ pub record IsPeriod (zone : List ℕ) (r : Rostered) (number : ℕ) (d : DutyInF
 -- the member has the duty at the place
 abbrev pub Stands : State → List ℕ → Place → DutyInForce → Type 0
 Stands s who (period id number) d =
-    (r : Rostered) × (fin.get s.pairings id ≡ Some r) × (holds who r ≡ true) × IsPeriod (zone_of s who) r number d
+    (r : PairingEntry) × (fin.get s.pairings id ≡ Some r) × (holds who r ≡ true) × IsPeriod (zone_of s who) r number d
 Stands s who (on_ground id) d =
     (g : GroundPlan) × (fin.get s.grounds id ≡ Some g) × (g.crew ≡ who) × ((ground_at (id, g)).1 ≡ d)
 
@@ -36,20 +36,20 @@ abbrev placed : List ℕ → List ℕ → ℕ × Fdp → Placed
 placed zone id p = (period id p.0, in_force zone (duty.Fdp p.1))
 
 -- the periods of a pairing are at its places
-period_at : (zone id : List ℕ) (r : Rostered) (number : ℕ) (d : DutyInForce) → IsPeriod zone r number d →
+period_at : (zone id : List ℕ) (r : PairingEntry) (number : ℕ) (d : DutyInForce) → IsPeriod zone r number d →
     Contains (periods_at zone (id, r)) (period id number, d)
 period_at zone id r number d h =
     subst (λ (p : Placed). Contains (periods_at zone (id, r)) p) (λ i. (period id (h.counted i), h.is i))
     (in_map (placed zone id) (enumerate_from 1 (periods_in_force r)) (1 + h.place, h.fdp)
     (in_numbers 1 (periods_in_force r) h.place h.fdp h.found))
 
-pub period_of : (zone id : List ℕ) (r : Rostered) (number : ℕ) (d : DutyInForce) → IsPeriod zone r number d →
+pub period_of : (zone id : List ℕ) (r : PairingEntry) (number : ℕ) (d : DutyInForce) → IsPeriod zone r number d →
     Contains (duties (periods_at zone (id, r))) d
 period_of zone id r number d h =
     in_map (λ (p : Placed). p.1) (periods_at zone (id, r)) (period id number, d) (period_at zone id r number d h)
 
 -- the pairings that a member holds, and the ground duties
-abbrev held_by : State → List ℕ → List (List ℕ × Rostered)
+abbrev held_by : State → List ℕ → List (List ℕ × PairingEntry)
 held_by s who = filter (λ row. holds who row.1) (fin.entries s.pairings)
 
 abbrev grounds_by : State → List ℕ → List (List ℕ × GroundPlan)

@@ -16,12 +16,12 @@ use Rattle.duty.specs.declared.fault.DutyFault.TheVariants.{BadField}
 use Rattle.duty.specs.declared.fault.Field.{Field}
 use Rattle.duty.specs.declared.fault.Field.TheVariants as field
 use Rattle.command.specs.Keys.{KeyParts}
-use Rattle.command.specs.Orders.{swap_fault}
+use Rattle.command.specs.Instructions.{swap_fault}
 use Rattle.command.specs.declared.member.Member.{Member}
 use Rattle.command.specs.declared.member.Seat.{Seat}
 use Rattle.command.specs.declared.member.Seat.TheVariants.{Captain, FirstOfficer}
-use Rattle.command.specs.declared.order.Order.TheVariants.{Swap}
-use Rattle.command.specs.declared.order.Swap as swap
+use Rattle.command.specs.declared.instruction.Instruction.TheVariants.{Swap}
+use Rattle.command.specs.declared.instruction.Swap as swap
 use Rattle.roster.specs.Honest.{IsHonestOf, Honest}
 use Rattle.roster.specs.Pairings.{with_holder, is_held_by, holds}
 use Rattle.roster.specs.Places.{Place, period, on_ground, the_pairing, others}
@@ -29,8 +29,8 @@ use Rattle.roster.specs.Refusals.{is_member, is_pairing, broken_by, duties_of, r
 use Rattle.roster.specs.Sound.{Crew, SoundPairing, Sound}
 use Rattle.roster.specs.State.{State, zone_of}
 use Rattle.roster.specs.Steps.{after, change_of, seat_change, seats_of, reseated}
-use Rattle.roster.specs.declared.state.Request.{Request}
-use Rattle.roster.specs.declared.state.Rostered.{Rostered}
+use Rattle.roster.specs.declared.state.LoggedCommand.{LoggedCommand}
+use Rattle.roster.specs.declared.state.PairingEntry.{PairingEntry}
 use Rattle.roster.proofs.Accepted.{Passed, decide, change_here, change_elsewhere}
 use Rattle.roster.proofs.Gaining.{loses, IsOld, IsFresh, gains}
 use Rattle.roster.proofs.Reseating.{moved, held_is, not_gained, seat_for, lost, of_pairing, none_listed, BreaksNone, none_broken}
@@ -47,14 +47,14 @@ differ a b apart = false_from_ne_true (bytes_eq a b) (λ e. apart ((bytes_eq-Dec
 -- ---- The pairings after a swap
 
 -- one pairing is given and another is gained
-record Traded (old new : Pairings) (given gained : List ℕ) (p q : Rostered) (seat other_seat : Seat)
+record Traded (old new : Pairings) (given gained : List ℕ) (p q : PairingEntry) (seat other_seat : Seat)
     (me them : List ℕ) : Type 0 where
   lost : fin.get new given ≡ Some (with_holder seat (Some them) p)
   got : fin.get new gained ≡ Some (with_holder other_seat (Some me) q)
   rest : (id : List ℕ) → AreTwo id given → AreTwo id gained → fin.get new id ≡ fin.get old id
 
 -- a member holds no seat but that of the own kind
-only_seat : (crew : Crew) (id : List ℕ) (r : Rostered) (who : List ℕ) (m : Member) (seat : Seat)
+only_seat : (crew : Crew) (id : List ℕ) (r : PairingEntry) (who : List ℕ) (m : Member) (seat : Seat)
     (new : Option (List ℕ)) → SoundPairing crew id r → fin.get crew who ≡ Some m → m.seat ≡ seat →
     is_held_by who new ≡ false → holds who (with_holder seat new r) ≡ true → ⊥
 only_seat crew id r who m Captain new h is kind other e = elim (or_cases (is_held_by who new) _ e) [
@@ -74,11 +74,11 @@ only_seat crew id r who m FirstOfficer new h is kind other e = elim (or_cases (i
   | inr x ↦ true≢false (sym x ∙ other)
 ]
 
-module _ (s : State) (new : Pairings) (requests : fin.FinMap name_cmp Request) where
+module _ (s : State) (new : Pairings) (requests : fin.FinMap name_cmp LoggedCommand) where
   abbrev swapped : State
   swapped = record s { pairings = new; requests = requests }
 
-  module _ (given gained : List ℕ) (p q : Rostered) (p_is : fin.get s.pairings given ≡ Some p)
+  module _ (given gained : List ℕ) (p q : PairingEntry) (p_is : fin.get s.pairings given ≡ Some p)
       (q_is : fin.get s.pairings gained ≡ Some q) where
     module _ (m : Member) (other_seat : Seat) (me them : List ℕ)
         (traded : Traded s.pairings new given gained p q m.seat other_seat me them) where
@@ -151,8 +151,8 @@ module _ (s : State) (new : Pairings) (requests : fin.FinMap name_cmp Request) w
 record Found (s : State) (w : swap.Swap) : Type 0 where
   m : Member
   n : Member
-  p : Rostered
-  q : Rostered
+  p : PairingEntry
+  q : PairingEntry
   m_is : fin.get s.crew w.crew ≡ Some m
   n_is : fin.get s.crew w.other_crew ≡ Some n
   p_is : fin.get s.pairings w.pairing ≡ Some p
@@ -213,7 +213,7 @@ two_of_each w made =
       other_than w.crew w.other_crew (BadField field.OtherCrew) last.1,
     )
 
--- ---- The order
+-- ---- The instruction
 
 -- the seats of both
 two_seats : (s : State) (w : swap.Swap) (m n : Member) → fin.get s.crew w.crew ≡ Some m →
@@ -226,10 +226,10 @@ two_seats s w m n m_is n_is =
     ∷ option_map_or (λ (x : Member). seat_for w.other_pairing x.seat (Some w.crew) ∷ []) o []) n_is
 
 module _ (s : State) (w : swap.Swap) (f : Found s w) (apart : AreTwo w.pairing w.other_pairing) where
-  abbrev first : Rostered → Rostered
+  abbrev first : PairingEntry → PairingEntry
   first = with_holder f.m.seat (Some w.other_crew)
 
-  abbrev second : Rostered → Rostered
+  abbrev second : PairingEntry → PairingEntry
   second = with_holder f.n.seat (Some w.crew)
 
   abbrev half : Pairings
@@ -256,7 +256,7 @@ module _ (s : State) (w : swap.Swap) (f : Found s w) (apart : AreTwo w.pairing w
   traded_back : Traded s.pairings whole w.other_pairing w.pairing f.q f.p f.n.seat f.m.seat w.other_crew w.crew
   traded_back = record { lost = new_second; got = new_first; rest = λ id a b. same_rest id b a }
 
-  each_honest : (requests : fin.FinMap name_cmp Request) → Sound s → Honest s → AreTwo w.crew w.other_crew →
+  each_honest : (requests : fin.FinMap name_cmp LoggedCommand) → Sound s → Honest s → AreTwo w.crew w.other_crew →
       Honest (swapped s whole requests)
   each_honest requests sound honest crews who = elim (decide w.crew who) [
     | inl is ↦ subst (IsHonestOf (swapped s whole requests)) is

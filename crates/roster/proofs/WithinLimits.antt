@@ -9,8 +9,8 @@ use Rattle.limits.specs.declared.section.Section.{Section}
 use Rattle.command.specs.Keys.{KeyParts, key_name}
 use Rattle.command.specs.declared.exceedance.Exceedance.{Exceedance}
 use Rattle.command.specs.declared.exceedance.Reply.{Reply}
-use Rattle.command.specs.declared.order.Order.{Order}
-use Rattle.command.specs.declared.order.Order.TheVariants.{AddCrew, AddPairing, CancelPairing, Assign, Release, Swap, AddGround, CancelGround, Actual}
+use Rattle.command.specs.declared.instruction.Instruction.{Instruction}
+use Rattle.command.specs.declared.instruction.Instruction.TheVariants.{AddCrew, AddPairing, CancelPairing, Assign, Release, Swap, AddGround, CancelGround, Actual}
 use Rattle.command.specs.declared.refusal.Refusal.{Refusal}
 use Rattle.command.specs.declared.refusal.Refusal.TheVariants.{Limits}
 use Rattle.roster.specs.Laws.{AcceptedWithinLimits, Gain, IsAccepted, IsBroken, PassesChecks, gains, is_assignment, number_of}
@@ -113,35 +113,35 @@ nothing_broken who gain =
           (has_none the_list (λ section c. kept section ((is section).0 c))),
     )
 
--- ---- The orders
+-- ---- The instructions
 
-not_refused : (s : State) (key : KeyParts) (order : Order) (o : Option Refusal) (change : Change) (reply : Reply) →
-    judged s key order o ≡ Accept change reply → o ≡ None
-not_refused s key order None change reply e = refl
-not_refused s key order (Some refusal) change reply e = cc
+not_refused : (s : State) (key : KeyParts) (instruction : Instruction) (o : Option Refusal) (change : Change) (reply : Reply) →
+    judged s key instruction o ≡ Accept change reply → o ≡ None
+not_refused s key instruction None change reply e = refl
+not_refused s key instruction (Some refusal) change reply e = cc
 
-accepted_is : (s : State) (key : KeyParts) (order : Order) → fin.get s.requests (key_name key) ≡ None →
-    IsAccepted s key order ↔ (refusal_of s order ≡ None)
-accepted_is s key order free = (
-  λ a. not_refused s key order (refusal_of s order) a.0 a.1 (sym (under_free s key order free) ∙ a.2),
+accepted_is : (s : State) (key : KeyParts) (instruction : Instruction) → fin.get s.requests (key_name key) ≡ None →
+    IsAccepted s key instruction ↔ (refusal_of s instruction ≡ None)
+accepted_is s key instruction free = (
+  λ a. not_refused s key instruction (refusal_of s instruction) a.0 a.1 (sym (under_free s key instruction free) ∙ a.2),
   λ clear. (
-    change_of s key order,
-    record { exceedances = recorded_by s order },
-    under_free s key order free ∙ ap (judged s key order) clear,
+    change_of s key instruction,
+    record { exceedances = recorded_by s instruction },
+    under_free s key instruction free ∙ ap (judged s key instruction) clear,
   ),
 )
 
 -- under a free key, the rows of limits alone decide
-decided : (s : State) (key : KeyParts) (order : Order) → PassesChecks s key order →
-    IsAccepted s key order ↔ (first_of (filter is_limit (refusals s order)) ≡ None)
-decided s key order passes =
-    let same = limits_decide (refusals s order) passes.passes in
-    through (accepted_is s key order passes.free) (λ e. sym same ∙ e, λ e. same ∙ e)
+decided : (s : State) (key : KeyParts) (instruction : Instruction) → PassesChecks s key instruction →
+    IsAccepted s key instruction ↔ (first_of (filter is_limit (refusals s instruction)) ≡ None)
+decided s key instruction passes =
+    let same = limits_decide (refusals s instruction) passes.passes in
+    through (accepted_is s key instruction passes.free) (λ e. sym same ∙ e, λ e. same ∙ e)
 
 -- which for an assignment are one row, of what the gains break
-breaks_none : (s : State) (order : Order) → is_assignment order ≡ true →
-    (first_of (filter is_limit (refusals s order)) ≡ None)
-    ↔ ((gain : Gain) → Contains (gains s order) gain → BreaksNone gain)
+breaks_none : (s : State) (instruction : Instruction) → is_assignment instruction ≡ true →
+    (first_of (filter is_limit (refusals s instruction)) ≡ None)
+    ↔ ((gain : Gain) → Contains (gains s instruction) gain → BreaksNone gain)
 unfolding refusals
 breaks_none s (Assign id who) is =
     let gain : Gain = record { others = others s who no_place; new = duties_of s who id } in
@@ -173,4 +173,4 @@ breaks_none s (CancelGround id) is = absurd (cc)
 breaks_none s (Actual id a) is = absurd (cc)
 
 pub accepted_within_limits : AcceptedWithinLimits
-accepted_within_limits s key order is passes = through (decided s key order passes) (breaks_none s order is)
+accepted_within_limits s key instruction is passes = through (decided s key instruction passes) (breaks_none s instruction is)

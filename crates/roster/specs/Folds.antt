@@ -4,8 +4,8 @@ use Rattle.std.specs.List.{fold, enumerate_from}
 use Rattle.duty.specs.Plans.{Plan}
 use Rattle.command.specs.Keys.{KeyParts}
 use Rattle.command.specs.declared.exceedance.Reply.{Reply}
-use Rattle.command.specs.declared.order.Order.{Order}
-use Rattle.command.specs.declared.order.Order.TheVariants.{AddPairing}
+use Rattle.command.specs.declared.instruction.Instruction.{Instruction}
+use Rattle.command.specs.declared.instruction.Instruction.TheVariants.{AddPairing}
 use Rattle.command.specs.declared.refusal.Refusal.{Refusal}
 use Rattle.roster.specs.State.{State}
 use Rattle.roster.specs.Steps.{step_of, after}
@@ -14,7 +14,7 @@ use Rattle.roster.specs.declared.change.Verdict.TheVariants.{Repeat, Accept, Ref
 
 -- a command under its key
 abbrev pub Asked : Type 0
-Asked = KeyParts × Order
+Asked = KeyParts × Instruction
 
 -- what a verdict answers: a repeat is answered with the kept reply
 abbrev pub answer_of : Verdict → Result Reply Refusal
@@ -30,15 +30,16 @@ left_by s (Refuse refusal) = s
 
 -- the state after one command, and after each of a list in turn
 abbrev pub next : State → Asked → State
-next s (key, order) = left_by s (step_of s key order)
+next s (key, instruction) = left_by s (step_of s key instruction)
 
+-- the state after each command of a list in turn
 abbrev pub Fold : State → List Asked → State
 Fold s asked = fold next s asked
 
 -- their answers in turn
 abbrev pub Replies : State → List Asked → List (Result Reply Refusal)
 Replies s [] = []
-Replies s ((key, order) ∷ asked) = answer_of (step_of s key order) ∷ Replies (next s (key, order)) asked
+Replies s ((key, instruction) ∷ asked) = answer_of (step_of s key instruction) ∷ Replies (next s (key, instruction)) asked
 
 -- an import as its commands: pairing i is added under part i
 abbrev pub import : ℕ → List Plan → List Asked

@@ -24,9 +24,11 @@ pub record IsRecorded (s : State) (who : List ℕ) (section : Section) (some : L
 abbrev pub AreDutiesOf : State → List ℕ → List Placed → Type 0
 AreDutiesOf s who some = (p : Placed) → Contains some p → Contains (history_of s who) p
 
+-- each section that some of the member's duties break among themselves is recorded, with one of these duties
 abbrev pub IsHonestOf : State → List ℕ → Type 0
 IsHonestOf s who = (some : List Placed) → AreDutiesOf s who some → (section : Section) →
     Contains (Broken (duties some) (duties some)) section → IsRecorded s who section some
 
+-- the book is honest of every member
 abbrev pub Honest : State → Type 0
 Honest s = (who : List ℕ) → IsHonestOf s who

@@ -9,12 +9,12 @@ use Rattle.limits.specs.Meaning.{AreInOrder}
 use Rattle.limits.specs.Rules.{Rule}
 use Rattle.limits.specs.declared.section.Section.{Section}
 use Rattle.command.specs.Keys.{KeyParts, key_name}
-use Rattle.command.specs.Orders.{IsMade}
+use Rattle.command.specs.Instructions.{IsMade}
 use Rattle.command.specs.Texts.{refusal_number}
 use Rattle.command.specs.declared.exceedance.Exceedance.{Exceedance}
 use Rattle.command.specs.declared.exceedance.Reply.{Reply}
-use Rattle.command.specs.declared.order.Order.{Order}
-use Rattle.command.specs.declared.order.Order.TheVariants.{Assign, Swap, AddGround}
+use Rattle.command.specs.declared.instruction.Instruction.{Instruction}
+use Rattle.command.specs.declared.instruction.Instruction.TheVariants.{Assign, Swap, AddGround}
 use Rattle.roster.specs.Folds.{Asked, Fold, Replies, import}
 use Rattle.roster.specs.Honest.{Honest}
 use Rattle.roster.specs.Places.{no_place, the_pairing, others, ground_at}
@@ -25,16 +25,17 @@ use Rattle.roster.specs.Steps.{step_of, after}
 use Rattle.roster.specs.declared.change.Change.{Change}
 use Rattle.roster.specs.declared.change.Verdict.TheVariants.{Repeat, Accept}
 use Rattle.roster.specs.declared.state.PeriodId.{PeriodId}
-use Rattle.roster.specs.declared.state.Request.{Request}
+use Rattle.roster.specs.declared.state.LoggedCommand.{LoggedCommand}
 
 -- ---- The order of refusals
 
+-- the number of a refusal in a list
 abbrev pub number_of : Row → ℕ
 number_of row = refusal_number row.0
 
--- the refusals of an order stand in the order of their numbers: the first that applies is the lowest-numbered
+-- the refusals of an instruction stand in the order of their numbers: the first that applies is the lowest-numbered
 abbrev pub IsAscending : Type 0
-IsAscending = (s : State) (order : Order) → each_next nat_lt (map number_of (refusals s order)) ≡ true
+IsAscending = (s : State) (instruction : Instruction) → each_next nat_lt (map number_of (refusals s instruction)) ≡ true
 
 -- ---- Assignments and limits
 
@@ -44,36 +45,38 @@ pub record Gain : Type 0 where
   pub new : List DutyInForce
 
 -- of each member who gains duties by an assignment
-abbrev pub gains : State → Order → List Gain
+abbrev pub gains : State → Instruction → List Gain
 gains s (Assign id who) = record { others = others s who no_place; new = duties_of s who id } ∷ []
 gains s (Swap w) = record { others = others s w.crew (the_pairing w.pairing); new = duties_of s w.crew w.other_pairing }
     ∷ record { others = others s w.other_crew (the_pairing w.other_pairing); new = duties_of s w.other_crew w.pairing }
     ∷ []
 gains s (AddGround g) = record { others = others s g.crew no_place; new = (ground_at (g.id, g)).1 ∷ [] } ∷ []
-gains s order = []
+gains s instruction = []
 
 -- a section's rule is broken by the new duties, in some window of minutes
 abbrev pub IsBroken : Gain → Section → Type 0
 IsBroken gain section = Rule section (gain.others ++ gain.new) gain.new
 
--- the key is free, and no refusal of the order but that for limits (12) applies
-pub record PassesChecks (s : State) (key : KeyParts) (order : Order) : Type 0 where
+-- the key is free, and no refusal of the instruction but that for limits (12) applies
+pub record PassesChecks (s : State) (key : KeyParts) (instruction : Instruction) : Type 0 where
   pub free : fin.get s.requests (key_name key) ≡ None
-  pub passes : (row : Row) → Contains (refusals s order) row → (number_of row ≡ 12 → ⊥) → row.1 ≡ false
+  pub passes : (row : Row) → Contains (refusals s instruction) row → (number_of row ≡ 12 → ⊥) → row.1 ≡ false
 
-abbrev pub is_assignment : Order → Bool
+-- an instruction that gives members duties: an assign, a swap, or a new ground duty
+abbrev pub is_assignment : Instruction → Bool
 is_assignment (Assign _ _) = true
 is_assignment (Swap _) = true
 is_assignment (AddGround _) = true
-is_assignment order = false
+is_assignment instruction = false
 
-abbrev pub IsAccepted : State → KeyParts → Order → Type 0
-IsAccepted s key order = (change : Change) × (reply : Reply) × (step_of s key order ≡ Accept change reply)
+-- the step of the instruction under the key is an acceptance
+abbrev pub IsAccepted : State → KeyParts → Instruction → Type 0
+IsAccepted s key instruction = (change : Change) × (reply : Reply) × (step_of s key instruction ≡ Accept change reply)
 
 -- an assignment that passes the book's own checks is accepted exactly where it breaks no limit in any window of minutes
 abbrev pub AcceptedWithinLimits : Type 0
-AcceptedWithinLimits = (s : State) (key : KeyParts) (order : Order) → is_assignment order ≡ true → PassesChecks s key order →
-    IsAccepted s key order ↔ ((gain : Gain) → Contains (gains s order) gain → (section : Section) → IsBroken gain section → ⊥)
+AcceptedWithinLimits = (s : State) (key : KeyParts) (instruction : Instruction) → is_assignment instruction ≡ true → PassesChecks s key instruction →
+    IsAccepted s key instruction ↔ ((gain : Gain) → Contains (gains s instruction) gain → (section : Section) → IsBroken gain section → ⊥)
 
 -- ---- The limits that are listed
 
@@ -88,14 +91,17 @@ ListsInOrder = (who : List ℕ) (gain : Gain) → AreInOrder (map (λ e. e.secti
 
 -- ---- Sound and honest books
 
+-- an accepted command leaves a sound book sound
 abbrev pub KeepsSound : Type 0
-KeepsSound = (s : State) (key : KeyParts) (order : Order) (change : Change) (reply : Reply) → IsMade order → Sound s →
-    step_of s key order ≡ Accept change reply → Sound (after s change)
+KeepsSound = (s : State) (key : KeyParts) (instruction : Instruction) (change : Change) (reply : Reply) → IsMade instruction → Sound s →
+    step_of s key instruction ≡ Accept change reply → Sound (after s change)
 
+-- an accepted command leaves an honest book honest
 abbrev pub KeepsHonest : Type 0
-KeepsHonest = (s : State) (key : KeyParts) (order : Order) (change : Change) (reply : Reply) → IsMade order → Sound s →
-    Honest s → step_of s key order ≡ Accept change reply → Honest (after s change)
+KeepsHonest = (s : State) (key : KeyParts) (instruction : Instruction) (change : Change) (reply : Reply) → IsMade instruction → Sound s →
+    Honest s → step_of s key instruction ≡ Accept change reply → Honest (after s change)
 
+-- each command of the list is one that `Command::new` makes
 abbrev pub AreMade : List Asked → Type 0
 AreMade asked = (a : Asked) → Contains asked a → IsMade a.1
 
@@ -103,6 +109,7 @@ AreMade asked = (a : Asked) → Contains asked a → IsMade a.1
 abbrev pub StaysSound : Type 0
 StaysSound = (s : State) (asked : List Asked) → AreMade asked → Sound s → Sound (Fold s asked)
 
+-- a list of commands leaves an honest book honest
 abbrev pub StaysHonest : Type 0
 StaysHonest = (s : State) (asked : List Asked) → AreMade asked → Sound s → Honest s → Honest (Fold s asked)
 
@@ -124,14 +131,14 @@ KeepsRecords = (s : State) (asked : List Asked) → AreMade asked → Sound s �
 
 -- a key that is held stays held, with its command and reply, whatever is asked
 abbrev pub KeepsRequests : Type 0
-KeepsRequests = (s : State) (key : KeyParts) (request : Request) (asked : List Asked) →
+KeepsRequests = (s : State) (key : KeyParts) (request : LoggedCommand) (asked : List Asked) →
     fin.get s.requests (key_name key) ≡ Some request → fin.get (Fold s asked).requests (key_name key) ≡ Some request
 
 -- a command is answered with a kept reply, and changes nothing, exactly where its key holds it with that reply
 abbrev pub Repeats : Type 0
-Repeats = (s : State) (key : KeyParts) (order : Order) (reply : Reply) →
-    (step_of s key order ≡ Repeat reply)
-    ↔ (fin.get s.requests (key_name key) ≡ Some (record { command = order; reply = reply }))
+Repeats = (s : State) (key : KeyParts) (instruction : Instruction) (reply : Reply) →
+    (step_of s key instruction ≡ Repeat reply)
+    ↔ (fin.get s.requests (key_name key) ≡ Some (record { command = instruction; reply = reply }))
 
 -- an import that was stopped after some of its commands, and begun again, any number of times, ends when it is handed in
 -- once more as if it had never been stopped

@@ -6,30 +6,32 @@ use Rattle.duty.specs.Plans.{Plan, ActualTimes, in_force}
 use Rattle.duty.specs.declared.fdp.Fdp.{Fdp}
 use Rattle.command.specs.declared.member.Seat.{Seat}
 use Rattle.command.specs.declared.member.Seat.TheVariants.{Captain, FirstOfficer}
-use Rattle.roster.specs.declared.state.Rostered.{Rostered}
+use Rattle.roster.specs.declared.state.PairingEntry.{PairingEntry}
 
 -- a plan of which both seats are free and no period is flown
-abbrev pub unheld : Plan → Rostered
+abbrev pub unheld : Plan → PairingEntry
 unheld plan = record { plan = plan; actuals = map (λ _. None) plan.periods; captain = None; first_officer = None }
 
 -- some period has an actual
-abbrev pub is_flown : Rostered → Bool
+abbrev pub is_flown : PairingEntry → Bool
 is_flown r = list_any is_some r.actuals
 
 -- who holds a seat
-abbrev pub holder : Seat → Rostered → Option (List ℕ)
+abbrev pub holder : Seat → PairingEntry → Option (List ℕ)
 holder Captain r = r.captain
 holder FirstOfficer r = r.first_officer
 
-abbrev pub with_holder : Seat → Option (List ℕ) → Rostered → Rostered
+-- the pairing with this holder of the seat, or none
+abbrev pub with_holder : Seat → Option (List ℕ) → PairingEntry → PairingEntry
 with_holder Captain who r = record r { captain = who }
 with_holder FirstOfficer who r = record r { first_officer = who }
 
 -- a seat is held; both are
-abbrev pub is_crewed : Rostered → Bool
+abbrev pub is_crewed : PairingEntry → Bool
 is_crewed r = is_some r.captain || is_some r.first_officer
 
-abbrev pub is_fully_crewed : Rostered → Bool
+-- both seats are held
+abbrev pub is_fully_crewed : PairingEntry → Bool
 is_fully_crewed r = is_some r.captain && is_some r.first_officer
 
 -- the holder is this member
@@ -38,7 +40,7 @@ is_held_by who None = false
 is_held_by who (Some other) = bytes_eq other who
 
 -- the member holds a seat of the pairing
-abbrev pub holds : List ℕ → Rostered → Bool
+abbrev pub holds : List ℕ → PairingEntry → Bool
 holds who r = is_held_by who r.captain || is_held_by who r.first_officer
 
 -- a period with its actual times, if it has them, else as it is planned
@@ -47,5 +49,5 @@ flown (fdp, None) = fdp
 flown (fdp, Some actual) = in_force fdp actual
 
 -- the periods in turn, with their times in force
-abbrev pub periods_in_force : Rostered → List Fdp
+abbrev pub periods_in_force : PairingEntry → List Fdp
 periods_in_force r = map flown (zip r.plan.periods r.actuals)

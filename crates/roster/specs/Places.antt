@@ -11,7 +11,7 @@ use Rattle.duty.specs.declared.fdp.Fdp.{Fdp}
 use Rattle.duty.specs.declared.placed_duty.Duty.TheVariants as duty
 use Rattle.roster.specs.Pairings.{holds, periods_in_force}
 use Rattle.roster.specs.State.{State, zone_of}
-use Rattle.roster.specs.declared.state.Rostered.{Rostered}
+use Rattle.roster.specs.declared.state.PairingEntry.{PairingEntry}
 
 -- a period of a pairing, counted from 1, or a ground duty
 pub data Place : Type 0 where
@@ -26,7 +26,8 @@ Placed = Place × DutyInForce
 abbrev pub numbered : List ℕ → List ℕ → ℕ → List Fdp → List Placed
 numbered zone id n fdps = map (λ p. (period id p.0, in_force zone (duty.Fdp p.1))) (enumerate_from n fdps)
 
-abbrev pub periods_at : List ℕ → List ℕ × Rostered → List Placed
+-- the periods of a pairing in force, at their places
+abbrev pub periods_at : List ℕ → List ℕ × PairingEntry → List Placed
 periods_at zone (id, r) = numbered zone id 1 (periods_in_force r)
 
 -- a ground duty, from its begin to its end: it is the same in every zone
@@ -37,9 +38,11 @@ ground_at (id, g) = (on_ground id, times.Ground (record { from = g.begin; to = g
 abbrev pub periods_of : State → List ℕ → List Placed
 periods_of s who = flat_map (periods_at (zone_of s who)) (filter (λ row. holds who row.1) (fin.entries s.pairings))
 
+-- the ground duties of a member, at their places
 abbrev pub grounds_of : State → List ℕ → List Placed
 grounds_of s who = map ground_at (filter (λ row. bytes_eq row.1.crew who) (fin.entries s.grounds))
 
+-- all duties of a member, at their places
 abbrev pub history_of : State → List ℕ → List Placed
 history_of s who = periods_of s who ++ grounds_of s who
 

@@ -1,4 +1,4 @@
--- When the book refuses an order. For each order its refusals are listed in the order of their numbers, each beside the
+-- When the book refuses an instruction. For each instruction its refusals are listed in the order of their numbers, each beside the
 -- fact that makes it apply; the first that applies is the answer. Each fact makes sense in any state: a pairing that
 -- isn't there has no seat that is held and no periods, and a member who isn't there holds nothing.
 use Rattle.std.specs.Prelude.{ℕ, ◌-◌, ◌==◌, Bool, false, not, ◌&&◌, ◌||◌, nat_lt, List, [], ◌∷◌, ◌++◌, map, length, Option, is_some, is_none, slice_get}
@@ -12,9 +12,9 @@ use Rattle.duty.specs.declared.fdp.Fdp.{Fdp}
 use Rattle.limits.specs.Judgement.{Broken}
 use Rattle.command.specs.contracts.member.SeatPartialEq.TheImpl.{ghosts as seats}
 use Rattle.command.specs.declared.exceedance.Exceedance.{Exceedance}
-use Rattle.command.specs.declared.order.Order.{Order}
-use Rattle.command.specs.declared.order.Order.TheVariants.{AddCrew, AddPairing, CancelPairing, Assign, Release, Swap, AddGround, CancelGround, Actual}
-use Rattle.command.specs.declared.order.Swap as swap
+use Rattle.command.specs.declared.instruction.Instruction.{Instruction}
+use Rattle.command.specs.declared.instruction.Instruction.TheVariants.{AddCrew, AddPairing, CancelPairing, Assign, Release, Swap, AddGround, CancelGround, Actual}
+use Rattle.command.specs.declared.instruction.Swap as swap
 use Rattle.command.specs.declared.refusal.Refusal.{Refusal}
 use Rattle.command.specs.declared.refusal.Refusal.TheVariants.{NoSuchCrew, CrewExists, NoSuchPairing, PairingExists, SeatTaken, WrongSeat, NotAssigned, PairingCrewed, Flown, Overlap, Limits, NoSuchDuty, GroundExists, NoSuchGround, SegmentCount}
 use Rattle.roster.specs.Pairings.{holder, is_held_by, is_flown, is_crewed, is_fully_crewed}
@@ -23,12 +23,15 @@ use Rattle.roster.specs.State.{State, zone_of}
 
 -- ---- Facts
 
+-- a member has this id
 abbrev pub is_member : State → List ℕ → Bool
 is_member s who = fin.contains_key s.crew who
 
+-- a pairing has this id
 abbrev pub is_pairing : State → List ℕ → Bool
 is_pairing s id = fin.contains_key s.pairings id
 
+-- a ground duty has this id
 abbrev pub is_ground : State → List ℕ → Bool
 is_ground s id = fin.contains_key s.grounds id
 
@@ -49,9 +52,11 @@ is_assigned s id who = is_held_by who (holder_of_own_seat s id who)
 abbrev pub has_holder : State → List ℕ → Bool
 has_holder s id = option_map_or is_crewed (fin.get s.pairings id) false
 
+-- a seat of the pairing is free
 abbrev pub has_free_seat : State → List ℕ → Bool
 has_free_seat s id = option_map_or (λ r. not (is_fully_crewed r)) (fin.get s.pairings id) false
 
+-- a period of the pairing is flown
 abbrev pub has_flown : State → List ℕ → Bool
 has_flown s id = option_map_or is_flown (fin.get s.pairings id) false
 
@@ -72,7 +77,7 @@ duties_of s who id = option_map_or (λ r. duties (periods_at (zone_of s who) (id
 unfoldable pub broken_by : List ℕ → List DutyInForce → List DutyInForce → List Exceedance
 broken_by who others new = map (λ section. record { crew = who; section = section }) (Broken (others ++ new) new)
 
--- ---- The refusals of each order
+-- ---- The refusals of each instruction
 
 -- a refusal, and whether it applies
 abbrev pub Row : Type 0
@@ -92,7 +97,8 @@ trade_rows s w given taken =
     ∷ over_limits (broken_by w.crew rest taken ++ broken_by w.other_crew other_rest given)
     ∷ []
 
-unfoldable pub refusals : State → Order → List Row
+-- the refusals of an instruction in the order of their numbers, each with whether it applies
+unfoldable pub refusals : State → Instruction → List Row
 refusals s (AddCrew who member) = (CrewExists, is_member s who) ∷ []
 refusals s (AddPairing plan) = (PairingExists, is_pairing s plan.id) ∷ []
 refusals s (CancelPairing id) =
@@ -138,5 +144,6 @@ refusals s (Actual id a) =
 abbrev pub first_of : List Row → Option Refusal
 first_of rows = option_map (λ row. row.0) (find (λ row. row.1) rows)
 
-abbrev pub refusal_of : State → Order → Option Refusal
-refusal_of s order = first_of (refusals s order)
+-- the first refusal of an instruction that applies
+abbrev pub refusal_of : State → Instruction → Option Refusal
+refusal_of s instruction = first_of (refusals s instruction)

@@ -8,16 +8,17 @@ use Rattle.duty.specs.Plans.{Plan, GroundPlan, ActualTimes, as_planned}
 use Rattle.duty.specs.declared.fdp.Fdp.{Fdp}
 use Rattle.limits.specs.declared.section.Section.{Section}
 use Rattle.command.specs.Keys.{KeyParts, key_name}
-use Rattle.command.specs.Orders.{IsMade}
+use Rattle.command.specs.Instructions.{IsMade}
 use Rattle.command.specs.declared.member.Member.{Member}
 use Rattle.command.specs.declared.member.Seat.{Seat}
 use Rattle.command.specs.declared.member.Seat.TheVariants.{Captain, FirstOfficer}
 use Rattle.roster.specs.Pairings.{is_flown, is_fully_crewed}
 use Rattle.roster.specs.State.{State, exceedance_name}
 use Rattle.roster.specs.declared.state.PeriodId.{PeriodId}
-use Rattle.roster.specs.declared.state.Request.{Request}
-use Rattle.roster.specs.declared.state.Rostered.{Rostered}
+use Rattle.roster.specs.declared.state.LoggedCommand.{LoggedCommand}
+use Rattle.roster.specs.declared.state.PairingEntry.{PairingEntry}
 
+-- the members by their ids
 abbrev pub Crew : Type 0
 Crew = fin.FinMap name_cmp Member
 
@@ -33,7 +34,8 @@ pub record IsActual (plan : Plan) (i : ℕ) (a : ActualTimes) : Type 0 where
   pub count : length fdp.segments ≡ length a.segments
   pub in_order : actual_fault a ≡ None
 
-pub record SoundPairing (crew : Crew) (id : List ℕ) (r : Rostered) : Type 0 where
+-- a pairing keeps the order of its plan, its holders are members, and each actual is of one of its periods
+pub record SoundPairing (crew : Crew) (id : List ℕ) (r : PairingEntry) : Type 0 where
   pub named : r.plan.id ≡ id
   -- a plan that `Pairing::new` makes
   pub plan : pairing_fault r.plan ≡ None
@@ -59,11 +61,11 @@ pub record SoundExceedance (s : State) (name : List ℕ) (p : PeriodId) : Type 0
   pub crew : List ℕ
   pub section : Section
   pub known_by : name ≡ exceedance_name key crew section
-  pub request : Request
+  pub request : LoggedCommand
   pub held : fin.get s.requests (key_name key) ≡ Some request
   pub member : Member
   pub of_member : fin.get s.crew crew ≡ Some member
-  pub rostered : Rostered
+  pub rostered : PairingEntry
   pub of_pairing : fin.get s.pairings p.pairing ≡ Some rostered
   pub place : ℕ
   pub number : p.number ≡ place + 1
@@ -71,13 +73,14 @@ pub record SoundExceedance (s : State) (name : List ℕ) (p : PeriodId) : Type 0
   pub flown : slice_get rostered.actuals place ≡ Some (Some actual)
 
 -- what is kept under a key is a command
-pub record SoundRequest (name : List ℕ) (request : Request) : Type 0 where
+pub record SoundRequest (name : List ℕ) (request : LoggedCommand) : Type 0 where
   pub key : KeyParts
   pub known_by : name ≡ key_name key
   pub made : IsMade request.command
 
+-- each pairing, ground duty, exceedance and kept command is sound
 pub record Sound (s : State) : Type 0 where
-  pub pairings : (id : List ℕ) (r : Rostered) → fin.get s.pairings id ≡ Some r → SoundPairing s.crew id r
+  pub pairings : (id : List ℕ) (r : PairingEntry) → fin.get s.pairings id ≡ Some r → SoundPairing s.crew id r
   pub grounds : (id : List ℕ) (g : GroundPlan) → fin.get s.grounds id ≡ Some g → SoundGround s.crew id g
   pub exceedances : (name : List ℕ) (p : PeriodId) → fin.get s.exceedances name ≡ Some p → SoundExceedance s name p
-  pub requests : (name : List ℕ) (r : Request) → fin.get s.requests name ≡ Some r → SoundRequest name r
+  pub requests : (name : List ℕ) (r : LoggedCommand) → fin.get s.requests name ≡ Some r → SoundRequest name r

@@ -9,10 +9,10 @@ use Rattle.duty.specs.Plans.{ActualTimes, in_force as flown_at}
 use Rattle.duty.specs.declared.duty_in_force.DutyInForce.{DutyInForce}
 use Rattle.duty.specs.declared.placed_duty.Duty.TheVariants as duty
 use Rattle.command.specs.Keys.{KeyParts, key_name}
-use Rattle.command.specs.contracts.order.CommandPartialEq.TheImpl.{ghosts as commands}
+use Rattle.command.specs.contracts.instruction.CommandPartialEq.TheImpl.{ghosts as commands}
 use Rattle.command.specs.declared.exceedance.Exceedance.{Exceedance}
-use Rattle.command.specs.declared.order.Order.{Order}
-use Rattle.command.specs.declared.order.Order.TheVariants.{AddCrew, AddPairing, CancelPairing, Assign, Release, Swap, AddGround, CancelGround, Actual}
+use Rattle.command.specs.declared.instruction.Instruction.{Instruction}
+use Rattle.command.specs.declared.instruction.Instruction.TheVariants.{AddCrew, AddPairing, CancelPairing, Assign, Release, Swap, AddGround, CancelGround, Actual}
 use Rattle.command.specs.declared.refusal.Refusal.{Refusal}
 use Rattle.command.specs.declared.refusal.Refusal.TheVariants.{NumberUsed}
 use Rattle.roster.specs.Pairings.{unheld, with_holder}
@@ -24,8 +24,8 @@ use Rattle.roster.specs.declared.change.SeatChange.{SeatChange}
 use Rattle.roster.specs.declared.change.Verdict.{Verdict}
 use Rattle.roster.specs.declared.change.Verdict.TheVariants.{Repeat, Accept, Refuse}
 use Rattle.roster.specs.declared.state.PeriodId.{PeriodId}
-use Rattle.roster.specs.declared.state.Request.{Request}
-use Rattle.roster.specs.declared.state.Rostered.{Rostered}
+use Rattle.roster.specs.declared.state.LoggedCommand.{LoggedCommand}
+use Rattle.roster.specs.declared.state.PairingEntry.{PairingEntry}
 
 -- ---- Seats
 
@@ -35,12 +35,12 @@ seat_change s id who new =
     option_map_or (λ m. record { pairing = id; seat = m.seat; holder = new } ∷ []) (fin.get s.crew who) []
 
 -- the seats that get or lose a holder
-abbrev pub seats_of : State → Order → List SeatChange
+abbrev pub seats_of : State → Instruction → List SeatChange
 seats_of s (Assign id who) = seat_change s id who (Some who)
 seats_of s (Release id who) = seat_change s id who None
 seats_of s (Swap w) =
     seat_change s w.pairing w.crew (Some w.other_crew) ++ seat_change s w.other_pairing w.other_crew (Some w.crew)
-seats_of s order = []
+seats_of s instruction = []
 
 -- ---- Exceedances
 
@@ -54,34 +54,36 @@ abbrev pub broken_by_holder : State → List ℕ → ActualTimes → Option (Lis
 broken_by_holder s id a holder =
     option_map_or (λ who. broken_by who (others s who (the_period id a.period)) (flown_duty s who id a)) holder []
 
--- the exceedances that an order records: an actual's, the captain's first
-unfoldable pub recorded_by : State → Order → List Exceedance
+-- the exceedances that an instruction records: an actual's, the captain's first
+unfoldable pub recorded_by : State → Instruction → List Exceedance
 recorded_by s (Actual id a) = option_map_or
     (λ r. broken_by_holder s id a r.captain ++ broken_by_holder s id a r.first_officer) (fin.get s.pairings id) []
-recorded_by s order = []
+recorded_by s instruction = []
 
 -- ---- The answer
 
-abbrev pub change_of : State → KeyParts → Order → Change
-change_of s key order = record {
+-- what an accepted instruction changes: its key, the command with its reply, and the seats
+abbrev pub change_of : State → KeyParts → Instruction → Change
+change_of s key instruction = record {
   key = key;
-  command = order;
-  reply = record { exceedances = recorded_by s order };
-  seats = seats_of s order;
+  command = instruction;
+  reply = record { exceedances = recorded_by s instruction };
+  seats = seats_of s instruction;
 }
 
 -- under a free key: refused, or accepted
-abbrev pub judged : State → KeyParts → Order → Option Refusal → Verdict
-judged s key order (Some refusal) = Refuse refusal
-judged s key order None = Accept (change_of s key order) (record { exceedances = recorded_by s order })
+abbrev pub judged : State → KeyParts → Instruction → Option Refusal → Verdict
+judged s key instruction (Some refusal) = Refuse refusal
+judged s key instruction None = Accept (change_of s key instruction) (record { exceedances = recorded_by s instruction })
 
 -- a kept command is repeated, and no other takes its key
-abbrev pub answered : State → KeyParts → Order → Option Request → Verdict
-answered s key order (Some kept) = if commands.eq kept.command order then Repeat kept.reply else Refuse NumberUsed
-answered s key order None = judged s key order (refusal_of s order)
+abbrev pub answered : State → KeyParts → Instruction → Option LoggedCommand → Verdict
+answered s key instruction (Some kept) = if commands.eq kept.command instruction then Repeat kept.reply else Refuse NumberUsed
+answered s key instruction None = judged s key instruction (refusal_of s instruction)
 
-unfoldable pub step_of : State → KeyParts → Order → Verdict
-step_of s key order = answered s key order (fin.get s.requests (key_name key))
+-- what a command is answered under a key, by what the key holds
+unfoldable pub step_of : State → KeyParts → Instruction → Verdict
+step_of s key instruction = answered s key instruction (fin.get s.requests (key_name key))
 
 -- a command is accepted only under a free key
 abbrev pub IsUnderFreeKey : State → Verdict → Type 0
@@ -91,18 +93,19 @@ IsUnderFreeKey s verdict = Unit {0}
 -- ---- The next state
 
 -- the seats get their holders
-abbrev pub reseated : fin.FinMap name_cmp Rostered → SeatChange → fin.FinMap name_cmp Rostered
+abbrev pub reseated : fin.FinMap name_cmp PairingEntry → SeatChange → fin.FinMap name_cmp PairingEntry
 reseated pairings seat = changed_at pairings seat.pairing (with_holder seat.seat seat.holder)
 
 -- the times of a period replace the plan's or an earlier actual's
-abbrev pub with_actual : ActualTimes → Rostered → Rostered
+abbrev pub with_actual : ActualTimes → PairingEntry → PairingEntry
 with_actual a r = record r { actuals = slice_set r.actuals (a.period - 1) (Some a) }
 
+-- the exceedances with one more of the period
 abbrev pub recorded : KeyParts → PeriodId → fin.FinMap name_cmp PeriodId → Exceedance → fin.FinMap name_cmp PeriodId
 recorded key period records e = fin.insert records (exceedance_name key e.crew e.section) period
 
--- what an accepted order leaves
-abbrev pub effect : State → Change → Order → State
+-- what an accepted instruction leaves
+abbrev pub effect : State → Change → Instruction → State
 effect s change (AddCrew who member) = record s { crew = fin.insert s.crew who member }
 effect s change (AddPairing plan) = record s { pairings = fin.insert s.pairings plan.id (unheld plan) }
 effect s change (CancelPairing id) = record s { pairings = fin.remove s.pairings id }
@@ -122,5 +125,6 @@ kept s change = record s {
   requests = fin.insert s.requests (key_name change.key) (record { command = change.command; reply = change.reply });
 }
 
+-- the state that an accepted command leaves: its effect, and its key holds it
 unfoldable pub after : State → Change → State
 after s change = kept (effect s change change.command) change

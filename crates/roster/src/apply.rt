@@ -1,4 +1,5 @@
-//! What an accepted command leaves.
+//! What an accepted command leaves. Its definition is `after` (`specs/Steps.antt`).
+//! Worked rows: `tests/answers.py`. Wrong bodies: `must-fail/`.
 ghost use Rattle.std.specs.Prelude.{◌≡◌, IfOk, OnOk, OnErr, None};
 ghost use Rattle.std.specs.FinMap as fin;
 ghost use Rattle.std.specs.List.{fold};
@@ -8,11 +9,11 @@ ghost use Rattle.roster.specs.declared.state.PeriodId.{PeriodId as PeriodOf};
 ghost use Rattle.values.specs.Name.{changed_at};
 
 use crate::change::{Change, SeatChange};
-use crate::state::{ExceedanceId, PeriodId, Request, Roster, Rostered};
-use command::{Exceedance, Key, Order, Seat};
+use crate::state::{ExceedanceId, LoggedCommand, PairingEntry, PeriodId, Roster};
+use command::{Exceedance, Instruction, Key, Seat};
 use duty::{Actual, CrewId, PairingId};
 use std::alloc::Global;
-use values::{Copied, Edit, MemoryFault, Table, copies_of};
+use values::{Edit, MemoryFault, OrdMap, TryClone, copies_of};
 
 /// Puts a holder, or none, into a seat.
 #[derive(Drop)]
@@ -21,12 +22,12 @@ struct Seated {
     holder: Option<CrewId>,
 }
 
-impl Edit<Rostered> for Seated {
+impl Edit<PairingEntry> for Seated {
     ghost use Rattle.roster.specs.Pairings.{with_holder};
 
     ghost edited = { λ seated rostered. with_holder seated.seat seated.holder rostered };
 
-    fn edit(self, rostered: &mut Rostered) {
+    fn edit(self, rostered: &mut PairingEntry) {
         match self.seat {
             Seat::Captain => rostered.captain = self.holder,
             Seat::FirstOfficer => rostered.first_officer = self.holder,
@@ -40,19 +41,19 @@ struct Flown {
     actual: Actual,
 }
 
-impl Edit<Rostered> for Flown {
+impl Edit<PairingEntry> for Flown {
     ghost use Rattle.roster.specs.Steps.{with_actual};
 
     ghost edited = { λ flown rostered. with_actual flown.actual rostered };
 
-    fn edit(self, rostered: &mut Rostered) {
+    fn edit(self, rostered: &mut PairingEntry) {
         let place = usize::from(self.actual.period()).saturating_sub(1);
         rostered.actuals.set(place, Some(self.actual));
     }
 }
 
 /// Puts the holders into their seats.
-fn reseat(pairings: &mut Table<PairingId, Rostered>, seats: Vec<SeatChange>)
+fn reseat(pairings: &mut OrdMap<PairingId, PairingEntry>, seats: Vec<SeatChange>)
     ensures { pairings.new ≡ fold reseated pairings.old seats.items }
 {
     for change in seats {
@@ -72,7 +73,7 @@ fn record_all(
     pairing: &PairingId,
     number: u8,
     exceedances: &[Exceedance],
-    records: &mut Table<ExceedanceId, PeriodId>,
+    records: &mut OrdMap<ExceedanceId, PeriodId>,
 ) -> Result<(), MemoryFault>
     ensures { let period : PeriodOf = record { pairing = pairing.now; number = number } in
         OnOk result (records.new ≡ fold (recorded key period) records.old exceedances.now) }
@@ -80,11 +81,11 @@ fn record_all(
     for exceedance in exceedances {
         let id = ExceedanceId {
             key,
-            crew: exceedance.crew.copy(alloc)?,
+            crew: exceedance.crew.try_clone(alloc)?,
             section: exceedance.section,
         };
         let period = PeriodId {
-            pairing: pairing.copy(alloc)?,
+            pairing: pairing.try_clone(alloc)?,
             number,
         };
         records.insert(id, period)?;
@@ -102,7 +103,7 @@ impl Roster {
         ensures err { OnErr result (self.new ≡ self.old) }
     {
         self.keep(alloc, change)?;
-        if let Err(fault) = self.effect(alloc, change, change.command.order()) {
+        if let Err(fault) = self.effect(alloc, change, change.command.instruction()) {
             self.requests.remove(&change.key);
             return Err(fault);
         }
@@ -114,42 +115,49 @@ impl Roster {
         ensures ok { OnOk result (self.new ≡ kept self.old change.now) }
         ensures err { OnErr result (self.new ≡ self.old) }
     {
-        let request = Request {
-            command: change.command.copy(alloc)?,
-            reply: change.reply.copy(alloc)?,
+        let request = LoggedCommand {
+            command: change.command.try_clone(alloc)?,
+            reply: change.reply.try_clone(alloc)?,
         };
         self.requests.insert(change.key, request)
     }
 
-    /// What the change does, but for its request.
-    fn effect(&mut self, alloc: Global, change: &Change, order: &Order) -> Result<(), MemoryFault>
-        ensures ok { OnOk result (self.new ≡ effect self.old change.now order.now) }
+    /// Does what the change does, but for its request.
+    fn effect(
+        &mut self,
+        alloc: Global,
+        change: &Change,
+        instruction: &Instruction,
+    ) -> Result<(), MemoryFault>
+        ensures ok { OnOk result (self.new ≡ effect self.old change.now instruction.now) }
         ensures err { OnErr result (self.new ≡ self.old) }
     {
-        match order {
-            Order::AddCrew(who, member) => self.crew.insert(who.copy(alloc)?, member.copy(alloc)?),
-            Order::AddPairing(plan) => {
-                let rostered = Rostered::unheld(alloc, plan.copy(alloc)?)?;
-                self.pairings.insert(plan.id().copy(alloc)?, rostered)
+        match instruction {
+            Instruction::AddCrew(who, member) => self
+                .crew
+                .insert(who.try_clone(alloc)?, member.try_clone(alloc)?),
+            Instruction::AddPairing(plan) => {
+                let rostered = PairingEntry::unheld(alloc, plan.try_clone(alloc)?)?;
+                self.pairings.insert(plan.id().try_clone(alloc)?, rostered)
             }
-            Order::CancelPairing(id) => {
+            Instruction::CancelPairing(id) => {
                 self.pairings.remove(id);
                 Ok(())
             }
-            Order::Assign(..) | Order::Release(..) | Order::Swap(_) => {
+            Instruction::Assign(..) | Instruction::Release(..) | Instruction::Swap(_) => {
                 let seats = copies_of(alloc, change.seats.as_slice())?;
                 reseat(&mut self.pairings, seats);
                 Ok(())
             }
-            Order::AddGround(ground) => {
+            Instruction::AddGround(ground) => {
                 self.grounds
-                    .insert(ground.id().copy(alloc)?, ground.copy(alloc)?)
+                    .insert(ground.id().try_clone(alloc)?, ground.try_clone(alloc)?)
             }
-            Order::CancelGround(id) => {
+            Instruction::CancelGround(id) => {
                 self.grounds.remove(id);
                 Ok(())
             }
-            Order::Actual(id, actual) => self.fly(alloc, change, id, actual),
+            Instruction::Actual(id, actual) => self.fly(alloc, change, id, actual),
         }
     }
 
@@ -161,14 +169,16 @@ impl Roster {
         id: &PairingId,
         actual: &Actual,
     ) -> Result<(), MemoryFault>
-        ensures ok { let period : PeriodOf = record { pairing = id.now; number = actual.now.period } in
+        ensures ok { let period : PeriodOf = record
+            { pairing = id.now; number = actual.now.period } in
             OnOk result (self.new ≡ record self.old {
               pairings = changed_at self.old.pairings id.now (with_actual actual.now);
-              exceedances = fold (recorded change.now.key period) self.old.exceedances change.now.reply.exceedances;
+              exceedances = fold (recorded change.now.key period)
+                  self.old.exceedances change.now.reply.exceedances;
             }) }
         ensures err { OnErr result (self.new ≡ self.old) }
     {
-        let mut records = self.exceedances.copy(alloc)?;
+        let mut records = self.exceedances.try_clone(alloc)?;
         let recorded = change.reply.exceedances.as_slice();
         record_all(
             alloc,
@@ -178,7 +188,7 @@ impl Roster {
             recorded,
             &mut records,
         )?;
-        let actual = actual.copy(alloc)?;
+        let actual = actual.try_clone(alloc)?;
         self.exceedances = records;
         self.pairings.edit(id, Flown { actual });
         Ok(())

@@ -1,7 +1,8 @@
+//! What a step gives: a repeat, a refusal, or what is to be changed. A change is what a store writes.
 use command::{Command, Key, Refusal, Reply, Seat};
 use duty::{CrewId, PairingId};
 use std::alloc::Global;
-use values::{Copied, Items, MemoryFault};
+use values::{MemoryFault, Sequence, TryClone};
 
 /// A seat of a pairing, and who holds it after a command.
 #[derive(PartialEq, Eq, Drop)]
@@ -17,7 +18,7 @@ pub struct Change {
     pub key: Key,
     pub command: Command,
     pub reply: Reply,
-    pub seats: Items<SeatChange>,
+    pub seats: Sequence<SeatChange>,
 }
 
 /// What a command is answered.
@@ -31,36 +32,36 @@ pub enum Verdict {
     Refuse(Refusal),
 }
 
-impl Copied for SeatChange {
-    fn copy(&self, alloc: Global) -> Result<SeatChange, MemoryFault> {
+impl TryClone for SeatChange {
+    fn try_clone(&self, alloc: Global) -> Result<SeatChange, MemoryFault> {
         Ok(SeatChange {
-            pairing: self.pairing.copy(alloc)?,
+            pairing: self.pairing.try_clone(alloc)?,
             seat: self.seat,
-            holder: Copied::copy(&self.holder, alloc)?,
+            holder: TryClone::try_clone(&self.holder, alloc)?,
         })
     }
 }
 
-impl Copied for Change {
-    fn copy(&self, alloc: Global) -> Result<Change, MemoryFault> {
+impl TryClone for Change {
+    fn try_clone(&self, alloc: Global) -> Result<Change, MemoryFault> {
         Ok(Change {
             key: self.key,
-            reply: self.reply.copy(alloc)?,
-            seats: self.seats.copy(alloc)?,
-            command: self.command.copy(alloc)?,
+            reply: self.reply.try_clone(alloc)?,
+            seats: self.seats.try_clone(alloc)?,
+            command: self.command.try_clone(alloc)?,
         })
     }
 }
 
-impl Copied for Verdict {
-    fn copy(&self, alloc: Global) -> Result<Verdict, MemoryFault> {
+impl TryClone for Verdict {
+    fn try_clone(&self, alloc: Global) -> Result<Verdict, MemoryFault> {
         Ok(match self {
-            Verdict::Repeat(reply) => Verdict::Repeat(reply.copy(alloc)?),
+            Verdict::Repeat(reply) => Verdict::Repeat(reply.try_clone(alloc)?),
             Verdict::Accept(change, reply) => {
-                let reply = reply.copy(alloc)?;
-                Verdict::Accept(change.copy(alloc)?, reply)
+                let reply = reply.try_clone(alloc)?;
+                Verdict::Accept(change.try_clone(alloc)?, reply)
             }
-            Verdict::Refuse(refusal) => Verdict::Refuse(refusal.copy(alloc)?),
+            Verdict::Refuse(refusal) => Verdict::Refuse(refusal.try_clone(alloc)?),
         })
     }
 }

@@ -1,4 +1,5 @@
 //! A member's duties in force, and what new duties do beside them.
+//! Worked rows: `tests/answers.py`.
 ghost use Rattle.std.specs.Prelude.{◌≡◌, ◌++◌, IfOk, OnOk, map};
 ghost use Rattle.duty.specs.Overlaps.{overlaps as do_overlap};
 ghost use Rattle.roster.specs.LeftOut.{leaves_out};
@@ -6,13 +7,13 @@ ghost use Rattle.roster.specs.Pairings.{holds, is_held_by, flown, periods_in_for
 ghost use Rattle.roster.specs.Places.{period, duties, all_but, others, periods_at, periods_of, grounds_of};
 ghost use Rattle.roster.specs.Refusals.{broken_by};
 
-use crate::state::{Roster, Rostered};
+use crate::state::{PairingEntry, Roster};
 use command::Exceedance;
 use duty::{Actual, CrewId, Duty, DutyInForce, Fdp, History, PairingId};
 use limits::{Section, judge};
 use std::alloc::Global;
 use time117::Zone;
-use values::{Copied, MemoryFault};
+use values::{MemoryFault, TryClone};
 
 /// Which of a member's duties are left out.
 #[derive(Clone, Copy)]
@@ -25,7 +26,7 @@ pub(crate) enum LeftOut<'a> {
 }
 
 impl LeftOut<'_> {
-    /// Whether a period is left out.
+    /// Returns whether a period is left out.
     fn leaves_out(self, pairing: &PairingId, number: usize) -> bool
         ensures { result ≡ leaves_out self.entry (period pairing.now number) }
     {
@@ -44,7 +45,7 @@ pub(crate) struct Fit {
     pub broken: Vec<Exceedance>,
 }
 
-/// Whether the holder is this member.
+/// Returns whether the holder is this member.
 pub(crate) fn is_held_by(who: &CrewId, holder: &Option<CrewId>) -> bool
     ensures { result ≡ is_held_by who.now holder.now }
 {
@@ -54,25 +55,25 @@ pub(crate) fn is_held_by(who: &CrewId, holder: &Option<CrewId>) -> bool
     }
 }
 
-/// A period with its actual times, if it has them, else as it is planned.
+/// Copies a period with its actual times, if it has them, else as it is planned.
 pub fn in_force(alloc: Global, period: &Fdp, actual: &Option<Actual>) -> Result<Fdp, MemoryFault>
     ensures { IfOk result (λ fdp. fdp ≡ flown (period.now, actual.now)) }
 {
     match actual {
         Some(actual) => period.flown(alloc, actual),
-        None => period.copy(alloc),
+        None => period.try_clone(alloc),
     }
 }
 
-impl Rostered {
-    /// Whether the member holds a seat.
+impl PairingEntry {
+    /// Returns whether the member holds a seat.
     pub fn holds(&self, who: &CrewId) -> bool
         ensures { result ≡ holds who.now self.now }
     {
         is_held_by(who, &self.captain) || is_held_by(who, &self.first_officer)
     }
 
-    /// The periods in turn, with their times in force.
+    /// Copies the periods in turn, with their times in force.
     fn periods_in_force(&self, alloc: Global) -> Result<Vec<Fdp>, MemoryFault>
         ensures { IfOk result (λ fdps. fdps.items ≡ periods_in_force self.now) }
     {
@@ -92,18 +93,19 @@ impl Rostered {
         out: LeftOut,
         list: &mut Vec<DutyInForce>,
     ) -> Result<(), MemoryFault>
-        ensures { OnOk result (list.new.items ≡ list.old.items ++ all_but (leaves_out out.entry) (periods_at zone.now (id.now, self.now))) }
+        ensures { OnOk result (list.new.items ≡ list.old.items
+            ++ all_but (leaves_out out.entry) (periods_at zone.now (id.now, self.now))) }
     {
         let fdps = self.periods_in_force(alloc)?;
         for (index, fdp) in fdps.iter().enumerate() {
             if !out.leaves_out(id, index + 1) {
-                list.push(Duty::Fdp(fdp.copy(alloc)?).in_force(alloc, zone)?)?;
+                list.push(Duty::Fdp(fdp.try_clone(alloc)?).in_force(alloc, zone)?)?;
             }
         }
         Ok(())
     }
 
-    /// The duties of the pairing in force.
+    /// Collects the duties of the pairing in force.
     #[tactic(auto, using(crate::proofs::LeftLemmas::left_none))]
     pub(crate) fn duties(
         &self,
@@ -111,7 +113,8 @@ impl Rostered {
         zone: &Zone,
         id: &PairingId,
     ) -> Result<History, MemoryFault>
-        ensures { IfOk result (λ history. history ≡ duties (periods_at zone.now (id.now, self.now))) }
+        ensures { IfOk result
+            (λ history. history ≡ duties (periods_at zone.now (id.now, self.now))) }
     {
         let mut duties = Vec::new(alloc);
         self.add_periods(alloc, zone, id, LeftOut::Nothing, &mut duties)?;
@@ -128,7 +131,8 @@ impl Roster {
         out: LeftOut,
         list: &mut Vec<DutyInForce>,
     ) -> Result<(), MemoryFault>
-        ensures { OnOk result (list.new.items ≡ list.old.items ++ all_but (leaves_out out.entry) (periods_of self.now who.now)) }
+        ensures { OnOk result (list.new.items
+            ≡ list.old.items ++ all_but (leaves_out out.entry) (periods_of self.now who.now)) }
     {
         for (id, rostered) in self.pairings.iter() {
             if rostered.holds(who) {
@@ -145,20 +149,25 @@ impl Roster {
         who: &CrewId,
         list: &mut Vec<DutyInForce>,
     ) -> Result<(), MemoryFault>
-        ensures { OnOk result (list.new.items ≡ list.old.items ++ duties (grounds_of self.now who.now)) }
+        ensures { OnOk result
+            (list.new.items ≡ list.old.items ++ duties (grounds_of self.now who.now)) }
     {
         for (_, ground) in self.grounds.iter() {
             if ground.crew() == who {
-                list.push(Duty::Ground(ground.copy(alloc)?).in_force(alloc, self.zone_of(who))?)?;
+                list.push(Duty::Ground(ground.try_clone(alloc)?).in_force(
+                    alloc,
+                    self.zone_of(who),
+                )?)?;
             }
         }
         Ok(())
     }
 
-    /// The member's other duties.
+    /// Collects the member's other duties.
     #[tactic(auto, using(crate::proofs::LeftLemmas::left_append, crate::proofs::LeftLemmas::left_grounds))]
     fn others(&self, alloc: Global, who: &CrewId, out: LeftOut) -> Result<History, MemoryFault>
-        ensures { IfOk result (λ history. history ≡ others self.now who.now (leaves_out out.entry)) }
+        ensures { IfOk result
+            (λ history. history ≡ others self.now who.now (leaves_out out.entry)) }
     {
         let mut duties = Vec::new(alloc);
         self.add_periods_of(alloc, who, out, &mut duties)?;
@@ -166,7 +175,7 @@ impl Roster {
         History::of(alloc, duties)
     }
 
-    /// What new duties do beside the member's others.
+    /// Judges what new duties do beside the member's others.
     #[tactic(auto, unfolding(crate::specs::Refusals::broken_by))]
     pub(crate) fn fit(
         &self,
@@ -175,8 +184,10 @@ impl Roster {
         out: LeftOut,
         new: &History,
     ) -> Result<Fit, MemoryFault>
-        ensures overlaps { IfOk result (λ fit. fit.overlaps ≡ do_overlap new.now (others self.now who.now (leaves_out out.entry))) }
-        ensures broken { IfOk result (λ fit. fit.broken.items ≡ broken_by who.now (others self.now who.now (leaves_out out.entry)) new.now) }
+        ensures overlaps { IfOk result (λ fit.
+            fit.overlaps ≡ do_overlap new.now (others self.now who.now (leaves_out out.entry))) }
+        ensures broken { IfOk result (λ fit. fit.broken.items
+            ≡ broken_by who.now (others self.now who.now (leaves_out out.entry)) new.now) }
     {
         let mut history = self.others(alloc, who, out)?;
         let overlaps = new.overlaps(&history);
@@ -187,18 +198,19 @@ impl Roster {
     }
 }
 
-/// The sections as exceedances of the member.
+/// Makes the sections exceedances of the member.
 fn exceedances(
     alloc: Global,
     who: &CrewId,
     sections: &[Section],
 ) -> Result<Vec<Exceedance>, MemoryFault>
-    ensures { IfOk result (λ list. list.items ≡ map (λ section. record { crew = who.now; section = section }) sections.now) }
+    ensures { IfOk result (λ list.
+        list.items ≡ map (λ section. record { crew = who.now; section = section }) sections.now) }
 {
     let mut list = Vec::new(alloc);
     for section in sections {
         list.push(Exceedance {
-            crew: who.copy(alloc)?,
+            crew: who.try_clone(alloc)?,
             section: *section,
         })?;
     }

@@ -1,7 +1,7 @@
 //! What holds of every book. Each of these functions does nothing; its clause is a law.
 ghost use Rattle.roster.specs.Laws.{AcceptedWithinLimits, IsAscending, KeepsHonest, KeepsRecords, KeepsRequests, KeepsSound, ListsBroken, ListsInOrder, MadeByCommands, Repeats, Resumes, StartsSound, StaysHonest, StaysSound};
 
-/// The refusals of each order are looked at in the order of their numbers.
+/// The refusals of each instruction are looked at in the order of their numbers.
 pub fn refusals_ascend()
     ensures { IsAscending }
 {}

@@ -13,4 +13,4 @@ mod step;
 pub use change::{Change, SeatChange, Verdict};
 pub use duties::in_force;
 pub use put::Entry;
-pub use state::{ExceedanceId, PeriodId, Request, Roster, Rostered};
+pub use state::{ExceedanceId, LoggedCommand, PairingEntry, PeriodId, Roster};

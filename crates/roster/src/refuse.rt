@@ -1,6 +1,8 @@
-//! Which refusal an order gets, if any.
+//! Which refusal an instruction gets, if any. Its definition is `refusals` (`specs/Refusals.antt`), in the order of their
+//! numbers.
+//! Worked rows of each: `tests/answers.py`. Wrong bodies: `must-fail/`.
 ghost use Rattle.std.specs.Prelude.{◌≡◌, ◌∷◌, [], ◌++◌, IfOk};
-ghost use Rattle.command.specs.declared.order.Order.TheVariants.{AddCrew, AddPairing, CancelPairing, Assign, Release, Swap as Swaps, AddGround, CancelGround, Actual as Flies};
+ghost use Rattle.command.specs.declared.instruction.Instruction.TheVariants.{AddCrew, AddPairing, CancelPairing, Assign, Release, Swap as Swaps, AddGround, CancelGround, Actual as Flies};
 ghost use Rattle.command.specs.declared.member.Member.{Member};
 ghost use Rattle.duty.specs.Plans.{Plan};
 ghost use Rattle.roster.specs.Places.{duties, periods_at};
@@ -8,42 +10,42 @@ ghost use Rattle.roster.specs.Refusals.{refusal_of, first_of, over_limits, trade
 ghost use Rattle.roster.specs.State.{zone_of};
 
 use crate::duties::{LeftOut, is_held_by};
-use crate::state::{Roster, Rostered};
-use command::{Exceedance, Order, Refusal, Swap};
+use crate::state::{PairingEntry, Roster};
+use command::{Exceedance, Instruction, Refusal, Swap};
 use duty::{Actual, CrewId, Duty, Ground, GroundId, History, PairingId};
 use std::alloc::Global;
-use values::{Copied, Items, MemoryFault};
+use values::{MemoryFault, Sequence, TryClone};
 
-/// The refusal for limits, if any is broken.
+/// Makes the refusal for limits, if any is broken.
 fn over_limits(broken: Vec<Exceedance>) -> Option<Refusal>
     ensures { result ≡ first_of (over_limits broken.items ∷ []) }
 {
     if broken.is_empty() {
         None
     } else {
-        Some(Refusal::Limits(Items::new(broken)))
+        Some(Refusal::Limits(Sequence::new(broken)))
     }
 }
 
 impl Roster {
-    /// The first refusal that applies to the order: the lowest-numbered.
+    /// Looks for the first refusal that applies to the instruction: the lowest-numbered.
     pub(crate) fn refusal(
         &self,
         alloc: Global,
-        order: &Order,
+        instruction: &Instruction,
     ) -> Result<Option<Refusal>, MemoryFault>
-        ensures { IfOk result (λ refusal. refusal ≡ refusal_of self.now order.now) }
+        ensures { IfOk result (λ refusal. refusal ≡ refusal_of self.now instruction.now) }
     {
-        match order {
-            Order::AddCrew(who, _) => Ok(self.refuse_add_crew(who)),
-            Order::AddPairing(pairing) => Ok(self.refuse_add_pairing(pairing.id())),
-            Order::CancelPairing(id) => Ok(self.refuse_cancel_pairing(id)),
-            Order::Assign(id, who) => self.refuse_assign(alloc, id, who),
-            Order::Release(id, who) => Ok(self.refuse_release(id, who)),
-            Order::Swap(swap) => self.refuse_swap(alloc, swap),
-            Order::AddGround(ground) => self.refuse_add_ground(alloc, ground),
-            Order::CancelGround(id) => Ok(self.refuse_cancel_ground(id)),
-            Order::Actual(id, actual) => Ok(self.refuse_actual(id, actual)),
+        match instruction {
+            Instruction::AddCrew(who, _) => Ok(self.refuse_add_crew(who)),
+            Instruction::AddPairing(pairing) => Ok(self.refuse_add_pairing(pairing.id())),
+            Instruction::CancelPairing(id) => Ok(self.refuse_cancel_pairing(id)),
+            Instruction::Assign(id, who) => self.refuse_assign(alloc, id, who),
+            Instruction::Release(id, who) => Ok(self.refuse_release(id, who)),
+            Instruction::Swap(swap) => self.refuse_swap(alloc, swap),
+            Instruction::AddGround(ground) => self.refuse_add_ground(alloc, ground),
+            Instruction::CancelGround(id) => Ok(self.refuse_cancel_ground(id)),
+            Instruction::Actual(id, actual) => Ok(self.refuse_actual(id, actual)),
         }
     }
 
@@ -59,7 +61,8 @@ impl Roster {
 
     #[tactic(auto, unfolding(crate::specs::Refusals::refusals))]
     fn refuse_add_pairing(&self, id: &PairingId) -> Option<Refusal>
-        ensures { (plan : Plan) → id.now ≡ plan.id → result ≡ refusal_of self.now (AddPairing plan) }
+        ensures { (plan : Plan) → id.now ≡ plan.id
+            → result ≡ refusal_of self.now (AddPairing plan) }
     {
         if self.pairings.contains(id) {
             return Some(Refusal::PairingExists);
@@ -155,17 +158,19 @@ impl Roster {
         self.refuse_trade(alloc, swap, given, taken)
     }
 
-    /// Whether a member may not take what the other gives.
+    /// Returns whether a member may not take what the other gives.
     fn refuse_trade(
         &self,
         alloc: Global,
         swap: &Swap,
-        given: &Rostered,
-        taken: &Rostered,
+        given: &PairingEntry,
+        taken: &PairingEntry,
     ) -> Result<Option<Refusal>, MemoryFault>
         ensures { IfOk result (λ refusal. refusal ≡ first_of (trade_rows self.now swap.now
-            (duties (periods_at (zone_of self.now swap.now.other_crew) (swap.now.pairing, given.now)))
-            (duties (periods_at (zone_of self.now swap.now.crew) (swap.now.other_pairing, taken.now))))) }
+            (duties (periods_at (zone_of self.now swap.now.other_crew)
+            (swap.now.pairing, given.now)))
+            (duties (periods_at (zone_of self.now swap.now.crew)
+            (swap.now.other_pairing, taken.now))))) }
     {
         let new = taken.duties(alloc, self.zone_of(&swap.crew), &swap.other_pairing)?;
         let fit = self.fit(alloc, &swap.crew, LeftOut::Pairing(&swap.pairing), &new)?;
@@ -192,7 +197,7 @@ impl Roster {
         let mut new = History::empty(alloc);
         new.insert(
             alloc,
-            Duty::Ground(ground.copy(alloc)?),
+            Duty::Ground(ground.try_clone(alloc)?),
             self.zone_of(ground.crew()),
         )?;
         let fit = self.fit(alloc, ground.crew(), LeftOut::Nothing, &new)?;
@@ -238,7 +243,7 @@ impl Roster {
     }
 }
 
-/// The one list, and the other after it.
+/// Puts the other list after the one.
 pub(crate) fn joined(
     mut list: Vec<Exceedance>,
     mut other: Vec<Exceedance>,

@@ -1,3 +1,4 @@
+//! The state of the book as a value. What is asked of it, and what it becomes, stand in `step.rt` and `apply.rt`.
 ghost use Rattle.std.specs.Prelude.{◌≡◌, ◌-◌, Ok, IfOk, slice_get};
 ghost use Rattle.std.specs.Option.{option_copied};
 ghost use Rattle.roster.specs.State.{empty, zone_of};
@@ -8,20 +9,20 @@ use duty::{Actual, CrewId, Fdp, Ground, GroundId, Pairing, PairingId};
 use limits::Section;
 use std::alloc::Global;
 use time117::Zone;
-use values::{Copied, Items, MemoryFault, Named, Table};
+use values::{MemoryFault, OrdKey, OrdMap, Sequence, TryClone};
 
 /// A pairing in the book: its plan, the actual of each period in turn where there is one, and who holds its seats.
 #[derive(PartialEq, Eq, Drop)]
-pub struct Rostered {
+pub struct PairingEntry {
     pub plan: Pairing,
-    pub actuals: Items<Option<Actual>>,
+    pub actuals: Sequence<Option<Actual>>,
     pub captain: Option<CrewId>,
     pub first_officer: Option<CrewId>,
 }
 
 /// A command that was accepted, with its reply.
 #[derive(PartialEq, Eq, Drop)]
-pub struct Request {
+pub struct LoggedCommand {
     pub command: Command,
     pub reply: Reply,
 }
@@ -46,29 +47,29 @@ pub struct PeriodId {
 #[derive(Drop)]
 pub struct Roster {
     pub zone: Zone,
-    pub crew: Table<CrewId, Member>,
-    pub pairings: Table<PairingId, Rostered>,
-    pub grounds: Table<GroundId, Ground>,
-    pub exceedances: Table<ExceedanceId, PeriodId>,
-    pub requests: Table<Key, Request>,
+    pub crew: OrdMap<CrewId, Member>,
+    pub pairings: OrdMap<PairingId, PairingEntry>,
+    pub grounds: OrdMap<GroundId, Ground>,
+    pub exceedances: OrdMap<ExceedanceId, PeriodId>,
+    pub requests: OrdMap<Key, LoggedCommand>,
 }
 
 impl Roster {
-    /// Nothing but the zone.
+    /// Makes a roster of nothing but the zone.
     pub fn empty(alloc: Global, zone: Zone) -> Result<Roster, MemoryFault>
         ensures { result ≡ Ok (empty zone) }
     {
         Ok(Roster {
             zone,
-            crew: Table::new(alloc),
-            pairings: Table::new(alloc),
-            grounds: Table::new(alloc),
-            exceedances: Table::new(alloc),
-            requests: Table::new(alloc),
+            crew: OrdMap::new(alloc),
+            pairings: OrdMap::new(alloc),
+            grounds: OrdMap::new(alloc),
+            exceedances: OrdMap::new(alloc),
+            requests: OrdMap::new(alloc),
         })
     }
 
-    /// The zone in which a member's duties are placed.
+    /// Returns the zone in which a member's duties are placed.
     pub fn zone_of(&self, _who: &CrewId) -> &Zone
         ensures { result.now ≡ zone_of self.now _who.now }
     {
@@ -76,24 +77,24 @@ impl Roster {
     }
 }
 
-impl Rostered {
-    /// A pairing of which both seats are free and no period is flown.
-    pub fn unheld(alloc: Global, plan: Pairing) -> Result<Rostered, MemoryFault>
+impl PairingEntry {
+    /// Makes a pairing of which both seats are free and no period is flown.
+    pub fn unheld(alloc: Global, plan: Pairing) -> Result<PairingEntry, MemoryFault>
         ensures { IfOk result (λ rostered. rostered ≡ unheld plan) }
     {
         let mut actuals = Vec::new(alloc);
         for _period in plan.periods() {
             actuals.push(None)?;
         }
-        Ok(Rostered {
+        Ok(PairingEntry {
             plan,
-            actuals: Items::new(actuals),
+            actuals: Sequence::new(actuals),
             captain: None,
             first_officer: None,
         })
     }
 
-    /// Who holds the seat.
+    /// Returns who holds the seat.
     pub fn holder(&self, seat: Seat) -> &Option<CrewId>
         ensures { result.now ≡ holder seat self.now }
     {
@@ -103,7 +104,7 @@ impl Rostered {
         }
     }
 
-    /// A period as it is planned, by its number, which is at least 1.
+    /// Finds a period as it is planned, by its number, which is at least 1.
     pub(crate) fn planned(&self, number: u8) -> Option<&Fdp>
         ensures { option_copied result ≡ slice_get self.now.plan.periods (number - 1) }
     {
@@ -112,7 +113,7 @@ impl Rostered {
             .get(usize::from(number).saturating_sub(1))
     }
 
-    /// Whether a period has an actual.
+    /// Returns whether a period has an actual.
     pub fn is_flown(&self) -> bool
         ensures { result ≡ is_flown self.now }
     {
@@ -123,7 +124,7 @@ impl Rostered {
     }
 }
 
-impl Named for ExceedanceId {
+impl OrdKey for ExceedanceId {
     ghost use Rattle.roster.specs.State.{exceedance_name};
     ghost use Rattle.roster.specs.ExceedanceOrder.{exceedances_order};
 
@@ -132,54 +133,54 @@ impl Named for ExceedanceId {
     ghost same_order = { exceedances_order };
 }
 
-impl Copied for Rostered {
-    fn copy(&self, alloc: Global) -> Result<Rostered, MemoryFault> {
-        Ok(Rostered {
-            plan: self.plan.copy(alloc)?,
-            actuals: self.actuals.copy(alloc)?,
-            captain: Copied::copy(&self.captain, alloc)?,
-            first_officer: Copied::copy(&self.first_officer, alloc)?,
+impl TryClone for PairingEntry {
+    fn try_clone(&self, alloc: Global) -> Result<PairingEntry, MemoryFault> {
+        Ok(PairingEntry {
+            plan: self.plan.try_clone(alloc)?,
+            actuals: self.actuals.try_clone(alloc)?,
+            captain: TryClone::try_clone(&self.captain, alloc)?,
+            first_officer: TryClone::try_clone(&self.first_officer, alloc)?,
         })
     }
 }
 
-impl Copied for Request {
-    fn copy(&self, alloc: Global) -> Result<Request, MemoryFault> {
-        Ok(Request {
-            reply: self.reply.copy(alloc)?,
-            command: self.command.copy(alloc)?,
+impl TryClone for LoggedCommand {
+    fn try_clone(&self, alloc: Global) -> Result<LoggedCommand, MemoryFault> {
+        Ok(LoggedCommand {
+            reply: self.reply.try_clone(alloc)?,
+            command: self.command.try_clone(alloc)?,
         })
     }
 }
 
-impl Copied for ExceedanceId {
-    fn copy(&self, alloc: Global) -> Result<ExceedanceId, MemoryFault> {
+impl TryClone for ExceedanceId {
+    fn try_clone(&self, alloc: Global) -> Result<ExceedanceId, MemoryFault> {
         Ok(ExceedanceId {
             key: self.key,
-            crew: self.crew.copy(alloc)?,
+            crew: self.crew.try_clone(alloc)?,
             section: self.section,
         })
     }
 }
 
-impl Copied for PeriodId {
-    fn copy(&self, alloc: Global) -> Result<PeriodId, MemoryFault> {
+impl TryClone for PeriodId {
+    fn try_clone(&self, alloc: Global) -> Result<PeriodId, MemoryFault> {
         Ok(PeriodId {
-            pairing: self.pairing.copy(alloc)?,
+            pairing: self.pairing.try_clone(alloc)?,
             number: self.number,
         })
     }
 }
 
-impl Copied for Roster {
-    fn copy(&self, alloc: Global) -> Result<Roster, MemoryFault> {
+impl TryClone for Roster {
+    fn try_clone(&self, alloc: Global) -> Result<Roster, MemoryFault> {
         Ok(Roster {
-            zone: self.zone.copy(alloc)?,
-            crew: self.crew.copy(alloc)?,
-            pairings: self.pairings.copy(alloc)?,
-            grounds: self.grounds.copy(alloc)?,
-            exceedances: self.exceedances.copy(alloc)?,
-            requests: self.requests.copy(alloc)?,
+            zone: self.zone.try_clone(alloc)?,
+            crew: self.crew.try_clone(alloc)?,
+            pairings: self.pairings.try_clone(alloc)?,
+            grounds: self.grounds.try_clone(alloc)?,
+            exceedances: self.exceedances.try_clone(alloc)?,
+            requests: self.requests.try_clone(alloc)?,
         })
     }
 }

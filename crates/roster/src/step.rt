@@ -1,4 +1,5 @@
-//! One step: what a command is answered.
+//! One step: what a command is answered. Its definition is `step_of` (`specs/Steps.antt`).
+//! Worked rows: `tests/answers.py`. Wrong bodies: `must-fail/`.
 ghost use Rattle.std.specs.Prelude.{◌≡◌, IfOk, None};
 ghost use Rattle.roster.specs.Steps.{IsUnderFreeKey, step_of, judged, seat_change, seats_of, flown_duty, broken_by_holder, recorded_by};
 
@@ -6,15 +7,15 @@ use crate::change::{Change, SeatChange, Verdict};
 use crate::duties::LeftOut;
 use crate::refuse::joined;
 use crate::state::Roster;
-use command::{Command, Exceedance, Key, Order, Refusal, Reply};
+use command::{Command, Exceedance, Instruction, Key, Refusal, Reply};
 use duty::{Actual, CrewId, Duty, History, PairingId};
 use std::alloc::Global;
-use values::{Copied, Items, MemoryFault};
+use values::{MemoryFault, Sequence, TryClone};
 
 impl Roster {
-    /// What a command is answered under a key. A key that holds the command repeats its reply, and holds no other command;
-    /// under a free key the first refusal that applies is the answer, in the order of their numbers. The roster stays as
-    /// it is: what is accepted is made by [`Roster::apply`].
+    /// Decides what a command is answered under a key. A key that holds the command repeats its reply, and holds no
+    /// other command; under a free key the first refusal that applies is the answer, in the order of their numbers. The
+    /// roster stays as it is: what is accepted is made by [`Roster::apply`].
     #[tactic(auto, unfolding(crate::specs::Steps::step_of))]
     pub fn step(&self, alloc: Global, key: Key, command: &Command) -> Result<Verdict, MemoryFault>
         ensures verdict { IfOk result (λ verdict. verdict ≡ step_of self.now key command.now) }
@@ -22,33 +23,33 @@ impl Roster {
     {
         if let Some(kept) = self.requests.get(&key) {
             if kept.command == *command {
-                return Ok(Verdict::Repeat(kept.reply.copy(alloc)?));
+                return Ok(Verdict::Repeat(kept.reply.try_clone(alloc)?));
             }
             return Ok(Verdict::Refuse(Refusal::NumberUsed));
         }
-        match self.refusal(alloc, command.order())? {
+        match self.refusal(alloc, command.instruction())? {
             Some(refusal) => Ok(Verdict::Refuse(refusal)),
             None => self.accept(alloc, key, command),
         }
     }
 
-    /// What an accepted command changes, and its reply.
+    /// Collects what an accepted command changes, and makes its reply.
     fn accept(&self, alloc: Global, key: Key, command: &Command) -> Result<Verdict, MemoryFault>
         ensures { IfOk result (λ verdict. verdict ≡ judged self.now key command.now None) }
     {
         let reply = Reply {
-            exceedances: Items::new(self.recorded(alloc, command.order())?),
+            exceedances: Sequence::new(self.recorded(alloc, command.instruction())?),
         };
         let change = Change {
             key,
-            reply: reply.copy(alloc)?,
-            seats: Items::new(self.seats(alloc, command.order())?),
-            command: command.copy(alloc)?,
+            reply: reply.try_clone(alloc)?,
+            seats: Sequence::new(self.seats(alloc, command.instruction())?),
+            command: command.try_clone(alloc)?,
         };
         Ok(Verdict::Accept(change, reply))
     }
 
-    /// The seat of the member's kind in the pairing, with this holder.
+    /// Gives the seat of the member's kind in the pairing this holder.
     fn seat_change(
         &self,
         alloc: Global,
@@ -61,7 +62,7 @@ impl Roster {
         let mut seats = Vec::new(alloc);
         if let Some(member) = self.crew.get(who) {
             seats.push(SeatChange {
-                pairing: id.copy(alloc)?,
+                pairing: id.try_clone(alloc)?,
                 seat: member.seat,
                 holder,
             })?;
@@ -69,17 +70,26 @@ impl Roster {
         Ok(seats)
     }
 
-    /// The seats that get or lose a holder.
-    fn seats(&self, alloc: Global, order: &Order) -> Result<Vec<SeatChange>, MemoryFault>
-        ensures { IfOk result (λ seats. seats.items ≡ seats_of self.now order.now) }
+    /// Lists the seats that get or lose a holder.
+    fn seats(
+        &self,
+        alloc: Global,
+        instruction: &Instruction,
+    ) -> Result<Vec<SeatChange>, MemoryFault>
+        ensures { IfOk result (λ seats. seats.items ≡ seats_of self.now instruction.now) }
     {
-        match order {
-            Order::Assign(id, who) => self.seat_change(alloc, id, who, Some(who.copy(alloc)?)),
-            Order::Release(id, who) => self.seat_change(alloc, id, who, None),
-            Order::Swap(swap) => {
-                let holder = Some(swap.other_crew.copy(alloc)?);
+        match instruction {
+            Instruction::Assign(id, who) => self.seat_change(
+                alloc,
+                id,
+                who,
+                Some(who.try_clone(alloc)?),
+            ),
+            Instruction::Release(id, who) => self.seat_change(alloc, id, who, None),
+            Instruction::Swap(swap) => {
+                let holder = Some(swap.other_crew.try_clone(alloc)?);
                 let mut seats = self.seat_change(alloc, &swap.pairing, &swap.crew, holder)?;
-                let holder = Some(swap.crew.copy(alloc)?);
+                let holder = Some(swap.crew.try_clone(alloc)?);
                 let mut others = self.seat_change(
                     alloc,
                     &swap.other_pairing,
@@ -89,16 +99,16 @@ impl Roster {
                 seats.append(&mut others)?;
                 Ok(seats)
             }
-            Order::AddCrew(..)
-            | Order::AddPairing(_)
-            | Order::CancelPairing(_)
-            | Order::AddGround(_)
-            | Order::CancelGround(_)
-            | Order::Actual(..) => Ok(Vec::new(alloc)),
+            Instruction::AddCrew(..)
+            | Instruction::AddPairing(_)
+            | Instruction::CancelPairing(_)
+            | Instruction::AddGround(_)
+            | Instruction::CancelGround(_)
+            | Instruction::Actual(..) => Ok(Vec::new(alloc)),
         }
     }
 
-    /// The period with its new times, as a duty of the member.
+    /// Makes the period with its new times a duty of the member.
     fn flown_duty(
         &self,
         alloc: Global,
@@ -121,7 +131,7 @@ impl Roster {
         Ok(new)
     }
 
-    /// What a holder breaks by the new times.
+    /// Judges what a holder breaks by the new times.
     fn broken_by_holder(
         &self,
         alloc: Global,
@@ -129,7 +139,8 @@ impl Roster {
         actual: &Actual,
         holder: &Option<CrewId>,
     ) -> Result<Vec<Exceedance>, MemoryFault>
-        ensures { IfOk result (λ broken. broken.items ≡ broken_by_holder self.now id.now actual.now holder.now) }
+        ensures { IfOk result
+            (λ broken. broken.items ≡ broken_by_holder self.now id.now actual.now holder.now) }
     {
         let Some(who) = holder else {
             return Ok(Vec::new(alloc));
@@ -139,13 +150,17 @@ impl Roster {
         Ok(fit.broken)
     }
 
-    /// The exceedances that an order records, the captain's first.
+    /// Lists the exceedances that an instruction records, the captain's first.
     #[tactic(auto, unfolding(crate::specs::Steps::recorded_by))]
-    fn recorded(&self, alloc: Global, order: &Order) -> Result<Vec<Exceedance>, MemoryFault>
-        ensures { IfOk result (λ broken. broken.items ≡ recorded_by self.now order.now) }
+    fn recorded(
+        &self,
+        alloc: Global,
+        instruction: &Instruction,
+    ) -> Result<Vec<Exceedance>, MemoryFault>
+        ensures { IfOk result (λ broken. broken.items ≡ recorded_by self.now instruction.now) }
     {
-        match order {
-            Order::Actual(id, actual) => {
+        match instruction {
+            Instruction::Actual(id, actual) => {
                 let Some(rostered) = self.pairings.get(id) else {
                     return Ok(Vec::new(alloc));
                 };
@@ -153,14 +168,14 @@ impl Roster {
                 let others = self.broken_by_holder(alloc, id, actual, &rostered.first_officer)?;
                 joined(captains, others)
             }
-            Order::AddCrew(..)
-            | Order::AddPairing(_)
-            | Order::CancelPairing(_)
-            | Order::Assign(..)
-            | Order::Release(..)
-            | Order::Swap(_)
-            | Order::AddGround(_)
-            | Order::CancelGround(_) => Ok(Vec::new(alloc)),
+            Instruction::AddCrew(..)
+            | Instruction::AddPairing(_)
+            | Instruction::CancelPairing(_)
+            | Instruction::Assign(..)
+            | Instruction::Release(..)
+            | Instruction::Swap(_)
+            | Instruction::AddGround(_)
+            | Instruction::CancelGround(_) => Ok(Vec::new(alloc)),
         }
     }
 }

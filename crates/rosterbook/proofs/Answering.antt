@@ -4,17 +4,17 @@ use Rattle.std.specs.Io.KnownBytes.{Appends}
 use Rattle.sqlite_trees.specs.declared.store.Store.{Ghosts}
 use Rattle.duty.specs.Plans.{Plan}
 use Rattle.command.specs.Keys.{KeyParts}
-use Rattle.command.specs.declared.order.Order.{Order}
+use Rattle.command.specs.declared.instruction.Instruction.{Instruction}
 use Rattle.command.specs.declared.refusal.Refusal.TheVariants.{NumberUsed}
 use Rattle.codec.specs.Schedule.{IsAtFault, IsSchedule}
 use Rattle.roster.specs.Folds.{answer_of, next}
 use Rattle.roster.specs.State.{State}
 use Rattle.roster.specs.Steps.{step_of}
 use Rattle.codec.specs.RefusalText as json
-use Rattle.kept.specs.Texts.{fault_text}
-use Rattle.kept.specs.declared.fault.CodecFault.{CodecFault}
-use Rattle.kept.specs.declared.fault.CodecFault.TheVariants.{BadCsv}
-use Rattle.book.specs.Kept.{IsAt, IsClean, Kept}
+use Rattle.stored_json.specs.Texts.{fault_text}
+use Rattle.stored_json.specs.declared.fault.CodecFault.{CodecFault}
+use Rattle.stored_json.specs.declared.fault.CodecFault.TheVariants.{BadCsv}
+use Rattle.book.specs.Kept.{IsDurablyAt, IsClean, Kept}
 use Rattle.rosterbook.specs.Asking.{Answered, Answers, AreAdded, AreTold, IsImported, IsImportTold, IsNoSchedule, Request, answer_json, left_by, status_of, told_json}
 use Rattle.rosterbook.specs.Streams.{Held, Reads, refused}
 use Rattle.rosterbook.specs.declared.status.Status.{Status}
@@ -26,14 +26,14 @@ module _ {S : Type 0} (g : Ghosts S) (old new : Kept S) (status : Status) (line 
   abbrev IsRequestTold : Request → Type 0
   IsRequestTold request = (answer : Answered)
       × ((status, line) ≡ told_json request answer)
-      × ((s : State) → IsAt g old s → IsClean g new → Answers s request answer)
-      × ((s : State) → IsAt g old s → IsAt g new (left_by s request))
+      × ((s : State) → IsDurablyAt g old s → IsClean g new → Answers s request answer)
+      × ((s : State) → IsDurablyAt g old s → IsDurablyAt g new (left_by s request))
 
-  pub request_answered : (request : Request) (number : ℕ) (order : Order) (key : KeyParts) (answer : Answered) →
-      request ≡ Ok (number, order) → key ≡ record { number = number; part = 0 } → status ≡ status_of answer → line ≡ answer_json answer →
-      ((s : State) → IsAt g old s → IsClean g new → answer ≡ answer_of (step_of s key order)) →
-      ((s : State) → IsAt g old s → IsAt g new (next s (key, order))) → IsRequestTold request
-  request_answered request number order key answer is under ends says reply left =
+  pub request_answered : (request : Request) (number : ℕ) (instruction : Instruction) (key : KeyParts) (answer : Answered) →
+      request ≡ Ok (number, instruction) → key ≡ record { number = number; part = 0 } → status ≡ status_of answer → line ≡ answer_json answer →
+      ((s : State) → IsDurablyAt g old s → IsClean g new → answer ≡ answer_of (step_of s key instruction)) →
+      ((s : State) → IsDurablyAt g old s → IsDurablyAt g new (next s (key, instruction))) → IsRequestTold request
+  request_answered request number instruction key answer is under ends says reply left =
       let under_key : KeyParts = record { number = number; part = 0 } in
       subst IsRequestTold (sym is) (
         answer,
@@ -46,8 +46,8 @@ pub request_unread : {S : Type 0} (g : Ghosts S) (book : Kept S) (status : Statu
     request ≡ Err fault → status ≡ Refused → line ≡ json.fault_reply fault →
     (answer : Answered)
     × ((status, line) ≡ told_json request answer)
-    × ((s : State) → IsAt g book s → IsClean g book → Answers s request answer)
-    × ((s : State) → IsAt g book s → IsAt g book (left_by s request))
+    × ((s : State) → IsDurablyAt g book s → IsClean g book → Answers s request answer)
+    × ((s : State) → IsDurablyAt g book s → IsDurablyAt g book (left_by s request))
 request_unread g book status line request fault is ends says = rw is (Err NumberUsed, rw (ends, says) refl, (λ s at clean. tt), (λ s at. at))
 
 -- ---- `import`

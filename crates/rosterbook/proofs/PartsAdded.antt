@@ -11,7 +11,7 @@ use Rattle.duty.specs.Plans.{Plan}
 use Rattle.roster.specs.Folds.{Asked, Fold, Replies, import, next}
 use Rattle.roster.specs.State.{State}
 use Rattle.book.specs.Answered.{IsAnswered}
-use Rattle.book.specs.Kept.{IsAt, IsClean, Kept, result_of}
+use Rattle.book.specs.Kept.{IsDurablyAt, IsClean, Kept, result_of}
 use Rattle.book.specs.declared.answer.Answer.{Answer}
 use Rattle.book.proofs.Runs.{answer_in, fold_more, replies_more}
 use Rattle.rosterbook.specs.Asking.{Answered, AreAdded, part_line, part_lines, status_of_all, status_with}
@@ -58,8 +58,8 @@ asked_at (Some a) result Q answer is said = (a, refl, rw is at said)
 pub record AreAsked {S : Type 0} (g : Ghosts S) (old now : Kept S) (asked : List Asked) (count : ℕ) (answers : List Answered) : Type 0 where
   pub each : length answers ≡ count
   pub clean : IsClean g now → IsClean g old
-  pub answered : (s : State) → IsAt g old s → IsClean g now → answers ≡ take count (Replies s asked)
-  pub left : (s : State) → IsAt g old s → IsAt g now (Fold s (take count asked))
+  pub answered : (s : State) → IsDurablyAt g old s → IsClean g now → answers ≡ take count (Replies s asked)
+  pub left : (s : State) → IsDurablyAt g old s → IsDurablyAt g now (Fold s (take count asked))
 
 -- and were told them
 pub record AreSoFar {S : Type 0} (g : Ghosts S) (old now : Kept S) (asked : List Asked) (count : ℕ) (status : Status) (out out' : Held) : Type 0 where
@@ -78,8 +78,8 @@ module _ {S : Type 0} (g : Ghosts S) (old now new : Kept S) (asked : List Asked)
   pub one_asked : (answers : List Answered) (a : Asked) (answer : Answered) → count < length asked → slice_get asked count ≡ Some a →
       AreAsked g old now asked count answers →
       (IsClean g new → IsClean g now) →
-      ((s : State) → IsAt g now s → IsClean g new → answer ≡ answer_in s a) →
-      ((s : State) → IsAt g now s → IsAt g new (next s a)) →
+      ((s : State) → IsDurablyAt g now s → IsClean g new → answer ≡ answer_in s a) →
+      ((s : State) → IsDurablyAt g now s → IsDurablyAt g new (next s a)) →
       AreAsked g old new asked (count + 1) (answers ++ answer ∷ [])
   one_asked answers a answer within at_count was clean reply leaves =
       let is_a : get_or asked count a ≡ a = get_or_from_slice_get asked count a a at_count in
@@ -106,7 +106,7 @@ module _ {S : Type 0} (g : Ghosts S) (old now new : Kept S) (asked : List Asked)
       let line : part_line (count + 1) (result_of answer) ≡ part_line (1 + length was.answers) (result_of answer) = ap (λ n. part_line n (result_of answer)) one_past in
       record {
         answers = was.answers ++ result_of answer ∷ [];
-        asked_so_far = one_asked was.answers a (result_of answer) within at_count was.asked_so_far answered.clean answered.reply answered.answered;
+        asked_so_far = one_asked was.answers a (result_of answer) within at_count was.asked_so_far answered.disk answered.reply answered.answered;
         printed = subst (Appends out out'') (ap (λ t. part_lines 1 was.answers ++ t) line ∙ sym (lines_more 1 was.answers (result_of answer))) (appends_both out out' out'' _ _ was.printed told);
         ends = ap (λ s. status_with s (result_of answer)) was.ends ∙ sym (fold-append status_with Done was.answers (result_of answer ∷ []));
       }

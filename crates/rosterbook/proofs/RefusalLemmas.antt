@@ -2,9 +2,9 @@
 use Rattle.std.proofs.Common.{◌≡◌, ◌≢◌, ◌⊎◌, inl, inr, [], refl, sym, subst, append-nil, Some, None, Result, Err}
 use Rattle.std.specs.Io.KnownBytes.{Appends}
 use Rattle.rosterbook.specs.Program.{Gives, Held, duty_answer, memory_answer, refusal_line}
-use Rattle.verdict.specs.Verdict.{Line}
-use Rattle.verdict.specs.declared.fault.LineFault.{LineFault}
-use Rattle.verdict.specs.declared.fault.LineFault.TheVariants.{Zone, Time, SegmentCount, BadTimes, Memory}
+use Rattle.period_verdict.specs.Verdict.{Line}
+use Rattle.period_verdict.specs.declared.fault.LineFault.{LineFault}
+use Rattle.period_verdict.specs.declared.fault.LineFault.TheVariants.{Zone, Time, SegmentCount, BadTimes, Memory}
 use Rattle.rosterbook.specs.declared.status.Status.{Status}
 use Rattle.rosterbook.specs.declared.status.Status.TheVariants.{Refused, Failed}
 

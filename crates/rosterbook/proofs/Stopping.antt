@@ -4,14 +4,14 @@ use Rattle.std.proofs.lemmas.Option.{get_or_from_slice_get}
 use Rattle.sqlite_trees.specs.declared.store.Store.{Ghosts}
 use Rattle.duty.specs.Plans.{Plan}
 use Rattle.command.specs.Keys.{KeyParts}
-use Rattle.command.specs.declared.order.Order.{Order}
-use Rattle.rows.specs.declared.fault.StoreFault.{StoreFault}
-use Rattle.rows.specs.declared.fault.StoreFault.TheVariants.{Store, Memory}
+use Rattle.command.specs.declared.instruction.Instruction.{Instruction}
+use Rattle.state_rows.specs.declared.fault.StoreFault.{StoreFault}
+use Rattle.state_rows.specs.declared.fault.StoreFault.TheVariants.{Store, Memory}
 use Rattle.codec.specs.Requests.{read_request}
 use Rattle.roster.specs.Folds.{Asked, Fold, Replies, import, next}
 use Rattle.roster.specs.State.{State}
 use Rattle.book.specs.Answered.{IsAnswered}
-use Rattle.book.specs.Kept.{IsAt, IsClean, IsInDoubt, Kept, is_store_fault, result_of}
+use Rattle.book.specs.Kept.{IsDurablyAt, IsClean, IsInDoubt, Kept, is_store_fault, result_of}
 use Rattle.book.specs.declared.answer.Answer.{Answer}
 use Rattle.book.proofs.Runs.{fold_more}
 use Rattle.rosterbook.specs.Asking.{Answered, Answers, AreStopped, IsAskStopped, IsLeft, IsOfBook, IsStoppedIn, Request, commands_of, left_by}
@@ -41,8 +41,8 @@ has_failed Memory was is failed at_store = absurd (cc)
 module _ {S : Type 0} (g : Ghosts S) (old now new : Kept S) (asked : List Asked) (count : ℕ) (answers : List Answered) where
   -- no line was written of the last answer
   pub untold : (stop : Stop) → IsOfChannel stop → count ≤ length asked → length answers ≡ count →
-      ((s : State) → IsAt g old s → IsClean g new → answers ≡ take count (Replies s asked)) →
-      ((s : State) → IsAt g old s → IsAt g new (Fold s (take count asked))) →
+      ((s : State) → IsDurablyAt g old s → IsClean g new → answers ≡ take count (Replies s asked)) →
+      ((s : State) → IsDurablyAt g old s → IsDurablyAt g new (Fold s (take count asked))) →
       IsStoppedIn g old new asked answers stop
   untold stop (inl is) within each answered left = subst (IsStoppedIn g old new asked answers) (sym is) (record {
     told = inr (inl refl);
@@ -62,7 +62,7 @@ module _ {S : Type 0} (g : Ghosts S) (old now new : Kept S) (asked : List Asked)
   })
 
   left_at : (fault : StoreFault) (s : State) (a : Asked) → Fold s (take (count + 1) asked) ≡ next (Fold s (take count asked)) a →
-      (fault ≡ Memory → IsAt g new (Fold s (take count asked))) →
+      (fault ≡ Memory → IsDurablyAt g new (Fold s (take count asked))) →
       (fault ≡ Store → IsInDoubt g new (Fold s (take count asked)) (next (Fold s (take count asked)) a)) → IsLeft g new s asked count (Book fault)
   left_at Store s a more memory store = rw more (store refl)
   left_at Memory s a more memory store = memory refl
@@ -72,8 +72,8 @@ module _ {S : Type 0} (g : Ghosts S) (old now new : Kept S) (asked : List Asked)
       AreAsked g old now asked count answers →
       new.failed ≡ (now.failed || is_store_fault {A = Answer} (Err fault)) →
       (IsClean g new → IsClean g now) →
-      ((s : State) → IsAt g now s → fault ≡ Memory → IsAt g new s) →
-      ((s : State) → IsAt g now s → fault ≡ Store → IsInDoubt g new s (next s a)) →
+      ((s : State) → IsDurablyAt g now s → fault ≡ Memory → IsDurablyAt g new s) →
+      ((s : State) → IsDurablyAt g now s → fault ≡ Store → IsInDoubt g new s (next s a)) →
       IsStoppedIn g old new asked answers (Book fault)
   unanswered a fault within at_count was failed clean memory store =
       let each = was.each in
@@ -101,24 +101,24 @@ err_told (Err e) P Q it weaker = weaker e it
 
 -- ---- `do`
 
-pub request_stopped : {S : Type 0} (g : Ghosts S) (old new : Kept S) (request : Request) (number : ℕ) (order : Order) (key : KeyParts) (answers : List Answered) (stop : Stop) →
-    request ≡ Ok (number, order) → key ≡ record { number = number; part = 0 } → IsStoppedIn g old new ((key, order) ∷ []) answers stop → IsStoppedIn g old new (commands_of request) answers stop
-request_stopped g old new request number order key answers stop is under stopped =
+pub request_stopped : {S : Type 0} (g : Ghosts S) (old new : Kept S) (request : Request) (number : ℕ) (instruction : Instruction) (key : KeyParts) (answers : List Answered) (stop : Stop) →
+    request ≡ Ok (number, instruction) → key ≡ record { number = number; part = 0 } → IsStoppedIn g old new ((key, instruction) ∷ []) answers stop → IsStoppedIn g old new (commands_of request) answers stop
+request_stopped g old new request number instruction key answers stop is under stopped =
     let under_key : KeyParts = record { number = number; part = 0 } in
-    let at_key : IsStoppedIn g old new ((under_key, order) ∷ []) answers stop = subst (λ k. IsStoppedIn g old new ((k, order) ∷ []) answers stop) under stopped in
+    let at_key : IsStoppedIn g old new ((under_key, instruction) ∷ []) answers stop = subst (λ k. IsStoppedIn g old new ((k, instruction) ∷ []) answers stop) under stopped in
     subst (λ r. IsStoppedIn g old new (commands_of r) answers stop) (sym is) at_key
 
 -- the answer was not written
 answer_untold : {S : Type 0} (g : Ghosts S) (old new : Kept S) (request : Request) (answer : Answered) (stop : Stop) → IsOfChannel stop →
-    ((s : State) → IsAt g old s → IsClean g new → Answers s request answer) →
-    ((s : State) → IsAt g old s → IsAt g new (left_by s request)) →
+    ((s : State) → IsDurablyAt g old s → IsClean g new → Answers s request answer) →
+    ((s : State) → IsDurablyAt g old s → IsDurablyAt g new (left_by s request)) →
     (answers : List Answered) × IsStoppedIn g old new (commands_of request) answers stop × (length answers < length (commands_of request) → ⊥)
 answer_untold g old new (Ok asked) answer stop which answered left = (answer ∷ [], untold g old new new (commands_of (Ok asked)) 1 (answer ∷ []) stop which (omega arith) refl answered left, λ fewer. absurd (omega (arith, fewer)))
 answer_untold g old new (Err fault) answer stop which answered left = ([], untold g old new new [] 0 [] stop which (omega arith) refl (λ s at is_clean. refl) left, λ fewer. absurd (omega (arith, fewer)))
 
 pub asked_untold : {S : Type 0} (g : Ghosts S) (old new : Kept S) (held out out' : Held) (input : List ℕ) (answer : Answered) (stop : Stop) → IsOfChannel stop → Reads held input →
-    ((s : State) → IsAt g old s → IsClean g new → Answers s (read_request input) answer) →
-    ((s : State) → IsAt g old s → IsAt g new (left_by s (read_request input))) → IsAskStopped g old new held out out' stop
+    ((s : State) → IsDurablyAt g old s → IsClean g new → Answers s (read_request input) answer) →
+    ((s : State) → IsDurablyAt g old s → IsDurablyAt g new (left_by s (read_request input))) → IsAskStopped g old new held out out' stop
 asked_untold g old new held out out' input answer stop which read answered left =
     let it = answer_untold g old new (read_request input) answer stop which answered left in
     inr (input, it.0, read, it.1, λ fewer. absurd (it.2 fewer))
@@ -133,7 +133,7 @@ module _ {S : Type 0} (g : Ghosts S) (old now new : Kept S) (number : ℕ) (plan
       AreSoFar g old now parts count status out out' → IsAnswered g now new a (Err fault) → AreStopped g old new number plans out out' (Book fault)
   part_unanswered a fault within at_count was answered = record {
     answers = was.answers;
-    asked = unanswered g old now new parts count was.answers a fault within at_count was.asked_so_far answered.failed answered.clean
+    asked = unanswered g old now new parts count was.answers a fault within at_count was.asked_so_far answered.failed answered.disk
         (λ s at is. answered.memory s at (ap Err is)) (λ s at is. answered.store s at (ap Err is));
     printed = λ is. was.printed;
   }
@@ -143,7 +143,7 @@ module _ {S : Type 0} (g : Ghosts S) (old now new : Kept S) (number : ℕ) (plan
   part_untold out'' a answer stop which within at_count was answered = record {
     answers = was.answers ++ result_of answer ∷ [];
     asked =
-        let now_asked = one_asked g old now new parts count was.answers a (result_of answer) within at_count was.asked_so_far answered.clean answered.reply answered.answered in
+        let now_asked = one_asked g old now new parts count was.answers a (result_of answer) within at_count was.asked_so_far answered.disk answered.reply answered.answered in
         untold g old now new parts (count + 1) _ stop which (omega (arith, within)) now_asked.each now_asked.answered now_asked.left;
     printed = λ is. absurd (no_fault_of_book stop which is);
   }

@@ -7,18 +7,18 @@ use Rattle.sqlite_trees.specs.declared.store.Store.{Ghosts}
 use Rattle.duty.specs.Plans.{Plan}
 use Rattle.command.specs.Texts.{refusal_text}
 use Rattle.command.specs.declared.exceedance.Reply.{Reply}
-use Rattle.command.specs.declared.order.Order.{Order}
+use Rattle.command.specs.declared.instruction.Instruction.{Instruction}
 use Rattle.command.specs.declared.refusal.Refusal.{Refusal}
 use Rattle.codec.specs.Schedule.{IsAtFault, IsSchedule}
 use Rattle.roster.specs.Folds.{Asked, Fold, Replies, import, next}
 use Rattle.roster.specs.State.{State}
 use Rattle.codec.specs.Requests.{read_request}
 use Rattle.codec.specs.RefusalText as json
-use Rattle.kept.specs.ReplyText.{reply_text}
-use Rattle.kept.specs.declared.fault.CodecFault.{CodecFault}
-use Rattle.rows.specs.declared.fault.StoreFault.{StoreFault}
-use Rattle.rows.specs.declared.fault.StoreFault.TheVariants.{Store}
-use Rattle.book.specs.Kept.{IsAt, IsClean, IsInDoubt, Kept}
+use Rattle.stored_json.specs.ReplyText.{reply_text}
+use Rattle.stored_json.specs.declared.fault.CodecFault.{CodecFault}
+use Rattle.state_rows.specs.declared.fault.StoreFault.{StoreFault}
+use Rattle.state_rows.specs.declared.fault.StoreFault.TheVariants.{Store}
+use Rattle.book.specs.Kept.{IsDurablyAt, IsClean, IsInDoubt, Kept}
 use Rattle.rosterbook.specs.Streams.{Held, IsOfChannel, Prints, Reads, line_end, refused}
 use Rattle.rosterbook.specs.declared.status.Status.{Status}
 use Rattle.rosterbook.specs.declared.status.Status.TheVariants.{Done, Refused}
@@ -29,6 +29,7 @@ use Rattle.rosterbook.specs.declared.stop.Stop.TheVariants.{Book}
 abbrev pub Answered : Type 0
 Answered = Result Reply Refusal
 
+-- how the program ends after an answer
 abbrev pub status_of : Answered → Status
 status_of (Ok reply) = Done
 status_of (Err refusal) = Refused
@@ -43,7 +44,7 @@ module _ {S : Type 0} (g : Ghosts S) where
   -- what is left where so many commands were answered: after a fault of the store (90) the one after them is in doubt
   abbrev pub IsLeft : Kept S → State → List Asked → ℕ → Stop → Type 0
   IsLeft new s asked n (Book Store) = IsInDoubt g new (Fold s (take n asked)) (Fold s (take (n + 1) asked))
-  IsLeft new s asked n stop = IsAt g new (Fold s (take n asked))
+  IsLeft new s asked n stop = IsDurablyAt g new (Fold s (take n asked))
 
   -- these commands were asked in turn, and got these answers before the program stopped
   pub record IsStoppedIn (old new : Kept S) (asked : List Asked) (answers : List Answered) (stop : Stop) : Type 0 where
@@ -51,8 +52,8 @@ module _ {S : Type 0} (g : Ghosts S) where
     pub few : length answers ≤ length asked
     pub unanswered : IsOfBook stop → length answers < length asked
     pub failed : stop ≡ Book Store → IsTrue new.failed
-    pub answered : (s : State) → IsAt g old s → IsClean g new → answers ≡ take (length answers) (Replies s asked)
-    pub left : (s : State) → IsAt g old s → IsLeft new s asked (length answers) stop
+    pub answered : (s : State) → IsDurablyAt g old s → IsClean g new → answers ≡ take (length answers) (Replies s asked)
+    pub left : (s : State) → IsDurablyAt g old s → IsLeft new s asked (length answers) stop
 
 -- nothing was asked, and nothing written
 pub record IsUnasked {S : Type 0} (old new : Kept S) (out out' : Held) (stop : Stop) : Type 0 where
@@ -64,8 +65,9 @@ pub record IsUnasked {S : Type 0} (old new : Kept S) (out out' : Held) (stop : S
 
 -- a request as `codec` reads it
 abbrev pub Request : Type 0
-Request = Result (ℕ × Order) CodecFault
+Request = Result (ℕ × Instruction) CodecFault
 
+-- the text of an answer
 abbrev pub answer_json : Answered → List ℕ
 answer_json (Ok reply) = reply_text reply
 answer_json (Err refusal) = json.refusal_text refusal
@@ -81,14 +83,15 @@ pub record IsTold (held out out' : Held) (status : Status) (input : List ℕ) (a
   pub printed : Prints (told_json (read_request input) answer) status out out'
 
 -- the command of a request, under part 0 of its number
-abbrev pub asked_as : ℕ × Order → Asked
-asked_as (number, order) = (record { number = number; part = 0 }, order)
+abbrev pub asked_as : ℕ × Instruction → Asked
+asked_as (number, instruction) = (record { number = number; part = 0 }, instruction)
 
 -- the book's answer in a state
 abbrev pub Answers : State → Request → Answered → Type 0
 Answers s (Ok asked) answer = answer ∷ [] ≡ Replies s (asked_as asked ∷ [])
 Answers s (Err fault) answer = ⊤
 
+-- the state after a request: one that isn't read changes nothing
 abbrev pub left_by : State → Request → State
 left_by s (Ok asked) = next s (asked_as asked)
 left_by s (Err fault) = s
@@ -103,8 +106,8 @@ pub record IsAsked {S : Type 0} (g : Ghosts S) (old new : Kept S) (held out out'
   pub input : List ℕ
   pub answer : Answered
   pub told : IsTold held out out' status input answer
-  pub answered : (s : State) → IsAt g old s → IsClean g new → Answers s (read_request input) answer
-  pub left : (s : State) → IsAt g old s → IsAt g new (left_by s (read_request input))
+  pub answered : (s : State) → IsDurablyAt g old s → IsClean g new → Answers s (read_request input) answer
+  pub left : (s : State) → IsDurablyAt g old s → IsDurablyAt g new (left_by s (read_request input))
 
 -- the program stopped before it asked anything, or when it had asked what was read: nothing was printed where that has no answer
 abbrev pub IsAskStopped : {S : Type 0} → Ghosts S → Kept S → Kept S → Held → Held → Held → Stop → Type 0
@@ -131,6 +134,7 @@ abbrev pub status_with : Status → Answered → Status
 status_with status (Ok reply) = status
 status_with status (Err refusal) = Refused
 
+-- how the program ends after the answers of an import
 abbrev pub status_of_all : List Answered → Status
 status_of_all answers = fold status_with Done answers
 
@@ -144,8 +148,8 @@ pub record AreTold (plans : List Plan) (answers : List Answered) (status : Statu
 pub record AreAdded {S : Type 0} (g : Ghosts S) (old new : Kept S) (number : ℕ) (plans : List Plan) (status : Status) (out out' : Held) : Type 0 where
   pub answers : List Answered
   pub told : AreTold plans answers status out out'
-  pub answered : (s : State) → IsAt g old s → IsClean g new → answers ≡ Replies s (import number plans)
-  pub left : (s : State) → IsAt g old s → IsAt g new (Fold s (import number plans))
+  pub answered : (s : State) → IsDurablyAt g old s → IsClean g new → answers ≡ Replies s (import number plans)
+  pub left : (s : State) → IsDurablyAt g old s → IsDurablyAt g new (Fold s (import number plans))
 
 -- the text is no schedule, which was told with the record at fault
 pub record IsNoSchedule (text : List ℕ) (status : Status) (out out' err err' : Held) : Type 0 where

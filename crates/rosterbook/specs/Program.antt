@@ -7,24 +7,26 @@ use Rattle.rosterbook.specs.Serving.{IsServeTold}
 use Rattle.rosterbook.specs.Showing.{IsToldOf}
 use Rattle.roster.specs.State.{State}
 use Rattle.store.specs.declared.show.Show.TheVariants as show
-use Rattle.verdict.specs.FaultText.{fault_text}
+use Rattle.period_verdict.specs.FaultText.{fault_text}
 pub use Rattle.rosterbook.specs.Streams.{Held, line_end, refused}
 use Rattle.writing.specs.Faults.{create_text}
 use Rattle.writing.specs.declared.fault.CreateFault.{CreateFault}
-use Rattle.verdict.specs.Verdict.{Line, line_of}
+use Rattle.period_verdict.specs.Verdict.{Line, line_of}
 use Rattle.console.specs.declared.actions.Action.{Action}
 use Rattle.console.specs.declared.actions.Action.TheVariants.{Duty, Init, Do, Import, Roster, Pairing, Exceedances, Serve}
-use Rattle.verdict.specs.declared.fault.LineFault.{LineFault}
-use Rattle.verdict.specs.declared.fault.LineFault.TheVariants.{Zone, Memory}
+use Rattle.period_verdict.specs.declared.fault.LineFault.{LineFault}
+use Rattle.period_verdict.specs.declared.fault.LineFault.TheVariants.{Zone, Memory}
 use Rattle.rosterbook.specs.declared.status.Status.{Status}
 use Rattle.rosterbook.specs.declared.status.Status.TheVariants.{Done, Refused, Usage, Failed}
 
+-- the exit status of each end
 abbrev pub exit_status : Status → ℕ
 exit_status Done = 0
 exit_status Refused = 1
 exit_status Usage = 2
 exit_status Failed = 3
 
+-- a status, and the bytes of standard output and standard error
 pub record Answer : Type 0 where
   pub status : Status
   pub out : List ℕ
@@ -35,9 +37,11 @@ abbrev pub verdict_status : Bool → Status
 verdict_status true = Done
 verdict_status false = Refused
 
+-- the line of a refusal
 abbrev pub refusal_line : LineFault → List ℕ
 refusal_line fault = refused (fault_text fault)
 
+-- what `duty` answers: the line, or the refusal
 abbrev pub duty_answer : Result Line LineFault → Answer
 duty_answer (Ok line) = record { status = verdict_status line.1; out = line.0 ++ line_end; err = [] }
 duty_answer (Err fault) = record { status = Refused; out = []; err = refusal_line fault }
@@ -66,20 +70,20 @@ pub record Gives (answer : Answer) (status : Status) (out out' err err' : Held) 
   pub complains : Appends err err' answer.err
 
 -- the action was answered whole, by what a reader has
-abbrev pub Answers : Action → Status → Held → Held → Held → Held → Held → Type 0
-Answers (Duty zone report times) status held out out' err err' =
+abbrev pub Performs : Action → Status → Held → Held → Held → Held → Held → Type 0
+Performs (Duty zone report times) status held out out' err err' =
     Gives (duty_answer (line_of (string_bytes zone) (string_bytes report) (map string_bytes times.items))) status out out' err err'
-Answers (Init file zone) status held out out' err err' =
+Performs (Init file zone) status held out out' err err' =
     Gives (init_answer (is_zone_text (string_bytes zone))) status out out' err err'
-Answers (Do file) status held out out' err err' =
+Performs (Do file) status held out out' err err' =
     (input : List ℕ) × (answer : Answered) × IsTold held out out' status input answer × (err' ≡ err)
-Answers (Import file number) status held out out' err err' = IsImportTold held out out' err err' status
-Answers (Roster file crew) status held out out' err err' = (s : State) × IsToldOf s (show.Crew (string_bytes crew)) status out out' err err'
-Answers (Pairing file id) status held out out' err err' = (s : State) × IsToldOf s (show.Pairing (string_bytes id)) status out out' err err'
-Answers (Exceedances file) status held out out' err err' = (s : State) × IsToldOf s show.Exceedances status out out' err err'
-Answers (Serve file port connections) status held out out' err err' = IsServeTold port connections out out' err err' status
+Performs (Import file number) status held out out' err err' = IsImportTold held out out' err err' status
+Performs (Roster file crew) status held out out' err err' = (s : State) × IsToldOf s (show.Crew (string_bytes crew)) status out out' err err'
+Performs (Pairing file id) status held out out' err err' = (s : State) × IsToldOf s (show.Pairing (string_bytes id)) status out out' err err'
+Performs (Exceedances file) status held out out' err err' = (s : State) × IsToldOf s show.Exceedances status out out' err err'
+Performs (Serve file port connections) status held out out' err err' = IsServeTold port connections out out' err err' status
 
 -- the same, with this exit status
-abbrev pub IsAnswered : Action → ℕ → Held → Held → Held → Held → Held → Type 0
-IsAnswered action code held out out' err err' =
-    (status : Status) × (code ≡ exit_status status) × Answers action status held out out' err err'
+abbrev pub IsPerformed : Action → ℕ → Held → Held → Held → Held → Held → Type 0
+IsPerformed action code held out out' err err' =
+    (status : Status) × (code ≡ exit_status status) × Performs action status held out out' err err'

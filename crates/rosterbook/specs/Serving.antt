@@ -5,7 +5,7 @@ use Rattle.std.specs.Io.KnownBytes.{Appends}
 use Rattle.http_exchange.specs.declared.exchanges.Served.{Served}
 use Rattle.web.specs.ServeText.{serve_text}
 use Rattle.web.specs.declared.connections.ServeFault.{ServeFault}
-use Rattle.rows.specs.declared.fault.StoreFault.TheVariants.{Store}
+use Rattle.state_rows.specs.declared.fault.StoreFault.TheVariants.{Store}
 use Rattle.rosterbook.specs.Streams.{Held, IsOfChannel, line_end, refused}
 use Rattle.rosterbook.specs.declared.status.Status.{Status}
 use Rattle.rosterbook.specs.declared.status.Status.TheVariants.{Done}
@@ -21,10 +21,12 @@ abbrev pub failure_line : Outcome → List ℕ
 failure_line (Ok served) = []
 failure_line (Err fault) = refused (serve_text fault)
 
+-- a line for each connection that failed, in turn
 abbrev pub failure_lines : List Outcome → List ℕ
 failure_lines [] = []
 failure_lines (outcome ∷ outcomes) = failure_line outcome ++ failure_lines outcomes
 
+-- the line that tells the port
 abbrev pub port_line : ℕ → List ℕ
 port_line port = codes "listening " ++ decimal port ++ line_end
 
@@ -53,6 +55,7 @@ module _ {V : Type 0} (serves : V → V → Outcome → Type 0) (fails : V → B
     pub failed : fails new ≡ true
     pub lines : told ≡ true → Appends err err' (failure_lines (outcomes ++ last ∷ []))
 
+  -- all connections were served, or the store failed at one
   abbrev pub HasEnded : ℕ → V → V → Held → Held → Bool → Bool → Type 0
   HasEnded count old new err err' told false = AllServed count old new err err' told
   HasEnded count old new err err' told true = CutShort count old new err err' told

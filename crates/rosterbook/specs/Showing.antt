@@ -4,7 +4,7 @@ use Rattle.std.specs.Io.KnownBytes.{Appends}
 use Rattle.std.specs.Global.{Global}
 use Rattle.std.specs.Prelude.{String}
 use Rattle.roster.specs.State.{State}
-use Rattle.rows.specs.declared.fault.StoreFault.TheVariants.{Store}
+use Rattle.state_rows.specs.declared.fault.StoreFault.TheVariants.{Store}
 use Rattle.report.specs.Faults.{fault_text}
 use Rattle.report.specs.declared.fault.ReportFault.{ReportFault}
 use Rattle.report.specs.declared.fault.ReportFault.TheVariants.{NoSuchCrew, NoSuchPairing, Memory}

@@ -1,10 +1,11 @@
 -- Why the program stops before its end, as it is printed: number, name, and the table where there is one.
 use Rattle.std.specs.Prelude.{ℕ, List, codes}
-use Rattle.rows.specs.Faults as rows
+use Rattle.state_rows.specs.Faults as rows
 use Rattle.loading.specs.Faults.{load_text}
 use Rattle.rosterbook.specs.declared.stop.Stop.{Stop}
 use Rattle.rosterbook.specs.declared.stop.Stop.TheVariants.{Load, Book, Memory, Channel, Network}
 
+-- what stops the program as it is printed
 abbrev pub stop_text : Stop → List ℕ
 stop_text (Load fault) = load_text fault
 stop_text (Book fault) = rows.fault_text fault

@@ -15,6 +15,7 @@ abbrev pub Reads : Held → List ℕ → Type 0
 Reads None input = ⊤
 Reads (Some bytes) input = input ≡ take (most_bytes + 1) bytes
 
+-- the end of a line
 abbrev pub line_end : List ℕ
 line_end = 10 ∷ []
 

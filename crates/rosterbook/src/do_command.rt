@@ -1,9 +1,10 @@
-//! `rosterbook do`.
+//! `rosterbook do`: a request on standard input, asked of a book. The definitions are in `specs/Asking.antt`.
+//! Transcripts: `tests/transcripts/requests.txt` and `all_commands.txt`. Wrong bodies: `must-fail/`.
 ghost use Rattle.std.specs.Prelude.{◌≡◌, ◌∷◌, [], ℕ, List, IfErr, IfOk, string_bytes};
 ghost use Rattle.roster.specs.Folds.{answer_of, next};
 ghost use Rattle.roster.specs.State.{State};
 ghost use Rattle.roster.specs.Steps.{step_of};
-ghost use Rattle.book.specs.Kept.{IsAt, IsClean, result_of};
+ghost use Rattle.book.specs.Kept.{IsDurablyAt, IsClean, result_of};
 ghost use Rattle.codec.specs.Requests.{read_request};
 ghost use Rattle.rosterbook.specs.Asking as spec;
 
@@ -33,7 +34,9 @@ pub(crate) fn answer_do<R: Read, O: Write>(
     reader: &mut R,
     out: &mut O,
 ) -> Result<Status, Stop>
-    ensures { IfOk result (λ status. (input : List ℕ) × (answer : spec.Answered) × spec.IsTold (R.remaining reader.old) (O.contents out.old) (O.contents out.new) status input answer) }
+    ensures { IfOk result (λ status. (input : List ℕ) × (answer : spec.Answered)
+        × spec.IsTold (R.remaining reader.old) (O.contents out.old) (O.contents out.new)
+        status input answer) }
 {
     ask_once(rt.alloc(), FileBook::open(rt, file)?, reader, out)
 }
@@ -45,7 +48,9 @@ fn ask_once<D: Disk + Drop, R: Read, O: Write>(
     reader: &mut R,
     out: &mut O,
 ) -> Result<Status, Stop>
-    ensures { IfOk result (λ status. (input : List ℕ) × (answer : spec.Answered) × spec.IsTold (R.remaining reader.old) (O.contents out.old) (O.contents out.new) status input answer) }
+    ensures { IfOk result (λ status. (input : List ℕ) × (answer : spec.Answered)
+        × spec.IsTold (R.remaining reader.old) (O.contents out.old) (O.contents out.new)
+        status input answer) }
 {
     let done = ask_json(alloc, &mut book, reader, out);
     book.close();
@@ -61,8 +66,10 @@ pub fn ask_json<S: Alter, R: Read, O: Write>(
     reader: &mut R,
     out: &mut O,
 ) -> Result<Status, Stop>
-    ensures asked { IfOk result (λ status. spec.IsAsked S.Store book.old book.new (R.remaining reader.old) (O.contents out.old) (O.contents out.new) status) }
-    ensures stopped { IfErr result (λ stop. spec.IsAskStopped S.Store book.old book.new (R.remaining reader.old) (O.contents out.old) (O.contents out.new) stop) }
+    ensures asked { IfOk result (λ status. spec.IsAsked S.Store book.old book.new
+        (R.remaining reader.old) (O.contents out.old) (O.contents out.new) status) }
+    ensures stopped { IfErr result (λ stop. spec.IsAskStopped S.Store book.old book.new
+        (R.remaining reader.old) (O.contents out.old) (O.contents out.new) stop) }
 {
     let body = read_input(alloc, reader)?;
     let told = ask_body(alloc, book, &body)?;
@@ -70,13 +77,17 @@ pub fn ask_json<S: Alter, R: Read, O: Write>(
     Ok(told.status)
 }
 
-/// What a book answers the body of a request.
+/// Asks a book the body of a request.
 fn ask_body<S: Alter>(alloc: Global, book: &mut Book<S>, body: &[u8]) -> Result<Told, Stop>
     ensures told { IfOk result (λ told. (answer : spec.Answered)
         × ((told.status, string_bytes told.line) ≡ spec.told_json (read_request body.now) answer)
-        × ((s : State) → IsAt S.Store book.old s → IsClean S.Store book.new → spec.Answers s (read_request body.now) answer)
-        × ((s : State) → IsAt S.Store book.old s → IsAt S.Store book.new (spec.left_by s (read_request body.now)))) }
-    ensures stopped { IfErr result (λ stop. (answers : List spec.Answered) × spec.IsStoppedIn S.Store book.old book.new (spec.commands_of (read_request body.now)) answers stop) }
+        × ((s : State) → IsDurablyAt S.Store book.old s → IsClean S.Store book.new
+        → spec.Answers s (read_request body.now) answer)
+        × ((s : State) → IsDurablyAt S.Store book.old s
+        → IsDurablyAt S.Store book.new (spec.left_by s (read_request body.now)))) }
+    ensures stopped { IfErr result (λ stop. (answers : List spec.Answered)
+        × spec.IsStoppedIn S.Store book.old book.new (spec.commands_of (read_request body.now))
+        answers stop) }
 {
     match command_of_json(alloc, body) {
         Ok((number, command)) => {
@@ -90,7 +101,7 @@ fn ask_body<S: Alter>(alloc: Global, book: &mut Book<S>, body: &[u8]) -> Result<
     }
 }
 
-/// What a book answers a command.
+/// Asks a book a command.
 fn ask_command<S: Alter>(
     alloc: Global,
     book: &mut Book<S>,
@@ -100,18 +111,22 @@ fn ask_command<S: Alter>(
     ensures told { IfOk result (λ told. (answer : spec.Answered)
         × (told.status ≡ spec.status_of answer)
         × (string_bytes told.line ≡ spec.answer_json answer)
-        × ((s : State) → IsAt S.Store book.old s → IsClean S.Store book.new → answer ≡ answer_of (step_of s key command.now))
-        × ((s : State) → IsAt S.Store book.old s → IsAt S.Store book.new (next s (key, command.now)))) }
-    ensures stopped { IfErr result (λ stop. (answers : List spec.Answered) × spec.IsStoppedIn S.Store book.old book.new ((key, command.now) ∷ []) answers stop) }
+        × ((s : State) → IsDurablyAt S.Store book.old s → IsClean S.Store book.new
+        → answer ≡ answer_of (step_of s key command.now))
+        × ((s : State) → IsDurablyAt S.Store book.old s
+        → IsDurablyAt S.Store book.new (next s (key, command.now)))) }
+    ensures stopped { IfErr result (λ stop. (answers : List spec.Answered)
+        × spec.IsStoppedIn S.Store book.old book.new ((key, command.now) ∷ []) answers stop) }
 {
     let answer = book.ask(alloc, key, command)?;
     Ok(line_of(alloc, &answer)?)
 }
 
-/// What a book's answer is told as.
+/// Writes what a book's answer is told as.
 fn line_of(alloc: Global, answer: &Answer) -> Result<Told, MemoryFault>
     ensures status { IfOk result (λ told. told.status ≡ spec.status_of (result_of answer.now)) }
-    ensures line { IfOk result (λ told. string_bytes told.line ≡ spec.answer_json (result_of answer.now)) }
+    ensures line { IfOk result
+        (λ told. string_bytes told.line ≡ spec.answer_json (result_of answer.now)) }
 {
     match answer {
         Answer::Accepted(reply) => Ok(Told {

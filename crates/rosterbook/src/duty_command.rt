@@ -1,14 +1,15 @@
-//! `rosterbook duty`.
+//! `rosterbook duty`: one flight duty period against Tables A and B, without a book.
+//! Transcript: `tests/transcripts/duty.txt`. Wrong bodies: `must-fail/`.
 ghost use Rattle.std.specs.Prelude.{◌≡◌, ◌⊎◌, map, string_bytes, IfOk};
 ghost use Rattle.rosterbook.specs.Program as spec;
-ghost use Rattle.verdict.specs.Verdict.{line_of};
+ghost use Rattle.period_verdict.specs.Verdict.{line_of};
 
 use crate::lines::{refuse, write_line};
 use crate::status::Status;
+use period_verdict::duty_line;
 use std::alloc::Global;
 use std::io;
 use std::io::Write;
-use verdict::duty_line;
 
 /// Answers `rosterbook duty`. An error is a writer's.
 pub(crate) fn answer_duty<O: Write, E: Write>(
@@ -19,8 +20,11 @@ pub(crate) fn answer_duty<O: Write, E: Write>(
     out: &mut O,
     err: &mut E,
 ) -> io::Result<Status>
-    ensures { IfOk result (λ status. spec.Gives (spec.duty_answer (line_of zone.now report.now (map string_bytes times.now))) status (O.contents out.old) (O.contents out.new) (E.contents err.old) (E.contents err.new)
-        ⊎ spec.Gives spec.memory_answer status (O.contents out.old) (O.contents out.new) (E.contents err.old) (E.contents err.new)) }
+    ensures { IfOk result (λ status. spec.Gives
+        (spec.duty_answer (line_of zone.now report.now (map string_bytes times.now))) status
+        (O.contents out.old) (O.contents out.new) (E.contents err.old) (E.contents err.new)
+        ⊎ spec.Gives spec.memory_answer status (O.contents out.old) (O.contents out.new)
+        (E.contents err.old) (E.contents err.new)) }
 {
     match duty_line(alloc, zone, report, times) {
         Ok((line, is_within)) => {
@@ -34,7 +38,7 @@ pub(crate) fn answer_duty<O: Write, E: Write>(
     }
 }
 
-/// How the program ends after a verdict.
+/// Returns how the program ends after a verdict.
 fn verdict_status(is_within: bool) -> Status
     ensures { result ≡ spec.verdict_status is_within }
 {

@@ -1,4 +1,6 @@
-//! `rosterbook import`.
+//! `rosterbook import`: a schedule on standard input, its pairings asked one after the other. The definitions are in
+//! `specs/Asking.antt`.
+//! Transcript: `tests/transcripts/import.txt`. Wrong bodies: `must-fail/`.
 ghost use Rattle.std.specs.Prelude.{◌≡◌, ◌≤◌, IfErr, IfOk, OnOk, length};
 ghost use Rattle.std.specs.Io.KnownBytes.{Appends};
 ghost use Rattle.book.specs.Kept.{result_of};
@@ -25,7 +27,8 @@ pub(crate) fn answer_import<R: Read, O: Write, E: Write>(
     out: &mut O,
     err: &mut E,
 ) -> Result<Status, Stop>
-    ensures { IfOk result (spec.IsImportTold (R.remaining reader.old) (O.contents out.old) (O.contents out.new) (E.contents err.old) (E.contents err.new)) }
+    ensures { IfOk result (spec.IsImportTold (R.remaining reader.old) (O.contents out.old)
+        (O.contents out.new) (E.contents err.old) (E.contents err.new)) }
 {
     import_once(
         rt.alloc(),
@@ -46,7 +49,8 @@ fn import_once<D: Disk + Drop, R: Read, O: Write, E: Write>(
     out: &mut O,
     err: &mut E,
 ) -> Result<Status, Stop>
-    ensures { IfOk result (spec.IsImportTold (R.remaining reader.old) (O.contents out.old) (O.contents out.new) (E.contents err.old) (E.contents err.new)) }
+    ensures { IfOk result (spec.IsImportTold (R.remaining reader.old) (O.contents out.old)
+        (O.contents out.new) (E.contents err.old) (E.contents err.new)) }
 {
     let done = import_csv(alloc, &mut book, number, reader, out, err);
     book.close();
@@ -63,8 +67,12 @@ pub fn import_csv<S: Alter, R: Read, O: Write, E: Write>(
     out: &mut O,
     err: &mut E,
 ) -> Result<Status, Stop>
-    ensures imported { IfOk result (spec.IsImported S.Store book.old book.new number (R.remaining reader.old) (O.contents out.old) (O.contents out.new) (E.contents err.old) (E.contents err.new)) }
-    ensures stopped { IfErr result (spec.IsImportStopped S.Store book.old book.new number (R.remaining reader.old) (O.contents out.old) (O.contents out.new) (E.contents err.old) (E.contents err.new)) }
+    ensures imported { IfOk result
+        (spec.IsImported S.Store book.old book.new number (R.remaining reader.old)
+        (O.contents out.old) (O.contents out.new) (E.contents err.old) (E.contents err.new)) }
+    ensures stopped { IfErr result
+        (spec.IsImportStopped S.Store book.old book.new number (R.remaining reader.old)
+        (O.contents out.old) (O.contents out.new) (E.contents err.old) (E.contents err.new)) }
 {
     let text = read_input(alloc, reader)?;
     match schedule_of_csv(alloc, &text) {
@@ -86,8 +94,10 @@ fn add_all<S: Alter, O: Write>(
     out: &mut O,
 ) -> Result<Status, Stop>
     requires { length pairings.items ≤ 10_000 }
-    ensures added { IfOk result (λ status. spec.AreAdded S.Store book.old book.new number pairings.items status (O.contents out.old) (O.contents out.new)) }
-    ensures stopped { IfErr result (spec.AreStopped S.Store book.old book.new number pairings.items (O.contents out.old) (O.contents out.new)) }
+    ensures added { IfOk result (λ status. spec.AreAdded S.Store book.old book.new number
+        pairings.items status (O.contents out.old) (O.contents out.new)) }
+    ensures stopped { IfErr result (spec.AreStopped S.Store book.old book.new number pairings.items
+        (O.contents out.old) (O.contents out.new)) }
 {
     let parts = pairings.len();
     let mut import = Book::<S>::import(number.get(), pairings);
@@ -105,7 +115,8 @@ fn add_all<S: Alter, O: Write>(
 
 /// Writes the line of a part at once.
 fn tell_part<O: Write>(out: &mut O, part: usize, answer: &Answer) -> io::Result<()>
-    ensures { OnOk result (Appends (O.contents out.old) (O.contents out.new) (spec.part_line part (result_of answer.now))) }
+    ensures { OnOk result (Appends (O.contents out.old) (O.contents out.new)
+        (spec.part_line part (result_of answer.now))) }
 {
     match answer {
         Answer::Accepted(_) => writeln!(out, "{part} accepted")?,
@@ -114,7 +125,7 @@ fn tell_part<O: Write>(out: &mut O, part: usize, answer: &Answer) -> io::Result<
     out.flush()
 }
 
-/// How the program ends after a part more: as refused after any that is refused.
+/// Returns how the program ends after a part more: as refused after any that is refused.
 fn status_with(status: Status, answer: &Answer) -> Status
     ensures { result ≡ spec.status_with status (result_of answer.now) }
 {

@@ -1,4 +1,5 @@
-//! `rosterbook init`.
+//! `rosterbook init`: a book of a zone, made in a new or empty file.
+//! Books that are made: `tests/program.sh`. Wrong bodies: `must-fail/`.
 ghost use Rattle.std.specs.Prelude.{◌≡◌, ◌⊎◌, IfErr, IfOk, IsOk};
 ghost use Rattle.std.specs.Io.KnownBytes.{Appends};
 ghost use Rattle.time117.specs.Local.{is_zone_text};
@@ -7,10 +8,10 @@ ghost use Rattle.rosterbook.specs.Program as spec;
 use crate::lines::{refuse, write_line};
 use crate::status::Status;
 use book::{CreateFault, create_file};
+use period_verdict::LineFault;
 use std::io;
 use std::io::Write;
 use time117::{Zone, ZoneFault};
-use verdict::LineFault;
 
 /// Answers `rosterbook init`: reads the zone, makes the book and says so. An error is a writer's.
 pub(crate) fn answer_init<O: Write, E: Write>(
@@ -20,7 +21,8 @@ pub(crate) fn answer_init<O: Write, E: Write>(
     out: &mut O,
     err: &mut E,
 ) -> io::Result<Status>
-    ensures { IfOk result (λ status. spec.Gives (spec.init_answer (is_zone_text zone.now)) status (O.contents out.old) (O.contents out.new) (E.contents err.old) (E.contents err.new)
+    ensures { IfOk result (λ status. spec.Gives (spec.init_answer (is_zone_text zone.now)) status
+        (O.contents out.old) (O.contents out.new) (E.contents err.old) (E.contents err.new)
         ⊎ ((status ≡ Status.Failed) × (out.new ≡ out.old))) }
 {
     match Zone::read(rt.alloc(), zone) {
@@ -35,8 +37,11 @@ fn tell_made<O: Write, E: Write>(
     out: &mut O,
     err: &mut E,
 ) -> io::Result<Status>
-    ensures ready { IsOk made → IfOk result (λ status. spec.Gives spec.ready status (O.contents out.old) (O.contents out.new) (E.contents err.old) (E.contents err.new)) }
-    ensures unmade { IfErr made (λ fault. IfOk result (λ status. spec.Gives (spec.unmade fault) status (O.contents out.old) (O.contents out.new) (E.contents err.old) (E.contents err.new)) × (out.new ≡ out.old)) }
+    ensures ready { IsOk made → IfOk result (λ status. spec.Gives spec.ready status
+        (O.contents out.old) (O.contents out.new) (E.contents err.old) (E.contents err.new)) }
+    ensures unmade { IfErr made
+        (λ fault. IfOk result (λ status. spec.Gives (spec.unmade fault) status (O.contents out.old)
+        (O.contents out.new) (E.contents err.old) (E.contents err.new)) × (out.new ≡ out.old)) }
 {
     match made {
         Ok(()) => {
@@ -52,8 +57,10 @@ fn tell_made<O: Write, E: Write>(
 
 /// Tells why a zone was not read.
 fn refuse_zone<E: Write>(fault: ZoneFault, err: &mut E) -> io::Result<Status>
-    ensures text { fault ≡ ZoneFault.ZoneText → IfOk result (λ status. (status ≡ Status.Refused) × Appends (E.contents err.old) (E.contents err.new) (spec.refusal_line LineFault.Zone)) }
-    ensures memory { fault ≡ ZoneFault.Memory → IfOk result (λ status. (status ≡ Status.Failed) × Appends (E.contents err.old) (E.contents err.new) (spec.refusal_line LineFault.Memory)) }
+    ensures text { fault ≡ ZoneFault.ZoneText → IfOk result (λ status. (status ≡ Status.Refused)
+        × Appends (E.contents err.old) (E.contents err.new) (spec.refusal_line LineFault.Zone)) }
+    ensures memory { fault ≡ ZoneFault.Memory → IfOk result (λ status. (status ≡ Status.Failed)
+        × Appends (E.contents err.old) (E.contents err.new) (spec.refusal_line LineFault.Memory)) }
 {
     let fault = LineFault::from(fault);
     refuse(err, &fault)?;

@@ -1,4 +1,6 @@
 //! Standard input, and the lines of standard output and standard error.
+//! Inputs that are too long: `tests/transcripts/requests.txt` and `schedules.txt`; outputs that fail:
+//! `tests/program.sh`. Wrong bodies: `must-fail-more/`.
 ghost use Rattle.std.specs.Prelude.{◌++◌, IfOk, IfSome, OnOk};
 ghost use Rattle.std.specs.Io.KnownBytes.{Appends};
 ghost use Rattle.rosterbook.specs.Streams as spec;
@@ -12,7 +14,7 @@ use std::io::{Read, Write};
 /// One byte more than a request's body or a schedule may have.
 const MOST: u64 = MOST_BYTES as u64 + 1;
 
-/// What a reader gives, and no more than is needed to find it too long.
+/// Reads what a reader gives, and no more than is needed to find it too long.
 pub(crate) fn read_input<R: Read>(alloc: Global, reader: &mut R) -> io::Result<Vec<u8>>
     ensures { IfOk result (λ input. spec.Reads (R.remaining reader.old) input.items) }
 {
@@ -23,7 +25,8 @@ pub(crate) fn read_input<R: Read>(alloc: Global, reader: &mut R) -> io::Result<V
 
 /// Writes a line at once.
 pub(crate) fn write_line<W: Write>(writer: &mut W, line: &str) -> io::Result<()>
-    ensures { OnOk result (Appends (W.contents writer.old) (W.contents writer.new) (line.now ++ spec.line_end)) }
+    ensures { OnOk result
+        (Appends (W.contents writer.old) (W.contents writer.new) (line.now ++ spec.line_end)) }
 {
     writeln!(writer, "{line}")?;
     writer.flush()
@@ -39,7 +42,8 @@ pub(crate) fn write_text<W: Write>(writer: &mut W, text: &str) -> io::Result<()>
 
 /// Writes the line of a refusal at once.
 pub(crate) fn refuse<W: Write, F: Display>(writer: &mut W, fault: &F) -> io::Result<()>
-    ensures { IfSome (F.output fault.now) (λ text. OnOk result (Appends (W.contents writer.old) (W.contents writer.new) (spec.refused text))) }
+    ensures { IfSome (F.output fault.now) (λ text.
+        OnOk result (Appends (W.contents writer.old) (W.contents writer.new) (spec.refused text))) }
 {
     writeln!(writer, "refused {fault}")?;
     writer.flush()

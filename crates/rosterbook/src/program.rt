@@ -1,3 +1,6 @@
+//! How the program answers what a command line asks for, and how it ends. Its definition is `Answers`
+//! (`specs/Program.antt`).
+//! Each subcommand, and outputs that fail: `tests/program.sh`. Wrong bodies: `must-fail-more/`.
 ghost use Rattle.std.specs.Prelude.{◌≡◌, ◌≢◌, IfOk, IsErr};
 ghost use Rattle.rosterbook.specs.Program as spec;
 ghost use Rattle.rosterbook.specs.Program.{exit_status};
@@ -25,21 +28,25 @@ pub fn perform<R: Read, O: Write, E: Write>(
     out: &mut O,
     err: &mut E,
 ) -> u8
-    ensures { result ≢ exit_status Status.Failed → spec.IsAnswered action.now result (R.remaining reader.old) (O.contents out.old) (O.contents out.new) (E.contents err.old) (E.contents err.new) }
+    ensures { result ≢ exit_status Status.Failed
+        → spec.IsPerformed action.now result (R.remaining reader.old) (O.contents out.old)
+        (O.contents out.new) (E.contents err.old) (E.contents err.new) }
 {
-    let done = answer(rt, action, reader, out, err);
+    let done = try_perform(rt, action, reader, out, err);
     status_after(done, err) as u8
 }
 
-/// The same, up to what stops it.
-fn answer<R: Read, O: Write, E: Write>(
+/// Answers the same, up to what stops it.
+fn try_perform<R: Read, O: Write, E: Write>(
     rt: &HostRuntime,
     action: &Action,
     reader: &mut R,
     out: &mut O,
     err: &mut E,
 ) -> Result<Status, Stop>
-    ensures { IfOk result (λ status. status ≢ Status.Failed → spec.Answers action.now status (R.remaining reader.old) (O.contents out.old) (O.contents out.new) (E.contents err.old) (E.contents err.new)) }
+    ensures { IfOk result
+        (λ status. status ≢ Status.Failed → spec.Performs action.now status (R.remaining reader.old)
+        (O.contents out.old) (O.contents out.new) (E.contents err.old) (E.contents err.new)) }
 {
     match action {
         Action::Duty {
@@ -61,8 +68,8 @@ fn answer<R: Read, O: Write, E: Write>(
     }
 }
 
-/// The status of what was done. After what stopped it that is `Failed`, and `err` is told; where that fails too, the status
-/// alone tells it.
+/// Returns the status of what was done. After what stopped it that is `Failed`, and `err` is told; where that fails
+/// too, the status alone tells it.
 pub(crate) fn status_after<E: Write>(done: Result<Status, Stop>, err: &mut E) -> Status
     ensures failed { IsErr done → result ≡ Status.Failed }
     ensures done { IfOk done (λ status. (status ≡ result) × (err.new ≡ err.old)) }

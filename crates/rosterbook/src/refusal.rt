@@ -1,4 +1,5 @@
 //! What the program writes where `clap` refuses its command line.
+//! Command lines and help: `tests/program.sh`. Wrong bodies: `must-fail-more/`.
 ghost use Rattle.std.specs.Prelude.{◌≡◌, ◌≢◌, ◌⊎◌, IfOk, OnOk, codes};
 ghost use Rattle.std.specs.Io.KnownBytes.{Appends};
 ghost use Rattle.clap.specs.Words.{kind_of};
@@ -17,7 +18,8 @@ use std::io::Write;
 /// line `refused 91 Memory` on `err` with status 3, and where a writer fails the line is
 /// `refused 92 Channel` with status 3.
 pub fn tell_refusal<O: Write, E: Write>(error: &Error, out: &mut O, err: &mut E) -> u8
-    ensures status { (result ≡ exit_status (status_of (kind_of error.now))) ⊎ (result ≡ exit_status Status.Failed) }
+    ensures status { (result ≡ exit_status (status_of (kind_of error.now)))
+        ⊎ (result ≡ exit_status Status.Failed) }
     ensures out { status_of (kind_of error.now) ≢ Status.Done → out.new ≡ out.old }
     ensures err { result ≡ exit_status Status.Done → err.new ≡ err.old }
 {
@@ -25,7 +27,7 @@ pub fn tell_refusal<O: Write, E: Write>(error: &Error, out: &mut O, err: &mut E)
     status_after(done, err) as u8
 }
 
-/// The same, up to what stops it.
+/// Writes the same, up to what stops it.
 fn write_refusal<O: Write, E: Write>(
     error: &Error,
     out: &mut O,
@@ -35,7 +37,8 @@ fn write_refusal<O: Write, E: Write>(
     ensures out { status_of (kind_of error.now) ≢ Status.Done → out.new ≡ out.old }
     ensures err { status_of (kind_of error.now) ≡ Status.Done → err.new ≡ err.old }
     ensures memory { kind_of error.now ≡ ErrorKind.OutOfMemory
-        → OnOk result (Appends (E.contents err.old) (E.contents err.new) (codes "refused 91 Memory\n")) }
+        → OnOk result
+        (Appends (E.contents err.old) (E.contents err.new) (codes "refused 91 Memory\n")) }
 {
     match error.kind() {
         ErrorKind::DisplayHelp | ErrorKind::DisplayVersion => {

@@ -1,4 +1,5 @@
-//! `rosterbook serve`.
+//! `rosterbook serve`: a book, asked over HTTP at a port of 127.0.0.1.
+//! A server and its clients: `tests/serve.py`. Wrong bodies: `must-fail-more/`.
 ghost use Rattle.std.specs.Prelude.{◌≡◌, Err, IfErr, IfOk, Ok, OnOk, false, true};
 ghost use Rattle.std.specs.Io.KnownBytes.{Appends};
 ghost use Rattle.rosterbook.specs.Serving as spec;
@@ -26,7 +27,8 @@ impl<S: Alter> Server for BookServer<S> {
     ghost use Rattle.web.specs.Connections.{IsServedOnce};
     ghost use Rattle.web.specs.declared.connections.ServeFault.TheVariants.{Network};
 
-    ghost serves = { λ old new outcome. IsServedOnce S.Store old.book new.book × (outcome ≡ Err Network → new.book ≡ old.book) };
+    ghost serves = { λ old new outcome. IsServedOnce S.Store old.book new.book
+        × (outcome ≡ Err Network → new.book ≡ old.book) };
 
     ghost fails = { λ server. server.book.failed };
 
@@ -57,7 +59,8 @@ pub(crate) fn answer_serve<O: Write, E: Write>(
     out: &mut O,
     err: &mut E,
 ) -> Result<Status, Stop>
-    ensures { IfOk result (spec.IsServeTold port connections (O.contents out.old) (O.contents out.new) (E.contents err.old) (E.contents err.new)) }
+    ensures { IfOk result (spec.IsServeTold port connections (O.contents out.old)
+        (O.contents out.new) (E.contents err.old) (E.contents err.new)) }
 {
     let book = FileBook::open(rt, file)?;
     match TcpListener::bind(rt, (Ipv4Addr::LOCALHOST, port)) {
@@ -81,7 +84,8 @@ fn serve_once<D: Disk + Drop, O: Write, E: Write>(
     out: &mut O,
     err: &mut E,
 ) -> Result<Status, Stop>
-    ensures { IfOk result (spec.IsServeTold port connections (O.contents out.old) (O.contents out.new) (E.contents err.old) (E.contents err.new)) }
+    ensures { IfOk result (spec.IsServeTold port connections (O.contents out.old)
+        (O.contents out.new) (E.contents err.old) (E.contents err.new)) }
 {
     let done = listen(alloc, &mut server, port, connections, out, err);
     server.close();
@@ -98,8 +102,12 @@ fn listen<V: Server, O: Write, E: Write>(
     out: &mut O,
     err: &mut E,
 ) -> Result<Status, Stop>
-    ensures served { IfOk result (spec.IsServed V.serves V.fails port connections server.old server.new (O.contents out.old) (O.contents out.new) (E.contents err.old) (E.contents err.new)) }
-    ensures stopped { IfErr result (spec.IsServeStopped V.serves V.fails port connections server.old server.new (O.contents out.old) (O.contents out.new) (E.contents err.old) (E.contents err.new)) }
+    ensures served { IfOk result
+        (spec.IsServed V.serves V.fails port connections server.old server.new (O.contents out.old)
+        (O.contents out.new) (E.contents err.old) (E.contents err.new)) }
+    ensures stopped { IfErr result
+        (spec.IsServeStopped V.serves V.fails port connections server.old server.new
+        (O.contents out.old) (O.contents out.new) (E.contents err.old) (E.contents err.new)) }
 {
     tell_port(out, port)?;
     status_of(serve_all(alloc, server, connections, err))
@@ -107,13 +115,14 @@ fn listen<V: Server, O: Write, E: Write>(
 
 /// Tells at once which port is listened on.
 fn tell_port<O: Write>(out: &mut O, port: u16) -> io::Result<()>
-    ensures { OnOk result (Appends (O.contents out.old) (O.contents out.new) (spec.port_line port)) }
+    ensures { OnOk result
+        (Appends (O.contents out.old) (O.contents out.new) (spec.port_line port)) }
 {
     writeln!(out, "listening {port}")?;
     out.flush()
 }
 
-/// How the program ends after connections were served.
+/// Returns how the program ends after connections were served.
 fn status_of(ending: Ending) -> Result<Status, Stop>
     ensures { result ≡ spec.status_of ending.failed ending.told }
 {

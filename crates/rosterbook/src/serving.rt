@@ -1,4 +1,5 @@
-//! Connections that are served one after the other.
+//! Connections that are served one after the other. The definition is `HasEnded` (`specs/Serving.antt`).
+//! A server and its clients: `tests/serve.py`. Wrong bodies: `must-fail/`.
 ghost use Rattle.std.specs.Prelude.{◌≡◌, true};
 ghost use Rattle.std.specs.Io.KnownBytes.{Appends};
 ghost use Rattle.rosterbook.specs.Serving as spec;
@@ -23,7 +24,7 @@ pub(crate) trait Server {
     fn serve_one(&mut self, alloc: Global) -> Result<Served, ServeFault>
         ensures { serves self.old self.new result };
 
-    /// Whether its store has failed.
+    /// Returns whether its store has failed.
     fn failed(&self) -> bool
         ensures { result ≡ fails self.now };
 }
@@ -45,7 +46,8 @@ pub(crate) fn serve_all<V: Server, E: Write>(
     connections: u32,
     err: &mut E,
 ) -> Ending
-    ensures { spec.HasEnded V.serves V.fails connections server.old server.new (E.contents err.old) (E.contents err.new) result.told result.failed }
+    ensures { spec.HasEnded V.serves V.fails connections server.old server.new (E.contents err.old)
+        (E.contents err.new) result.told result.failed }
 {
     let mut told = true;
     for _connection in 0..connections {
@@ -63,7 +65,8 @@ pub(crate) fn serve_all<V: Server, E: Write>(
 
 /// Writes the line of a connection that failed, and answers whether it could be written. Of another nothing is written.
 fn tell_outcome<E: Write>(outcome: Result<Served, ServeFault>, err: &mut E) -> bool
-    ensures { result ≡ true → Appends (E.contents err.old) (E.contents err.new) (spec.failure_line outcome) }
+    ensures { result ≡ true
+        → Appends (E.contents err.old) (E.contents err.new) (spec.failure_line outcome) }
 {
     match outcome {
         Ok(_) => true,

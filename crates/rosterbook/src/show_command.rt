@@ -1,9 +1,10 @@
-//! `rosterbook roster`, `pairing` and `exceedances`.
+//! `rosterbook roster`, `pairing` and `exceedances`: a text by what a book shows.
+//! Worked texts: `tests/reports.py`. Wrong bodies: `must-fail/`.
 ghost use Rattle.std.specs.Prelude.{◌≡◌, ◌≢◌, IfErr, IfOk, IsTrue, string_bytes};
 ghost use Rattle.std.specs.Io.KnownBytes.{Appends};
 ghost use Rattle.report.specs.Faults.{fault_text};
 ghost use Rattle.roster.specs.State.{State};
-ghost use Rattle.book.specs.Kept.{IsAt, IsClean};
+ghost use Rattle.book.specs.Kept.{IsDurablyAt, IsClean};
 ghost use Rattle.store.specs.declared.show.Show.TheVariants as show;
 ghost use Rattle.rosterbook.specs.Showing as spec;
 ghost use Rattle.rosterbook.specs.Streams.{IsOfChannel, refused};
@@ -29,7 +30,8 @@ pub(crate) fn answer_roster<O: Write, E: Write>(
     out: &mut O,
     err: &mut E,
 ) -> Result<Status, Stop>
-    ensures { IfOk result (λ status. (s : State) × spec.IsToldOf s (show.Crew crew.now) status (O.contents out.old) (O.contents out.new) (E.contents err.old) (E.contents err.new)) }
+    ensures { IfOk result (λ status. (s : State) × spec.IsToldOf s (show.Crew crew.now) status
+        (O.contents out.old) (O.contents out.new) (E.contents err.old) (E.contents err.new)) }
 {
     let who = CrewId::new(copy_of(rt.alloc(), crew)?);
     show_file(rt, file, &Show::Crew(who), out, err)
@@ -43,7 +45,8 @@ pub(crate) fn answer_pairing<O: Write, E: Write>(
     out: &mut O,
     err: &mut E,
 ) -> Result<Status, Stop>
-    ensures { IfOk result (λ status. (s : State) × spec.IsToldOf s (show.Pairing pairing.now) status (O.contents out.old) (O.contents out.new) (E.contents err.old) (E.contents err.new)) }
+    ensures { IfOk result (λ status. (s : State) × spec.IsToldOf s (show.Pairing pairing.now) status
+        (O.contents out.old) (O.contents out.new) (E.contents err.old) (E.contents err.new)) }
 {
     let id = PairingId::new(copy_of(rt.alloc(), pairing)?);
     show_file(rt, file, &Show::Pairing(id), out, err)
@@ -56,12 +59,13 @@ pub(crate) fn answer_exceedances<O: Write, E: Write>(
     out: &mut O,
     err: &mut E,
 ) -> Result<Status, Stop>
-    ensures { IfOk result (λ status. (s : State) × spec.IsToldOf s show.Exceedances status (O.contents out.old) (O.contents out.new) (E.contents err.old) (E.contents err.new)) }
+    ensures { IfOk result (λ status. (s : State) × spec.IsToldOf s show.Exceedances status
+        (O.contents out.old) (O.contents out.new) (E.contents err.old) (E.contents err.new)) }
 {
     show_file(rt, file, &Show::Exceedances, out, err)
 }
 
-/// A copy of a text.
+/// Copies a text.
 fn copy_of(alloc: Global, text: &str) -> Result<Text, MemoryFault>
     ensures { IfOk result (λ copy. copy ≡ text.now) }
 {
@@ -76,7 +80,8 @@ fn show_file<O: Write, E: Write>(
     out: &mut O,
     err: &mut E,
 ) -> Result<Status, Stop>
-    ensures { IfOk result (λ status. (s : State) × spec.IsToldOf s what.now status (O.contents out.old) (O.contents out.new) (E.contents err.old) (E.contents err.new)) }
+    ensures { IfOk result (λ status. (s : State) × spec.IsToldOf s what.now status
+        (O.contents out.old) (O.contents out.new) (E.contents err.old) (E.contents err.new)) }
 {
     show_once(rt.alloc(), FileBook::open(rt, file)?, what, out, err)
 }
@@ -89,7 +94,8 @@ fn show_once<D: Disk + Drop, O: Write, E: Write>(
     out: &mut O,
     err: &mut E,
 ) -> Result<Status, Stop>
-    ensures { IfOk result (λ status. (s : State) × spec.IsToldOf s what.now status (O.contents out.old) (O.contents out.new) (E.contents err.old) (E.contents err.new)) }
+    ensures { IfOk result (λ status. (s : State) × spec.IsToldOf s what.now status
+        (O.contents out.old) (O.contents out.new) (E.contents err.old) (E.contents err.new)) }
 {
     show_text(alloc, &mut book, what, out, err)
 }
@@ -103,10 +109,14 @@ pub fn show_text<S: Alter, O: Write, E: Write>(
     out: &mut O,
     err: &mut E,
 ) -> Result<Status, Stop>
-    ensures some { IfOk result (λ status. (s : State) × spec.IsToldOf s what.now status (O.contents out.old) (O.contents out.new) (E.contents err.old) (E.contents err.new)) }
-    ensures told { (s : State) → IsAt S.Store book.old s → IsClean S.Store book.new → IfOk result (λ status. spec.IsToldOf s what.now status (O.contents out.old) (O.contents out.new) (E.contents err.old) (E.contents err.new)) }
-    ensures same { (s : State) → IsAt S.Store book.old s → IsAt S.Store book.new s }
-    ensures stopped { IfErr result (λ stop. spec.IsShowStopped book.new (O.contents out.old) (O.contents out.new) stop) }
+    ensures some { IfOk result (λ status. (s : State) × spec.IsToldOf s what.now status
+        (O.contents out.old) (O.contents out.new) (E.contents err.old) (E.contents err.new)) }
+    ensures told { (s : State) → IsDurablyAt S.Store book.old s → IsClean S.Store book.new
+        → IfOk result (λ status. spec.IsToldOf s what.now status (O.contents out.old)
+        (O.contents out.new) (E.contents err.old) (E.contents err.new)) }
+    ensures kept { (s : State) → IsDurablyAt S.Store book.old s → IsDurablyAt S.Store book.new s }
+    ensures stopped { IfErr result
+        (λ stop. spec.IsShowStopped book.new (O.contents out.old) (O.contents out.new) stop) }
 {
     match shown_by(alloc, book, what)? {
         Ok(text) => {
@@ -119,7 +129,8 @@ pub fn show_text<S: Alter, O: Write, E: Write>(
 
 /// Tells that the member or the pairing isn't there, or stops for want of memory.
 fn tell_absence<E: Write>(fault: ReportFault, err: &mut E) -> Result<Status, Stop>
-    ensures told { IfOk result (λ status. (status ≡ Status.Refused) × (fault ≢ ReportFault.Memory) × Appends (E.contents err.old) (E.contents err.new) (refused (fault_text fault))) }
+    ensures told { IfOk result (λ status. (status ≡ Status.Refused) × (fault ≢ ReportFault.Memory)
+        × Appends (E.contents err.old) (E.contents err.new) (refused (fault_text fault))) }
     ensures stopped { IfErr result IsOfChannel }
 {
     match fault {
@@ -131,22 +142,23 @@ fn tell_absence<E: Write>(fault: ReportFault, err: &mut E) -> Result<Status, Sto
     }
 }
 
-/// A text by what a book shows.
+/// Writes a text by what a book shows.
 fn shown_by<S: Alter>(
     alloc: Global,
     book: &mut Book<S>,
     what: &Show,
 ) -> Result<Result<String, ReportFault>, BookFault>
     ensures some { IfOk result (λ text. (s : State) × spec.IsTextOf s what.now text) }
-    ensures text { (s : State) → IsAt S.Store book.old s → IsClean S.Store book.new → IfOk result (λ text. spec.IsTextOf s what.now text) }
-    ensures same { (s : State) → IsAt S.Store book.old s → IsAt S.Store book.new s }
+    ensures text { (s : State) → IsDurablyAt S.Store book.old s → IsClean S.Store book.new
+        → IfOk result (λ text. spec.IsTextOf s what.now text) }
+    ensures kept { (s : State) → IsDurablyAt S.Store book.old s → IsDurablyAt S.Store book.new s }
     ensures failed { IfErr result (λ fault. fault ≡ BookFault.Store → IsTrue book.new.failed) }
 {
     let roster = book.show(alloc, what)?;
     Ok(text_of(alloc, &roster, what))
 }
 
-/// A text of a roster.
+/// Writes a text of a roster.
 fn text_of(alloc: Global, roster: &Roster, what: &Show) -> Result<String, ReportFault>
     ensures { spec.IsTextOf roster.now what.now result }
 {

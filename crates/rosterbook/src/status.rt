@@ -1,6 +1,8 @@
+//! The four exit statuses.
+//! Wrong bodies: `must-fail/`.
 ghost use Rattle.std.specs.Prelude.{◌≡◌, ◌≢◌};
 
-use verdict::LineFault;
+use period_verdict::LineFault;
 
 /// How the program ends: its exit status.
 #[derive(Clone, Copy, Debug, PartialEq, Eq)]
@@ -16,7 +18,7 @@ pub enum Status {
 }
 
 impl Status {
-    /// How the program ends after a fault of a line.
+    /// Returns how the program ends after a fault of a line.
     pub fn of_fault(fault: LineFault) -> Status
         ensures failed { fault ≡ LineFault.Memory → result ≡ Status.Failed }
         ensures refused { fault ≢ LineFault.Memory → result ≡ Status.Refused }

@@ -1,3 +1,5 @@
+//! What stops the program before its end, and the line that says so: 40 to 42, and 90 to 93.
+//! Outputs that fail: `tests/program.sh`; want of memory: `tests/allocations.py`. Wrong bodies: `must-fail-more/`.
 use book::{BookFault, LoadFault};
 use std::error::Error;
 use std::{fmt, io};

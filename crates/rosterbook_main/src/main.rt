@@ -8,7 +8,7 @@ use std::{env, io};
 
 fn main(rt: HostRuntime) -> ExitCode {
     let (mut reader, mut out, mut err) = (rt.stdin(), rt.stdout(), rt.stderr());
-    let status = match answer(&rt, &mut reader, &mut out, &mut err) {
+    let status = match answer_words(&rt, &mut reader, &mut out, &mut err) {
         Ok(status) => status,
         Err(error) => tell_unread(&error, &mut err) as u8,
     };
@@ -16,7 +16,7 @@ fn main(rt: HostRuntime) -> ExitCode {
 }
 
 /// Answers the command line. An error says why its words could not be read.
-fn answer<R: Read, O: Write, E: Write>(
+fn answer_words<R: Read, O: Write, E: Write>(
     rt: &HostRuntime,
     reader: &mut R,
     out: &mut O,

@@ -2,11 +2,11 @@
 use Rattle.std.proofs.Common.{◌≡◌, sym, ap, subst, ◌∙◌, Result, Ok, Err, IfOk}
 use Rattle.sqlite.specs.State.{State, HasCleanDisk}
 use Rattle.command.specs.Keys.{KeyParts}
-use Rattle.command.specs.declared.order.Order.{Order}
+use Rattle.command.specs.declared.instruction.Instruction.{Instruction}
 use Rattle.roster.specs.Sound.{Sound}
 use Rattle.roster.specs.State as roster
 use Rattle.roster.specs.Steps.{step_of}
-use Rattle.rows.specs.declared.fault.StoreFault.{StoreFault}
+use Rattle.state_rows.specs.declared.fault.StoreFault.{StoreFault}
 use Rattle.part.specs.Part.{Part}
 use Rattle.part.proofs.Answers.{answers_as_whole}
 use Rattle.part.proofs.SoundParts.{part_is_sound}
@@ -16,17 +16,17 @@ pub on_ok : {A E : Type 0} {P Q : A → Type 0} (result : Result A E) → IfOk r
 on_ok (Ok a) p f = f a p
 on_ok (Err e) p f = tt
 
-module _ (old new : State) (key : KeyParts) (order : Order) (result : Result roster.State StoreFault)
-    (told : HasCleanDisk new → (s : roster.State) → Shows old s → IfOk result (λ a. Shows new s × (a ≡ Part s key order)))
+module _ (old new : State) (key : KeyParts) (instruction : Instruction) (result : Result roster.State StoreFault)
+    (told : HasCleanDisk new → (s : roster.State) → Shows old s → IfOk result (λ a. Shows new s × (a ≡ Part s key instruction)))
     (s : roster.State) (shows : Shows old s) (clean : HasCleanDisk new) where
-  pub is_part : IfOk result (λ a. a ≡ Part s key order)
+  pub is_part : IfOk result (λ a. a ≡ Part s key instruction)
   is_part = on_ok result (told clean s shows) (λ a it. it.1)
 
   pub is_sound : IfOk result Sound
-  is_sound = on_ok result (told clean s shows) (λ a it. subst Sound (sym it.1) (part_is_sound s key order shows.sound))
+  is_sound = on_ok result (told clean s shows) (λ a it. subst Sound (sym it.1) (part_is_sound s key instruction shows.sound))
 
-  pub answers : IfOk result (λ a. step_of a key order ≡ step_of s key order)
-  answers = on_ok result (told clean s shows) (λ a it. ap (λ x. step_of x key order) it.1 ∙ answers_as_whole s key order)
+  pub answers : IfOk result (λ a. step_of a key instruction ≡ step_of s key instruction)
+  answers = on_ok result (told clean s shows) (λ a it. ap (λ x. step_of x key instruction) it.1 ∙ answers_as_whole s key instruction)
 
 module _ {A : Type 0} (Is : roster.State → A → Type 0) (old new : State) (result : Result A StoreFault)
     (told : HasCleanDisk new → (s : roster.State) → Shows old s → IfOk result (λ a. Shows new s × Is s a))

@@ -2,12 +2,12 @@
 use Rattle.sqlite.specs.Effect.{Database, IsDatabase}
 use Rattle.roster.specs.State.{State}
 use Rattle.tables.specs.Rows.{IsStored}
-use Rattle.loading.specs.Reading.{IsReadTo}
-use Rattle.rows.specs.Rows.{table, HasJust, In, book, crew, pairing, period, segment, seat, ground_duty, exceedance, request}
+use Rattle.loading.specs.Reading.{AgreesThrough}
+use Rattle.state_rows.specs.Rows.{table, HasJust, In, book, crew, pairing, period, segment, seat, ground_duty, exceedance, request}
 use Rattle.writing.specs.Kept.{IsBookOf}
 
 -- read whole, with the trees that list the schema, it is the book of the state
-pub read_book_of : (s : State) (db : Database) → IsDatabase db → IsReadTo request s db → IsBookOf s db
+pub read_book_of : (s : State) (db : Database) → IsDatabase db → AgreesThrough request s db → IsBookOf s db
 read_book_of s db database read =
     let right = read.right in
     let e = right.0 in

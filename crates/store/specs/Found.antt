@@ -4,7 +4,7 @@ use Rattle.sqlite_trees.specs.Tree.{Trees}
 use Rattle.sqlite.specs.Effect.{Database}
 use Rattle.roster.specs.Sound.{Sound}
 use Rattle.roster.specs.State.{State}
-use Rattle.rows.specs.Rows.{request}
+use Rattle.state_rows.specs.Rows.{request}
 use Rattle.loading.specs.Loading.{IsRight}
 use Rattle.loading.specs.SameRows.{HasInstants}
 use Rattle.writing.specs.Kept.{IsBookOf}

@@ -6,7 +6,7 @@ mod source;
 mod store;
 
 pub use loading::{LoadFault, TableName, database_holds_one_state, rows_say_all};
-pub use rows::StoreFault;
 pub use show::Show;
+pub use state_rows::StoreFault;
 pub use store::Store;
 pub use writing::CreateFault;

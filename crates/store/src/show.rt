@@ -1,4 +1,5 @@
 //! What a book shows: a roster with what one text needs.
+//! Through the program: `tests/reports.py`. Wrong bodies: `must-fail/`.
 
 ghost use Rattle.std.specs.Prelude.{◌≡◌, OnOk};
 ghost use Rattle.part.specs.Sources.{Tells};
@@ -26,7 +27,8 @@ pub(crate) fn gather_shown<T: Source>(
     source: &mut T,
     what: &Show,
 ) -> Result<Roster, T::Fault>
-    ensures told { Tells T.is_clean T.shows (λ s it. it ≡ shown_part s what.now) source.old source.new result }
+    ensures told { Tells T.is_clean T.shows
+        (λ s it. it ≡ shown_part s what.now) source.old source.new result }
     ensures left { T.stays source.old source.new }
     ensures serves { OnOk result (T.serves source.old source.new) }
     ensures there { OnOk result (T.is_there source.new) }

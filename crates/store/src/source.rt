@@ -8,12 +8,12 @@ use lookup::{
     request_at, zone_at,
 };
 use part::Source;
-use roster::{ExceedanceId, PeriodId, Request, Rostered};
-use rows::StoreFault;
+use roster::{ExceedanceId, LoggedCommand, PairingEntry, PeriodId};
 use sqlite::Alter;
+use state_rows::StoreFault;
 use std::alloc::Global;
 use time117::Zone;
-use values::Table;
+use values::OrdMap;
 
 impl<S: Alter> Source for Store<S> {
     ghost use Rattle.std.specs.Prelude.{IsTrue};
@@ -32,13 +32,17 @@ impl<S: Alter> Source for Store<S> {
 
     ghost at_rest = { λ a. nothing_changes (state S.Store a) };
 
-    ghost and_then = { λ a b c p q. changes_then (state S.Store a) (state S.Store b) (state S.Store c) p q };
+    ghost and_then = { λ a b c p q.
+        changes_then (state S.Store a) (state S.Store b) (state S.Store c) p q };
 
-    ghost serves = { λ a b. (HasCleanDisk (state S.Store b) → HasCleanDisk (state S.Store a)) × (HasCleanDisk (state S.Store b) → IsTrue (state S.Store a).is_open → IsTrue (state S.Store b).is_open) };
+    ghost serves = { λ a b. (HasCleanDisk (state S.Store b) → HasCleanDisk (state S.Store a))
+        × (HasCleanDisk (state S.Store b) → IsTrue (state S.Store a).is_open
+        → IsTrue (state S.Store b).is_open) };
 
     ghost serves_at_rest = { λ a. (λ clean. clean, λ clean opened. opened) };
 
-    ghost serves_then = { λ a b c p q. (λ clean. p.0 (q.0 clean), λ clean opened. q.1 clean (p.1 (q.0 clean) opened)) };
+    ghost serves_then = { λ a b c p q.
+        (λ clean. p.0 (q.0 clean), λ clean opened. q.1 clean (p.1 (q.0 clean) opened)) };
 
     ghost is_there = { λ t. IsOpen (state S.Store t) };
 
@@ -48,7 +52,7 @@ impl<S: Alter> Source for Store<S> {
         zone_at(alloc, &mut self.conn)
     }
 
-    fn request(&mut self, alloc: Global, key: Key) -> Result<Option<Request>, StoreFault> {
+    fn request(&mut self, alloc: Global, key: Key) -> Result<Option<LoggedCommand>, StoreFault> {
         request_at(alloc, &mut self.conn, key)
     }
 
@@ -56,7 +60,11 @@ impl<S: Alter> Source for Store<S> {
         member_at(alloc, &mut self.conn, id)
     }
 
-    fn pairing(&mut self, alloc: Global, id: &PairingId) -> Result<Option<Rostered>, StoreFault> {
+    fn pairing(
+        &mut self,
+        alloc: Global,
+        id: &PairingId,
+    ) -> Result<Option<PairingEntry>, StoreFault> {
         pairing_at(alloc, &mut self.conn, id)
     }
 
@@ -72,7 +80,7 @@ impl<S: Alter> Source for Store<S> {
         grounds_held_at(alloc, &mut self.conn, who)
     }
 
-    fn exceedances(&mut self, alloc: Global) -> Result<Table<ExceedanceId, PeriodId>, StoreFault> {
+    fn exceedances(&mut self, alloc: Global) -> Result<OrdMap<ExceedanceId, PeriodId>, StoreFault> {
         exceedances_at(alloc, &mut self.conn)
     }
 }

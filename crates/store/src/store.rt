@@ -1,20 +1,22 @@
-ghost use Rattle.std.specs.Prelude.{ℕ, List, Option, ◌≡◌, ◌≤◌, ◌↔◌, IfOk, IfErr, IsErrAnd, OnOk, OnErr, Err};
-ghost use Rattle.sqlite.specs.State.{HasCleanDisk, IsUnchanged};
+//! The tables of a book as a state: made, loaded, read by key, and changed by commits. What these come to are the
+//! records of `writing/specs/Commits.antt` and of `specs/Loaded.antt`.
+//! Through the program: `tests/tables.py`. Wrong bodies: `must-fail/`.
+ghost use Rattle.std.specs.Prelude.{ℕ, List, Option, ◌≡◌, ◌↔◌, IfOk, IfErr, IsErrAnd, OnOk, Err};
+ghost use Rattle.sqlite.specs.State.{HasCleanDisk};
 ghost use Rattle.sqlite.specs.Held.{state};
-ghost use Rattle.kept.specs.Laws.{IsCommand};
 ghost use Rattle.roster.specs.Sound.{Sound};
 ghost use Rattle.roster.specs.State.{State, empty};
 ghost use Rattle.roster.specs.Steps.{after, step_of};
 ghost use Rattle.part.specs.Part.{Part};
 ghost use Rattle.lookup.specs.Reads.{ChangesNothing, IsOpen, Shows};
-ghost use Rattle.writing.specs.Kept.{KeepOthers, KeepPlain};
-ghost use Rattle.loading.specs.Loading.{Says};
+ghost use Rattle.writing.specs.Commits.{IsCommitted, IsMade, IsNotMade};
+ghost use Rattle.loading.specs.Loading.{Justifies};
 ghost use Rattle.writing.specs.Making.{IsFree};
-ghost use Rattle.writing.specs.Next.{IsNext};
-ghost use Rattle.writing.specs.Outcomes.{Leaves, LeavesSome, LeavesOnly, AddsOnly, AddsNothing, MayAdd, HoldsNow, IsOutside, IsOverBook, ShowsOnly, StaysOpen, StillShows, one, either};
-ghost use Rattle.loading.specs.Reading.{IsReadTo, Saw};
-ghost use Rattle.rows.specs.Rows.{request};
+ghost use Rattle.writing.specs.Outcomes.{CrashLeaves, CrashLeavesSome, CrashAddsNothing, HoldsNow, IsOutside, IsOverBook, one};
+ghost use Rattle.loading.specs.Reading.{AgreesThrough, ReadsAs};
+ghost use Rattle.state_rows.specs.Rows.{request};
 ghost use Rattle.store.specs.Found.{IsFound};
+ghost use Rattle.store.specs.Loaded.{IsLoaded, IsNotLoaded};
 ghost use Rattle.store.specs.Shown.{IsShown, shown_part};
 
 use crate::show::{Show, gather_shown};
@@ -22,8 +24,8 @@ use command::{Command, Key};
 use loading::{LoadFault, read_all};
 use part::gather;
 use roster::{Change, Roster};
-use rows::StoreFault;
 use sqlite::{Alter, Connection};
+use state_rows::StoreFault;
 use std::alloc::Global;
 use std::marker::Model;
 use time117::Zone;
@@ -63,19 +65,11 @@ impl<S: Alter> Store<S> {
         zone: &Zone,
     ) -> Result<Store<S>, (CreateFault, Connection<S>)>
         requires { IsOutside (state S.Store conn) }
-        ensures ok { IfOk result (λ it. Leaves (state S.Store it) (one (empty zone.now))) }
-        ensures made { IfOk result (λ it. HoldsNow (state S.Store it) (empty zone.now)) }
-        ensures some { IfOk result (λ it. LeavesSome (state S.Store it)) }
-        ensures refused { (¬ IsFree (state S.Store conn).now.schema) → IsErrAnd result (λ e. e.0 ≡ CreateFault.NotEmpty) }
-        ensures not_empty { IfErr result (λ e. e.0 ≡ CreateFault.NotEmpty → (¬ IsFree (state S.Store conn).now.schema) × (e.1 ≡ conn)) }
-        ensures memory { IfErr result (λ e. e.0 ≡ CreateFault.Fault StoreFault.Memory → AddsNothing (state S.Store conn) (state S.Store e.1)) }
-        ensures store { IfErr result (λ e. MayAdd (state S.Store conn) (state S.Store e.1) (empty zone.now)) }
-        ensures alone { IfOk result (λ it. LeavesOnly (state S.Store it) (KeepPlain (state S.Store conn).now)) }
-        ensures spared { IfOk result (λ it. ShowsOnly (state S.Store it) (KeepPlain (state S.Store conn).now)) }
-        ensures others { IfErr result (λ e. AddsOnly (state S.Store conn) (state S.Store e.1) (KeepPlain (state S.Store conn).now)) }
-        ensures still_open { IfErr result (λ e. StaysOpen (state S.Store conn) (state S.Store e.1)) }
-        ensures outside { IfErr result (λ e. IsOutside (state S.Store e.1)) }
-        ensures some_left { IfErr result (λ e. LeavesSome (state S.Store e.1)) }
+        ensures made { IfOk result
+            (λ it. IsMade (state S.Store conn) (state S.Store it) (empty zone.now)) }
+        ensures not_made { IfErr result (λ e. IsNotMade S.Store conn e.1 (empty zone.now) e.0) }
+        ensures refused { (¬ IsFree (state S.Store conn).now.schema)
+            → IsErrAnd result (λ e. e.0 ≡ CreateFault.NotEmpty) }
     {
         match make_book(alloc, &mut conn, zone) {
             Ok(()) => Ok(Store { conn }),
@@ -91,17 +85,10 @@ impl<S: Alter> Store<S> {
         mut conn: Connection<S>,
     ) -> Result<(Store<S>, Roster), (LoadFault, Connection<S>)>
         requires { IsOutside (state S.Store conn) }
-        ensures found { IfOk result (λ it. HasCleanDisk (state S.Store it.0) → IsFound it.1 (state S.Store conn).now) }
-        ensures ok { IfOk result (λ it. Leaves (state S.Store it.0) (one it.1)) }
-        ensures now { IfOk result (λ it. HoldsNow (state S.Store it.0) it.1) }
-        ensures some { IfOk result (λ it. LeavesSome (state S.Store it.0)) }
-        ensures unchanged { IfOk result (λ it. HasCleanDisk (state S.Store it.0) → IsUnchanged (state S.Store conn) (state S.Store it.0)) }
-        ensures left { IfOk result (λ it. AddsNothing (state S.Store conn) (state S.Store it.0)) }
-        ensures refused { IfErr result (λ e. HasCleanDisk (state S.Store e.1) → Says e.0 (state S.Store conn).now) }
-        ensures kept { IfErr result (λ e. AddsNothing (state S.Store conn) (state S.Store e.1)) }
-        ensures still_open { IfErr result (λ e. StaysOpen (state S.Store conn) (state S.Store e.1)) }
-        ensures outside { IfErr result (λ e. IsOutside (state S.Store e.1)) }
-        ensures some_left { IfErr result (λ e. LeavesSome (state S.Store e.1)) }
+        ensures loaded { IfOk result
+            (λ it. IsLoaded (state S.Store conn) (state S.Store it.0) it.1) }
+        ensures not_loaded { IfErr result
+            (λ e. IsNotLoaded (state S.Store conn) (state S.Store e.1) e.0) }
     {
         match read(alloc, &mut conn) {
             Ok(roster) => Ok((Store { conn }, roster)),
@@ -112,12 +99,20 @@ impl<S: Alter> Store<S> {
     /// Reads by key what a command needs to be answered under its key, in no transaction, and changes nothing. A store's fault is
     /// 90, want of memory 91.
     pub fn part(&mut self, alloc: Global, key: Key, command: &Command) -> Result<Roster, StoreFault>
-        ensures part { (s : State) → Shows (state S.Store self.old) s → HasCleanDisk (state S.Store self.new) → IfOk result (λ r. r ≡ Part s key command.now) }
-        ensures sound { (s : State) → Shows (state S.Store self.old) s → HasCleanDisk (state S.Store self.new) → IfOk result Sound }
-        ensures answers { (s : State) → Shows (state S.Store self.old) s → HasCleanDisk (state S.Store self.new) → IfOk result (λ r. step_of r key command.now ≡ step_of s key command.now) }
+        // The part, by the state that the tables show: sound, and answering as that state does.
+        ensures part { (s : State) → Shows (state S.Store self.old) s
+            → HasCleanDisk (state S.Store self.new)
+            → IfOk result (λ r. r ≡ Part s key command.now) }
+        ensures sound { (s : State) → Shows (state S.Store self.old) s
+            → HasCleanDisk (state S.Store self.new) → IfOk result Sound }
+        ensures answers { (s : State) → Shows (state S.Store self.old) s
+            → HasCleanDisk (state S.Store self.new)
+            → IfOk result (λ r. step_of r key command.now ≡ step_of s key command.now) }
+
+        // Nothing is changed, and a crash leaves something.
         ensures unchanged { ChangesNothing (state S.Store self.old) (state S.Store self.new) }
         ensures opened { OnOk result (IsOpen (state S.Store self.new)) }
-        ensures some { LeavesSome (state S.Store self.new) }
+        ensures some_left { CrashLeavesSome (state S.Store self.new) }
     {
         let part = gather(alloc, self, key, command);
         // A connection that is live still leaves something.
@@ -128,11 +123,14 @@ impl<S: Alter> Store<S> {
     /// Reads by key a roster with what the text of a member, of a pairing or of the exceedances needs, in no transaction, and
     /// changes nothing. A store's fault is 90, want of memory 91.
     pub fn shown(&mut self, alloc: Global, what: &Show) -> Result<Roster, StoreFault>
-        ensures part { (s : State) → Shows (state S.Store self.old) s → HasCleanDisk (state S.Store self.new) → IfOk result (λ r. r ≡ shown_part s what.now) }
-        ensures text { (s : State) → Shows (state S.Store self.old) s → HasCleanDisk (state S.Store self.new) → IfOk result (λ roster. (text : Option (List ℕ)) → IsShown roster what.now text ↔ IsShown s what.now text) }
+        ensures part { (s : State) → Shows (state S.Store self.old) s
+            → HasCleanDisk (state S.Store self.new) → IfOk result (λ r. r ≡ shown_part s what.now) }
+        ensures text { (s : State) → Shows (state S.Store self.old) s
+            → HasCleanDisk (state S.Store self.new) → IfOk result (λ roster.
+            (text : Option (List ℕ)) → IsShown roster what.now text ↔ IsShown s what.now text) }
         ensures unchanged { ChangesNothing (state S.Store self.old) (state S.Store self.new) }
         ensures opened { OnOk result (IsOpen (state S.Store self.new)) }
-        ensures some { LeavesSome (state S.Store self.new) }
+        ensures some_left { CrashLeavesSome (state S.Store self.new) }
     {
         let shown = gather_shown(alloc, self, what);
         // As in `part`.
@@ -144,25 +142,12 @@ impl<S: Alter> Store<S> {
     /// nothing is changed, and the connection is still open, unless the disk failed meanwhile; after a store's fault (90) all
     /// of the change is kept, or nothing of it.
     pub fn commit(&mut self, alloc: Global, change: &Change) -> Result<(), StoreFault>
-        ensures ok { (s : State) → IsNext s change.now → Leaves (state S.Store self.old) (one s) → OnOk result (Leaves (state S.Store self.new) (one (after s change.now))) }
-        ensures made { (s : State) → IsNext s change.now → Leaves (state S.Store self.old) (one s) → OnOk result (HoldsNow (state S.Store self.new) (after s change.now)) }
-        ensures memory { (s : State) → Leaves (state S.Store self.old) (one s) → result ≡ Err StoreFault.Memory → Leaves (state S.Store self.new) (one s) }
-        ensures store { (s : State) → IsNext s change.now → Leaves (state S.Store self.old) (one s) → result ≡ Err StoreFault.Store → Leaves (state S.Store self.new) (either s (after s change.now)) }
-        ensures alone { OnOk result (LeavesOnly (state S.Store self.new) (KeepOthers (state S.Store self.old).now)) }
-        ensures spared { OnOk result (ShowsOnly (state S.Store self.new) (KeepOthers (state S.Store self.old).now)) }
-        ensures others { AddsOnly (state S.Store self.old) (state S.Store self.new) (KeepOthers (state S.Store self.old).now) }
-        ensures command { OnOk result (IsCommand change.now.command) }
-        ensures in_doubt { result ≡ Err StoreFault.Store → IsCommand change.now.command }
-        ensures shown { OnErr result (StillShows (state S.Store self.old) (state S.Store self.new)) }
-        ensures still_open { result ≡ Err StoreFault.Memory → StaysOpen (state S.Store self.old) (state S.Store self.new) }
-        ensures counts { (state S.Store self.old).faults ≤ (state S.Store self.new).faults }
-        ensures some { LeavesSome (state S.Store self.new) }
-        ensures honest { HasCleanDisk (state S.Store self.new) → HasCleanDisk (state S.Store self.old) }
+        ensures { IsCommitted (state S.Store self.old) (state S.Store self.new) change.now result }
     {
         commit_change(alloc, &mut self.conn, change)
     }
 
-    /// The connection, with nothing changed.
+    /// Hands back the connection, with nothing changed.
     pub fn into_connection(self) -> Connection<S>
         ensures same { result ≡ self }
         ensures outside { IsOutside (state S.Store result) }
@@ -174,17 +159,28 @@ impl<S: Alter> Store<S> {
 
 /// Reads a book, and leaves no transaction open: where it can't be taken back, that is the fault (90).
 fn read<S: Alter>(alloc: Global, conn: &mut Connection<S>) -> Result<Roster, LoadFault>
+    // No transaction is begun.
     requires { IsOutside (state S.Store conn.old) }
-    ensures saw { Saw (λ r. IsReadTo request r (state S.Store conn.old).now) (λ fault. Says fault (state S.Store conn.old).now) (state S.Store conn.old) (state S.Store conn.new) result }
-    ensures found { IfOk result (λ r. HasCleanDisk (state S.Store conn.new) → IsFound r (state S.Store conn.old).now) }
-    ensures ok { IfOk result (λ r. Leaves (state S.Store conn.new) (one r)) }
-    ensures now { IfOk result (λ r. HoldsNow (state S.Store conn.new) r) }
+
+    // What is read, or what is true of the database.
+    ensures saw { ReadsAs (λ r. AgreesThrough request r (state S.Store conn.old).now)
+        (λ fault. Justifies fault (state S.Store conn.old).now) (state S.Store conn.old)
+        (state S.Store conn.new) result }
+    ensures found { IfOk result
+        (λ r. HasCleanDisk (state S.Store conn.new) → IsFound r (state S.Store conn.old).now) }
+
+    // Where it is read: what a crash leaves, and what the tables show.
+    ensures crash { IfOk result (λ r. CrashLeaves (state S.Store conn.new) (one r)) }
+    ensures shown { IfOk result (λ r. HoldsNow (state S.Store conn.new) r) }
     ensures over { IfOk result (λ _. IsOverBook (state S.Store conn.new)) }
-    ensures some { LeavesSome (state S.Store conn.new) }
-    ensures left { AddsNothing (state S.Store conn.old) (state S.Store conn.new) }
+    ensures some_left { CrashLeavesSome (state S.Store conn.new) }
+
+    // Nothing is changed, and no transaction is begun.
+    ensures nothing_new { CrashAddsNothing (state S.Store conn.old) (state S.Store conn.new) }
     ensures outside { IsOutside (state S.Store conn.new) }
 {
     let read = read_all(alloc, conn);
+    // The clauses of these calls say that an open connection shows a database, and outside a transaction what is committed.
     let _live = conn.schema();
     let _settled = conn.is_autocommit();
     if read.is_err() {

@@ -13,7 +13,7 @@ use Rattle.tables.specs.Declarations.{HaveNoDefault, IsTextOf}
 use Rattle.sqlite_schema.specs.declared.schema.Column.{Column}
 use Rattle.std.proofs.lemmas.List.Elements.{All-from_recursion}
 use Rattle.tables.specs.Records.{book_row}
-use Rattle.tables.specs.Rows.{Makes, IsTooBig}
+use Rattle.tables.specs.Rows.{Makes, begins_with, IsTooBig}
 use Rattle.tables.proofs.Inserting.{cast_null, cast_int}
 use Rattle.tables.proofs.Statements.{Writer, Stopper}
 use Rattle.tables.proofs.Holding.{InsertsFree, insert_writer}
@@ -21,10 +21,13 @@ use Rattle.tables.specs.Calls.{RefusesRow}
 use Rattle.tables.proofs.RefusedRows.{insert_stopper}
 use Rattle.tables.proofs.Creating.{IsMaker, create_writer, create_stopper}
 use Rattle.tables.proofs.Answering.{plain_query}
-use Rattle.tables.proofs.Selecting.{projected}
+use Rattle.tables.proofs.Selecting.{projected, Reader, reader}
 use Rattle.tables.proofs.LoadingLemmas.{Loader, loader, by_number}
 use Rattle.sqlite_ast.specs.declared.Statement.TheVariants as written
-use Rattle.tables.proofs.Compiling.{IsRead, IsNamed, is_read, insert_into, insert_meant, numbered_meant, select_from, words_of, outputs_of, rowid_output, shown_names, shown_one, sort_by, last_of, no_carried}
+use Rattle.tables.proofs.Compiling.{IsRead, IsNamed, is_read, insert_into, insert_meant, numbered_meant, rows_meant, select_from, words_of, outputs_of, rowid_output, shown_names, shown_one, sort_by, last_of, no_carried, is_bare}
+use Rattle.sqlite.specs.Listing.{understood}
+use Rattle.sqlite_schema.specs.declared.schema.Schema.{Schema}
+use Rattle.tables.specs.Texts.{IsBare}
 
 named : IsNamed book_table
 unfolding everything
@@ -83,3 +86,23 @@ load_book_read =
 
 pub load_book : (old : State) → IsTable book_table old.now.schema → Loader load_book_text book_table old
 load_book = loader book_table _ _ load_book_read refl refl
+
+-- ----
+
+abbrev book_records_text : List ℕ
+book_records_text = codes "SELECT one, version, zone FROM book"
+
+book_records_read : IsRead book_table book_records_text 0 (λ at tree. Select (record { lets = []; body = plain_query tree [] (projected 3 1) [] }) (shown_names (outputs_of book_table)))
+unfolding everything
+book_records_read =
+    is_read book_table _ (written.Select (select_from book_table.name (words_of book_table) None [])) _ (record { went = refl; is = refl; untimed = refl; ends = refl; given = refl })
+    (rows_meant book_table named None [] [] [] (λ tree. plain_query tree [] (projected 3 1) []) 99997 99997 (last_of book_table.columns no_carried) (last_of book_table.columns no_carried)
+    (λ schema at tree known. simp (known.is) refl) (λ schema at tree known. refl) (λ schema at tree known. simp (known.high, known.by_tree) refl))
+
+pub book_records : (old : State) → IsTable book_table old.now.schema → Reader book_records_text [] book_table (begins_with []) old
+book_records = reader book_table [] _ _ book_records_read [] _ (λ _. refl) refl refl
+
+pub book_records_bare : (schema : Schema) → IsBare (understood schema book_records_text)
+unfolding everything
+book_records_bare = is_bare book_records_text 0 (written.Select (select_from book_table.name (words_of book_table) None []))
+    (record { went = refl; is = refl; untimed = refl; ends = refl; given = refl }) (λ schema base. refl) (λ schema. refl)

@@ -22,7 +22,7 @@ use Rattle.sqlite.specs.State.{State, Survives, CommitsBy, HasCleanDisk}
 use Rattle.sqlite.proofs.StateLemmas.{survives_weaker}
 use Rattle.tables.specs.Schema.{BookTable, IsTable, table_of}
 use Rattle.tables.specs.Rows.{cells, stored, same_at, Inserts, IsStored, HasKeyOf}
-use Rattle.tables.specs.Calls.{Ran, MayLeave, RefusesHeld, Faults}
+use Rattle.tables.specs.Calls.{Ran, CrashMayLeave, RefusesHeld, Faults}
 use Rattle.tables.specs.Texts.{Performs}
 use Rattle.tables.specs.declared.table_fault.TableFault.{TableFault}
 use Rattle.tables.proofs.Known.{place, stored_is}
@@ -89,7 +89,7 @@ module _ {text : List ℕ} {params : Row} {kept : BookTable} {x : Row} {B : Type
   refuses_by (Ok a) performs clean numbered held = absurd ((ran_by old new owed writer survives (Ok a) performs clean).0.1 numbered held)
   refuses_by (Err fault) performs clean numbered held = refl
 
-  pub inserts_left_by : MayLeave (Inserts kept x) old new
+  pub inserts_left_by : CrashMayLeave (Inserts kept x) old new
   inserts_left_by = survives_weaker old new _ _ (λ _ db h. (h.0, h.1, h.2.0, h.3)) (left_by old new owed writer survives)
 
 -- the same where the parameters are given as other values that are found to be these
@@ -97,7 +97,7 @@ pub record Inserted {A : Type 0} (kept : BookTable) (x : Row) (TooBig Why : Type
   pub ran : Ran (Inserts kept x) old new result
   pub held : RefusesHeld kept x old new result
   pub fault : Faults TooBig Why old new result
-  pub crash : MayLeave (Inserts kept x) old new
+  pub crash : CrashMayLeave (Inserts kept x) old new
 
 pub inserted_by : {A : Type 0} {text : List ℕ} {given params : Row} {kept : BookTable} {x : Row} {TooBig Why B : Type 0} (old new : State) → given ≡ params → (HasCleanDisk old → B)
     → (B → Writer text params (InsertsFree kept x) old) → (B → Stopper text params TooBig Why old) → Survives old new (CommitsBy text given old) → (result : Result A TableFault) → (HasCleanDisk new → Performs text given old new result)

@@ -20,13 +20,13 @@ use Rattle.tables.proofs.Inserting.{plain_mode}
 use Rattle.tables.specs.Schema.{BookTable, IsTable}
 use Rattle.tables.proofs.Known.{place, known}
 use Rattle.tables.proofs.Compiling.{IsRead}
-use Rattle.tables.specs.Calls.{Ran, MayLeave, Leaves, Stops, Faults}
+use Rattle.tables.specs.Calls.{Ran, CrashMayLeave, IsUnchangedOrUndone, Stops, Faults}
 use Rattle.tables.specs.Texts.{Performs}
 use Rattle.tables.specs.Faults.{fault_of}
 use Rattle.tables.specs.declared.table_fault.TableFault.{TableFault}
 use Rattle.tables.specs.declared.table_fault.TableFault.TheVariants.{Store}
 
-pub failed : (text : List ℕ) (params : Row) (old new : State) (e : Error) → Executes text params old new (Err e) → Leaves old new
+pub failed : (text : List ℕ) (params : Row) (old new : State) (e : Error) → Executes text params old new (Err e) → IsUnchangedOrUndone old new
 unfolding ExecutesIn IsNotRun
 failed text params old new e (inl (inl none)) = inl none.1
 failed text params old new e (inl (inr fails)) = inr fails.3
@@ -38,7 +38,7 @@ failed text params old new e (inr ran) = elim (cases_Bool (shows_rows false ran.
 -- what is known of a text that writes, from a state on
 pub record Writer (text : List ℕ) (params : Row) (Is : Database → Database → Type 0) (old : State) : Type 1 where
   pub ran : {A : Type 0} (new : State) (result : Result A TableFault) → Performs text params old new result → Ran Is old new result
-  pub left : (new : State) → Survives old new (CommitsBy text params old) → MayLeave Is old new
+  pub left : (new : State) → Survives old new (CommitsBy text params old) → CrashMayLeave Is old new
 
 module _ (text : List ℕ) (params : Row) (command : Command) (schema : Schema) (is : command_of (understood schema text) ≡ command) (plain : IsPlain (understood schema text))
     (Is : Database → Database → Type 0) (old : State) (has : old.now.schema ≡ schema)
@@ -109,14 +109,14 @@ module _ {text : List ℕ} {params : Row} {Is : Database → Database → Type 0
   pub ran_by : {A : Type 0} (result : Result A TableFault) → (HasCleanDisk new → Performs text params old new result) → Ran Is old new result
   ran_by result performs clean = (writer (owed (omega (arith, survives.clean)))).ran new result (performs clean) clean
 
-  pub left_by : MayLeave Is old new
+  pub left_by : CrashMayLeave Is old new
   left_by = later old new _ _ survives (λ clean. (writer (owed (omega (arith, survives.clean)))).left new survives)
 
 -- all three clauses, where the parameters are given as values that are found to be these
 pub record Written {A : Type 0} (Is : Database → Database → Type 0) (TooBig Why : Type 0) (old new : State) (result : Result A TableFault) : Type 0 where
   pub ran : Ran Is old new result
   pub fault : Faults TooBig Why old new result
-  pub crash : MayLeave Is old new
+  pub crash : CrashMayLeave Is old new
 
 module _ {text : List ℕ} {given params : Row} {Is : Database → Database → Type 0} {TooBig Why : Type 0} (old new : State) (is : given ≡ params) where
   pub written_by : {B : Type 0} → (HasCleanDisk old → B) → (B → Writer text params Is old) → (B → Stopper text params TooBig Why old) → Survives old new (CommitsBy text given old)

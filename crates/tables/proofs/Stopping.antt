@@ -18,7 +18,7 @@ use Rattle.sqlite.specs.Does.{Does}
 use Rattle.sqlite.specs.Listing.{understood}
 use Rattle.sqlite.specs.State.{State, Fails, HasCause, IsUnchanged, Executes, ExecutesIn, IsNotRun, IsNoStatement, IsMisplaced, IsStatement, RunsAlone, shows_rows, text_of, mode_of}
 use Rattle.sqlite.proofs.Callers.{IsPlain, command_of, statement_of}
-use Rattle.tables.specs.Calls.{Leaves, Failed, Stops}
+use Rattle.tables.specs.Calls.{IsUnchangedOrUndone, Failed, Stops}
 use Rattle.tables.specs.Faults.{fault_of}
 use Rattle.tables.specs.declared.table_fault.TableFault.{TableFault}
 use Rattle.tables.specs.declared.table_fault.TableFault.TheVariants.{Store, NotARecord}
@@ -28,7 +28,7 @@ some_fault (SqliteFailure OutOfMemory) h = cc
 some_fault _ h = cc
 
 -- what stops a call leaves the connection unchanged or rolled back, and is no word on a record
-pub left : (too_big why : Type 0) (old new : State) (fault : TableFault) → Stops too_big why old new fault → Leaves old new
+pub left : (too_big why : Type 0) (old new : State) (fault : TableFault) → Stops too_big why old new fault → IsUnchangedOrUndone old new
 left too_big why old new fault (inl fails) = inr fails.1.3
 left too_big why old new fault (inr refused) = inl refused.1
 

@@ -17,9 +17,11 @@ pub record IsSimple (t : Table) : Type 0 where
   pub computed : t.computed ≡ []
   pub stamps : t.stamps ≡ record { places = []; terms = []; formats = [] }
 
+-- no column has a default value
 abbrev pub HaveNoDefault : List Column → Type 0
 HaveNoDefault = All (λ c. c.default ≡ Null)
 
+-- two tables have the same name, columns, primary key, unique keys and orders
 pub record IsLike (a b : Table) : Type 0 where
   pub name : a.name ≡ b.name
   pub columns : a.columns ≡ b.columns

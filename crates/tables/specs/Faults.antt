@@ -6,10 +6,12 @@ use Rattle.sqlite.specs.declared.error.ErrorCode.TheVariants.{OutOfMemory}
 use Rattle.tables.specs.declared.table_fault.TableFault.{TableFault}
 use Rattle.tables.specs.declared.table_fault.TableFault.TheVariants.{Store, Memory, NotARecord}
 
+-- want of memory is 91, and every other failure is 90
 abbrev pub fault_of : Error → TableFault
 fault_of (SqliteFailure OutOfMemory) = Memory
 fault_of _ = Store
 
+-- a fault as it is printed
 abbrev pub fault_text : TableFault → List ℕ
 fault_text Store = codes "90 Store"
 fault_text Memory = codes "91 Memory"

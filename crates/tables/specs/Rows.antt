@@ -47,6 +47,7 @@ pub record AreNumbered (rows : List Row) : Type 0 where
   pub numbered : (r : Row) → Has rows r → is_int (rowid r) ≡ true
   pub apart : (a b : Row) → Has rows a → Has rows b → value_cmp (rowid a) (rowid b) ≡ Equal → a ≡ b
 
+-- each row of the table is stored under a number of its own
 abbrev pub IsStored : BookTable → Database → Type 0
 IsStored table db = AreNumbered (stored table db)
 
@@ -57,6 +58,7 @@ abbrev pub begins_from : ℕ → List Value → Row → Bool
 begins_from at [] row = true
 begins_from at (v ∷ vs) row = is_eq (value_cmp (column row at) v) && begins_from (at + 1) vs row
 
+-- the first columns are these
 abbrev pub begins_with : List Value → Row → Bool
 begins_with = begins_from 0
 

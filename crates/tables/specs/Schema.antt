@@ -11,6 +11,7 @@ use Rattle.sqlite_schema.specs.declared.schema.Table.{Table}
 use Rattle.sqlite_schema.specs.declared.schema.Schema.{Schema}
 use Rattle.sqlite_schema.specs.Names.{same_name}
 
+-- a STRICT column of a kind of values, NOT NULL where it is required
 abbrev pub strict_column : Bool → Kind → List ℕ → Column
 strict_column is_required kind name =
     record { name = name; kind = kind; is_strict = true; not_null = is_required; default = Null; collation = Binary }
@@ -19,9 +20,11 @@ strict_column is_required kind name =
 abbrev pub number : List ℕ → Column
 number = strict_column true Integer
 
+-- a column of texts
 abbrev pub words : List ℕ → Column
 words = strict_column true Text
 
+-- a column of whole numbers that may be missing
 abbrev pub number_if_any : List ℕ → Column
 number_if_any = strict_column false Integer
 
@@ -32,6 +35,7 @@ pub record BookTable : Type 0 where
   pub primary : List ℕ
   pub keys : List (List ℕ)
 
+-- the book itself, in one row of the number 1: the version of the tables, and the zone
 abbrev pub book_table : BookTable
 book_table = record {
   name = codes "book";
@@ -40,6 +44,7 @@ book_table = record {
   keys = (1 ∷ []) ∷ [];
 }
 
+-- the members, by id
 abbrev pub crew_table : BookTable
 crew_table = record {
   name = codes "crew";
@@ -48,6 +53,7 @@ crew_table = record {
   keys = (1 ∷ []) ∷ [];
 }
 
+-- the pairings, by id
 abbrev pub pairing_table : BookTable
 pairing_table = record {
   name = codes "pairing";
@@ -56,6 +62,7 @@ pairing_table = record {
   keys = (1 ∷ []) ∷ [];
 }
 
+-- the periods of pairings, by pairing and number, with planned and actual times
 abbrev pub period_table : BookTable
 period_table = record {
   name = codes "period";
@@ -66,6 +73,7 @@ period_table = record {
   keys = (1 ∷ 2 ∷ []) ∷ [];
 }
 
+-- the segments of periods, by pairing, period and number, with planned and actual times
 abbrev pub segment_table : BookTable
 segment_table = record {
   name = codes "segment";
@@ -77,6 +85,7 @@ segment_table = record {
   keys = (1 ∷ 2 ∷ 3 ∷ []) ∷ [];
 }
 
+-- the seats that are held, by pairing and seat, and by member
 abbrev pub seat_table : BookTable
 seat_table = record {
   name = codes "seat";
@@ -85,6 +94,7 @@ seat_table = record {
   keys = (1 ∷ 2 ∷ []) ∷ (3 ∷ 1 ∷ []) ∷ [];
 }
 
+-- the ground duties, by id, and by member
 abbrev pub ground_table : BookTable
 ground_table = record {
   name = codes "ground";
@@ -93,6 +103,7 @@ ground_table = record {
   keys = (1 ∷ []) ∷ (2 ∷ 1 ∷ []) ∷ [];
 }
 
+-- the exceedances, by the key that recorded them, member and section, with the period
 abbrev pub exceedance_table : BookTable
 exceedance_table = record {
   name = codes "exceedance";
@@ -103,6 +114,7 @@ exceedance_table = record {
   keys = (1 ∷ 2 ∷ 3 ∷ 4 ∷ []) ∷ [];
 }
 
+-- the commands that were accepted, by their keys, with their replies
 abbrev pub request_table : BookTable
 request_table = record {
   name = codes "request";
@@ -129,6 +141,7 @@ table_of it tree = record {
   is_counted = false;
 }
 
+-- the nine tables of a book, in the order in which they are made
 abbrev pub book_tables : List BookTable
 book_tables =
     book_table ∷ crew_table ∷ pairing_table ∷ period_table ∷ segment_table ∷ seat_table ∷ ground_table ∷ exceedance_table
@@ -161,6 +174,7 @@ NoneRefersTo name schema = AllByRecursion (λ t. AllByRecursion (λ ref. same_na
 abbrev pub IsUnreferenced : BookTable → Schema → Type 0
 IsUnreferenced it = NoneRefersTo it.name
 
+-- the table is there as it is declared, and no foreign key refers to it
 abbrev pub IsOfBook : BookTable → Schema → Type 0
 IsOfBook it schema = IsTable it schema × IsUnreferenced it schema
 
@@ -168,5 +182,6 @@ IsOfBook it schema = IsTable it schema × IsUnreferenced it schema
 abbrev pub IsBook : Schema → Type 0
 IsBook schema = AllByRecursion (λ it. IsOfBook it schema) book_tables
 
+-- the schema of an empty database
 abbrev pub empty_schema : Schema
 empty_schema = record { tables = []; indexes = []; views = [] }

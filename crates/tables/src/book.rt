@@ -1,21 +1,22 @@
-//! The table `book`.
+//! The table `book`: the one row that says what the file is.
+//! Its rows, right and damaged: `tests/tables.py`.
 
-ghost use Rattle.std.specs.Prelude.{⊤, map, IfErr, IfOk, IsTrue, ◌↔◌, ◌≡◌};
+ghost use Rattle.std.specs.Prelude.{⊤, [], map, IfErr, IfOk, IsTrue, ◌↔◌, ◌≡◌};
 ghost use Rattle.sqlite.specs.Held.{state};
 ghost use Rattle.tables.specs.Schema.{book_table, IsTable, HasColumns};
-ghost use Rattle.tables.specs.Rows.{Makes, Inserts, IsTooBig};
+ghost use Rattle.tables.specs.Rows.{Makes, Inserts, begins_with, IsTooBig};
 ghost use Rattle.tables.specs.Records.{book_row, IsBookRow};
-ghost use Rattle.tables.specs.Calls.{HoldsTable, Ran, RefusesHeld, MayLeave, Loaded, LeavesNothing, Faults, RefusesRow};
+ghost use Rattle.tables.specs.Calls.{HoldsTable, HoldsWhileOpen, Ran, RefusesHeld, CrashMayLeave, Read, Loaded, CrashLeavesNoMore, Faults, RefusesRow};
 ghost use Rattle.tables.specs.declared.table_fault.TableFault.TheVariants as fault;
 
 use crate::declared::{has_columns, is_there};
 use crate::loading::load;
-use crate::reading::{Record, column, has_width};
+use crate::reading::{Record, column, has_width, read_all};
 use crate::statement::run;
 use crate::table_fault::TableFault;
 use sqlite::{Alter, Connection, Row, params};
 use std::alloc::Global;
-use values::{Copied, MemoryFault, Text};
+use values::{MemoryFault, Text, TryClone};
 
 /// What the file is: the one row of the table `book`.
 #[derive(Drop)]
@@ -28,12 +29,12 @@ pub struct BookRecord {
     pub zone: Text,
 }
 
-impl Copied for BookRecord {
-    fn copy(&self, alloc: Global) -> Result<BookRecord, MemoryFault> {
+impl TryClone for BookRecord {
+    fn try_clone(&self, alloc: Global) -> Result<BookRecord, MemoryFault> {
         Ok(BookRecord {
             one: self.one,
             version: self.version,
-            zone: self.zone.copy(alloc)?,
+            zone: self.zone.try_clone(alloc)?,
         })
     }
 }
@@ -60,17 +61,19 @@ impl Record for BookRecord {
 const CREATE: &str =
     "CREATE TABLE book (one INTEGER NOT NULL UNIQUE, version INTEGER NOT NULL, zone TEXT NOT NULL) STRICT";
 
-/// Whether there is a table `book` with these columns.
+/// Returns whether there is a table `book` with these columns.
 pub fn has_book_columns<S: Alter>(alloc: Global, conn: &Connection<S>) -> Result<bool, TableFault>
-    ensures has { IfOk result (λ yes. IsTrue yes ↔ HasColumns book_table (state S.Store conn.now).now.schema) }
+    ensures has { IfOk result
+        (λ yes. IsTrue yes ↔ HasColumns book_table (state S.Store conn.now).now.schema) }
     ensures fault { IfErr result (λ e. e ≡ fault.Memory) }
 {
     has_columns(alloc, conn, CREATE)
 }
 
-/// Whether the table is there as `create_book` declares it, in a tree of its own.
+/// Returns whether the table is there as `create_book` declares it, in a tree of its own.
 pub fn is_book_there<S: Alter>(alloc: Global, conn: &Connection<S>) -> Result<bool, TableFault>
-    ensures there { IfOk result (λ yes. IsTrue yes ↔ IsTable book_table (state S.Store conn.now).now.schema) }
+    ensures there { IfOk result
+        (λ yes. IsTrue yes ↔ IsTable book_table (state S.Store conn.now).now.schema) }
     ensures fault { IfErr result (λ e. e ≡ fault.Memory) }
 {
     is_there(alloc, conn, CREATE)
@@ -80,7 +83,8 @@ pub fn is_book_there<S: Alter>(alloc: Global, conn: &Connection<S>) -> Result<bo
 pub fn create_book<S: Alter>(conn: &mut Connection<S>) -> Result<(), TableFault>
     ensures ran { Ran (Makes book_table) (state S.Store conn.old) (state S.Store conn.new) result }
     ensures fault { Faults ⊥ ⊤ (state S.Store conn.old) (state S.Store conn.new) result }
-    ensures crash { MayLeave (Makes book_table) (state S.Store conn.old) (state S.Store conn.new) }
+    ensures crash { CrashMayLeave (Makes book_table) (state S.Store conn.old)
+        (state S.Store conn.new) }
 {
     run(conn, CREATE, &[])
 }
@@ -88,10 +92,15 @@ pub fn create_book<S: Alter>(conn: &mut Connection<S>) -> Result<(), TableFault>
 /// Adds the row of the book.
 pub fn insert_book<S: Alter>(conn: &mut Connection<S>, book: &BookRecord) -> Result<(), TableFault>
     requires { HoldsTable book_table (state S.Store conn.old) }
-    ensures ran { Ran (Inserts book_table (book_row book.now)) (state S.Store conn.old) (state S.Store conn.new) result }
-    ensures held { RefusesHeld book_table (book_row book.now) (state S.Store conn.old) (state S.Store conn.new) result }
-    ensures fault { Faults (IsTooBig book_table (book_row book.now) (state S.Store conn.old).now) (RefusesRow book_table (book_row book.now) (state S.Store conn.old)) (state S.Store conn.old) (state S.Store conn.new) result }
-    ensures crash { MayLeave (Inserts book_table (book_row book.now)) (state S.Store conn.old) (state S.Store conn.new) }
+    ensures ran { Ran (Inserts book_table (book_row book.now)) (state S.Store conn.old)
+        (state S.Store conn.new) result }
+    ensures held { RefusesHeld book_table (book_row book.now) (state S.Store conn.old)
+        (state S.Store conn.new) result }
+    ensures fault { Faults (IsTooBig book_table (book_row book.now) (state S.Store conn.old).now)
+        (RefusesRow book_table (book_row book.now) (state S.Store conn.old))
+        (state S.Store conn.old) (state S.Store conn.new) result }
+    ensures crash { CrashMayLeave (Inserts book_table (book_row book.now)) (state S.Store conn.old)
+        (state S.Store conn.new) }
 {
     run(
         conn,
@@ -100,18 +109,32 @@ pub fn insert_book<S: Alter>(conn: &mut Connection<S>, book: &BookRecord) -> Res
     )
 }
 
-/// All records of the table, in any order.
+/// Reads all records of the table, in any order.
 pub fn load_book<S: Alter>(
     alloc: Global,
     conn: &mut Connection<S>,
 ) -> Result<Vec<BookRecord>, TableFault>
     requires { HoldsTable book_table (state S.Store conn.old) }
-    ensures loaded { Loaded book_table IsBookRow (λ found. map book_row found.items) (state S.Store conn.old) (state S.Store conn.new) result }
-    ensures crash { LeavesNothing (state S.Store conn.old) (state S.Store conn.new) }
+    ensures loaded { Loaded book_table IsBookRow (λ found. map book_row found.items)
+        (state S.Store conn.old) (state S.Store conn.new) result }
+    ensures crash { CrashLeavesNoMore (state S.Store conn.old) (state S.Store conn.new) }
 {
     load(
         alloc,
         conn,
         "SELECT rowid, one, version, zone FROM book ORDER BY rowid",
     )
+}
+
+/// Reads the book's own record, of which there is one.
+pub fn book_records<S: Alter>(
+    alloc: Global,
+    conn: &mut Connection<S>,
+) -> Result<Vec<BookRecord>, TableFault>
+    requires { HoldsWhileOpen book_table (state S.Store conn.old) }
+    ensures read { Read book_table (begins_with []) IsBookRow (λ found. map book_row found.items)
+        (state S.Store conn.old) (state S.Store conn.new) result }
+    ensures crash { CrashLeavesNoMore (state S.Store conn.old) (state S.Store conn.new) }
+{
+    read_all(alloc, conn, "SELECT one, version, zone FROM book", &[])
 }

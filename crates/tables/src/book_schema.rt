@@ -1,4 +1,5 @@
 //! Whether a database has the tables of a book, as their texts declare them.
+//! Files that lack a table, or have another: `tests/tables.py`. Wrong bodies: `must-fail-more/`.
 
 ghost use Rattle.std.specs.Prelude.{◌≡◌, ◌↔◌, IfErr, IfOk, IsTrue, IsSome, not};
 ghost use Rattle.std.specs.List.{list_all};
@@ -23,14 +24,14 @@ use sqlite_schema::names::same_name;
 use sqlite_schema::schema::{Reference, Table};
 use std::alloc::Global;
 
-/// Whether there is a table of this name, whatever its columns are. Letters of ASCII match in either case.
+/// Returns whether there is a table of this name, whatever its columns are. Letters of ASCII match in either case.
 pub fn has_table<S: Alter>(conn: &Connection<S>, name: &str) -> bool
     ensures { IsTrue result ↔ IsSome (table_found (state S.Store conn.now).now.schema name.now) }
 {
     conn.schema().table_named(name.as_bytes()).is_some()
 }
 
-/// Whether there is no table, index or view.
+/// Returns whether there is no table, index or view.
 pub fn is_empty<S: Alter>(conn: &Connection<S>) -> bool
     ensures { IsTrue result ↔ ((state S.Store conn.now).now.schema ≡ empty_schema) }
 {
@@ -54,7 +55,7 @@ fn is_not_parent(tables: &[Table], name: &[u8]) -> bool
         .all(|table| refer_elsewhere(table.references.as_slice(), name))
 }
 
-/// Whether no foreign key refers to a table of this name.
+/// Returns whether no foreign key refers to a table of this name.
 pub fn is_unreferenced<S: Alter>(conn: &Connection<S>, name: &str) -> bool
     ensures { IsTrue result ↔ NoneRefersTo name.now (state S.Store conn.now).now.schema }
 {
@@ -62,7 +63,10 @@ pub fn is_unreferenced<S: Alter>(conn: &Connection<S>, name: &str) -> bool
 }
 
 fn begins_as_book<S: Alter>(alloc: Global, conn: &Connection<S>) -> Result<bool, TableFault>
-    ensures there { IfOk result (λ yes. IsTrue yes ↔ IsOfBook book_table (state S.Store conn.now).now.schema × IsOfBook crew_table (state S.Store conn.now).now.schema × IsOfBook pairing_table (state S.Store conn.now).now.schema) }
+    ensures there { IfOk result
+        (λ yes. IsTrue yes ↔ IsOfBook book_table (state S.Store conn.now).now.schema
+        × IsOfBook crew_table (state S.Store conn.now).now.schema
+        × IsOfBook pairing_table (state S.Store conn.now).now.schema) }
     ensures fault { IfErr result (λ e. e ≡ fault.Memory) }
 {
     Ok(
@@ -76,7 +80,10 @@ fn begins_as_book<S: Alter>(alloc: Global, conn: &Connection<S>) -> Result<bool,
 }
 
 fn goes_on_as_book<S: Alter>(alloc: Global, conn: &Connection<S>) -> Result<bool, TableFault>
-    ensures there { IfOk result (λ yes. IsTrue yes ↔ IsOfBook period_table (state S.Store conn.now).now.schema × IsOfBook segment_table (state S.Store conn.now).now.schema × IsOfBook seat_table (state S.Store conn.now).now.schema) }
+    ensures there { IfOk result
+        (λ yes. IsTrue yes ↔ IsOfBook period_table (state S.Store conn.now).now.schema
+        × IsOfBook segment_table (state S.Store conn.now).now.schema
+        × IsOfBook seat_table (state S.Store conn.now).now.schema) }
     ensures fault { IfErr result (λ e. e ≡ fault.Memory) }
 {
     Ok(
@@ -90,7 +97,10 @@ fn goes_on_as_book<S: Alter>(alloc: Global, conn: &Connection<S>) -> Result<bool
 }
 
 fn ends_as_book<S: Alter>(alloc: Global, conn: &Connection<S>) -> Result<bool, TableFault>
-    ensures there { IfOk result (λ yes. IsTrue yes ↔ IsOfBook ground_table (state S.Store conn.now).now.schema × IsOfBook exceedance_table (state S.Store conn.now).now.schema × IsOfBook request_table (state S.Store conn.now).now.schema) }
+    ensures there { IfOk result
+        (λ yes. IsTrue yes ↔ IsOfBook ground_table (state S.Store conn.now).now.schema
+        × IsOfBook exceedance_table (state S.Store conn.now).now.schema
+        × IsOfBook request_table (state S.Store conn.now).now.schema) }
     ensures fault { IfErr result (λ e. e ≡ fault.Memory) }
 {
     Ok(
@@ -103,7 +113,7 @@ fn ends_as_book<S: Alter>(alloc: Global, conn: &Connection<S>) -> Result<bool, T
     )
 }
 
-/// Whether the tables of a book are there, each in a tree of its own, and no foreign key refers to them.
+/// Returns whether the tables of a book are there, each in a tree of its own, and no foreign key refers to them.
 pub fn is_book<S: Alter>(alloc: Global, conn: &Connection<S>) -> Result<bool, TableFault>
     ensures is { IfOk result (λ yes. IsTrue yes ↔ IsBook (state S.Store conn.now).now.schema) }
     ensures fault { IfErr result (λ e. e ≡ fault.Memory) }

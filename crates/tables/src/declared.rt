@@ -1,4 +1,5 @@
 //! Whether a table is declared as its text declares it.
+//! Tables that are declared otherwise: `tests/tables.py`. Wrong bodies: `must-fail-more/`.
 
 ghost use Rattle.std.specs.Prelude.{◌≡◌, ◌↔◌, IfErr, IfOk, IsTrue, Ok, option_map};
 ghost use Rattle.sqlite.specs.Held.{state};
@@ -80,7 +81,8 @@ fn are_same_orders(a: &[Order], b: &[Order]) -> bool
     true
 }
 
-/// Whether no column is the row's number, and nothing is counted, checked, referred to or computed.
+/// Returns whether no column is the row's number, and nothing is counted, checked, referred to or
+/// computed.
 fn is_simple(table: &Table) -> bool
     ensures { IsTrue result ↔ IsSimple table.now }
 {
@@ -94,7 +96,7 @@ fn is_simple(table: &Table) -> bool
         && table.stamps.formats.is_empty()
 }
 
-/// Whether two tables have the same name, columns, keys and orders of keys.
+/// Returns whether two tables have the same name, columns, keys and orders of keys.
 fn is_like(a: &Table, b: &Table) -> bool
     ensures same { IsTrue result → IsLike a.now b.now }
     ensures all { IsLike a.now b.now → HaveNoDefault b.now.columns → IsTrue result }
@@ -106,11 +108,12 @@ fn is_like(a: &Table, b: &Table) -> bool
         && are_same_orders(a.orders.as_slice(), b.orders.as_slice())
 }
 
-/// Whether two tables are declared alike.
+/// Returns whether two tables are declared alike.
 #[tactic(auto, using(crate::proofs::Declaring::alike))]
 fn is_alike(found: &Table, wanted: &Table) -> bool
     ensures same { IsTrue result → found.now ≡ record wanted.now { tree = found.now.tree } }
-    ensures all { found.now ≡ record wanted.now { tree = found.now.tree } → IsSimple wanted.now → HaveNoDefault wanted.now.columns → IsTrue result }
+    ensures all { found.now ≡ record wanted.now { tree = found.now.tree } → IsSimple wanted.now
+        → HaveNoDefault wanted.now.columns → IsTrue result }
 {
     is_like(found, wanted) && is_simple(found) && is_simple(wanted)
 }
@@ -123,7 +126,8 @@ fn is_own_tree(tables: &[Table], tree: u32, name: &[u8]) -> bool
 
 fn define(alloc: Global, text: &str) -> Result<Table, TableFault>
     ensures ok { IfOk result (λ table. table_defined_by text.now ≡ Ok table) }
-    ensures err { (table : SqlTable) → table_defined_by text.now ≡ Ok table → IfErr result (λ e. e ≡ fault.Memory) }
+    ensures err { (table : SqlTable) → table_defined_by text.now ≡ Ok table
+        → IfErr result (λ e. e ≡ fault.Memory) }
 {
     match define_table(alloc, text.as_bytes()) {
         Ok(table) => Ok(table),
@@ -132,9 +136,10 @@ fn define(alloc: Global, text: &str) -> Result<Table, TableFault>
     }
 }
 
-/// The table that a name finds.
+/// Finds the table of a name.
 fn table_named<'a, S: Alter>(conn: &'a Connection<S>, name: &[u8]) -> Option<&'a Table>
-    ensures { option_map (λ table. table.now) result ≡ table_found (state S.Store conn.now).now.schema name.now }
+    ensures { option_map (λ table. table.now) result
+        ≡ table_found (state S.Store conn.now).now.schema name.now }
 {
     conn.schema()
         .tables
@@ -143,19 +148,21 @@ fn table_named<'a, S: Alter>(conn: &'a Connection<S>, name: &[u8]) -> Option<&'a
         .find(|table| table.is_named(name))
 }
 
-/// Whether the table that a name finds is declared as the wanted one, in a tree of its own.
+/// Returns whether the table that a name finds is declared as the wanted one, in a tree of its own.
 fn stands_as(tables: &[Table], found: &Table, wanted: &Table) -> bool
     ensures same { IsTrue result → StandsAs tables.now found.now wanted.now }
-    ensures all { StandsAs tables.now found.now wanted.now → IsSimple wanted.now → HaveNoDefault wanted.now.columns → IsTrue result }
+    ensures all { StandsAs tables.now found.now wanted.now → IsSimple wanted.now
+        → HaveNoDefault wanted.now.columns → IsTrue result }
 {
     is_alike(found, wanted)
         && found.tree < 1 << 31
         && is_own_tree(tables, found.tree, wanted.name.as_slice())
 }
 
-/// Whether the wanted table is there, in a tree of its own.
+/// Returns whether the wanted table is there, in a tree of its own.
 fn is_there_as<S: Alter>(conn: &Connection<S>, wanted: &Table) -> bool
-    ensures { (it : BookTable) → wanted.now ≡ table_of it 0 → HaveNoDefault it.columns → IsTrue result ↔ IsTable it (state S.Store conn.now).now.schema }
+    ensures { (it : BookTable) → wanted.now ≡ table_of it 0 → HaveNoDefault it.columns
+        → IsTrue result ↔ IsTable it (state S.Store conn.now).now.schema }
 {
     match table_named(conn, wanted.name.as_slice()) {
         Some(found) => stands_as(conn.schema().tables.as_slice(), found, wanted),
@@ -163,9 +170,10 @@ fn is_there_as<S: Alter>(conn: &Connection<S>, wanted: &Table) -> bool
     }
 }
 
-/// Whether a table of the wanted one's name has its columns.
+/// Returns whether a table of the wanted one's name has its columns.
 fn has_columns_of<S: Alter>(conn: &Connection<S>, wanted: &Table) -> bool
-    ensures { (it : BookTable) → wanted.now ≡ table_of it 0 → HaveNoDefault it.columns → IsTrue result ↔ HasColumns it (state S.Store conn.now).now.schema }
+    ensures { (it : BookTable) → wanted.now ≡ table_of it 0 → HaveNoDefault it.columns
+        → IsTrue result ↔ HasColumns it (state S.Store conn.now).now.schema }
 {
     match table_named(conn, wanted.name.as_slice()) {
         Some(found) => are_same_columns(found.columns.as_slice(), wanted.columns.as_slice()),
@@ -173,26 +181,28 @@ fn has_columns_of<S: Alter>(conn: &Connection<S>, wanted: &Table) -> bool
     }
 }
 
-/// Whether the table is there as its text declares it, in a tree of its own.
+/// Returns whether the table is there as its text declares it, in a tree of its own.
 pub(crate) fn is_there<S: Alter>(
     alloc: Global,
     conn: &Connection<S>,
     text: &str,
 ) -> Result<bool, TableFault>
-    ensures there { (it : BookTable) → IsTextOf it text.now → IfOk result (λ yes. IsTrue yes ↔ IsTable it (state S.Store conn.now).now.schema) }
+    ensures there { (it : BookTable) → IsTextOf it text.now
+        → IfOk result (λ yes. IsTrue yes ↔ IsTable it (state S.Store conn.now).now.schema) }
     ensures fault { (it : BookTable) → IsTextOf it text.now → IfErr result (λ e. e ≡ fault.Memory) }
 {
     let wanted = define(alloc, text)?;
     Ok(is_there_as(conn, &wanted))
 }
 
-/// Whether a table of the name has the columns that the text declares.
+/// Returns whether a table of the name has the columns that the text declares.
 pub(crate) fn has_columns<S: Alter>(
     alloc: Global,
     conn: &Connection<S>,
     text: &str,
 ) -> Result<bool, TableFault>
-    ensures has { (it : BookTable) → IsTextOf it text.now → IfOk result (λ yes. IsTrue yes ↔ HasColumns it (state S.Store conn.now).now.schema) }
+    ensures has { (it : BookTable) → IsTextOf it text.now
+        → IfOk result (λ yes. IsTrue yes ↔ HasColumns it (state S.Store conn.now).now.schema) }
     ensures fault { (it : BookTable) → IsTextOf it text.now → IfErr result (λ e. e ≡ fault.Memory) }
 {
     let wanted = define(alloc, text)?;

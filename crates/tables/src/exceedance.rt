@@ -1,11 +1,12 @@
-//! The table `exceedance`.
+//! The table `exceedance`: a row for each exceedance.
+//! Its rows, right and damaged: `tests/tables.py`. Wrong bodies: `must-fail-more/`.
 
 ghost use Rattle.std.specs.Prelude.{⊤, [], map, IfErr, IfOk, IsTrue, ◌↔◌, ◌≡◌};
 ghost use Rattle.sqlite.specs.Held.{state};
 ghost use Rattle.tables.specs.Schema.{exceedance_table, IsTable, HasColumns};
 ghost use Rattle.tables.specs.Rows.{Makes, Inserts, begins_with, FindsInOrder, HasNoRecord, IsTooBig};
 ghost use Rattle.tables.specs.Records.{exceedance_row, IsExceedanceRow};
-ghost use Rattle.tables.specs.Calls.{HoldsTable, Ran, RefusesHeld, MayLeave, ReadAs, Loaded, LeavesNothing, Faults, RefusesRow, HasStepLimit};
+ghost use Rattle.tables.specs.Calls.{HoldsTable, Ran, RefusesHeld, CrashMayLeave, ReadAs, Loaded, CrashLeavesNoMore, Faults, RefusesRow, HasStepLimit};
 ghost use Rattle.tables.specs.declared.table_fault.TableFault.TheVariants as fault;
 
 use crate::declared::{has_columns, is_there};
@@ -15,7 +16,7 @@ use crate::statement::run;
 use crate::table_fault::TableFault;
 use sqlite::{Alter, Connection, Row, params};
 use std::alloc::Global;
-use values::{Copied, MemoryFault, Text};
+use values::{MemoryFault, Text, TryClone};
 
 /// A limit that a flown period broke.
 #[derive(Drop)]
@@ -34,14 +35,14 @@ pub struct ExceedanceRecord {
     pub period: u32,
 }
 
-impl Copied for ExceedanceRecord {
-    fn copy(&self, alloc: Global) -> Result<ExceedanceRecord, MemoryFault> {
+impl TryClone for ExceedanceRecord {
+    fn try_clone(&self, alloc: Global) -> Result<ExceedanceRecord, MemoryFault> {
         Ok(ExceedanceRecord {
             number: self.number,
             part: self.part,
-            crew: self.crew.copy(alloc)?,
+            crew: self.crew.try_clone(alloc)?,
             section: self.section,
-            pairing: self.pairing.copy(alloc)?,
+            pairing: self.pairing.try_clone(alloc)?,
             period: self.period,
         })
     }
@@ -72,23 +73,25 @@ impl Record for ExceedanceRecord {
 const CREATE: &str =
     "CREATE TABLE exceedance (number INTEGER NOT NULL, part INTEGER NOT NULL, crew TEXT NOT NULL, section INTEGER NOT NULL, pairing TEXT NOT NULL, period INTEGER NOT NULL, PRIMARY KEY (number, part, crew, section)) STRICT";
 
-/// Whether there is a table `exceedance` with these columns.
+/// Returns whether there is a table `exceedance` with these columns.
 pub fn has_exceedance_columns<S: Alter>(
     alloc: Global,
     conn: &Connection<S>,
 ) -> Result<bool, TableFault>
-    ensures has { IfOk result (λ yes. IsTrue yes ↔ HasColumns exceedance_table (state S.Store conn.now).now.schema) }
+    ensures has { IfOk result
+        (λ yes. IsTrue yes ↔ HasColumns exceedance_table (state S.Store conn.now).now.schema) }
     ensures fault { IfErr result (λ e. e ≡ fault.Memory) }
 {
     has_columns(alloc, conn, CREATE)
 }
 
-/// Whether the table is there as `create_exceedance` declares it, in a tree of its own.
+/// Returns whether the table is there as `create_exceedance` declares it, in a tree of its own.
 pub fn is_exceedance_there<S: Alter>(
     alloc: Global,
     conn: &Connection<S>,
 ) -> Result<bool, TableFault>
-    ensures there { IfOk result (λ yes. IsTrue yes ↔ IsTable exceedance_table (state S.Store conn.now).now.schema) }
+    ensures there { IfOk result
+        (λ yes. IsTrue yes ↔ IsTable exceedance_table (state S.Store conn.now).now.schema) }
     ensures fault { IfErr result (λ e. e ≡ fault.Memory) }
 {
     is_there(alloc, conn, CREATE)
@@ -96,9 +99,11 @@ pub fn is_exceedance_there<S: Alter>(
 
 /// Makes the table.
 pub fn create_exceedance<S: Alter>(conn: &mut Connection<S>) -> Result<(), TableFault>
-    ensures ran { Ran (Makes exceedance_table) (state S.Store conn.old) (state S.Store conn.new) result }
+    ensures ran { Ran (Makes exceedance_table) (state S.Store conn.old)
+        (state S.Store conn.new) result }
     ensures fault { Faults ⊥ ⊤ (state S.Store conn.old) (state S.Store conn.new) result }
-    ensures crash { MayLeave (Makes exceedance_table) (state S.Store conn.old) (state S.Store conn.new) }
+    ensures crash { CrashMayLeave (Makes exceedance_table) (state S.Store conn.old)
+        (state S.Store conn.new) }
 {
     run(conn, CREATE, &[])
 }
@@ -109,10 +114,16 @@ pub fn insert_exceedance<S: Alter>(
     exceedance: &ExceedanceRecord,
 ) -> Result<(), TableFault>
     requires { HoldsTable exceedance_table (state S.Store conn.old) }
-    ensures ran { Ran (Inserts exceedance_table (exceedance_row exceedance.now)) (state S.Store conn.old) (state S.Store conn.new) result }
-    ensures held { RefusesHeld exceedance_table (exceedance_row exceedance.now) (state S.Store conn.old) (state S.Store conn.new) result }
-    ensures fault { Faults (IsTooBig exceedance_table (exceedance_row exceedance.now) (state S.Store conn.old).now) (RefusesRow exceedance_table (exceedance_row exceedance.now) (state S.Store conn.old)) (state S.Store conn.old) (state S.Store conn.new) result }
-    ensures crash { MayLeave (Inserts exceedance_table (exceedance_row exceedance.now)) (state S.Store conn.old) (state S.Store conn.new) }
+    ensures ran { Ran (Inserts exceedance_table (exceedance_row exceedance.now))
+        (state S.Store conn.old) (state S.Store conn.new) result }
+    ensures held { RefusesHeld exceedance_table (exceedance_row exceedance.now)
+        (state S.Store conn.old) (state S.Store conn.new) result }
+    ensures fault { Faults
+        (IsTooBig exceedance_table (exceedance_row exceedance.now) (state S.Store conn.old).now)
+        (RefusesRow exceedance_table (exceedance_row exceedance.now) (state S.Store conn.old))
+        (state S.Store conn.old) (state S.Store conn.new) result }
+    ensures crash { CrashMayLeave (Inserts exceedance_table (exceedance_row exceedance.now))
+        (state S.Store conn.old) (state S.Store conn.new) }
 {
     run(
         conn,
@@ -128,14 +139,16 @@ pub fn insert_exceedance<S: Alter>(
     )
 }
 
-/// All records of the table, in any order.
+/// Reads all records of the table, in any order.
 pub fn load_exceedances<S: Alter>(
     alloc: Global,
     conn: &mut Connection<S>,
 ) -> Result<Vec<ExceedanceRecord>, TableFault>
     requires { HoldsTable exceedance_table (state S.Store conn.old) }
-    ensures loaded { Loaded exceedance_table IsExceedanceRow (λ found. map exceedance_row found.items) (state S.Store conn.old) (state S.Store conn.new) result }
-    ensures crash { LeavesNothing (state S.Store conn.old) (state S.Store conn.new) }
+    ensures loaded { Loaded exceedance_table IsExceedanceRow
+        (λ found. map exceedance_row found.items) (state S.Store conn.old)
+        (state S.Store conn.new) result }
+    ensures crash { CrashLeavesNoMore (state S.Store conn.old) (state S.Store conn.new) }
 {
     load(
         alloc,
@@ -144,14 +157,18 @@ pub fn load_exceedances<S: Alter>(
     )
 }
 
-/// All exceedances, in the order of number, part, member and section.
+/// Reads all exceedances, in the order of number, part, member and section.
 pub fn exceedances<S: Alter>(
     alloc: Global,
     conn: &mut Connection<S>,
 ) -> Result<Vec<ExceedanceRecord>, TableFault>
     requires { HoldsTable exceedance_table (state S.Store conn.old) }
-    ensures read { ReadAs (λ db found. FindsInOrder 4 exceedance_table db (map exceedance_row found.items)) (HasNoRecord exceedance_table (begins_with []) IsExceedanceRow) (HasStepLimit (state S.Store conn.old)) (state S.Store conn.old) (state S.Store conn.new) result }
-    ensures crash { LeavesNothing (state S.Store conn.old) (state S.Store conn.new) }
+    ensures read { ReadAs
+        (λ db found. FindsInOrder 4 exceedance_table db (map exceedance_row found.items))
+        (HasNoRecord exceedance_table (begins_with []) IsExceedanceRow)
+        (HasStepLimit (state S.Store conn.old)) (state S.Store conn.old)
+        (state S.Store conn.new) result }
+    ensures crash { CrashLeavesNoMore (state S.Store conn.old) (state S.Store conn.new) }
 {
     read_all(
         alloc,

@@ -1,4 +1,5 @@
 //! Whole tables, and that each of their rows is stored under a number of its own, which `sqlite` tells nowhere else.
+//! Rows that are damaged: `tests/tables.py`. Wrong bodies: `must-fail-more/`.
 
 ghost use Rattle.std.specs.Prelude.{◌≡◌, ◌≢◌, [], ◌∷◌, ⊤, map, drop, Err, IfOk, IfErr, OnOk, IsTrue};
 ghost use Rattle.sqlite_value.specs.declared.value.Value.TheVariants.{Int};
@@ -6,7 +7,7 @@ ghost use Rattle.sqlite.specs.State.{HasCleanDisk, IsUnchanged};
 ghost use Rattle.sqlite.specs.Held.{state};
 ghost use Rattle.sqlite.specs.Given.{IsPlain};
 ghost use Rattle.sqlite.specs.Listing.{understood};
-ghost use Rattle.tables.specs.Calls.{LeavesNothing};
+ghost use Rattle.tables.specs.Calls.{CrashLeavesNoMore};
 ghost use Rattle.tables.specs.Texts.{HasInvalid, Unread, ShowsNumbered, rises, rises_from};
 
 use crate::reading::{Record, read_all};
@@ -39,7 +40,7 @@ impl<R: Record> Record for Numbered<R> {
     }
 }
 
-/// Whether each number is above the one before it.
+/// Returns whether each number is above the one before it.
 fn do_rise<R>(numbered: &[Numbered<R>]) -> bool
     ensures { IsTrue result → IsTrue (rises (map (λ it. it.number) numbered.now)) }
 {
@@ -56,7 +57,7 @@ fn do_rise<R>(numbered: &[Numbered<R>]) -> bool
     true
 }
 
-/// The records alone.
+/// Keeps the records alone.
 fn records_of<R: Record>(alloc: Global, numbered: Vec<Numbered<R>>) -> Result<Vec<R>, TableFault>
     ensures ok { IfOk result (λ all. all.items ≡ map (λ it. it.entry) numbered.items) }
     ensures err { result ≢ Err TableFault.NotARecord }
@@ -69,18 +70,31 @@ fn records_of<R: Record>(alloc: Global, numbered: Vec<Numbered<R>>) -> Result<Ve
     Ok(all)
 }
 
-/// All records of the answer to a text that shows each row's number first, and orders the rows by it.
+/// Reads all records of the answer to a text that shows each row's number first, and orders the rows by it.
 pub(crate) fn load<S: Alter, R: Record>(
     alloc: Global,
     conn: &mut Connection<S>,
     sql: &str,
 ) -> Result<Vec<R>, TableFault>
-    requires { HasCleanDisk (state S.Store conn.old) → IsPlain (understood conn.old.schema sql.now) }
-    ensures found { HasCleanDisk (state S.Store conn.new) → IfOk result (λ all. ShowsNumbered sql.now (state S.Store conn.old) (state S.Store conn.new) (map R.Record.row all.items)) }
-    ensures same { HasCleanDisk (state S.Store conn.new) → OnOk result (IsUnchanged (state S.Store conn.old) (state S.Store conn.new)) }
-    ensures stops { HasCleanDisk (state S.Store conn.new) → IfErr result (Unread (λ _. ⊤) sql.now [] (state S.Store conn.old) (state S.Store conn.new)) }
-    ensures damaged { HasCleanDisk (state S.Store conn.new) → result ≡ Err TableFault.NotARecord → HasInvalid (λ values. R.Record.is_record (drop 1 values)) sql.now [] (state S.Store conn.old) }
-    ensures crash { LeavesNothing (state S.Store conn.old) (state S.Store conn.new) }
+    // The text is understood, has no RETURNING, and does not read the time.
+    requires { HasCleanDisk (state S.Store conn.old)
+        → IsPlain (understood conn.old.schema sql.now) }
+
+    // What is found, with nothing changed.
+    ensures found { HasCleanDisk (state S.Store conn.new) → IfOk result (λ all. ShowsNumbered
+        sql.now (state S.Store conn.old) (state S.Store conn.new) (map R.Record.row all.items)) }
+    ensures same { HasCleanDisk (state S.Store conn.new)
+        → OnOk result (IsUnchanged (state S.Store conn.old) (state S.Store conn.new)) }
+
+    // A fault.
+    ensures stops { HasCleanDisk (state S.Store conn.new) → IfErr result
+        (Unread (λ _. ⊤) sql.now [] (state S.Store conn.old) (state S.Store conn.new)) }
+    ensures damaged { HasCleanDisk (state S.Store conn.new) → result ≡ Err TableFault.NotARecord
+        → HasInvalid (λ values. R.Record.is_record (drop 1 values)) sql.now []
+        (state S.Store conn.old) }
+
+    // A crash meanwhile.
+    ensures crash { CrashLeavesNoMore (state S.Store conn.old) (state S.Store conn.new) }
 {
     let numbered: Vec<Numbered<R>> = read_all(alloc, conn, sql, &[])?;
     if !do_rise(numbered.as_slice()) {

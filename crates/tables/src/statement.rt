@@ -1,3 +1,4 @@
+//! The one call by which the functions of the tables change rows: a single statement.
 ghost use Rattle.sqlite.specs.Values.{bound};
 ghost use Rattle.sqlite.specs.State.{HasCleanDisk, IsLive, Survives, CommitsBy};
 ghost use Rattle.sqlite.specs.Held.{state};
@@ -13,10 +14,13 @@ pub(crate) fn run<S: Alter>(
     sql: &str,
     params: &[ValueRef<'_>],
 ) -> Result<(), TableFault>
-    ensures runs { HasCleanDisk (state S.Store conn.new) → Performs sql.now (bound params.now) (state S.Store conn.old) (state S.Store conn.new) result }
+    ensures runs { HasCleanDisk (state S.Store conn.new) → Performs sql.now (bound params.now)
+        (state S.Store conn.old) (state S.Store conn.new) result }
     ensures live { IsLive (state S.Store conn.old) }
-    ensures survives { Survives (state S.Store conn.old) (state S.Store conn.new) (CommitsBy sql.now (bound params.now) (state S.Store conn.old)) }
+    ensures survives { Survives (state S.Store conn.old) (state S.Store conn.new)
+        (CommitsBy sql.now (bound params.now) (state S.Store conn.old)) }
 {
+    // The clause of this call says that an open connection shows a database.
     let _live = conn.schema();
     conn.execute(sql, params)?;
     Ok(())

@@ -1,3 +1,5 @@
+//! Instants: whole minutes of UTC in the years 2000 to 2099, and their written form `YYYY-MM-DDThh:mmZ`.
+//! Texts at each edge of the form and of the calendar: `tests/texts.py`. Wrong bodies: `must-fail/`.
 ghost use Rattle.std.specs.Prelude.{◌≡◌, ◌↔◌, pos, ◌+◌, ◌/◌, ◌<◌, ◌++◌, length, slice_index, unsigned_abs};
 ghost use Rattle.std.specs.Prelude.{IsSome, IfSome, IfOk, OnOk, OnErr};
 ghost use Rattle.std.specs.Char.{IsAsciiDigit};
@@ -7,7 +9,7 @@ ghost use Rattle.time117.specs.Instant as spec;
 use jiff::ToSpan;
 use jiff::civil::{Date, date};
 use std::marker::Model;
-use values::{Exact, MemoryFault};
+use values::{LawfulEq, MemoryFault};
 
 /// Why a text is no instant of this crate.
 #[derive(Clone, Copy, Debug, PartialEq, Eq)]
@@ -39,7 +41,7 @@ impl Model for Minute {
     ghost inverse = { λ n. record { number = n } };
 }
 
-impl Exact for Minute {
+impl LawfulEq for Minute {
     ghost use Rattle.std.proofs.lemmas.Bool.Decides.{Decides-eqb};
 
     ghost exact = { Decides-eqb };
@@ -69,7 +71,7 @@ impl Minute {
         )
     }
 
-    /// The minute with this number, from 0 to 52,595,999.
+    /// Returns the minute with this number, if it is one from 0 to 52,595,999.
     pub fn from_number(number: u32) -> Option<Minute>
         ensures valid { IsSome result ↔ (number < 52_596_000) }
         ensures value { IfSome result (λ m. m ≡ number) }
@@ -81,7 +83,7 @@ impl Minute {
         }
     }
 
-    /// The minutes since 2000-01-01T00:00Z.
+    /// Counts the minutes since 2000-01-01T00:00Z.
     pub fn number(self) -> u32
         ensures value { result ≡ self }
         ensures in_range { result < 52_596_000 }
@@ -89,7 +91,7 @@ impl Minute {
         self.number
     }
 
-    /// The day since 2000-01-01, in UTC.
+    /// Counts the days since 2000-01-01, in UTC.
     pub fn day(self) -> u32
         ensures value { result ≡ self / 1_440 }
         ensures in_range { result < 36_525 }
@@ -108,7 +110,7 @@ impl Minute {
         Ok(())
     }
 
-    /// The first form.
+    /// Writes the minute in its first form.
     #[tactic(auto, unfolding(crate::specs::Instant::written))]
     fn written(self) -> [u8; 17]
         ensures text { result ≡ spec.written self }
@@ -127,7 +129,7 @@ impl Minute {
         ]
     }
 
-    /// The minute that these parts of a text name.
+    /// Makes the minute that these parts of a text name.
     fn of_parts(year: u16, month: u8, day: u8, hour: u8, minute: u8) -> Result<Minute, TimeFault>
         requires year { year < 10_000 }
         requires month { month < 100 }
@@ -149,7 +151,7 @@ impl Minute {
     }
 }
 
-/// The date of a day since 2000-01-01.
+/// Returns the date of a day since 2000-01-01.
 fn date_of(day: u32) -> Date
     requires { day < 36_525 }
     ensures { IsYmd
@@ -166,7 +168,7 @@ fn two_digits(number: u8) -> [u8; 2]
     [b'0' + number / 10, b'0' + number % 10]
 }
 
-/// The days from 2000-01-01 to a date of the years 2000 to 2099.
+/// Counts the days from 2000-01-01 to a date of the years 2000 to 2099.
 fn day_number(day: Date) -> u32
     requires { IsBetween (pos 2_000) (pos 2_099) day.year }
     ensures value { result ≡ spec.day_number (unsigned_abs day.year) day.month day.day }
@@ -176,14 +178,15 @@ fn day_number(day: Date) -> u32
     hours as u32 / 24
 }
 
-/// Whether the text has one of the two written forms.
+/// Returns whether the text has one of the two written forms.
 fn is_written(text: &[u8]) -> bool
     ensures { result ≡ spec.is_written text.now }
 {
     has_form(b"dddd-dd-ddTdd:ddZ", text) || has_form(b"dddd-dd-ddTdd:dd:00Z", text)
 }
 
-/// Whether each byte of the text fits the form's letter at its place, where `d` is any digit.
+/// Returns whether each byte of the text fits the form's letter at its place, where `d` is any
+/// digit.
 fn has_form(form: &[u8], text: &[u8]) -> bool
     ensures { result ≡ spec.has_form form.now text.now }
 {
@@ -204,7 +207,7 @@ fn fits(letter: u8, byte: u8) -> bool
     }
 }
 
-/// The number that the two digits from a place on write.
+/// Reads the number that the two digits from a place on write.
 fn pair_at(text: &[u8], place: usize) -> u8
     requires within { place + 1 < length text.now }
     requires first { IsAsciiDigit (slice_index text.now place) }

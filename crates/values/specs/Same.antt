@@ -16,6 +16,7 @@ pub parts_same : {A B : Type 0} (parts : A → B) (whole : B → A) → ((a : A)
 parts_same parts whole back a b x same =
     (λ e. sym (back a) ∙ ap whole (same.0 e) ∙ back b, λ e. same.1 (ap parts e))
 
+-- a value that may be missing
 pub option_same : {A : Type 0} (eq : A → A → Bool) → ((a b : A) → IsTrue (eq a b) ↔ (a ≡ b))
     → (a b : Option A) → IsTrue (option_eq eq a b) ↔ (a ≡ b)
 option_same eq each None None = (λ e. refl, λ e. refl)

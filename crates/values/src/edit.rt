@@ -1,3 +1,4 @@
+//! Changes of a value in its place in a map, without a copy.
 ghost use Rattle.std.specs.Prelude.{◌≡◌};
 
 /// A change of a value in its place, which takes no memory.

@@ -2,20 +2,20 @@
 //! value, and what all of these values can do: be copied, and be compared exactly.
 #![tactic(auto)]
 
-mod copied;
 mod edit;
-mod exact;
-mod items;
+mod lawful_eq;
 mod memory_fault;
-mod named;
-mod table;
+mod ord_key;
+mod ord_map;
+mod sequence;
 mod text;
+mod try_clone;
 
-pub use copied::Copied;
 pub use edit::Edit;
-pub use exact::Exact;
-pub use items::{Items, copies_of};
+pub use lawful_eq::LawfulEq;
 pub use memory_fault::MemoryFault;
-pub use named::Named;
-pub use table::Table;
+pub use ord_key::OrdKey;
+pub use ord_map::OrdMap;
+pub use sequence::{Sequence, copies_of};
 pub use text::Text;
+pub use try_clone::TryClone;

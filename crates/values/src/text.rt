@@ -1,3 +1,5 @@
+//! Texts of clients, as names, tasks and ids: any bytes of UTF-8, compared and ordered by their bytes.
+//! Wrong bodies: `must-fail-more/`.
 ghost use Rattle.std.specs.Prelude.{◌≡◌, string_bytes};
 ghost use Rattle.std.specs.Ordering.{nat_cmp, as_partial_cmp};
 ghost use Rattle.std.specs.Cmp.{partial_order_from_own_ties};
@@ -6,10 +8,10 @@ ghost use Rattle.std.specs.Cmp.Rules.{comparing};
 ghost use Rattle.std.specs.Str.{bytes_eq};
 ghost use Rattle.std.proofs.Common.{rules};
 
-use crate::copied::Copied;
-use crate::exact::Exact;
+use crate::lawful_eq::LawfulEq;
 use crate::memory_fault::MemoryFault;
-use crate::named::Named;
+use crate::ord_key::OrdKey;
+use crate::try_clone::TryClone;
 use std::alloc::Global;
 use std::cmp::Ordering;
 use std::marker::Model;
@@ -29,14 +31,14 @@ impl Model for Text {
 }
 
 impl Text {
-    /// The text of this string, in the same memory.
+    /// Makes a text of this string, in the same memory.
     pub fn new(string: String) -> Text
         ensures { result ≡ string_bytes string }
     {
         Text { string }
     }
 
-    /// The text itself.
+    /// Returns the text itself.
     pub fn as_str(&self) -> &str
         ensures { result.now ≡ self.now }
     {
@@ -44,8 +46,8 @@ impl Text {
     }
 }
 
-impl Copied for Text {
-    fn copy(&self, alloc: Global) -> Result<Text, MemoryFault> {
+impl TryClone for Text {
+    fn try_clone(&self, alloc: Global) -> Result<Text, MemoryFault> {
         let string = String::from_str(alloc, self.as_str())?;
         Ok(Text { string })
     }
@@ -68,7 +70,8 @@ impl Eq for Text {
 impl PartialOrd for Text {
     ghost partial_cmp = { as_partial_cmp (slice_cmp nat_cmp) };
 
-    ghost laws = { partial_order_from_own_ties (Prim.search (comparing, rules)) (Prim.search (comparing, rules)) };
+    ghost laws = { partial_order_from_own_ties (Prim.search (comparing, rules))
+        (Prim.search (comparing, rules)) };
 
     fn partial_cmp(&self, other: &Text) -> Option<Ordering> {
         Some(self.cmp(other))
@@ -89,13 +92,13 @@ impl Ord for Text {
     }
 }
 
-impl Exact for Text {
+impl LawfulEq for Text {
     ghost use Rattle.std.proofs.lemmas.Slice.Eq.{bytes_eq-Decides};
 
     ghost exact = { bytes_eq-Decides };
 }
 
-impl Named for Text {
+impl OrdKey for Text {
     ghost use Rattle.std.specs.Prelude.{refl};
 
     ghost name = { λ text. text };

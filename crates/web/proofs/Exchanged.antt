@@ -9,8 +9,8 @@ use Rattle.roster.specs.Folds.{Fold}
 use Rattle.roster.specs.Honest.{Honest}
 use Rattle.roster.specs.State.{State}
 use Rattle.writing.specs.Kept.{KeepOthers}
-use Rattle.writing.specs.Outcomes.{AddsOnly, Leaves}
-use Rattle.book.specs.Kept.{HasTables, IsAt, IsClean, Kept, StillHasTables}
+use Rattle.writing.specs.Outcomes.{CrashAddsOnly, CrashLeaves}
+use Rattle.book.specs.Kept.{HasTables, IsDurablyAt, IsClean, Kept, StillHasTables}
 use Rattle.http_message.specs.Heading.{heading}
 use Rattle.http_message.specs.Plan.{Planned, plan}
 use Rattle.http_message.specs.Reading.{HasHead, HasNoHead}
@@ -43,12 +43,12 @@ module _ {S : Type 0} (g : Ghosts S) where
   has_failed : (old new : Kept S) (asked : Asked) → handles old new asked (Err Store) → IsTrue new.failed
   has_failed old new asked it = subst IsTrue (sym it.kept.failed) (or_true old.failed)
 
-  module _ (s : State) (old new : Kept S) (at : IsAt g old s) where
-    all_done : (commands : Commands) → IsAt g new (Fold s commands) → (HasTables g old s → HasTables g new (Fold s commands)) → IsBegun g s old new commands
+  module _ (s : State) (old new : Kept S) (at : IsDurablyAt g old s) where
+    all_done : (commands : Commands) → IsDurablyAt g new (Fold s commands) → (HasTables g old s → HasTables g new (Fold s commands)) → IsBegun g s old new commands
     all_done commands done tables =
         let all : take (length commands) commands ≡ commands = take_all (length commands) commands (omega arith) in (
           length commands,
-          subst (λ l. IsAt g new (Fold s l)) (sym all) done,
+          subst (λ l. IsDurablyAt g new (Fold s l)) (sym all) done,
           λ t. subst (λ l. StillHasTables g new (Fold s l)) (sym all) (still g new (Fold s commands) (tables t)),
         )
 
@@ -91,7 +91,7 @@ module _ {S : Type 0} (g : Ghosts S) where
         written = sent.1;
         left_is = tt;
         failed = not_failed same;
-        state = unchanged (λ b. IsAt g b s) same at;
+        state = unchanged (λ b. IsDurablyAt g b s) same at;
         tables = λ has. unchanged (λ b. HasTables g b s) same has;
       })
       without_head some none (same, inr sent) = at_once some (inl none) same sent
@@ -133,7 +133,7 @@ module _ {S : Type 0} (g : Ghosts S) where
           written = sent.1;
           left_is = left_is;
           failed = not_failed same;
-          state = unchanged (λ b. IsAt g b s) same at;
+          state = unchanged (λ b. IsDurablyAt g b s) same at;
           tables = λ has. unchanged (λ b. HasTables g b s) same has;
         })
         refused fault is left_is same (inr sent) = at_end (not_failed same) left_is sent (inl same)
@@ -192,7 +192,7 @@ module _ {S : Type 0} (g : Ghosts S) where
         settled clean (Err fault) is left_is it = refused fault is left_is it.0 it.1
         settled clean (Ok asked) is left_is it = answered clean asked it.0 is left_is it.1 it.2
 
-        with_head : IsClean g new → exchange.Answers handles p (Some rest) left out out' old new code → Ends
+        with_head : IsClean g new → exchange.Responds handles p (Some rest) left out out' old new code → Ends
         with_head clean (inl it) = settled clean (asks p.step rest) refl it.left_is it.settled
         with_head clean (inr it) = at_head it.unasked it.left_is it.sent
 
@@ -253,8 +253,8 @@ module _ {S : Type 0} (g : Ghosts S) where
         by (inl same) = inl same
         by (inr did) = inr (asked, did.0, did.1, did.2)
 
-    pub honest : exchange.AsksOnce handles old new → Honest s → Leaves (state g new.held) Honest
-    honest (inl same) fair = subst (λ b. Leaves (state g b.held) Honest) (sym same) (still_honest g old s at fair)
+    pub honest : exchange.AsksOnce handles old new → Honest s → CrashLeaves (state g new.held) Honest
+    honest (inl same) fair = subst (λ b. CrashLeaves (state g b.held) Honest) (sym same) (still_honest g old s at fair)
     honest (inr (asked, (answer, it))) fair = it.kept.honest s at fair
 
   module _ (old new : Kept S) where
@@ -264,8 +264,8 @@ module _ {S : Type 0} (g : Ghosts S) where
 
     pub clean : exchange.AsksOnce handles old new → IsClean g new → IsClean g old
     clean (inl same) now = subst (λ b. IsClean g b) same now
-    clean (inr (asked, (answer, it))) now = it.kept.clean now
+    clean (inr (asked, (answer, it))) now = it.kept.disk now
 
-    pub others : exchange.AsksOnce handles old new → AddsOnly (state g old.held) (state g new.held) (KeepOthers (state g old.held).now)
-    others (inl same) = subst (λ b. AddsOnly (state g old.held) (state g b.held) (KeepOthers (state g old.held).now)) (sym same) (record { crash = λ clean trees may. inl may })
-    others (inr (asked, (answer, it))) = it.kept.others
+    pub others : exchange.AsksOnce handles old new → CrashAddsOnly (state g old.held) (state g new.held) (KeepOthers (state g old.held).now)
+    others (inl same) = subst (λ b. CrashAddsOnly (state g old.held) (state g b.held) (KeepOthers (state g old.held).now)) (sym same) (record { crash = λ clean trees may. inl may })
+    others (inr (asked, (answer, it))) = it.kept.others_left

@@ -5,9 +5,9 @@ use Rattle.sqlite.specs.Held.{state}
 use Rattle.sqlite_trees.specs.declared.store.Store.{Ghosts}
 use Rattle.duty.specs.Plans.{Plan}
 use Rattle.command.specs.Keys.{KeyParts}
-use Rattle.command.specs.declared.order.Order.{Order}
-use Rattle.kept.specs.declared.fault.CodecFault.{CodecFault}
-use Rattle.kept.specs.declared.fault.CodecFault.TheVariants.{BadCsv}
+use Rattle.command.specs.declared.instruction.Instruction.{Instruction}
+use Rattle.stored_json.specs.declared.fault.CodecFault.{CodecFault}
+use Rattle.stored_json.specs.declared.fault.CodecFault.TheVariants.{BadCsv}
 use Rattle.codec.specs.Requests.{read_request}
 use Rattle.codec.specs.Schedule.{IsAtFault, IsSchedule}
 use Rattle.roster.specs.Folds as folds
@@ -15,12 +15,12 @@ use Rattle.roster.specs.Folds.{Fold, Replies, import}
 use Rattle.roster.specs.Honest.{Honest}
 use Rattle.roster.specs.State.{State}
 use Rattle.roster.specs.Steps.{step_of}
-use Rattle.rows.specs.declared.fault.StoreFault.{StoreFault}
-use Rattle.rows.specs.declared.fault.StoreFault.TheVariants as fault
+use Rattle.state_rows.specs.declared.fault.StoreFault.{StoreFault}
+use Rattle.state_rows.specs.declared.fault.StoreFault.TheVariants as fault
 use Rattle.writing.specs.Kept.{IsBookOf, KeepOthers}
-use Rattle.writing.specs.Outcomes.{AddsNothing, AddsOnly, Leaves, StillShows}
+use Rattle.writing.specs.Outcomes.{CrashAddsNothing, CrashAddsOnly, CrashLeaves, StillShows}
 use Rattle.book.specs.Kept as kept
-use Rattle.book.specs.Kept.{Ends, HasTables, IsAt, IsClean, IsInDoubt, Kept, StillHasTables, result_of}
+use Rattle.book.specs.Kept.{Ends, HasTables, IsDurablyAt, IsClean, IsInDoubt, Kept, StillHasTables, result_of}
 use Rattle.store.specs.Shown.{IsShown}
 use Rattle.book.specs.declared.answer.Answer as book
 use Rattle.store.specs.declared.show.Show.{Show}
@@ -44,7 +44,7 @@ length-replies s (a ∷ l) = ap suc (length-replies (folds.next s a) l)
 
 -- ---- what is as it was
 
-pub still_honest : {S : Type 0} (g : Ghosts S) (now : Kept S) (s : State) → IsAt g now s → Honest s → Leaves (state g now.held) Honest
+pub still_honest : {S : Type 0} (g : Ghosts S) (now : Kept S) (s : State) → IsDurablyAt g now s → Honest s → CrashLeaves (state g now.held) Honest
 still_honest g now s at honest = record {
   crash = λ clean trees may.
       let left = at.leaves.crash clean trees may in
@@ -60,9 +60,9 @@ module _ {S : Type 0} (g : Ghosts S) (book : Kept S) where
   unasked_kept result none = record {
     failed = or_false book.failed ∙ ap (λ b. book.failed || b) (sym none);
     shut = λ _. refl;
-    clean = λ clean. clean;
+    disk = λ clean. clean;
     honest = λ s at honest. still_honest g book s at honest;
-    others = record { crash = λ clean trees may. inl may };
+    others_left = record { crash = λ clean trees may. inl may };
   }
 
   -- there was no memory to ask
@@ -101,46 +101,46 @@ module _ {S : Type 0} (g : Ghosts S) (old new : Kept S) where
       → new.failed ≡ (old.failed || kept.is_store_fault r)
       → (IsTrue old.failed → (r ≡ Err fault.Store) × (new ≡ old))
       → (IsClean g new → IsClean g old)
-      → ((s : State) → IsAt g old s → IsClean g new → IfOk r (λ a. result_of a ≡ folds.answer_of (step_of s asked.0 asked.1)))
-      → ((s : State) → IsAt g old s → OnOk r (IsAt g new (folds.next s asked)))
-      → ((s : State) → IsAt g old s → HasTables g old s → OnOk r (HasTables g new (folds.next s asked)))
-      → ((s : State) → IsAt g old s → r ≡ Err fault.Memory → IsAt g new s)
-      → ((s : State) → IsAt g old s → r ≡ Err fault.Store → IsInDoubt g new s (folds.next s asked))
-      → ((s : State) → IsAt g old s → HasTables g old s → OnErr r (StillHasTables g new s))
-      → ((s : State) → IsAt g old s → Honest s → Leaves (state g new.held) Honest)
-      → AddsOnly (state g old.held) (state g new.held) (KeepOthers (state g old.held).now)
+      → ((s : State) → IsDurablyAt g old s → IsClean g new → IfOk r (λ a. result_of a ≡ folds.answer_of (step_of s asked.0 asked.1)))
+      → ((s : State) → IsDurablyAt g old s → OnOk r (IsDurablyAt g new (folds.next s asked)))
+      → ((s : State) → IsDurablyAt g old s → HasTables g old s → OnOk r (HasTables g new (folds.next s asked)))
+      → ((s : State) → IsDurablyAt g old s → r ≡ Err fault.Memory → IsDurablyAt g new s)
+      → ((s : State) → IsDurablyAt g old s → r ≡ Err fault.Store → IsInDoubt g new s (folds.next s asked))
+      → ((s : State) → IsDurablyAt g old s → HasTables g old s → OnErr r (StillHasTables g new s))
+      → ((s : State) → IsDurablyAt g old s → Honest s → CrashLeaves (state g new.held) Honest)
+      → CrashAddsOnly (state g old.held) (state g new.held) (KeepOthers (state g old.held).now)
       → IsAsked g old new asked told
   asked_by asked (Ok a) (Ok answer) tells failed shut clean reply answered tables memory store shown honest others = record {
-    kept = record { failed = failed; shut = λ f. (shut f).1; clean = clean; honest = honest; others = others };
+    kept = record { failed = failed; shut = λ f. (shut f).1; disk = clean; honest = honest; others_left = others };
     done = λ s at. ((λ c. tells ∙ ap command_answer (reply s at c)), (answered s at, λ t. tables s at t));
   }
   asked_by asked (Ok a) (Err Store) tells failed shut clean reply answered tables memory store shown honest others = absurd tells
   asked_by asked (Ok a) (Err Memory) tells failed shut clean reply answered tables memory store shown honest others = record {
-    kept = record { failed = failed; shut = λ f. (shut f).1; clean = clean; honest = honest; others = others };
+    kept = record { failed = failed; shut = λ f. (shut f).1; disk = clean; honest = honest; others_left = others };
     done = λ s at. inr (answered s at, λ t. still g new (folds.next s asked) (tables s at t));
   }
   asked_by asked (Err fault.Store) told tells failed shut clean reply answered tables memory store shown honest others =
       subst (IsAsked g old new asked) (sym tells) (record {
-        kept = record { failed = failed; shut = λ f. (shut f).1; clean = clean; honest = honest; others = others };
+        kept = record { failed = failed; shut = λ f. (shut f).1; disk = clean; honest = honest; others_left = others };
         done = λ s at. store s at refl;
       })
   asked_by asked (Err fault.Memory) told tells failed shut clean reply answered tables memory store shown honest others =
       subst (IsAsked g old new asked) (sym tells) (record {
-        kept = record { failed = failed; shut = λ f. (shut f).1; clean = clean; honest = honest; others = others };
+        kept = record { failed = failed; shut = λ f. (shut f).1; disk = clean; honest = honest; others_left = others };
         done = λ s at. inl (memory s at refl, λ t. shown s at t);
       })
 
-  pub command_read : (body : List ℕ) (number : ℕ) (order : Order) (key : KeyParts) (told : Result Answer HandlerFault) → read_request body ≡ Ok (number, order)
-      → key ≡ record { number = number; part = 0 } → IsAsked g old new (key, order) told → IsHandled g old new (submit Command body) told
-  command_read body number order key told is under it =
-      go told (subst (λ k. IsAsked g old new (k, order) told) under it)
+  pub command_read : (body : List ℕ) (number : ℕ) (instruction : Instruction) (key : KeyParts) (told : Result Answer HandlerFault) → read_request body ≡ Ok (number, instruction)
+      → key ≡ record { number = number; part = 0 } → IsAsked g old new (key, instruction) told → IsHandled g old new (submit Command body) told
+  command_read body number instruction key told is under it =
+      go told (subst (λ k. IsAsked g old new (k, instruction) told) under it)
     where
-      go : (told : Result Answer HandlerFault) → IsAsked g old new (command_of (number, order)) told → IsHandled g old new (submit Command body) told
-      go (Ok answer) asked = record { kept = asked.kept; done = λ s at. let did = asked.done s at in rw is (did.0, (command_of (number, order) ∷ [], refl, did.1)) }
-      go (Err Store) asked = record { kept = asked.kept; done = λ s at. rw is (command_of (number, order) ∷ [], refl, (0, asked.done s at)) }
-      go (Err Memory) asked = record { kept = asked.kept; done = λ s at. inr (rw is (command_of (number, order) ∷ [], refl, begun s (asked.done s at))) }
+      go : (told : Result Answer HandlerFault) → IsAsked g old new (command_of (number, instruction)) told → IsHandled g old new (submit Command body) told
+      go (Ok answer) asked = record { kept = asked.kept; done = λ s at. let did = asked.done s at in rw is (did.0, (command_of (number, instruction) ∷ [], refl, did.1)) }
+      go (Err Store) asked = record { kept = asked.kept; done = λ s at. rw is (command_of (number, instruction) ∷ [], refl, (0, asked.done s at)) }
+      go (Err Memory) asked = record { kept = asked.kept; done = λ s at. inr (rw is (command_of (number, instruction) ∷ [], refl, begun s (asked.done s at))) }
         where
-          begun : (s : State) → IsAskedIn g old new s (command_of (number, order)) (Err Memory) → IsLeft g old new s (command_of (number, order) ∷ []) (Err Memory)
+          begun : (s : State) → IsAskedIn g old new s (command_of (number, instruction)) (Err Memory) → IsLeft g old new s (command_of (number, instruction) ∷ []) (Err Memory)
           begun s (inl (at, shown)) = (0, at, shown)
           begun s (inr (at, shown)) = (1, at, shown)
 
@@ -152,45 +152,45 @@ module _ {S : Type 0} (g : Ghosts S) (old new : Kept S) where
       → (IsTrue old.failed → (f ≡ Some fault.Store) × (answers ≡ []) × (new ≡ old))
       → (IsClean g new → IsClean g old)
       → (f ≡ None → length answers ≡ length commands)
-      → ((s : State) → IsAt g old s → IsClean g new → map result_of answers ≡ take (length answers) (Replies s commands))
-      → ((s : State) → IsAt g old s → Ends (state g new.held) s commands (length answers) f)
-      → ((s : State) → IsAt g old s → HasTables g old s → f ≡ None → HasTables g new (Fold s commands))
-      → ((s : State) → IsAt g old s → HasTables g old s → IsSome f → StillHasTables g new (Fold s (take (length answers) commands)))
-      → ((s : State) → IsAt g old s → Honest s → Leaves (state g new.held) Honest)
-      → AddsOnly (state g old.held) (state g new.held) (KeepOthers (state g old.held).now)
+      → ((s : State) → IsDurablyAt g old s → IsClean g new → map result_of answers ≡ take (length answers) (Replies s commands))
+      → ((s : State) → IsDurablyAt g old s → Ends (state g new.held) s commands (length answers) f)
+      → ((s : State) → IsDurablyAt g old s → HasTables g old s → f ≡ None → HasTables g new (Fold s commands))
+      → ((s : State) → IsDurablyAt g old s → HasTables g old s → IsSome f → StillHasTables g new (Fold s (take (length answers) commands)))
+      → ((s : State) → IsDurablyAt g old s → Honest s → CrashLeaves (state g new.held) Honest)
+      → CrashAddsOnly (state g old.held) (state g new.held) (KeepOthers (state g old.held).now)
       → AreAdded g old new number plans told
   added_by number plans commands answers None (Ok answer) is tells failed shut clean whole replies ends tables shown honest others =
       let every = whole refl in
       record {
-        kept = record { failed = failed; shut = λ f. (shut f).2; clean = clean; honest = honest; others = others };
+        kept = record { failed = failed; shut = λ f. (shut f).2; disk = clean; honest = honest; others_left = others };
         done = λ s at.
             let all : take (length answers) (Replies s commands) ≡ Replies s commands = take_all (length answers) (Replies s commands) (omega (arith, every, length-replies s commands)) in (
               (λ c. tells ∙ ap parts_answer (replies s at c ∙ all ∙ ap (Replies s) is)),
-              (subst (λ l. IsAt g new (Fold s l)) is (ends s at), λ t. subst (λ l. HasTables g new (Fold s l)) is (tables s at t refl)),
+              (subst (λ l. IsDurablyAt g new (Fold s l)) is (ends s at), λ t. subst (λ l. HasTables g new (Fold s l)) is (tables s at t refl)),
             );
       }
   added_by number plans commands answers None (Err Store) is tells failed shut clean whole replies ends tables shown honest others = absurd tells
   added_by number plans commands answers None (Err Memory) is tells failed shut clean whole replies ends tables shown honest others = record {
-    kept = record { failed = failed; shut = λ f. (shut f).2; clean = clean; honest = honest; others = others };
+    kept = record { failed = failed; shut = λ f. (shut f).2; disk = clean; honest = honest; others_left = others };
     done = λ s at.
         let all : take (length commands) commands ≡ commands = take_all (length commands) commands (omega arith) in (
           length commands,
-          subst (λ l. IsAt g new (Fold s (take (length commands) l))) is (subst (λ l. IsAt g new (Fold s l)) (sym all) (ends s at)),
+          subst (λ l. IsDurablyAt g new (Fold s (take (length commands) l))) is (subst (λ l. IsDurablyAt g new (Fold s l)) (sym all) (ends s at)),
           λ t. subst (λ l. StillHasTables g new (Fold s (take (length commands) l))) is
               (subst (λ l. StillHasTables g new (Fold s l)) (sym all) (still g new (Fold s commands) (tables s at t refl))),
         );
   }
   added_by number plans commands answers (Some fault.Store) told is tells failed shut clean whole replies ends tables shown honest others =
       subst (AreAdded g old new number plans) (sym tells) (record {
-        kept = record { failed = failed; shut = λ f. (shut f).2; clean = clean; honest = honest; others = others };
+        kept = record { failed = failed; shut = λ f. (shut f).2; disk = clean; honest = honest; others_left = others };
         done = λ s at. (length answers, subst (λ l. IsInDoubt g new (Fold s (take (length answers) l)) (Fold s (take (length answers + 1) l))) is (ends s at));
       })
   added_by number plans commands answers (Some fault.Memory) told is tells failed shut clean whole replies ends tables shown honest others =
       subst (AreAdded g old new number plans) (sym tells) (record {
-        kept = record { failed = failed; shut = λ f. (shut f).2; clean = clean; honest = honest; others = others };
+        kept = record { failed = failed; shut = λ f. (shut f).2; disk = clean; honest = honest; others_left = others };
         done = λ s at. (
           length answers,
-          subst (λ l. IsAt g new (Fold s (take (length answers) l))) is (ends s at),
+          subst (λ l. IsDurablyAt g new (Fold s (take (length answers) l))) is (ends s at),
           λ t. subst (λ l. StillHasTables g new (Fold s (take (length answers) l))) is (shown s at t refl),
         );
       })
@@ -216,11 +216,11 @@ module _ {S : Type 0} (g : Ghosts S) (old new : Kept S) where
       → new.failed ≡ (old.failed || kept.is_store_fault r)
       → (IsTrue old.failed → (r ≡ Err fault.Store) × (new ≡ old))
       → (IsClean g new → IsClean g old)
-      → ((s : State) → IsAt g old s → IsClean g new → IfOk r (λ roster. (shown : Option (List ℕ)) → IsShown roster what shown ↔ IsShown s what shown))
-      → ((s : State) → IsAt g old s → IsAt g new s)
-      → ((s : State) → IsAt g old s → HasTables g old s → OnOk r (HasTables g new s))
+      → ((s : State) → IsDurablyAt g old s → IsClean g new → IfOk r (λ roster. (shown : Option (List ℕ)) → IsShown roster what shown ↔ IsShown s what shown))
+      → ((s : State) → IsDurablyAt g old s → IsDurablyAt g new s)
+      → ((s : State) → IsDurablyAt g old s → HasTables g old s → OnOk r (HasTables g new s))
       → StillShows (state g old.held) (state g new.held)
-      → AddsNothing (state g old.held) (state g new.held)
+      → CrashAddsNothing (state g old.held) (state g new.held)
       → IsHandled g old new (http.show about) told
   reported_by about what r told is tells failed shut clean text same tables shown left =
       go r told (subst (λ w. IsReportToldAs r w told) is tells) failed (λ f. (shut f).1)
@@ -230,15 +230,15 @@ module _ {S : Type 0} (g : Ghosts S) (old new : Kept S) where
       kept_so told failed shut = record {
         failed = failed;
         shut = shut;
-        clean = clean;
+        disk = clean;
         honest = λ s at honest. still_honest g new s (same s at) honest;
-        others = record { crash = λ c trees may. inl (left.crash c trees may) };
+        others_left = record { crash = λ c trees may. inl (left.crash c trees may) };
       }
 
       shows : (s : State) → HasTables g old s → StillHasTables g new s
       shows s has = λ c is_open. let it = shown c is_open in subst (IsBookOf s) (sym it.1) (has (clean c)).1
 
-      in_doubt : (s : State) → IsAt g new s → IsInDoubt g new s s
+      in_doubt : (s : State) → IsDurablyAt g new s → IsInDoubt g new s s
       in_doubt s at = record {
         crash = λ c trees may.
             let it = at.leaves.crash c trees may in
@@ -247,8 +247,8 @@ module _ {S : Type 0} (g : Ghosts S) (old new : Kept S) where
 
       go : (r : Result State StoreFault) (told : Result Answer HandlerFault) → IsReportToldAs r (show_of about) told → new.failed ≡ (old.failed || kept.is_store_fault r)
           → (IsTrue old.failed → new ≡ old)
-          → ((s : State) → IsAt g old s → IsClean g new → IfOk r (λ roster. (shown : Option (List ℕ)) → IsShown roster (show_of about) shown ↔ IsShown s (show_of about) shown))
-          → ((s : State) → IsAt g old s → HasTables g old s → OnOk r (HasTables g new s)) → IsHandled g old new (http.show about) told
+          → ((s : State) → IsDurablyAt g old s → IsClean g new → IfOk r (λ roster. (shown : Option (List ℕ)) → IsShown roster (show_of about) shown ↔ IsShown s (show_of about) shown))
+          → ((s : State) → IsDurablyAt g old s → HasTables g old s → OnOk r (HasTables g new s)) → IsHandled g old new (http.show about) told
       go (Ok roster) (Ok answer) it failed shut text tables = record {
         kept = kept_so (Ok answer) failed shut;
         done = λ s at. (

@@ -2,8 +2,8 @@
 use Rattle.std.proofs.Common.{◌≡◌, ◌≤◌, ◌+◌, ℕ, List, [], ◌∷◌, ◌++◌, length, map, refl, sym, ap, ◌∙◌, subst, arith, append-nil, append_assoc, length-append}
 use Rattle.std.specs.List.{enumerate_from}
 use Rattle.duty.specs.Plans.{Plan}
-use Rattle.command.specs.declared.order.Order.{Order}
-use Rattle.command.specs.declared.order.Order.TheVariants.{AddPairing}
+use Rattle.command.specs.declared.instruction.Instruction.{Instruction}
+use Rattle.command.specs.declared.instruction.Instruction.TheVariants.{AddPairing}
 use Rattle.roster.specs.Folds.{Asked, import}
 
 -- the commands of these pairings, the first of them under this part

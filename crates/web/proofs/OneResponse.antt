@@ -5,7 +5,7 @@ use Rattle.httparse.proofs.GrammarLemmas.{request_unique}
 use Rattle.duty.specs.Plans.{Plan}
 use Rattle.codec.specs.Schedule.{IsAtFault, IsSchedule}
 use Rattle.codec.proofs.OneReading.{has_no_fault, has_one_fault, is_of_one_list}
-use Rattle.kept.specs.declared.fault.CodecFault.TheVariants.{BadCsv}
+use Rattle.stored_json.specs.declared.fault.CodecFault.TheVariants.{BadCsv}
 use Rattle.report.proofs.OneText.{one_exceedance_text, one_roster}
 use Rattle.roster.specs.Folds.{Replies, import}
 use Rattle.roster.specs.State.{State}

@@ -9,7 +9,7 @@ pub none_served : {S : Type 0} (g : Ghosts S) (book : Kept S) → IsServedOnce g
 none_served g book = record {
   once = λ s at. inl refl;
   shut = λ _. refl;
-  clean = λ clean. clean;
+  disk = λ clean. clean;
   honest = λ s at honest. still_honest g book s at honest;
-  others = record { crash = λ clean trees may. inl may };
+  others_left = record { crash = λ clean trees may. inl may };
 }

@@ -1,9 +1,9 @@
 -- What a request comes to in a book: the commands that it asks, and what it is answered.
 use Rattle.std.specs.Prelude.{◌≡◌, ◌⊎◌, ℕ, List, [], ◌∷◌, Option, Some, None, Result, Ok, Err}
 use Rattle.duty.specs.Plans.{Plan}
-use Rattle.command.specs.declared.order.Order.{Order}
-use Rattle.kept.specs.declared.fault.CodecFault.{CodecFault}
-use Rattle.kept.specs.declared.fault.CodecFault.TheVariants.{BadCsv}
+use Rattle.command.specs.declared.instruction.Instruction.{Instruction}
+use Rattle.stored_json.specs.declared.fault.CodecFault.{CodecFault}
+use Rattle.stored_json.specs.declared.fault.CodecFault.TheVariants.{BadCsv}
 use Rattle.codec.specs.Requests.{read_request}
 use Rattle.codec.specs.Schedule.{IsAtFault, IsSchedule}
 use Rattle.roster.specs.Folds as folds
@@ -24,11 +24,11 @@ abbrev pub Commands : Type 0
 Commands = List folds.Asked
 
 -- the command of a body, under part 0 of its number
-abbrev pub command_of : ℕ × Order → folds.Asked
-command_of (number, order) = (record { number = number; part = 0 }, order)
+abbrev pub command_of : ℕ × Instruction → folds.Asked
+command_of (number, instruction) = (record { number = number; part = 0 }, instruction)
 
 -- one that is read is a command, and one that isn't is none
-abbrev pub commands_of : Result (ℕ × Order) CodecFault → Commands
+abbrev pub commands_of : Result (ℕ × Instruction) CodecFault → Commands
 commands_of (Ok read) = command_of read ∷ []
 commands_of (Err fault) = []
 
@@ -53,8 +53,8 @@ IsReport what None answer = IsAbsent what answer
 
 module _ (s : State) where
   -- the answer to a body that is read is the book's to its command, and another is told why it isn't
-  abbrev pub request_answer : Result (ℕ × Order) CodecFault → Answer
-  request_answer (Ok (number, order)) = command_answer (folds.answer_of (step_of s (record { number = number; part = 0 }) order))
+  abbrev pub request_answer : Result (ℕ × Instruction) CodecFault → Answer
+  request_answer (Ok (number, instruction)) = command_answer (folds.answer_of (step_of s (record { number = number; part = 0 }) instruction))
   request_answer (Err fault) = fault_answer fault
 
   -- the answer to a request in this state

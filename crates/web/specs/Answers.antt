@@ -6,11 +6,11 @@ use Rattle.values.specs.declared.memory_fault.MemoryFault.{MemoryFault}
 use Rattle.command.specs.declared.exceedance.Reply.{Reply}
 use Rattle.command.specs.declared.refusal.Refusal.{Refusal}
 use Rattle.command.specs.declared.refusal.Refusal.TheVariants.{NumberUsed, NoSuchCrew, CrewExists, NoSuchPairing, PairingExists, SeatTaken, WrongSeat, NotAssigned, PairingCrewed, Flown, Overlap, Limits, NoSuchDuty, GroundExists, NoSuchGround, SegmentCount}
-use Rattle.kept.specs.ReplyText.{reply_text}
-use Rattle.kept.specs.declared.fault.CodecFault.{CodecFault}
+use Rattle.stored_json.specs.ReplyText.{reply_text}
+use Rattle.stored_json.specs.declared.fault.CodecFault.{CodecFault}
 use Rattle.codec.specs.RefusalText.{fault_reply, refusal_text}
-use Rattle.rows.specs.declared.fault.StoreFault.{StoreFault}
-use Rattle.rows.specs.declared.fault.StoreFault.TheVariants as fault
+use Rattle.state_rows.specs.declared.fault.StoreFault.{StoreFault}
+use Rattle.state_rows.specs.declared.fault.StoreFault.TheVariants as fault
 use Rattle.http_message.specs.Plan.{Subject, crew, pairing, exceedances}
 use Rattle.http_message.specs.declared.responses.MediaType.TheVariants.{Json, PlainText}
 use Rattle.http_exchange.specs.Handler.{Answer}
@@ -51,6 +51,7 @@ abbrev pub answer_text : Answered → List ℕ
 answer_text (Ok reply) = reply_text reply
 answer_text (Err refusal) = refusal_text refusal
 
+-- the status of an answer: 200, or that of its refusal
 abbrev pub answer_status : Answered → ℕ
 answer_status (Ok reply) = 200
 answer_status (Err refusal) = refusal_status refusal
@@ -70,6 +71,7 @@ abbrev pub with_commas : List Answered → List ℕ
 with_commas [] = []
 with_commas (first ∷ others) = answer_text first ++ flat_map (λ a. codes "," ++ answer_text a) others
 
+-- the answers to the parts of an import, as one text
 abbrev pub parts_text : List Answered → List ℕ
 parts_text answers = codes "{\"parts\":[" ++ with_commas answers ++ codes "]}"
 
@@ -102,6 +104,7 @@ Tells wanted (Ok answer) = answer ≡ wanted
 Tells wanted (Err Store) = ⊥
 Tells wanted (Err Memory) = ⊤
 
+-- the text under the status, or want of memory where there is no text
 abbrev pub IsInJson : ℕ → Result (String Global) MemoryFault → Result Answer HandlerFault → Type 0
 IsInJson status (Ok text) result = result ≡ Ok (json status (string_bytes text))
 IsInJson status (Err fault) result = result ≡ Err Memory

@@ -5,14 +5,14 @@ use Rattle.sqlite_trees.specs.declared.store.Store.{Ghosts}
 use Rattle.roster.specs.Honest.{Honest}
 use Rattle.roster.specs.State.{State}
 use Rattle.writing.specs.Kept.{KeepOthers}
-use Rattle.writing.specs.Outcomes.{AddsOnly, Leaves}
-use Rattle.book.specs.Kept.{IsAt, IsClean, Kept}
+use Rattle.writing.specs.Outcomes.{CrashAddsOnly, CrashLeaves}
+use Rattle.book.specs.Kept.{IsDurablyAt, IsClean, Kept}
 use Rattle.web.specs.Serving.{AsksOnce}
 
 -- the book was asked what one request asks, or nothing; and what holds of every asking holds
 pub record IsServedOnce {S : Type 0} (g : Ghosts S) (old new : Kept S) : Type 0 where
-  pub once : (s : State) → IsAt g old s → AsksOnce g s old new
+  pub once : (s : State) → IsDurablyAt g old s → AsksOnce g s old new
   pub shut : IsTrue old.failed → new ≡ old
-  pub clean : IsClean g new → IsClean g old
-  pub honest : (s : State) → IsAt g old s → Honest s → Leaves (state g new.held) Honest
-  pub others : AddsOnly (state g old.held) (state g new.held) (KeepOthers (state g old.held).now)
+  pub disk : IsClean g new → IsClean g old
+  pub honest : (s : State) → IsDurablyAt g old s → Honest s → CrashLeaves (state g new.held) Honest
+  pub others_left : CrashAddsOnly (state g old.held) (state g new.held) (KeepOthers (state g old.held).now)

@@ -12,12 +12,12 @@ use Rattle.roster.specs.Folds.{Fold, Replies, import}
 use Rattle.roster.specs.Honest.{Honest}
 use Rattle.roster.specs.State.{State}
 use Rattle.roster.specs.Steps.{step_of}
-use Rattle.rows.specs.declared.fault.StoreFault.{StoreFault}
+use Rattle.state_rows.specs.declared.fault.StoreFault.{StoreFault}
 use Rattle.report.specs.declared.fault.ReportFault.{ReportFault}
 use Rattle.report.specs.declared.fault.ReportFault.TheVariants as report
 use Rattle.writing.specs.Kept.{KeepOthers}
-use Rattle.writing.specs.Outcomes.{AddsOnly, Leaves}
-use Rattle.book.specs.Kept.{HasTables, IsAt, IsClean, IsInDoubt, Kept, StillHasTables, result_of}
+use Rattle.writing.specs.Outcomes.{CrashAddsOnly, CrashLeaves}
+use Rattle.book.specs.Kept.{HasTables, IsDurablyAt, IsClean, IsInDoubt, Kept, StillHasTables, result_of}
 use Rattle.store.specs.Shown.{IsShown}
 use Rattle.book.specs.declared.answer.Answer as book
 use Rattle.store.specs.declared.show.Show.{Show}
@@ -71,6 +71,7 @@ IsReportToldAs (Err fault) what told = told ≡ Err (fault_of fault)
 
 -- ---- what the book did
 
+-- the answer is a fault of the store
 abbrev pub is_store_fault : Result Answer HandlerFault → Bool
 is_store_fault (Ok answer) = false
 is_store_fault (Err Store) = true
@@ -80,9 +81,9 @@ module _ {S : Type 0} (g : Ghosts S) (old new : Kept S) where
   -- what the commands leave, of which all were done; or of which the store failed at one, which is in doubt; or of which there was no
   -- memory for one, or to tell what they were answered
   abbrev pub IsLeft : State → Commands → Result Answer HandlerFault → Type 0
-  IsLeft s commands (Ok answer) = IsAt g new (Fold s commands) × (HasTables g old s → HasTables g new (Fold s commands))
+  IsLeft s commands (Ok answer) = IsDurablyAt g new (Fold s commands) × (HasTables g old s → HasTables g new (Fold s commands))
   IsLeft s commands (Err Store) = (n : ℕ) × IsInDoubt g new (Fold s (take n commands)) (Fold s (take (n + 1) commands))
-  IsLeft s commands (Err Memory) = (n : ℕ) × IsAt g new (Fold s (take n commands)) × (HasTables g old s → StillHasTables g new (Fold s (take n commands)))
+  IsLeft s commands (Err Memory) = (n : ℕ) × IsDurablyAt g new (Fold s (take n commands)) × (HasTables g old s → StillHasTables g new (Fold s (take n commands)))
 
   -- the request was answered as it is in this state, or where it wasn't, what it asks was begun, or nothing was asked
   abbrev pub IsDone : State → Asked → Result Answer HandlerFault → Type 0
@@ -95,14 +96,14 @@ module _ {S : Type 0} (g : Ghosts S) (old new : Kept S) where
   pub record IsKept (result : Result Answer HandlerFault) : Type 0 where
     pub failed : new.failed ≡ (old.failed || is_store_fault result)
     pub shut : IsTrue old.failed → new ≡ old
-    pub clean : IsClean g new → IsClean g old
-    pub honest : (s : State) → IsAt g old s → Honest s → Leaves (state g new.held) Honest
-    pub others : AddsOnly (state g old.held) (state g new.held) (KeepOthers (state g old.held).now)
+    pub disk : IsClean g new → IsClean g old
+    pub honest : (s : State) → IsDurablyAt g old s → Honest s → CrashLeaves (state g new.held) Honest
+    pub others_left : CrashAddsOnly (state g old.held) (state g new.held) (KeepOthers (state g old.held).now)
 
   -- the book was handed a request, and gave this result
   pub record IsHandled (asked : Asked) (result : Result Answer HandlerFault) : Type 0 where
     pub kept : IsKept result
-    pub done : (s : State) → IsAt g old s → IsDone s asked result
+    pub done : (s : State) → IsDurablyAt g old s → IsDone s asked result
 
   -- ---- commands
 
@@ -110,15 +111,16 @@ module _ {S : Type 0} (g : Ghosts S) (old new : Kept S) where
   abbrev pub IsAskedIn : State → folds.Asked → Result Answer HandlerFault → Type 0
   IsAskedIn s asked (Ok answer) =
       (IsClean g new → answer ≡ command_answer (folds.answer_of (step_of s asked.0 asked.1)))
-      × (IsAt g new (folds.next s asked) × (HasTables g old s → HasTables g new (folds.next s asked)))
+      × (IsDurablyAt g new (folds.next s asked) × (HasTables g old s → HasTables g new (folds.next s asked)))
   IsAskedIn s asked (Err Store) = IsInDoubt g new s (folds.next s asked)
   IsAskedIn s asked (Err Memory) =
-      (IsAt g new s × (HasTables g old s → StillHasTables g new s))
-      ⊎ (IsAt g new (folds.next s asked) × (HasTables g old s → StillHasTables g new (folds.next s asked)))
+      (IsDurablyAt g new s × (HasTables g old s → StillHasTables g new s))
+      ⊎ (IsDurablyAt g new (folds.next s asked) × (HasTables g old s → StillHasTables g new (folds.next s asked)))
 
+  -- a command was asked, in whichever state the book was; with what is said whatever is asked
   pub record IsAsked (asked : folds.Asked) (result : Result Answer HandlerFault) : Type 0 where
     pub kept : IsKept result
-    pub done : (s : State) → IsAt g old s → IsAskedIn s asked result
+    pub done : (s : State) → IsDurablyAt g old s → IsAskedIn s asked result
 
   -- ---- imports
 
@@ -127,6 +129,7 @@ module _ {S : Type 0} (g : Ghosts S) (old new : Kept S) where
   AreAddedIn s commands (Ok answer) = (IsClean g new → answer ≡ parts_answer (Replies s commands)) × IsLeft s commands (Ok answer)
   AreAddedIn s commands (Err fault) = IsLeft s commands (Err fault)
 
+  -- pairings were added, in whichever state the book was; with what is said whatever is asked
   pub record AreAdded (number : ℕ) (plans : List Plan) (result : Result Answer HandlerFault) : Type 0 where
     pub kept : IsKept result
-    pub done : (s : State) → IsAt g old s → AreAddedIn s (import number plans) result
+    pub done : (s : State) → IsDurablyAt g old s → AreAddedIn s (import number plans) result

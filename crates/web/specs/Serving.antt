@@ -5,7 +5,7 @@ use Rattle.httparse.specs.Grammar.{RequestHead}
 use Rattle.sqlite_trees.specs.declared.store.Store.{Ghosts}
 use Rattle.roster.specs.Folds.{Fold}
 use Rattle.roster.specs.State.{State}
-use Rattle.book.specs.Kept.{HasTables, IsAt, IsInDoubt, Kept, StillHasTables}
+use Rattle.book.specs.Kept.{HasTables, IsDurablyAt, IsInDoubt, Kept, StillHasTables}
 use Rattle.http_message.specs.Heading.{heading}
 use Rattle.http_message.specs.Plan.{Planned, plan}
 use Rattle.http_message.specs.Reading.{HasHead, HasNoHead}
@@ -35,7 +35,7 @@ IsUnread (Some rest) left = left ≡ Some rest
 module _ {S : Type 0} (g : Ghosts S) (s : State) where
   -- the commands were done up to some of them; that is what is shown, as long as the connection is open
   abbrev pub IsBegun : Kept S → Kept S → Commands → Type 0
-  IsBegun old new commands = (n : ℕ) × IsAt g new (Fold s (take n commands)) × (HasTables g old s → StillHasTables g new (Fold s (take n commands)))
+  IsBegun old new commands = (n : ℕ) × IsDurablyAt g new (Fold s (take n commands)) × (HasTables g old s → StillHasTables g new (Fold s (take n commands)))
 
   -- the store failed at one of them, which is done or not
   abbrev pub IsBroken : Kept S → Commands → Type 0
@@ -51,7 +51,7 @@ module _ {S : Type 0} (g : Ghosts S) (s : State) where
     pub written : Appends out out' (bytes response)
     pub left_is : IsUnread response.unread left
     pub failed : new.failed ≡ old.failed
-    pub state : IsAt g new (Fold s response.commands)
+    pub state : IsDurablyAt g new (Fold s response.commands)
     pub tables : HasTables g old s → HasTables g new (Fold s response.commands)
 
   -- the book's store failed (90): so it is told, after the interim response

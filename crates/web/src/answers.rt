@@ -1,4 +1,5 @@
-//! What a book's answers are told as.
+//! What a book's answers are told as: a status and a text.
+//! What clients are answered: `tests/exchanges.py`. Wrong bodies: `must-fail/`.
 ghost use Rattle.std.specs.Prelude.{◌≡◌};
 ghost use Rattle.http_exchange.specs.Handler.{answer_of};
 ghost use Rattle.web.specs.Answers as spec;
@@ -13,7 +14,7 @@ use http_message::MediaType;
 use std::alloc::Global;
 use values::MemoryFault;
 
-/// A text in JSON, under a status, if there was memory for it.
+/// Makes the response with a text in JSON, under a status, if there was memory for the text.
 pub(crate) fn in_json(
     status: StatusCode,
     text: Result<String, MemoryFault>,
@@ -30,7 +31,7 @@ pub(crate) fn in_json(
     }
 }
 
-/// What the book answered a command, as it is told.
+/// Tells what the book answered a command.
 pub(crate) fn told(
     alloc: Global,
     answer: Result<Answer, BookFault>,
@@ -46,7 +47,7 @@ pub(crate) fn told(
     }
 }
 
-/// A fault of the book.
+/// Names a fault of the book as one of the handler.
 pub(crate) fn fault_of(fault: BookFault) -> HandlerFault
     ensures { result ≡ spec.fault_of fault }
 {
@@ -56,7 +57,7 @@ pub(crate) fn fault_of(fault: BookFault) -> HandlerFault
     }
 }
 
-/// Why a body isn't read, as it is told.
+/// Tells why a body isn't read.
 pub(crate) fn told_unread(alloc: Global, fault: CodecFault) -> Result<Response, HandlerFault>
     ensures { spec.Tells (spec.fault_answer fault) (answer_of result) }
 {
@@ -66,8 +67,8 @@ pub(crate) fn told_unread(alloc: Global, fault: CodecFault) -> Result<Response, 
     )
 }
 
-/// The status of each refusal of the book (RFC 9110, section 15.5): what it asks for conflicts with what the book holds, or can't be
-/// processed whatever the book holds.
+/// Returns the status of each refusal of the book (RFC 9110, section 15.5): what it asks for conflicts with what the
+/// book holds, or can't be processed whatever the book holds.
 fn status_of(refusal: &Refusal) -> StatusCode
     ensures { result ≡ spec.refusal_status refusal.now }
 {

@@ -1,4 +1,5 @@
 //! Commands that are posted.
+//! What clients send and are answered: `tests/exchanges.py`. Wrong bodies: `must-fail-more/`.
 ghost use Rattle.http_message.specs.declared.plan.Submission.TheVariants as submission;
 ghost use Rattle.http_exchange.specs.Handler.{answer_of, submit};
 ghost use Rattle.web.specs.Handling as spec;
@@ -17,7 +18,8 @@ pub(crate) fn answer_command<S: Alter>(
     book: &mut Book<S>,
     body: &[u8],
 ) -> Result<Response, HandlerFault>
-    ensures { spec.IsHandled S.Store book.old book.new (submit submission.Command body.now) (answer_of result) }
+    ensures { spec.IsHandled S.Store book.old book.new (submit submission.Command body.now)
+        (answer_of result) }
 {
     match command_of_json(alloc, body) {
         Ok((number, command)) => {

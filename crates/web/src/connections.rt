@@ -1,4 +1,5 @@
 //! The connection of a client, from its taking to its end.
+//! Clients that wait, stop or break off: `tests/serve.py`. Wrong bodies: `must-fail/`.
 ghost use Rattle.std.specs.Prelude.{◌≡◌, Err, IfErr};
 ghost use Rattle.std.specs.Io.Buffered.{reader_inner};
 ghost use Rattle.web.specs.Connections.{IsServedOnce};
@@ -63,7 +64,7 @@ pub fn serve_one<S: Alter>(
     let Ok((stream, _peer)) = listener.accept() else {
         return Err(ServeFault::Network);
     };
-    let served = answer(alloc, &stream, book)?;
+    let served = respond(alloc, &stream, book)?;
     // (the client has its response by then: how the connection ends changes nothing for it)
     let _ = end(&stream);
     Ok(served)
@@ -71,7 +72,7 @@ pub fn serve_one<S: Alter>(
 
 /// Has a book answer the request of a connection.
 #[tactic(auto, using(crate::proofs::Untaken::none_served))]
-fn answer<S: Alter>(
+fn respond<S: Alter>(
     alloc: Global,
     stream: &TcpStream,
     book: &mut Book<S>,
@@ -96,7 +97,8 @@ fn limit_waits(stream: &TcpStream) -> io::Result<()> {
     stream.set_write_timeout(Some(limit))
 }
 
-/// A reader that asks the system for a buffer of bytes at a time; where there is no memory for one, for each byte.
+/// Makes a reader that asks the system for a buffer of bytes at a time; where there is no memory for one, for each
+/// byte.
 fn reader_of(alloc: Global, stream: &TcpStream) -> BufReader<&TcpStream>
     ensures { reader_inner result ≡ stream.entry }
 {
@@ -106,7 +108,7 @@ fn reader_of(alloc: Global, stream: &TcpStream) -> BufReader<&TcpStream>
     }
 }
 
-/// A reader with a buffer of no byte, which takes no memory.
+/// Makes a reader with a buffer of no byte, which takes no memory.
 fn unbuffered(alloc: Global, stream: &TcpStream) -> BufReader<&TcpStream>
     ensures { reader_inner result ≡ stream.entry }
 {

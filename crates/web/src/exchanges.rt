@@ -1,11 +1,12 @@
-//! One exchange with a book.
+//! One exchange with a book. The response to an input in a state is `specs/Response.antt`.
+//! What clients send and are answered: `tests/exchanges.py`. Wrong bodies: `must-fail/`.
 ghost use Rattle.std.specs.Prelude.{◌≡◌, IfErr, IfOk, IsTrue};
 ghost use Rattle.roster.specs.Honest.{Honest};
 ghost use Rattle.roster.specs.State.{State};
 ghost use Rattle.sqlite.specs.Held.{state};
 ghost use Rattle.writing.specs.Kept.{KeepOthers};
-ghost use Rattle.writing.specs.Outcomes.{AddsOnly, Leaves};
-ghost use Rattle.book.specs.Kept.{IsAt, IsClean};
+ghost use Rattle.writing.specs.Outcomes.{CrashAddsOnly, CrashLeaves};
+ghost use Rattle.book.specs.Kept.{IsDurablyAt, IsClean};
 ghost use Rattle.web.specs.Serving as spec;
 
 use crate::commands::answer_command;
@@ -51,13 +52,25 @@ pub fn exchange<R: Read, W: Write, S: Alter>(
     writer: &mut W,
     book: &mut Book<S>,
 ) -> Result<Served, ChannelFault>
-    ensures served { (s : State) → IsAt S.Store book.old s → IsClean S.Store book.new → IfOk result (λ it. spec.IsServed S.Store s (R.remaining reader.old) (R.remaining reader.new) (W.contents writer.old) (W.contents writer.new) book.old book.new it) }
-    ensures broken_off { (s : State) → IsAt S.Store book.old s → IfErr result (λ fault. spec.IsBrokenOff S.Store s (R.remaining reader.old) book.old book.new fault) }
-    ensures once { (s : State) → IsAt S.Store book.old s → spec.AsksOnce S.Store s book.old book.new }
+    // The response, or where the exchange is broken off; and that the book is asked once.
+    ensures served { (s : State) → IsDurablyAt S.Store book.old s → IsClean S.Store book.new
+        → IfOk result
+        (λ it. spec.IsServed S.Store s (R.remaining reader.old) (R.remaining reader.new)
+        (W.contents writer.old) (W.contents writer.new) book.old book.new it) }
+    ensures broken_off { (s : State) → IsDurablyAt S.Store book.old s → IfErr result
+        (λ fault. spec.IsBrokenOff S.Store s (R.remaining reader.old) book.old book.new fault) }
+    ensures once { (s : State) → IsDurablyAt S.Store book.old s
+        → spec.AsksOnce S.Store s book.old book.new }
+
+    // A book that has failed, the disk, and an honest book.
     ensures shut { IsTrue book.old.failed → book.new ≡ book.old }
-    ensures clean { IsClean S.Store book.new → IsClean S.Store book.old }
-    ensures honest { (s : State) → IsAt S.Store book.old s → Honest s → Leaves (state S.Store book.new.held) Honest }
-    ensures others { AddsOnly (state S.Store book.old.held) (state S.Store book.new.held) (KeepOthers (state S.Store book.old.held).now) }
+    ensures disk { IsClean S.Store book.new → IsClean S.Store book.old }
+    ensures honest { (s : State) → IsDurablyAt S.Store book.old s → Honest s
+        → CrashLeaves (state S.Store book.new.held) Honest }
+
+    // What stands beside the book in the database.
+    ensures others_left { CrashAddsOnly (state S.Store book.old.held) (state S.Store book.new.held)
+        (KeepOthers (state S.Store book.old.held).now) }
 {
     http_exchange::exchange(alloc, reader, writer, &BookHandler, book)
 }

@@ -1,6 +1,7 @@
 //! Schedules that are posted.
+//! What clients send and are answered: `tests/exchanges.py`. Wrong bodies: `must-fail/`.
 ghost use Rattle.std.specs.Prelude.{◌≡◌, ◌≤◌, IfOk, length};
-ghost use Rattle.command.specs.declared.order.Order.TheVariants.{AddPairing};
+ghost use Rattle.command.specs.declared.instruction.Instruction.TheVariants.{AddPairing};
 ghost use Rattle.roster.specs.Folds.{import};
 ghost use Rattle.http_message.specs.declared.plan.Submission.TheVariants as submission;
 ghost use Rattle.http_exchange.specs.Handler.{answer_of, submit};
@@ -10,7 +11,7 @@ use crate::answers::{fault_of, in_json, told_unread};
 use crate::parts::parts_to_json;
 use book::{Book, Run};
 use codec::{CodecFault, schedule_of_csv};
-use command::{Command, Key, Order};
+use command::{Command, Instruction, Key};
 use duty::Pairing;
 use http::StatusCode;
 use http_exchange::{HandlerFault, Response};
@@ -26,7 +27,8 @@ pub(crate) fn answer_schedule<S: Alter>(
     number: ImportNumber,
     body: &[u8],
 ) -> Result<Response, HandlerFault>
-    ensures { spec.IsHandled S.Store book.old book.new (submit (submission.Import number) body.now) (answer_of result) }
+    ensures { spec.IsHandled S.Store book.old book.new (submit (submission.Import number) body.now)
+        (answer_of result) }
 {
     match schedule_of_csv(alloc, body) {
         Ok(pairings) => add_all(alloc, book, number, pairings),
@@ -52,7 +54,7 @@ fn add_all<S: Alter>(
     told_parts(alloc, &run)
 }
 
-/// What the parts were answered, as it is told: all of them, or the fault that ended them.
+/// Tells what the parts were answered: all of them, or the fault that ended them.
 fn told_parts(alloc: Global, run: &Run) -> Result<Response, HandlerFault>
     ensures { spec.AreToldAs run.now.answers.items run.now.fault (answer_of result) }
 {
@@ -62,7 +64,7 @@ fn told_parts(alloc: Global, run: &Run) -> Result<Response, HandlerFault>
     }
 }
 
-/// The commands that add pairings under the parts of a number.
+/// Makes the commands that add pairings under the parts of a number.
 fn commands_of(
     alloc: Global,
     number: ImportNumber,
@@ -80,14 +82,14 @@ fn commands_of(
     Ok(commands)
 }
 
-/// The command that adds a pairing.
-#[tactic(auto, unfolding(command::specs::Orders::order_fault))]
+/// Makes the command that adds a pairing.
+#[tactic(auto, unfolding(command::specs::Instructions::instruction_fault))]
 fn adding(pairing: Pairing) -> Command
     ensures { result ≡ AddPairing pairing }
 {
     // It has no fault, and so the command has none.
     let _sound = pairing.periods();
-    match Command::new(Order::AddPairing(pairing)) {
+    match Command::new(Instruction::AddPairing(pairing)) {
         Ok(command) => command,
         Err(_fault) => unreachable!(),
     }

@@ -1,4 +1,5 @@
 //! The parts of an import in JSON.
+//! What clients are answered: `tests/exchanges.py`. Wrong bodies: `must-fail-more/`.
 ghost use Rattle.std.specs.Prelude.{◌≡◌, ◌++◌, IfOk, codes, map, string_bytes};
 ghost use Rattle.std.specs.List.{flat_map};
 ghost use Rattle.book.specs.Kept.{result_of};
@@ -9,9 +10,10 @@ use codec::{refusal_to_json, reply_to_json};
 use std::alloc::Global;
 use values::MemoryFault;
 
-/// What each part was answered, in turn, as `{"parts":[..]}`.
+/// Writes what each part was answered, in turn, as `{"parts":[..]}`.
 pub(crate) fn parts_to_json(alloc: Global, answers: &[Answer]) -> Result<String, MemoryFault>
-    ensures { IfOk result (λ text. string_bytes text ≡ spec.parts_text (map result_of answers.now)) }
+    ensures { IfOk result
+        (λ text. string_bytes text ≡ spec.parts_text (map result_of answers.now)) }
 {
     let mut text = String::from_str(alloc, "{\"parts\":[")?;
     text.push_str(&listed(alloc, answers)?)?;
@@ -19,9 +21,10 @@ pub(crate) fn parts_to_json(alloc: Global, answers: &[Answer]) -> Result<String,
     Ok(text)
 }
 
-/// The answers with a comma between.
+/// Writes the answers with a comma between.
 fn listed(alloc: Global, answers: &[Answer]) -> Result<String, MemoryFault>
-    ensures { IfOk result (λ text. string_bytes text ≡ spec.with_commas (map result_of answers.now)) }
+    ensures { IfOk result
+        (λ text. string_bytes text ≡ spec.with_commas (map result_of answers.now)) }
 {
     let Some((first, others)) = answers.split_first() else {
         return Ok(String::new(alloc));
@@ -31,9 +34,10 @@ fn listed(alloc: Global, answers: &[Answer]) -> Result<String, MemoryFault>
     Ok(text)
 }
 
-/// The other answers, each after a comma.
+/// Writes the other answers, each after a comma.
 fn others_to_json(alloc: Global, answers: &[Answer]) -> Result<String, MemoryFault>
-    ensures { IfOk result (λ text. string_bytes text ≡ flat_map (λ a. codes "," ++ spec.answer_text a) (map result_of answers.now)) }
+    ensures { IfOk result (λ text. string_bytes text
+        ≡ flat_map (λ a. codes "," ++ spec.answer_text a) (map result_of answers.now)) }
 {
     let mut text = String::new(alloc);
     for answer in answers {
@@ -43,7 +47,7 @@ fn others_to_json(alloc: Global, answers: &[Answer]) -> Result<String, MemoryFau
     Ok(text)
 }
 
-/// What a command was answered.
+/// Writes what a command was answered.
 fn answer_to_json(alloc: Global, answer: &Answer) -> Result<String, MemoryFault>
     ensures { IfOk result (λ text. string_bytes text ≡ spec.answer_text (result_of answer.now)) }
 {

@@ -1,4 +1,5 @@
 //! Reports that are asked for.
+//! What clients send and are answered: `tests/exchanges.py`. Wrong bodies: `must-fail/`.
 ghost use Rattle.std.specs.Prelude.{◌≡◌, IfOk};
 ghost use Rattle.http_message.specs.Plan.{subject};
 ghost use Rattle.http_exchange.specs.Handler.{answer_of, show};
@@ -25,7 +26,8 @@ pub(crate) fn answer_report<S: Alter>(
     book: &mut Book<S>,
     report: &Report<'_>,
 ) -> Result<Response, HandlerFault>
-    ensures { spec.IsHandled S.Store book.old book.new (show (subject report.now)) (answer_of result) }
+    ensures { spec.IsHandled S.Store book.old book.new (show (subject report.now))
+        (answer_of result) }
 {
     let Ok(what) = shown_by(alloc, report) else {
         return Err(HandlerFault::Memory);
@@ -34,7 +36,7 @@ pub(crate) fn answer_report<S: Alter>(
     told_report(alloc, shown, &what)
 }
 
-/// What a book shows for a report.
+/// Names what a book shows for a report.
 fn shown_by(alloc: Global, report: &Report<'_>) -> Result<Show, MemoryFault>
     ensures { IfOk result (λ what. what ≡ show_of (subject report.now)) }
 {
@@ -45,14 +47,14 @@ fn shown_by(alloc: Global, report: &Report<'_>) -> Result<Show, MemoryFault>
     })
 }
 
-/// A copy of a text.
+/// Copies a text.
 fn copy_of(alloc: Global, text: &str) -> Result<Text, MemoryFault>
     ensures { IfOk result (λ copy. copy ≡ text.now) }
 {
     Ok(Text::new(String::from_str(alloc, text)?))
 }
 
-/// What the book shows, as it is told.
+/// Tells what the book shows.
 fn told_report(
     alloc: Global,
     shown: Result<Roster, BookFault>,
@@ -66,7 +68,7 @@ fn told_report(
     }
 }
 
-/// A report of a roster, as it is told.
+/// Tells a report of a roster.
 fn reported(alloc: Global, roster: &Roster, what: &Show) -> Result<Response, HandlerFault>
     ensures { spec.IsReported roster.now what.now (answer_of result) }
 {
@@ -82,14 +84,14 @@ fn reported(alloc: Global, roster: &Roster, what: &Show) -> Result<Response, Han
     }
 }
 
-/// That the member or the pairing of a report isn't there.
+/// Tells that the member or the pairing of a report isn't there.
 fn absent(alloc: Global, refusal: &Refusal) -> Result<Response, HandlerFault>
     ensures { spec.TellsAbsence refusal.now (answer_of result) }
 {
     in_json(StatusCode::NOT_FOUND, refusal_to_json(alloc, refusal))
 }
 
-/// A text of a roster.
+/// Writes a text of a roster.
 fn text_of(alloc: Global, roster: &Roster, what: &Show) -> Result<String, ReportFault>
     ensures { spec.IsTextOf roster.now what.now result }
 {

@@ -4,7 +4,7 @@ use Rattle.std.proofs.lemmas.Bool.{true≢false}
 use Rattle.sqlite.specs.Effect.{Database}
 use Rattle.sqlite.specs.State.{State, HasCleanDisk, Shows, KeepsCommit}
 use Rattle.sqlite.proofs.StateLemmas.{survives_then, survives_weaker}
-use Rattle.tables.specs.Calls.{Ran, MayLeave, Leaves, LeavesNothing}
+use Rattle.tables.specs.Calls.{Ran, CrashMayLeave, IsUnchangedOrUndone, CrashLeavesNoMore}
 use Rattle.tables.specs.declared.table_fault.TableFault.{TableFault}
 use Rattle.writing.specs.Calls.{IsInside, Changed, Then, Each, Fitting, IsFit, IsReady, Wrote}
 
@@ -13,7 +13,7 @@ use Rattle.writing.specs.Calls.{IsInside, Changed, Then, Each, Fitting, IsFit, I
 shown_keeps : (old new : State) (now : Database) → Shows old new now old.committed true → KeepsCommit old new
 shown_keeps old new now shows = record { was_open = λ _. shows.was_open; committed = λ _. shows.committed_is }
 
-pub left_keeps : (old new : State) → Leaves old new → KeepsCommit old new
+pub left_keeps : (old new : State) → IsUnchangedOrUndone old new → KeepsCommit old new
 left_keeps old new (inl same) = record { was_open = λ _. same.0.was_open; committed = λ _. same.0.committed_is }
 left_keeps old new (inr back) = record { was_open = back.was_open; committed = λ o. (back.undone o).1 }
 
@@ -25,11 +25,11 @@ keeps_then a b c one two = record {
 
 -- ---- One call
 
-module _ (Is : Database → Database → Type 0) (old new : State) (inside : IsInside old) (left : MayLeave Is old new) where
+module _ (Is : Database → Database → Type 0) (old new : State) (inside : IsInside old) (left : CrashMayLeave Is old new) where
   clean_before : HasCleanDisk new → HasCleanDisk old
   clean_before clean = omega (arith, left.clean)
 
-  nothing_left : LeavesNothing old new
+  nothing_left : CrashLeavesNoMore old new
   nothing_left = survives_weaker old new _ _ (λ clean db may. true≢false (sym (inside (clean_before clean)) ∙ may.0)) left
 
   pub one_call : {A : Type 0} (result : Result A TableFault) → Ran Is old new result → Changed Is old new result
@@ -116,7 +116,7 @@ nothing_done Is s a inside opened is = record {
 abbrev pub Keeps : (Database → Database → Type 0) → Type 0
 Keeps Is = (old new : Database) → IsFit old → Is old new → IsFit new
 
-pub one_write : {A : Type 0} {Is : Database → Database → Type 0} (old new : State) (result : Result A TableFault) → Keeps Is → IsReady old → Ran Is old new result → MayLeave Is old new →
+pub one_write : {A : Type 0} {Is : Database → Database → Type 0} (old new : State) (result : Result A TableFault) → Keeps Is → IsReady old → Ran Is old new result → CrashMayLeave Is old new →
     Wrote Is old new result
 one_write {Is = Is} old new (Ok a) keeps ready ran left =
     let changed = one_call Is old new ready.inside left (Ok a) ran in
@@ -130,7 +130,7 @@ one_write {Is = Is} old new (Ok a) keeps ready ran left =
     }
 one_write {Is = Is} old new (Err fault) keeps ready ran left = record { changed = one_call Is old new ready.inside left (Err fault) ran; ready = tt }
 
-pub wrote_ok : {A E : Type 0} {Is : Database → Database → Type 0} (old new : State) (a : A) → Keeps Is → IsReady old → Ran Is old new (Ok a) → MayLeave Is old new → Wrote {E = E} Is old new (Ok a)
+pub wrote_ok : {A E : Type 0} {Is : Database → Database → Type 0} (old new : State) (a : A) → Keeps Is → IsReady old → Ran Is old new (Ok a) → CrashMayLeave Is old new → Wrote {E = E} Is old new (Ok a)
 wrote_ok {E = E} {Is = Is} old new a keeps ready ran left =
     let wrote = one_write old new (Ok a) keeps ready ran left in
     record {

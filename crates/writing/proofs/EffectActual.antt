@@ -24,21 +24,21 @@ use Rattle.roster.specs.Pairings.{holder}
 use Rattle.roster.specs.State.{State, exceedance_name}
 use Rattle.roster.specs.Steps.{with_actual, recorded}
 use Rattle.roster.specs.declared.state.PeriodId.{PeriodId}
-use Rattle.roster.specs.declared.state.Rostered.{Rostered}
+use Rattle.roster.specs.declared.state.PairingEntry.{PairingEntry}
 use Rattle.tables.specs.Records.{with_period_times}
 use Rattle.tables.specs.Rows.{begins_with}
 use Rattle.tables.specs.declared.period.PeriodRecord.{PeriodRecord}
 use Rattle.tables.proofs.PeriodTexts.{with_period_times_is}
 use Rattle.writing.specs.Calls.{IsFit, Then}
-use Rattle.rows.specs.Rows.{TableName, pairing, period, segment, seat, exceedance, At, PeriodOf, SegmentOf, ExceedanceAt, In, InPairing, InPeriod, InSegment, InSeat, InExceedance, Rows, row_of_period, row_of_segment, row_of_exceedance, times_flown}
+use Rattle.state_rows.specs.Rows.{TableName, pairing, period, segment, seat, exceedance, At, PeriodOf, SegmentOf, ExceedanceAt, In, InPairing, InPeriod, InSegment, InSeat, InExceedance, Rows, row_of_period, row_of_segment, row_of_exceedance, times_flown}
 use Rattle.writing.specs.Writing.{FliesPeriod, FliesSegments, RecordsAll}
 use Rattle.writing.proofs.Growing.{SomeOf, placed, some_of, each_grows}
-use Rattle.rows.proofs.Lists.{one_value, some_same}
+use Rattle.state_rows.proofs.Lists.{one_value, some_same}
 use Rattle.writing.proofs.Retiming.{Flown, after, all_flown, flown_to, flown_from, after_past, after_here, hit_none, hit_one, hit_other}
 use Rattle.writing.proofs.Sets as sets
 use Rattle.writing.proofs.Tables.{fit_after, updates_keep}
-use Rattle.rows.proofs.Tests.{found, passes, fails, others}
-use Rattle.rows.proofs.Values.{text_is, number_is}
+use Rattle.state_rows.proofs.Tests.{found, passes, fails, others}
+use Rattle.state_rows.proofs.Values.{text_is, number_is}
 
 -- ---- Exceedances
 
@@ -117,14 +117,14 @@ module _ (key : KeyParts) (p : PeriodId) where
 
 -- ---- The pairing
 
-holder_stays : (a : ActualTimes) (r : Rostered) (x : Seat) → holder x (with_actual a r) ≡ holder x r
+holder_stays : (a : ActualTimes) (r : PairingEntry) (x : Seat) → holder x (with_actual a r) ≡ holder x r
 holder_stays a r Captain = refl
 holder_stays a r FirstOfficer = refl
 
-module _ (s : State) (id : List ℕ) (a : ActualTimes) (r : Rostered) (there : fin.get s.pairings id ≡ Some r)
+module _ (s : State) (id : List ℕ) (a : ActualTimes) (r : PairingEntry) (there : fin.get s.pairings id ≡ Some r)
     (place : ℕ) (number_is_next : a.period ≡ place + 1) (fdp : Fdp) (planned : slice_get r.plan.periods place ≡ Some fdp)
     (count : length fdp.segments ≡ length a.segments) (room : place < length r.actuals) where
-  abbrev now : Rostered
+  abbrev now : PairingEntry
   now = with_actual a r
 
   abbrev flown : State
@@ -160,8 +160,8 @@ module _ (s : State) (id : List ℕ) (a : ActualTimes) (r : Rostered) (there : f
     place = p.place;
     fdp = p.fdp;
     actual = p.actual;
-    planned = ap (λ (x : Rostered). slice_get x.plan.periods p.place) (sym (same_here h same)) ∙ p.planned;
-    flown = set_not p.place other ∙ ap (λ (x : Rostered). slice_get x.actuals p.place) (sym (same_here h same)) ∙ p.flown;
+    planned = ap (λ (x : PairingEntry). slice_get x.plan.periods p.place) (sym (same_here h same)) ∙ p.planned;
+    flown = set_not p.place other ∙ ap (λ (x : PairingEntry). slice_get x.actuals p.place) (sym (same_here h same)) ∙ p.flown;
   }
 
   -- the period as it was
@@ -181,13 +181,13 @@ module _ (s : State) (id : List ℕ) (a : ActualTimes) (r : Rostered) (there : f
   abbrev before_period : (p : PeriodOf now) → (p.place ≡ place → ⊥) → PeriodOf r
   before_period p other = record { place = p.place; fdp = p.fdp; actual = p.actual; planned = p.planned; flown = sym (set_not p.place other) ∙ p.flown }
 
-  abbrev as_now : (x : Rostered) → x ≡ now → PeriodOf x → PeriodOf now
+  abbrev as_now : (x : PairingEntry) → x ≡ now → PeriodOf x → PeriodOf now
   as_now x same p = record {
     place = p.place;
     fdp = p.fdp;
     actual = p.actual;
-    planned = ap (λ (y : Rostered). slice_get y.plan.periods p.place) (sym same) ∙ p.planned;
-    flown = ap (λ (y : Rostered). slice_get y.actuals p.place) (sym same) ∙ p.flown;
+    planned = ap (λ (y : PairingEntry). slice_get y.plan.periods p.place) (sym same) ∙ p.planned;
+    flown = ap (λ (y : PairingEntry). slice_get y.actuals p.place) (sym same) ∙ p.flown;
   }
 
   this_period : (p : PeriodOf now) → p.place ≡ place → (p.fdp ≡ fdp) × (p.actual ≡ Some a)
@@ -277,7 +277,7 @@ module _ (s : State) (id : List ℕ) (a : ActualTimes) (r : Rostered) (there : f
           let name : w.0.name ≡ id = text_is hit.0 in
           let next : w.1.place + 1 ≡ a.period = number_is hit.1.0 in
           let same_place : w.1.place ≡ place = omega (arith, next, number_is_next) in
-          let f : w.1.fdp ≡ fdp = one_value (ap (λ (x : Rostered). slice_get x.plan.periods w.1.place) (sym (same_here w.0 name)) ∙ w.1.planned) (ap (slice_get r.plan.periods) same_place ∙ planned) in
+          let f : w.1.fdp ≡ fdp = one_value (ap (λ (x : PairingEntry). slice_get x.plan.periods w.1.place) (sym (same_here w.0 name)) ∙ w.1.planned) (ap (slice_get r.plan.periods) same_place ∙ planned) in
           let is : row ≡ row_of_period w.0.name place fdp (Some a) =
           it.3 ∙ ap (with_period_times a.report a.release) w.2 ∙ period_retimed w.0.name w.1.place w.1.fdp w.1.actual ∙ (λ i. row_of_period w.0.name (same_place i) (f i) (Some a)) in
           (now_at w.0.name name, flown_period, is)
@@ -341,7 +341,7 @@ module _ (s : State) (id : List ℕ) (a : ActualTimes) (r : Rostered) (there : f
       elim (decide w.0.name id) [
         | inl same ↦ elim (cases_eq w.1.place place) [
           | inl here ↦
-              let f : w.1.fdp ≡ fdp = one_value (ap (λ (x : Rostered). slice_get x.plan.periods w.1.place) (sym (same_here w.0 same)) ∙ w.1.planned) (ap (slice_get r.plan.periods) here ∙ planned) in
+              let f : w.1.fdp ≡ fdp = one_value (ap (λ (x : PairingEntry). slice_get x.plan.periods w.1.place) (sym (same_here w.0 same)) ∙ w.1.planned) (ap (slice_get r.plan.periods) here ∙ planned) in
               let at : slice_get fdp.segments w.2.place ≡ Some w.2.segment = ap (λ (x : Fdp). slice_get x.segments w.2.place) (sym f) ∙ w.2.planned in
               let g : SegmentOf fdp = record { place = w.2.place; segment = w.2.segment; planned = at } in
               (now_at w.0.name same, flown_period, g, is ∙ (λ i. row_of_segment w.0.name (here i) w.2.place w.2.segment (retimed_here w.0.name w.1.place w.2.place w.2.segment tf same here at i)))

@@ -14,17 +14,17 @@ use Rattle.command.specs.declared.member.Seat.TheVariants.{Captain, FirstOfficer
 use Rattle.roster.proofs.Accepted.{inserted, insert_here, insert_keeps, removed, remove_elsewhere}
 use Rattle.roster.specs.Pairings.{holder, is_crewed, unheld}
 use Rattle.roster.specs.State.{State}
-use Rattle.roster.specs.declared.state.Rostered.{Rostered}
+use Rattle.roster.specs.declared.state.PairingEntry.{PairingEntry}
 use Rattle.tables.specs.Rows.{begins_with}
 use Rattle.writing.specs.Calls.{IsFit}
-use Rattle.rows.specs.Rows.{TableName, book, crew, pairing, period, segment, seat, ground_duty, exceedance, request, table, At, PeriodOf, SegmentOf, In, InPairing, InPeriod, InSegment, InSeat, Rows, row_of_pairing, row_of_period, row_of_segment}
+use Rattle.state_rows.specs.Rows.{TableName, book, crew, pairing, period, segment, seat, ground_duty, exceedance, request, table, At, PeriodOf, SegmentOf, In, InPairing, InPeriod, InSegment, InSeat, Rows, row_of_pairing, row_of_period, row_of_segment}
 use Rattle.writing.specs.Writing.{AddsPairing, RemovesPairing}
 use Rattle.writing.proofs.Growing.{SomeOf, placed, some_of, each_grows}
-use Rattle.rows.proofs.Lists.{one_value}
+use Rattle.state_rows.proofs.Lists.{one_value}
 use Rattle.writing.proofs.Sets as sets
 use Rattle.writing.proofs.Tables.{fit_after, inserts_keep, deletes_keep}
-use Rattle.rows.proofs.Tests.{fails, others}
-use Rattle.rows.proofs.Values.{text_is}
+use Rattle.state_rows.proofs.Tests.{fails, others}
+use Rattle.state_rows.proofs.Values.{text_is}
 
 from_zero : (n : ℕ) → 0 + n ≡ n
 from_zero n = omega arith
@@ -82,8 +82,8 @@ module _ (s : State) (plan : Plan) (free : fin.get s.pairings plan.id ≡ None) 
     λ h. elim (inserted s.pairings plan.id (unheld plan) h.0.name h.0.value h.0.there) [
       | inl new ↦
           let p = subst PeriodOf (sym new.1) h.1 in
-          let planned : slice_get plan.periods h.1.place ≡ Some h.1.fdp = ap (λ (r : Rostered). slice_get r.plan.periods h.1.place) new.1 ∙ h.1.planned in
-          let flown : None ≡ h.1.actual = one_value (none_flown plan h.1.place h.1.fdp planned) (ap (λ (r : Rostered). slice_get r.actuals h.1.place) new.1 ∙ h.1.flown) in
+          let planned : slice_get plan.periods h.1.place ≡ Some h.1.fdp = ap (λ (r : PairingEntry). slice_get r.plan.periods h.1.place) new.1 ∙ h.1.planned in
+          let flown : None ≡ h.1.actual = one_value (none_flown plan h.1.place h.1.fdp planned) (ap (λ (r : PairingEntry). slice_get r.actuals h.1.place) new.1 ∙ h.1.flown) in
           let is : row ≡ row_of_period plan.id (0 + h.1.place) h.1.fdp None =
           h.2 ∙ (λ i. row_of_period (new.0 i) (sym (from_zero h.1.place) i) h.1.fdp (sym flown i)) in
           inl (some_of (NewPeriod plan.id) 0 plan.periods row h.1.place h.1.fdp planned is)
@@ -103,10 +103,10 @@ module _ (s : State) (plan : Plan) (free : fin.get s.pairings plan.id ≡ None) 
     ],
     λ h. elim (inserted s.pairings plan.id (unheld plan) h.0.name h.0.value h.0.there) [
       | inl new ↦
-          let planned : slice_get plan.periods h.1.place ≡ Some h.1.fdp = ap (λ (r : Rostered). slice_get r.plan.periods h.1.place) new.1 ∙ h.1.planned in
-          let flown : None ≡ h.1.actual = one_value (none_flown plan h.1.place h.1.fdp planned) (ap (λ (r : Rostered). slice_get r.actuals h.1.place) new.1 ∙ h.1.flown) in
+          let planned : slice_get plan.periods h.1.place ≡ Some h.1.fdp = ap (λ (r : PairingEntry). slice_get r.plan.periods h.1.place) new.1 ∙ h.1.planned in
+          let flown : None ≡ h.1.actual = one_value (none_flown plan h.1.place h.1.fdp planned) (ap (λ (r : PairingEntry). slice_get r.actuals h.1.place) new.1 ∙ h.1.flown) in
           let is : row ≡ row_of_segment plan.id (0 + h.1.place) (0 + h.2.place) h.2.segment None =
-          h.3 ∙ (λ i. row_of_segment (new.0 i) (sym (from_zero h.1.place) i) (sym (from_zero h.2.place) i) h.2.segment (Rattle.rows.specs.Rows.times_flown (sym flown i) h.2.place)) in
+          h.3 ∙ (λ i. row_of_segment (new.0 i) (sym (from_zero h.1.place) i) (sym (from_zero h.2.place) i) h.2.segment (Rattle.state_rows.specs.Rows.times_flown (sym flown i) h.2.place)) in
           inl (some_of (NewSegments plan.id) 0 plan.periods row h.1.place h.1.fdp planned
           (some_of (NewSegment plan.id (0 + h.1.place)) 0 h.1.fdp.segments row h.2.place h.2.segment h.2.planned is))
       | inr was ↦ inr (record { name = h.0.name; value = h.0.value; there = was.1 }, h.1, h.2, h.3)
@@ -159,11 +159,11 @@ module _ (s : State) (plan : Plan) (free : fin.get s.pairings plan.id ≡ None) 
 
 -- ---- A pairing that goes
 
-uncrewed : (r : Rostered) → is_crewed r ≡ false → (a : Seat) (who : List ℕ) → holder a r ≡ Some who → ⊥
+uncrewed : (r : PairingEntry) → is_crewed r ≡ false → (a : Seat) (who : List ℕ) → holder a r ≡ Some who → ⊥
 uncrewed r free Captain who e = true≢false (sym (ap (λ o. is_some o || is_some r.first_officer) e) ∙ free)
 uncrewed r free FirstOfficer who e = true≢false (sym (or_right (is_some r.captain) (is_some r.first_officer) (ap is_some e)) ∙ free)
 
-module _ (s : State) (id : List ℕ) (uncrewed_there : (r : Rostered) → fin.get s.pairings id ≡ Some r → is_crewed r ≡ false) where
+module _ (s : State) (id : List ℕ) (uncrewed_there : (r : PairingEntry) → fin.get s.pairings id ≡ Some r → is_crewed r ≡ false) where
   abbrev gone : State
   gone = record s { pairings = fin.remove s.pairings id }
 
@@ -179,7 +179,7 @@ module _ (s : State) (id : List ℕ) (uncrewed_there : (r : Rostered) → fin.ge
 
   is_left : (name : List ℕ) (row : Row) → column row 0 ≡ Text name → (name ≡ id → ⊥) → of_id row ≡ false
   is_left name row first other =
-      fails (Text id ∷ []) row (subst Rattle.rows.proofs.Tests.IsPlain (sym first) tt, tt, tt) (λ c. other (text_is (sym first ∙ c.0)))
+      fails (Text id ∷ []) row (subst Rattle.state_rows.proofs.Tests.IsPlain (sym first) tt, tt, tt) (λ c. other (text_is (sym first ∙ c.0)))
 
   pairing_gone : (row : Row) → (InPairing s row × (of_id row ≡ false)) ↔ InPairing gone row
   pairing_gone row = (

@@ -4,30 +4,30 @@ use Rattle.std.specs.FinMap as fin
 use Rattle.values.specs.Name.{name_cmp}
 use Rattle.sqlite_value.specs.Order.{Row}
 use Rattle.roster.specs.State.{State}
-use Rattle.roster.specs.declared.state.Rostered.{Rostered}
-use Rattle.rows.specs.Rows.{PeriodOf, InPairing, InPeriod, InSegment}
+use Rattle.roster.specs.declared.state.PairingEntry.{PairingEntry}
+use Rattle.state_rows.specs.Rows.{PeriodOf, InPairing, InPeriod, InSegment}
 
 abbrev pub Pairings : Type 0
-Pairings = fin.FinMap name_cmp Rostered
+Pairings = fin.FinMap name_cmp PairingEntry
 
 -- the same plan and actuals
-pub record SamePlan (r q : Rostered) : Type 0 where
+pub record SamePlan (r q : PairingEntry) : Type 0 where
   pub plan : r.plan ≡ q.plan
   pub actuals : r.actuals ≡ q.actuals
 
-pub record Found (n : Pairings) (id : List ℕ) (r : Rostered) : Type 0 where
-  pub other : Rostered
+pub record Found (n : Pairings) (id : List ℕ) (r : PairingEntry) : Type 0 where
+  pub other : PairingEntry
   pub there : fin.get n id ≡ Some other
   pub same : SamePlan r other
 
 -- each pairing of the first has its plan and actuals in the second
 abbrev pub SamePlans : Pairings → Pairings → Type 0
-SamePlans m n = (id : List ℕ) (r : Rostered) → fin.get m id ≡ Some r → Found n id r
+SamePlans m n = (id : List ℕ) (r : PairingEntry) → fin.get m id ≡ Some r → Found n id r
 
 abbrev with_pairings : State → Pairings → State
 with_pairings s n = record s { pairings = n }
 
-abbrev moved : (r q : Rostered) → SamePlan r q → PeriodOf r → PeriodOf q
+abbrev moved : (r q : PairingEntry) → SamePlan r q → PeriodOf r → PeriodOf q
 moved r q same p = record {
   place = p.place;
   fdp = p.fdp;

@@ -13,18 +13,18 @@ use Rattle.roster.specs.Pairings.{holder, with_holder}
 use Rattle.roster.specs.State.{State}
 use Rattle.roster.specs.Steps.{reseated}
 use Rattle.roster.specs.declared.change.SeatChange.{SeatChange}
-use Rattle.roster.specs.declared.state.Rostered.{Rostered}
+use Rattle.roster.specs.declared.state.PairingEntry.{PairingEntry}
 use Rattle.tables.specs.Rows.{Changes, begins_with, rows_of}
 use Rattle.writing.specs.Calls.{Then, Each, IsFit}
-use Rattle.rows.specs.Rows.{TableName, pairing, period, segment, seat, table, At, HeldSeat, In, InSeat, Rows, row_of_seat, seat_number}
+use Rattle.state_rows.specs.Rows.{TableName, pairing, period, segment, seat, table, At, HeldSeat, In, InSeat, Rows, row_of_seat, seat_number}
 use Rattle.writing.specs.Writing.{FreesSeat, Seats, Reseats}
 use Rattle.writing.proofs.EffectPlans.{Pairings, SamePlan, SamePlans, pairing_told, period_told, segment_told}
 use Rattle.writing.proofs.Growing.{changed_twice}
-use Rattle.rows.proofs.Lists.{one_value, some_same}
+use Rattle.state_rows.proofs.Lists.{one_value, some_same}
 use Rattle.writing.proofs.Sets as sets
 use Rattle.writing.proofs.Tables.{fit_after}
-use Rattle.rows.proofs.Tests.{fails, others}
-use Rattle.rows.proofs.Values.{text_is, number_is, seats_same}
+use Rattle.state_rows.proofs.Tests.{fails, others}
+use Rattle.state_rows.proofs.Values.{text_is, number_is, seats_same}
 
 -- ---- One pairing with another holder
 
@@ -34,27 +34,27 @@ seat_cases FirstOfficer FirstOfficer = inl refl
 seat_cases Captain FirstOfficer = inr (λ e. cc)
 seat_cases FirstOfficer Captain = inr (λ e. cc)
 
-held_here : (a : Seat) (who : Option (List ℕ)) (r : Rostered) → holder a (with_holder a who r) ≡ who
+held_here : (a : Seat) (who : Option (List ℕ)) (r : PairingEntry) → holder a (with_holder a who r) ≡ who
 held_here Captain who r = refl
 held_here FirstOfficer who r = refl
 
-held_there : (a b : Seat) (who : Option (List ℕ)) (r : Rostered) → (a ≡ b → ⊥) → holder a (with_holder b who r) ≡ holder a r
+held_there : (a b : Seat) (who : Option (List ℕ)) (r : PairingEntry) → (a ≡ b → ⊥) → holder a (with_holder b who r) ≡ holder a r
 held_there Captain Captain who r other = absurd (other refl)
 held_there FirstOfficer FirstOfficer who r other = absurd (other refl)
 held_there Captain FirstOfficer who r other = refl
 held_there FirstOfficer Captain who r other = refl
 
-plan_stays : (a : Seat) (who : Option (List ℕ)) (r : Rostered) → SamePlan r (with_holder a who r)
+plan_stays : (a : Seat) (who : Option (List ℕ)) (r : PairingEntry) → SamePlan r (with_holder a who r)
 plan_stays Captain who r = record { plan = refl; actuals = refl }
 plan_stays FirstOfficer who r = record { plan = refl; actuals = refl }
 
-turned : (r q : Rostered) → SamePlan r q → SamePlan q r
+turned : (r q : PairingEntry) → SamePlan r q → SamePlan q r
 turned r q same = record { plan = sym same.plan; actuals = sym same.actuals }
 
 -- ---- One seat
 
-module _ (m : Pairings) (c : SeatChange) (r : Rostered) (there : fin.get m c.pairing ≡ Some r) where
-  abbrev now : Rostered
+module _ (m : Pairings) (c : SeatChange) (r : PairingEntry) (there : fin.get m c.pairing ≡ Some r) where
+  abbrev now : PairingEntry
   now = with_holder c.seat c.holder r
 
   -- the pairing after the change
@@ -118,7 +118,7 @@ seat_changes c (Some who) old new fit h =
       λ k. elim k [ inl now ↦ inl now | inr was ↦ inr (freed.all x was) ],
     ))
 
-module _ (s : State) (c : SeatChange) (r : Rostered) (there : fin.get s.pairings c.pairing ≡ Some r) where
+module _ (s : State) (c : SeatChange) (r : PairingEntry) (there : fin.get s.pairings c.pairing ≡ Some r) where
   abbrev after : State
   after = record s { pairings = reseated s.pairings c }
 
@@ -200,7 +200,7 @@ module _ (s : State) (c : SeatChange) (r : Rostered) (there : fin.get s.pairings
 
 -- each seat is of a pairing that is there
 abbrev pub AreThere : Pairings → List SeatChange → Type 0
-AreThere m = AllByRecursion (λ c. (r : Rostered) × (fin.get m c.pairing ≡ Some r))
+AreThere m = AllByRecursion (λ c. (r : PairingEntry) × (fin.get m c.pairing ≡ Some r))
 
 still_there : (m n : Pairings) → SamePlans m n → (cs : List SeatChange) → AreThere m cs → AreThere n cs
 still_there m n told [] h = tt

@@ -9,13 +9,13 @@ use Rattle.command.specs.Keys.{KeyParts, key_name}
 use Rattle.command.specs.declared.member.Member.{Member}
 use Rattle.roster.proofs.Accepted.{inserted, insert_here, insert_keeps, removed, remove_elsewhere}
 use Rattle.roster.specs.State.{State}
-use Rattle.roster.specs.declared.state.Request.{Request}
+use Rattle.roster.specs.declared.state.LoggedCommand.{LoggedCommand}
 use Rattle.tables.specs.Rows.{Inserts, Deletes, begins_with}
 use Rattle.writing.specs.Calls.{IsFit}
-use Rattle.rows.specs.Rows.{TableName, crew, ground_duty, request, table, In, InCrew, InGround, InRequest, Rows, row_of_member, row_of_ground, row_of_request}
+use Rattle.state_rows.specs.Rows.{TableName, crew, ground_duty, request, table, In, InCrew, InGround, InRequest, Rows, row_of_member, row_of_ground, row_of_request}
 use Rattle.writing.proofs.Sets as sets
-use Rattle.rows.proofs.Tests.{fails, others}
-use Rattle.rows.proofs.Values.{text_is}
+use Rattle.state_rows.proofs.Tests.{fails, others}
+use Rattle.state_rows.proofs.Values.{text_is}
 
 -- ---- A new member
 
@@ -105,7 +105,7 @@ ground_removed s id old new fit rows deletes =
 
 -- ---- A command that is kept
 
-abbrev with_request : State → KeyParts → Request → State
+abbrev with_request : State → KeyParts → LoggedCommand → State
 with_request s key r = record s { requests = fin.insert s.requests (key_name key) r }
 
 key_is : (a b : KeyParts) → key_name a ≡ key_name b → a ≡ b
@@ -114,7 +114,7 @@ key_is a b e =
     let part : a.part ≡ b.part = cc in
     λ i. record { number = number i; part = part i }
 
-kept_added : (s : State) (key : KeyParts) (r : Request) → fin.get s.requests (key_name key) ≡ None → (row : Row) →
+kept_added : (s : State) (key : KeyParts) (r : LoggedCommand) → fin.get s.requests (key_name key) ≡ None → (row : Row) →
     ((row ≡ row_of_request key r) ⊎ InRequest s row) ↔ InRequest (with_request s key r) row
 kept_added s key r free row = (
   λ h. elim h [
@@ -127,12 +127,12 @@ kept_added s key r free row = (
   ],
 )
 
-kept_words : (s : State) (key : KeyParts) (r : Request) → fin.get s.requests (key_name key) ≡ None → (name : TableName) (row : Row) →
+kept_words : (s : State) (key : KeyParts) (r : LoggedCommand) → fin.get s.requests (key_name key) ≡ None → (name : TableName) (row : Row) →
     sets.put request (λ x. (x ≡ row_of_request key r) ⊎ InRequest s x) (In s) name row ↔ In (with_request s key r) name row
 kept_words s key r free request row = kept_added s key r free row
 kept_words s key r free name row = (λ h. h, λ h. h)
 
-pub request_added : (s : State) (key : KeyParts) (r : Request) (old new : Database) → fin.get s.requests (key_name key) ≡ None → IsFit old → Rows s old →
+pub request_added : (s : State) (key : KeyParts) (r : LoggedCommand) (old new : Database) → fin.get s.requests (key_name key) ≡ None → IsFit old → Rows s old →
     Inserts (table request) (row_of_request key r) old new → Rows (with_request s key r) new
 request_added s key r old new free fit rows inserts =
     sets.shows_as _ _ new (kept_words s key r free) (sets.inserted request old new fit (In s) rows (row_of_request key r) inserts)

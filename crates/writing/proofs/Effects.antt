@@ -5,9 +5,9 @@ use Rattle.std.specs.Option.{option_map_or}
 use Rattle.std.proofs.lemmas.Bool.{not-false}
 use Rattle.sqlite.specs.Effect.{Database}
 use Rattle.command.specs.Keys.{KeyParts, key_name}
-use Rattle.command.specs.Orders.{IsMade}
-use Rattle.command.specs.declared.order.Order.{Order}
-use Rattle.command.specs.declared.order.Order.TheVariants.{AddCrew, AddPairing, CancelPairing, Assign, Release, Swap, AddGround, CancelGround, Actual}
+use Rattle.command.specs.Instructions.{IsMade}
+use Rattle.command.specs.declared.instruction.Instruction.{Instruction}
+use Rattle.command.specs.declared.instruction.Instruction.TheVariants.{AddCrew, AddPairing, CancelPairing, Assign, Release, Swap, AddGround, CancelGround, Actual}
 use Rattle.roster.proofs.Accepted.{Passed, accepted}
 use Rattle.roster.proofs.Records.{names_same}
 use Rattle.roster.proofs.Sound.Flown.{found, get_within}
@@ -19,11 +19,11 @@ use Rattle.roster.specs.State.{State, exceedance_name}
 use Rattle.roster.specs.Steps.{after, change_of, effect, seat_change, recorded_by}
 use Rattle.roster.specs.declared.change.Change.{Change}
 use Rattle.roster.specs.declared.change.SeatChange.{SeatChange}
-use Rattle.roster.specs.declared.state.Rostered.{Rostered}
+use Rattle.roster.specs.declared.state.PairingEntry.{PairingEntry}
 use Rattle.writing.specs.Calls.{IsFit}
 use Rattle.writing.specs.Next.{IsNext}
-use Rattle.rows.specs.Rows.{ExceedanceAt, Rows}
-use Rattle.writing.specs.Writing.{Writes, WritesOrder}
+use Rattle.state_rows.specs.Rows.{ExceedanceAt, Rows}
+use Rattle.writing.specs.Writing.{Writes, WritesInstruction}
 use Rattle.writing.proofs.EffectActual.{actual_flown}
 use Rattle.writing.proofs.EffectPairing.{plan_added, pairing_removed}
 use Rattle.writing.proofs.EffectPlans.{Pairings}
@@ -36,7 +36,7 @@ absent (Some x) e = absurd (cc)
 
 -- ---- The seats of a change are of pairings that are there
 
-seats_there : (s : State) (id who : List ℕ) (new : Option (List ℕ)) (r : Rostered) → fin.get s.pairings id ≡ Some r → AreThere s.pairings (seat_change s id who new)
+seats_there : (s : State) (id who : List ℕ) (new : Option (List ℕ)) (r : PairingEntry) → fin.get s.pairings id ≡ Some r → AreThere s.pairings (seat_change s id who new)
 seats_there s id who new r there =
     elim (fin.get s.crew who) as (λ o. AreThere s.pairings (option_map_or (λ m. record { pairing = id; seat = m.seat; holder = new } ∷ []) o [])) [
       | None ↦ tt
@@ -63,8 +63,8 @@ module _ (s : State) (key : KeyParts) (free : fin.get s.requests (key_name key) 
       let no : None ≡ Some x.request = sym free ∙ ap (λ k. fin.get s.requests (key_name k)) (sym same ∙ keys.0) ∙ x.held in
       cc
 
-  effect_rows : (order : Order) → IsMade order → Passed (refusals s order) → (old mid : Database) → IsFit old → Rows s old →
-      WritesOrder (change_of s key order) order old mid → Rows (effect s (change_of s key order) order) mid
+  effect_rows : (instruction : Instruction) → IsMade instruction → Passed (refusals s instruction) → (old mid : Database) → IsFit old → Rows s old →
+      WritesInstruction (change_of s key instruction) instruction old mid → Rows (effect s (change_of s key instruction) instruction) mid
   unfolding refusals
   effect_rows (AddCrew who m) made passed old mid fit rows is = member_added s who m old mid (absent _ passed.0) fit rows is
   effect_rows (AddPairing plan) made passed old mid fit rows is = plan_added s plan (absent _ passed.0) old mid fit rows is
@@ -97,7 +97,7 @@ module _ (s : State) (key : KeyParts) (free : fin.get s.requests (key_name key) 
       key (recorded_by s (Actual id a)) fresh old mid fit rows is
 
 -- it leaves the requests
-requests_stay : (s : State) (change : Change) (order : Order) → (effect s change order).requests ≡ s.requests
+requests_stay : (s : State) (change : Change) (instruction : Instruction) → (effect s change instruction).requests ≡ s.requests
 requests_stay s change (AddCrew who m) = refl
 requests_stay s change (AddPairing plan) = refl
 requests_stay s change (CancelPairing id) = refl
@@ -113,10 +113,10 @@ requests_stay s change (Actual id a) = refl
 pub written : (s : State) (change : Change) → IsNext s change → IsMade change.command → (old new : Database) → IsFit old → Rows s old → Writes change old new → Rows (after s change) new
 unfolding after
 written s change next =
-    let it = accepted s next.key next.order change next.reply next.accepted in
+    let it = accepted s next.key next.instruction change next.reply next.accepted in
     subst (λ c. IsMade c.command → (old new : Database) → IsFit old → Rows s old → Writes c old new → Rows (after s c) new) (sym it.is)
     (λ made old new fit rows is.
-    let c = change_of s next.key next.order in
-    let mid = effect_rows s next.key it.free next.sound next.order made it.passes old is.0 fit rows is.1.0 in
-    request_added (effect s c next.order) next.key (record { command = next.order; reply = c.reply }) is.0 new
-    (ap (λ m. fin.get m (key_name next.key)) (requests_stay s c next.order) ∙ it.free) is.1.1 mid is.2)
+    let c = change_of s next.key next.instruction in
+    let mid = effect_rows s next.key it.free next.sound next.instruction made it.passes old is.0 fit rows is.1.0 in
+    request_added (effect s c next.instruction) next.key (record { command = next.instruction; reply = c.reply }) is.0 new
+    (ap (λ m. fin.get m (key_name next.key)) (requests_stay s c next.instruction) ∙ it.free) is.1.1 mid is.2)

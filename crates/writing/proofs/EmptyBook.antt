@@ -13,7 +13,7 @@ use Rattle.tables.specs.Rows.{Inserts, rows_of}
 use Rattle.writing.specs.Calls.{Changed, Then}
 use Rattle.writing.specs.Kept.{IsBookOf, AreStored}
 use Rattle.writing.specs.Making.{HasEmpty, Grows, AreUnreferenced, all_tables}
-use Rattle.rows.specs.Rows.{TableName, book, crew, pairing, period, segment, seat, ground_duty, exceedance, request, table, HasJust, In, Rows}
+use Rattle.state_rows.specs.Rows.{TableName, book, crew, pairing, period, segment, seat, ground_duty, exceedance, request, table, HasJust, In, Rows}
 use Rattle.writing.proofs.Tables.{is_same, rows_stay, stored_stays, no_rows, none_stored, made_book}
 
 nothing : {X : Type 0} (q : List ℕ) (x : X) → fin.get (fin.empty {X = X} {R = name_cmp}) q ≡ Some x → ⊥

@@ -1,5 +1,5 @@
 -- What the end of a transaction leaves.
-use Rattle.std.proofs.Common.{◌≡◌, inl, inr, refl, sym, subst, arith, IsTrue, Result, Ok, Err, OnOk, OnErr, IsOk}
+use Rattle.std.proofs.Common.{IfErr, ◌≡◌, inl, inr, refl, sym, subst, arith, IsTrue, Result, Ok, Err, OnOk, OnErr, IsOk}
 use Rattle.sqlite_trees.specs.declared.store.Store.{Ghosts}
 use Rattle.sqlite_trees.specs.Tree.{Trees}
 use Rattle.sqlite.specs.Effect.{Database}
@@ -8,7 +8,7 @@ use Rattle.sqlite.specs.Held.{Held, state}
 use Rattle.roster.specs.State as roster
 use Rattle.tables.specs.Calls.{Committed}
 use Rattle.writing.specs.Kept.{IsBookOf, Holds}
-use Rattle.writing.specs.Outcomes.{Leaves, MayAdd, HoldsNow, IsOverBook, one}
+use Rattle.writing.specs.Outcomes.{CrashLeaves, CrashMayAdd, HoldsNow, IsOverBook, one}
 
 -- ---- Answers
 
@@ -24,6 +24,10 @@ pub on_err : {A E : Type 0} {R : Type 0} (r : Result A E) → R → OnErr r R
 on_err (Ok a) x = tt
 on_err (Err e) x = x
 
+pub if_err : {A E : Type 0} {P : E → Type 0} (r : Result A E) → ((e : E) → r ≡ Err e → P e) → IfErr r P
+if_err (Ok a) p = tt
+if_err (Err e) p = p e refl
+
 -- ---- A database, by its trees
 
 pub of_trees : (t : roster.State) (db : Database) (trees : Trees) → trees ≡ db.trees → IsBookOf t db → Holds trees t
@@ -32,7 +36,7 @@ of_trees t db trees is book = (db.schema, subst (λ ts. IsBookOf t (record { sch
 module _ {S : Type 0} (g : Ghosts S) (last : State) (new : Held S) (t : roster.State)
     (ended : HasCleanDisk (state g new) → Committed last (state g new)) (holds : HasCleanDisk (state g new) → IsBookOf t last.now) where
   -- what was committed is all that a crash leaves
-  pub ended_leaves : ((it : S) (trees : Trees) → IsTrue (g.view it).is_open → g.recovers it trees → trees ≡ (g.view it).committed) → Leaves (state g new) (one t)
+  pub ended_leaves : ((it : S) (trees : Trees) → IsTrue (g.view it).is_open → g.recovers it trees → trees ≡ (g.view it).committed) → CrashLeaves (state g new) (one t)
   ended_leaves law = record {
     crash = λ clean trees may.
         let shows = (ended clean).1 in
@@ -47,9 +51,9 @@ module _ {S : Type 0} (g : Ghosts S) (last : State) (new : Held S) (t : roster.S
 
 -- where the end may have been reached
 pub ended_adds : (old last new : State) (t : roster.State) (Done : Type 0) → (HasCleanDisk new → Done → IsBookOf t last.now) →
-    Survives old new (λ trees. Done × (trees ≡ last.now.trees)) → MayAdd old new t
+    Survives old new (λ trees. Done × (trees ≡ last.now.trees)) → CrashMayAdd old new t
 ended_adds old last new t Done holds survives = record {
-  honest = λ clean. omega (arith, survives.clean);
+  disk = λ clean. omega (arith, survives.clean);
   crash = λ clean trees may. elim (survives.crash clean trees may) [
     | inl before ↦ inl before
     | inr reached ↦ inr (of_trees t last.now trees reached.1 (holds clean reached.0))

@@ -2,8 +2,8 @@
 use Rattle.std.proofs.Common.{◌≡◌, ◌≤◌, length, None}
 use Rattle.duty.specs.Pairings.{pairing_fault, actual_fault}
 use Rattle.duty.specs.Plans.{Plan, ActualTimes}
-use Rattle.rows.proofs.FewPeriods as loading
-use Rattle.rows.specs.Counts.{HaveFewSegments}
+use Rattle.state_rows.proofs.FewPeriods as loading
+use Rattle.state_rows.specs.Counts.{HaveFewSegments}
 
 pub few_periods : (p : Plan) → pairing_fault p ≡ None → length p.periods ≤ 10
 few_periods = loading.few_periods

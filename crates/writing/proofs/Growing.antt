@@ -8,8 +8,8 @@ use Rattle.sqlite.specs.Effect.{Database}
 use Rattle.tables.specs.Schema.{BookTable, IsTable}
 use Rattle.tables.specs.Rows.{IsStored, Changes, rows_of, stored}
 use Rattle.writing.specs.Calls.{Each, IsFit}
-use Rattle.rows.specs.Rows.{TableName, table}
-use Rattle.rows.proofs.Lists.{some_same}
+use Rattle.state_rows.specs.Rows.{TableName, table}
+use Rattle.state_rows.proofs.Lists.{some_same}
 use Rattle.writing.proofs.Tables.{fit_after}
 
 all_both : {X : Type 0} (P Q R : X → Type 0) → ((x : X) → P x → Q x → R x) → (xs : List X) → AllByRecursion P xs → AllByRecursion Q xs → AllByRecursion R xs

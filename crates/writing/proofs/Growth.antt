@@ -3,7 +3,7 @@ use Rattle.std.proofs.Common.{◌≡◌, ◌∙◌, List, [], ◌∷◌, Ok, Non
 use Rattle.std.specs.List.{AllByRecursion}
 use Rattle.sqlite.specs.Effect.{Database}
 use Rattle.sqlite.specs.State.{State}
-use Rattle.tables.specs.Calls.{Ran, MayLeave}
+use Rattle.tables.specs.Calls.{Ran, CrashMayLeave}
 use Rattle.tables.specs.Rows.{Makes, stored}
 use Rattle.tables.specs.Schema.{BookTable, IsTable, IsUnreferenced, table_found, book_tables}
 use Rattle.sqlite_schema.specs.declared.schema.Schema.{Schema}
@@ -46,7 +46,7 @@ as_told old new changed = record { done = changed.done; kept = changed.kept; lef
 
 -- three in a row
 pub grown_thrice : {E : Type 0} (t u v : BookTable) (tables : List BookTable) (old one two new : State) (a b c : Unit {0}) → IsInside old →
-    Ran (Makes t) old one (Ok a) → MayLeave (Makes t) old one → Ran (Makes u) one two (Ok b) → MayLeave (Makes u) one two → Ran (Makes v) two new (Ok c) → MayLeave (Makes v) two new →
+    Ran (Makes t) old one (Ok a) → CrashMayLeave (Makes t) old one → Ran (Makes u) one two (Ok b) → CrashMayLeave (Makes u) one two → Ran (Makes v) two new (Ok c) → CrashMayLeave (Makes v) two new →
     Changed {E = E} (Grows tables (v ∷ u ∷ t ∷ tables)) old new (Ok c)
 grown_thrice {E = E} t u v tables old one two new a b c inside first first_left second second_left third third_left =
     let f = one_call (Makes t) old one inside first_left (Ok a) first in

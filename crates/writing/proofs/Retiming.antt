@@ -12,12 +12,12 @@ use Rattle.tables.specs.Rows.{Changes, begins_with, rows_of}
 use Rattle.tables.specs.declared.segment.SegmentRecord.{SegmentRecord}
 use Rattle.tables.proofs.SegmentTexts.{with_segment_times_is}
 use Rattle.writing.specs.Calls.{Each, IsFit}
-use Rattle.rows.specs.Rows.{table, segment, row_of_segment}
+use Rattle.state_rows.specs.Rows.{table, segment, row_of_segment}
 use Rattle.writing.specs.Writing.{FliesSegment}
 use Rattle.writing.proofs.Growing.{unchanged, changed_twice}
 use Rattle.writing.proofs.Tables.{updates_keep}
-use Rattle.rows.proofs.Tests.{passes, fails}
-use Rattle.rows.proofs.Values.{text_is, number_is}
+use Rattle.state_rows.proofs.Tests.{passes, fails}
+use Rattle.state_rows.proofs.Values.{text_is, number_is}
 
 module _ (id : List ℕ) (number : ℕ) where
   abbrev pub test : ℕ → Row → Bool

@@ -5,7 +5,7 @@ use Rattle.sqlite_rules.specs.Lists.{Has}
 use Rattle.sqlite.specs.Effect.{Database}
 use Rattle.tables.specs.Rows.{Changes, Inserts, Deletes, Updates}
 use Rattle.writing.specs.Calls.{IsFit}
-use Rattle.rows.specs.Rows.{TableName, table, HasJust}
+use Rattle.state_rows.specs.Rows.{TableName, table, HasJust}
 use Rattle.writing.proofs.Tables.{is_same, same_name, rows_stay}
 
 -- a set of rows for each table

@@ -13,8 +13,8 @@ use Rattle.sqlite.specs.Held.{Held, state}
 use Rattle.sqlite.specs.State.{State, HasCleanDisk, IsLive, Survives}
 use Rattle.duty.specs.Plans.{Plan, ActualTimes}
 use Rattle.roster.specs.declared.state.PeriodId.{PeriodId}
-use Rattle.command.specs.declared.order.Order.{Order}
-use Rattle.command.specs.declared.order.Order.TheVariants.{AddCrew, AddPairing, CancelPairing, Assign, Release, Swap, AddGround, CancelGround, Actual}
+use Rattle.command.specs.declared.instruction.Instruction.{Instruction}
+use Rattle.command.specs.declared.instruction.Instruction.TheVariants.{AddCrew, AddPairing, CancelPairing, Assign, Release, Swap, AddGround, CancelGround, Actual}
 use Rattle.roster.specs.declared.change.Change.{Change}
 use Rattle.roster.specs.declared.change.SeatChange.{SeatChange}
 use Rattle.tables.specs.Calls.{Begun, Committed}
@@ -24,9 +24,9 @@ use Rattle.tables.specs.Schema.{BookTable, IsTable, book_table, table_found, tab
 use Rattle.writing.specs.Calls.{Changed, Each, IsFit, IsReady, Then, Wrote}
 use Rattle.writing.specs.Kept.{IsOther, KeepOthers, KeepPlain}
 use Rattle.writing.specs.Making.{Grows, IsFree, all_tables}
-use Rattle.writing.specs.Outcomes.{LeavesOnly, AddsOnly, ShowsOnly}
-use Rattle.rows.specs.Rows.{TableName, table, crew, pairing, period, segment, seat, ground_duty, exceedance, request, row_of_member, row_of_pairing, row_of_period, row_of_segment, row_of_seat, row_of_ground, row_of_exceedance, row_of_request, seat_number}
-use Rattle.writing.specs.Writing.{AddsPeriods, AddsSegmentOf, AddsSegmentsOf, AddsSegments, FreesSeat, Seats, Reseats, FliesPeriod, FliesSegment, FliesSegments, Records, RecordsAll, Writes, WritesOrder}
+use Rattle.writing.specs.Outcomes.{CrashLeavesOnly, CrashAddsOnly, ShowsOnly}
+use Rattle.state_rows.specs.Rows.{TableName, table, crew, pairing, period, segment, seat, ground_duty, exceedance, request, row_of_member, row_of_pairing, row_of_period, row_of_segment, row_of_seat, row_of_ground, row_of_exceedance, row_of_request, seat_number}
+use Rattle.writing.specs.Writing.{AddsPeriods, AddsSegmentOf, AddsSegmentsOf, AddsSegments, FreesSeat, Seats, Reseats, FliesPeriod, FliesSegment, FliesSegments, Records, RecordsAll, Writes, WritesInstruction}
 use Rattle.writing.proofs.Tables.{fit_after}
 
 -- the schema is as it was, and each table that isn't of the book has its rows
@@ -86,7 +86,7 @@ safe_seats : (change : SeatChange) (holder : Option (List ℕ)) → Safe (Seats 
 safe_seats change None old new fit is = safe_nothing old new fit is
 safe_seats change (Some who) old new fit is = safe_insert seat (row_of_seat change.pairing change.seat who) old new fit is
 
--- ---- What the orders write
+-- ---- What the instructions write
 
 safe_plan : (plan : Plan) → Safe (Then (Inserts (table pairing) (row_of_pairing plan.id)) (Then (AddsPeriods plan.id plan.periods) (AddsSegments plan.id plan.periods)))
 safe_plan plan =
@@ -101,7 +101,7 @@ safe_reseats changes =
     safe_each (λ _ change. Reseats change)
     (λ _ change. safe_then (FreesSeat change) (Seats change change.holder) (safe_delete seat (begins_with (Text change.pairing ∷ Int (pos (seat_number change.seat)) ∷ []))) (safe_seats change change.holder)) 0 changes
 
-safe_flight : (change : Change) (id : List ℕ) (a : ActualTimes) → Safe (WritesOrder change (Actual id a))
+safe_flight : (change : Change) (id : List ℕ) (a : ActualTimes) → Safe (WritesInstruction change (Actual id a))
 safe_flight change id a =
     let p : PeriodId = record { pairing = id; number = a.period } in
     safe_then (FliesPeriod id a) (Then (FliesSegments id a.period a.segments) (RecordsAll change.key p change.reply.exceedances))
@@ -111,24 +111,24 @@ safe_flight change id a =
     (λ at t. safe_update segment (begins_with (Text id ∷ Int (pos a.period) ∷ Int (pos (at + 1)) ∷ [])) (with_segment_times t.block_out t.block_in)) 0 a.segments)
     (safe_each (λ _ e. Records change.key p e) (λ _ e. safe_insert exceedance (row_of_exceedance change.key e.crew e.section p)) 0 change.reply.exceedances))
 
-safe_order : (change : Change) (order : Order) → Safe (WritesOrder change order)
-safe_order change (AddCrew id m) = safe_insert crew (row_of_member id m)
-safe_order change (AddPairing plan) = safe_plan plan
-safe_order change (CancelPairing id) =
+safe_instruction : (change : Change) (instruction : Instruction) → Safe (WritesInstruction change instruction)
+safe_instruction change (AddCrew id m) = safe_insert crew (row_of_member id m)
+safe_instruction change (AddPairing plan) = safe_plan plan
+safe_instruction change (CancelPairing id) =
     safe_then (Deletes (table segment) (begins_with (Text id ∷ []))) (Then (Deletes (table period) (begins_with (Text id ∷ []))) (Deletes (table pairing) (begins_with (Text id ∷ []))))
     (safe_delete segment (begins_with (Text id ∷ [])))
     (safe_then (Deletes (table period) (begins_with (Text id ∷ []))) (Deletes (table pairing) (begins_with (Text id ∷ [])))
     (safe_delete period (begins_with (Text id ∷ []))) (safe_delete pairing (begins_with (Text id ∷ []))))
-safe_order change (Assign id who) = safe_reseats change.seats
-safe_order change (Release id who) = safe_reseats change.seats
-safe_order change (Swap w) = safe_reseats change.seats
-safe_order change (AddGround g) = safe_insert ground_duty (row_of_ground g.id g)
-safe_order change (CancelGround id) = safe_delete ground_duty (begins_with (Text id ∷ []))
-safe_order change (Actual id a) = safe_flight change id a
+safe_instruction change (Assign id who) = safe_reseats change.seats
+safe_instruction change (Release id who) = safe_reseats change.seats
+safe_instruction change (Swap w) = safe_reseats change.seats
+safe_instruction change (AddGround g) = safe_insert ground_duty (row_of_ground g.id g)
+safe_instruction change (CancelGround id) = safe_delete ground_duty (begins_with (Text id ∷ []))
+safe_instruction change (Actual id a) = safe_flight change id a
 
 safe_writes : (change : Change) → Safe (Writes change)
 safe_writes change old new fit is =
-    let first = safe_order change change.command old is.0 fit is.1.0 in
+    let first = safe_instruction change change.command old is.0 fit is.1.0 in
     let second = safe_insert request (row_of_request change.key (record { command = change.command; reply = change.reply })) is.0 new first.0 is.2 in
     (second.0, spares_then old is.0 new first.1 second.1)
 
@@ -171,7 +171,7 @@ made_keeps row old begun last (Ok a) free begins changed live clean is =
 
 -- ---- What a crash leaves
 
-pub may_add : (old last new : State) (Done : Type 0) (P : Trees → Type 0) → Survives old new (λ trees. Done × (trees ≡ last.now.trees)) → (HasCleanDisk new → Done → P last.now.trees) → AddsOnly old new P
+pub may_add : (old last new : State) (Done : Type 0) (P : Trees → Type 0) → Survives old new (λ trees. Done × (trees ≡ last.now.trees)) → (HasCleanDisk new → Done → P last.now.trees) → CrashAddsOnly old new P
 may_add old last new Done P survives keeps = record {
   crash = λ clean trees may. elim (survives.crash clean trees may) [
     | inl was ↦ inl was
@@ -179,7 +179,7 @@ may_add old last new Done P survives keeps = record {
   ];
 }
 
-pub adds_nothing : (old new : State) (P : Trees → Type 0) → Survives old new (λ _. ⊥) → AddsOnly old new P
+pub adds_nothing : (old new : State) (P : Trees → Type 0) → Survives old new (λ _. ⊥) → CrashAddsOnly old new P
 adds_nothing old new P survives = record {
   crash = λ clean trees may. elim (survives.crash clean trees may) [
     | inl was ↦ inl was
@@ -188,7 +188,7 @@ adds_nothing old new P survives = record {
 }
 
 pub leaves_only : {S : Type 0} (g : Ghosts S) (last : State) (new : Held S) (P : Trees → Type 0) → (HasCleanDisk (state g new) → Committed last (state g new)) → (HasCleanDisk (state g new) → P last.now.trees) →
-    ((it : S) (trees : Trees) → IsTrue (g.view it).is_open → g.recovers it trees → trees ≡ (g.view it).committed) → LeavesOnly (state g new) P
+    ((it : S) (trees : Trees) → IsTrue (g.view it).is_open → g.recovers it trees → trees ≡ (g.view it).committed) → CrashLeavesOnly (state g new) P
 leaves_only g last new P ended keeps law = record {
   crash = λ clean trees may.
       let shows = (ended clean).1 in

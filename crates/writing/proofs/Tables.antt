@@ -10,7 +10,7 @@ use Rattle.tables.specs.Schema.{BookTable, IsBook, IsTable, book_tables}
 use Rattle.tables.specs.Rows.{AreNumbered, IsStored, Changes, Inserts, Deletes, Updates, cells, rows_of, stored}
 use Rattle.writing.specs.Calls.{IsFit}
 use Rattle.writing.specs.Making.{HasEmpty, all_tables}
-use Rattle.rows.specs.Rows.{TableName, book, crew, pairing, period, segment, seat, ground_duty, exceedance, request, table}
+use Rattle.state_rows.specs.Rows.{TableName, book, crew, pairing, period, segment, seat, ground_duty, exceedance, request, table}
 use Rattle.writing.proofs.Chaining.{Keeps}
 
 -- ---- Names

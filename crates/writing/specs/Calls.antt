@@ -2,10 +2,10 @@
 use Rattle.std.specs.Prelude.{◌≡◌, ℕ, suc, true, IsTrue, List, [], ◌∷◌, take, Result, Ok, OnOk}
 use Rattle.sqlite.specs.Effect.{Database}
 use Rattle.sqlite.specs.State.{State, HasCleanDisk, Shows, KeepsCommit}
-use Rattle.tables.specs.Calls.{LeavesNothing}
+use Rattle.tables.specs.Calls.{CrashLeavesNoMore}
 use Rattle.tables.specs.Schema.{IsBook}
 use Rattle.writing.specs.Kept.{AreStored}
-use Rattle.rows.specs.declared.fault.StoreFault.{StoreFault}
+use Rattle.state_rows.specs.declared.fault.StoreFault.{StoreFault}
 
 -- a transaction is begun
 abbrev pub IsInside : State → Type 0
@@ -16,7 +16,7 @@ IsInside s = HasCleanDisk s → IsTrue s.in_transaction
 pub record Changed {A E : Type 0} (Is : Database → Database → Type 0) (old new : State) (result : Result A E) : Type 0 where
   pub done : HasCleanDisk new → OnOk result (Is old.now new.now × Shows old new new.now old.committed true)
   pub kept : HasCleanDisk new → KeepsCommit old new
-  pub left : LeavesNothing old new
+  pub left : CrashLeavesNoMore old new
 
 -- one change after the other
 abbrev pub Then : (Database → Database → Type 0) → (Database → Database → Type 0) → Database → Database → Type 0

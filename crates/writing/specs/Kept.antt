@@ -8,12 +8,13 @@ use Rattle.sqlite.specs.Effect.{Database, IsDatabase}
 use Rattle.roster.specs.State.{State}
 use Rattle.tables.specs.Schema.{BookTable, IsBook, IsTable}
 use Rattle.tables.specs.Rows.{IsStored, stored}
-use Rattle.rows.specs.Rows.{TableName, table, Rows}
+use Rattle.state_rows.specs.Rows.{TableName, table, Rows}
 
 -- each row of each table is stored under a number of its own
 abbrev pub AreStored : Database → Type 0
 AreStored db = (name : TableName) → IsStored (table name) db
 
+-- a database that has the tables of a book with the rows of this state
 pub record IsBookOf (s : State) (db : Database) : Type 0 where
   -- the trees list the schema, and obey it
   pub database : IsDatabase db

@@ -4,4 +4,5 @@ pub mod Outcomes
 pub mod Calls
 pub mod Making
 pub mod Next
+pub mod Commits
 pub mod Writing

@@ -13,6 +13,7 @@ IsFree schema = AllByRecursion (λ t. (table_found schema t.name ≡ None) × Is
 
 -- ---- What the functions say to one another of the tables that they make. No public clause names these.
 
+-- no foreign key refers to a table of the book
 abbrev pub AreUnreferenced : Schema → Type 0
 AreUnreferenced schema = AllByRecursion (λ t. IsUnreferenced t schema) book_tables
 
@@ -29,8 +30,10 @@ Grows first second old new = (HasEmpty first old → HasEmpty second new) × Kee
 abbrev pub first_tables : List BookTable
 first_tables = pairing_table ∷ crew_table ∷ book_table ∷ []
 
+-- the first six
 abbrev pub second_tables : List BookTable
 second_tables = seat_table ∷ segment_table ∷ period_table ∷ first_tables
 
+-- all nine
 abbrev pub all_tables : List BookTable
 all_tables = request_table ∷ exceedance_table ∷ ground_table ∷ second_tables

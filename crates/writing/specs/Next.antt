@@ -2,7 +2,7 @@
 use Rattle.std.specs.Prelude.{◌≡◌}
 use Rattle.command.specs.Keys.{KeyParts}
 use Rattle.command.specs.declared.exceedance.Reply.{Reply}
-use Rattle.command.specs.declared.order.Order.{Order}
+use Rattle.command.specs.declared.instruction.Instruction.{Instruction}
 use Rattle.roster.specs.Sound.{Sound}
 use Rattle.roster.specs.State.{State}
 use Rattle.roster.specs.Steps.{step_of}
@@ -13,6 +13,6 @@ use Rattle.roster.specs.declared.change.Verdict.TheVariants.{Accept}
 pub record IsNext (s : State) (change : Change) : Type 0 where
   pub sound : Sound s
   pub key : KeyParts
-  pub order : Order
+  pub instruction : Instruction
   pub reply : Reply
-  pub accepted : step_of s key order ≡ Accept change reply
+  pub accepted : step_of s key instruction ≡ Accept change reply

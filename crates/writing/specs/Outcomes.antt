@@ -9,36 +9,38 @@ use Rattle.writing.specs.Kept.{IsBookOf, Holds, AreStored}
 
 -- All of this is said as long as the disk has returned what was written.
 
+-- this state alone
 abbrev pub one : roster.State → roster.State → Type 0
 one s = λ t. t ≡ s
 
+-- one of these two states
 abbrev pub either : roster.State → roster.State → roster.State → Type 0
 either s t = λ r. (r ≡ s) ⊎ (r ≡ t)
 
 -- a crash leaves the tables of a book in a state of which P holds, and nothing else
-pub record Leaves (now : State) (P : roster.State → Type 0) : Type 0 where
+pub record CrashLeaves (now : State) (P : roster.State → Type 0) : Type 0 where
   pub crash : HasCleanDisk now → (trees : Trees) → now.may_leave trees → (s : roster.State) × P s × Holds trees s
 
 -- and it leaves something
-abbrev pub LeavesSome : State → Type 0
-LeavesSome now = HasCleanDisk now → ∥ ((trees : Trees) × now.may_leave trees) ∥₁
+abbrev pub CrashLeavesSome : State → Type 0
+CrashLeavesSome now = HasCleanDisk now → ∥ ((trees : Trees) × now.may_leave trees) ∥₁
 
 -- a crash leaves nothing that it could not leave before
-pub record AddsNothing (old now : State) : Type 0 where
-  pub honest : HasCleanDisk now → HasCleanDisk old
+pub record CrashAddsNothing (old now : State) : Type 0 where
+  pub disk : HasCleanDisk now → HasCleanDisk old
   pub crash : HasCleanDisk now → (trees : Trees) → now.may_leave trees → old.may_leave trees
 
 -- a crash leaves what it could leave before, or the tables of a book in this state
-pub record MayAdd (old now : State) (s : roster.State) : Type 0 where
-  pub honest : HasCleanDisk now → HasCleanDisk old
+pub record CrashMayAdd (old now : State) (s : roster.State) : Type 0 where
+  pub disk : HasCleanDisk now → HasCleanDisk old
   pub crash : HasCleanDisk now → (trees : Trees) → now.may_leave trees → old.may_leave trees ⊎ Holds trees s
 
 -- a crash leaves only trees of which P holds
-pub record LeavesOnly (now : State) (P : Trees → Type 0) : Type 0 where
+pub record CrashLeavesOnly (now : State) (P : Trees → Type 0) : Type 0 where
   pub crash : HasCleanDisk now → (trees : Trees) → now.may_leave trees → P trees
 
 -- or what it could leave before
-pub record AddsOnly (old now : State) (P : Trees → Type 0) : Type 0 where
+pub record CrashAddsOnly (old now : State) (P : Trees → Type 0) : Type 0 where
   pub crash : HasCleanDisk now → (trees : Trees) → now.may_leave trees → old.may_leave trees ⊎ P trees
 
 -- it shows trees of which P holds

@@ -1,4 +1,6 @@
-use rows::StoreFault;
+//! The refusal 43 of a database that isn't free for a book.
+//! Such files: `tests/tables.py`. Wrong bodies: `must-fail-more/`.
+use state_rows::StoreFault;
 use std::alloc::AllocError;
 use std::fmt;
 use tables::TableFault;
@@ -41,7 +43,7 @@ impl From<StoreFault> for CreateFault {
 
 impl From<TableFault> for CreateFault {
     ghost use Rattle.std.specs.Prelude.{◌≡◌};
-    ghost use Rattle.rows.specs.Faults.{fault_of};
+    ghost use Rattle.state_rows.specs.Faults.{fault_of};
     ghost use Rattle.writing.specs.declared.fault.CreateFault.TheVariants.{Fault};
 
     ghost from_gives = { λ fault given. given ≡ Fault (fault_of fault) };
@@ -54,7 +56,7 @@ impl From<TableFault> for CreateFault {
 impl From<AllocError> for CreateFault {
     ghost use Rattle.std.specs.Prelude.{◌≡◌};
     ghost use Rattle.writing.specs.declared.fault.CreateFault.TheVariants.{Fault};
-    ghost use Rattle.rows.specs.declared.fault.StoreFault.TheVariants.{Memory};
+    ghost use Rattle.state_rows.specs.declared.fault.StoreFault.TheVariants.{Memory};
 
     ghost from_gives = { λ _ fault. fault ≡ Fault Memory };
 

@@ -1,4 +1,5 @@
 //! The tables of a book, made in a database that has none of them.
+//! Files beside whose tables a book is made, or isn't: `tests/tables.py`. Wrong bodies: `must-fail-more/`.
 
 ghost use Rattle.std.specs.Prelude.{[], IsTrue, ◌↔◌, ◌≡◌, None};
 ghost use Rattle.sqlite.specs.Held.{state};
@@ -9,8 +10,8 @@ ghost use Rattle.tables.specs.Schema.{book_table, table_found, NoneRefersTo, cre
 ghost use Rattle.writing.specs.Calls.{IsInside, Changed, Then};
 ghost use Rattle.writing.specs.Making.{AreUnreferenced, Grows, IsFree, first_tables, second_tables, all_tables};
 
-use rows::StoreFault;
 use sqlite::{Alter, Connection};
+use state_rows::StoreFault;
 use tables::book::{BookRecord, create_book, insert_book};
 use tables::book_schema::{has_table, is_unreferenced};
 use tables::crew::create_crew;
@@ -22,14 +23,15 @@ use tables::request::create_request;
 use tables::seat::create_seat;
 use tables::segment::create_segment;
 
-/// Whether no table has this name, and no foreign key refers to one of this name.
+/// Returns whether no table has this name, and no foreign key refers to one of this name.
 fn is_name_free<S: Alter>(conn: &Connection<S>, name: &str) -> bool
-    ensures { IsTrue result ↔ (table_found (state S.Store conn.now).now.schema name.now ≡ None) × NoneRefersTo name.now (state S.Store conn.now).now.schema }
+    ensures { IsTrue result ↔ (table_found (state S.Store conn.now).now.schema name.now ≡ None)
+        × NoneRefersTo name.now (state S.Store conn.now).now.schema }
 {
     !has_table(conn, name) && is_unreferenced(conn, name)
 }
 
-/// Whether no table has the name of one of the book, and no foreign key refers to one.
+/// Returns whether no table has the name of one of the book, and no foreign key refers to one.
 pub(crate) fn is_free<S: Alter>(conn: &Connection<S>) -> bool
     ensures { IsTrue result ↔ IsFree (state S.Store conn.now).now.schema }
 {
@@ -49,9 +51,11 @@ pub(crate) fn make_tables<S: Alter>(
     conn: &mut Connection<S>,
     book: &BookRecord,
 ) -> Result<(), StoreFault>
-    requires free { HasCleanDisk (state S.Store conn.old) → AreUnreferenced (state S.Store conn.old).now.schema }
+    requires free { HasCleanDisk (state S.Store conn.old)
+        → AreUnreferenced (state S.Store conn.old).now.schema }
     requires inside { IsInside (state S.Store conn.old) }
-    ensures { Changed (Then (Grows [] all_tables) (Inserts book_table (book_row book.now))) (state S.Store conn.old) (state S.Store conn.new) result }
+    ensures { Changed (Then (Grows [] all_tables) (Inserts book_table (book_row book.now)))
+        (state S.Store conn.old) (state S.Store conn.new) result }
 {
     make_first(conn)?;
     make_second(conn)?;
@@ -61,7 +65,8 @@ pub(crate) fn make_tables<S: Alter>(
 
 fn make_first<S: Alter>(conn: &mut Connection<S>) -> Result<(), StoreFault>
     requires { IsInside (state S.Store conn.old) }
-    ensures { Changed (Grows [] first_tables) (state S.Store conn.old) (state S.Store conn.new) result }
+    ensures { Changed (Grows [] first_tables) (state S.Store conn.old)
+        (state S.Store conn.new) result }
 {
     create_book(conn)?;
     create_crew(conn)?;
@@ -70,7 +75,8 @@ fn make_first<S: Alter>(conn: &mut Connection<S>) -> Result<(), StoreFault>
 
 fn make_second<S: Alter>(conn: &mut Connection<S>) -> Result<(), StoreFault>
     requires { IsInside (state S.Store conn.old) }
-    ensures { Changed (Grows first_tables second_tables) (state S.Store conn.old) (state S.Store conn.new) result }
+    ensures { Changed (Grows first_tables second_tables) (state S.Store conn.old)
+        (state S.Store conn.new) result }
 {
     create_period(conn)?;
     create_segment(conn)?;
@@ -79,7 +85,8 @@ fn make_second<S: Alter>(conn: &mut Connection<S>) -> Result<(), StoreFault>
 
 fn make_third<S: Alter>(conn: &mut Connection<S>) -> Result<(), StoreFault>
     requires { IsInside (state S.Store conn.old) }
-    ensures { Changed (Grows second_tables all_tables) (state S.Store conn.old) (state S.Store conn.new) result }
+    ensures { Changed (Grows second_tables all_tables) (state S.Store conn.old)
+        (state S.Store conn.new) result }
 {
     create_ground(conn)?;
     create_exceedance(conn)?;

@@ -1,14 +1,15 @@
 //! Values of the book as records of its tables.
+//! The rows that each command leaves: `tests/tables.py`. Wrong bodies: `must-fail-more/`.
 
 ghost use Rattle.std.specs.Prelude.{◌≡◌, ◌+◌, ◌<◌, ◌^◌, IfOk, OnOk, None};
 ghost use Rattle.tables.specs.Records.{crew_row, pairing_row, period_row, segment_row, seat_row, ground_row, exceedance_row, request_row};
-ghost use Rattle.kept.specs.Laws.{IsCommand};
-ghost use Rattle.rows.specs.Rows.{seat_number, row_of_member, row_of_pairing, row_of_period, row_of_segment, row_of_seat, row_of_ground, row_of_exceedance, row_of_request};
+ghost use Rattle.stored_json.specs.Laws.{IsCommand};
+ghost use Rattle.state_rows.specs.Rows.{seat_number, row_of_member, row_of_pairing, row_of_period, row_of_segment, row_of_seat, row_of_ground, row_of_exceedance, row_of_request};
 
 use command::{Command, Exceedance, Key, Member, Reply, Seat};
 use duty::{CrewId, Fdp, Ground, PairingId, Segment};
-use kept::{canonical, reply_to_json};
 use std::alloc::Global;
+use stored_json::{canonical, reply_to_json};
 use tables::crew::CrewRecord;
 use tables::exceedance::ExceedanceRecord;
 use tables::ground::GroundRecord;
@@ -17,9 +18,9 @@ use tables::period::PeriodRecord;
 use tables::request::RequestRecord;
 use tables::seat::SeatRecord;
 use tables::segment::SegmentRecord;
-use values::{Copied, MemoryFault, Text};
+use values::{MemoryFault, Text, TryClone};
 
-/// The number of a seat in the tables.
+/// Returns the number of a seat in the tables.
 pub(crate) fn number_of_seat(seat: Seat) -> u32
     ensures { result ≡ seat_number seat }
 {
@@ -29,7 +30,7 @@ pub(crate) fn number_of_seat(seat: Seat) -> u32
     }
 }
 
-/// A copy of a text.
+/// Copies a text.
 fn text(alloc: Global, text: &str) -> Result<Text, MemoryFault>
     ensures { IfOk result (λ copy. copy ≡ text.now) }
 {
@@ -46,7 +47,7 @@ pub(crate) fn crew_record(
     Ok(CrewRecord {
         id: text(alloc, id.as_str())?,
         seat: number_of_seat(member.seat),
-        name: member.name.copy(alloc)?,
+        name: member.name.try_clone(alloc)?,
     })
 }
 
@@ -58,7 +59,7 @@ pub(crate) fn pairing_record(alloc: Global, id: &PairingId) -> Result<PairingRec
     })
 }
 
-/// A period as it is planned, by its place in the pairing, counted from 0.
+/// Makes the record of a period as it is planned, by its place in the pairing, counted from 0.
 pub(crate) fn period_record(
     alloc: Global,
     pairing: &PairingId,
@@ -78,7 +79,8 @@ pub(crate) fn period_record(
     })
 }
 
-/// A segment as it is planned, by its place in the period and the period's in the pairing, counted from 0.
+/// Makes the record of a segment as it is planned, by its place in the period and the period's in the pairing, counted
+/// from 0.
 pub(crate) fn segment_record(
     alloc: Global,
     pairing: &PairingId,
@@ -88,7 +90,8 @@ pub(crate) fn segment_record(
 ) -> Result<SegmentRecord, MemoryFault>
     requires period { period < 10 }
     requires place { place < 12 }
-    ensures { IfOk result (λ it. segment_row it ≡ row_of_segment pairing.now period place segment.now None) }
+    ensures { IfOk result
+        (λ it. segment_row it ≡ row_of_segment pairing.now period place segment.now None) }
 {
     Ok(SegmentRecord {
         pairing: text(alloc, pairing.as_str())?,
@@ -125,13 +128,13 @@ pub(crate) fn ground_record(alloc: Global, ground: &Ground) -> Result<GroundReco
     Ok(GroundRecord {
         id: text(alloc, ground.id().as_str())?,
         crew: text(alloc, ground.crew().as_str())?,
-        task: ground.task().copy(alloc)?,
+        task: ground.task().try_clone(alloc)?,
         begin_at: ground.begin().number(),
         end_at: ground.end().number(),
     })
 }
 
-/// What a command recorded of a period.
+/// Makes the record of an exceedance that a command recorded of a period.
 pub(crate) fn exceedance_record(
     alloc: Global,
     key: Key,
@@ -139,7 +142,8 @@ pub(crate) fn exceedance_record(
     pairing: &PairingId,
     number: u8,
 ) -> Result<ExceedanceRecord, MemoryFault>
-    ensures { IfOk result (λ it. exceedance_row it ≡ row_of_exceedance key exceedance.now.crew exceedance.now.section (record { pairing = pairing.now; number = number })) }
+    ensures { IfOk result (λ it. exceedance_row it ≡ row_of_exceedance key exceedance.now.crew
+        exceedance.now.section (record { pairing = pairing.now; number = number })) }
 {
     Ok(ExceedanceRecord {
         number: key.number() as i64,
@@ -151,14 +155,15 @@ pub(crate) fn exceedance_record(
     })
 }
 
-/// A command with its reply, under its key.
+/// Makes the record of a command with its reply, under its key.
 pub(crate) fn request_record(
     alloc: Global,
     key: Key,
     command: &Command,
     reply: &Reply,
 ) -> Result<RequestRecord, MemoryFault>
-    ensures row { IfOk result (λ it. request_row it ≡ row_of_request key (record { command = command.now; reply = reply.now })) }
+    ensures row { IfOk result (λ it.
+        request_row it ≡ row_of_request key (record { command = command.now; reply = reply.now })) }
     ensures command { OnOk result (IsCommand command.now) }
 {
     Ok(RequestRecord {

@@ -1,5 +1,6 @@
 //! What an accepted command writes, table by table. Each function runs in a transaction that is begun, and after a fault
 //! it has changed nothing that the end of the transaction doesn't take back.
+//! The rows that each command leaves: `tests/tables.py`. Wrong bodies: `must-fail/`.
 
 ghost use Rattle.std.specs.Prelude.{◌≡◌, ◌≤◌, ◌<◌, [], ◌∷◌, length, None};
 ghost use Rattle.sqlite.specs.Held.{state};
@@ -7,19 +8,19 @@ ghost use Rattle.sqlite_value.specs.declared.value.Value.TheVariants as value;
 ghost use Rattle.tables.specs.Records.{request_row};
 ghost use Rattle.tables.specs.Rows.{Inserts, Deletes, begins_with};
 ghost use Rattle.writing.specs.Calls.{IsReady, Wrote};
-ghost use Rattle.rows.specs.Rows.{table, crew, pairing, period, segment, ground_duty, request, row_of_member, row_of_pairing, row_of_period, row_of_segment, row_of_ground, row_of_request};
-ghost use Rattle.rows.specs.Counts.{HaveFewSegments};
-ghost use Rattle.writing.specs.Writing.{AddsPeriods, AddsSegmentsOf, AddsSegments, AddsPairing, RemovesPairing, FreesSeat, TakesSeat, Reseats, ReseatsAll, FliesSegment, FliesSegments, FliesPeriod, Records, RecordsAll, Flies, WritesOrder, Writes};
+ghost use Rattle.state_rows.specs.Rows.{table, crew, pairing, period, segment, ground_duty, request, row_of_member, row_of_pairing, row_of_period, row_of_segment, row_of_ground, row_of_request};
+ghost use Rattle.state_rows.specs.Counts.{HaveFewSegments};
+ghost use Rattle.writing.specs.Writing.{AddsPeriods, AddsSegmentsOf, AddsSegments, AddsPairing, RemovesPairing, FreesSeat, TakesSeat, Reseats, ReseatsAll, FliesSegment, FliesSegments, FliesPeriod, Records, RecordsAll, Flies, WritesInstruction, Writes};
 
 use crate::records::{
     crew_record, exceedance_record, ground_record, number_of_seat, pairing_record, period_record,
     seat_record, segment_record,
 };
-use command::{Exceedance, Key, Member, Order};
+use command::{Exceedance, Instruction, Key, Member};
 use duty::{Actual, BlockTimes, CrewId, Fdp, Ground, GroundId, Pairing, PairingId, Segment};
 use roster::{Change, SeatChange};
-use rows::StoreFault;
 use sqlite::{Alter, Connection};
+use state_rows::StoreFault;
 use std::alloc::Global;
 use tables::crew::insert_crew;
 use tables::exceedance::insert_exceedance;
@@ -30,7 +31,7 @@ use tables::request::{RequestRecord, insert_request};
 use tables::seat::{delete_seat, insert_seat};
 use tables::segment::{delete_segments, insert_segment, update_segment};
 
-/// A new member.
+/// Writes a new member.
 #[tactic(auto, using(crate::proofs::Chaining::one_write, crate::proofs::Tables::inserts_keep))]
 fn add_member<S: Alter>(
     alloc: Global,
@@ -39,13 +40,14 @@ fn add_member<S: Alter>(
     member: &Member,
 ) -> Result<(), StoreFault>
     requires { IsReady (state S.Store conn.old) }
-    ensures { Wrote (Inserts (table crew) (row_of_member id.now member.now)) (state S.Store conn.old) (state S.Store conn.new) result }
+    ensures { Wrote (Inserts (table crew) (row_of_member id.now member.now))
+        (state S.Store conn.old) (state S.Store conn.new) result }
 {
     let record = crew_record(alloc, id, member)?;
     Ok(insert_crew(conn, &record)?)
 }
 
-/// A new ground duty.
+/// Writes a new ground duty.
 #[tactic(auto, using(crate::proofs::Chaining::one_write, crate::proofs::Tables::inserts_keep))]
 fn add_ground<S: Alter>(
     alloc: Global,
@@ -53,22 +55,24 @@ fn add_ground<S: Alter>(
     ground: &Ground,
 ) -> Result<(), StoreFault>
     requires { IsReady (state S.Store conn.old) }
-    ensures { Wrote (Inserts (table ground_duty) (row_of_ground ground.now.id ground.now)) (state S.Store conn.old) (state S.Store conn.new) result }
+    ensures { Wrote (Inserts (table ground_duty) (row_of_ground ground.now.id ground.now))
+        (state S.Store conn.old) (state S.Store conn.new) result }
 {
     let record = ground_record(alloc, ground)?;
     Ok(insert_ground(conn, &record)?)
 }
 
-/// The ground duty goes.
+/// Deletes the ground duty.
 #[tactic(auto, using(crate::proofs::Chaining::one_write, crate::proofs::Tables::deletes_keep))]
 fn remove_ground<S: Alter>(conn: &mut Connection<S>, id: &GroundId) -> Result<(), StoreFault>
     requires { IsReady (state S.Store conn.old) }
-    ensures { Wrote (Deletes (table ground_duty) (begins_with (value.Text id.now ∷ []))) (state S.Store conn.old) (state S.Store conn.new) result }
+    ensures { Wrote (Deletes (table ground_duty) (begins_with (value.Text id.now ∷ [])))
+        (state S.Store conn.old) (state S.Store conn.new) result }
 {
     Ok(delete_ground(conn, id.as_str())?)
 }
 
-/// A period as it is planned, by its place in the pairing.
+/// Writes a period as it is planned, by its place in the pairing.
 #[tactic(auto, using(crate::proofs::Chaining::one_write, crate::proofs::Tables::inserts_keep))]
 fn add_period<S: Alter>(
     alloc: Global,
@@ -79,13 +83,14 @@ fn add_period<S: Alter>(
 ) -> Result<(), StoreFault>
     requires ready { IsReady (state S.Store conn.old) }
     requires place { place < 10 }
-    ensures { Wrote (Inserts (table period) (row_of_period id.now place fdp.now None)) (state S.Store conn.old) (state S.Store conn.new) result }
+    ensures { Wrote (Inserts (table period) (row_of_period id.now place fdp.now None))
+        (state S.Store conn.old) (state S.Store conn.new) result }
 {
     let record = period_record(alloc, id, place, fdp)?;
     Ok(insert_period(conn, &record)?)
 }
 
-/// The periods of a pairing.
+/// Writes the periods of a pairing.
 #[tactic(auto, using(crate::proofs::Chaining::each_start, crate::proofs::Chaining::each_turn))]
 fn add_periods<S: Alter>(
     alloc: Global,
@@ -95,7 +100,8 @@ fn add_periods<S: Alter>(
 ) -> Result<(), StoreFault>
     requires ready { IsReady (state S.Store conn.old) }
     requires few { length periods.now ≤ 10 }
-    ensures { Wrote (AddsPeriods id.now periods.now) (state S.Store conn.old) (state S.Store conn.new) result }
+    ensures { Wrote (AddsPeriods id.now periods.now) (state S.Store conn.old)
+        (state S.Store conn.new) result }
 {
     for (place, fdp) in periods.iter().enumerate() {
         add_period(alloc, conn, id, place, fdp)?;
@@ -103,7 +109,7 @@ fn add_periods<S: Alter>(
     Ok(())
 }
 
-/// A segment as it is planned, by its place in the period and the period's in the pairing.
+/// Writes a segment as it is planned, by its place in the period and the period's in the pairing.
 #[tactic(auto, using(crate::proofs::Chaining::one_write, crate::proofs::Tables::inserts_keep))]
 fn add_segment<S: Alter>(
     alloc: Global,
@@ -116,13 +122,14 @@ fn add_segment<S: Alter>(
     requires ready { IsReady (state S.Store conn.old) }
     requires place { place < 10 }
     requires at { at < 12 }
-    ensures { Wrote (Inserts (table segment) (row_of_segment id.now place at leg.now None)) (state S.Store conn.old) (state S.Store conn.new) result }
+    ensures { Wrote (Inserts (table segment) (row_of_segment id.now place at leg.now None))
+        (state S.Store conn.old) (state S.Store conn.new) result }
 {
     let record = segment_record(alloc, id, place, at, leg)?;
     Ok(insert_segment(conn, &record)?)
 }
 
-/// The segments of a period.
+/// Writes the segments of a period.
 #[tactic(auto, using(crate::proofs::Chaining::each_start))]
 fn add_segments_of<S: Alter>(
     alloc: Global,
@@ -134,7 +141,8 @@ fn add_segments_of<S: Alter>(
     requires ready { IsReady (state S.Store conn.old) }
     requires place { place < 10 }
     requires few { length legs.now ≤ 12 }
-    ensures { Wrote (AddsSegmentsOf id.now place legs.now) (state S.Store conn.old) (state S.Store conn.new) result }
+    ensures { Wrote (AddsSegmentsOf id.now place legs.now) (state S.Store conn.old)
+        (state S.Store conn.new) result }
 {
     for (at, leg) in legs.iter().enumerate() {
         add_segment(alloc, conn, id, place, at, leg)?;
@@ -142,7 +150,7 @@ fn add_segments_of<S: Alter>(
     Ok(())
 }
 
-/// The segments of all periods of a pairing.
+/// Writes the segments of all periods of a pairing.
 #[tactic(auto, using(crate::proofs::Chaining::each_start))]
 fn add_segments<S: Alter>(
     alloc: Global,
@@ -153,7 +161,8 @@ fn add_segments<S: Alter>(
     requires ready { IsReady (state S.Store conn.old) }
     requires few { length periods.now ≤ 10 }
     requires few_each { HaveFewSegments periods.now }
-    ensures { Wrote (AddsSegments id.now periods.now) (state S.Store conn.old) (state S.Store conn.new) result }
+    ensures { Wrote (AddsSegments id.now periods.now) (state S.Store conn.old)
+        (state S.Store conn.new) result }
 {
     for (place, fdp) in periods.iter().enumerate() {
         add_segments_of(alloc, conn, id, place, fdp.segments.as_slice())?;
@@ -161,7 +170,7 @@ fn add_segments<S: Alter>(
     Ok(())
 }
 
-/// The row of a pairing.
+/// Writes the row of a pairing.
 #[tactic(auto, using(crate::proofs::Chaining::one_write, crate::proofs::Tables::inserts_keep))]
 fn add_id<S: Alter>(
     alloc: Global,
@@ -169,13 +178,14 @@ fn add_id<S: Alter>(
     id: &PairingId,
 ) -> Result<(), StoreFault>
     requires { IsReady (state S.Store conn.old) }
-    ensures { Wrote (Inserts (table pairing) (row_of_pairing id.now)) (state S.Store conn.old) (state S.Store conn.new) result }
+    ensures { Wrote (Inserts (table pairing) (row_of_pairing id.now)) (state S.Store conn.old)
+        (state S.Store conn.new) result }
 {
     let record = pairing_record(alloc, id)?;
     Ok(insert_pairing(conn, &record)?)
 }
 
-/// A new pairing, both seats free.
+/// Writes a new pairing, both seats free.
 #[tactic(auto, using(crate::proofs::Chaining::then_write, crate::proofs::Chaining::write_stopped, crate::proofs::FewPeriods::few_periods, crate::proofs::FewPeriods::few_segments))]
 fn add_pairing<S: Alter>(
     alloc: Global,
@@ -183,7 +193,8 @@ fn add_pairing<S: Alter>(
     plan: &Pairing,
 ) -> Result<(), StoreFault>
     requires { IsReady (state S.Store conn.old) }
-    ensures { Wrote (AddsPairing plan.now) (state S.Store conn.old) (state S.Store conn.new) result }
+    ensures { Wrote (AddsPairing plan.now) (state S.Store conn.old)
+        (state S.Store conn.new) result }
 {
     let periods = plan.periods();
     add_id(alloc, conn, plan.id())?;
@@ -191,11 +202,12 @@ fn add_pairing<S: Alter>(
     add_segments(alloc, conn, plan.id(), periods)
 }
 
-/// The pairing goes, with its periods and their segments.
+/// Deletes the pairing, with its periods and their segments.
 #[tactic(auto, using(crate::proofs::Chaining::one_write, crate::proofs::Chaining::then_write, crate::proofs::Chaining::write_stopped, crate::proofs::Tables::deletes_keep))]
 fn remove_pairing<S: Alter>(conn: &mut Connection<S>, id: &PairingId) -> Result<(), StoreFault>
     requires { IsReady (state S.Store conn.old) }
-    ensures { Wrote (RemovesPairing id.now) (state S.Store conn.old) (state S.Store conn.new) result }
+    ensures { Wrote (RemovesPairing id.now) (state S.Store conn.old)
+        (state S.Store conn.new) result }
 {
     remove_segments(conn, id)?;
     remove_periods(conn, id)?;
@@ -205,7 +217,8 @@ fn remove_pairing<S: Alter>(conn: &mut Connection<S>, id: &PairingId) -> Result<
 #[tactic(auto, using(crate::proofs::Chaining::one_write, crate::proofs::Tables::deletes_keep))]
 fn remove_segments<S: Alter>(conn: &mut Connection<S>, id: &PairingId) -> Result<(), StoreFault>
     requires { IsReady (state S.Store conn.old) }
-    ensures { Wrote (Deletes (table segment) (begins_with (value.Text id.now ∷ []))) (state S.Store conn.old) (state S.Store conn.new) result }
+    ensures { Wrote (Deletes (table segment) (begins_with (value.Text id.now ∷ [])))
+        (state S.Store conn.old) (state S.Store conn.new) result }
 {
     Ok(delete_segments(conn, id.as_str())?)
 }
@@ -213,7 +226,8 @@ fn remove_segments<S: Alter>(conn: &mut Connection<S>, id: &PairingId) -> Result
 #[tactic(auto, using(crate::proofs::Chaining::one_write, crate::proofs::Tables::deletes_keep))]
 fn remove_periods<S: Alter>(conn: &mut Connection<S>, id: &PairingId) -> Result<(), StoreFault>
     requires { IsReady (state S.Store conn.old) }
-    ensures { Wrote (Deletes (table period) (begins_with (value.Text id.now ∷ []))) (state S.Store conn.old) (state S.Store conn.new) result }
+    ensures { Wrote (Deletes (table period) (begins_with (value.Text id.now ∷ [])))
+        (state S.Store conn.old) (state S.Store conn.new) result }
 {
     Ok(delete_periods(conn, id.as_str())?)
 }
@@ -221,22 +235,24 @@ fn remove_periods<S: Alter>(conn: &mut Connection<S>, id: &PairingId) -> Result<
 #[tactic(auto, using(crate::proofs::Chaining::one_write, crate::proofs::Tables::deletes_keep))]
 fn remove_id<S: Alter>(conn: &mut Connection<S>, id: &PairingId) -> Result<(), StoreFault>
     requires { IsReady (state S.Store conn.old) }
-    ensures { Wrote (Deletes (table pairing) (begins_with (value.Text id.now ∷ []))) (state S.Store conn.old) (state S.Store conn.new) result }
+    ensures { Wrote (Deletes (table pairing) (begins_with (value.Text id.now ∷ [])))
+        (state S.Store conn.old) (state S.Store conn.new) result }
 {
     Ok(delete_pairing(conn, id.as_str())?)
 }
 
-/// A seat is free.
+/// Frees a seat.
 #[tactic(auto, using(crate::proofs::Chaining::one_write, crate::proofs::Tables::deletes_keep))]
 fn free_seat<S: Alter>(conn: &mut Connection<S>, change: &SeatChange) -> Result<(), StoreFault>
     requires { IsReady (state S.Store conn.old) }
-    ensures { Wrote (FreesSeat change.now) (state S.Store conn.old) (state S.Store conn.new) result }
+    ensures { Wrote (FreesSeat change.now) (state S.Store conn.old)
+        (state S.Store conn.new) result }
 {
     let seat = number_of_seat(change.seat);
     Ok(delete_seat(conn, change.pairing.as_str(), seat)?)
 }
 
-/// A member takes a free seat.
+/// Writes that a member takes a free seat.
 #[tactic(auto, using(crate::proofs::Chaining::one_write, crate::proofs::Tables::inserts_keep))]
 fn take_seat<S: Alter>(
     alloc: Global,
@@ -245,13 +261,14 @@ fn take_seat<S: Alter>(
     who: &CrewId,
 ) -> Result<(), StoreFault>
     requires { IsReady (state S.Store conn.old) }
-    ensures { Wrote (TakesSeat change.now who.now) (state S.Store conn.old) (state S.Store conn.new) result }
+    ensures { Wrote (TakesSeat change.now who.now) (state S.Store conn.old)
+        (state S.Store conn.new) result }
 {
     let record = seat_record(alloc, &change.pairing, change.seat, who)?;
     Ok(insert_seat(conn, &record)?)
 }
 
-/// A seat gets a holder in the place of the one before, or none.
+/// Gives a seat a holder in the place of the one before, or none.
 #[tactic(auto, using(crate::proofs::Chaining::then_write, crate::proofs::Chaining::write_stopped, crate::proofs::Chaining::then_nothing))]
 fn reseat_one<S: Alter>(
     alloc: Global,
@@ -268,7 +285,7 @@ fn reseat_one<S: Alter>(
     }
 }
 
-/// The seats get their holders.
+/// Gives the seats their holders.
 #[tactic(auto, using(crate::proofs::Chaining::each_start))]
 fn reseat<S: Alter>(
     alloc: Global,
@@ -276,7 +293,8 @@ fn reseat<S: Alter>(
     changes: &[SeatChange],
 ) -> Result<(), StoreFault>
     requires { IsReady (state S.Store conn.old) }
-    ensures { Wrote (ReseatsAll changes.now) (state S.Store conn.old) (state S.Store conn.new) result }
+    ensures { Wrote (ReseatsAll changes.now) (state S.Store conn.old)
+        (state S.Store conn.new) result }
 {
     for change in changes {
         reseat_one(alloc, conn, change)?;
@@ -284,7 +302,7 @@ fn reseat<S: Alter>(
     Ok(())
 }
 
-/// The times of a period as it was flown.
+/// Writes the times of a period as it was flown.
 #[tactic(auto, using(crate::proofs::Chaining::one_write, crate::proofs::Tables::updates_keep))]
 fn fly_period<S: Alter>(
     conn: &mut Connection<S>,
@@ -292,7 +310,8 @@ fn fly_period<S: Alter>(
     actual: &Actual,
 ) -> Result<(), StoreFault>
     requires { IsReady (state S.Store conn.old) }
-    ensures { Wrote (FliesPeriod id.now actual.now) (state S.Store conn.old) (state S.Store conn.new) result }
+    ensures { Wrote (FliesPeriod id.now actual.now) (state S.Store conn.old)
+        (state S.Store conn.new) result }
 {
     let number = u32::from(actual.period());
     let report = actual.report().number();
@@ -300,7 +319,7 @@ fn fly_period<S: Alter>(
     Ok(update_period(conn, id.as_str(), number, report, release)?)
 }
 
-/// The times of a segment as it was flown, by its place in the period.
+/// Writes the times of a segment as it was flown, by its place in the period.
 #[tactic(auto, using(crate::proofs::Chaining::one_write, crate::proofs::Tables::updates_keep))]
 fn fly_segment<S: Alter>(
     conn: &mut Connection<S>,
@@ -311,7 +330,8 @@ fn fly_segment<S: Alter>(
 ) -> Result<(), StoreFault>
     requires ready { IsReady (state S.Store conn.old) }
     requires at { at < 12 }
-    ensures { Wrote (FliesSegment id.now number at times.now) (state S.Store conn.old) (state S.Store conn.new) result }
+    ensures { Wrote (FliesSegment id.now number at times.now) (state S.Store conn.old)
+        (state S.Store conn.new) result }
 {
     let block_out = times.block_out.number();
     let block_in = times.block_in.number();
@@ -325,7 +345,7 @@ fn fly_segment<S: Alter>(
     )?)
 }
 
-/// The times of the segments of a period as they were flown.
+/// Writes the times of the segments of a period as they were flown.
 #[tactic(auto, using(crate::proofs::Chaining::each_start))]
 fn fly_segments<S: Alter>(
     conn: &mut Connection<S>,
@@ -335,7 +355,8 @@ fn fly_segments<S: Alter>(
 ) -> Result<(), StoreFault>
     requires ready { IsReady (state S.Store conn.old) }
     requires few { length legs.now ≤ 12 }
-    ensures { Wrote (FliesSegments id.now number legs.now) (state S.Store conn.old) (state S.Store conn.new) result }
+    ensures { Wrote (FliesSegments id.now number legs.now) (state S.Store conn.old)
+        (state S.Store conn.new) result }
 {
     for (at, times) in legs.iter().enumerate() {
         fly_segment(conn, id, number, at, times)?;
@@ -343,7 +364,7 @@ fn fly_segments<S: Alter>(
     Ok(())
 }
 
-/// An exceedance of a period.
+/// Writes an exceedance of a period.
 #[tactic(auto, using(crate::proofs::Chaining::one_write, crate::proofs::Tables::inserts_keep))]
 fn record_one<S: Alter>(
     alloc: Global,
@@ -354,13 +375,14 @@ fn record_one<S: Alter>(
     broken: &Exceedance,
 ) -> Result<(), StoreFault>
     requires { IsReady (state S.Store conn.old) }
-    ensures { Wrote (Records key (record { pairing = id.now; number = number }) broken.now) (state S.Store conn.old) (state S.Store conn.new) result }
+    ensures { Wrote (Records key (record { pairing = id.now; number = number }) broken.now)
+        (state S.Store conn.old) (state S.Store conn.new) result }
 {
     let record = exceedance_record(alloc, key, broken, id, number)?;
     Ok(insert_exceedance(conn, &record)?)
 }
 
-/// The exceedances that a command records of a period.
+/// Writes the exceedances that a command records of a period.
 #[tactic(auto, using(crate::proofs::Chaining::each_start))]
 fn record_all<S: Alter>(
     alloc: Global,
@@ -371,7 +393,8 @@ fn record_all<S: Alter>(
     exceedances: &[Exceedance],
 ) -> Result<(), StoreFault>
     requires { IsReady (state S.Store conn.old) }
-    ensures { Wrote (RecordsAll key (record { pairing = id.now; number = number }) exceedances.now) (state S.Store conn.old) (state S.Store conn.new) result }
+    ensures { Wrote (RecordsAll key (record { pairing = id.now; number = number }) exceedances.now)
+        (state S.Store conn.old) (state S.Store conn.new) result }
 {
     for broken in exceedances {
         record_one(alloc, conn, key, id, number, broken)?;
@@ -379,7 +402,7 @@ fn record_all<S: Alter>(
     Ok(())
 }
 
-/// How a period was flown, and the exceedances of it.
+/// Writes how a period was flown, and the exceedances of it.
 #[tactic(auto, using(crate::proofs::Chaining::then_write, crate::proofs::Chaining::write_stopped, crate::proofs::FewPeriods::few_flown))]
 fn fly<S: Alter>(
     alloc: Global,
@@ -389,7 +412,8 @@ fn fly<S: Alter>(
     actual: &Actual,
 ) -> Result<(), StoreFault>
     requires { IsReady (state S.Store conn.old) }
-    ensures { Wrote (Flies change.now id.now actual.now) (state S.Store conn.old) (state S.Store conn.new) result }
+    ensures { Wrote (Flies change.now id.now actual.now) (state S.Store conn.old)
+        (state S.Store conn.new) result }
 {
     let number = actual.period();
     fly_period(conn, id, actual)?;
@@ -398,26 +422,27 @@ fn fly<S: Alter>(
     record_all(alloc, conn, change.key, id, number, exceedances)
 }
 
-/// What a command changes, but for its request.
-pub(crate) fn write_order<S: Alter>(
+/// Writes what a command changes, but for its request.
+pub(crate) fn write_instruction<S: Alter>(
     alloc: Global,
     conn: &mut Connection<S>,
     change: &Change,
-    order: &Order,
+    instruction: &Instruction,
 ) -> Result<(), StoreFault>
     requires { IsReady (state S.Store conn.old) }
-    ensures { Wrote (WritesOrder change.now order.now) (state S.Store conn.old) (state S.Store conn.new) result }
+    ensures { Wrote (WritesInstruction change.now instruction.now) (state S.Store conn.old)
+        (state S.Store conn.new) result }
 {
-    match order {
-        Order::AddCrew(id, member) => add_member(alloc, conn, id, member),
-        Order::AddPairing(plan) => add_pairing(alloc, conn, plan),
-        Order::CancelPairing(id) => remove_pairing(conn, id),
-        Order::Assign(..) | Order::Release(..) | Order::Swap(_) => {
+    match instruction {
+        Instruction::AddCrew(id, member) => add_member(alloc, conn, id, member),
+        Instruction::AddPairing(plan) => add_pairing(alloc, conn, plan),
+        Instruction::CancelPairing(id) => remove_pairing(conn, id),
+        Instruction::Assign(..) | Instruction::Release(..) | Instruction::Swap(_) => {
             reseat(alloc, conn, change.seats.as_slice())
         }
-        Order::AddGround(ground) => add_ground(alloc, conn, ground),
-        Order::CancelGround(id) => remove_ground(conn, id),
-        Order::Actual(id, actual) => fly(alloc, conn, change, id, actual),
+        Instruction::AddGround(ground) => add_ground(alloc, conn, ground),
+        Instruction::CancelGround(id) => remove_ground(conn, id),
+        Instruction::Actual(id, actual) => fly(alloc, conn, change, id, actual),
     }
 }
 
@@ -430,17 +455,19 @@ pub(crate) fn write_change<S: Alter>(
     row: &RequestRecord,
 ) -> Result<(), StoreFault>
     requires ready { IsReady (state S.Store conn.old) }
-    requires written { request_row row.now ≡ row_of_request change.now.key (record { command = change.now.command; reply = change.now.reply }) }
+    requires written { request_row row.now ≡ row_of_request change.now.key
+        (record { command = change.now.command; reply = change.now.reply }) }
     ensures { Wrote (Writes change.now) (state S.Store conn.old) (state S.Store conn.new) result }
 {
-    write_order(alloc, conn, change, change.command.order())?;
+    write_instruction(alloc, conn, change, change.command.instruction())?;
     write_request(conn, row)
 }
 
 #[tactic(auto, using(crate::proofs::Chaining::one_write, crate::proofs::Tables::inserts_keep))]
 fn write_request<S: Alter>(conn: &mut Connection<S>, row: &RequestRecord) -> Result<(), StoreFault>
     requires { IsReady (state S.Store conn.old) }
-    ensures { Wrote (Inserts (table request) (request_row row.now)) (state S.Store conn.old) (state S.Store conn.new) result }
+    ensures { Wrote (Inserts (table request) (request_row row.now)) (state S.Store conn.old)
+        (state S.Store conn.new) result }
 {
     Ok(insert_request(conn, row)?)
 }

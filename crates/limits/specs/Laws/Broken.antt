@@ -12,9 +12,11 @@ use Rattle.limits.specs.Laws.Decisions.{breaks, breaks_is}
 use Rattle.limits.specs.Laws.Growth.{rule_grows}
 use Rattle.limits.specs.Laws.Splitting.{rule_splits}
 
+-- what a list contains, a longer list contains
 contains_later : {X : Type 0} (y : X) (ys : List X) (x : X) → Contains ys x → Contains (y ∷ ys) x
 contains_later y ys x c = let h = c.1 in (suc c.0, omega arith, c.2)
 
+-- an element that passes the test is in the filtered list
 contains_filter : {X : Type 0} (p : X → Bool) (xs : List X) (x : X) (k : ℕ) → k < length xs → get_or xs k x ≡ x →
     p x ≡ true → Contains (filter p xs) x
 contains_filter p [] x k l is pass = absurd (omega arith)
@@ -28,6 +30,7 @@ contains_filter p (y ∷ ys) x (suc k) l is pass =
       | inr e ↦ rw e rest
     ]
 
+-- each section is in the list of all
 in_all : (s : Section) → Contains all_sections s
 in_all section.FlightTime = (0, lit< tt, refl)
 in_all section.FlightDutyPeriod = (1, lit< tt, refl)

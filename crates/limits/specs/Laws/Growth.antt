@@ -11,6 +11,7 @@ use Rattle.limits.specs.Judgement.{IsWithin}
 use Rattle.limits.specs.Rules.{IsOver, IsYearOver, IsTouched, Rule, ThirtyHourRest, TenHourRest}
 use Rattle.limits.specs.Laws.Parts.{IsPart, part-minutes, count-part, meets-part}
 
+-- a window rule that fewer minutes break, more minutes break
 over-part :
     (width most : ℕ) (some all some_new all_new : ℤ → Bool) → IsPart some all → IsPart some_new all_new →
     IsOver width most some some_new → IsOver width most all all_new
@@ -20,6 +21,7 @@ over-part width most some all some_new all_new part part_new over = record {
   more = (let grown = count-part some all part over.start width in let more = over.more in omega arith);
 }
 
+-- so it is with the rule of 365 days
 year-part :
     (most : ℕ) (some all some_new all_new : ℤ → Bool) → IsPart some all → IsPart some_new all_new →
     IsYearOver most some some_new → IsYearOver most all all_new
@@ -29,6 +31,7 @@ year-part most some all some_new all_new part part_new over = record {
   more = (let grown = count-part some all part (over.day *ℤ pos 1_440) 525_600 in let more = over.more in omega arith);
 }
 
+-- a period that fewer duties touch, more duties touch
 touched-part : (fewer history some new : List DutyInForce) (fdp : FdpTimes) (width : ℕ) → IsWithin fewer history →
     IsWithin some new → IsTouched fewer some fdp width → IsTouched history new fdp width
 touched-part fewer history some new fdp width within within_new touched =
@@ -41,6 +44,7 @@ touched-part fewer history some new fdp width within within_new touched =
       )
     ]
 
+-- a rest of ten hours that fewer duties break, more duties break
 ten_hours-part : (fewer history some new : List DutyInForce) → IsWithin fewer history → IsWithin some new →
     TenHourRest fewer some → TenHourRest history new
 ten_hours-part fewer history some new within within_new rule = record {
@@ -50,6 +54,7 @@ ten_hours-part fewer history some new within within_new rule = record {
       (part-minutes Duty fewer history within) rule.worked;
 }
 
+-- a rest of thirty hours that fewer duties break, more duties break
 thirty_hours-part : (fewer history some new : List DutyInForce) → IsWithin fewer history → IsWithin some new →
     ThirtyHourRest fewer some → ThirtyHourRest history new
 thirty_hours-part fewer history some new within within_new rule = record {
@@ -59,6 +64,7 @@ thirty_hours-part fewer history some new within within_new rule = record {
       (part-minutes Duty fewer history within) (rule.worked start from to);
 }
 
+-- a rule that fewer duties break, more duties break
 pub rule_grows : (s : Section) (fewer history some new : List DutyInForce) → IsWithin fewer history →
     IsWithin some new → Rule s fewer some → Rule s history new
 rule_grows section.FlightTime fewer history some new within within_new rule =

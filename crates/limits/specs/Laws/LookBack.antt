@@ -24,19 +24,23 @@ pub record Lacks (r : Rest) (history new : List DutyInForce) : Type 0 where
   pub touched : IsTouched history new fdp (look_width r)
   pub lacks : lacks_rest r history fdp.report ≡ true
 
+-- the test of duty before a report finds just a duty minute in those minutes
 on_duty_decides : (history : List DutyInForce) (end width : ℕ) → 0 < width →
     (is_on_duty_before history end width ≡ true) ↔ Meets (minutes_in Duty history) (pos end -ℤ pos width) width
 on_duty_decides history end width some = reach_decides (flat_map (spans_of Duty) history) end width some
 
+-- each look-back has a minute
 look_width-some : (r : Rest) → 0 < look_width r
 look_width-some rest.TenHours = omega arith
 look_width-some rest.ThirtyHours = omega arith
 
+-- a new duty that passes the test is a report that lacks the rest
 lacks_new : (r : Rest) (history new : List DutyInForce) (duty : DutyInForce) → Contains new duty →
     by_report (lacks_rest r history) duty ≡ true → Lacks r history new
 lacks_new r history new (Fdp fdp) in' is = record { fdp = fdp; touched = inl in'; lacks = is }
 lacks_new r history new (Ground span) in' is = absurd (false≢true is)
 
+-- so is a duty of the history that passes it, and whose look-back meets a new duty
 lacks_old : (r : Rest) (history new : List DutyInForce) (duty : DutyInForce) → Contains history duty →
     by_report (is_spoilt r history new) duty ≡ true → Lacks r history new
 lacks_old r history new (Fdp fdp) in' is =
@@ -52,6 +56,7 @@ lacks_old r history new (Fdp fdp) in' is =
     }
 lacks_old r history new (Ground span) in' is = absurd (false≢true is)
 
+-- where the tests find a duty, some touched report lacks the rest
 lacks_found : (r : Rest) (history new : List DutyInForce) → some_lacks_rest r history new ≡ true → Lacks r history new
 lacks_found r history new is =
     elim (or_cases (list_any (by_report (lacks_rest r history)) new)
@@ -61,6 +66,7 @@ lacks_found r history new is =
           lacks_old r history new c.0 c.1 c.2)
     ]
 
+-- where some touched report lacks the rest, the tests find a duty
 lacks_tested : (r : Rest) (history new : List DutyInForce) → Lacks r history new → some_lacks_rest r history new ≡ true
 lacks_tested r history new l =
     elim l.touched [
@@ -69,6 +75,7 @@ lacks_tested r history new l =
           (and_from _ _ ((on_duty_decides new l.fdp.report (look_width r) (look_width-some r)).1 old.1) l.lacks))
     ]
 
+-- the tests decide the rule of ten hours (117.25(e))
 pub ten_hours_decides : (history new : List DutyInForce) → (some_lacks_rest rest.TenHours history new ≡ true) ↔
     TenHourRest history new
 ten_hours_decides history new = (
@@ -101,6 +108,7 @@ worked_from set end width length none start from to =
       }))
     ]
 
+-- where each run of that length meets the set, no run is free
 no_free_run : (set : ℤ → Bool) (end : ℤ) (width length : ℕ) →
     ((start : ℤ) → (end -ℤ pos width) ≤ℤ start → (start +ℤ pos length) ≤ℤ end → Meets set start length) →
     HasFreeRun set (end -ℤ pos width) width length → ⊥
@@ -111,6 +119,7 @@ no_free_run set end width length worked has =
     let free = has.free in
     omega arith
 
+-- the tests decide the rule of thirty hours (117.25(b))
 pub thirty_hours_decides : (history new : List DutyInForce) → (some_lacks_rest rest.ThirtyHours history new ≡ true) ↔
     ThirtyHourRest history new
 thirty_hours_decides history new = (thirty_found history new, thirty_tested history new)

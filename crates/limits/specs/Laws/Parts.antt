@@ -34,12 +34,14 @@ held kind history i duty in' is =
     list_any-flat_map (covers i) (spans_of kind) history ∙
     list_any_at test history in'.0 duty in'.1 (ap test in'.2 ∙ is)
 
+-- the minutes of some of the duties are minutes of all
 pub part-minutes : (kind : Kind) (fewer duties : List DutyInForce) → IsWithin fewer duties →
     IsPart (minutes_in kind fewer) (minutes_in kind duties)
 part-minutes kind fewer duties within i is =
     let h = holder kind fewer i is in
     held kind duties i h.0 (within h.0 h.1) h.2
 
+-- each minute of all duties is one of the others or of the added ones
 pub union-minutes : (kind : Kind) (all others added : List DutyInForce) → IsJoined all others added →
     IsUnion (minutes_in kind all) (minutes_in kind others) (minutes_in kind added)
 union-minutes kind all others added joined i is =
@@ -49,10 +51,12 @@ union-minutes kind all others added joined i is =
       | inr new ↦ inr (held kind added i h.0 new h.2)
     ]
 
+-- a truth that follows from another counts no less
 one_if-part : (a b : Bool) → (a ≡ true → b ≡ true) → one_if a ≤ one_if b
 one_if-part false b h = omega arith
 one_if-part true b h = rw (h refl) (omega arith)
 
+-- a part of a set has no more minutes in a window than the whole
 pub count-part : (some all : ℤ → Bool) → IsPart some all → (start : ℤ) (width : ℕ) →
     count some start width ≤ count all start width
 count-part some all part start zero = let a = count-none some start in omega arith
@@ -63,10 +67,12 @@ count-part some all part start (suc width) =
     let b = count-more all start width in
     omega arith
 
+-- a truth that gives one of two others counts no more than both
 one_if-union : (a b c : Bool) → (a ≡ true → (b ≡ true) ⊎ (c ≡ true)) → one_if a ≤ one_if b + one_if c
 one_if-union false b c h = omega arith
 one_if-union true b c h = elim (h refl) [ inl is ↦ rw is (omega arith) | inr is ↦ rw is (omega arith) ]
 
+-- a union has no more minutes in a window than its two sets together
 pub count-union : (all others added : ℤ → Bool) → IsUnion all others added → (start : ℤ) (width : ℕ) →
     count all start width ≤ count others start width + count added start width
 count-union all others added union start zero = let a = count-none all start in omega arith
@@ -78,6 +84,7 @@ count-union all others added union start (suc width) =
     let c = count-more added start width in
     omega arith
 
+-- what meets a part of a set meets the set
 pub meets-part : (some all : ℤ → Bool) (start : ℤ) (width : ℕ) → IsPart some all → Meets some start width →
     Meets all start width
 meets-part some all start width part m = record {

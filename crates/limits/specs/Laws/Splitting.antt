@@ -16,6 +16,7 @@ use Rattle.limits.specs.Judgement.{IsJoined}
 use Rattle.limits.specs.Rules.{IsOver, IsYearOver, IsTouched, Rule, FlightTime, FlightDutyPeriod, ThirtyHourRest, TenHourRest}
 use Rattle.limits.specs.Laws.Parts.{IsUnion, union-minutes, count-union, meets-other}
 
+-- a window that holds too much did so without the added minutes, or meets one of them
 over-split :
     (width most : ℕ) (all others added : ℤ → Bool) → IsUnion all others added →
     IsOver width most all all → IsOver width most others others ⊎ IsOver width most all added
@@ -29,6 +30,7 @@ over-split width most all others added union over =
       })
     ]
 
+-- so it is with 365 days
 year-split :
     (most : ℕ) (all others added : ℤ → Bool) → IsUnion all others added →
     IsYearOver most all all → IsYearOver most others others ⊎ IsYearOver most all added
@@ -43,6 +45,7 @@ year-split most all others added union over =
       })
     ]
 
+-- a period over Table A is one of the others, or one of the added duties
 flight_time-split : (all others added : List DutyInForce) → IsJoined all others added → FlightTime all all →
     FlightTime others others ⊎ FlightTime all added
 flight_time-split all others added joined rule =
@@ -51,6 +54,7 @@ flight_time-split all others added joined rule =
       | inr new ↦ inr (record { fdp = rule.fdp; is_new = new; over = rule.over })
     ]
 
+-- so is a period over Table B
 flight_duty_period-split : (all others added : List DutyInForce) → IsJoined all others added →
     FlightDutyPeriod all all → FlightDutyPeriod others others ⊎ FlightDutyPeriod all added
 flight_duty_period-split all others added joined rule =
@@ -80,6 +84,7 @@ touched-split all others added fdp width joined touched =
       ]
     ]
 
+-- a rest of ten hours was broken by the others, or the added duties break it
 ten_hours-split : (all others added : List DutyInForce) → IsJoined all others added → TenHourRest all all →
     TenHourRest others others ⊎ TenHourRest all added
 ten_hours-split all others added joined rule =
@@ -114,6 +119,7 @@ run-other all others added end start width length union none from to m =
           absurd (omega arith))
     ]
 
+-- a rest of thirty hours was broken by the others, or the added duties break it
 thirty_hours-split : (all others added : List DutyInForce) → IsJoined all others added → ThirtyHourRest all all →
     ThirtyHourRest others others ⊎ ThirtyHourRest all added
 thirty_hours-split all others added joined rule =
@@ -128,6 +134,7 @@ thirty_hours-split all others added joined rule =
       })
     ]
 
+-- what all duties break was broken by the others, or the added ones break it
 pub rule_splits : (s : Section) (all others added : List DutyInForce) → IsJoined all others added → Rule s all all →
     Rule s others others ⊎ Rule s all added
 rule_splits section.FlightTime all others added joined = flight_time-split all others added joined

@@ -56,14 +56,17 @@ members spans n = minutes_of spans (pos n)
 pub held-before : (spans : List Span) (end width : ℕ) → held spans end width ≡ before (members spans) end width
 held-before spans end width = count-before (minutes_of spans) (no_negative spans) end width
 
+-- a window that holds too much passes the test
 pub over-test : (spans : List Span) (most end width : ℕ) → most < before (members spans) end width →
     nat_lt most (held spans end width) ≡ true
 over-test spans most end width more = rw held-before (lt-ltb _ _ more)
 
+-- a window that passes the test holds too much
 pub test-over : (spans : List Span) (most end width : ℕ) → nat_lt most (held spans end width) ≡ true →
     most < before (members spans) end width
 test-over spans most end width is = let e = held-before spans end width in let l = ltb-true _ _ is in omega arith
 
+-- a span that reaches a window has a minute, begins before its end, and ends after its begin
 pub reaches-true : (end width : ℕ) (new : Span) → reaches end width new ≡ true → (new.from < new.to) ×
     (new.from < end) × (end < new.to + width)
 reaches-true end width new is =
@@ -71,6 +74,7 @@ reaches-true end width new is =
     let b = and_parts _ _ a.1 in
     (ltb-true _ _ a.0, ltb-true _ _ b.0, ltb-true _ _ b.1)
 
+-- and a span that does so reaches it
 pub reaches-from : (end width : ℕ) (new : Span) → new.from < new.to → new.from < end → end < new.to + width →
     reaches end width new ≡ true
 reaches-from end width new a b c = and_from _ _ (lt-ltb _ _ a) (and_from _ _ (lt-ltb _ _ b) (lt-ltb _ _ c))
@@ -164,6 +168,7 @@ broken_at all new width most end minute member from to more = record {
   more = rw (count-before (minutes_of all) (no_negative all) end width) more;
 }
 
+-- a window that ends there, reaches a new span and holds too much breaks the rule
 pub sound_end : (all new : List Span) (width most end : ℕ) → 0 < width → list_any (reaches end width) new ≡ true →
     most < before (members all) end width → IsOver width most (minutes_of all) (minutes_of new)
 sound_end all new width most end some reached more =
@@ -179,6 +184,7 @@ sound_end all new width most end some reached more =
           (omega arith) more
     ]
 
+-- the test of an edge: a span with a minute, and one of its two windows holds too much
 edge-parts :
     (all : List Span) (width most : ℕ) (s : Span) → edge_is_over all width most s ≡ true →
     (s.from < s.to) × ((most < before (members all) (s.from + 1) width) ⊎
@@ -194,6 +200,7 @@ edge-parts all width most s is =
       ],
     )
 
+-- so does a window at an edge of a new span that the test finds
 pub sound_edge : (all new : List Span) (width most : ℕ) → 0 < width → list_any (edge_is_over all width most) new ≡ true →
     IsOver width most (minutes_of all) (minutes_of new)
 sound_edge all new width most some is =
@@ -210,6 +217,7 @@ sound_edge all new width most some is =
           (r.2 (covers (pos m)) (covers-from m s (omega arith) (omega arith))) (omega arith) (omega arith) last)
     ]
 
+-- where the tests find a window, the rule is broken
 sound : (all new : List Span) (width most : ℕ) → 0 < width → some_is_over all new width most ≡ true →
     IsOver width most (minutes_of all) (minutes_of new)
 sound all new width most some is =
@@ -220,6 +228,7 @@ sound all new width most some is =
       | inr at_edge ↦ sound_edge all new width most some at_edge
     ]
 
+-- where a window that meets a new minute holds too much, the tests find a window
 complete_at :
     (all new : List Span) (width most : ℕ) (start minute : ℤ) → start ≤ℤ minute → minute <ℤ (start +ℤ pos width) →
     minutes_of new minute ≡ true → most < count (minutes_of all) start width → some_is_over all new width most ≡ true

@@ -9,6 +9,7 @@ use Rattle.limits.specs.declared.section.Section.TheVariants as section
 use Rattle.limits.specs.declared.sections.Sections.TheInside.{Inside}
 use Rattle.limits.specs.Judgement.{all_sections}
 
+-- the truth value of a section
 abbrev pub truth_of : Inside → Section → Bool
 truth_of a section.FlightTime = a.flight_time
 truth_of a section.FlightDutyPeriod = a.flight_duty_period
@@ -19,6 +20,7 @@ truth_of a section.FlightDutyPeriods672Hours = a.flight_duty_periods_672_hours
 truth_of a section.ThirtyHourRest = a.thirty_hour_rest
 truth_of a section.TenHourRest = a.ten_hour_rest
 
+-- the sections that hold, in the order of all
 abbrev pub listed : Inside → List Section
 listed a = filter (truth_of a) all_sections
 
@@ -50,9 +52,11 @@ unlisted sections = record {
   ten_hour_rest = lists sections section.TenHourRest;
 }
 
+-- the section at a place of the list of all
 section_at : ℕ → Section
 section_at n = get_or all_sections n section.FlightTime
 
+-- a section is the one at its place
 at_place : (s : Section) → section_at (place s) ≡ s
 unfolding section_at
 at_place section.FlightTime = refl
@@ -64,9 +68,11 @@ at_place section.FlightDutyPeriods672Hours = refl
 at_place section.ThirtyHourRest = refl
 at_place section.TenHourRest = refl
 
+-- sections at one place are one
 same_place : (s t : Section) → place s ≡ place t → s ≡ t
 same_place s t is = sym (at_place s) ∙ ap section_at is ∙ at_place t
 
+-- the list of all has each section
 all_listed : (s : Section) → lists all_sections s ≡ true
 all_listed section.FlightTime = refl
 all_listed section.FlightDutyPeriod = refl
@@ -77,10 +83,12 @@ all_listed section.FlightDutyPeriods672Hours = refl
 all_listed section.ThirtyHourRest = refl
 all_listed section.TenHourRest = refl
 
+-- with a truth beside it a truth value stays
 and_true : (b c : Bool) → c ≡ true → (b && c) ≡ b
 and_true true c is = is
 and_true false c is = refl
 
+-- the list of those that hold has a section if and only if its truth value is true
 kept : (a : Inside) (s : Section) → lists (listed a) s ≡ truth_of a s
 kept a s = any-filter_same (λ t. nat_eq (place t) (place s)) (truth_of a) (truth_of a s)
     (λ t is. ap (truth_of a) (same_place t s (eqb-true _ _ is))) all_sections ∙

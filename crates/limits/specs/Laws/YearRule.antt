@@ -13,6 +13,7 @@ use Rattle.limits.specs.Rules.{IsYearOver}
 use Rattle.limits.specs.Laws.SumRule.{members, trimmed, over-test, test-over, some_span, reaches-from, reaches-true}
 use Rattle.limits.specs.Laws.Windows.{held, reaches, year_is_over, year_end_is_over, year_edge_is_over, some_year_is_over}
 
+-- up to a later minute a set has no fewer members, and at most one more for each minute
 below-le : (set : ℕ → Bool) (m n : ℕ) → m ≤ n → (below set m ≤ below set n) × (below set n ≤ below set m + (n - m))
 below-le set m n l = let e : m + (n - m) ≡ n = omega arith in rw e at (below-range set m (n - m))
 
@@ -104,9 +105,11 @@ year_end : (day : ℤ) (minute : ℕ) → (day *ℤ pos 1_440) ≤ℤ pos minute
 year_end (pos n) minute from to = (n + 365, omega (arith, ints), omega (arith, ints), omega (arith, ints))
 year_end (negsuc n) minute from to = (365 - suc n, omega (arith, ints), omega (arith, ints), omega (arith, ints))
 
+-- 365 days before a day are 525,600 minutes before its first
 year_back : (days : ℕ) → (pos days -ℤ pos 365) *ℤ pos 1_440 ≡ pos (days * 1_440) -ℤ pos 525_600
 year_back days = omega (arith, ints)
 
+-- 365 days that end with a whole day, meet a new minute and hold too much break the rule
 year_broken : (all new : List Span) (most days minute : ℕ) → members new minute ≡ true → minute < days * 1_440 →
     days * 1_440 ≤ minute + 525_600 →
     most < before (members all) (days * 1_440) 525_600 → IsYearOver most (minutes_of all) (minutes_of new)
@@ -124,6 +127,7 @@ year_broken all new most days minute member from to more =
       more = rw (e, count-before (minutes_of all) (no_negative all) (days * 1_440) 525_600) more;
     }
 
+-- 365 days that the test finds at the end of a day break the rule
 year_sound_end : (all new : List Span) (most days : ℕ) → year_is_over all new most (days * 1_440) ≡ true →
     IsYearOver most (minutes_of all) (minutes_of new)
 year_sound_end all new most days is =
@@ -142,6 +146,7 @@ year_sound_end all new most days is =
           (omega arith) more
     ]
 
+-- the test of an edge: a span with a minute, and one of its two years holds too much
 year_edge-parts :
     (all : List Span) (most : ℕ) (s : Span) → year_edge_is_over all most s ≡ true →
     (s.from < s.to) × ((most < before (members all) ((s.from / 1_440 + 1) * 1_440) 525_600) ⊎
@@ -157,6 +162,7 @@ year_edge-parts all most s is =
       ],
     )
 
+-- so do those at an edge of a new span
 year_sound_edge : (all new : List Span) (most : ℕ) → list_any (year_edge_is_over all most) new ≡ true →
     IsYearOver most (minutes_of all) (minutes_of new)
 year_sound_edge all new most is =
@@ -173,6 +179,7 @@ year_sound_edge all new most is =
           (r.2 (covers (pos m)) (covers-from m s (omega arith) (omega arith))) (omega arith) (omega arith) last)
     ]
 
+-- so do those that the test of a span of the history finds
 year_sound_span : (all new : List Span) (most : ℕ) (s : Span) → year_end_is_over all new most s ≡ true →
     IsYearOver most (minutes_of all) (minutes_of new)
 year_sound_span all new most s is =
@@ -182,6 +189,7 @@ year_sound_span all new most s is =
       | inr b ↦ year_sound_end all new most ((s.to - 1) / 1_440) b
     ]
 
+-- where the tests find 365 days, the rule is broken
 year_sound : (all new : List Span) (most : ℕ) → some_year_is_over all new most ≡ true →
     IsYearOver most (minutes_of all) (minutes_of new)
 year_sound all new most is =
@@ -191,6 +199,7 @@ year_sound all new most is =
       | inr at_edge ↦ year_sound_edge all new most at_edge
     ]
 
+-- where some 365 days meet a new minute and hold too much, the tests find a year
 year_complete :
     (all new : List Span) (most : ℕ) (day minute : ℤ) → (day *ℤ pos 1_440) ≤ℤ minute →
     minute <ℤ (day *ℤ pos 1_440 +ℤ pos 525_600) →

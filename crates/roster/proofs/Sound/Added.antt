@@ -1,4 +1,4 @@
--- What an order adds or takes away keeps a state sound.
+-- What an instruction adds or takes away keeps a state sound.
 use Rattle.std.proofs.Common.{◌≡◌, inl, inr, refl, sym, ap, subst, ◌∙◌, ℕ, zero, suc, ◌<◌, Bool, true, false, ltb}
 use Rattle.std.proofs.Common.{List, [], ◌∷◌, ◌++◌, map, Option, Some, None, is_some, slice_get}
 use Rattle.std.specs.FinMap as fin
@@ -15,7 +15,7 @@ use Rattle.duty.specs.declared.fault.DutyFault.TheVariants.{BadTimes, BadField}
 use Rattle.duty.specs.declared.fault.Field.TheVariants as field
 use Rattle.command.specs.Keys.{KeyParts, key_name}
 use Rattle.command.specs.declared.member.Member.{Member}
-use Rattle.command.specs.declared.order.Order.TheVariants.{AddCrew, AddPairing, CancelPairing, AddGround, CancelGround}
+use Rattle.command.specs.declared.instruction.Instruction.TheVariants.{AddCrew, AddPairing, CancelPairing, AddGround, CancelGround}
 use Rattle.roster.proofs.Accepted.{Passed, inserted, removed, insert_keeps, remove_elsewhere}
 use Rattle.roster.proofs.Sound.Kept as kept
 use Rattle.roster.proofs.Sound.Kept.{Parts, is_absent, is_there, one_value, IsFlownAt, StaysFlown}
@@ -24,7 +24,7 @@ use Rattle.roster.specs.Refusals.{refusals}
 use Rattle.roster.specs.Sound.{SoundPairing, SoundGround, Sound}
 use Rattle.roster.specs.State.{State}
 use Rattle.roster.specs.Steps.{after, change_of}
-use Rattle.roster.specs.declared.state.Rostered.{Rostered}
+use Rattle.roster.specs.declared.state.PairingEntry.{PairingEntry}
 
 -- ---- Faults
 
@@ -67,7 +67,7 @@ some_flown [] i x e = cc
 some_flown (y ∷ xs) zero x e = let is : y ≡ Some x = cc in or_left _ _ (ap is_some is)
 some_flown (y ∷ xs) (suc i) x e = or_right (is_some y) _ (some_flown xs i x e)
 
--- ---- The orders
+-- ---- The instructions
 
 module _ (s : State) (key : KeyParts) (free : fin.get s.requests (key_name key) ≡ None) (h : Sound s) where
   pub add_crew : (who : List ℕ) (member : Member) → Passed (refusals s (AddCrew who member)) →
@@ -133,7 +133,7 @@ module _ (s : State) (key : KeyParts) (free : fin.get s.requests (key_name key) 
   }
 
   -- a flown pairing has both seats held, so it isn't one that is cancelled
-  other_flown : (id : List ℕ) → ((r : Rostered) → fin.get s.pairings id ≡ Some r → is_crewed r ≡ false) →
+  other_flown : (id : List ℕ) → ((r : PairingEntry) → fin.get s.pairings id ≡ Some r → is_crewed r ≡ false) →
       StaysFlown s.pairings (fin.remove s.pairings id)
   other_flown id unheld k place f = record {
     rostered = f.rostered;

@@ -17,7 +17,7 @@ use Rattle.command.specs.declared.exceedance.Exceedance.{Exceedance}
 use Rattle.command.specs.declared.member.Member.{Member}
 use Rattle.command.specs.declared.member.Seat.{Seat}
 use Rattle.command.specs.declared.member.Seat.TheVariants.{Captain, FirstOfficer}
-use Rattle.command.specs.declared.order.Order.TheVariants.{Actual}
+use Rattle.command.specs.declared.instruction.Instruction.TheVariants.{Actual}
 use Rattle.roster.proofs.Accepted.{Passed, decide, changed, change_here, change_elsewhere, insert_here, insert_keeps}
 use Rattle.roster.proofs.Records.{recorded_from}
 use Rattle.roster.proofs.Sound.Kept as kept
@@ -29,8 +29,8 @@ use Rattle.roster.specs.Sound.{Crew, IsHolder, IsActual, SoundPairing, SoundExce
 use Rattle.roster.specs.State.{State}
 use Rattle.roster.specs.Steps.{after, change_of, with_actual, broken_by_holder, flown_duty, recorded_by}
 use Rattle.roster.specs.declared.state.PeriodId.{PeriodId}
-use Rattle.roster.specs.declared.state.Request.{Request}
-use Rattle.roster.specs.declared.state.Rostered.{Rostered}
+use Rattle.roster.specs.declared.state.LoggedCommand.{LoggedCommand}
+use Rattle.roster.specs.declared.state.PairingEntry.{PairingEntry}
 
 -- ---- A list with one value set
 
@@ -64,7 +64,7 @@ get_within (x ∷ xs) (suc i) y e = let l = get_within xs i y e in omega (arith,
 -- ---- What an accepted actual found
 
 pub record Found (s : State) (id : List ℕ) (a : ActualTimes) : Type 0 where
-  pub rostered : Rostered
+  pub rostered : PairingEntry
   pub there : fin.get s.pairings id ≡ Some rostered
   pub crewed : is_fully_crewed rostered ≡ true
   pub fdp : Fdp
@@ -76,7 +76,7 @@ unfolding refusals
 found s id a passed =
     let r = is_there (fin.get s.pairings id) (not-false _ passed.0) in
     let fdp = is_there (planned s id a.period) (not-false _ passed.1.1.0) in
-    let at_r = ap (option_and_then (λ (r : Rostered). slice_get r.plan.periods (a.period - 1))) r.1 in
+    let at_r = ap (option_and_then (λ (r : PairingEntry). slice_get r.plan.periods (a.period - 1))) r.1 in
     let counted : not (eqb (length fdp.0.segments) (length a.segments)) ≡ false =
     subst (λ o. option_map_or (λ (f : Fdp). not (eqb (length f.segments) (length a.segments))) o false ≡ false)
     fdp.1 passed.1.1.1.0 in
@@ -91,7 +91,7 @@ found s id a passed =
 
 -- ---- The pairing
 
-flown_sound : (crew : Crew) (id : List ℕ) (a : ActualTimes) (r : Rostered) (fdp : Fdp) → 1 ≤ a.period →
+flown_sound : (crew : Crew) (id : List ℕ) (a : ActualTimes) (r : PairingEntry) (fdp : Fdp) → 1 ≤ a.period →
     actual_fault a ≡ None → is_fully_crewed r ≡ true → slice_get r.plan.periods (a.period - 1) ≡ Some fdp →
     length fdp.segments ≡ length a.segments → SoundPairing crew id r → SoundPairing crew id (with_actual a r)
 flown_sound crew id a r fdp positive faultless crewed planned count h = record {
@@ -162,17 +162,17 @@ of_holder s id a seat (Some who) h =
     All-map (IsOfMember s.crew) (λ section. record { crew = who; section = section })
     (Broken (rest ++ flown_duty s who id a) (flown_duty s who id a)) (λ _ _ _. (m.0, m.1))
 
-of_members : (s : State) (id : List ℕ) (a : ActualTimes) (r : Rostered) → fin.get s.pairings id ≡ Some r →
+of_members : (s : State) (id : List ℕ) (a : ActualTimes) (r : PairingEntry) → fin.get s.pairings id ≡ Some r →
     SoundPairing s.crew id r → All (IsOfMember s.crew) (recorded_by s (Actual id a))
 unfolding recorded_by
 of_members s id a r is h = subst
     (λ o. All (IsOfMember s.crew) (option_map_or
-    (λ (r : Rostered). broken_by_holder s id a r.captain ++ broken_by_holder s id a r.first_officer) o []))
+    (λ (r : PairingEntry). broken_by_holder s id a r.captain ++ broken_by_holder s id a r.first_officer) o []))
     (sym is)
     (All-append (IsOfMember s.crew) _ _ (of_holder s id a Captain r.captain h.captain)
     (of_holder s id a FirstOfficer r.first_officer h.first_officer))
 
--- ---- The order
+-- ---- The instruction
 
 module _ (s : State) (key : KeyParts) (free : fin.get s.requests (key_name key) ≡ None) (h : Sound s) where
   pub actual : (id : List ℕ) (a : ActualTimes) → 1 ≤ a.period → actual_fault a ≡ None →
@@ -186,7 +186,7 @@ module _ (s : State) (key : KeyParts) (free : fin.get s.requests (key_name key) 
       let planned = get_within f.rostered.plan.periods (a.period - 1) f.fdp f.planned in
       omega (arith, places, planned) in
       let period : PeriodId = record { pairing = id; number = a.period } in
-      let request : Request = record { command = Actual id a; reply = (change_of s key (Actual id a)).reply } in
+      let request : LoggedCommand = record { command = Actual id a; reply = (change_of s key (Actual id a)).reply } in
       record {
         pairings = λ k x e. elim (changed s.pairings id (with_actual a) k x e) [
           | inl new ↦

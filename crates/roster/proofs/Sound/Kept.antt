@@ -7,10 +7,10 @@ use Rattle.command.specs.Keys.{key_name}
 use Rattle.roster.specs.Sound.{Crew, SoundPairing, SoundGround, SoundExceedance, Sound}
 use Rattle.roster.specs.State.{State}
 use Rattle.roster.specs.declared.state.PeriodId.{PeriodId}
-use Rattle.roster.specs.declared.state.Rostered.{Rostered}
+use Rattle.roster.specs.declared.state.PairingEntry.{PairingEntry}
 
 abbrev pub Pairings : Type 0
-Pairings = fin.FinMap name_cmp Rostered
+Pairings = fin.FinMap name_cmp PairingEntry
 
 -- ---- Whether a value is there
 
@@ -33,7 +33,7 @@ Grows {X} m n = (k : List ℕ) (x : X) → fin.get m k ≡ Some x → fin.get n 
 
 -- the period at this place, counted from 0, has an actual
 pub record IsFlownAt (pairings : Pairings) (id : List ℕ) (place : ℕ) : Type 0 where
-  pub rostered : Rostered
+  pub rostered : PairingEntry
   pub there : fin.get pairings id ≡ Some rostered
   pub actual : ActualTimes
   pub flown : slice_get rostered.actuals place ≡ Some (Some actual)
@@ -73,17 +73,17 @@ pub exceedances : (s t : State) → t.exceedances ≡ s.exceedances → Grows s.
 exceedances s t same requests crew flown h name p e =
     exceedance s t requests crew flown name p (h.exceedances name p (ap (λ m. fin.get m name) (sym same) ∙ e))
 
--- ---- All but the requests, which every accepted order changes alike
+-- ---- All but the requests, which every accepted instruction changes alike
 
 pub record Parts (s : State) : Type 0 where
-  pub pairings : (id : List ℕ) (r : Rostered) → fin.get s.pairings id ≡ Some r → SoundPairing s.crew id r
+  pub pairings : (id : List ℕ) (r : PairingEntry) → fin.get s.pairings id ≡ Some r → SoundPairing s.crew id r
   pub grounds : (id : List ℕ) (g : GroundPlan) → fin.get s.grounds id ≡ Some g → SoundGround s.crew id g
   pub exceedances : (name : List ℕ) (p : PeriodId) → fin.get s.exceedances name ≡ Some p → SoundExceedance s name p
 
 -- ---- More members
 
 module _ (crew more : Crew) (grows : Grows crew more) where
-  pub pairing : (id : List ℕ) (r : Rostered) → SoundPairing crew id r → SoundPairing more id r
+  pub pairing : (id : List ℕ) (r : PairingEntry) → SoundPairing crew id r → SoundPairing more id r
   pairing id r h = record {
     named = h.named;
     plan = h.plan;

@@ -11,9 +11,9 @@ use Rattle.command.specs.contracts.member.SeatPartialEq.TheImpl.{ghosts as seats
 use Rattle.command.specs.declared.member.Member.{Member}
 use Rattle.command.specs.declared.member.Seat.{Seat}
 use Rattle.command.specs.declared.member.Seat.TheVariants.{Captain, FirstOfficer}
-use Rattle.command.specs.declared.order.Order.{Order}
-use Rattle.command.specs.declared.order.Order.TheVariants.{Assign, Release, Swap}
-use Rattle.command.specs.declared.order.Swap as swap
+use Rattle.command.specs.declared.instruction.Instruction.{Instruction}
+use Rattle.command.specs.declared.instruction.Instruction.TheVariants.{Assign, Release, Swap}
+use Rattle.command.specs.declared.instruction.Swap as swap
 use Rattle.roster.proofs.Accepted.{Passed, decide, changed, change_here, change_elsewhere, insert_keeps}
 use Rattle.roster.proofs.Sound.Kept as kept
 use Rattle.roster.proofs.Sound.Kept.{Parts, Pairings, is_there, one_value, IsFlownAt, StaysFlown}
@@ -23,15 +23,15 @@ use Rattle.roster.specs.Sound.{Crew, IsHolder, SoundPairing, Sound}
 use Rattle.roster.specs.State.{State}
 use Rattle.roster.specs.Steps.{after, change_of, seat_change, seats_of, reseated}
 use Rattle.roster.specs.declared.change.SeatChange.{SeatChange}
-use Rattle.roster.specs.declared.state.Rostered.{Rostered}
+use Rattle.roster.specs.declared.state.PairingEntry.{PairingEntry}
 
 -- ---- One seat
 
 -- the seat is given to somebody, or no period is flown
-abbrev IsFree : Option (List ℕ) → Rostered → Type 0
+abbrev IsFree : Option (List ℕ) → PairingEntry → Type 0
 IsFree new r = (is_some new ≡ true) ⊎ (is_flown r ≡ false)
 
-reseat : (crew : Crew) (id : List ℕ) (r : Rostered) (seat : Seat) (new : Option (List ℕ)) → SoundPairing crew id r →
+reseat : (crew : Crew) (id : List ℕ) (r : PairingEntry) (seat : Seat) (new : Option (List ℕ)) → SoundPairing crew id r →
     IsHolder crew seat new → IsFree new r → SoundPairing crew id (with_holder seat new r)
 reseat crew id r Captain new h is free = record {
   named = h.named;
@@ -60,7 +60,7 @@ reseat crew id r FirstOfficer new h is free = record {
   ];
 }
 
-same_actuals : (seat : Seat) (new : Option (List ℕ)) (r : Rostered) → (with_holder seat new r).actuals ≡ r.actuals
+same_actuals : (seat : Seat) (new : Option (List ℕ)) (r : PairingEntry) → (with_holder seat new r).actuals ≡ r.actuals
 same_actuals Captain new r = refl
 same_actuals FirstOfficer new r = refl
 
@@ -84,11 +84,11 @@ flown_stays m it id place f = elim (decide id it.pairing) [
 -- ---- One seat after another
 
 abbrev AreSound : Crew → Pairings → Type 0
-AreSound crew m = (id : List ℕ) (r : Rostered) → fin.get m id ≡ Some r → SoundPairing crew id r
+AreSound crew m = (id : List ℕ) (r : PairingEntry) → fin.get m id ≡ Some r → SoundPairing crew id r
 
 record Fits (crew : Crew) (m : Pairings) (it : SeatChange) : Type 0 where
   holder : IsHolder crew it.seat it.holder
-  free : (r : Rostered) → fin.get m it.pairing ≡ Some r → IsFree it.holder r
+  free : (r : PairingEntry) → fin.get m it.pairing ≡ Some r → IsFree it.holder r
 
 abbrev AllFit : Crew → Pairings → List SeatChange → Type 0
 AllFit crew m [] = Unit {0}
@@ -112,7 +112,7 @@ all_stay : (m : Pairings) (list : List SeatChange) → StaysFlown m (fold reseat
 all_stay m [] id place f = f
 all_stay m (it ∷ rest) id place f = all_stay (reseated m it) rest id place (flown_stays m it id place f)
 
--- ---- The seats of an order
+-- ---- The seats of an instruction
 
 abbrev seat_for : List ℕ → Seat → Option (List ℕ) → SeatChange
 seat_for id seat new = record { pairing = id; seat = seat; holder = new }
@@ -135,18 +135,18 @@ same_kind s who other m n m_is n_is alike =
     (seat_same m.seat n.seat).0 (not-false _ of_both)
 
 module _ (s : State) (key : KeyParts) (free : fin.get s.requests (key_name key) ≡ None) (h : Sound s) where
-  -- the orders that change seats alone
-  seated : (order : Order) (t : State) →
+  -- the instructions that change seats alone
+  seated : (instruction : Instruction) (t : State) →
       t ≡ record s {
-        pairings = fold reseated s.pairings (seats_of s order);
+        pairings = fold reseated s.pairings (seats_of s instruction);
         requests = fin.insert s.requests (key_name key)
-            (record { command = order; reply = (change_of s key order).reply });
-      } → AllFit s.crew s.pairings (seats_of s order) → Parts t
-  seated order t is fit = subst Parts (sym is) (record {
-    pairings = reseat_all s.crew s.pairings (seats_of s order) fit h.pairings;
+            (record { command = instruction; reply = (change_of s key instruction).reply });
+      } → AllFit s.crew s.pairings (seats_of s instruction) → Parts t
+  seated instruction t is fit = subst Parts (sym is) (record {
+    pairings = reseat_all s.crew s.pairings (seats_of s instruction) fit h.pairings;
     grounds = h.grounds;
     exceedances = kept.exceedances s _ refl (insert_keeps s.requests (key_name key) _ free) (λ _ _ m. m)
-        (all_stay s.pairings (seats_of s order)) h;
+        (all_stay s.pairings (seats_of s instruction)) h;
   })
 
   pub assign : (id who : List ℕ) → Passed (refusals s (Assign id who)) →

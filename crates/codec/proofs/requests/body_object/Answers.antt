@@ -1,6 +1,6 @@
 use Rattle.std.proofs.Common.{◌≡◌, ◌≤◌, ◌∙◌, length, ap, arith, inr, subst, IfOk, Ok, sym}
 use Rattle.serde_json.specs.View.{view}
-use Rattle.kept.specs.CommandJson.{read_object}
+use Rattle.stored_json.specs.CommandJson.{read_object}
 use Rattle.codec.proofs.BodyLemmas.{body_of_text, body_of_no_text}
 use Rattle.codec.proofs.requests.body_object.Goals as goal
 

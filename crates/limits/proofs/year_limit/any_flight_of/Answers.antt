@@ -6,7 +6,7 @@ use Rattle.duty.specs.declared.span.Span.{Span}
 use Rattle.duty.specs.Minutes.{spans_of}
 use Rattle.duty.specs.declared.kind.Kind.TheVariants.{Flight}
 use Rattle.limits.specs.declared.year_limit.Days.{Days}
-use Rattle.limits.specs.contracts.year_limit.DaysExact.TheImpl.Laws.{exact-law}
+use Rattle.limits.specs.contracts.year_limit.DaysLawfulEq.TheImpl.Laws.{exact-law}
 use Rattle.limits.specs.Laws.Windows.{days_of}
 use Rattle.duty.proofs.Scans.{some_at, none_more}
 use Rattle.limits.proofs.year_limit.any_flight_of.Goals.{else-ne-via-then-ne+else-passes, else-ne-via-else-ne}

@@ -1,8 +1,8 @@
 use Rattle.std.proofs.Common.{rules, ◌≡◌, sym, subst, Result, Err}
 use Rattle.sqlite.specs.Held.{state}
 use Rattle.roster.specs.State.{State}
-use Rattle.loading.specs.Loading.{Says}
-use Rattle.loading.specs.Reading.{Saw}
+use Rattle.loading.specs.Loading.{Justifies}
+use Rattle.loading.specs.Reading.{ReadsAs}
 use Rattle.loading.specs.declared.fault.LoadFault.{LoadFault}
 use Rattle.loading.proofs.ReadCrew.{Now, not_read, is_read}
 use Rattle.loading.proofs.read_crew.read_crew.Goals as goal
@@ -13,7 +13,7 @@ returns-in_err-records-clause-read g c =
     let new = state g.S.Store c.crew_records.new.conn in
     let fault = c.in_err-records.field-0.0 in
     let is : c.from_residual.result ≡ Err fault = search rules in
-    subst (λ (r : Result State LoadFault). Saw (Now c.args.roster old new c.requires.above) (λ f. Says f old.now) old new r) (sym is)
+    subst (λ (r : Result State LoadFault). ReadsAs (Now c.args.roster old new c.requires.above) (λ f. Justifies f old.now) old new r) (sym is)
     (not_read c.args.roster old new c.requires.above fault c.in_err-records.ensures.told c.crew_records.ensures.left)
 
 pub returns-clause-read : goal.returns-clause-read

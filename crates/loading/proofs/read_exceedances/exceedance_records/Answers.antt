@@ -2,7 +2,7 @@ use Rattle.std.proofs.Common.{rules, map, Vec, Global}
 use Rattle.sqlite.specs.Held.{state}
 use Rattle.tables.specs.Records.{exceedance_row, IsExceedanceRow}
 use Rattle.tables.specs.declared.exceedance.ExceedanceRecord.{ExceedanceRecord}
-use Rattle.rows.specs.Rows.{exceedance}
+use Rattle.state_rows.specs.Rows.{exceedance}
 use Rattle.loading.specs.declared.fault.TableName.TheVariants as table_name
 use Rattle.loading.proofs.Telling.{found}
 use Rattle.loading.proofs.read_exceedances.exceedance_records.Goals as goal

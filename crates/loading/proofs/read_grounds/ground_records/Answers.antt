@@ -2,7 +2,7 @@ use Rattle.std.proofs.Common.{rules, map, Vec, Global}
 use Rattle.sqlite.specs.Held.{state}
 use Rattle.tables.specs.Records.{ground_row, IsGroundRow}
 use Rattle.tables.specs.declared.ground.GroundRecord.{GroundRecord}
-use Rattle.rows.specs.Rows.{ground_duty}
+use Rattle.state_rows.specs.Rows.{ground_duty}
 use Rattle.loading.specs.declared.fault.TableName.TheVariants as table_name
 use Rattle.loading.proofs.Telling.{found}
 use Rattle.loading.proofs.read_grounds.ground_records.Goals as goal

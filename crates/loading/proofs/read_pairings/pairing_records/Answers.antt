@@ -2,7 +2,7 @@ use Rattle.std.proofs.Common.{rules, map, Vec, Global}
 use Rattle.sqlite.specs.Held.{state}
 use Rattle.tables.specs.Records.{pairing_row, IsPairingRow}
 use Rattle.tables.specs.declared.pairing.PairingRecord.{PairingRecord}
-use Rattle.rows.specs.Rows.{pairing}
+use Rattle.state_rows.specs.Rows.{pairing}
 use Rattle.loading.specs.declared.fault.TableName.TheVariants as table_name
 use Rattle.loading.proofs.Telling.{found}
 use Rattle.loading.proofs.read_pairings.pairing_records.Goals as goal

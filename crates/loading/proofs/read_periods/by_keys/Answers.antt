@@ -20,7 +20,7 @@ loop-row-preserved c =
     one_read c.args.ids.now c.args.records.now c.loop-row.row-index c.row-item.result
     (slice_get_read c.args.records.now (length c.args.records.now) c.loop-row.row-index c.row-item.result refl (omega arith) c.row-item.is)
     c.loop-row.periods c.insert.new.self c.in-Some.key (search rules) c.loop-row.invariant
-    (c.in_ok-insert.ensures.ok ∙ ap (fin.insert c.loop-row.periods (name_of_period c.in-Some.key)) c.in_ok-copy.ensures)
+    (c.in_ok-insert.ensures.ok ∙ ap (fin.insert c.loop-row.periods (name_of_period c.in-Some.key)) c.in_ok-try_clone.ensures)
 
 pub returns : goal.returns
 returns c = subst (λ (n : ℕ). PeriodsRead c.args.ids.now c.args.records.now n c.loop-row.periods) (search rules) c.loop-row.invariant

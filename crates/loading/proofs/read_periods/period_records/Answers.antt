@@ -2,7 +2,7 @@ use Rattle.std.proofs.Common.{rules, map, Vec, Global}
 use Rattle.sqlite.specs.Held.{state}
 use Rattle.tables.specs.Records.{period_row, IsPeriodRow}
 use Rattle.tables.specs.declared.period.PeriodRecord.{PeriodRecord}
-use Rattle.rows.specs.Rows.{period}
+use Rattle.state_rows.specs.Rows.{period}
 use Rattle.loading.specs.declared.fault.TableName.TheVariants as table_name
 use Rattle.loading.proofs.Telling.{found}
 use Rattle.loading.proofs.read_periods.period_records.Goals as goal

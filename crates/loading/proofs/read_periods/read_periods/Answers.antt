@@ -4,8 +4,8 @@ use Rattle.tables.specs.Records.{IsPeriodRow, period_row}
 use Rattle.tables.specs.declared.period.PeriodRecord.{PeriodRecord}
 use Rattle.loading.specs.Keyed.{ArePeriodsWanting, ArePeriodsWhole, HasPeriods, IsPeriodTable}
 use Rattle.loading.specs.PlanRows.{AreUngapped, Periods}
-use Rattle.loading.specs.Reading.{Saw, Blames}
-use Rattle.rows.specs.Rows.{period}
+use Rattle.loading.specs.Reading.{ReadsAs, Blames}
+use Rattle.state_rows.specs.Rows.{period}
 use Rattle.loading.specs.declared.fault.LoadFault.{LoadFault}
 use Rattle.loading.specs.declared.fault.TableName.TheVariants as table_name
 use Rattle.loading.proofs.ReadTables.{not_read, is_read, if_read}
@@ -18,7 +18,7 @@ returns-in_err-records-clause-told g c =
     let new = state g.S.Store c.period_records.new.conn in
     let fault = c.in_err-records.field-0.0 in
     let is : c.from_residual.result ≡ Err fault = search rules in
-    subst (λ (r : Result Periods LoadFault). Saw (HasPeriods old.now) (Blames table_name.Period (IsPeriodTable old.now → ⊥)) old new r) (sym is)
+    subst (λ (r : Result Periods LoadFault). ReadsAs (HasPeriods old.now) (Blames table_name.Period (IsPeriodTable old.now → ⊥)) old new r) (sym is)
     (not_read period table_name.Period IsPeriodRow period_row (IsPeriodTable old.now) (HasPeriods old.now) old new c.period_records.ensures.left fault
     (λ clean. not_unreadable old.now c.args.ids.now (c.requires.above clean)) c.in_err-records.ensures.told)
 

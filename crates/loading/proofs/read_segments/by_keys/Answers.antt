@@ -20,7 +20,7 @@ loop-row-preserved c =
     one_read c.args.periods.now c.args.records.now c.loop-row.row-index c.row-item.result
     (slice_get_read c.args.records.now (length c.args.records.now) c.loop-row.row-index c.row-item.result refl (omega arith) c.row-item.is)
     c.loop-row.segments c.insert.new.self c.in-Some.key (search rules) c.loop-row.invariant
-    (c.in_ok-insert.ensures.ok ∙ ap (fin.insert c.loop-row.segments (name_of_segment c.in-Some.key)) c.in_ok-copy.ensures)
+    (c.in_ok-insert.ensures.ok ∙ ap (fin.insert c.loop-row.segments (name_of_segment c.in-Some.key)) c.in_ok-try_clone.ensures)
 
 pub returns : goal.returns
 returns c = subst (λ (n : ℕ). SegmentsRead c.args.periods.now c.args.records.now n c.loop-row.segments) (search rules) c.loop-row.invariant

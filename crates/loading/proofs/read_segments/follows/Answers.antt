@@ -5,8 +5,8 @@ use Rattle.loading.specs.PlanRows.{segment_name}
 use Rattle.loading.proofs.Following.{before_there, before_is_there}
 use Rattle.loading.proofs.read_segments.follows.Goals as goal
 
-pub returns-in_ok-copy-in_default : goal.returns-in_ok-copy-in_default
-returns-in_ok-copy-in_default c =
+pub returns-in_ok-try_clone-in_default : goal.returns-in_ok-try_clone-in_default
+returns-in_ok-try_clone-in_default c =
     let get = λ (k : ℕ). fin.get c.args.segments.now (segment_name c.args.key.now.pairing c.args.key.now.period k) in
     let number = c.args.key.now.number in
     let is : c.contains.result ≡ is_some (get (number - 1)) = search rules in

@@ -4,8 +4,8 @@ use Rattle.tables.specs.Records.{IsSegmentRow, segment_row}
 use Rattle.tables.specs.declared.segment.SegmentRecord.{SegmentRecord}
 use Rattle.loading.specs.Keyed.{AreSegmentsWanting, AreSegmentsWhole, HasSegmentsOf, IsSegmentTable}
 use Rattle.loading.specs.PlanRows.{HasNoGaps, Segments}
-use Rattle.loading.specs.Reading.{Saw, Blames}
-use Rattle.rows.specs.Rows.{segment}
+use Rattle.loading.specs.Reading.{ReadsAs, Blames}
+use Rattle.state_rows.specs.Rows.{segment}
 use Rattle.loading.specs.declared.fault.LoadFault.{LoadFault}
 use Rattle.loading.specs.declared.fault.TableName.TheVariants as table_name
 use Rattle.loading.proofs.ReadTables.{not_read, is_read, if_read}
@@ -19,7 +19,7 @@ returns-in_err-records-clause-told g c =
     let periods = c.args.periods.now in
     let fault = c.in_err-records.field-0.0 in
     let is : c.from_residual.result ≡ Err fault = search rules in
-    subst (λ (r : Result Segments LoadFault). Saw (HasSegmentsOf old.now periods) (Blames table_name.Segment (IsSegmentTable old.now → ⊥)) old new r) (sym is)
+    subst (λ (r : Result Segments LoadFault). ReadsAs (HasSegmentsOf old.now periods) (Blames table_name.Segment (IsSegmentTable old.now → ⊥)) old new r) (sym is)
     (not_read segment table_name.Segment IsSegmentRow segment_row (IsSegmentTable old.now) (HasSegmentsOf old.now periods) old new c.segment_records.ensures.left fault
     (λ clean. not_unreadable old.now) c.in_err-records.ensures.told)
 

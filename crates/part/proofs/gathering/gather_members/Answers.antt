@@ -18,6 +18,6 @@ returns-clause-told g c = (
         λ pairings grounds.
             it.1 known
             ∙ (λ i. picked s.crew (none i) (wanted i))
-            ∙ members_are s c.args.order.now c.args.pairings.now c.args.grounds.now pairings grounds,
+            ∙ members_are s c.args.instruction.now c.args.pairings.now c.args.grounds.now pairings grounds,
       ),
 )

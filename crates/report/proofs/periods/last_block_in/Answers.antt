@@ -1,5 +1,5 @@
 use Rattle.std.proofs.Common.{sym}
-use Rattle.verdict.proofs.SegmentLemmas.{last_in-last}
+use Rattle.period_verdict.proofs.SegmentLemmas.{last_in-last}
 use Rattle.report.proofs.periods.last_block_in.Goals as goal
 
 pub returns-in-Some : goal.returns-in-Some

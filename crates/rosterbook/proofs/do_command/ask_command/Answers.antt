@@ -16,7 +16,7 @@ returns-in_err-answer-clause-stopped g c =
       [],
       subst (IsStoppedIn g.S.Store old c.ask.new.self (asked ∷ []) []) (sym is)
           (unanswered g.S.Store old old c.ask.new.self (asked ∷ []) 0 [] asked c.in_err-answer.field-0.0 (omega arith) refl (none_asked g.S.Store old (asked ∷ []))
-          met.failed met.clean (λ s at which. met.memory s at (ap Err which)) (λ s at which. met.store s at (ap Err which))),
+          met.failed met.disk (λ s at which. met.memory s at (ap Err which)) (λ s at which. met.store s at (ap Err which))),
     ))
 
 pub returns-in_err-line_of-clause-stopped : goal.returns-in_err-line_of-clause-stopped

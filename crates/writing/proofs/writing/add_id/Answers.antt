@@ -1,5 +1,5 @@
 use Rattle.sqlite.specs.Held.{state}
-use Rattle.rows.specs.Rows.{pairing}
+use Rattle.state_rows.specs.Rows.{pairing}
 use Rattle.writing.proofs.Chaining.{wrote_ok}
 use Rattle.writing.proofs.Tables.{inserts_keep}
 use Rattle.writing.proofs.writing.add_id.Goals as goal

@@ -2,7 +2,7 @@ use Rattle.std.proofs.Common.{rules, None}
 use Rattle.std.proofs.lemmas.Option.{gets}
 use Rattle.sqlite.specs.Held.{state}
 use Rattle.tables.specs.Rows.{Inserts}
-use Rattle.rows.specs.Rows.{table, period, row_of_period}
+use Rattle.state_rows.specs.Rows.{table, period, row_of_period}
 use Rattle.writing.proofs.Chaining.{each_turn}
 use Rattle.writing.proofs.writing.add_periods.Goals as goal
 

@@ -2,7 +2,7 @@ use Rattle.std.proofs.Common.{None}
 use Rattle.sqlite.specs.Held.{state}
 use Rattle.tables.specs.Rows.{Inserts}
 use Rattle.writing.specs.Calls.{WroteSome}
-use Rattle.rows.specs.Rows.{table, period, row_of_period}
+use Rattle.state_rows.specs.Rows.{table, period, row_of_period}
 use Rattle.writing.proofs.writing.add_periods.Given as goal
 
 abbrev pub invariant-loop-place : goal.invariant-loop-place

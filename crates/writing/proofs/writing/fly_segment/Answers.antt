@@ -3,7 +3,7 @@ use Rattle.sqlite_value.specs.declared.value.Value.TheVariants.{Int, Text}
 use Rattle.sqlite.specs.Held.{state}
 use Rattle.tables.specs.Records.{with_segment_times}
 use Rattle.tables.specs.Rows.{begins_with}
-use Rattle.rows.specs.Rows.{segment}
+use Rattle.state_rows.specs.Rows.{segment}
 use Rattle.writing.proofs.Chaining.{wrote_ok}
 use Rattle.writing.proofs.Tables.{updates_keep}
 use Rattle.writing.proofs.writing.fly_segment.Goals as goal

@@ -2,7 +2,7 @@ use Rattle.std.proofs.Common.{[], ◌∷◌, pos}
 use Rattle.sqlite_value.specs.declared.value.Value.TheVariants.{Int, Text}
 use Rattle.sqlite.specs.Held.{state}
 use Rattle.tables.specs.Rows.{begins_with}
-use Rattle.rows.specs.Rows.{seat, seat_number}
+use Rattle.state_rows.specs.Rows.{seat, seat_number}
 use Rattle.writing.proofs.Chaining.{wrote_ok}
 use Rattle.writing.proofs.Tables.{deletes_keep}
 use Rattle.writing.proofs.writing.free_seat.Goals as goal

@@ -2,7 +2,7 @@ use Rattle.std.proofs.Common.{[], ◌∷◌}
 use Rattle.sqlite_value.specs.declared.value.Value.TheVariants.{Text}
 use Rattle.sqlite.specs.Held.{state}
 use Rattle.tables.specs.Rows.{begins_with}
-use Rattle.rows.specs.Rows.{ground_duty}
+use Rattle.state_rows.specs.Rows.{ground_duty}
 use Rattle.writing.proofs.Chaining.{wrote_ok}
 use Rattle.writing.proofs.Tables.{deletes_keep}
 use Rattle.writing.proofs.writing.remove_ground.Goals as goal

@@ -1,5 +1,5 @@
 use Rattle.sqlite.specs.Held.{state}
-use Rattle.rows.specs.Rows.{seat}
+use Rattle.state_rows.specs.Rows.{seat}
 use Rattle.writing.proofs.Chaining.{wrote_ok}
 use Rattle.writing.proofs.Tables.{inserts_keep}
 use Rattle.writing.proofs.writing.take_seat.Goals as goal

@@ -1,6 +1,6 @@
 use Rattle.sqlite.specs.Held.{state}
 use Rattle.tables.specs.Records.{request_row}
-use Rattle.rows.specs.Rows.{request}
+use Rattle.state_rows.specs.Rows.{request}
 use Rattle.writing.proofs.Chaining.{wrote_ok}
 use Rattle.writing.proofs.Tables.{inserts_keep}
 use Rattle.writing.proofs.writing.write_request.Goals as goal

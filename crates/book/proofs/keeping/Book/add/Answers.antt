@@ -1,5 +1,5 @@
 use Rattle.std.proofs.Common.{subst}
-use Rattle.command.specs.declared.order.Order.{Order}
+use Rattle.command.specs.declared.instruction.Instruction.{Instruction}
 use Rattle.book.specs.Answered.{IsAnswered}
 use Rattle.book.proofs.Parts.{was_not_asked, was_shut}
 use Rattle.book.proofs.keeping.Book.add.Goals as goal
@@ -12,29 +12,4 @@ returns-in_default g c = rw (← c.self.view_is) (was_not_asked g.S.Store _ _ c.
 
 pub returns : goal.returns
 returns g c =
-    let told = c.ask-answer.ensures in
-    let answered : IsAnswered g.S.Store c.args.self.now c.ask-answer.new.self (c.args.key, c.in-Ok.command) c.ask-answer.result = record {
-      failed = told.failed;
-      shut = told.shut;
-      clean = told.clean;
-      some = told.some;
-      reply = told.reply;
-      answered = told.answered;
-      tables = told.tables;
-      memory = told.memory;
-      store = told.store;
-      sessions = told.sessions;
-      shown = told.shown;
-      honest = told.honest;
-      within_limits = told.within_limits;
-      repeats = told.repeats;
-      turned_down = told.turned_down;
-      holds = told.holds;
-      held = told.held;
-      refused = told.refused;
-      alone = told.alone;
-      others = told.others;
-      counts = told.counts;
-      still_open = told.still_open;
-    } in
-    subst (λ (order : Order). IsAnswered g.S.Store c.args.self.now c.ask-answer.new.self (c.args.key, order) c.ask-answer.result) c.in-Ok.ensures answered
+    subst (λ (instruction : Instruction). IsAnswered g.S.Store c.args.self.now c.ask-answer.new.self (c.args.key, instruction) c.ask-answer.result) c.in-Ok.ensures c.ask-answer.ensures

@@ -11,21 +11,21 @@ pub invariant_of-self : goal.invariant_of-self
 invariant_of-self g c =
     let one = c.self.invariant.1 c.if-self.false in
     let read = c.shown-shown.ensures.unchanged in (
-      c.shown-shown.ensures.some,
+      c.shown-shown.ensures.some_left,
       λ _. record {
         it = one.it;
-        keeps = still_keeps _ _ one.it read.left c.shown-shown.ensures.some one.keeps;
-        shown = shown_on (state g.S.Store c.self.inside.store) (state g.S.Store c.shown-shown.new.self) one.it read.left.honest read.shown one.shown;
+        keeps = still_keeps _ _ one.it read.left c.shown-shown.ensures.some_left one.keeps;
+        shown = shown_on (state g.S.Store c.self.inside.store) (state g.S.Store c.shown-shown.new.self) one.it read.left.disk read.shown one.shown;
       },
     )
 
 pub returns-clause-text : goal.returns-clause-text
 returns-clause-text g c = rw (← c.self.view_is) (λ s at clean.
     let one = c.self.invariant.1 c.if-self.false in
-    let before = c.shown-shown.ensures.unchanged.left.honest clean in
+    let before = c.shown-shown.ensures.unchanged.left.disk clean in
     let same = same_state (state g.S.Store c.self.inside.store) one.it s one.keeps at before in
     subst (λ (x : State). IfOk c.shown-shown.result (λ roster. (shown : Option (List ℕ)) → IsShown roster c.args.what.now shown ↔ IsShown x c.args.what.now shown)) same
     (c.shown-shown.ensures.text one.it (shows_it (state g.S.Store c.self.inside.store) one.it one.keeps one.shown before) clean))
 
-pub returns-clause-same : goal.returns-clause-same
-returns-clause-same g c = rw (← c.self.view_is) (λ s at. still_keeps _ _ s c.shown-shown.ensures.unchanged.left c.shown-shown.ensures.some at)
+pub returns-clause-kept : goal.returns-clause-kept
+returns-clause-kept g c = rw (← c.self.view_is) (λ s at. still_keeps _ _ s c.shown-shown.ensures.unchanged.left c.shown-shown.ensures.some_left at)

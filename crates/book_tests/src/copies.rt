@@ -1,0 +1,96 @@
+//! What no clause of the crates from `values` to `roster` says and no run of the program shows: that with ample memory a copy is
+//! made of verdicts, of entries, of duties and of a history, and that a verdict and an entry are equal to their copies and to no
+//! other one of theirs. Making these copies makes one of each type that they are made of.
+
+mod entries;
+mod played;
+
+use crate::copies::entries::{entries, history};
+use crate::copies::played::asked_all;
+use roster::{Roster, Verdict};
+use std::alloc::Global;
+use std::test::Fail;
+use values::TryClone;
+
+/// Whether a copy is made, and is equal.
+fn is_copied<T: TryClone + PartialEq>(alloc: Global, value: &T) -> bool {
+    match value.try_clone(alloc) {
+        Ok(copy) => copy == *value,
+        Err(_) => false,
+    }
+}
+
+/// Whether the value is equal to the one at its place in a list, and to no other one there.
+fn is_alone<T: PartialEq>(list: &[T], place: usize, value: &T) -> bool {
+    list.iter().enumerate().all(|(other_place, other)| (*other == *value) == (other_place == place))
+}
+
+/// Whether each of these is copied, and all differ.
+fn all_are_copied<T: TryClone + PartialEq>(alloc: Global, list: &[T]) -> bool {
+    for (place, value) in list.iter().enumerate() {
+        if !is_copied(alloc, value) || !is_alone(list, place, value) {
+            return false;
+        }
+    }
+    true
+}
+
+/// A mark for each verdict that accepts (`+`) or repeats (`=`), each refusal's number, and whether all are copied.
+fn told(alloc: Global, verdicts: &[Verdict]) -> Result<String, Fail> {
+    let mut told = String::new(alloc);
+    for verdict in verdicts {
+        match verdict {
+            Verdict::Accept(_, _) => told.push_str("+")?,
+            Verdict::Repeat(_) => told.push_str("=")?,
+            Verdict::Refuse(refusal) => {
+                let number = format!(in alloc; " {}", refusal.number())?;
+                told.push_str(number.as_str())?;
+            }
+        }
+    }
+    told.push_str(if all_are_copied(alloc, verdicts) {
+        ", copied"
+    } else {
+        ", not copied"
+    })?;
+    Ok(told)
+}
+
+/// How many entries a roster has, where all are copied.
+fn copied_entries(alloc: Global, roster: &Roster) -> Result<usize, Fail> {
+    let entries = entries(alloc, roster)?;
+    if !all_are_copied(alloc, &entries) {
+        return Err(Fail::from("an entry is not copied"));
+    }
+    Ok(entries.len())
+}
+
+/// How many duties are in a copy of the history of copies of a roster's duties.
+fn copied_duties(alloc: Global, roster: &Roster) -> Result<usize, Fail> {
+    let history = history(alloc, &entries(alloc, roster)?, &roster.zone)?;
+    Ok(history.try_clone(alloc)?.duties().len())
+}
+
+#[test]
+fn verdicts_are_copied(rt: HostRuntime) -> Result<(), Fail> {
+    let played = asked_all(rt.alloc())?;
+    assert_eq!(rt;
+        told(rt.alloc(), &played.verdicts)?.as_str(),
+        "++++++++++++++++++++== 1 2 3 4 5 6 7 8 9 10 11 12 13 14 15 19, copied"
+    );
+    Ok(())
+}
+
+#[test]
+fn entries_are_copied(rt: HostRuntime) -> Result<(), Fail> {
+    let played = asked_all(rt.alloc())?;
+    assert_eq!(rt; copied_entries(rt.alloc(), &played.roster)?, 32);
+    Ok(())
+}
+
+#[test]
+fn duties_and_histories_are_copied(rt: HostRuntime) -> Result<(), Fail> {
+    let played = asked_all(rt.alloc())?;
+    assert_eq!(rt; copied_duties(rt.alloc(), &played.roster)?, 5);
+    Ok(())
+}

@@ -1,6 +1,0 @@
-use Rattle.http_message.specs.Plan.{plan}
-use Rattle.http_exchange.proofs.Exchanging.{unasked}
-use Rattle.http_exchange.proofs.exchanges.answer.Goals as goal
-
-pub returns-in-Err-clause-broken : goal.returns-in-Err-clause-broken
-returns-in-Err-clause-broken g c = unasked g.H.Handler.handles (plan c.args.head.now) _ _ c.send_no_memory.result

@@ -1,0 +1,22 @@
+-- Refusals as they are printed: number, name, and the flight duty period where there is one.
+use Rattle.std.specs.Prelude.{◌≡◌, ℕ, List, codes}
+use Rattle.time117.specs.declared.minute.TimeFault.TheVariants.{Malformed, NoSuchTime, OutOfRange}
+use Rattle.time117.specs.declared.zone.ZoneFault.{ZoneFault}
+use Rattle.time117.specs.declared.zone.ZoneFault.TheVariants as zone
+use Rattle.period_verdict.specs.declared.fault.LineFault.{LineFault}
+use Rattle.period_verdict.specs.declared.fault.LineFault.TheVariants.{Zone, Time, SegmentCount, BadTimes, Memory}
+
+-- a fault as it is printed
+abbrev pub fault_text : LineFault → List ℕ
+fault_text (Time Malformed) = codes "T1 Malformed"
+fault_text (Time NoSuchTime) = codes "T2 NoSuchTime"
+fault_text (Time OutOfRange) = codes "T3 OutOfRange"
+fault_text Zone = codes "T4 ZoneText"
+fault_text BadTimes = codes "16 BadTimes 1"
+fault_text SegmentCount = codes "19 SegmentCount 1"
+fault_text Memory = codes "91 Memory"
+
+-- what a zone's fault is on the line
+abbrev pub IsZoneFault : ZoneFault → LineFault → Type 0
+IsZoneFault zone.ZoneText fault = fault ≡ Zone
+IsZoneFault zone.Memory fault = fault ≡ Memory

@@ -1,0 +1,15 @@
+-- Times of day and lengths of time as they are printed.
+use Rattle.std.specs.Prelude.{ℕ, ◌/◌, ◌%◌, List, ◌++◌, codes}
+use Rattle.std.specs.Fmt.{decimal}
+
+-- a number under 100 in two digits
+abbrev pub two_digits : ℕ → List ℕ
+two_digits n = decimal (n / 10) ++ decimal (n % 10)
+
+-- a minute of the day, as 07:05
+unfoldable pub clock_text : ℕ → List ℕ
+clock_text minute = two_digits (minute / 60) ++ codes ":" ++ two_digits (minute % 60)
+
+-- minutes in hours and minutes, as 13:05
+unfoldable pub hours_text : ℕ → List ℕ
+hours_text minutes = decimal (minutes / 60) ++ codes ":" ++ two_digits (minutes % 60)

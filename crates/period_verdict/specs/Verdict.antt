@@ -1,0 +1,111 @@
+-- The line of `rosterbook duty`: one flight duty period against Tables A and B.
+use Rattle.std.specs.Prelude.{ℕ, Bool, true, false, List, [], ◌∷◌, ◌++◌, length, map, codes, nat_lt, not, ◌&&◌, if◌then◌else◌, Result, Ok, Err}
+use Rattle.std.specs.Fmt.{decimal}
+use Rattle.time117.specs.Instant.{read_instant}
+use Rattle.time117.specs.Local.{is_zone_text}
+use Rattle.time117.specs.declared.minute.TimeFault.{TimeFault}
+use Rattle.duty.specs.DutiesInForce.{fdp_times}
+use Rattle.duty.specs.FdpTimes.{FdpTimes}
+use Rattle.duty.specs.Minutes.{fdp_length, flight_time}
+use Rattle.duty.specs.Pairings.{is_in_order, block_times}
+use Rattle.duty.specs.declared.fdp.Fdp.{Fdp}
+use Rattle.limits.specs.Tables.{table_a, table_b}
+use Rattle.limits.specs.SectionText.{section_text}
+use Rattle.limits.specs.declared.section.Section.TheVariants.{FlightTime, FlightDutyPeriod}
+use Rattle.period_verdict.specs.FlightDuty.{is_block_time_count, fdp_of}
+use Rattle.period_verdict.specs.Texts.{clock_text, hours_text}
+use Rattle.period_verdict.specs.declared.verdict.Verdict.{Verdict}
+use Rattle.period_verdict.specs.declared.verdict.Against.{Against}
+use Rattle.period_verdict.specs.declared.verdict.Outcome.{Outcome}
+use Rattle.period_verdict.specs.declared.fault.LineFault.{LineFault}
+use Rattle.period_verdict.specs.declared.fault.LineFault.TheVariants.{Zone, Time, SegmentCount, BadTimes}
+
+-- a flight duty period beside what the tables give
+abbrev pub verdict : FdpTimes → Verdict
+verdict fdp = record {
+  start = fdp.start;
+  segments = length fdp.segments;
+  length = record { minutes = fdp_length fdp; limit = table_b fdp.start (length fdp.segments) };
+  flight = record { minutes = flight_time fdp; limit = table_a fdp.start };
+}
+
+-- 117.11(a)(1): the flight time is above Table A. 117.13(a): the period is longer than Table B gives
+abbrev pub outcome : Verdict → Outcome
+outcome v = record {
+  is_over_flight_time = nat_lt v.flight.limit v.flight.minutes;
+  is_over_length = nat_lt v.length.limit v.length.minutes;
+}
+
+-- neither table is exceeded
+abbrev pub is_within : Outcome → Bool
+is_within o = not o.is_over_flight_time && not o.is_over_length
+
+-- the end of the line, by whether the flight time and whether the length is over
+abbrev pub sections_text : Bool → Bool → List ℕ
+sections_text false false = codes " within"
+sections_text true false = codes " exceeds " ++ section_text FlightTime
+sections_text false true = codes " exceeds " ++ section_text FlightDutyPeriod
+sections_text true true = codes " exceeds " ++ section_text FlightTime ++ codes " " ++ section_text FlightDutyPeriod
+
+-- the outcome as it is printed
+unfoldable pub outcome_text : Outcome → List ℕ
+outcome_text o = sections_text o.is_over_flight_time o.is_over_length
+
+-- a length beside the one that a table gives, as it is printed
+unfoldable pub against_text : Against → List ℕ
+against_text a = hours_text a.minutes ++ codes " of " ++ hours_text a.limit
+
+-- the line of a verdict
+unfoldable pub verdict_text : Verdict → List ℕ
+verdict_text v =
+    codes "report " ++ clock_text v.start ++ codes " segments " ++ decimal v.segments
+    ++ codes " fdp " ++ against_text v.length ++ codes " flight " ++ against_text v.flight
+    ++ outcome_text (outcome v)
+
+-- the line, and whether it says `within`
+abbrev pub Line : Type 0
+Line = List ℕ × Bool
+
+-- the line, and whether the verdict is `within`
+abbrev pub line_of_verdict : Verdict → Line
+line_of_verdict v = (verdict_text v, is_within (outcome v))
+
+-- Faults are looked for in this order: the zone, the report, each time in turn, the number of times, their order.
+
+-- the line of a period, if its times are in order
+abbrev pub line_of_fdp : List ℕ → Fdp → Result Line LineFault
+line_of_fdp zone fdp =
+    if not (is_in_order fdp.report fdp.release (map block_times fdp.segments)) then Err BadTimes
+    else Ok (line_of_verdict (verdict (fdp_times zone fdp)))
+
+-- the line of a report and times, if they are block-out and block-in of 1 to 12 segments
+abbrev pub line_of_times : List ℕ → ℕ → List ℕ → Result Line LineFault
+line_of_times zone report times =
+    if not (is_block_time_count (length times)) then Err SegmentCount else line_of_fdp zone (fdp_of report times)
+
+-- the instants that texts give in turn, up to the first that gives none
+abbrev pub then_instant : Result ℕ TimeFault → Result (List ℕ) TimeFault → Result (List ℕ) TimeFault
+then_instant (Err fault) rest = Err fault
+then_instant (Ok time) (Err fault) = Err fault
+then_instant (Ok time) (Ok times) = Ok (time ∷ times)
+
+-- the instants of a list of texts
+abbrev pub read_instants : List (List ℕ) → Result (List ℕ) TimeFault
+read_instants [] = Ok []
+read_instants (text ∷ texts) = then_instant (read_instant text) (read_instants texts)
+
+-- the fault of a time as one of the line
+abbrev pub as_line_fault : Result (List ℕ) TimeFault → Result (List ℕ) LineFault
+as_line_fault (Ok times) = Ok times
+as_line_fault (Err fault) = Err (Time fault)
+
+-- the line of a report and times that were read, if each was
+abbrev pub line_of_read : List ℕ → Result ℕ TimeFault → Result (List ℕ) TimeFault → Result Line LineFault
+line_of_read zone (Err fault) times = Err (Time fault)
+line_of_read zone (Ok report) (Err fault) = Err (Time fault)
+line_of_read zone (Ok report) (Ok times) = line_of_times zone report times
+
+-- the line of the four texts of `rosterbook duty`
+abbrev pub line_of : List ℕ → List ℕ → List (List ℕ) → Result Line LineFault
+line_of zone report times =
+    if is_zone_text zone then line_of_read zone (read_instant report) (read_instants times) else Err Zone

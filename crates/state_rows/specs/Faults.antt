@@ -1,0 +1,16 @@
+-- Which fault of the store a fault of a table is, and how it is printed.
+use Rattle.std.specs.Prelude.{ℕ, List, codes}
+use Rattle.tables.specs.declared.table_fault.TableFault.{TableFault}
+use Rattle.tables.specs.declared.table_fault.TableFault.TheVariants as table
+use Rattle.state_rows.specs.declared.fault.StoreFault.{StoreFault}
+use Rattle.state_rows.specs.declared.fault.StoreFault.TheVariants.{Store, Memory}
+
+-- want of memory is 91, and every other fault is 90
+abbrev pub fault_of : TableFault → StoreFault
+fault_of table.Memory = Memory
+fault_of _ = Store
+
+-- a fault as it is printed
+abbrev pub fault_text : StoreFault → List ℕ
+fault_text Store = codes "90 Store"
+fault_text Memory = codes "91 Memory"

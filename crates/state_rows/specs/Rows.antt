@@ -1,0 +1,233 @@
+-- What the tables of the book mean: the rows that a state has in each of them.
+use Rattle.std.specs.Prelude.{◌≡◌, ◌↔◌, ◌+◌, ℕ, pos, List, slice_get, Option, Some}
+use Rattle.std.specs.FinMap as fin
+use Rattle.std.specs.Option.{option_map, option_and_then}
+use Rattle.values.specs.Name.{name_cmp}
+use Rattle.sqlite_value.specs.Order.{Row}
+use Rattle.sqlite_rules.specs.Lists.{Has}
+use Rattle.sqlite.specs.Effect.{Database}
+use Rattle.duty.specs.Plans.{ActualTimes, GroundPlan}
+use Rattle.duty.specs.declared.fdp.Fdp.{Fdp}
+use Rattle.duty.specs.declared.segment.BlockTimes.{BlockTimes}
+use Rattle.duty.specs.declared.segment.Segment.{Segment}
+use Rattle.limits.specs.SectionText.{section_number}
+use Rattle.limits.specs.declared.section.Section.{Section}
+use Rattle.command.specs.Keys.{KeyParts, key_name}
+use Rattle.command.specs.declared.member.Member.{Member}
+use Rattle.command.specs.declared.member.Seat.{Seat}
+use Rattle.command.specs.declared.member.Seat.TheVariants.{Captain, FirstOfficer}
+use Rattle.roster.specs.Pairings.{holder}
+use Rattle.roster.specs.State.{State, exceedance_name}
+use Rattle.roster.specs.declared.state.PeriodId.{PeriodId}
+use Rattle.roster.specs.declared.state.LoggedCommand.{LoggedCommand}
+use Rattle.roster.specs.declared.state.PairingEntry.{PairingEntry}
+use Rattle.stored_json.specs.KeptText.{kept_text}
+use Rattle.stored_json.specs.ReplyText.{reply_text}
+use Rattle.tables.specs.Schema.{BookTable, book_table, crew_table, pairing_table, period_table, segment_table, seat_table, ground_table, exceedance_table, request_table}
+use Rattle.tables.specs.Records.{book_row, crew_row, pairing_row, period_row, segment_row, seat_row, ground_row, exceedance_row, request_row}
+use Rattle.tables.specs.Rows.{rows_of}
+
+-- the number of a seat in the tables
+abbrev pub seat_number : Seat → ℕ
+seat_number Captain = 0
+seat_number FirstOfficer = 1
+
+-- what a map has under a name
+pub record At {V : Type 0} (m : fin.FinMap name_cmp V) : Type 0 where
+  pub name : List ℕ
+  pub value : V
+  pub there : fin.get m name ≡ Some value
+
+-- ---- The book, its members and its pairings
+
+-- one row: the version of the tables, and the text of the zone
+abbrev pub InBook : State → Row → Type 0
+InBook s row = row ≡ book_row (record { one = pos 1; version = pos 1; zone = s.zone })
+
+-- a row for each member: the id, the seat that the member takes, and the name
+abbrev pub row_of_member : List ℕ → Member → Row
+row_of_member id m = crew_row (record { id = id; seat = seat_number m.seat; name = m.name })
+
+-- the rows of `crew`
+abbrev pub InCrew : State → Row → Type 0
+InCrew s row = (at : At s.crew) × (row ≡ row_of_member at.name at.value)
+
+-- a row for each pairing: the id
+abbrev pub row_of_pairing : List ℕ → Row
+row_of_pairing id = pairing_row (record { id = id })
+
+-- the rows of `pairing`
+abbrev pub InPairing : State → Row → Type 0
+InPairing s row = (at : At s.pairings) × (row ≡ row_of_pairing at.name)
+
+-- ---- The periods of a pairing
+
+-- a period of a pairing, at its place counted from 0, and its actual where it is flown
+pub record PeriodOf (r : PairingEntry) : Type 0 where
+  pub place : ℕ
+  pub fdp : Fdp
+  pub actual : Option ActualTimes
+  pub planned : slice_get r.plan.periods place ≡ Some fdp
+  pub flown : slice_get r.actuals place ≡ Some actual
+
+-- the pairing, the number of the period from 1, its report and release as planned, and as flown
+abbrev pub row_of_period : List ℕ → ℕ → Fdp → Option ActualTimes → Row
+row_of_period id place fdp actual = period_row (record {
+  pairing = id;
+  number = place + 1;
+  report_at = fdp.report;
+  release_at = fdp.release;
+  act_report = option_map (λ a. a.report) actual;
+  act_release = option_map (λ a. a.release) actual;
+})
+
+-- the rows of `period`, one for each period of each pairing
+abbrev pub InPeriod : State → Row → Type 0
+InPeriod s row = (at : At s.pairings) × (p : PeriodOf at.value) × (row ≡ row_of_period at.name p.place p.fdp p.actual)
+
+-- ---- The segments of a period
+
+-- a segment of a period, at its place counted from 0
+pub record SegmentOf (fdp : Fdp) : Type 0 where
+  pub place : ℕ
+  pub segment : Segment
+  pub planned : slice_get fdp.segments place ≡ Some segment
+
+-- the times of the segment in its period's actual
+abbrev pub times_flown : Option ActualTimes → ℕ → Option BlockTimes
+times_flown actual place = option_and_then (λ a. slice_get a.segments place) actual
+
+-- the pairing, the numbers of period and segment from 1, flight and airports, block-out and block-in as planned, and as flown
+abbrev pub row_of_segment : List ℕ → ℕ → ℕ → Segment → Option BlockTimes → Row
+row_of_segment id period place segment times = segment_row (record {
+  pairing = id;
+  period = period + 1;
+  number = place + 1;
+  flight = segment.flight;
+  origin = segment.from;
+  destination = segment.to;
+  out_at = segment.block_out;
+  in_at = segment.block_in;
+  act_out = option_map (λ t. t.block_out) times;
+  act_in = option_map (λ t. t.block_in) times;
+})
+
+-- the rows of `segment`, one for each segment of each period
+abbrev pub InSegment : State → Row → Type 0
+InSegment s row = (at : At s.pairings) × (p : PeriodOf at.value) × (g : SegmentOf p.fdp)
+    × (row ≡ row_of_segment at.name p.place g.place g.segment (times_flown p.actual g.place))
+
+-- ---- The holders of seats
+
+-- a row for each seat that is held: the pairing, the number of the seat, and the member who holds it
+pub record HeldSeat (r : PairingEntry) : Type 0 where
+  pub seat : Seat
+  pub crew : List ℕ
+  pub held : holder seat r ≡ Some crew
+
+-- the row of a seat and its holder
+abbrev pub row_of_seat : List ℕ → Seat → List ℕ → Row
+row_of_seat id seat crew = seat_row (record { pairing = id; seat = seat_number seat; crew = crew })
+
+-- the rows of `seat`
+abbrev pub InSeat : State → Row → Type 0
+InSeat s row = (at : At s.pairings) × (h : HeldSeat at.value) × (row ≡ row_of_seat at.name h.seat h.crew)
+
+-- ---- Ground duties, exceedances and requests
+
+-- a row for each ground duty: the id, whose duty it is, the task, begin and end
+abbrev pub row_of_ground : List ℕ → GroundPlan → Row
+row_of_ground id g = ground_row (record { id = id; crew = g.crew; task = g.task; begin_at = g.begin; end_at = g.end })
+
+-- the rows of `ground`
+abbrev pub InGround : State → Row → Type 0
+InGround s row = (at : At s.grounds) × (row ≡ row_of_ground at.name at.value)
+
+-- a row for each exceedance: number and part of the request that recorded it, the member, the number of the section,
+-- and the period of the pairing in which it was
+pub record ExceedanceAt (exceedances : fin.FinMap name_cmp PeriodId) : Type 0 where
+  pub key : KeyParts
+  pub crew : List ℕ
+  pub section : Section
+  pub period : PeriodId
+  pub there : fin.get exceedances (exceedance_name key crew section) ≡ Some period
+
+-- a row for each exceedance: the key that recorded it, the member, the section, and the period
+abbrev pub row_of_exceedance : KeyParts → List ℕ → Section → PeriodId → Row
+row_of_exceedance key crew section period = exceedance_row (record {
+  number = pos key.number;
+  part = key.part;
+  crew = crew;
+  section = section_number section;
+  pairing = period.pairing;
+  period = period.number;
+})
+
+-- the rows of `exceedance`
+abbrev pub InExceedance : State → Row → Type 0
+InExceedance s row = (at : ExceedanceAt s.exceedances) × (row ≡ row_of_exceedance at.key at.crew at.section at.period)
+
+-- a row for each accepted command: number and part of its key, its kept text, and its reply as JSON
+pub record RequestAt (requests : fin.FinMap name_cmp LoggedCommand) : Type 0 where
+  pub key : KeyParts
+  pub kept : LoggedCommand
+  pub there : fin.get requests (key_name key) ≡ Some kept
+
+-- a row for each key that is held: its command and its reply, as their kept texts
+abbrev pub row_of_request : KeyParts → LoggedCommand → Row
+row_of_request key kept = request_row (record {
+  number = pos key.number;
+  part = key.part;
+  command = kept_text kept.command;
+  reply = reply_text kept.reply;
+})
+
+-- the rows of `request`
+abbrev pub InRequest : State → Row → Type 0
+InRequest s row = (at : RequestAt s.requests) × (row ≡ row_of_request at.key at.kept)
+
+-- ---- The nine tables
+
+-- the nine tables
+pub data TableName : Type 0 where
+  book : TableName
+  crew : TableName
+  pairing : TableName
+  period : TableName
+  segment : TableName
+  seat : TableName
+  ground_duty : TableName
+  exceedance : TableName
+  request : TableName
+
+-- how a table is declared
+abbrev pub table : TableName → BookTable
+table book = book_table
+table crew = crew_table
+table pairing = pairing_table
+table period = period_table
+table segment = segment_table
+table seat = seat_table
+table ground_duty = ground_table
+table exceedance = exceedance_table
+table request = request_table
+
+-- the rows of a state in a table
+abbrev pub In : State → TableName → Row → Type 0
+In s book = InBook s
+In s crew = InCrew s
+In s pairing = InPairing s
+In s period = InPeriod s
+In s segment = InSegment s
+In s seat = InSeat s
+In s ground_duty = InGround s
+In s exceedance = InExceedance s
+In s request = InRequest s
+
+-- the database has just these rows in a table
+abbrev pub HasJust : BookTable → Database → (Row → Type 0) → Type 0
+HasJust kept db Is = (row : Row) → Has (rows_of kept db) row ↔ Is row
+
+-- each table has just the rows of the state
+abbrev pub Rows : State → Database → Type 0
+Rows s db = (name : TableName) → HasJust (table name) db (In s name)

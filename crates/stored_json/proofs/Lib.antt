@@ -1,0 +1,6 @@
+pub mod CompactTexts
+pub mod KeptBack
+pub mod InstructionsBack
+pub mod ReplyBack
+pub mod EachRead
+pub mod AsciiInstants

@@ -1,0 +1,25 @@
+-- What holds of every kept text.
+use Rattle.std.specs.Prelude.{◌≡◌, true, Ok}
+use Rattle.command.specs.Instructions.{IsMade}
+use Rattle.command.specs.declared.exceedance.Reply.{Reply}
+use Rattle.command.specs.declared.instruction.Instruction.{Instruction}
+use Rattle.stored_json.specs.CommandJson.{read_kept}
+use Rattle.stored_json.specs.Instants.{instruction_has_instants}
+use Rattle.stored_json.specs.KeptText.{kept_text}
+use Rattle.stored_json.specs.ReplyText.{reply_text, read_reply}
+
+-- a command whose instants are of the years 2000 to 2099, as each of its types has them
+abbrev pub IsCommand : Instruction → Type 0
+IsCommand instruction = IsMade instruction × (instruction_has_instants instruction ≡ true)
+
+-- the kept text of a command is read as it
+abbrev pub KeptTextsAreRead : Type 0
+KeptTextsAreRead = (instruction : Instruction) → IsCommand instruction → read_kept (kept_text instruction) ≡ Ok instruction
+
+-- commands with one kept text are the same
+abbrev pub KeptTextsDiffer : Type 0
+KeptTextsDiffer = (a b : Instruction) → IsCommand a → IsCommand b → kept_text a ≡ kept_text b → a ≡ b
+
+-- the text of a reply is read as it
+abbrev pub ReplyTextsAreRead : Type 0
+ReplyTextsAreRead = (reply : Reply) → read_reply (reply_text reply) ≡ Ok reply

@@ -1,0 +1,76 @@
+-- What the parts of a command are read as: nothing, where a part is of the wrong kind, out of its range or not one of its
+-- words, or lacks or holds a part that isn't read. Members that aren't named are ignored.
+use Rattle.std.specs.Prelude.{ℕ, List, [], ◌∷◌, Option, Some, None, option_and_then, option_map, codes, if◌then◌else◌}
+use Rattle.std.specs.Result.{result_ok}
+use Rattle.serde_json.specs.Data.{Data, Items, no_items, item}
+use Rattle.serde_json.specs.Find.{get, as_str, as_number, as_u64, as_array}
+use Rattle.time117.specs.Instant.{read_instant}
+use Rattle.duty.specs.Shape.{is_within}
+use Rattle.duty.specs.declared.fdp.Fdp.{Fdp}
+use Rattle.duty.specs.declared.segment.BlockTimes.{BlockTimes}
+use Rattle.duty.specs.declared.segment.Segment.{Segment}
+use Rattle.command.specs.Texts.{seat_text}
+use Rattle.command.specs.declared.member.Seat.{Seat}
+use Rattle.command.specs.declared.member.Seat.TheVariants.{Captain, FirstOfficer}
+use Rattle.stored_json.specs.Fields.{all_verbs, verb_text, worded}
+use Rattle.stored_json.specs.declared.verb.Verb.{Verb}
+
+-- what follows from a part that is read
+abbrev pub with_part : {A B : Type 0} → Option A → (A → Option B) → Option B
+with_part None next = None
+with_part (Some part) next = next part
+
+-- a member of an object, by name
+abbrev pub part_of : {A : Type 0} → (Data → Option A) → List ℕ → Data → Option A
+part_of reads name d = option_and_then reads (get name d)
+
+-- each item of a list
+abbrev pub read_each : {A : Type 0} → (Data → Option A) → Items → Option (List A)
+read_each reads no_items = Some []
+read_each reads (item d ds) = with_part (reads d) (λ part. option_map (λ parts. part ∷ parts) (read_each reads ds))
+
+-- a list of parts
+abbrev pub read_list : {A : Type 0} → (Data → Option A) → Data → Option (List A)
+read_list reads d = option_and_then (read_each reads) (as_array d)
+
+-- an instant, in either of its written forms
+abbrev pub read_time : Data → Option ℕ
+read_time d = option_and_then (λ text. result_ok (read_instant text)) (as_str d)
+
+-- the number of a period, from 1 to 10
+abbrev pub read_period_number : Data → Option ℕ
+read_period_number d =
+    with_part (option_and_then as_u64 (as_number d)) (λ number. if is_within 1 10 number then Some number else None)
+
+-- a seat, by its word
+abbrev pub read_seat : Data → Option Seat
+read_seat d = option_and_then (worded seat_text (Captain ∷ FirstOfficer ∷ [])) (as_str d)
+
+-- a verb, by its word
+abbrev pub read_verb : Data → Option Verb
+read_verb d = option_and_then (worded verb_text all_verbs) (as_str d)
+
+-- the times of a segment as it was flown
+abbrev pub read_times : Data → Option BlockTimes
+read_times d =
+    with_part (part_of read_time (codes "out") d) (λ block_out.
+    with_part (part_of read_time (codes "in") d) (λ block_in.
+    Some (record { block_out = block_out; block_in = block_in })))
+
+-- a segment, whatever the shapes of its texts
+abbrev pub read_segment : Data → Option Segment
+read_segment d =
+    with_part (part_of as_str (codes "flight") d) (λ flight.
+    with_part (part_of as_str (codes "from") d) (λ origin.
+    with_part (part_of read_time (codes "out") d) (λ block_out.
+    with_part (part_of as_str (codes "to") d) (λ destination.
+    with_part (part_of read_time (codes "in") d) (λ block_in.
+    Some (record { flight = flight; from = origin; block_out = block_out; to = destination; block_in = block_in }))))))
+
+-- as it is planned
+abbrev pub read_period : Data → Option Fdp
+read_period d =
+    with_part (part_of read_time (codes "report") d) (λ report.
+    with_part (part_of read_time (codes "release") d) (λ release.
+    with_part (part_of (read_list read_segment) (codes "segments") d) (λ segments.
+    Some (record { planned_report = report; report = report; release = release; segments = segments }))))

@@ -1,0 +1,14 @@
+-- Faults as they are printed: number, name, and the member or record where there is one.
+use Rattle.std.specs.Prelude.{ℕ, List, ◌++◌, codes}
+use Rattle.std.specs.Fmt.{decimal}
+use Rattle.duty.specs.FaultText as duty
+use Rattle.stored_json.specs.Fields.{field_name}
+use Rattle.stored_json.specs.declared.fault.CodecFault.{CodecFault}
+use Rattle.stored_json.specs.declared.fault.CodecFault.TheVariants.{BadJson, BadCsv, Duty, Memory}
+
+-- a fault as it is printed
+abbrev pub fault_text : CodecFault → List ℕ
+fault_text (BadJson field) = codes "31 BadJson " ++ field_name field
+fault_text (BadCsv line) = codes "30 BadCsv " ++ decimal line
+fault_text (Duty fault) = duty.fault_text fault
+fault_text Memory = codes "91 Memory"

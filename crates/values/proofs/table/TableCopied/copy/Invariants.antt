@@ -1,7 +1,0 @@
-use Rattle.std.proofs.Common.{◌≡◌}
-use Rattle.values.specs.Name.{rows_of}
-use Rattle.values.proofs.Rows.{insert_all}
-use Rattle.values.proofs.table.TableCopied.copy.Given as goal
-
-abbrev pub invariant-loop-key : goal.invariant-loop-key
-invariant-loop-key g l = insert_all l.copy (rows_of g.K.Named.name l.key-iterator) ≡ l.self

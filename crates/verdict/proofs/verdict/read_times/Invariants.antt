@@ -1,7 +1,0 @@
-use Rattle.std.proofs.Common.{◌≡◌, map, string_bytes}
-use Rattle.verdict.specs.Verdict.{read_instants}
-use Rattle.verdict.proofs.ReadLemmas.{read_from}
-use Rattle.verdict.proofs.verdict.read_times.Given as goal
-
-abbrev pub invariant-loop-text : goal.invariant-loop-text
-invariant-loop-text l = read_from l.times.items l.texts l.text-index ≡ read_instants (map string_bytes l.texts)

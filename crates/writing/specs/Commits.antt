@@ -1,0 +1,61 @@
+-- What it comes to that a book is made, and that a change is committed. The layers above hand these on as they stand.
+use Rattle.std.specs.Prelude.{◌≡◌, ◌≤◌, OnErr, OnOk, Result, Err}
+use Rattle.sqlite_trees.specs.declared.store.Store.{Ghosts}
+use Rattle.sqlite.specs.Held.{Held, state}
+use Rattle.sqlite.specs.State.{State, HasCleanDisk}
+use Rattle.stored_json.specs.Laws.{IsCommand}
+use Rattle.roster.specs.State as roster
+use Rattle.roster.specs.Steps.{after}
+use Rattle.roster.specs.declared.change.Change.{Change}
+use Rattle.state_rows.specs.declared.fault.StoreFault.{StoreFault}
+use Rattle.state_rows.specs.declared.fault.StoreFault.TheVariants.{Memory, Store}
+use Rattle.writing.specs.Kept.{KeepOthers, KeepPlain}
+use Rattle.writing.specs.Making.{IsFree}
+use Rattle.writing.specs.Next.{IsNext}
+use Rattle.writing.specs.Outcomes.{CrashAddsNothing, CrashAddsOnly, HoldsNow, IsOutside, CrashLeaves, CrashLeavesOnly, CrashLeavesSome, CrashMayAdd, ShowsOnly, StaysOpen, StillShows, either, one}
+use Rattle.writing.specs.declared.fault.CreateFault.{CreateFault}
+use Rattle.writing.specs.declared.fault.CreateFault.TheVariants.{Fault, NotEmpty}
+
+-- the tables of a book in this state were made
+pub record IsMade (old new : State) (s : roster.State) : Type 0 where
+  -- the book: what a crash leaves, and what is shown
+  pub crash : CrashLeaves new (one s)
+  pub some_left : CrashLeavesSome new
+  pub shown : HoldsNow new s
+  -- each other table that was there: what a crash leaves of it, and what is shown
+  pub others_crash : CrashLeavesOnly new (KeepPlain old.now)
+  pub others_shown : ShowsOnly new (KeepPlain old.now)
+
+-- no book was made, for this fault
+pub record IsNotMade {S : Type 0} (g : Ghosts S) (old new : Held S) (s : roster.State) (fault : CreateFault) : Type 0 where
+  -- the fault: 43 comes where a name is taken, and then nothing was done
+  pub not_empty : fault ≡ NotEmpty → (IsFree (state g old).now.schema → ⊥) × (new ≡ old)
+  -- a crash: after 91 it leaves nothing new, else the tables in this state at most
+  pub memory : fault ≡ Fault Memory → CrashAddsNothing (state g old) (state g new)
+  pub crash : CrashMayAdd (state g old) (state g new) s
+  pub some_left : CrashLeavesSome (state g new)
+  pub others_crash : CrashAddsOnly (state g old) (state g new) (KeepPlain (state g old).now)
+  -- the connection
+  pub still_open : StaysOpen (state g old) (state g new)
+  pub outside : IsOutside (state g new)
+
+-- this came of the commit of a change, which the step gave of the state that a crash leaves
+pub record IsCommitted {A : Type 0} (old new : State) (change : Change) (result : Result A StoreFault) : Type 0 where
+  -- the tables: the change is kept; after 91 nothing of it, after 90 all or nothing
+  pub crash : (s : roster.State) → IsNext s change → CrashLeaves old (one s) → OnOk result (CrashLeaves new (one (after s change)))
+  pub memory : (s : roster.State) → CrashLeaves old (one s) → result ≡ Err Memory → CrashLeaves new (one s)
+  pub store : (s : roster.State) → IsNext s change → CrashLeaves old (one s) → result ≡ Err Store → CrashLeaves new (either s (after s change))
+  pub some_left : CrashLeavesSome new
+  pub shown : (s : roster.State) → IsNext s change → CrashLeaves old (one s) → OnOk result (HoldsNow new (after s change))
+  pub still_shown : OnErr result (StillShows old new)
+  -- where the change is kept, or may be, its instants are of their type
+  pub command : OnOk result (IsCommand change.command)
+  pub in_doubt : result ≡ Err Store → IsCommand change.command
+  -- each other table: what a crash leaves of it, and what is shown
+  pub others_crash : OnOk result (CrashLeavesOnly new (KeepOthers old.now))
+  pub others_left : CrashAddsOnly old new (KeepOthers old.now)
+  pub others_shown : OnOk result (ShowsOnly new (KeepOthers old.now))
+  -- the disk and the connection
+  pub disk : HasCleanDisk new → HasCleanDisk old
+  pub faults : old.faults ≤ new.faults
+  pub still_open : result ≡ Err Memory → StaysOpen old new

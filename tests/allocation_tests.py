@@ -1,0 +1,170 @@
+#!/usr/bin/env python3
+"""Refuses the program of the crate allocation_tests memory, one call for it after the other, and compares what it prints.
+
+    tests/allocation_tests.py [--all] [PART..]
+
+The program tries calls of the library crates: where one is told that there is no memory, it compares what the call was to leave as it
+was, and makes the same call again. So it prints the same whichever of its own calls for memory is refused, and writes to standard
+error how that was told. Each of its parts is run with its first call refused, then with the second one, and so on, up to a run in
+which none is; the longest part only with one in 31, but for --all. Each of these runs
+
+- prints what a run with all memory prints, which is what stands in the crate's file stdout, and ends with status 0;
+- tells want of memory as the part may: 91 of a call that has changed nothing, 90 of a store that failed, 503 and 92 over HTTP.
+
+The line before the last one says how many calls were refused; the last line is 'N passed, M failed', in which such a run counts as
+one, and the exit status is 1 where M isn't 0. Where there is no C compiler, nothing is tried.
+"""
+
+import argparse
+import re
+import subprocess
+import sys
+from collections import Counter
+from dataclasses import dataclass, field
+
+from office import TOP, Ran
+from refusing import Memory, folder, has_compiler
+
+CRATE = TOP / "crates" / "allocation_tests"
+PROGRAM = CRATE / "out" / "allocation_tests"
+STRIDES = {"book": 31}  # from one call that is refused to the next one, where that isn't one
+NO_CALL = 1_000  # so many calls behind the last one there is none
+PATIENCE = 60  # seconds for a run of the program
+
+# Each part, and how want of memory may be told in it.
+PARTS = {
+    "table": {"91"},
+    "write": {"91"},
+    "insert": {"91"},
+    "step": {"91"},
+    "put": {"91"},
+    "canonical": {"91"},
+    "report": {"91"},
+    "schedule": {"91"},
+    "book": {"91", "90"},
+    "http": {"503", "92"},
+}
+
+
+def crates():
+    """The crates that the program is made of."""
+    lines = (line.split(":") for line in (TOP / "crates.txt").read_text().splitlines() if ":" in line and line[0] != "#")
+    listed = {name: below.split() for name, below in lines}
+    found = [CRATE.name]
+    for name in found:
+        found += [low for low in listed[name] if low in listed and low not in found]
+    return found
+
+
+def sources():
+    """The files that the program is made of."""
+    for name in crates():
+        for folder in ("src", "specs", "proofs"):
+            yield from (TOP / "crates" / name / folder).glob("**/*.*")
+
+
+def build():
+    """Proves and builds the program, where it is missing or older than a source; returns whether it is there."""
+    if PROGRAM.exists() and all(file.stat().st_mtime <= PROGRAM.stat().st_mtime for file in sources()):
+        return True
+    print("tests/allocation_tests.py: proving and building the program ..", file=sys.stderr)
+    ran = subprocess.run(["rt", "run"], cwd=CRATE, stdin=subprocess.DEVNULL, stdout=subprocess.DEVNULL)
+    if ran.returncode == 0:
+        PROGRAM.touch()
+    return ran.returncode == 0
+
+
+def texts():
+    """What each part prints with all memory."""
+    names = "|".join(PARTS)
+    return dict(re.findall(rf"^({names}): (.*?\n)(?=(?:{names}): |\Z)", (CRATE / "stdout").read_text(), re.M | re.S))
+
+
+@dataclass
+class Desk:
+    """What came of the runs."""
+
+    memory: Memory
+    is_all: bool
+    passed: int = 0
+    failed: int = 0
+    functions: Counter = field(default_factory=Counter)  # that were refused
+    told: Counter = field(default_factory=Counter)  # how, by the runs
+
+    def expect(self, what, got, wanted):
+        self.passed += got == wanted
+        self.failed += got != wanted
+        if got != wanted:
+            print(f"tests/allocation_tests.py: {what}\n  wanted: {wanted}\n  got:    {got}", file=sys.stderr)
+
+    def numbers(self, part, run):
+        """The numbers of the calls that are refused."""
+        return range(1, self.memory.count(run) + 1, 1 if self.is_all else STRIDES.get(part, 1))
+
+
+def runner(part):
+    """What runs a part."""
+
+    def run(**options):
+        try:
+            ran = subprocess.run([PROGRAM, part], stdin=subprocess.DEVNULL, capture_output=True, timeout=PATIENCE, **options)
+        except subprocess.TimeoutExpired:
+            return Ran(None, "", "")
+        return Ran(ran.returncode, ran.stdout.decode(errors="replace"), ran.stderr.decode(errors="replace"))
+
+    return run
+
+
+def try_part(desk, part, text):
+    run = runner(part)
+    whole = Ran(0, f"{part}: {text}", "")
+    desk.expect(f"{part} with all memory", run(), whole)
+    told = Counter()
+    numbers = desk.numbers(part, run)
+    for number in numbers:
+        ended, function = desk.memory.refuse(run, number)
+        ways_told = ended.err.replace(f"{part}: ", "").split()
+        wanted = Ran(0, whole.out, ended.err if len(ways_told) < 2 and PARTS[part].issuperset(ways_told) else "")
+        desk.expect(f"{part}: call {number}, of {function or 'none'}, refused", ended, wanted)
+        desk.functions[function or "none"] += 1
+        told.update(ways_told or ["nothing"])
+    desk.expect(f"{part} with a call refused that isn't made", desk.memory.refuse(run, numbers[-1] + NO_CALL), (whole, ""))
+    ways = PARTS[part] if numbers.step == 1 else {"91"}
+    desk.expect(f"{part}: how want of memory is told", ways - {*told}, set())
+    desk.told += told
+
+
+def summary(desk):
+    """How many calls were refused, and how that was told."""
+    functions = ", ".join(f"{count} of {function}" for function, count in desk.functions.most_common())
+    told = ", ".join(f"{way} of {count}" for way, count in desk.told.most_common())
+    return f"{desk.functions.total()} calls for memory refused ({functions}); told: {told}"
+
+
+def main():
+    asked_for = argparse.ArgumentParser(description=__doc__.split("\n")[0])
+    asked_for.add_argument("--all", action="store_true", help="refuse each call for memory in turn")
+    asked_for.add_argument("parts", nargs="*", metavar="PART")
+    asked_for = asked_for.parse_args()
+    for part in asked_for.parts:
+        if part not in PARTS:
+            sys.exit(f"tests/allocation_tests.py: there is no part {part}")
+    if not has_compiler():
+        print("tests/allocation_tests.py: no call for memory is refused, since no cc is on the PATH", file=sys.stderr)
+        print("0 passed, 0 failed")
+        return 0
+    if not build():
+        return 3
+    with folder("allocation-tests-") as room:
+        desk = Desk(Memory.built(room), asked_for.all)
+        printed = texts()
+        desk.expect("the parts in the file stdout", list(printed), list(PARTS))
+        for part in asked_for.parts or PARTS:
+            try_part(desk, part, printed.get(part, ""))
+    print(summary(desk))
+    print(f"{desk.passed} passed, {desk.failed} failed")
+    return 1 if desk.failed else 0
+
+
+if __name__ == "__main__":
+    sys.exit(main())
