@@ -1,7 +1,7 @@
 //! Tests over memory: what a book answers in one session, asked one by one or all in one run, and which rows are then in the tables;
-//! what the tables find by key; a book stopped at each call on its files; a transaction that can't be taken back; copies of the
-//! values of the crates below; exchanges of HTTP with a handler that notes what it is asked, and with a book; and one over a loopback
-//! connection.
+//! what the tables find by key; the part of the state that a command needs; a book stopped at each call on its files; a transaction
+//! that can't be taken back; copies of the values of the crates below; exchanges of HTTP with a handler that notes what it is asked,
+//! and with a book; and one over a loopback connection.
 #![tactic(auto)]
 
 #[cfg(test)]
@@ -20,6 +20,8 @@ mod keyed;
 mod loopback;
 #[cfg(test)]
 mod opening;
+#[cfg(test)]
+mod parts;
 #[cfg(test)]
 mod requests;
 #[cfg(test)]

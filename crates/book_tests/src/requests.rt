@@ -37,6 +37,20 @@ pub const LATE: &str = "{\"do\":\"actual\",\"pairing\":\"P1\",\"period\":1,\
     {\"in\":\"2025-06-10T14:00Z\",\"out\":\"2025-06-10T12:00Z\"},\
     {\"in\":\"2025-06-11T07:00Z\",\"out\":\"2025-06-10T23:00Z\"}]}";
 
+/// The text of a command that adds a pairing of one flight in June 2025: its report, block-out, block-in and release, as `10T11:00`.
+pub fn plan(
+    alloc: Global,
+    id: &str,
+    [report, out, land, release]: [&str; 4],
+) -> Result<String, Untold> {
+    let segment = format!(in alloc;
+        "{{\"flight\":\"RB1\",\"from\":\"BOS\",\"in\":\"2025-06-{land}Z\",\"out\":\"2025-06-{out}Z\",\"to\":\"IAD\"}}"
+    )?;
+    Ok(format!(in alloc;
+        "{{\"do\":\"add-pairing\",\"pairing\":\"{id}\",\"periods\":[{{\"release\":\"2025-06-{release}Z\",\"report\":\"2025-06-{report}Z\",\"segments\":[{segment}]}}]}}"
+    )?)
+}
+
 /// The key of a request by its number, which is at least 1.
 pub fn key(number: u8) -> Key {
     Key::new(u64::from(number.max(1)), 0)

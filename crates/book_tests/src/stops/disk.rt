@@ -27,15 +27,18 @@ pub trait Stops: Disk + Drop {
 
     /// The file as the machine finds it after a stop, which takes all calls.
     fn restarted(self, alloc: Global, left: Left) -> Self;
+
+    /// What is written in the file, in one that takes so many calls.
+    fn limited(self, alloc: Global, calls: u64) -> Self;
 }
 
-/// What is written in a file, in a file that takes all calls.
-fn written(alloc: Global, file: &Fuse<Memory>) -> Fuse<Memory> {
+/// What is written in a file, in a file that takes so many calls.
+fn written(alloc: Global, file: &Fuse<Memory>, calls: u64) -> Fuse<Memory> {
     let mut copy = Memory::new(alloc);
     if copy.may_be_used() {
         let _ = copy.write_at(0, file.inner().bytes());
     }
-    Fuse::new(copy, u64::MAX)
+    Fuse::new(copy, calls)
 }
 
 /// What is synced of a file, in a file that takes all calls.
@@ -51,18 +54,29 @@ impl Stops for Fuse<Memory> {
 
     fn restarted(self, alloc: Global, left: Left) -> Fuse<Memory> {
         match left {
-            Left::Written => written(alloc, &self),
+            Left::Written => written(alloc, &self, u64::MAX),
             Left::Synced => synced(self),
+        }
+    }
+
+    fn limited(self, alloc: Global, calls: u64) -> Fuse<Memory> {
+        written(alloc, &self, calls)
+    }
+}
+
+impl Stopped {
+    /// How many calls the log takes, and how many the database, where one of them takes so many.
+    fn calls(self, calls: u64) -> (u64, u64) {
+        match self {
+            Stopped::Log => (calls, u64::MAX),
+            Stopped::Database => (u64::MAX, calls),
         }
     }
 }
 
 /// Two empty files, one of which takes so many calls.
 pub fn taking<D: Stops>(alloc: Global, stopped: Stopped, calls: u64) -> Files<D> {
-    let (log, db) = match stopped {
-        Stopped::Log => (calls, u64::MAX),
-        Stopped::Database => (u64::MAX, calls),
-    };
+    let (log, db) = stopped.calls(calls);
     Files {
         log: D::taking(alloc, log),
         db: D::taking(alloc, db),
@@ -75,5 +89,15 @@ pub fn restarted<D: Stops>(alloc: Global, files: Files<D>, left: Left) -> Files<
     Files {
         log: log.restarted(alloc, left),
         db: db.restarted(alloc, left),
+    }
+}
+
+/// The files with what is written in them, one of which takes so many calls more.
+pub fn limited<D: Stops>(alloc: Global, files: Files<D>, stopped: Stopped, calls: u64) -> Files<D> {
+    let Files { log, db } = files;
+    let (log_calls, db_calls) = stopped.calls(calls);
+    Files {
+        log: log.limited(alloc, log_calls),
+        db: db.limited(alloc, db_calls),
     }
 }

@@ -1,38 +1,20 @@
-//! A book in files that is asked requests, and what is found in the files when they are opened again.
+//! A book in files that is asked the commands, and what is found in the files when they are opened again.
 
 use crate::contents::{found, told};
 use crate::fault::Untold;
 use crate::opening::create;
-use book::{Answer, Book};
-use command::{Command, Key};
+use crate::requests::{CAPTAIN, requests};
+use crate::stops::states::{ANSWERS, COMMANDS, IMPORT, asked, is_part, pairings};
+use book::{Answer, Book, Import, LoadFault, Run, Show};
+use duty::{CrewId, PairingId};
 use sqlite::{Alter, Connection, Files, Options};
 use sqlite_disk::Disk;
 use std::alloc::Global;
 use store::StoreFault;
-
-/// How far a run came: no book, or one that accepted so many requests, and told the stop as 90.
-#[derive(Clone, Copy, PartialEq, Eq)]
-pub enum Reached {
-    NoBook,
-    Accepted(usize),
-    ToldOtherwise,
-}
-
-/// How far a book comes with requests in turn, up to the first that it doesn't accept.
-fn asked<S: Alter>(alloc: Global, book: &mut Book<S>, list: &[(Key, Command)]) -> Reached {
-    let mut count = 0usize;
-    for (key, command) in list {
-        match book.ask(alloc, *key, command) {
-            Ok(Answer::Accepted(_)) => count = count.saturating_add(1),
-            Err(StoreFault::Store) => return Reached::Accepted(count),
-            _ => return Reached::ToldOtherwise,
-        }
-    }
-    Reached::Accepted(count)
-}
+use values::Text;
 
 /// What is done with a database in files while they are open.
-trait Act: Drop {
+pub trait Act: Drop {
     type Told;
 
     fn act<S: Alter + Drop>(
@@ -42,22 +24,171 @@ trait Act: Drop {
     ) -> (Self::Told, Connection<S>);
 }
 
-/// Makes a book, and asks it the requests.
-#[derive(Drop)]
-struct Asking<'a> {
-    list: &'a [(Key, Command)],
+/// How a command is answered.
+#[derive(Clone, Copy, PartialEq, Eq)]
+enum Heard {
+    /// As in a run without a stop.
+    AsAlways,
+    /// By 90.
+    Stopped,
+    Otherwise,
 }
 
-impl<'a> Act for Asking<'a> {
+/// How far a run came.
+#[derive(Clone, Copy, PartialEq, Eq)]
+pub enum Reached {
+    /// No book was made.
+    NoBook,
+    /// So many commands were answered as in a run without a stop, and if these weren't all, each further call by 90.
+    Answered(usize),
+    /// A stop was told otherwise than as 90, or a further call was answered.
+    ToldOtherwise,
+}
+
+/// How the command at this place is answered.
+fn compared(at: usize, answer: &Result<Answer, StoreFault>) -> Heard {
+    let number = match answer {
+        Ok(Answer::Accepted(_)) => 0,
+        Ok(Answer::Refused(refusal)) => refusal.number(),
+        Err(StoreFault::Store) => return Heard::Stopped,
+        Err(StoreFault::Memory) => return Heard::Otherwise,
+    };
+    if ANSWERS.get(at) == Some(&number) {
+        Heard::AsAlways
+    } else {
+        Heard::Otherwise
+    }
+}
+
+/// Asks a book the command at this place, which is no part of the import.
+fn ask<S: Alter>(alloc: Global, book: &mut Book<S>, at: usize) -> Result<Heard, Untold> {
+    let (key, command) = asked(alloc, at)?;
+    Ok(compared(at, &book.ask(alloc, key, &command)))
+}
+
+/// The import, whose parts come next.
+fn import<S: Alter>(alloc: Global) -> Result<Import, Untold> {
+    let pairings = pairings(alloc)?;
+    if pairings.len() > 10_000 {
+        return Err(Untold::Unmade);
+    }
+    Ok(Book::<S>::import(IMPORT, pairings))
+}
+
+/// Asks a book the next part of an import, which is the command at this place.
+fn ask_part<S: Alter>(alloc: Global, book: &mut Book<S>, import: &mut Import, at: usize) -> Heard {
+    match import.next(alloc, book) {
+        Some(answer) => compared(at, &answer),
+        None => Heard::Otherwise,
+    }
+}
+
+/// Asks a book the first commands, so many, up to the first that isn't answered as always: how many were, and how that one is.
+fn play<S: Alter>(
+    alloc: Global,
+    book: &mut Book<S>,
+    count: usize,
+) -> Result<(usize, Heard), Untold> {
+    let mut import = import::<S>(alloc)?;
+    for at in 0..count {
+        let heard = if is_part(at) {
+            ask_part(alloc, book, &mut import, at)
+        } else {
+            ask(alloc, book, at)?
+        };
+        if heard != Heard::AsAlways {
+            return Ok((at, heard));
+        }
+    }
+    Ok((count, Heard::AsAlways))
+}
+
+/// Whether an answer is a fault of the store.
+fn is_shut<T>(answer: &Result<T, StoreFault>) -> bool {
+    matches!(answer, Err(StoreFault::Store))
+}
+
+/// Whether a book shows nothing more.
+fn shows_nothing<S: Alter>(alloc: Global, book: &mut Book<S>) -> Result<bool, Untold> {
+    let crew = Show::Crew(CrewId::new(Text::new(String::from_str(alloc, "C1")?)));
+    let pairing = Show::Pairing(PairingId::new(Text::new(String::from_str(alloc, "P10")?)));
+    Ok(
+        is_shut(&book.show(alloc, &crew))
+            && is_shut(&book.show(alloc, &pairing))
+            && is_shut(&book.show(alloc, &Show::Exceedances)),
+    )
+}
+
+/// Whether each command is answered 90.
+fn asks_nothing<S: Alter>(alloc: Global, book: &mut Book<S>) -> Result<bool, Untold> {
+    for at in 0..COMMANDS {
+        if !is_part(at) && ask(alloc, book, at)? != Heard::Stopped {
+            return Ok(false);
+        }
+    }
+    let mut import = import::<S>(alloc)?;
+    Ok(ask_part(alloc, book, &mut import, 2) == Heard::Stopped)
+}
+
+/// Whether a run is answered 90 at once, be it of no command.
+fn runs_nothing<S: Alter>(alloc: Global, book: &mut Book<S>) -> Result<bool, Untold> {
+    let list = requests(alloc, &[(1, CAPTAIN)])?;
+    let Run { answers, fault } = book.run(alloc, &list);
+    let of_none = book.run(alloc, &[]).fault;
+    Ok(answers.is_empty() && fault == Some(StoreFault::Store) && of_none == fault)
+}
+
+/// Whether every further call of a book is answered 90.
+fn is_closed<S: Alter>(alloc: Global, book: &mut Book<S>) -> Result<bool, Untold> {
+    Ok(
+        book.failed()
+            && shows_nothing(alloc, book)?
+            && asks_nothing(alloc, book)?
+            && runs_nothing(alloc, book)?,
+    )
+}
+
+/// How far a book comes with the first commands, so many.
+fn far_come<S: Alter>(alloc: Global, book: &mut Book<S>, count: usize) -> Result<Reached, Untold> {
+    let (answered, last) = play(alloc, book, count)?;
+    let is_told = match last {
+        Heard::AsAlways => true,
+        Heard::Stopped => is_closed(alloc, book)?,
+        Heard::Otherwise => false,
+    };
+    Ok(if is_told {
+        Reached::Answered(answered)
+    } else {
+        Reached::ToldOtherwise
+    })
+}
+
+/// How far a run came whose book was not made, which is to be told as 90.
+fn not_made(told: Result<String, Untold>) -> Reached {
+    if told.is_ok_and(|text| text.as_str() == "90 Store\n") {
+        Reached::NoBook
+    } else {
+        Reached::ToldOtherwise
+    }
+}
+
+/// Makes a book, and asks it the first commands, so many.
+#[derive(Drop)]
+pub struct Asking {
+    pub count: usize,
+}
+
+impl Act for Asking {
     type Told = Reached;
 
     fn act<S: Alter + Drop>(self, alloc: Global, conn: Connection<S>) -> (Reached, Connection<S>) {
         match create(alloc, conn) {
             Ok(mut book) => {
-                let reached = asked(alloc, &mut book, self.list);
+                let reached = far_come(alloc, &mut book, self.count);
+                let reached = reached.unwrap_or(Reached::ToldOtherwise);
                 (reached, book.into_connection())
             }
-            Err((_told, conn)) => (Reached::NoBook, conn),
+            Err((told, conn)) => (not_made(told), conn),
         }
     }
 }
@@ -72,55 +203,102 @@ fn rows<S: Alter>(alloc: Global, conn: &mut Connection<S>) -> Result<String, Unt
     }
 }
 
-/// Finds the rows.
-#[derive(Drop)]
-struct AllRows;
+/// The book that is there, or a new one where there is none; nothing where it is refused otherwise.
+fn there<S: Alter>(alloc: Global, conn: Connection<S>) -> Result<Book<S>, Connection<S>> {
+    if !conn.is_autocommit() {
+        return Err(conn);
+    }
+    match Book::adopt(alloc, conn) {
+        Ok(book) => Ok(book),
+        Err((LoadFault::NotABook, conn)) => create(alloc, conn).map_err(|(_told, conn)| conn),
+        Err((_fault, conn)) => Err(conn),
+    }
+}
 
-impl Act for AllRows {
-    type Told = Result<String, Untold>;
+/// What was found, and what comes of it when all commands are handed in again.
+#[derive(Drop)]
+pub struct Again {
+    /// The rows that are there.
+    pub held: Result<String, Untold>,
+    /// Whether each command is answered as in a run without a stop.
+    pub is_answered: bool,
+    /// The rows at the end.
+    pub ended: Result<String, Untold>,
+}
+
+/// Takes up the book that is there, or makes one, and asks it all commands.
+#[derive(Drop)]
+pub struct HandedInAgain;
+
+/// Whether all commands are answered as always.
+fn answers_all<S: Alter>(alloc: Global, book: &mut Book<S>) -> bool {
+    matches!(play(alloc, book, COMMANDS), Ok((COMMANDS, Heard::AsAlways)))
+}
+
+impl Act for HandedInAgain {
+    type Told = Again;
 
     fn act<S: Alter + Drop>(
         self,
         alloc: Global,
         mut conn: Connection<S>,
-    ) -> (Result<String, Untold>, Connection<S>) {
-        let rows = rows(alloc, &mut conn);
-        (rows, conn)
+    ) -> (Again, Connection<S>) {
+        let held = rows(alloc, &mut conn);
+        let (is_answered, mut conn) = match there(alloc, conn) {
+            Ok(mut book) => (answers_all(alloc, &mut book), book.into_connection()),
+            Err(conn) => (false, conn),
+        };
+        let ended = rows(alloc, &mut conn);
+        let again = Again {
+            held,
+            is_answered,
+            ended,
+        };
+        (again, conn)
+    }
+}
+
+/// Whether a book is taken up, or how it is refused.
+#[derive(Clone, Copy, PartialEq, Eq)]
+pub enum Taken {
+    Up,
+    Stopped,
+    Otherwise,
+}
+
+/// Takes up the book that is there.
+#[derive(Drop)]
+pub struct TakingUp;
+
+impl Act for TakingUp {
+    type Told = Taken;
+
+    fn act<S: Alter + Drop>(self, alloc: Global, conn: Connection<S>) -> (Taken, Connection<S>) {
+        if !conn.is_autocommit() {
+            return (Taken::Otherwise, conn);
+        }
+        match Book::adopt(alloc, conn) {
+            Ok(book) => (Taken::Up, book.into_connection()),
+            Err((LoadFault::Fault(StoreFault::Store), conn)) => (Taken::Stopped, conn),
+            Err((_fault, conn)) => (Taken::Otherwise, conn),
+        }
     }
 }
 
 /// Opens files, does this with the database in them, and closes them. Nothing is told where they don't open.
-fn opened<D: Disk + Drop, A: Act>(
+pub fn opened<D: Disk + Drop, A: Act>(
     alloc: Global,
     files: Files<D>,
-    options: Options,
     act: A,
 ) -> (Option<A::Told>, Files<D>) {
     if !files.may_be_used() {
         return (None, files);
     }
-    match Connection::open_files(alloc, files, options) {
+    match Connection::open_files(alloc, files, Options::new(7)) {
         Ok(conn) => {
             let (told, conn) = act.act(alloc, conn);
             (Some(told), conn.into_store().close())
         }
         Err((_error, left)) => (None, left.into_files()),
     }
-}
-
-/// Makes a book in files and asks it the requests, as far as the files take the calls.
-pub fn play<D: Disk + Drop>(
-    alloc: Global,
-    files: Files<D>,
-    list: &[(Key, Command)],
-) -> (Reached, Files<D>) {
-    let (reached, files) = opened(alloc, files, Options::new(7), Asking { list });
-    (reached.unwrap_or(Reached::NoBook), files)
-}
-
-/// All rows that files hold, where they open.
-pub fn reopened<D: Disk + Drop>(alloc: Global, files: Files<D>) -> Result<String, Untold> {
-    let (rows, files) = opened(alloc, files, Options::new(8), AllRows);
-    drop(files);
-    rows.unwrap_or(Err(Untold::Unread))
 }

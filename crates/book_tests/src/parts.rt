@@ -1,0 +1,195 @@
+//! The part of a book's state that a command needs, as the store reads it by key: what it holds, and that the machine answers by it
+//! as by the whole roster.
+
+use crate::fault::Untold;
+use crate::opening::{create, opened};
+use crate::requests::{key, plan};
+use book::{Answer, Book};
+use command::{Command, Key};
+use roster::Roster;
+use sqlite::{Alter, Connection};
+use std::alloc::Global;
+use std::test::Fail;
+use store::Store;
+use stored_json::read_canonical;
+use values::TryClone;
+
+/// The pairings of the book: C1 holds P7, P8, P13A and P13B, F1 holds P13A, and C2 holds P91. P92 is free.
+const PLANS: [(&str, [&str; 4]); 6] = [
+    ("P7", ["07T12:00", "07T13:00", "07T20:00", "07T20:30"]),
+    ("P8", ["08T12:00", "08T13:00", "08T20:00", "08T20:30"]),
+    ("P13A", ["10T11:00", "10T12:00", "10T20:00", "10T20:30"]),
+    ("P13B", ["11T06:30", "11T07:30", "11T10:30", "11T11:00"]),
+    ("P91", ["20T12:00", "20T13:00", "20T20:00", "20T20:30"]),
+    ("P92", ["22T12:00", "22T13:00", "22T20:00", "22T20:30"]),
+];
+
+/// What is asked after the pairings are added, each of it accepted. P13A is flown eleven hours late.
+const FILLED: [&str; 12] = [
+    "{\"crew\":\"C1\",\"do\":\"add-crew\",\"name\":\"Ada Ray\",\"seat\":\"captain\"}",
+    "{\"crew\":\"C2\",\"do\":\"add-crew\",\"name\":\"Bo Lind\",\"seat\":\"captain\"}",
+    "{\"crew\":\"F1\",\"do\":\"add-crew\",\"name\":\"Zoë Roy\",\"seat\":\"first officer\"}",
+    "{\"crew\":\"C1\",\"do\":\"assign\",\"pairing\":\"P7\"}",
+    "{\"crew\":\"C1\",\"do\":\"assign\",\"pairing\":\"P8\"}",
+    "{\"crew\":\"C1\",\"do\":\"assign\",\"pairing\":\"P13A\"}",
+    "{\"crew\":\"F1\",\"do\":\"assign\",\"pairing\":\"P13A\"}",
+    "{\"crew\":\"C1\",\"do\":\"assign\",\"pairing\":\"P13B\"}",
+    "{\"crew\":\"C2\",\"do\":\"assign\",\"pairing\":\"P91\"}",
+    "{\"begin\":\"2025-06-02T08:00Z\",\"crew\":\"C1\",\"do\":\"add-ground\",\"end\":\"2025-06-02T12:00Z\",\"ground\":\"G1\",\"task\":\"Simulator\"}",
+    "{\"begin\":\"2025-06-03T08:00Z\",\"crew\":\"C2\",\"do\":\"add-ground\",\"end\":\"2025-06-03T12:00Z\",\"ground\":\"G2\",\"task\":\"Simulator\"}",
+    "{\"do\":\"actual\",\"pairing\":\"P13A\",\"period\":1,\"release\":\"2025-06-11T07:30Z\",\"report\":\"2025-06-10T11:00Z\",\"segments\":[\
+        {\"in\":\"2025-06-11T07:00Z\",\"out\":\"2025-06-10T23:00Z\"}]}",
+];
+
+/// Asks a book a command, which it accepts.
+fn ask<S: Alter>(alloc: Global, book: &mut Book<S>, number: u8, text: &str) -> Result<(), Untold> {
+    let command = read_canonical(alloc, text)?;
+    match book.ask(alloc, key(number), &command) {
+        Ok(Answer::Accepted(_)) => Ok(()),
+        Ok(Answer::Refused(_)) => Err(Untold::Unmade),
+        Err(fault) => Err(fault.into()),
+    }
+}
+
+/// Fills a book with all that one can have.
+fn fill<S: Alter>(alloc: Global, book: &mut Book<S>) -> Result<(), Untold> {
+    let mut number = 0u8;
+    for (id, times) in PLANS {
+        number = number.saturating_add(1);
+        let text = plan(alloc, id, times)?;
+        ask(alloc, book, number, text.as_str())?;
+    }
+    for text in FILLED {
+        number = number.saturating_add(1);
+        ask(alloc, book, number, text)?;
+    }
+    Ok(())
+}
+
+/// The ids of its pairings, members and ground duties, and how many exceedances and requests it has.
+fn told(alloc: Global, part: &Roster) -> Result<String, Untold> {
+    let mut text = String::new(alloc);
+    for (id, _) in part.pairings.iter() {
+        text.push_str(id.as_str())?;
+        text.push_str(" ")?;
+    }
+    text.push_str("|")?;
+    for (id, _) in part.crew.iter() {
+        text.push_str(" ")?;
+        text.push_str(id.as_str())?;
+    }
+    text.push_str(" |")?;
+    for (id, _) in part.grounds.iter() {
+        text.push_str(" ")?;
+        text.push_str(id.as_str())?;
+    }
+    let counts = format!(in alloc; " | {} {}\n", part.exceedances.len(), part.requests.len())?;
+    text.push_str(counts.as_str())?;
+    Ok(text)
+}
+
+/// Adds what the part of a command holds; where the machine answers it otherwise by the part than by the roster, that too.
+fn add_part<S: Alter>(
+    alloc: Global,
+    store: &mut Store<S>,
+    roster: &Roster,
+    (key, command): (Key, Command),
+    text: &mut String,
+) -> Result<(), Untold> {
+    let part = store.part(alloc, key, &command)?;
+    text.push_str(told(alloc, &part)?.as_str())?;
+    if part.step(alloc, key, &command)? != roster.step(alloc, key, &command)? {
+        text.push_str("otherwise\n")?;
+    }
+    Ok(())
+}
+
+/// A command of each kind, and then one whose key is held.
+const ASKED: [(u8, &str); 11] = [
+    (
+        31,
+        "{\"crew\":\"C1\",\"do\":\"assign\",\"pairing\":\"P92\"}",
+    ),
+    (
+        31,
+        "{\"crew\":\"C9\",\"do\":\"add-crew\",\"name\":\"Lee Roy\",\"seat\":\"captain\"}",
+    ),
+    (31, "{\"do\":\"cancel-pairing\",\"pairing\":\"P92\"}"),
+    (31, "{\"do\":\"cancel-pairing\",\"pairing\":\"P99\"}"),
+    (
+        31,
+        "{\"crew\":\"C2\",\"do\":\"release\",\"pairing\":\"P91\"}",
+    ),
+    (
+        31,
+        "{\"crew\":\"C1\",\"do\":\"swap\",\"other_crew\":\"C2\",\"other_pairing\":\"P91\",\"pairing\":\"P8\"}",
+    ),
+    (
+        31,
+        "{\"begin\":\"2025-06-10T18:00Z\",\"crew\":\"F1\",\"do\":\"add-ground\",\"end\":\"2025-06-10T21:00Z\",\"ground\":\"G2\",\"task\":\"Medical\"}",
+    ),
+    (31, "{\"do\":\"cancel-ground\",\"ground\":\"G1\"}"),
+    (
+        31,
+        "{\"do\":\"actual\",\"pairing\":\"P13A\",\"period\":1,\"release\":\"2025-06-11T07:30Z\",\"report\":\"2025-06-10T11:00Z\",\"segments\":[\
+        {\"in\":\"2025-06-11T07:00Z\",\"out\":\"2025-06-10T23:00Z\"}]}",
+    ),
+    (10, "{\"crew\":\"C1\",\"do\":\"assign\",\"pairing\":\"P7\"}"),
+    (10, "{\"do\":\"cancel-ground\",\"ground\":\"G2\"}"),
+];
+
+/// What is told of the parts of these commands, and of that of one that adds P7.
+fn parts<S: Alter>(alloc: Global, store: &mut Store<S>, roster: &Roster) -> Result<String, Untold> {
+    let mut text = String::new(alloc);
+    for (number, command) in ASKED {
+        let command = read_canonical(alloc, command)?;
+        add_part(alloc, store, roster, (key(number), command), &mut text)?;
+    }
+    let again = plan(
+        alloc,
+        "P7",
+        ["07T12:00", "07T13:00", "07T20:00", "07T20:30"],
+    )?;
+    let again = read_canonical(alloc, again.as_str())?;
+    add_part(alloc, store, roster, (key(31), again), &mut text)?;
+    Ok(text)
+}
+
+/// What is told of the parts that a store reads of a book, beside a copy of the roster that it loads.
+fn told_over<S: Alter + Drop>(alloc: Global, conn: Connection<S>) -> Result<String, Untold> {
+    if !conn.is_autocommit() {
+        return Err(Untold::Unread);
+    }
+    let Ok((mut store, roster)) = Store::load(alloc, conn) else {
+        return Err(Untold::Unread);
+    };
+    let whole = roster.try_clone(alloc)?;
+    parts(alloc, &mut store, &whole)
+}
+
+/// What is told over memory.
+fn told_of_parts(alloc: Global) -> Result<String, Untold> {
+    let mut book = opened(create(alloc, Connection::open_in_memory(alloc)?))?;
+    fill(alloc, &mut book)?;
+    told_over(alloc, book.into_connection())
+}
+
+/// The pairings, the members and the ground duties of each part, and its exceedances and requests.
+const TOLD: &str = "P13A P13B P7 P8 P92 | C1 F1 | G1 | 0 0\n\
+    | | | 0 0\n\
+    P92 | | | 0 0\n\
+    | | | 0 0\n\
+    P91 | C2 | | 0 0\n\
+    P13A P13B P7 P8 P91 | C1 C2 F1 | G1 G2 | 0 0\n\
+    P13A | C1 C2 F1 | G2 | 0 0\n\
+    | C1 | G1 | 0 0\n\
+    P13A P13B P7 P8 | C1 F1 | G1 | 0 0\n\
+    P13A P13B P7 P8 | C1 F1 | G1 | 0 1\n\
+    | C2 | G2 | 0 1\n\
+    P7 | C1 | | 0 0\n";
+
+#[test]
+fn parts_answer_as_the_roster(rt: HostRuntime) -> Result<(), Fail> {
+    assert!(rt; told_of_parts(rt.alloc())?.as_str() == TOLD);
+    Ok(())
+}
