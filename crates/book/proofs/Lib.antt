@@ -7,3 +7,4 @@ pub mod Holding
 pub mod Untouched
 pub mod Sparing
 pub mod Parts
+pub mod LifeLemmas

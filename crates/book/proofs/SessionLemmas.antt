@@ -15,7 +15,7 @@ stopped_append : (s : State) (l : List Session) (x : Session) → Stopped s (l +
 stopped_append s [] x = refl
 stopped_append s (y ∷ l) x = stopped_append (Fold s (take y.done y.asked)) l x
 
-take_whole : {A : Type 0} (xs : List A) → take (length xs) xs ≡ xs
+pub take_whole : {A : Type 0} (xs : List A) → take (length xs) xs ≡ xs
 take_whole [] = refl
 take_whole (x ∷ xs) = ap (λ t. x ∷ t) (take_whole xs)
 

@@ -6,3 +6,4 @@ pub mod Found
 pub mod Importing
 pub mod Sessions
 pub mod Ran
+pub mod Lives

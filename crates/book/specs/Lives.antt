@@ -1,0 +1,162 @@
+-- Whole lives of a book: it is made once, asked, stopped anywhere, taken up again over what a crash left, and asked again.
+use Rattle.std.specs.Prelude.{◌≡◌, ℕ, Bool, true, false, if◌then◌else◌, ◌||◌, IsTrue, ◌⊎◌, ◌↔◌, List, [], ◌∷◌, ◌++◌, drop, length, map, take, Option, Result, Ok, Err}
+use Rattle.std.specs.List.{flat_map}
+use Rattle.sqlite_trees.specs.Tree.{Trees}
+use Rattle.sqlite_trees.specs.declared.store.Store.{Ghosts}
+use Rattle.sqlite.specs.State as conn
+use Rattle.sqlite.specs.Held.{state}
+use Rattle.command.specs.Instructions.{IsMade}
+use Rattle.command.specs.declared.exceedance.Reply.{Reply}
+use Rattle.roster.specs.Folds.{Asked, Fold, Replies, answer_of}
+use Rattle.roster.specs.Honest.{Honest}
+use Rattle.roster.specs.Laws.{AreMade, IsAccepted, PassesChecks, is_assignment}
+use Rattle.roster.specs.State.{State, empty}
+use Rattle.roster.specs.Steps.{step_of}
+use Rattle.roster.specs.declared.change.Verdict.TheVariants.{Repeat}
+use Rattle.state_rows.specs.declared.fault.StoreFault.{StoreFault}
+use Rattle.writing.specs.Outcomes.{CrashLeaves}
+use Rattle.book.specs.Answered.{IsAnswered}
+use Rattle.book.specs.Headline.{BreaksNoLimit}
+use Rattle.book.specs.Kept.{HasFoundBook, IsClean, IsDurablyAt, Kept, is_some_store_fault, is_store_fault, result_of}
+use Rattle.book.specs.Ran.{HasRun}
+use Rattle.book.specs.declared.answer.Answer.{Answer}
+use Rattle.book.specs.declared.answer.Run.{Run}
+
+-- ---- Calls
+
+-- what a book is called for, and what came of it: one command, or the next part of an import; a list of commands; a report
+pub data Call : Type 0 where
+  for_one : Asked → Result Answer StoreFault → Call
+  for_many : List Asked → Run → Call
+  for_report : Option StoreFault → Call
+
+-- the commands that the call acknowledged: it answered them
+abbrev pub acknowledged_by : Call → List Asked
+acknowledged_by (for_one asked (Ok answer)) = asked ∷ []
+acknowledged_by (for_one asked (Err fault)) = []
+acknowledged_by (for_many commands run) = take (length run.answers.items) commands
+acknowledged_by (for_report fault) = []
+
+-- its answers to them
+abbrev pub answers_by : Call → List Answer
+answers_by (for_one asked (Ok answer)) = answer ∷ []
+answers_by (for_one asked (Err fault)) = []
+answers_by (for_many commands run) = run.answers.items
+answers_by (for_report fault) = []
+
+-- it met a fault of the store (90)
+abbrev pub is_stopped : Call → Bool
+is_stopped (for_one asked result) = is_store_fault result
+is_stopped (for_many commands run) = is_some_store_fault run.fault
+is_stopped (for_report fault) = is_some_store_fault fault
+
+-- then one command was in work, if there was one: it is done or not
+abbrev pub doubted_by : Call → List Asked
+doubted_by (for_one asked result) = asked ∷ []
+doubted_by (for_many commands run) = take 1 (drop (length run.answers.items) commands)
+doubted_by (for_report fault) = []
+
+-- what the calls of a session acknowledged
+abbrev pub acknowledged : List Call → List Asked
+acknowledged calls = flat_map acknowledged_by calls
+
+-- with which answers
+abbrev pub answers : List Call → List Answer
+answers calls = flat_map answers_by calls
+
+-- what was in work when the store failed
+abbrev pub in_doubt : List Call → List Asked
+in_doubt [] = []
+in_doubt (call ∷ calls) = if is_stopped call then doubted_by call else in_doubt calls
+
+module _ {S : Type 0} (g : Ghosts S) where
+  -- a book was called for a report: as the clauses of these names say of `Book::show`
+  pub record HasReported (old new : Kept S) (fault : Option StoreFault) : Type 0 where
+    pub failed : new.failed ≡ (old.failed || is_some_store_fault fault)
+    pub shut : IsTrue old.failed → new ≡ old
+    pub disk : IsClean g new → IsClean g old
+    pub kept : (s : State) → IsDurablyAt g old s → IsDurablyAt g new s
+
+  -- a book was called so, and is the new one then: as the contracts of `Book::ask`, `Import::next`, `Book::run` and `Book::show` say
+  abbrev pub IsCall : Kept S → Call → Kept S → Type 0
+  IsCall old (for_one asked result) new = IsMade asked.1 × IsAnswered g old new asked result
+  IsCall old (for_many commands run) new = AreMade commands × HasRun g old new commands run
+  IsCall old (for_report fault) new = HasReported old new fault
+
+  -- it was called so in turn
+  abbrev pub AreCalls : Kept S → List Call → Kept S → Type 0
+  AreCalls old [] new = new ≡ old
+  AreCalls old (call ∷ calls) new = (next : Kept S) × IsCall old call next × AreCalls next calls new
+
+-- ---- Lives
+
+module _ {S : Type 0} (g : Ghosts S) where
+  -- a book was stopped, and `Book::adopt` took it up again over what a crash left of it
+  pub record IsTakenUp (stopped again : Kept S) : Type 0 where
+    -- what the new connection showed
+    pub shown : conn.State
+    pub left : (state g stopped.held).may_leave shown.now.trees
+    -- the disk had returned what was written
+    pub clean : IsClean g stopped
+    pub fresh : again.failed ≡ false
+    pub found : HasFoundBook shown (state g again.held)
+
+  -- more sessions, each over what a crash left of the one before
+  abbrev pub GoesOn : Kept S → List (List Call) → Kept S → Type 0
+  GoesOn stopped [] last = last ≡ stopped
+  GoesOn stopped (calls ∷ later) last =
+      (again : Kept S) × (left : Kept S) × IsTakenUp stopped again × AreCalls again calls left × GoesOn left later last
+
+  -- a life: `Book::create` made the book, which was called so in its first session, and so in later ones; it is the last one now
+  pub record Life (zone : List ℕ) (calls : List Call) (later : List (List Call)) (last : Kept S) : Type 0 where
+    pub made : Kept S
+    pub fresh : made.failed ≡ false
+    pub kept : IsDurablyAt g made (empty zone)
+    pub left : Kept S
+    pub first : AreCalls made calls left
+    pub more : GoesOn left later last
+
+-- ---- What comes of them
+
+-- the commands that these calls of a book in state s left done: all that they acknowledged, with the answers of the state machine; and
+-- what was in work when the store failed, or not
+pub record AreDone (s : State) (calls : List Call) (done : List Asked) : Type 0 where
+  pub all : (done ≡ acknowledged calls) ⊎ (done ≡ acknowledged calls ++ in_doubt calls)
+  pub replies : map result_of (answers calls) ≡ Replies s (acknowledged calls)
+
+-- of sessions in turn, each begun in the state that the one before it left
+abbrev pub AreDoneInTurn : State → List (List Call) → List (List Asked) → Type 0
+AreDoneInTurn s [] [] = Unit {0}
+AreDoneInTurn s [] (done ∷ more) = ⊥
+AreDoneInTurn s (calls ∷ later) [] = ⊥
+AreDoneInTurn s (calls ∷ later) (done ∷ more) = AreDone s calls done × AreDoneInTurn (Fold s done) later more
+
+-- the commands of all sessions in turn
+abbrev pub in_turn : List (List Asked) → List Asked
+in_turn sessions = flat_map (λ done. done) sessions
+
+-- each assignment among commands that are done in turn was accepted exactly where it passed the book's own checks and broke no limit
+abbrev pub AreWithinLimits : State → List Asked → Type 0
+AreWithinLimits begin done = (before after : List Asked) (asked : Asked) → done ≡ before ++ asked ∷ after → is_assignment asked.1 ≡ true →
+    let s = Fold begin before in
+    IsAccepted s asked.0 asked.1 ↔ (PassesChecks s asked.0 asked.1 × BreaksNoLimit s asked.1)
+
+-- each of them that was accepted acts once: asked again, it is answered as it was, and changes nothing
+abbrev pub ActOnce : State → List Asked → Type 0
+ActOnce begin done = (before between after : List Asked) (asked : Asked) (reply : Reply) → done ≡ before ++ asked ∷ between ++ asked ∷ after →
+    answer_of (step_of (Fold begin before) asked.0 asked.1) ≡ Ok reply →
+    step_of (Fold begin (before ++ asked ∷ between)) asked.0 asked.1 ≡ Repeat reply
+
+-- a state that is left of a life
+pub record IsLeftOf (zone : List ℕ) (life : List (List Call)) (s : State) : Type 0 where
+  pub done : List (List Asked)
+  pub are : AreDoneInTurn (empty zone) life done
+  pub fold : s ≡ Fold (empty zone) (in_turn done)
+  pub within_limits : AreWithinLimits (empty zone) (in_turn done)
+  pub once : ActOnce (empty zone) (in_turn done)
+  pub honest : Honest s
+
+-- whatever a book is asked, and wherever it is stopped: a crash leaves a state that is left of its life, and nothing else
+abbrev pub EachLifeHolds : {S : Type 0} → Ghosts S → Type 0
+EachLifeHolds {S} g = (zone : List ℕ) (calls : List Call) (later : List (List Call)) (last : Kept S) →
+    Life g zone calls later last → CrashLeaves (state g last.held) (IsLeftOf zone (calls ∷ later))
