@@ -6,11 +6,12 @@
 A quotation is a block of the page below a comment that names its source, `<!-- PATH: NAME, NAME -->`. In a file of `specs/` a name
 is a definition's; in one of `src/` a type's, a call's (`Book::ask`), or `invariant of Book`, what holds of each value of that type.
 With --write each quotation is cut out of its source anew. The page has tables and lists, each below a comment: words of the kit; types
-that contracts see as other values; words of which a law says what they come to; and which definitions of `specs/` it doesn't quote, since
-they are of formats, of other calls, or of proofs alone. What fails:
+that contracts see as other values; words of which a law says what they come to; contracts, which the claim names before it quotes them; and
+which definitions of `specs/` it doesn't quote, since they are of formats, of other calls, or of proofs alone. What fails:
 
 - a quotation that isn't as its source has it;
-- what is quoted and names something that is neither quoted above it nor in a table nor of formats;
+- what is quoted and names something that is neither quoted above it nor in a table nor of formats, quoted in their section or listed;
+- a contract in its table that isn't quoted among the calls;
 - a definition of formats that names one which is of other calls or of proofs alone;
 - a definition of `specs/` that is neither quoted nor listed;
 - a table below `<!-- fields of PATH: NAME -->` that doesn't have the fields of that record in turn;
@@ -31,7 +32,9 @@ from pathlib import Path
 
 TOP = Path(__file__).resolve().parent.parent
 PAGE = TOP / "docs/STATEMENT.md"
-CORE = ("Rules", "State", "Step", "Sessions", "Honesty")
+CORE = ("Rules", "State", "Step", "Honesty", "Lives")
+FORMATS = "Formats"
+CONTRACTS = "Calls"
 SCREEN = 50
 
 # ---- What sources have.
@@ -418,8 +421,19 @@ def try_laws(desk, page, quoted):
     return found
 
 
-def try_names(desk, page, quoted):
+def try_contracts(desk, page, found):
+    """The words that are contracts of calls, which are quoted with them."""
+    contracts = {name for first, *_ in table_below(page.text, "contracts") for name in marked(first)}
+    missing = contracts - {item.name for section, item in found if section == CONTRACTS}
+    desk.expect(not missing, f"told as contracts are {', '.join(sorted(missing))}, which aren't quoted under {CONTRACTS}")
+    return contracts
+
+
+def try_names(desk, page, found):
     """That all names in what is quoted are quoted or explained, and nothing is explained in vain."""
+    quoted = [item for _, item in found]
+    formats = {(item.path, item.name) for section, item in found if section == FORMATS}
+    contracts = try_contracts(desk, page, found)
     kit = [name for first, *_ in table_below(page.text, "words of the kit") for name in marked(first)]
     laws = try_laws(desk, page, quoted)
     values = try_values(desk, page)
@@ -431,7 +445,8 @@ def try_names(desk, page, quoted):
         if name.kind == "word":
             return name.name in kit
         if name.kind == "definition":
-            return (name.home, name.name) in above or page.homes(name.home, name.name) == ["of formats"]
+            place = (name.home, name.name)
+            return place in above | formats or name.name in contracts or page.homes(*place) == ["of formats"]
         homes = {name.home} if name.home else {it.path.split("/")[1] for it in types_by_name()[name.name]}
         return name.name in values or any((home, name.name) in above for home in homes)
 
@@ -442,7 +457,7 @@ def try_names(desk, page, quoted):
         unknown = sorted(str(name) for name in names if not is_known(name))
         desk.expect(not unknown, f"{item.name} of {item.path} names what is neither quoted above it nor explained: {', '.join(unknown)}")
         above.add((item.path if item.is_of_specs else item.path.split("/")[1], item.name))
-    for name in (*kit, *laws, *values):
+    for name in (*kit, *laws, *values, *contracts):
         desk.expect(name in used, f"the page explains {name}, which nothing names that it quotes")
     for name, times in Counter(kit).items():
         if times > 1:
@@ -506,8 +521,9 @@ def tell_lines(page, found, formats):
     print(f"lines of the core: {told_lines(believed)} ({counts}), of which {declared} are types of the code")
     over = [item for item in believed if len(item.code) > SCREEN]
     print(f"definitions of the core over {SCREEN} lines: {', '.join(f'{item.name} {len(item.code)}' for item in over) or 'none'}")
-    print(f"lines of formats that it rests on: {told_lines(formats)}, in {len({item.path for item in formats})} files")
-    others = [section for section in sections if section not in CORE]
+    quoted = told_lines(sections.get(FORMATS, []))
+    print(f"lines of formats that it rests on: {quoted} quoted, and {told_lines(formats)} in {len({item.path for item in formats})} files that aren't")
+    others = [section for section in sections if section not in (*CORE, FORMATS)]
     print(f"lines of what is claimed: {', '.join(f'{section.lower()} {told_lines(sections[section])}' for section in others)}")
 
 
@@ -537,7 +553,7 @@ def main():
         try_claim(desk, page, quoted)
         try_headings(desk, page)
         try_fields(desk, page)
-        laws = try_names(desk, page, quoted)
+        laws = try_names(desk, page, found)
         formats = formats_below(desk, page, quoted, laws)
         try_trust(desk, page, quoted + formats)
         try_files(desk, page, quoted)
