@@ -18,9 +18,9 @@ field_text Ground = codes "ground"
 field_text Task = codes "task"
 
 -- a fault as it is printed
-abbrev pub fault_text : DutyFault → List ℕ
-fault_text (BadTimes period) = codes "16 BadTimes " ++ decimal period
-fault_text (BadChain period) = codes "17 BadChain " ++ decimal period
-fault_text (BadField field) = codes "18 BadField " ++ field_text field
-fault_text (SegmentCount period) = codes "19 SegmentCount " ++ decimal period
-fault_text Memory = codes "91 Memory"
+abbrev pub duty_fault_text : DutyFault → List ℕ
+duty_fault_text (BadTimes period) = codes "16 BadTimes " ++ decimal period
+duty_fault_text (BadChain period) = codes "17 BadChain " ++ decimal period
+duty_fault_text (BadField field) = codes "18 BadField " ++ field_text field
+duty_fault_text (SegmentCount period) = codes "19 SegmentCount " ++ decimal period
+duty_fault_text Memory = codes "91 Memory"

@@ -3,7 +3,7 @@ use Rattle.std.specs.Prelude.{ℕ, ◌==◌, Bool, ◌&&◌, nat_le, nat_lt, Lis
 use Rattle.std.specs.List.{list_all}
 use Rattle.std.specs.Option.{option_map}
 use Rattle.std.specs.Str.{bytes_eq}
-use Rattle.duty.specs.Plans.{Plan, GroundPlan, ActualTimes, in_force}
+use Rattle.duty.specs.Plans.{Plan, GroundPlan, ActualTimes, flown_at}
 use Rattle.duty.specs.Shape.{is_within, is_id, is_flight, is_airport, is_plain_text}
 use Rattle.duty.specs.Words.{beside, each_next, last_of, first_failing, first_fault, unless, checked}
 use Rattle.duty.specs.declared.fault.DutyFault.{DutyFault}
@@ -107,5 +107,5 @@ actual_fault a =
     ∷ [])
 
 -- a period with the times when it was flown; refused where the numbers of segments differ
-abbrev pub with_actual : Fdp → ActualTimes → Result Fdp DutyFault
-with_actual f a = checked (unless (length f.segments == length a.segments) (SegmentCount a.period)) (in_force f a)
+abbrev pub fdp_with_actual : Fdp → ActualTimes → Result Fdp DutyFault
+fdp_with_actual f a = checked (unless (length f.segments == length a.segments) (SegmentCount a.period)) (flown_at f a)

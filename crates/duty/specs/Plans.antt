@@ -38,8 +38,8 @@ abbrev pub retimed : Segment × BlockTimes → Segment
 retimed (segment, times) = record segment { block_out = times.block_out; block_in = times.block_in }
 
 -- a period with the times when it was flown. Its planned report stays
-abbrev pub in_force : Fdp → ActualTimes → Fdp
-in_force f actual = record f {
+abbrev pub flown_at : Fdp → ActualTimes → Fdp
+flown_at f actual = record f {
   report = actual.report;
   release = actual.release;
   segments = map retimed (zip f.segments actual.segments);

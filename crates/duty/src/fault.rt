@@ -40,9 +40,9 @@ pub enum Field {
 
 impl fmt::Display for DutyFault {
     ghost use Rattle.std.specs.Prelude.{Some};
-    ghost use Rattle.duty.specs.FaultText.{fault_text};
+    ghost use Rattle.duty.specs.FaultText.{duty_fault_text};
 
-    ghost output = { λ fault. Some (fault_text fault) };
+    ghost output = { λ fault. Some (duty_fault_text fault) };
 
     fn fmt<W: fmt::Write>(&self, f: &mut fmt::Formatter<W>) -> fmt::Result {
         match self {

@@ -2,8 +2,8 @@
 //! Wrong bodies: `must-fail/`.
 ghost use Rattle.std.specs.Prelude.{◌≡◌, ◌≤◌, ◌⊎◌, length, map, Ok, Err, IfOk, IfErr};
 ghost use Rattle.std.specs.List.{zip};
-ghost use Rattle.duty.specs.Pairings.{is_in_order, block_times, with_actual};
-ghost use Rattle.duty.specs.Plans.{in_force, retimed};
+ghost use Rattle.duty.specs.Pairings.{is_in_order, block_times, fdp_with_actual};
+ghost use Rattle.duty.specs.Plans.{flown_at, retimed};
 ghost use Rattle.duty.specs.declared.fault.DutyFault.TheVariants.{Memory};
 
 use crate::actual::Actual;
@@ -52,9 +52,9 @@ impl Fdp {
     /// Gives a copy of this period the times when it was flown; the planned report stays. Where the numbers of segments
     /// differ it is refused, with the actual's period.
     pub fn with_actual(&self, alloc: Global, actual: &Actual) -> Result<Fdp, DutyFault>
-        ensures value { IfOk result (λ f. with_actual self.now actual.now ≡ Ok f) }
+        ensures value { IfOk result (λ f. fdp_with_actual self.now actual.now ≡ Ok f) }
         ensures refused { IfErr result
-            (λ fault. (fault ≡ Memory) ⊎ (with_actual self.now actual.now ≡ Err fault)) }
+            (λ fault. (fault ≡ Memory) ⊎ (fdp_with_actual self.now actual.now ≡ Err fault)) }
     {
         if self.segments.as_slice().len() != actual.segments().len() {
             return Err(DutyFault::SegmentCount(actual.period()));
@@ -65,7 +65,7 @@ impl Fdp {
     /// Gives a copy of this period the times when it was flown, segment by segment as far as both have segments; the
     /// planned report stays.
     pub fn flown(&self, alloc: Global, actual: &Actual) -> Result<Fdp, MemoryFault>
-        ensures { IfOk result (λ f. f ≡ in_force self.now actual.now) }
+        ensures { IfOk result (λ f. f ≡ flown_at self.now actual.now) }
     {
         let flown = retimed(alloc, self.segments.as_slice(), actual.segments())?;
         Ok(Fdp {

@@ -4,7 +4,7 @@ use Rattle.std.specs.FinMap as fin
 use Rattle.std.specs.List.{AllByRecursion}
 use Rattle.std.specs.Ordering.{eq_by_cmp}
 use Rattle.std.proofs.lemmas.Bool.{cases_Bool}
-use Rattle.values.specs.Name.{name_cmp, rows_of}
+use Rattle.values.specs.Name.{name_cmp, named_rows}
 use Rattle.values.proofs.Names.{alike, itself}
 
 all_more : {A : Type 0} (P : A → Type 0) (xs : List A) (x : A) → AllByRecursion P xs → P x → AllByRecursion P (xs ++ x ∷ [])
@@ -21,7 +21,7 @@ all_still P Q f (x ∷ xs) all = (f x all.0, all_still P Q f xs all.1)
 
 module _ {K V : Type 0} (name : K → List ℕ) where
   -- what stands in a list is found under its name
-  found_itself : (before items : List (K × V)) (x : K × V) → (v : V) × (fin.find name_cmp (name x.0) (rows_of name (before ++ x ∷ items)) ≡ Some v)
+  found_itself : (before items : List (K × V)) (x : K × V) → (v : V) × (fin.find name_cmp (name x.0) (named_rows name (before ++ x ∷ items)) ≡ Some v)
   found_itself [] items x = (x.1, rw (itself (name x.0) (name x.0) refl) refl)
   found_itself (y ∷ before) items x = elim (cases_Bool (eq_by_cmp name_cmp (name x.0) (name y.0))) [
     | inl tied ↦ (y.1, rw tied refl)
@@ -30,7 +30,7 @@ module _ {K V : Type 0} (name : K → List ℕ) where
 
   module _ (P : K → Type 0) where
     -- and of what is found under a name, a fact of each holds
-    found_passes : (items : List (K × V)) (q : List ℕ) (v : V) → fin.find name_cmp q (rows_of name items) ≡ Some v → AllByRecursion (λ e. P e.0) items →
+    found_passes : (items : List (K × V)) (q : List ℕ) (v : V) → fin.find name_cmp q (named_rows name items) ≡ Some v → AllByRecursion (λ e. P e.0) items →
         (k : K) × (name k ≡ q) × P k
     found_passes [] q v e all = absurd (cc)
     found_passes (x ∷ xs) q v e all = elim (cases_Bool (eq_by_cmp name_cmp q (name x.0))) [
@@ -41,18 +41,18 @@ module _ {K V : Type 0} (name : K → List ℕ) where
     -- a fact holds of the keys before these entries, which are the last of the map
     pub record Passed (m : fin.FinMap name_cmp V) (left : List (K × V)) : Type 0 where
       pub done : List (K × V)
-      pub whole : rows_of name (done ++ left) ≡ fin.entries m
+      pub whole : named_rows name (done ++ left) ≡ fin.entries m
       pub each : AllByRecursion (λ e. P e.0) done
 
     module _ (m : fin.FinMap name_cmp V) where
-      pub none_passed : (items : List (K × V)) → rows_of name items ≡ fin.entries m → Passed m items
+      pub none_passed : (items : List (K × V)) → named_rows name items ≡ fin.entries m → Passed m items
       none_passed items whole = record { done = []; whole = whole; each = tt }
 
       module _ (x : K × V) (left : List (K × V)) (passed : Passed m (x ∷ left)) where
         pub next_passed : P x.0 → Passed m left
         next_passed p = record {
           done = passed.done ++ x ∷ [];
-          whole = ap (rows_of name) (append_assoc passed.done (x ∷ []) left) ∙ passed.whole;
+          whole = ap (named_rows name) (append_assoc passed.done (x ∷ []) left) ∙ passed.whole;
           each = all_more (λ e. P e.0) passed.done x passed.each p;
         }
 
@@ -63,7 +63,7 @@ module _ {K V : Type 0} (name : K → List ℕ) where
 
       pub all_passed : ((i j : K) → name i ≡ name j → i ≡ j) → (left : List (K × V)) → left ≡ [] → Passed m left → (k : K) (v : V) → fin.get m (name k) ≡ Some v → P k
       all_passed same [] none passed k v there =
-          let found : fin.find name_cmp (name k) (rows_of name (passed.done ++ [])) ≡ Some v =
+          let found : fin.find name_cmp (name k) (named_rows name (passed.done ++ [])) ≡ Some v =
           ap (fin.find name_cmp (name k)) passed.whole ∙ sym (fin.get-entries m (name k)) ∙ there in
           let it = found_passes (passed.done ++ []) (name k) v found (all_appended (λ e. P e.0) passed.done passed.each) in
           subst P (same it.0 k it.1) it.2

@@ -9,7 +9,7 @@ use Rattle.values.proofs.Names as names
 use Rattle.values.proofs.Names.{alike}
 use Rattle.roster.specs.declared.state.ExceedanceId.{ExceedanceId}
 use Rattle.roster.specs.declared.state.PeriodId.{PeriodId}
-use Rattle.values.specs.Name.{name_cmp, rows_of}
+use Rattle.values.specs.Name.{name_cmp, named_rows}
 use Rattle.sqlite_value.specs.declared.value.Value.TheVariants.{Int}
 use Rattle.sqlite_value.specs.Order.{Row, column}
 use Rattle.sqlite_rules.specs.Lists.{Has}
@@ -203,7 +203,7 @@ Listed = List (ExceedanceId × PeriodId)
 
 module _ (test : ExceedanceId → Bool) where
   -- what is found under a name passes where all do
-  found_passes : (items : Listed) (q : List ℕ) (p : PeriodId) → fin.find name_cmp q (rows_of name_of items) ≡ Some p → list_all (λ e. test e.0) items ≡ true →
+  found_passes : (items : Listed) (q : List ℕ) (p : PeriodId) → fin.find name_cmp q (named_rows name_of items) ≡ Some p → list_all (λ e. test e.0) items ≡ true →
       (id : ExceedanceId) × (name_of id ≡ q) × (test id ≡ true)
   found_passes [] q p e all = absurd (cc)
   found_passes (x ∷ xs) q p e all =
@@ -214,26 +214,26 @@ module _ (test : ExceedanceId → Bool) where
       ]
 
   -- and what stands in a list is found under its name
-  found_itself : (before items : Listed) (x : ExceedanceId × PeriodId) → (p : PeriodId) × (fin.find name_cmp (name_of x.0) (rows_of name_of (before ++ x ∷ items)) ≡ Some p)
+  found_itself : (before items : Listed) (x : ExceedanceId × PeriodId) → (p : PeriodId) × (fin.find name_cmp (name_of x.0) (named_rows name_of (before ++ x ∷ items)) ≡ Some p)
   found_itself [] items x = (x.1, rw (tied_itself (name_of x.0)) refl)
   found_itself (y ∷ before) items x = elim (cases_Bool (eq_by_cmp name_cmp (name_of x.0) (name_of y.0))) [
     | inl tied ↦ (y.1, rw tied refl)
     | inr apart ↦ let later = found_itself before items x in (later.0, rw apart later.1)
   ]
 
-  all_pass : (before items : Listed) → ((id : ExceedanceId) (p : PeriodId) → fin.find name_cmp (name_of id) (rows_of name_of (before ++ items)) ≡ Some p → test id ≡ true) →
+  all_pass : (before items : Listed) → ((id : ExceedanceId) (p : PeriodId) → fin.find name_cmp (name_of id) (named_rows name_of (before ++ items)) ≡ Some p → test id ≡ true) →
       list_all (λ e. test e.0) items ≡ true
   all_pass before [] each = refl
   all_pass before (x ∷ items) each =
       let here = found_itself before items x in
       and_from _ _ (each x.0 here.0 here.1)
-      (all_pass (before ++ x ∷ []) items (λ id p e. each id p (subst (λ l. fin.find name_cmp (name_of id) (rows_of name_of l) ≡ Some p) (append_assoc before (x ∷ []) items) e)))
+      (all_pass (before ++ x ∷ []) items (λ id p e. each id p (subst (λ l. fin.find name_cmp (name_of id) (named_rows name_of l) ≡ Some p) (append_assoc before (x ∷ []) items) e)))
 
-  pub passes_all : (items : Listed) (m : fin.FinMap name_cmp PeriodId) → rows_of name_of items ≡ fin.entries m →
+  pub passes_all : (items : Listed) (m : fin.FinMap name_cmp PeriodId) → named_rows name_of items ≡ fin.entries m →
       (list_all (λ e. test e.0) items ≡ true) ↔ ((id : ExceedanceId) (p : PeriodId) → fin.get m (name_of id) ≡ Some p → test id ≡ true)
   passes_all items m listed = (
     λ all id p there.
-        let found : fin.find name_cmp (name_of id) (rows_of name_of items) ≡ Some p = ap (fin.find name_cmp (name_of id)) listed ∙ sym (fin.get-entries m (name_of id)) ∙ there in
+        let found : fin.find name_cmp (name_of id) (named_rows name_of items) ≡ Some p = ap (fin.find name_cmp (name_of id)) listed ∙ sym (fin.get-entries m (name_of id)) ∙ there in
         let it = found_passes items (name_of id) p found all in
         subst (λ x. test x ≡ true) (ids_same it.0 id it.1) it.2,
     λ each. all_pass [] items (λ id p found. each id p (fin.get-entries m (name_of id) ∙ ap (fin.find name_cmp (name_of id)) (sym listed) ∙ found)),
@@ -244,7 +244,7 @@ is_there None e = absurd (cc)
 is_there (Some v) e = (v, refl)
 
 -- each exceedance has its request where all that are listed have
-pub held_if : (s : State) (items : Listed) → rows_of name_of items ≡ fin.entries s.exceedances → (all : Bool) →
+pub held_if : (s : State) (items : Listed) → named_rows name_of items ≡ fin.entries s.exceedances → (all : Bool) →
     all ≡ list_all (λ (x : ExceedanceId × PeriodId). fin.contains_key s.requests (key_name x.0.key)) items → (all ≡ true) ↔ AreHeld s
 held_if s items listed all is =
     let both = passes_all (λ id. fin.contains_key s.requests (key_name id.key)) items s.exceedances listed in (

@@ -8,7 +8,7 @@ use Rattle.std.specs.Prelude.{is_some}
 use Rattle.std.proofs.lemmas.Bool.{and_parts, and_from, cases_Bool}
 use Rattle.values.proofs.Names as names
 use Rattle.values.proofs.Names.{alike, get-changed_at}
-use Rattle.values.specs.Name.{name_cmp, changed_at, rows_of}
+use Rattle.values.specs.Name.{name_cmp, changed_at, named_rows}
 use Rattle.sqlite_value.specs.Order.{Row, column}
 use Rattle.sqlite_rules.specs.Lists.{Has}
 use Rattle.command.specs.declared.member.Member.{Member}
@@ -277,11 +277,11 @@ module _ (test : PairingEntry → Bool) where
   in_all [] each = refl
   in_all (x ∷ xs) each = and_from _ _ (each x (is_first x xs x refl)) (in_all xs (λ row c. each row (is_later x xs row c)))
 
-  rows_same : (items : List (List ℕ × PairingEntry)) → rows_of (λ (id : List ℕ). id) items ≡ items
+  rows_same : (items : List (List ℕ × PairingEntry)) → named_rows (λ (id : List ℕ). id) items ≡ items
   rows_same [] = refl
   rows_same (x ∷ xs) = ap (λ l. x ∷ l) (rows_same xs)
 
-  pub passes_all : (items : List (List ℕ × PairingEntry)) (m : fin.FinMap name_cmp PairingEntry) → rows_of (λ (id : List ℕ). id) items ≡ fin.entries m →
+  pub passes_all : (items : List (List ℕ × PairingEntry)) (m : fin.FinMap name_cmp PairingEntry) → named_rows (λ (id : List ℕ). id) items ≡ fin.entries m →
       (list_all (λ e. test e.1) items ≡ true) ↔ ((id : List ℕ) (r : PairingEntry) → fin.get m id ≡ Some r → test r ≡ true)
   passes_all items m listed =
       let same : items ≡ fin.entries m = sym (rows_same items) ∙ listed in (
@@ -297,7 +297,7 @@ seated_if : (flown crewed : Bool) → (not flown || crewed ≡ true) ↔ (flown 
 seated_if true crewed = (λ e _. e, λ f. f refl)
 seated_if false crewed = (λ _ e. absurd (cc), λ _. refl)
 
-pub all_crewed : (items : List (List ℕ × PairingEntry)) (s : State) → rows_of (λ (id : List ℕ). id) items ≡ fin.entries s.pairings → (list_all (λ e. is_seated e.1) items ≡ true) ↔ AreCrewed s
+pub all_crewed : (items : List (List ℕ × PairingEntry)) (s : State) → named_rows (λ (id : List ℕ). id) items ≡ fin.entries s.pairings → (list_all (λ e. is_seated e.1) items ≡ true) ↔ AreCrewed s
 all_crewed items s listed =
     let pass = passes_all is_seated items s.pairings listed in (
       λ all id r here. (seated_if (is_flown r) (is_fully_crewed r)).0 (pass.0 all id r here),

@@ -4,7 +4,7 @@ use Rattle.std.specs.FinMap as fin
 use Rattle.std.specs.Option.{option_and_then, option_map_or}
 use Rattle.std.specs.Str.{bytes_eq}
 use Rattle.duty.specs.Overlaps.{overlaps}
-use Rattle.duty.specs.Plans.{ActualTimes, in_force as flown_at}
+use Rattle.duty.specs.Plans.{ActualTimes, flown_at}
 use Rattle.duty.specs.DutiesInForce.{in_force}
 use Rattle.duty.specs.declared.fdp.Fdp.{Fdp}
 use Rattle.duty.specs.declared.placed_duty.Duty.TheVariants as duty

@@ -7,14 +7,14 @@ use Rattle.period_verdict.specs.declared.fault.LineFault.{LineFault}
 use Rattle.period_verdict.specs.declared.fault.LineFault.TheVariants.{Zone, Time, SegmentCount, BadTimes, Memory}
 
 -- a fault as it is printed
-abbrev pub fault_text : LineFault → List ℕ
-fault_text (Time Malformed) = codes "T1 Malformed"
-fault_text (Time NoSuchTime) = codes "T2 NoSuchTime"
-fault_text (Time OutOfRange) = codes "T3 OutOfRange"
-fault_text Zone = codes "T4 ZoneText"
-fault_text BadTimes = codes "16 BadTimes 1"
-fault_text SegmentCount = codes "19 SegmentCount 1"
-fault_text Memory = codes "91 Memory"
+abbrev pub line_fault_text : LineFault → List ℕ
+line_fault_text (Time Malformed) = codes "T1 Malformed"
+line_fault_text (Time NoSuchTime) = codes "T2 NoSuchTime"
+line_fault_text (Time OutOfRange) = codes "T3 OutOfRange"
+line_fault_text Zone = codes "T4 ZoneText"
+line_fault_text BadTimes = codes "16 BadTimes 1"
+line_fault_text SegmentCount = codes "19 SegmentCount 1"
+line_fault_text Memory = codes "91 Memory"
 
 -- what a zone's fault is on the line
 abbrev pub IsZoneFault : ZoneFault → LineFault → Type 0

@@ -37,8 +37,8 @@ outcome v = record {
 }
 
 -- neither table is exceeded
-abbrev pub is_within : Outcome → Bool
-is_within o = not o.is_over_flight_time && not o.is_over_length
+abbrev pub exceeds_no_table : Outcome → Bool
+exceeds_no_table o = not o.is_over_flight_time && not o.is_over_length
 
 -- the end of the line, by whether the flight time and whether the length is over
 abbrev pub sections_text : Bool → Bool → List ℕ
@@ -68,7 +68,7 @@ Line = List ℕ × Bool
 
 -- the line, and whether the verdict is `within`
 abbrev pub line_of_verdict : Verdict → Line
-line_of_verdict v = (verdict_text v, is_within (outcome v))
+line_of_verdict v = (verdict_text v, exceeds_no_table (outcome v))
 
 -- Faults are looked for in this order: the zone, the report, each time in turn, the number of times, their order.
 

@@ -141,7 +141,7 @@ impl Verdict {
 
 impl Outcome {
     fn is_within(&self) -> bool
-        ensures { result ≡ spec.is_within self.now }
+        ensures { result ≡ spec.exceeds_no_table self.now }
     {
         !self.is_over_flight_time && !self.is_over_length
     }

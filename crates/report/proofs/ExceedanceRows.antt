@@ -2,7 +2,7 @@
 use Rattle.std.proofs.Common.{◌≡◌, ℕ, List, [], ◌∷◌, ◌++◌, suc, length, refl, ap, sym, ◌∙◌, append-nil, subst}
 use Rattle.std.specs.List.{flat_map}
 use Rattle.std.specs.FinMap as fin
-use Rattle.values.specs.Name.{rows_of}
+use Rattle.values.specs.Name.{named_rows}
 use Rattle.roster.specs.State.{State, exceedance_name}
 use Rattle.report.specs.ExceedanceText.{AreExceedances, IsExceedanceText, Row, header, line}
 
@@ -13,7 +13,7 @@ told s rows left text are nil e =
     let bare : text ++ [] ≡ header (length rows) ++ flat_map line rows = subst (λ t. text ++ flat_map line t ≡ header (length rows) ++ flat_map line rows) nil e in
     record { rows = rows; are = are; is = sym (append-nil text) ∙ bare }
 
-length-rows_of : {K V : Type 0} (name : K → List ℕ) (rows : List (K × V)) → length (rows_of name rows) ≡ length rows
+length-rows_of : {K V : Type 0} (name : K → List ℕ) (rows : List (K × V)) → length (named_rows name rows) ≡ length rows
 length-rows_of name [] = refl
 length-rows_of name (row ∷ rows) = ap suc (length-rows_of name rows)
 

@@ -13,7 +13,7 @@ use Rattle.std.proofs.lemmas.List.Elements.{Contains-append_cases}
 use Rattle.std.proofs.lemmas.List.Sorted.{ranks_by}
 use Rattle.std.proofs.lemmas.Option.{same_Some}
 use Rattle.duty.specs.Plans.{GroundPlan}
-use Rattle.values.specs.Name.{name_cmp, rows_of, text_then}
+use Rattle.values.specs.Name.{name_cmp, named_rows, text_then}
 use Rattle.values.proofs.Names.{exact_names}
 use Rattle.command.specs.declared.member.Member.{Member}
 use Rattle.roster.specs.Pairings.{holds}
@@ -163,14 +163,14 @@ same_id a b e =
     let parts = names_same a.key b.key a.crew b.crew a.section b.section e in
     λ i. record { key = parts.0 i; crew = parts.1 i; section = parts.2 i }
 
-same_rows : (xs ys : List Row) → rows_of name xs ≡ rows_of name ys → xs ≡ ys
+same_rows : (xs ys : List Row) → named_rows name xs ≡ named_rows name ys → xs ≡ ys
 same_rows [] [] e = refl
-same_rows [] (y ∷ ys) e = let no : [] ≡ (name y.0, y.1) ∷ rows_of name ys = e in absurd (cc)
-same_rows (x ∷ xs) [] e = let no : (name x.0, x.1) ∷ rows_of name xs ≡ [] = e in absurd (cc)
+same_rows [] (y ∷ ys) e = let no : [] ≡ (name y.0, y.1) ∷ named_rows name ys = e in absurd (cc)
+same_rows (x ∷ xs) [] e = let no : (name x.0, x.1) ∷ named_rows name xs ≡ [] = e in absurd (cc)
 same_rows (x ∷ xs) (y ∷ ys) e =
-    let rows : (name x.0, x.1) ∷ rows_of name xs ≡ (name y.0, y.1) ∷ rows_of name ys = e in
+    let rows : (name x.0, x.1) ∷ named_rows name xs ≡ (name y.0, y.1) ∷ named_rows name ys = e in
     let first : ◌≡◌ {A = List ℕ × PeriodId} (name x.0, x.1) (name y.0, y.1) = cc in
-    let rest : rows_of name xs ≡ rows_of name ys = cc in
+    let rest : named_rows name xs ≡ named_rows name ys = cc in
     let id = same_id x.0 y.0 (ap (λ (p : List ℕ × PeriodId). p.0) first) in
     let period = ap (λ (p : List ℕ × PeriodId). p.1) first in
     ap₂ (λ (z : Row) zs. z ∷ zs) (λ i. (id i, period i)) (same_rows xs ys rest)

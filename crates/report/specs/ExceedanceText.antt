@@ -3,7 +3,7 @@ use Rattle.std.specs.Prelude.{◌≡◌, ℕ, List, ◌++◌, length, codes}
 use Rattle.std.specs.Fmt.{decimal}
 use Rattle.std.specs.FinMap as fin
 use Rattle.std.specs.List.{flat_map}
-use Rattle.values.specs.Name.{rows_of}
+use Rattle.values.specs.Name.{named_rows}
 use Rattle.limits.specs.SectionText.{section_text}
 use Rattle.roster.specs.State.{State, exceedance_name}
 use Rattle.roster.specs.declared.state.ExceedanceId.{ExceedanceId}
@@ -26,7 +26,7 @@ line (id, period) =
 
 -- the rows are those of the state, in the order of their names: number, part, member, section
 abbrev pub AreExceedances : State → List Row → Type 0
-AreExceedances s rows = rows_of (λ id. exceedance_name id.key id.crew id.section) rows ≡ fin.entries s.exceedances
+AreExceedances s rows = named_rows (λ id. exceedance_name id.key id.crew id.section) rows ≡ fin.entries s.exceedances
 
 -- how many there are, and the line of each in turn
 pub record IsExceedanceText (s : State) (text : List ℕ) : Type 0 where

@@ -11,7 +11,7 @@ use Rattle.std.proofs.lemmas.Option.{slice_get-map, same_Some}
 use Rattle.std.proofs.lemmas.Slice.Eq.{bytes_eq-Decides}
 use Rattle.values.specs.Name.{name_cmp, changed_at}
 use Rattle.duty.specs.DutiesInForce.{in_force}
-use Rattle.duty.specs.Plans.{ActualTimes, in_force as flown_at}
+use Rattle.duty.specs.Plans.{ActualTimes, flown_at}
 use Rattle.duty.specs.declared.duty_in_force.DutyInForce.{DutyInForce}
 use Rattle.duty.specs.declared.fdp.Fdp.{Fdp}
 use Rattle.duty.specs.declared.placed_duty.Duty.TheVariants as duty

@@ -2,7 +2,7 @@
 use Rattle.std.specs.Prelude.{ℕ, Bool, false, ◌||◌, ◌&&◌, List, map, Option, Some, None, is_some}
 use Rattle.std.specs.List.{list_any, zip}
 use Rattle.std.specs.Str.{bytes_eq}
-use Rattle.duty.specs.Plans.{Plan, ActualTimes, in_force}
+use Rattle.duty.specs.Plans.{Plan, ActualTimes, flown_at}
 use Rattle.duty.specs.declared.fdp.Fdp.{Fdp}
 use Rattle.command.specs.declared.member.Seat.{Seat}
 use Rattle.command.specs.declared.member.Seat.TheVariants.{Captain, FirstOfficer}
@@ -46,7 +46,7 @@ holds who r = is_held_by who r.captain || is_held_by who r.first_officer
 -- a period with its actual times, if it has them, else as it is planned
 abbrev pub flown : Fdp × Option ActualTimes → Fdp
 flown (fdp, None) = fdp
-flown (fdp, Some actual) = in_force fdp actual
+flown (fdp, Some actual) = flown_at fdp actual
 
 -- the periods in turn, with their times in force
 abbrev pub periods_in_force : PairingEntry → List Fdp

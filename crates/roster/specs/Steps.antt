@@ -5,7 +5,7 @@ use Rattle.std.specs.List.{fold}
 use Rattle.std.specs.Option.{option_map_or}
 use Rattle.values.specs.Name.{name_cmp, changed_at}
 use Rattle.duty.specs.DutiesInForce.{in_force}
-use Rattle.duty.specs.Plans.{ActualTimes, in_force as flown_at}
+use Rattle.duty.specs.Plans.{ActualTimes, flown_at}
 use Rattle.duty.specs.declared.duty_in_force.DutyInForce.{DutyInForce}
 use Rattle.duty.specs.declared.placed_duty.Duty.TheVariants as duty
 use Rattle.command.specs.Keys.{KeyParts, key_name}

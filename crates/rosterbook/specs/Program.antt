@@ -7,7 +7,7 @@ use Rattle.rosterbook.specs.Serving.{IsServeTold}
 use Rattle.rosterbook.specs.Showing.{IsToldOf}
 use Rattle.roster.specs.State.{State}
 use Rattle.store.specs.declared.show.Show.TheVariants as show
-use Rattle.period_verdict.specs.FaultText.{fault_text}
+use Rattle.period_verdict.specs.FaultText.{line_fault_text}
 pub use Rattle.rosterbook.specs.Streams.{Held, line_end, refused}
 use Rattle.writing.specs.Faults.{create_text}
 use Rattle.writing.specs.declared.fault.CreateFault.{CreateFault}
@@ -39,7 +39,7 @@ verdict_status false = Refused
 
 -- the line of a refusal
 abbrev pub refusal_line : LineFault → List ℕ
-refusal_line fault = refused (fault_text fault)
+refusal_line fault = refused (line_fault_text fault)
 
 -- what `duty` answers: the line, or the refusal
 abbrev pub duty_answer : Result Line LineFault → Answer

@@ -10,5 +10,5 @@ use Rattle.stored_json.specs.declared.fault.CodecFault.TheVariants.{BadJson, Bad
 abbrev pub fault_text : CodecFault → List ℕ
 fault_text (BadJson field) = codes "31 BadJson " ++ field_name field
 fault_text (BadCsv line) = codes "30 BadCsv " ++ decimal line
-fault_text (Duty fault) = duty.fault_text fault
+fault_text (Duty fault) = duty.duty_fault_text fault
 fault_text Memory = codes "91 Memory"

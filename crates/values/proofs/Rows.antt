@@ -13,7 +13,7 @@ use Rattle.std.specs.List.{AllByRecursion}
 use Rattle.std.specs.BTreeMap.{is_at, insert_entry}
 use Rattle.std.specs.Map.{keys_of, lookup, remove_entry, set_value}
 use lib.Dec.{T}
-use Rattle.values.specs.Name.{name_cmp, rows_of, changed_at}
+use Rattle.values.specs.Name.{name_cmp, named_rows, changed_at}
 use Rattle.values.proofs.Names.{exact_names, alike, itself, changed_some, changed_none}
 
 both_true : (a b : Bool) → T a → T b → T (a && b)
@@ -49,53 +49,53 @@ module _ {K : Type 0} (cmp : K → K → Ordering) (name : K → List ℕ) (same
 module _ {K V : Type 0} (cmp : K → K → Ordering) (name : K → List ℕ) (same : (a b : K) → cmp a b ≡ name_cmp (name a) (name b)) where
   -- the map of the rows
   abbrev map_of : List (K × V) → FinMap name_cmp V
-  map_of es = from_entries (rows_of name es)
+  map_of es = from_entries (named_rows name es)
 
   -- a look-up by key is one by name
-  find_row : (k : K) (es : List (K × V)) → lookup (is_at (cmp k)) es ≡ find name_cmp (name k) (rows_of name es)
+  find_row : (k : K) (es : List (K × V)) → lookup (is_at (cmp k)) es ≡ find name_cmp (name k) (named_rows name es)
   find_row k [] = refl
   find_row k (e ∷ es) =
       ap (λ r. cond (is_eq r) (Some e.1) (lookup (is_at (cmp k)) es)) (same k e.0)
       ∙ ap (cond (eq_by_cmp name_cmp (name k) (name e.0)) (Some e.1)) (find_row k es)
 
   pub get_row : (k : K) (es : List (K × V)) → lookup (is_at (cmp k)) es ≡ get (map_of es) (name k)
-  get_row k es = find_row k es ∙ sym (get-from_entries nat_list_cmp_total (rows_of name es) (name k))
+  get_row k es = find_row k es ∙ sym (get-from_entries nat_list_cmp_total (named_rows name es) (name k))
 
   -- a map has what it was given and, under the other names, what it had
   get_inserted : (k : K) (v : V) (es : List (K × V)) (q : List ℕ) →
-      get (insert (map_of es) (name k) v) q ≡ cond (eq_by_cmp name_cmp q (name k)) (Some v) (find name_cmp q (rows_of name es))
+      get (insert (map_of es) (name k) v) q ≡ cond (eq_by_cmp name_cmp q (name k)) (Some v) (find name_cmp q (named_rows name es))
   get_inserted k v es q = get-insert nat_list_cmp_total (map_of es) (name k) v q
-      ∙ ap (cond (eq_by_cmp name_cmp q (name k)) (Some v)) (get-from_entries nat_list_cmp_total (rows_of name es) q)
+      ∙ ap (cond (eq_by_cmp name_cmp q (name k)) (Some v)) (get-from_entries nat_list_cmp_total (named_rows name es) q)
 
   -- a row that is inserted is put under its name
-  put_cases : (k : K) (v : V) (e : K × V) (es : List (K × V)) (r : Ordering) → rows_of name (insert_entry cmp es k v) ≡ put name_cmp (name k) v (rows_of name es) →
-      rows_of name (match_ordering r ((k, v) ∷ e ∷ es) ((e.0, v) ∷ es) (e ∷ insert_entry cmp es k v))
-      ≡ by_order r ((name k, v) ∷ rows_of name (e ∷ es)) ((name e.0, v) ∷ rows_of name es) ((name e.0, e.1) ∷ put name_cmp (name k) v (rows_of name es))
+  put_cases : (k : K) (v : V) (e : K × V) (es : List (K × V)) (r : Ordering) → named_rows name (insert_entry cmp es k v) ≡ put name_cmp (name k) v (named_rows name es) →
+      named_rows name (match_ordering r ((k, v) ∷ e ∷ es) ((e.0, v) ∷ es) (e ∷ insert_entry cmp es k v))
+      ≡ by_order r ((name k, v) ∷ named_rows name (e ∷ es)) ((name e.0, v) ∷ named_rows name es) ((name e.0, e.1) ∷ put name_cmp (name k) v (named_rows name es))
   put_cases k v e es Less h = refl
   put_cases k v e es Equal h = refl
   put_cases k v e es Greater h = ap (λ rows. (name e.0, e.1) ∷ rows) h
 
-  put_is : (k : K) (v : V) (es : List (K × V)) → rows_of name (insert_entry cmp es k v) ≡ put name_cmp (name k) v (rows_of name es)
+  put_is : (k : K) (v : V) (es : List (K × V)) → named_rows name (insert_entry cmp es k v) ≡ put name_cmp (name k) v (named_rows name es)
   put_is k v [] = refl
   put_is k v (e ∷ es) = put_cases k v e es (cmp k e.0) (put_is k v es)
-      ∙ ap (λ r. by_order r ((name k, v) ∷ rows_of name (e ∷ es)) ((name e.0, v) ∷ rows_of name es) ((name e.0, e.1) ∷ put name_cmp (name k) v (rows_of name es))) (same k e.0)
+      ∙ ap (λ r. by_order r ((name k, v) ∷ named_rows name (e ∷ es)) ((name e.0, v) ∷ named_rows name es) ((name e.0, e.1) ∷ put name_cmp (name k) v (named_rows name es))) (same k e.0)
 
   pub put_row : (k : K) (v : V) (es : List (K × V)) → map_of (insert_entry cmp es k v) ≡ insert (map_of es) (name k) v
   put_row k v es = same_map nat_list_cmp_total exact_names _ _ (λ q.
       get-from_entries nat_list_cmp_total _ q ∙ ap (find name_cmp q) (put_is k v es)
-      ∙ find-put name_cmp nat_list_cmp_total q (name k) v (rows_of name es)
+      ∙ find-put name_cmp nat_list_cmp_total q (name k) v (named_rows name es)
       ∙ sym (get_inserted k v es q))
 
   -- a row whose value is set
   set_is : (k : K) (v : V) (q : List ℕ) (es : List (K × V)) → is_some (lookup (is_at (cmp k)) es) ≡ true →
-      find name_cmp q (rows_of name (set_value (is_at (cmp k)) es v)) ≡ cond (eq_by_cmp name_cmp q (name k)) (Some v) (find name_cmp q (rows_of name es))
+      find name_cmp q (named_rows name (set_value (is_at (cmp k)) es v)) ≡ cond (eq_by_cmp name_cmp q (name k)) (Some v) (find name_cmp q (named_rows name es))
   set_is k v q [] some = cc
   set_is k v q (e ∷ es) some =
       elim (is_at (cmp k) e.0) as (λ t. is_at (cmp k) e.0 ≡ t → is_some (cond t (Some e.1) (lookup (is_at (cmp k)) es)) ≡ true →
-      find name_cmp q (rows_of name (cond t ((e.0, v) ∷ es) (e ∷ set_value (is_at (cmp k)) es v)))
-      ≡ cond (eq_by_cmp name_cmp q (name k)) (Some v) (find name_cmp q (rows_of name (e ∷ es)))) [
+      find name_cmp q (named_rows name (cond t ((e.0, v) ∷ es) (e ∷ set_value (is_at (cmp k)) es v)))
+      ≡ cond (eq_by_cmp name_cmp q (name k)) (Some v) (find name_cmp q (named_rows name (e ∷ es)))) [
         | true ↦ λ is _. again (eq_by_cmp name_cmp q (name e.0)) (Some v) (Some e.1) _
-            ∙ ap (λ n. cond (eq_by_cmp name_cmp q n) (Some v) (find name_cmp q (rows_of name (e ∷ es)))) (sym (same_name cmp name same k e.0 is))
+            ∙ ap (λ n. cond (eq_by_cmp name_cmp q n) (Some v) (find name_cmp q (named_rows name (e ∷ es)))) (sym (same_name cmp name same k e.0 is))
         | false ↦ λ is some. ap (cond (eq_by_cmp name_cmp q (name e.0)) (Some e.1)) (set_is k v q es some)
             ∙ apart _ _ (Some e.1) (Some v) _ (λ a b. absurd (other_name cmp name same k e.0 is (sym (alike q (name k) b) ∙ alike q (name e.0) a)))
       ] refl some
@@ -119,12 +119,12 @@ module _ {K V : Type 0} (cmp : K → K → Ordering) (name : K → List ℕ) (sa
 
   -- a row that is removed leaves the others
   removed_other : (k : K) (q : List ℕ) (es : List (K × V)) → eq_by_cmp name_cmp q (name k) ≡ false →
-      find name_cmp q (rows_of name (remove_entry (is_at (cmp k)) es)) ≡ find name_cmp q (rows_of name es)
+      find name_cmp q (named_rows name (remove_entry (is_at (cmp k)) es)) ≡ find name_cmp q (named_rows name es)
   removed_other k q [] other = refl
   removed_other k q (e ∷ es) other =
       elim (is_at (cmp k) e.0) as (λ t. is_at (cmp k) e.0 ≡ t →
-      find name_cmp q (rows_of name (cond t es (e ∷ remove_entry (is_at (cmp k)) es))) ≡ find name_cmp q (rows_of name (e ∷ es))) [
-        | true ↦ λ is. ap (λ b. cond b (Some e.1) (find name_cmp q (rows_of name es))) (sym other ∙ ap (eq_by_cmp name_cmp q) (same_name cmp name same k e.0 is))
+      find name_cmp q (named_rows name (cond t es (e ∷ remove_entry (is_at (cmp k)) es))) ≡ find name_cmp q (named_rows name (e ∷ es))) [
+        | true ↦ λ is. ap (λ b. cond b (Some e.1) (find name_cmp q (named_rows name es))) (sym other ∙ ap (eq_by_cmp name_cmp q) (same_name cmp name same k e.0 is))
         | false ↦ λ is. ap (cond (eq_by_cmp name_cmp q (name e.0)) (Some e.1)) (removed_other k q es other)
       ] refl
 
@@ -133,26 +133,26 @@ module _ {K V : Type 0} (cmp : K → K → Ordering) (name : K → List ℕ) (sa
   drop_row k es none = same_map nat_list_cmp_total exact_names _ _ (λ q.
       get-from_entries nat_list_cmp_total _ q
       ∙ elim (eq_by_cmp name_cmp q (name k)) as (λ t. eq_by_cmp name_cmp q (name k) ≡ t →
-      find name_cmp q (rows_of name (remove_entry (is_at (cmp k)) es)) ≡ cond t None (find name_cmp q (rows_of name es))) [
-        | true ↦ λ is. ap (λ n. find name_cmp n (rows_of name (remove_entry (is_at (cmp k)) es))) (alike q (name k) is) ∙ sym (find_row k _) ∙ none
+      find name_cmp q (named_rows name (remove_entry (is_at (cmp k)) es)) ≡ cond t None (find name_cmp q (named_rows name es))) [
+        | true ↦ λ is. ap (λ n. find name_cmp n (named_rows name (remove_entry (is_at (cmp k)) es))) (alike q (name k) is) ∙ sym (find_row k _) ∙ none
         | false ↦ λ is. removed_other k q es is
       ] refl
-      ∙ sym (get-remove nat_list_cmp_total (map_of es) (name k) q ∙ ap (cond (eq_by_cmp name_cmp q (name k)) None) (get-from_entries nat_list_cmp_total (rows_of name es) q)))
+      ∙ sym (get-remove nat_list_cmp_total (map_of es) (name k) q ∙ ap (cond (eq_by_cmp name_cmp q (name k)) None) (get-from_entries nat_list_cmp_total (named_rows name es) q)))
 
   -- keys in order have names in order
-  below_names : (k : K) (es : List (K × V)) → AllByRecursion (λ y. cmp k y ≡ Less) (keys_of es) → T (below_all name_cmp (name k) (rows_of name es))
+  below_names : (k : K) (es : List (K × V)) → AllByRecursion (λ y. cmp k y ≡ Less) (keys_of es) → T (below_all name_cmp (name k) (named_rows name es))
   below_names k [] h = tt
   below_names k (e ∷ es) h = both_true _ _ (subst (λ r. T (is_lt r)) (sym (sym (same k e.0) ∙ h.0)) tt) (below_names k es h.1)
 
-  names_sorted : (es : List (K × V)) → IsStrictlySortedBy cmp (keys_of es) → T (is_sorted name_cmp (rows_of name es))
+  names_sorted : (es : List (K × V)) → IsStrictlySortedBy cmp (keys_of es) → T (is_sorted name_cmp (named_rows name es))
   unfolding IsStrictlySortedBy
   names_sorted [] h = tt
   names_sorted (e ∷ es) h = both_true _ _ (below_names e.0 es h.0) (names_sorted es h.1)
 
   -- the rows are the entries of their map
-  pub entries_row : (es : List (K × V)) → IsStrictlySortedBy cmp (keys_of es) → rows_of name es ≡ entries (map_of es)
+  pub entries_row : (es : List (K × V)) → IsStrictlySortedBy cmp (keys_of es) → named_rows name es ≡ entries (map_of es)
   entries_row es h = same_entries name_cmp nat_list_cmp_total exact_names _ _ (names_sorted es h) (entries_sorted _)
-      (λ q. sym (get-from_entries nat_list_cmp_total (rows_of name es) q) ∙ get-entries _ q)
+      (λ q. sym (get-from_entries nat_list_cmp_total (named_rows name es) q) ∙ get-entries _ q)
 
   pub len_row : (es : List (K × V)) → IsStrictlySortedBy cmp (keys_of es) → length es ≡ len (map_of es)
   len_row es h = sym (length-map es _) ∙ ap length (entries_row es h) ∙ sym (len-entries _)

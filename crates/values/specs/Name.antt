@@ -15,8 +15,8 @@ abbrev pub text_then : List ℕ → List ℕ → List ℕ
 text_then text rest = map (λ byte. byte + 1) text ++ 0 ∷ rest
 
 -- rows of keys and values, each under the name of its key
-abbrev pub rows_of : {K V : Type 0} → (K → List ℕ) → List (K × V) → List (List ℕ × V)
-rows_of name rows = map (λ row. (name row.0, row.1)) rows
+abbrev pub named_rows : {K V : Type 0} → (K → List ℕ) → List (K × V) → List (List ℕ × V)
+named_rows name rows = map (λ row. (name row.0, row.1)) rows
 
 -- a map with the value under a name changed, if it has one there
 abbrev pub changed_at : {V : Type 0} → FinMap name_cmp V → List ℕ → (V → V) → FinMap name_cmp V

@@ -4,7 +4,7 @@ ghost use Rattle.std.specs.Prelude.{◌≡◌, OnOk, OnErr};
 ghost use Rattle.std.specs.Option.{option_copied};
 ghost use Rattle.std.specs.FinMap as map;
 ghost use Rattle.std.specs.Coded.{coded_list, coded_ℕ};
-ghost use Rattle.values.specs.Name.{name_cmp, rows_of, changed_at};
+ghost use Rattle.values.specs.Name.{name_cmp, named_rows, changed_at};
 
 use crate::edit::Edit;
 use crate::memory_fault::MemoryFault;
@@ -27,7 +27,7 @@ impl<K: OrdKey, V> Model for OrdMap<K, V> {
 
     ghost coded = { map.code (coded_list coded_ℕ) V.code };
 
-    ghost view = { λ table. map.from_entries (rows_of K.name table.rows.entries) };
+    ghost view = { λ table. map.from_entries (named_rows K.name table.rows.entries) };
 }
 
 impl<K: OrdKey, V> OrdMap<K, V> {
@@ -67,7 +67,7 @@ impl<K: OrdKey, V> OrdMap<K, V> {
     /// Returns the keys with their values, in the keys' order.
     #[tactic(auto, using(crate::proofs::Rows::entries_row))]
     pub fn iter(&self) -> Iter<'_, K, V>
-        ensures { rows_of K.name result ≡ map.entries self.now }
+        ensures { named_rows K.name result ≡ map.entries self.now }
     {
         self.rows.iter()
     }
