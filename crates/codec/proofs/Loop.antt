@@ -9,9 +9,9 @@ use Rattle.duty.specs.Plans.{Plan}
 use Rattle.duty.specs.Pairings.{pairing_fault}
 use Rattle.duty.specs.Words.{checked, each_next}
 use Rattle.duty.specs.declared.fault.DutyFault.{DutyFault}
-use Rattle.codec.specs.Grouping.{open_place, told, told_if_open, AreAt, AreGrouped, Adds, Extends, Grows, IsBegun, IsFirstUnmade, IsLonger, IsReading, IsSoFar, last_place, plans_of, told_all, told_open}
+use Rattle.codec.specs.Grouping.{open_place, told, told_if_open, AreAt, AreGrouped, Adds, Extends, AddsSegment, BeginsWithSegment, IsFirstUnmade, IsLonger, IsReading, IsSoFar, last_place, plans_of, told_all, told_open}
 use Rattle.codec.specs.Places.{first_misplaced, goes_on, may_begin, may_stand, standing}
-use Rattle.codec.specs.Schedule.{AreOf, IsPlanned, IsUnmade, differ, is_pairing, periods_segments, schedule_segments, shows}
+use Rattle.codec.specs.Schedule.{AreOf, IsAsPlanned, IsUnmade, differ, is_faultless_plan, periods_segments, schedule_segments, shows}
 use Rattle.codec.specs.declared.grouping.Draft.{Draft}
 use Rattle.codec.specs.declared.grouping.Grouping.{Grouping}
 use Rattle.codec.specs.declared.grouping.OpenPairing.{OpenPairing}
@@ -107,7 +107,7 @@ apart_behind it ts (Some o) is id none away apart =
     differ_behind ts (told_open o) is apart d
 
 -- those so far, and one that begins
-begun_grouped : (it : ScheduledSegment) (g : Grouping) (is : ℕ × Plan) → IsBegun (2 + length (schedule_segments (plans_of (told_all g)))) it is →
+begun_grouped : (it : ScheduledSegment) (g : Grouping) (is : ℕ × Plan) → BeginsWithSegment (2 + length (schedule_segments (plans_of (told_all g)))) it is →
     (last_place g ≡ None → told_all g ≡ []) → goes_on (last_place g) it.place ≡ false → length (told_all g) < 10_000 → AreGrouped (told_all g) → AreGrouped (told_all g ++ is ∷ [])
 begun_grouped it g is (first, id, only, shown_is) none away few (shown, apart, _, at) =
     let few_is : length (told_all g) + 1 ≤ 10_000 = omega (arith, few) in (
@@ -148,7 +148,7 @@ step_begun : (done : List ScheduledSegment) (it : ScheduledSegment) (old new : G
     goes_on (last_place old) it.place ≡ false → length (told_all old) < 10_000 → Adds (2 + length done) it (told_all old) (told_all new) →
     IsSoFar (done ++ it ∷ []) new × (length (told_all new) ≡ length (told_all old) + 1)
 step_begun done it old new (so_far, grouped, none) place away few (is, new_is, begun) =
-    let here : IsBegun (2 + length (schedule_segments (plans_of (told_all old)))) it is = subst (λ ss. IsBegun (2 + length ss) it is) (sym so_far) begun in
+    let here : BeginsWithSegment (2 + length (schedule_segments (plans_of (told_all old)))) it is = subst (λ ss. BeginsWithSegment (2 + length ss) it is) (sym so_far) begun in
     let segments : schedule_segments (plans_of (told_all new)) ≡ done ++ it ∷ [] =
     ap (λ ts. schedule_segments (plans_of ts)) new_is ∙ told_segments (told_all old) is
     ∙ (ap (λ t. schedule_segments (plans_of (told_all old)) ++ t) begun.2 ∙ ap (λ t. t ++ it ∷ []) so_far) in
@@ -160,7 +160,7 @@ next_number : (done : List ScheduledSegment) (it : ScheduledSegment) → 2 + len
 next_number done it = rw (length_behind done it) (omega arith)
 
 pub step : (segments done rest : List ScheduledSegment) (it : ScheduledSegment) (old new : Grouping) → IsReading segments done (it ∷ rest) old →
-    may_stand (length (told_all old), last_place old, it.place) ≡ true → last_place new ≡ Some it.place → Grows (2 + length done) it old new →
+    may_stand (length (told_all old), last_place old, it.place) ≡ true → last_place new ≡ Some it.place → AddsSegment (2 + length done) it old new →
     IsReading segments (done ++ it ∷ []) rest new
 step segments done rest it old new (joined, so_far, found) may place grows =
     let join : (done ++ it ∷ []) ++ rest ≡ segments = append_assoc done (it ∷ []) rest ∙ joined in
@@ -203,7 +203,7 @@ refused_plan : (fault : DutyFault) (p : Plan) (found : Option DutyFault) → Err
 refused_plan fault p None e is = none-some p (ap result_ok e)
 refused_plan fault p (Some other) e is = none-some {A = ℕ} 0 (ap (λ (b : Bool). if b then None else Some 0) (sym is))
 
-pub no_pairing : (fault : DutyFault) (p : Plan) → Err fault ≡ checked (pairing_fault p) p → is_pairing p ≢ true
+pub no_pairing : (fault : DutyFault) (p : Plan) → Err fault ≡ checked (pairing_fault p) p → is_faultless_plan p ≢ true
 no_pairing fault p e = refused_plan fault p (pairing_fault p) e
 
 -- ---- A pairing that begins behind others
@@ -215,12 +215,12 @@ pub stands_away : (begun count : ℕ) (before : Option Place) (here : Place) →
 stands_away begun count before here away e = rw (away, e) refl
 
 pub grows_away : (number : ℕ) (it : ScheduledSegment) (old new : Grouping) (tolds : List (ℕ × Plan)) → goes_on (last_place old) it.place ≡ false → tolds ≡ told_all old →
-    Adds number it tolds (told_all new) → Grows number it old new
+    Adds number it tolds (told_all new) → AddsSegment number it old new
 grows_away number it old new tolds away e adds = rw away (subst (λ (ts : List (ℕ × Plan)). Adds number it ts (told_all new)) e adds)
 
 pub told_closed : (ds : List Draft) (d : Draft) (t : ℕ × Plan) → told d ≡ t → map told (ds ++ d ∷ []) ≡ map told ds ++ t ∷ []
 told_closed ds d t e = map-append told ds (d ∷ []) ∙ ap (λ u. map told ds ++ u ∷ []) e
 
 pub are_of : (tolds : List (ℕ × Plan)) (segments : List ScheduledSegment) → schedule_segments (plans_of tolds) ≡ segments → AreGrouped tolds →
-    AllByRecursion IsPlanned (plans_of tolds) → AreOf (plans_of tolds) segments
+    AllByRecursion IsAsPlanned (plans_of tolds) → AreOf (plans_of tolds) segments
 are_of tolds segments e (shown, apart, few, at) planned = (e, shown, planned, apart, rw (length-map tolds (λ (t : ℕ × Plan). t.1)) few)

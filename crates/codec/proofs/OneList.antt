@@ -10,7 +10,7 @@ use Rattle.duty.specs.Plans.{Plan, as_planned}
 use Rattle.duty.specs.Words.{each_next}
 use Rattle.duty.specs.declared.fdp.Fdp.{Fdp}
 use Rattle.duty.specs.declared.segment.Segment.{Segment}
-use Rattle.codec.specs.Schedule.{IsPlanned, differ, period_segments, periods_segments, schedule_segments, shows}
+use Rattle.codec.specs.Schedule.{IsAsPlanned, differ, period_segments, periods_segments, schedule_segments, shows}
 use Rattle.codec.specs.declared.scheduled.Place.{Place}
 use Rattle.codec.specs.declared.scheduled.ScheduledSegment.{ScheduledSegment}
 use Rattle.codec.proofs.Fronts.{BeginsWithout, all_made, first_same, leads, rest_same, same_front}
@@ -147,7 +147,7 @@ no_pairing p ps shown e =
     let no : [] ≡ first.0 ∷ first.1 = e ∙ first.2 in
     cc
 
-pub one_list : (ps qs : List Plan) → list_all shows ps ≡ true → list_all shows qs ≡ true → AllByRecursion IsPlanned ps → AllByRecursion IsPlanned qs →
+pub one_list : (ps qs : List Plan) → list_all shows ps ≡ true → list_all shows qs ≡ true → AllByRecursion IsAsPlanned ps → AllByRecursion IsAsPlanned qs →
     each_next differ ps ≡ true → each_next differ qs ≡ true → schedule_segments ps ≡ schedule_segments qs → ps ≡ qs
 one_list [] [] _ _ _ _ _ _ e = refl
 one_list [] (q ∷ qs) _ shown _ _ _ _ e = absurd (no_pairing q qs (and_parts (shows q) _ shown).0 e)

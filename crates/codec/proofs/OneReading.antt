@@ -8,7 +8,7 @@ use Rattle.duty.specs.Plans.{Plan}
 use Rattle.codec.specs.Laws.{HasNoFault, HasOneFault, IsOfOneList}
 use Rattle.codec.specs.Places.{first_misplaced}
 use Rattle.codec.specs.Records.{first_unread, first_unread_after, read_record}
-use Rattle.codec.specs.Schedule.{AreOf, Holds, IsUnmade, IsUnread, is_pairing, schedule_segments}
+use Rattle.codec.specs.Schedule.{AreOf, IsHeaderWithSegments, IsUnmade, IsUnreadRecord, is_faultless_plan, schedule_segments}
 use Rattle.codec.specs.declared.scheduled.ScheduledSegment.{ScheduledSegment}
 use Rattle.codec.proofs.Fronts.{all_read, no_position, same_front}
 use Rattle.codec.proofs.OneList.{one_list}
@@ -23,7 +23,7 @@ one_plans segments others plans other same a b = one_list plans other a.1 b.1 a.
 pub is_of_one_list : IsOfOneList
 is_of_one_list text plans other a b = one_plans a.0 b.0 plans other (one_segments text a.0 b.0 a.1 b.1) a.2 b.2
 
-not_unread : (text : List ℕ) (segments : List ScheduledSegment) (n : ℕ) → Holds text segments → IsUnread text n → ⊥
+not_unread : (text : List ℕ) (segments : List ScheduledSegment) (n : ℕ) → IsHeaderWithSegments text segments → IsUnreadRecord text n → ⊥
 not_unread text segments n holds (inl long) = let short = holds.0.0 in let over = long.0 in omega (arith, short, over)
 not_unread text segments n holds (inr (inl marked)) = marked.1 holds.0.1
 not_unread text segments n holds (inr (inr unread)) =
@@ -33,11 +33,11 @@ not_unread text segments n holds (inr (inr unread)) =
     subst (λ (known : Bool). (if known then first_unread_after holds.1 else Some 1) ≡ None) (sym holds.4) read in
     none-some n (sym none ∙ ap first_unread same ∙ unread.3)
 
-not_unmade : (plans : List Plan) (n : ℕ) → list_all is_pairing plans ≡ true → IsUnmade plans n → ⊥
+not_unmade : (plans : List Plan) (n : ℕ) → list_all is_faultless_plan plans ≡ true → IsUnmade plans n → ⊥
 not_unmade plans n made unmade =
-    let all : list_all is_pairing (unmade.0 ++ unmade.2 ∷ unmade.1) ≡ true = ap (list_all is_pairing) (sym unmade.3) ∙ made in
-    let parts = and_parts (list_all is_pairing unmade.0) _ (sym (list_all-append is_pairing unmade.0 (unmade.2 ∷ unmade.1)) ∙ all) in
-    unmade.5 (and_parts (is_pairing unmade.2) _ parts.1).0
+    let all : list_all is_faultless_plan (unmade.0 ++ unmade.2 ∷ unmade.1) ≡ true = ap (list_all is_faultless_plan) (sym unmade.3) ∙ made in
+    let parts = and_parts (list_all is_faultless_plan unmade.0) _ (sym (list_all-append is_faultless_plan unmade.0 (unmade.2 ∷ unmade.1)) ∙ all) in
+    unmade.5 (and_parts (is_faultless_plan unmade.2) _ parts.1).0
 
 pub has_no_fault : HasNoFault
 has_no_fault text plans n read (inl unread) = not_unread text read.0 n read.1 unread
@@ -47,12 +47,12 @@ has_no_fault text plans n read (inr fault) =
       | inl misplaced ↦ none-some n (sym (ap first_misplaced (sym same) ∙ none_misplaced plans read.0 read.2) ∙ misplaced)
       | inr unmade ↦
           let plans_same = one_plans read.0 fault.0 plans unmade.1 same read.2 unmade.2 in
-          not_unmade unmade.1 n (ap (list_all is_pairing) (sym plans_same) ∙ read.3) unmade.3
+          not_unmade unmade.1 n (ap (list_all is_faultless_plan) (sym plans_same) ∙ read.3) unmade.3
     ]
 
 -- ---- The record at fault
 
-one_unread : (text : List ℕ) (n m : ℕ) → IsUnread text n → IsUnread text m → n ≡ m
+one_unread : (text : List ℕ) (n m : ℕ) → IsUnreadRecord text n → IsUnreadRecord text m → n ≡ m
 one_unread text n m (inl a) (inl b) = a.1 ∙ sym b.1
 one_unread text n m (inl a) (inr (inl b)) = let over = a.0 in let short = b.0 in absurd (omega (arith, over, short))
 one_unread text n m (inl a) (inr (inr b)) = let over = a.0 in let short = b.0.0 in absurd (omega (arith, over, short))
@@ -67,9 +67,9 @@ one_unread text n m (inr (inr a)) (inr (inr b)) =
 -- the pairings before the first that is none are the same
 one_unmade : (plans : List Plan) (n m : ℕ) → IsUnmade plans n → IsUnmade plans m → n ≡ m
 one_unmade plans n m a b =
-    let none_here = false_from_ne_true (is_pairing a.2) a.5 in
-    let none_there = false_from_ne_true (is_pairing b.2) b.5 in
-    let before = (same_front is_pairing a.0 (a.2 ∷ a.1) b.0 (b.2 ∷ b.1) a.4 b.4 none_here none_there (sym a.3 ∙ b.3)).0 in
+    let none_here = false_from_ne_true (is_faultless_plan a.2) a.5 in
+    let none_there = false_from_ne_true (is_faultless_plan b.2) b.5 in
+    let before = (same_front is_faultless_plan a.0 (a.2 ∷ a.1) b.0 (b.2 ∷ b.1) a.4 b.4 none_here none_there (sym a.3 ∙ b.3)).0 in
     a.6 ∙ ap (λ (ps : List Plan). 2 + length (schedule_segments ps)) before ∙ sym b.6
 
 pub has_one_fault : HasOneFault

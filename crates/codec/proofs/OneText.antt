@@ -7,7 +7,7 @@ use Rattle.csv.specs.declared.parser.Config.{Config}
 use Rattle.csv.specs.declared.parser.State.{State}
 use Rattle.csv.specs.declared.parser.State.TheVariants.{StartRecord}
 use Rattle.codec.specs.Records.{read_record}
-use Rattle.codec.specs.Schedule.{HasRecords, Holds}
+use Rattle.codec.specs.Schedule.{HasRecords, IsHeaderWithSegments}
 use Rattle.codec.specs.declared.scheduled.ScheduledSegment.{ScheduledSegment}
 use Rattle.codec.proofs.Fronts.{rest_same, same_values}
 
@@ -31,7 +31,7 @@ are_one config s text (r ∷ rs) (t ∷ ts) a b =
 pub one_records : (text : List ℕ) (records other : List (List (List ℕ))) → HasRecords text records → HasRecords text other → records ≡ other
 one_records text records other a b = are_one default_config StartRecord (strip_bom text) records other a b
 
-pub one_segments : (text : List ℕ) (segments other : List ScheduledSegment) → Holds text segments → Holds text other → segments ≡ other
+pub one_segments : (text : List ℕ) (segments other : List ScheduledSegment) → IsHeaderWithSegments text segments → IsHeaderWithSegments text other → segments ≡ other
 one_segments text segments other a b =
     let rows = rest_same a.2 b.2 a.1 b.1 (one_records text (a.2 ∷ a.1) (b.2 ∷ b.1) a.3 b.3) in
     same_values segments other (sym a.5 ∙ ap (map read_record) rows ∙ b.5)

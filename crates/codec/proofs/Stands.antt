@@ -10,7 +10,7 @@ use Rattle.duty.specs.Plans.{Plan}
 use Rattle.duty.specs.Words.{each_next}
 use Rattle.duty.specs.declared.fdp.Fdp.{Fdp}
 use Rattle.duty.specs.declared.segment.Segment.{Segment}
-use Rattle.codec.specs.Places.{continues, first_misplaced, goes_on, may_begin, may_stand, standing}
+use Rattle.codec.specs.Places.{is_same_or_next, first_misplaced, goes_on, may_begin, may_stand, standing}
 use Rattle.codec.specs.Schedule.{AreOf, differ, period_segments, periods_segments, schedule_segments, shows}
 use Rattle.codec.specs.declared.scheduled.Place.{Place}
 use Rattle.codec.specs.declared.scheduled.ScheduledSegment.{ScheduledSegment}
@@ -24,17 +24,17 @@ Stand begun before segments = list_all may_stand (standing begun before segments
 -- ---- One segment more at the front
 
 stands_on : (begun : ℕ) (before : Option Place) (s : ScheduledSegment) (rest : List ScheduledSegment) → goes_on before s.place ≡ true →
-    continues before s.place ≡ true → Stand begun (Some s.place) rest → Stand begun before (s ∷ rest)
+    is_same_or_next before s.place ≡ true → Stand begun (Some s.place) rest → Stand begun before (s ∷ rest)
 stands_on begun before s rest on continued stand = rw (on, continued) stand
 
 stands_first : (begun : ℕ) (before : Option Place) (s : ScheduledSegment) (rest : List ScheduledSegment) → goes_on before s.place ≡ false →
     may_begin begun s.place ≡ true → Stand (begun + 1) (Some s.place) rest → Stand begun before (s ∷ rest)
 stands_first begun before s rest away may stand = rw (away, may) stand
 
-continues_here : (here : Place) → continues (Some here) here ≡ true
+continues_here : (here : Place) → is_same_or_next (Some here) here ≡ true
 continues_here here = rw (same_number here.period, same_number here.report, same_number here.release) refl
 
-continues_next : (before here : Place) → here.period ≡ before.period + 1 → continues (Some before) here ≡ true
+continues_next : (before here : Place) → here.period ≡ before.period + 1 → is_same_or_next (Some before) here ≡ true
 continues_next before here number =
     let other : (here.period == before.period) ≡ false = false_from_ne_true (here.period == before.period)
     (λ e. let same = (Decides-eqb here.period before.period).0 e in omega (arith, same, number)) in

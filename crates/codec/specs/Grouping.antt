@@ -6,7 +6,7 @@ use Rattle.duty.specs.Words.{each_next}
 use Rattle.std.specs.Bool.{MatchBool}
 use Rattle.duty.specs.declared.fdp.Fdp.{Fdp}
 use Rattle.codec.specs.Places.{goes_on, may_stand, standing, first_misplaced}
-use Rattle.codec.specs.Schedule.{schedule_segments, periods_segments, shows, differ, is_pairing}
+use Rattle.codec.specs.Schedule.{schedule_segments, periods_segments, shows, differ, is_faultless_plan}
 use Rattle.codec.specs.declared.scheduled.Place.{Place}
 use Rattle.codec.specs.declared.scheduled.ScheduledSegment.{ScheduledSegment}
 use Rattle.codec.specs.declared.grouping.Draft.{Draft}
@@ -76,8 +76,8 @@ IsLonger it was is =
     × (shows was.1 ≡ true → shows is.1 ≡ true)
 
 -- the pairing begins at this record, and has this segment alone
-abbrev pub IsBegun : ℕ → ScheduledSegment → ℕ × Plan → Type 0
-IsBegun number it is =
+abbrev pub BeginsWithSegment : ℕ → ScheduledSegment → ℕ × Plan → Type 0
+BeginsWithSegment number it is =
     (is.0 ≡ number) × (is.1.id ≡ it.place.pairing) × (periods_segments is.1.id 1 is.1.periods ≡ it ∷ []) × (shows is.1 ≡ true)
 
 -- the last pairing has this segment more
@@ -87,11 +87,11 @@ Extends it old new =
 
 -- a pairing more begins at this record
 abbrev pub Adds : ℕ → ScheduledSegment → List (ℕ × Plan) → List (ℕ × Plan) → Type 0
-Adds number it old new = (is : ℕ × Plan) × (new ≡ old ++ is ∷ []) × IsBegun number it is
+Adds number it old new = (is : ℕ × Plan) × (new ≡ old ++ is ∷ []) × BeginsWithSegment number it is
 
 -- the segment goes on with the last pairing, or a pairing more begins with it
-abbrev pub Grows : ℕ → ScheduledSegment → Grouping → Grouping → Type 0
-Grows number it old new =
+abbrev pub AddsSegment : ℕ → ScheduledSegment → Grouping → Grouping → Type 0
+AddsSegment number it old new =
     MatchBool (goes_on (last_place old) it.place) (Extends it (told_all old) (told_all new)) (Adds number it (told_all old) (told_all new))
 
 -- of these segments, those that are grouped and those that follow
@@ -104,4 +104,4 @@ IsReading segments done rest g =
 abbrev pub IsFirstUnmade : List (ℕ × Plan) → ℕ → Type 0
 IsFirstUnmade tolds n =
     (before after : List (ℕ × Plan)) × (t : ℕ × Plan) × (tolds ≡ before ++ t ∷ after)
-    × (list_all is_pairing (plans_of before) ≡ true) × (is_pairing t.1 ≢ true) × (n ≡ t.0)
+    × (list_all is_faultless_plan (plans_of before) ≡ true) × (is_faultless_plan t.1 ≢ true) × (n ≡ t.0)

@@ -12,9 +12,9 @@ goes_on None here = false
 goes_on (Some before) here = bytes_eq before.pairing here.pairing
 
 -- in a pairing that goes on: the same period, with the same report and release, or the next one
-abbrev pub continues : Option Place → Place → Bool
-continues None here = false
-continues (Some before) here =
+abbrev pub is_same_or_next : Option Place → Place → Bool
+is_same_or_next None here = false
+is_same_or_next (Some before) here =
     if here.period == before.period then (here.report == before.report) && (here.release == before.release)
     else here.period == before.period + 1
 
@@ -24,7 +24,7 @@ may_begin begun here = (here.period == 1) && nat_lt begun 10_000
 
 -- whether a segment may stand here, where so many pairings began before it, and behind that place, if there is one
 abbrev pub may_stand : ℕ × Option Place × Place → Bool
-may_stand (begun, before, here) = if goes_on before here then continues before here else may_begin begun here
+may_stand (begun, before, here) = if goes_on before here then is_same_or_next before here else may_begin begun here
 
 -- each place, behind how many pairings have begun before it and the place before it
 abbrev pub standing : ℕ → Option Place → List ScheduledSegment → List (ℕ × Option Place × Place)

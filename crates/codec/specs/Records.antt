@@ -33,8 +33,8 @@ abbrev pub read_text : (List ℕ → Bool) → List ℕ → Option (List ℕ)
 read_text has_shape field = if has_shape field then Some field else None
 
 -- an instant, in either of its written forms
-abbrev pub read_time : List ℕ → Option ℕ
-read_time field = result_ok (read_instant field)
+abbrev pub read_time_field : List ℕ → Option ℕ
+read_time_field field = result_ok (read_instant field)
 
 -- the numbers that a period may have in its pairing, as they are written
 abbrev pub period_numbers : List (List ℕ × ℕ)
@@ -42,8 +42,8 @@ period_numbers = (codes "1", 1) ∷ (codes "2", 2) ∷ (codes "3", 3) ∷ (codes
     ∷ (codes "7", 7) ∷ (codes "8", 8) ∷ (codes "9", 9) ∷ (codes "10", 10) ∷ []
 
 -- the number of a period, from 1 to 10, without a leading zero
-abbrev pub read_period : List ℕ → Option ℕ
-read_period field = option_map (λ it. it.1) (find (λ it. bytes_eq field it.0) period_numbers)
+abbrev pub read_period_field : List ℕ → Option ℕ
+read_period_field field = option_map (λ it. it.1) (find (λ it. bytes_eq field it.0) period_numbers)
 
 -- what follows from a field that is read
 abbrev pub with_field : {A B : Type 0} → Option A → (A → Option B) → Option B
@@ -51,26 +51,26 @@ with_field None next = None
 with_field (Some field) next = next field
 
 -- the field at a place, counted from 0, which has to be UTF-8
-abbrev pub at : {A : Type 0} → ℕ → (List ℕ → Option A) → List (List ℕ) → Option A
-at place reads fields = with_field (field_at fields place) (λ field. if is_utf8 field then reads field else None)
+abbrev pub read_field_at : {A : Type 0} → ℕ → (List ℕ → Option A) → List (List ℕ) → Option A
+read_field_at place reads fields = with_field (field_at fields place) (λ field. if is_utf8 field then reads field else None)
 
 -- where a segment stands: the first four fields
 abbrev pub read_place : List (List ℕ) → Option Place
 read_place fields =
-    with_field (at 0 (read_text is_id) fields) (λ pairing.
-    with_field (at 1 read_period fields) (λ period.
-    with_field (at 2 read_time fields) (λ report.
-    with_field (at 3 read_time fields) (λ release.
+    with_field (read_field_at 0 (read_text is_id) fields) (λ pairing.
+    with_field (read_field_at 1 read_period_field fields) (λ period.
+    with_field (read_field_at 2 read_time_field fields) (λ report.
+    with_field (read_field_at 3 read_time_field fields) (λ release.
     Some (record { pairing = pairing; period = period; report = report; release = release })))))
 
 -- a segment: the last five fields
-abbrev pub read_segment : List (List ℕ) → Option Segment
-read_segment fields =
-    with_field (at 4 (read_text is_flight) fields) (λ flight.
-    with_field (at 5 (read_text is_airport) fields) (λ origin.
-    with_field (at 6 read_time fields) (λ block_out.
-    with_field (at 7 (read_text is_airport) fields) (λ destination.
-    with_field (at 8 read_time fields) (λ block_in.
+abbrev pub read_segment_fields : List (List ℕ) → Option Segment
+read_segment_fields fields =
+    with_field (read_field_at 4 (read_text is_flight) fields) (λ flight.
+    with_field (read_field_at 5 (read_text is_airport) fields) (λ origin.
+    with_field (read_field_at 6 read_time_field fields) (λ block_out.
+    with_field (read_field_at 7 (read_text is_airport) fields) (λ destination.
+    with_field (read_field_at 8 read_time_field fields) (λ block_in.
     Some (record { flight = flight; from = origin; block_out = block_out; to = destination; block_in = block_in }))))))
 
 -- a record of nine fields, each of which is read
@@ -78,7 +78,7 @@ abbrev pub read_record : List (List ℕ) → Option ScheduledSegment
 read_record fields =
     if length fields == 9 then
     with_field (read_place fields) (λ place.
-    with_field (read_segment fields) (λ segment.
+    with_field (read_segment_fields fields) (λ segment.
     Some (record { place = place; segment = segment })))
     else None
 

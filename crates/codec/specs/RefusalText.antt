@@ -16,29 +16,29 @@ use Rattle.stored_json.specs.declared.fault.CodecFault.{CodecFault}
 use Rattle.stored_json.specs.declared.fault.CodecFault.TheVariants.{BadJson, BadCsv, Duty, Memory}
 
 -- the members that come last
-abbrev pub refused : ℕ → List (List ℕ × Data)
-refused n = (codes "refusal", number (unsigned n)) ∷ (codes "result", string (codes "refused")) ∷ []
+abbrev pub refused_members : ℕ → List (List ℕ × Data)
+refused_members n = (codes "refusal", number (unsigned n)) ∷ (codes "result", string (codes "refused")) ∷ []
 
 -- a refusal of a number and a name alone
 abbrev pub plain_refusal : ℕ → List ℕ → Data
-plain_refusal n name = object_of ((codes "name", string name) ∷ refused n)
+plain_refusal n name = object_of ((codes "name", string name) ∷ refused_members n)
 
 -- one that tells a period
 abbrev pub period_refusal : ℕ → List ℕ → ℕ → Data
-period_refusal n name period = object_of ((codes "name", string name) ∷ (codes "period", number (unsigned period)) ∷ refused n)
+period_refusal n name period = object_of ((codes "name", string name) ∷ (codes "period", number (unsigned period)) ∷ refused_members n)
 
 -- one that tells a field
 abbrev pub field_refusal : ℕ → List ℕ → List ℕ → Data
-field_refusal n name field = object_of ((codes "field", string field) ∷ (codes "name", string name) ∷ refused n)
+field_refusal n name field = object_of ((codes "field", string field) ∷ (codes "name", string name) ∷ refused_members n)
 
 -- one that tells a line of a schedule
 abbrev pub line_refusal : ℕ → List ℕ → ℕ → Data
-line_refusal n name line = object_of ((codes "line", number (unsigned line)) ∷ (codes "name", string name) ∷ refused n)
+line_refusal n name line = object_of ((codes "line", number (unsigned line)) ∷ (codes "name", string name) ∷ refused_members n)
 
 -- one that tells the limits that are broken
 abbrev pub limits_refusal : ℕ → List ℕ → List Exceedance → Data
 limits_refusal n name broken =
-    object_of ((codes "limits", array_of (map exceedance_json broken)) ∷ (codes "name", string name) ∷ refused n)
+    object_of ((codes "limits", array_of (map exceedance_json broken)) ∷ (codes "name", string name) ∷ refused_members n)
 
 -- a refusal of the book
 abbrev pub refusal_json : Refusal → Data
@@ -48,8 +48,8 @@ refusal_json (SegmentCount period) =
 refusal_json refusal = plain_refusal (refusal_number refusal) (refusal_name refusal)
 
 -- the compact text of a refusal of the book
-unfoldable pub refusal_text : Refusal → List ℕ
-refusal_text refusal = compact_text (refusal_json refusal)
+unfoldable pub refusal_json_text : Refusal → List ℕ
+refusal_json_text refusal = compact_text (refusal_json refusal)
 
 -- the fault of a pairing, a ground duty or an actual
 abbrev pub duty_fault_json : DutyFault → Data

@@ -41,13 +41,13 @@ abbrev pub differ : Plan → Plan → Bool
 differ p q = not (bytes_eq p.id q.id)
 
 -- each of its periods is planned at its report: a schedule tells of no other
-abbrev pub IsPlanned : Plan → Type 0
-IsPlanned p = map as_planned p.periods ≡ p.periods
+abbrev pub IsAsPlanned : Plan → Type 0
+IsAsPlanned p = map as_planned p.periods ≡ p.periods
 
 -- these segments are those of these pairings, one after the other, and of no others
 abbrev pub AreOf : List Plan → List ScheduledSegment → Type 0
 AreOf plans segments =
-    (schedule_segments plans ≡ segments) × (list_all shows plans ≡ true) × AllByRecursion IsPlanned plans
+    (schedule_segments plans ≡ segments) × (list_all shows plans ≡ true) × AllByRecursion IsAsPlanned plans
     × (each_next differ plans ≡ true) × (length plans ≤ 10_000)
 
 -- these are the records of a text, one byte order mark at its start aside
@@ -59,25 +59,25 @@ abbrev pub IsText : List ℕ → Type 0
 IsText text = (length text ≤ most_bytes) × (strip_bom (strip_bom text) ≡ strip_bom text)
 
 -- a text that is the header and then these segments, a record each
-abbrev pub Holds : List ℕ → List ScheduledSegment → Type 0
-Holds text segments =
+abbrev pub IsHeaderWithSegments : List ℕ → List ScheduledSegment → Type 0
+IsHeaderWithSegments text segments =
     IsText text × (records : List (List (List ℕ))) × (names : List (List ℕ)) × HasRecords text (names ∷ records) × (is_header names ≡ true)
     × (map read_record records ≡ map Some segments)
 
 -- a plan that has no fault
-abbrev pub is_pairing : Plan → Bool
-is_pairing p = not (is_some (pairing_fault p))
+abbrev pub is_faultless_plan : Plan → Bool
+is_faultless_plan p = not (is_some (pairing_fault p))
 
 -- a text that is a schedule of these pairings
 abbrev pub IsSchedule : List ℕ → List Plan → Type 0
 IsSchedule text plans =
-    (segments : List ScheduledSegment) × Holds text segments × AreOf plans segments × (list_all is_pairing plans ≡ true)
+    (segments : List ScheduledSegment) × IsHeaderWithSegments text segments × AreOf plans segments × (list_all is_faultless_plan plans ≡ true)
 
 -- ---- The record at fault
 
 -- the text as a whole (record 0), a second byte order mark (record 1), or the first record that isn't read
-abbrev pub IsUnread : List ℕ → ℕ → Type 0
-IsUnread text n =
+abbrev pub IsUnreadRecord : List ℕ → ℕ → Type 0
+IsUnreadRecord text n =
     ((most_bytes < length text) × (n ≡ 0))
     ⊎ ((length text ≤ most_bytes) × (strip_bom (strip_bom text) ≢ strip_bom text) × (n ≡ 1))
     ⊎ (IsText text × (records : List (List (List ℕ))) × HasRecords text records × (first_unread records ≡ Some n))
@@ -86,12 +86,12 @@ IsUnread text n =
 abbrev pub IsUnmade : List Plan → ℕ → Type 0
 IsUnmade plans n =
     (before after : List Plan) × (p : Plan) × (plans ≡ before ++ p ∷ after)
-    × (list_all is_pairing before ≡ true) × (is_pairing p ≢ true) × (n ≡ 2 + length (schedule_segments before))
+    × (list_all is_faultless_plan before ≡ true) × (is_faultless_plan p ≢ true) × (n ≡ 2 + length (schedule_segments before))
 
 -- the record of the first pass that finds one at fault: what isn't read, what may not stand where it does, what is no pairing
 abbrev pub IsAtFault : List ℕ → ℕ → Type 0
 IsAtFault text n =
-    IsUnread text n
-    ⊎ ((segments : List ScheduledSegment) × Holds text segments
+    IsUnreadRecord text n
+    ⊎ ((segments : List ScheduledSegment) × IsHeaderWithSegments text segments
     × ((first_misplaced segments ≡ Some n)
     ⊎ ((first_misplaced segments ≡ None) × (plans : List Plan) × AreOf plans segments × IsUnmade plans n)))

@@ -77,9 +77,10 @@ fn read_place(alloc: Global, row: &ByteRecord) -> Result<Place, Unread>
 
 /// Reads the segment of a record.
 fn read_segment(alloc: Global, row: &ByteRecord) -> Result<Segment, Unread>
-    ensures read { IfOk result (λ segment. spec.read_segment (fields_of row.now) ≡ Some segment) }
+    ensures read { IfOk result
+        (λ segment. spec.read_segment_fields (fields_of row.now) ≡ Some segment) }
     ensures refused { IfErr result
-        (λ unread. (unread ≡ Memory) ⊎ (spec.read_segment (fields_of row.now) ≡ None)) }
+        (λ unread. (unread ≡ Memory) ⊎ (spec.read_segment_fields (fields_of row.now) ≡ None)) }
 {
     let block_out = time_at(row, 6)?;
     let block_in = time_at(row, 8)?;
@@ -110,9 +111,10 @@ fn field(row: &ByteRecord, place: usize) -> Result<&str, Unread>
 /// Reads the id, flight or airport in the field at a place.
 fn id_at<T: Shaped>(alloc: Global, row: &ByteRecord, place: usize) -> Result<Id<T>, Unread>
     ensures read { IfOk result
-        (λ id. spec.at place (spec.read_text T.has_shape) (fields_of row.now) ≡ Some id) }
+        (λ id. spec.read_field_at place (spec.read_text T.has_shape) (fields_of row.now)
+        ≡ Some id) }
     ensures refused { IfErr result (λ unread. (unread ≡ Memory)
-        ⊎ (spec.at place (spec.read_text T.has_shape) (fields_of row.now) ≡ None)) }
+        ⊎ (spec.read_field_at place (spec.read_text T.has_shape) (fields_of row.now) ≡ None)) }
 {
     read_id(alloc, field(row, place)?)
 }
@@ -120,8 +122,10 @@ fn id_at<T: Shaped>(alloc: Global, row: &ByteRecord, place: usize) -> Result<Id<
 /// Reads the instant in the field at a place.
 fn time_at(row: &ByteRecord, place: usize) -> Result<Minute, Unread>
     ensures read { IfOk result
-        (λ minute. spec.at place spec.read_time (fields_of row.now) ≡ Some minute) }
-    ensures refused { IfErr result (λ _. spec.at place spec.read_time (fields_of row.now) ≡ None) }
+        (λ minute. spec.read_field_at place spec.read_time_field (fields_of row.now)
+        ≡ Some minute) }
+    ensures refused { IfErr result
+        (λ _. spec.read_field_at place spec.read_time_field (fields_of row.now) ≡ None) }
 {
     read_time(field(row, place)?)
 }
@@ -129,9 +133,10 @@ fn time_at(row: &ByteRecord, place: usize) -> Result<Minute, Unread>
 /// Reads the number of a period in the field at a place.
 fn period_at(row: &ByteRecord, place: usize) -> Result<usize, Unread>
     ensures read { IfOk result
-        (λ period. spec.at place spec.read_period (fields_of row.now) ≡ Some period) }
+        (λ period. spec.read_field_at place spec.read_period_field (fields_of row.now)
+        ≡ Some period) }
     ensures refused { IfErr result
-        (λ _. spec.at place spec.read_period (fields_of row.now) ≡ None) }
+        (λ _. spec.read_field_at place spec.read_period_field (fields_of row.now) ≡ None) }
 {
     read_period(field(row, place)?)
 }
@@ -150,16 +155,16 @@ fn read_id<T: Shaped>(alloc: Global, text: &str) -> Result<Id<T>, Unread>
 }
 
 fn read_time(text: &str) -> Result<Minute, Unread>
-    ensures read { IfOk result (λ minute. spec.read_time text.now ≡ Some minute) }
-    ensures refused { IfErr result (λ _. spec.read_time text.now ≡ None) }
+    ensures read { IfOk result (λ minute. spec.read_time_field text.now ≡ Some minute) }
+    ensures refused { IfErr result (λ _. spec.read_time_field text.now ≡ None) }
 {
     Minute::read(text.as_bytes()).or(Err(Unread::Refused))
 }
 
 /// Reads the number of a period.
 fn read_period(text: &str) -> Result<usize, Unread>
-    ensures read { IfOk result (λ period. spec.read_period text.now ≡ Some period) }
-    ensures refused { IfErr result (λ _. spec.read_period text.now ≡ None) }
+    ensures read { IfOk result (λ period. spec.read_period_field text.now ≡ Some period) }
+    ensures refused { IfErr result (λ _. spec.read_period_field text.now ≡ None) }
 {
     match text {
         "1" => Ok(1),

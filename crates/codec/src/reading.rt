@@ -6,7 +6,7 @@ ghost use Rattle.csv.specs.Reading.{AreRecords, default_config, strip_bom};
 ghost use Rattle.csv.specs.Records.{fields_of};
 ghost use Rattle.csv.specs.declared.parser.State.TheVariants.{StartRecord};
 ghost use Rattle.codec.specs.Records as spec;
-ghost use Rattle.codec.specs.Schedule.{IsAtFault, IsSchedule, IsText, IsUnread};
+ghost use Rattle.codec.specs.Schedule.{IsAtFault, IsSchedule, IsText, IsUnreadRecord};
 ghost use Rattle.codec.specs.declared.fault.ScheduleFault.TheVariants.{Memory, Record};
 
 use crate::MOST_BYTES;
@@ -35,7 +35,8 @@ fn without_mark(text: &[u8]) -> &[u8]
 #[tactic(auto, using(crate::proofs::Marks::strip_as_long))]
 fn unmarked(text: &[u8]) -> Result<&[u8], ScheduleFault>
     ensures text { IfOk result (λ rest. (rest.now ≡ strip_bom text.now) × IsText text.now) }
-    ensures refused { IfErr result (λ fault. (n : ℕ) × (fault ≡ Record n) × IsUnread text.now n) }
+    ensures refused { IfErr result
+        (λ fault. (n : ℕ) × (fault ≡ Record n) × IsUnreadRecord text.now n) }
 {
     if text.len() > MOST_BYTES {
         return Err(ScheduleFault::Record(0));

@@ -13,9 +13,9 @@ use values::MemoryFault;
 
 /// Writes a refusal of the book in JSON, as `{"name":"SeatTaken","refusal":6,"result":"refused"}`: that of 12 with its
 /// list `limits`, each as `{"crew":"C1","section":"117.13(a)"}`, and that of 19 with its `period`.
-#[tactic(auto, unfolding(crate::specs::RefusalText::refusal_text), using(crate::proofs::RefusalLemmas::refusal_no_float))]
+#[tactic(auto, unfolding(crate::specs::RefusalText::refusal_json_text), using(crate::proofs::RefusalLemmas::refusal_no_float))]
 pub fn refusal_to_json(alloc: Global, refusal: &Refusal) -> Result<String, MemoryFault>
-    ensures { IfOk result (λ text. string_bytes text ≡ spec.refusal_text refusal.now) }
+    ensures { IfOk result (λ text. string_bytes text ≡ spec.refusal_json_text refusal.now) }
 {
     let value = refusal_value(alloc, refusal)?;
     Ok(value.to_string(alloc)?)

@@ -1,6 +1,6 @@
 -- How the refusal to load a book is printed.
 use Rattle.std.specs.Prelude.{ℕ, List, ◌++◌, codes}
-use Rattle.state_rows.specs.Faults.{fault_text}
+use Rattle.state_rows.specs.Faults.{store_fault_text}
 use Rattle.loading.specs.declared.fault.LoadFault.{LoadFault}
 use Rattle.loading.specs.declared.fault.LoadFault.TheVariants as load
 use Rattle.loading.specs.declared.fault.TableName.{TableName}
@@ -23,4 +23,4 @@ abbrev pub load_text : LoadFault → List ℕ
 load_text load.NotABook = codes "40 NotABook"
 load_text (load.Damaged it) = codes "41 Damaged " ++ name_text it
 load_text load.Version = codes "42 Version"
-load_text (load.Fault fault) = fault_text fault
+load_text (load.Fault fault) = store_fault_text fault

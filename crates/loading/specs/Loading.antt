@@ -33,7 +33,7 @@ use Rattle.loading.specs.declared.fault.LoadFault.{LoadFault}
 use Rattle.loading.specs.declared.fault.LoadFault.TheVariants.{NotABook, Damaged, Version, Fault}
 use Rattle.loading.specs.declared.fault.TableName as name
 use Rattle.loading.specs.declared.fault.TableName.TheVariants as table_name
-use Rattle.state_rows.specs.Rows.{TableName, book, crew, pairing, period, segment, seat, ground_duty, exceedance, request, table, In, InPeriod, HasJust}
+use Rattle.state_rows.specs.Rows.{TableName, book, crew, pairing, period, segment, seat, ground_duty, exceedance, request, table, InTable, InPeriod, HasJust}
 
 -- ---- What the values of a table are
 
@@ -155,7 +155,7 @@ AreRequests s = ((name : List ℕ) (r : LoggedCommand) → fin.get s.requests na
 
 -- the table is there as its text declares it, with just the rows of the state
 abbrev pub Kept : TableName → State → Database → Type 0
-Kept name s db = IsOfBook (table name) db.schema × HasJust (table name) db (In s name)
+Kept name s db = IsOfBook (table name) db.schema × HasJust (table name) db (InTable s name)
 
 -- Down to each table in turn: those above are right, and so is it, with the rows of this state.
 abbrev pub IsBookRight : State → Database → Type 0

@@ -7,7 +7,7 @@ use Rattle.stored_json.specs.Instants.{instruction_has_instants}
 use Rattle.roster.specs.Sound.{Sound}
 use Rattle.roster.specs.State.{State}
 use Rattle.roster.specs.declared.state.LoggedCommand.{LoggedCommand}
-use Rattle.state_rows.specs.Rows.{Rows, TableName, In}
+use Rattle.state_rows.specs.Rows.{Rows, TableName, InTable}
 
 -- the instants of kept commands are of the years 2000 to 2099, as the type of an instant sees to
 abbrev pub HasInstants : State → Type 0
@@ -15,7 +15,7 @@ HasInstants s = (name : List ℕ) (r : LoggedCommand) → fin.get s.requests nam
 
 -- two states have the same rows in each table
 abbrev pub SameRows : State → State → Type 0
-SameRows s t = (name : TableName) (row : Row) → In s name row ↔ In t name row
+SameRows s t = (name : TableName) (row : Row) → InTable s name row ↔ InTable t name row
 
 -- sound states with the same rows are equal
 abbrev pub RowsSayAll : Type 0

@@ -78,10 +78,10 @@ impl std::error::Error for LoadFault {}
 
 impl From<TableFault> for LoadFault {
     ghost use Rattle.std.specs.Prelude.{◌≡◌};
-    ghost use Rattle.state_rows.specs.Faults.{fault_of};
+    ghost use Rattle.state_rows.specs.Faults.{store_fault_of};
     ghost use Rattle.loading.specs.declared.fault.LoadFault.TheVariants.{Fault};
 
-    ghost from_gives = { λ fault given. given ≡ Fault (fault_of fault) };
+    ghost from_gives = { λ fault given. given ≡ Fault (store_fault_of fault) };
 
     fn from(fault: TableFault) -> LoadFault {
         LoadFault::Fault(StoreFault::from(fault))

@@ -11,7 +11,7 @@ use Rattle.roster.specs.Folds.{answer_of, next}
 use Rattle.roster.specs.State.{State}
 use Rattle.roster.specs.Steps.{step_of}
 use Rattle.codec.specs.RefusalText as json
-use Rattle.stored_json.specs.Texts.{fault_text}
+use Rattle.stored_json.specs.Texts.{codec_fault_text}
 use Rattle.stored_json.specs.declared.fault.CodecFault.{CodecFault}
 use Rattle.stored_json.specs.declared.fault.CodecFault.TheVariants.{BadCsv}
 use Rattle.book.specs.Kept.{IsDurablyAt, IsClean, Kept}
@@ -57,11 +57,11 @@ pub schedule_added : {S : Type 0} (g : Ghosts S) (old new : Kept S) (number : �
 schedule_added g old new number held out out' err status text plans read is added = record { text = text; read = read; done = inr (plans, is, added, refl) }
 
 pub schedule_refused : {S : Type 0} (g : Ghosts S) (book : Kept S) (number : ℕ) (held out err err' : Held) (text : List ℕ) (fault : CodecFault) (line : ℕ) →
-    Reads held text → fault ≡ BadCsv line → IsAtFault text line → Appends err err' (refused (fault_text fault)) → IsImported g book book number held out out err err' Refused
+    Reads held text → fault ≡ BadCsv line → IsAtFault text line → Appends err err' (refused (codec_fault_text fault)) → IsImported g book book number held out out err err' Refused
 schedule_refused g book number held out err err' text fault line read is at_fault told = record {
   text = text;
   read = read;
-  done = inl (record { line = line; at_fault = at_fault; ends = refl; prints = refl; complains = subst (λ f. Appends err err' (refused (fault_text f))) is told }, refl);
+  done = inl (record { line = line; at_fault = at_fault; ends = refl; prints = refl; complains = subst (λ f. Appends err err' (refused (codec_fault_text f))) is told }, refl);
 }
 
 pub imported_told : {S : Type 0} (g : Ghosts S) (old new : Kept S) (number : ℕ) (held out out' err err' : Held) (status : Status) →

@@ -70,7 +70,7 @@ Request = Result (ℕ × Instruction) CodecFault
 -- the text of an answer
 abbrev pub answer_json : Answered → List ℕ
 answer_json (Ok reply) = reply_text reply
-answer_json (Err refusal) = json.refusal_text refusal
+answer_json (Err refusal) = json.refusal_json_text refusal
 
 -- one that is not read is told so, and another its answer
 abbrev pub told_json : Request → Answered → Status × List ℕ

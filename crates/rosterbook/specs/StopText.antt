@@ -8,7 +8,7 @@ use Rattle.rosterbook.specs.declared.stop.Stop.TheVariants.{Load, Book, Memory, 
 -- what stops the program as it is printed
 abbrev pub stop_text : Stop → List ℕ
 stop_text (Load fault) = load_text fault
-stop_text (Book fault) = rows.fault_text fault
+stop_text (Book fault) = rows.store_fault_text fault
 stop_text Memory = codes "91 Memory"
 stop_text Channel = codes "92 Channel"
 stop_text Network = codes "93 Network"

@@ -6,11 +6,11 @@ use Rattle.state_rows.specs.declared.fault.StoreFault.{StoreFault}
 use Rattle.state_rows.specs.declared.fault.StoreFault.TheVariants.{Store, Memory}
 
 -- want of memory is 91, and every other fault is 90
-abbrev pub fault_of : TableFault → StoreFault
-fault_of table.Memory = Memory
-fault_of _ = Store
+abbrev pub store_fault_of : TableFault → StoreFault
+store_fault_of table.Memory = Memory
+store_fault_of _ = Store
 
 -- a fault as it is printed
-abbrev pub fault_text : StoreFault → List ℕ
-fault_text Store = codes "90 Store"
-fault_text Memory = codes "91 Memory"
+abbrev pub store_fault_text : StoreFault → List ℕ
+store_fault_text Store = codes "90 Store"
+store_fault_text Memory = codes "91 Memory"

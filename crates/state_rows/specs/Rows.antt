@@ -213,16 +213,16 @@ table exceedance = exceedance_table
 table request = request_table
 
 -- the rows of a state in a table
-abbrev pub In : State → TableName → Row → Type 0
-In s book = InBook s
-In s crew = InCrew s
-In s pairing = InPairing s
-In s period = InPeriod s
-In s segment = InSegment s
-In s seat = InSeat s
-In s ground_duty = InGround s
-In s exceedance = InExceedance s
-In s request = InRequest s
+abbrev pub InTable : State → TableName → Row → Type 0
+InTable s book = InBook s
+InTable s crew = InCrew s
+InTable s pairing = InPairing s
+InTable s period = InPeriod s
+InTable s segment = InSegment s
+InTable s seat = InSeat s
+InTable s ground_duty = InGround s
+InTable s exceedance = InExceedance s
+InTable s request = InRequest s
 
 -- the database has just these rows in a table
 abbrev pub HasJust : BookTable → Database → (Row → Type 0) → Type 0
@@ -230,4 +230,4 @@ HasJust kept db Is = (row : Row) → Has (rows_of kept db) row ↔ Is row
 
 -- each table has just the rows of the state
 abbrev pub Rows : State → Database → Type 0
-Rows s db = (name : TableName) → HasJust (table name) db (In s name)
+Rows s db = (name : TableName) → HasJust (table name) db (InTable s name)

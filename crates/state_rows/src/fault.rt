@@ -16,9 +16,9 @@ pub enum StoreFault {
 
 impl fmt::Display for StoreFault {
     ghost use Rattle.std.specs.Prelude.{Some};
-    ghost use Rattle.state_rows.specs.Faults.{fault_text};
+    ghost use Rattle.state_rows.specs.Faults.{store_fault_text};
 
-    ghost output = { λ fault. Some (fault_text fault) };
+    ghost output = { λ fault. Some (store_fault_text fault) };
 
     fn fmt<W: fmt::Write>(&self, f: &mut fmt::Formatter<W>) -> fmt::Result {
         f.write_str(match self {
@@ -32,9 +32,9 @@ impl std::error::Error for StoreFault {}
 
 impl From<TableFault> for StoreFault {
     ghost use Rattle.std.specs.Prelude.{◌≡◌};
-    ghost use Rattle.state_rows.specs.Faults.{fault_of};
+    ghost use Rattle.state_rows.specs.Faults.{store_fault_of};
 
-    ghost from_gives = { λ fault given. given ≡ fault_of fault };
+    ghost from_gives = { λ fault given. given ≡ store_fault_of fault };
 
     fn from(fault: TableFault) -> StoreFault {
         match fault {

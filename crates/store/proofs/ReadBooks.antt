@@ -3,7 +3,7 @@ use Rattle.sqlite.specs.Effect.{Database, IsDatabase}
 use Rattle.roster.specs.State.{State}
 use Rattle.tables.specs.Rows.{IsStored}
 use Rattle.loading.specs.Reading.{AgreesThrough}
-use Rattle.state_rows.specs.Rows.{table, HasJust, In, book, crew, pairing, period, segment, seat, ground_duty, exceedance, request}
+use Rattle.state_rows.specs.Rows.{table, HasJust, InTable, book, crew, pairing, period, segment, seat, ground_duty, exceedance, request}
 use Rattle.writing.specs.Kept.{IsBookOf}
 
 -- read whole, with the trees that list the schema, it is the book of the state
@@ -33,7 +33,7 @@ read_book_of s db database read =
         | exceedance ↦ stored.1.0
         | request ↦ stored.0
       ];
-      rows = λ name. elim name as (λ n. HasJust (table n) db (In s n)) [
+      rows = λ name. elim name as (λ n. HasJust (table n) db (InTable s n)) [
         | book ↦ bk.0.1
         | crew ↦ cr.1.1
         | pairing ↦ pa.1.1

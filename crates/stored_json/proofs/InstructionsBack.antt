@@ -17,7 +17,7 @@ use Rattle.command.specs.declared.member.Seat.{Seat}
 use Rattle.command.specs.declared.member.Seat.TheVariants.{Captain, FirstOfficer}
 use Rattle.command.specs.declared.instruction.Instruction.{Instruction}
 use Rattle.command.specs.declared.instruction.Instruction.TheVariants.{AddCrew, AddPairing, CancelPairing, Assign, Release, Swap, AddGround, CancelGround, Actual}
-use Rattle.stored_json.specs.CommandJson.{and_then, field_of, judged, read_members, read_instruction, read_kept, read_object}
+use Rattle.stored_json.specs.CommandJson.{and_then, field_of, made_command, read_members, read_instruction, read_kept, read_object}
 use Rattle.stored_json.specs.Instants.{is_instant, period_has_instants, segment_has_instants, times_have_instants, instruction_has_instants}
 use Rattle.stored_json.specs.Laws.{KeptTextsDiffer}
 use Rattle.stored_json.specs.KeptText.{period_json, segment_json, times_json, instruction_json, kept_text}
@@ -107,7 +107,7 @@ instruction_kept (CancelGround id) typed = record { same = refl; numbers = searc
 pub instruction_no_float : (o : Instruction) → IsMade o → has_float (instruction_json o) ≡ false
 instruction_no_float o made = (instruction_kept o made.1).no_float
 
-judged_made : (o : Instruction) → instruction_fault o ≡ None → judged o ≡ Ok o
+judged_made : (o : Instruction) → instruction_fault o ≡ None → made_command o ≡ Ok o
 judged_made o h = rw h refl
 
 is_object : (o : Instruction) → is_some (as_object (instruction_json o)) ≡ true
@@ -128,7 +128,7 @@ object_read o typed = rw (read_compact (instruction_json o) (instruction_kept o 
 instruction_read : (o : Instruction) → IsMade o → instruction_has_instants o ≡ true → read_instruction (instruction_json o) ≡ Ok o
 unfolding read_instruction
 instruction_read o made h =
-    ap (λ (r : Result Instruction CodecFault). and_then r judged) (instruction_back o made.1 h) ∙ judged_made o made.0
+    ap (λ (r : Result Instruction CodecFault). and_then r made_command) (instruction_back o made.1 h) ∙ judged_made o made.0
 
 -- the text of a command whose instants are of 2000 to 2099
 pub kept_back : (o : Instruction) → IsMade o → instruction_has_instants o ≡ true → read_kept (kept_text o) ≡ Ok o

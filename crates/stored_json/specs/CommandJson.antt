@@ -11,7 +11,7 @@ use Rattle.command.specs.Instructions.{instruction_fault}
 use Rattle.command.specs.declared.instruction.Instruction.{Instruction}
 use Rattle.command.specs.declared.instruction.Instruction.TheVariants as instruction
 use Rattle.stored_json.specs.Fields.{field_name}
-use Rattle.stored_json.specs.Parts.{part_of, read_list, read_time, read_times, read_seat, read_verb, read_period, read_period_number}
+use Rattle.stored_json.specs.Parts.{read_named_part, read_list, read_time, read_times, read_seat, read_verb, read_period, read_period_number}
 use Rattle.stored_json.specs.declared.fault.CodecFault.{CodecFault}
 use Rattle.stored_json.specs.declared.fault.CodecFault.TheVariants.{BadJson, Duty}
 use Rattle.stored_json.specs.declared.field.JsonField.{JsonField}
@@ -26,7 +26,7 @@ and_then (Err fault) next = Err fault
 
 -- a member of a command
 abbrev pub field_of : {A : Type 0} → (Data → Option A) → JsonField → Data → Result A CodecFault
-field_of reads field d = ok_or (part_of reads (field_name field) d) (BadJson field)
+field_of reads field d = ok_or (read_named_part reads (field_name field) d) (BadJson field)
 
 -- the members after `do`
 abbrev pub read_members : Verb → Data → Result Instruction CodecFault
@@ -72,12 +72,12 @@ unless_fault None asked = Ok asked
 unless_fault (Some fault) asked = Err (Duty fault)
 
 -- an instruction that is a command
-abbrev pub judged : Instruction → Result Instruction CodecFault
-judged asked = unless_fault (instruction_fault asked) asked
+abbrev pub made_command : Instruction → Result Instruction CodecFault
+made_command asked = unless_fault (instruction_fault asked) asked
 
 -- the command of an object's members
 unfoldable pub read_instruction : Data → Result Instruction CodecFault
-read_instruction d = and_then (and_then (field_of read_verb Do d) (λ verb. read_members verb d)) judged
+read_instruction d = and_then (and_then (field_of read_verb Do d) (λ verb. read_members verb d)) made_command
 
 -- an object, of one JSON text
 abbrev pub read_object : List ℕ → Result Data CodecFault

@@ -21,8 +21,8 @@ with_part None next = None
 with_part (Some part) next = next part
 
 -- a member of an object, by name
-abbrev pub part_of : {A : Type 0} → (Data → Option A) → List ℕ → Data → Option A
-part_of reads name d = option_and_then reads (get name d)
+abbrev pub read_named_part : {A : Type 0} → (Data → Option A) → List ℕ → Data → Option A
+read_named_part reads name d = option_and_then reads (get name d)
 
 -- each item of a list
 abbrev pub read_each : {A : Type 0} → (Data → Option A) → Items → Option (List A)
@@ -53,24 +53,24 @@ read_verb d = option_and_then (worded verb_text all_verbs) (as_str d)
 -- the times of a segment as it was flown
 abbrev pub read_times : Data → Option BlockTimes
 read_times d =
-    with_part (part_of read_time (codes "out") d) (λ block_out.
-    with_part (part_of read_time (codes "in") d) (λ block_in.
+    with_part (read_named_part read_time (codes "out") d) (λ block_out.
+    with_part (read_named_part read_time (codes "in") d) (λ block_in.
     Some (record { block_out = block_out; block_in = block_in })))
 
 -- a segment, whatever the shapes of its texts
 abbrev pub read_segment : Data → Option Segment
 read_segment d =
-    with_part (part_of as_str (codes "flight") d) (λ flight.
-    with_part (part_of as_str (codes "from") d) (λ origin.
-    with_part (part_of read_time (codes "out") d) (λ block_out.
-    with_part (part_of as_str (codes "to") d) (λ destination.
-    with_part (part_of read_time (codes "in") d) (λ block_in.
+    with_part (read_named_part as_str (codes "flight") d) (λ flight.
+    with_part (read_named_part as_str (codes "from") d) (λ origin.
+    with_part (read_named_part read_time (codes "out") d) (λ block_out.
+    with_part (read_named_part as_str (codes "to") d) (λ destination.
+    with_part (read_named_part read_time (codes "in") d) (λ block_in.
     Some (record { flight = flight; from = origin; block_out = block_out; to = destination; block_in = block_in }))))))
 
 -- as it is planned
 abbrev pub read_period : Data → Option Fdp
 read_period d =
-    with_part (part_of read_time (codes "report") d) (λ report.
-    with_part (part_of read_time (codes "release") d) (λ release.
-    with_part (part_of (read_list read_segment) (codes "segments") d) (λ segments.
+    with_part (read_named_part read_time (codes "report") d) (λ report.
+    with_part (read_named_part read_time (codes "release") d) (λ release.
+    with_part (read_named_part (read_list read_segment) (codes "segments") d) (λ segments.
     Some (record { planned_report = report; report = report; release = release; segments = segments }))))

@@ -11,7 +11,7 @@ use Rattle.limits.specs.declared.section.Section.{Section}
 use Rattle.command.specs.declared.exceedance.Exceedance.{Exceedance}
 use Rattle.command.specs.declared.exceedance.Reply.{Reply}
 use Rattle.stored_json.specs.Fields.{worded}
-use Rattle.stored_json.specs.Parts.{part_of, read_list, with_part}
+use Rattle.stored_json.specs.Parts.{read_named_part, read_list, with_part}
 use Rattle.stored_json.specs.Values.{object_of, array_of}
 use Rattle.stored_json.specs.declared.fault.CodecFault.{CodecFault}
 use Rattle.stored_json.specs.declared.fault.CodecFault.TheVariants.{BadJson}
@@ -37,14 +37,14 @@ read_section d = option_and_then (worded section_text all_sections) (as_str d)
 -- an exceedance: the member and the section
 abbrev pub read_exceedance : Data → Option Exceedance
 read_exceedance d =
-    with_part (part_of as_str (codes "crew") d) (λ crew.
-    with_part (part_of read_section (codes "section") d) (λ section. Some (record { crew = crew; section = section })))
+    with_part (read_named_part as_str (codes "crew") d) (λ crew.
+    with_part (read_named_part read_section (codes "section") d) (λ section. Some (record { crew = crew; section = section })))
 
 -- a reply that says `accepted`
 abbrev pub read_accepted : Data → Option Reply
 read_accepted d =
-    with_part (part_of as_str (codes "result") d) (λ result.
-    with_part (part_of (read_list read_exceedance) (codes "exceedances") d) (λ exceedances.
+    with_part (read_named_part as_str (codes "result") d) (λ result.
+    with_part (read_named_part (read_list read_exceedance) (codes "exceedances") d) (λ exceedances.
     if bytes_eq result (codes "accepted") then Some (record { exceedances = exceedances }) else None))
 
 -- anything else is refused as a whole

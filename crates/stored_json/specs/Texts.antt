@@ -7,8 +7,8 @@ use Rattle.stored_json.specs.declared.fault.CodecFault.{CodecFault}
 use Rattle.stored_json.specs.declared.fault.CodecFault.TheVariants.{BadJson, BadCsv, Duty, Memory}
 
 -- a fault as it is printed
-abbrev pub fault_text : CodecFault → List ℕ
-fault_text (BadJson field) = codes "31 BadJson " ++ field_name field
-fault_text (BadCsv line) = codes "30 BadCsv " ++ decimal line
-fault_text (Duty fault) = duty.duty_fault_text fault
-fault_text Memory = codes "91 Memory"
+abbrev pub codec_fault_text : CodecFault → List ℕ
+codec_fault_text (BadJson field) = codes "31 BadJson " ++ field_name field
+codec_fault_text (BadCsv line) = codes "30 BadCsv " ++ decimal line
+codec_fault_text (Duty fault) = duty.duty_fault_text fault
+codec_fault_text Memory = codes "91 Memory"

@@ -2,7 +2,7 @@
 //! Members that are missing or wrong: `tests/texts.py`. Wrong bodies: `must-fail-more/`.
 ghost use Rattle.std.specs.Prelude.{◌≡◌, ◌⊎◌, Ok, Err, IfOk, IfErr};
 ghost use Rattle.serde_json.specs.View.{view};
-ghost use Rattle.stored_json.specs.CommandJson.{and_then, judged, read_kept, read_members, read_object, read_instruction};
+ghost use Rattle.stored_json.specs.CommandJson.{and_then, made_command, read_kept, read_members, read_object, read_instruction};
 ghost use Rattle.stored_json.specs.declared.fault.CodecFault.TheVariants.{Memory};
 ghost use Rattle.stored_json.specs.declared.verb.Verb.TheVariants as verb;
 
@@ -67,9 +67,10 @@ pub fn command_of(alloc: Global, object: &Value) -> Result<Command, CodecFault>
 
 fn add_crew(alloc: Global, object: &Value) -> Result<Command, CodecFault>
     ensures command { IfOk result
-        (λ command. and_then (read_members verb.AddCrew (view object.now)) judged ≡ Ok command) }
+        (λ command. and_then (read_members verb.AddCrew (view object.now)) made_command
+        ≡ Ok command) }
     ensures refused { IfErr result (λ fault. (fault ≡ Memory)
-        ⊎ (and_then (read_members verb.AddCrew (view object.now)) judged ≡ Err fault)) }
+        ⊎ (and_then (read_members verb.AddCrew (view object.now)) made_command ≡ Err fault)) }
 {
     let crew: CrewId = field(alloc, object, JsonField::Crew)?;
     let seat: Seat = field(alloc, object, JsonField::Seat)?;
@@ -80,9 +81,10 @@ fn add_crew(alloc: Global, object: &Value) -> Result<Command, CodecFault>
 #[tactic(auto, unfolding(command::specs::Instructions::instruction_fault))]
 fn add_pairing(alloc: Global, object: &Value) -> Result<Command, CodecFault>
     ensures command { IfOk result
-        (λ command. and_then (read_members verb.AddPairing (view object.now)) judged ≡ Ok command) }
+        (λ command. and_then (read_members verb.AddPairing (view object.now)) made_command
+        ≡ Ok command) }
     ensures refused { IfErr result (λ fault. (fault ≡ Memory)
-        ⊎ (and_then (read_members verb.AddPairing (view object.now)) judged ≡ Err fault)) }
+        ⊎ (and_then (read_members verb.AddPairing (view object.now)) made_command ≡ Err fault)) }
 {
     let id: PairingId = field(alloc, object, JsonField::Pairing)?;
     let periods = field_list(alloc, object, JsonField::Periods)?;
@@ -92,9 +94,9 @@ fn add_pairing(alloc: Global, object: &Value) -> Result<Command, CodecFault>
 
 fn cancel_pairing(alloc: Global, object: &Value) -> Result<Command, CodecFault>
     ensures command { IfOk result (λ command.
-        and_then (read_members verb.CancelPairing (view object.now)) judged ≡ Ok command) }
+        and_then (read_members verb.CancelPairing (view object.now)) made_command ≡ Ok command) }
     ensures refused { IfErr result (λ fault. (fault ≡ Memory)
-        ⊎ (and_then (read_members verb.CancelPairing (view object.now)) judged ≡ Err fault)) }
+        ⊎ (and_then (read_members verb.CancelPairing (view object.now)) made_command ≡ Err fault)) }
 {
     let id: PairingId = field(alloc, object, JsonField::Pairing)?;
     Ok(Command::new(Instruction::CancelPairing(id))?)
@@ -102,9 +104,10 @@ fn cancel_pairing(alloc: Global, object: &Value) -> Result<Command, CodecFault>
 
 fn assign(alloc: Global, object: &Value) -> Result<Command, CodecFault>
     ensures command { IfOk result
-        (λ command. and_then (read_members verb.Assign (view object.now)) judged ≡ Ok command) }
+        (λ command. and_then (read_members verb.Assign (view object.now)) made_command
+        ≡ Ok command) }
     ensures refused { IfErr result (λ fault. (fault ≡ Memory)
-        ⊎ (and_then (read_members verb.Assign (view object.now)) judged ≡ Err fault)) }
+        ⊎ (and_then (read_members verb.Assign (view object.now)) made_command ≡ Err fault)) }
 {
     let id: PairingId = field(alloc, object, JsonField::Pairing)?;
     let crew: CrewId = field(alloc, object, JsonField::Crew)?;
@@ -113,9 +116,10 @@ fn assign(alloc: Global, object: &Value) -> Result<Command, CodecFault>
 
 fn release(alloc: Global, object: &Value) -> Result<Command, CodecFault>
     ensures command { IfOk result
-        (λ command. and_then (read_members verb.Release (view object.now)) judged ≡ Ok command) }
+        (λ command. and_then (read_members verb.Release (view object.now)) made_command
+        ≡ Ok command) }
     ensures refused { IfErr result (λ fault. (fault ≡ Memory)
-        ⊎ (and_then (read_members verb.Release (view object.now)) judged ≡ Err fault)) }
+        ⊎ (and_then (read_members verb.Release (view object.now)) made_command ≡ Err fault)) }
 {
     let id: PairingId = field(alloc, object, JsonField::Pairing)?;
     let crew: CrewId = field(alloc, object, JsonField::Crew)?;
@@ -124,9 +128,9 @@ fn release(alloc: Global, object: &Value) -> Result<Command, CodecFault>
 
 fn swap(alloc: Global, object: &Value) -> Result<Command, CodecFault>
     ensures command { IfOk result
-        (λ command. and_then (read_members verb.Swap (view object.now)) judged ≡ Ok command) }
+        (λ command. and_then (read_members verb.Swap (view object.now)) made_command ≡ Ok command) }
     ensures refused { IfErr result (λ fault. (fault ≡ Memory)
-        ⊎ (and_then (read_members verb.Swap (view object.now)) judged ≡ Err fault)) }
+        ⊎ (and_then (read_members verb.Swap (view object.now)) made_command ≡ Err fault)) }
 {
     let swap = Swap {
         pairing: field(alloc, object, JsonField::Pairing)?,
@@ -140,9 +144,10 @@ fn swap(alloc: Global, object: &Value) -> Result<Command, CodecFault>
 #[tactic(auto, unfolding(command::specs::Instructions::instruction_fault))]
 fn add_ground(alloc: Global, object: &Value) -> Result<Command, CodecFault>
     ensures command { IfOk result
-        (λ command. and_then (read_members verb.AddGround (view object.now)) judged ≡ Ok command) }
+        (λ command. and_then (read_members verb.AddGround (view object.now)) made_command
+        ≡ Ok command) }
     ensures refused { IfErr result (λ fault. (fault ≡ Memory)
-        ⊎ (and_then (read_members verb.AddGround (view object.now)) judged ≡ Err fault)) }
+        ⊎ (and_then (read_members verb.AddGround (view object.now)) made_command ≡ Err fault)) }
 {
     let id: GroundId = field(alloc, object, JsonField::Ground)?;
     let crew: CrewId = field(alloc, object, JsonField::Crew)?;
@@ -155,9 +160,9 @@ fn add_ground(alloc: Global, object: &Value) -> Result<Command, CodecFault>
 
 fn cancel_ground(alloc: Global, object: &Value) -> Result<Command, CodecFault>
     ensures command { IfOk result (λ command.
-        and_then (read_members verb.CancelGround (view object.now)) judged ≡ Ok command) }
+        and_then (read_members verb.CancelGround (view object.now)) made_command ≡ Ok command) }
     ensures refused { IfErr result (λ fault. (fault ≡ Memory)
-        ⊎ (and_then (read_members verb.CancelGround (view object.now)) judged ≡ Err fault)) }
+        ⊎ (and_then (read_members verb.CancelGround (view object.now)) made_command ≡ Err fault)) }
 {
     let id: GroundId = field(alloc, object, JsonField::Ground)?;
     Ok(Command::new(Instruction::CancelGround(id))?)
@@ -166,9 +171,10 @@ fn cancel_ground(alloc: Global, object: &Value) -> Result<Command, CodecFault>
 #[tactic(auto, unfolding(command::specs::Instructions::instruction_fault))]
 fn actual(alloc: Global, object: &Value) -> Result<Command, CodecFault>
     ensures command { IfOk result
-        (λ command. and_then (read_members verb.Actual (view object.now)) judged ≡ Ok command) }
+        (λ command. and_then (read_members verb.Actual (view object.now)) made_command
+        ≡ Ok command) }
     ensures refused { IfErr result (λ fault. (fault ≡ Memory)
-        ⊎ (and_then (read_members verb.Actual (view object.now)) judged ≡ Err fault)) }
+        ⊎ (and_then (read_members verb.Actual (view object.now)) made_command ≡ Err fault)) }
 {
     let id: PairingId = field(alloc, object, JsonField::Pairing)?;
     let period: PeriodNumber = field(alloc, object, JsonField::Period)?;

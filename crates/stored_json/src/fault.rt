@@ -23,9 +23,9 @@ pub enum CodecFault {
 
 impl fmt::Display for CodecFault {
     ghost use Rattle.std.specs.Prelude.{Some};
-    ghost use Rattle.stored_json.specs.Texts.{fault_text};
+    ghost use Rattle.stored_json.specs.Texts.{codec_fault_text};
 
-    ghost output = { λ fault. Some (fault_text fault) };
+    ghost output = { λ fault. Some (codec_fault_text fault) };
 
     fn fmt<W: fmt::Write>(&self, f: &mut fmt::Formatter<W>) -> fmt::Result {
         match self {

@@ -3,7 +3,7 @@
 ghost use Rattle.std.specs.Prelude.{◌≡◌, ◌⊎◌, Ok, Some, None, Err, IfOk, IfErr};
 ghost use Rattle.serde_json.specs.View.{view, items_view};
 ghost use Rattle.stored_json.specs.CommandJson.{field_of};
-ghost use Rattle.stored_json.specs.Parts.{part_of, read_each, read_list};
+ghost use Rattle.stored_json.specs.Parts.{read_named_part, read_each, read_list};
 ghost use Rattle.stored_json.specs.declared.fault.CodecFault.TheVariants as codec_fault;
 ghost use Rattle.stored_json.specs.declared.part.Unread.TheVariants.{Memory};
 
@@ -88,9 +88,10 @@ pub trait Part: Drop {
 
 /// Reads a member of an object, by its name.
 pub fn member<T: Part>(alloc: Global, object: &Value, name: &str) -> Result<T, Unread>
-    ensures read { IfOk result (λ part. part_of T.reads name.now (view object.now) ≡ Some part) }
+    ensures read { IfOk result
+        (λ part. read_named_part T.reads name.now (view object.now) ≡ Some part) }
     ensures refused { IfErr result
-        (λ fault. (fault ≡ Memory) ⊎ (part_of T.reads name.now (view object.now) ≡ None)) }
+        (λ fault. (fault ≡ Memory) ⊎ (read_named_part T.reads name.now (view object.now) ≡ None)) }
 {
     let value = object.get(name).ok_or(Unread::Refused)?;
     T::of_json(alloc, value)
@@ -99,9 +100,10 @@ pub fn member<T: Part>(alloc: Global, object: &Value, name: &str) -> Result<T, U
 /// Reads a member that is a list of parts.
 pub fn member_list<T: Part>(alloc: Global, object: &Value, name: &str) -> Result<Vec<T>, Unread>
     ensures read { IfOk result
-        (λ parts. part_of (read_list T.reads) name.now (view object.now) ≡ Some parts.items) }
+        (λ parts. read_named_part (read_list T.reads) name.now (view object.now)
+        ≡ Some parts.items) }
     ensures refused { IfErr result (λ fault. (fault ≡ Memory)
-        ⊎ (part_of (read_list T.reads) name.now (view object.now) ≡ None)) }
+        ⊎ (read_named_part (read_list T.reads) name.now (view object.now) ≡ None)) }
 {
     let value = object.get(name).ok_or(Unread::Refused)?;
     let values = value.as_array().ok_or(Unread::Refused)?;

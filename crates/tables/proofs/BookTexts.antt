@@ -9,7 +9,7 @@ use Rattle.sqlite_rules.specs.Cast.{cast_row}
 use Rattle.sqlite.specs.State.{State, IsLive}
 use Rattle.tables.specs.declared.book.BookRecord.{BookRecord}
 use Rattle.tables.specs.Schema.{book_table, table_of, IsTable}
-use Rattle.tables.specs.Declarations.{HaveNoDefault, IsTextOf}
+use Rattle.tables.specs.Declarations.{HaveNoDefault, DeclaresTable}
 use Rattle.sqlite_schema.specs.declared.schema.Column.{Column}
 use Rattle.std.proofs.lemmas.List.Elements.{All-from_recursion}
 use Rattle.tables.specs.Records.{book_row}
@@ -51,7 +51,7 @@ create_book_stops = create_stopper book_table create_book_text create_book_maker
 no_default : HaveNoDefault book_table.columns
 no_default = All-from_recursion (λ (c : Column). c.default ≡ Null) book_table.columns (refl, (refl, (refl, tt)))
 
-pub create_book_declares : IsTextOf book_table create_book_text
+pub create_book_declares : DeclaresTable book_table create_book_text
 create_book_declares = record { defines = create_book_maker.defines; plain = no_default }
 
 -- ----

@@ -36,7 +36,7 @@ use Rattle.sqlite.proofs.Callers.{IsPlain, command_of, statement_of}
 use Rattle.sqlite.proofs.StateLemmas.{survives_weaker}
 use Rattle.tables.specs.Schema.{BookTable, IsTable, IsUnreferenced, table_of}
 use Rattle.tables.specs.Rows.{Makes, stored}
-use Rattle.tables.specs.Texts.{Performs}
+use Rattle.tables.specs.Texts.{RunsStatement}
 use Rattle.tables.proofs.Known.{listed, stored_is}
 use Rattle.tables.proofs.Compiling.{statement_in}
 use Rattle.tables.proofs.Inserting.{plain_mode, went, same_value}
@@ -44,7 +44,7 @@ use Rattle.tables.proofs.Statements.{Writer, Stopper, writer, committed, failed}
 use Rattle.tables.proofs.Stopping.{some_fault, failed_for, statement_told, stopped_in}
 use Rattle.tables.proofs.Refusing.{err_same, makes_told}
 use Rattle.tables.specs.Calls.{Stops}
-use Rattle.tables.specs.Faults.{fault_of}
+use Rattle.tables.specs.Faults.{table_fault_of}
 use Rattle.tables.specs.declared.table_fault.TableFault.TheVariants.{Store}
 use Rattle.sqlite_catalog.specs.Calls.{IsLongTable, RefusesTable}
 use Rattle.sqlite.specs.declared.error.Error.{Error}
@@ -391,7 +391,7 @@ module _ (kept : BookTable) (sql : List ℕ) (maker : IsMaker kept sql) (old : S
   unfolding CommitsBy
   commits db h = (h.0, h.1.is)
 
-  create_ran : {A : Type 0} (new : State) (result : Result A TableFault) → Performs sql [] old new result → Ran (Makes kept) old new result
+  create_ran : {A : Type 0} (new : State) (result : Result A TableFault) → RunsStatement sql [] old new result → Ran (Makes kept) old new result
   create_ran new (Err f) h _ = (failed sql [] old new h.0 h.2, λ e. some_fault h.0 (sym h.1 ∙ e))
   create_ran new (Ok a) h clean = let c = runs new h.0 h.1 in (made_writer c.0 c.1).ran new (Ok a) h clean
 
@@ -432,7 +432,7 @@ module _ (kept : BookTable) (sql : List ℕ) (maker : IsMaker kept sql) (limit :
     | inr done ↦ absurd (let no = done.2 in cc)
   ]
 
-  create_told : (t : List ℕ) → t ≡ sql → (e : Error) → Does limit plain_mode [] old t None CreateTable (Err (Some e)) → fault_of e ≡ Store
+  create_told : (t : List ℕ) → t ≡ sql → (e : Error) → Does limit plain_mode [] old t None CreateTable (Err (Some e)) → table_fault_of e ≡ Store
   create_told t whole e does = elim (subst (λ s. Does limit plain_mode [] old s None CreateTable (Err (Some e))) whole does) [
     | inl first ↦ elim first.1 [
       | inl made ↦ makes_told sql (RefusesTable old.schema sql) e (subst (λ stop. MakesTable sql old (Err stop)) (sym (err_same first.2 ∙ err_same made.2)) made.1)
@@ -445,7 +445,7 @@ module _ (kept : BookTable) (sql : List ℕ) (maker : IsMaker kept sql) (limit :
   ]
 
 module _ (kept : BookTable) (sql : List ℕ) (maker : IsMaker kept sql) (old : State) where
-  create_stops : (new : State) (e : Error) → Executes sql [] old new (Err e) → Stops ⊥ (Unit {0}) old new (fault_of e)
+  create_stops : (new : State) (e : Error) → Executes sql [] old new (Err e) → Stops ⊥ (Unit {0}) old new (table_fault_of e)
   unfolding ExecutesIn IsNotRun
   create_stops new e (inl (inl none)) = inr (tt, none.1, statement_told old sql [] e none.0)
   create_stops new e (inl (inr fails)) = inl (failed_for old new ⊥ ⊥ (λ none. none) e fails)

@@ -42,7 +42,7 @@ use Rattle.tables.proofs.Stopping.{in_place}
 use Rattle.tables.proofs.Inserting.{applied, elsewhere, no_work_of, ChangesRows, changes_by, plain_mode, went, same_value}
 use Rattle.tables.proofs.Statements.{Writer, Stopper, table_writer, table_stopper}
 use Rattle.tables.specs.Calls.{HasStepLimit}
-use Rattle.tables.specs.Faults.{fault_of}
+use Rattle.tables.specs.Faults.{table_fault_of}
 use Rattle.tables.specs.declared.table_fault.TableFault.TheVariants.{Store}
 use Rattle.tables.specs.Schema.{BookTable, IsTable, IsUnreferenced, table_of}
 use Rattle.tables.specs.Rows.{cells, rows_of, AreNumbered, Changes, Deletes}
@@ -172,7 +172,7 @@ module _ (kept : BookTable) (limit : Option ℕ) (old : Database) (text : List �
   found_at : slice_get old.schema.tables (place kept old.schema there).0 ≡ Some own
   found_at = (place kept old.schema there).2
 
-  query_stops : (stop : Option Error) → Queried limit old program params (Err stop) → (e : Error) × (stop ≡ Some e) × IsSome limit × (fault_of e ≡ Store)
+  query_stops : (stop : Option Error) → Queried limit old program params (Err stop) → (e : Error) × (stop ≡ Some e) × IsSome limit × (table_fault_of e ≡ Store)
   query_stops stop asked =
       let it = queried_stops limit old program params stop asked in
       let why = limited kept filter (col 1 0 ∷ []) [] params limit old (place kept old.schema there).0 there.tree (known kept old.schema there) fits it.0 it.2 in
@@ -246,7 +246,7 @@ module _ (kept : BookTable) (limit : Option ℕ) (old : Database) (text : List �
         subst (Refers All old.schema) (sym same)
         (still_refers rows next step.rows (λ t listed. all_has _ old.schema.tables t step.tables listed) (refers_if_sound old.schema old.trees sound))
 
-    pub delete_stops : (out : Option Error) → Does limit plain_mode params old text None (Delete (place kept old.schema there).0 program) (Err out) → (e : Error) × (out ≡ Some e) × IsSome limit × (fault_of e ≡ Store)
+    pub delete_stops : (out : Option Error) → Does limit plain_mode params old text None (Delete (place kept old.schema there).0 program) (Err out) → (e : Error) × (out ≡ Some e) × IsSome limit × (table_fault_of e ≡ Store)
     delete_stops out does =
         let changed = rw found_at at does in
         elim changed [
@@ -282,5 +282,5 @@ module _ (kept : BookTable) (filter : List Term) (text : List ℕ)
   pub delete_stopper : Stopper text params ⊥ (HasStepLimit old) old
   delete_stopper = table_stopper kept text params (λ at tree. Delete at (record { lets = []; body = plain_query tree filter (col 1 0 ∷ []) [] })) read given ⊥ (HasStepLimit old) old there (λ at tree c is none. rw (is, none) refl)
       (λ t. delete_small kept old.step_limit old.now t params filter there free fits)
-      (λ t e opened does. let it = delete_stops kept old.step_limit old.now t params filter there free fits (live opened).0 (Some e) does in (it.2, ap fault_of (some_same it.1) ∙ it.3))
+      (λ t e opened does. let it = delete_stops kept old.step_limit old.now t params filter there free fits (live opened).0 (Some e) does in (it.2, ap table_fault_of (some_same it.1) ∙ it.3))
       (λ e. in_place old _ e (λ i. cc) (λ i. cc) (λ i. cc) (λ n i. cc) (λ n i. cc))

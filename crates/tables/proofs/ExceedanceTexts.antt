@@ -9,7 +9,7 @@ use Rattle.sqlite_rules.specs.Cast.{cast_row}
 use Rattle.sqlite.specs.State.{State, IsLive}
 use Rattle.tables.specs.declared.exceedance.ExceedanceRecord.{ExceedanceRecord}
 use Rattle.tables.specs.Schema.{exceedance_table, table_of, IsTable}
-use Rattle.tables.specs.Declarations.{HaveNoDefault, IsTextOf}
+use Rattle.tables.specs.Declarations.{HaveNoDefault, DeclaresTable}
 use Rattle.sqlite_schema.specs.declared.schema.Column.{Column}
 use Rattle.std.proofs.lemmas.List.Elements.{All-from_recursion}
 use Rattle.tables.specs.Records.{exceedance_row}
@@ -51,7 +51,7 @@ create_exceedance_stops = create_stopper exceedance_table create_exceedance_text
 no_default : HaveNoDefault exceedance_table.columns
 no_default = All-from_recursion (λ (c : Column). c.default ≡ Null) exceedance_table.columns (refl, (refl, (refl, (refl, (refl, (refl, tt))))))
 
-pub create_exceedance_declares : IsTextOf exceedance_table create_exceedance_text
+pub create_exceedance_declares : DeclaresTable exceedance_table create_exceedance_text
 create_exceedance_declares = record { defines = create_exceedance_maker.defines; plain = no_default }
 
 -- ----

@@ -23,7 +23,7 @@ use Rattle.sqlite.proofs.StateLemmas.{survives_weaker}
 use Rattle.tables.specs.Schema.{BookTable, IsTable, table_of}
 use Rattle.tables.specs.Rows.{cells, stored, same_at, Inserts, IsStored, HasKeyOf}
 use Rattle.tables.specs.Calls.{Ran, CrashMayLeave, RefusesHeld, Faults}
-use Rattle.tables.specs.Texts.{Performs}
+use Rattle.tables.specs.Texts.{RunsStatement}
 use Rattle.tables.specs.declared.table_fault.TableFault.{TableFault}
 use Rattle.tables.proofs.Known.{place, stored_is}
 use Rattle.tables.proofs.Compiling.{IsRead}
@@ -81,11 +81,11 @@ module _ (kept : BookTable) (terms : List Term) (width : ℕ) (text : List ℕ) 
 
 module _ {text : List ℕ} {params : Row} {kept : BookTable} {x : Row} {B : Type 0} (old new : State) (owed : HasCleanDisk old → B) (writer : B → Writer text params (InsertsFree kept x) old)
     (survives : Survives old new (CommitsBy text params old)) where
-  pub inserts_by : {A : Type 0} (result : Result A TableFault) → (HasCleanDisk new → Performs text params old new result) → Ran (Inserts kept x) old new result
+  pub inserts_by : {A : Type 0} (result : Result A TableFault) → (HasCleanDisk new → RunsStatement text params old new result) → Ran (Inserts kept x) old new result
   inserts_by {A} (Ok a) performs clean = let it = ran_by old new owed writer survives (Ok a) performs clean in (it.0.0, it.1)
   inserts_by {A} (Err fault) performs clean = ran_by old new owed writer survives {A = A} (Err fault) performs clean
 
-  pub refuses_by : {A : Type 0} (result : Result A TableFault) → (HasCleanDisk new → Performs text params old new result) → RefusesHeld kept x old new result
+  pub refuses_by : {A : Type 0} (result : Result A TableFault) → (HasCleanDisk new → RunsStatement text params old new result) → RefusesHeld kept x old new result
   refuses_by (Ok a) performs clean numbered held = absurd ((ran_by old new owed writer survives (Ok a) performs clean).0.1 numbered held)
   refuses_by (Err fault) performs clean numbered held = refl
 
@@ -100,11 +100,11 @@ pub record Inserted {A : Type 0} (kept : BookTable) (x : Row) (TooBig Why : Type
   pub crash : CrashMayLeave (Inserts kept x) old new
 
 pub inserted_by : {A : Type 0} {text : List ℕ} {given params : Row} {kept : BookTable} {x : Row} {TooBig Why B : Type 0} (old new : State) → given ≡ params → (HasCleanDisk old → B)
-    → (B → Writer text params (InsertsFree kept x) old) → (B → Stopper text params TooBig Why old) → Survives old new (CommitsBy text given old) → (result : Result A TableFault) → (HasCleanDisk new → Performs text given old new result)
+    → (B → Writer text params (InsertsFree kept x) old) → (B → Stopper text params TooBig Why old) → Survives old new (CommitsBy text given old) → (result : Result A TableFault) → (HasCleanDisk new → RunsStatement text given old new result)
     → Inserted kept x TooBig Why old new result
 inserted_by {text} old new is owed writer stopper survives result performs =
     let kept_up = subst (λ ps. Survives old new (CommitsBy text ps old)) is survives in
-    let does = λ (clean : HasCleanDisk new). subst (λ ps. Performs text ps old new result) is (performs clean) in
+    let does = λ (clean : HasCleanDisk new). subst (λ ps. RunsStatement text ps old new result) is (performs clean) in
     record {
       ran = inserts_by old new owed writer kept_up result does;
       held = refuses_by old new owed writer kept_up result does;

@@ -30,7 +30,7 @@ use Rattle.tables.proofs.Known.{known, stored_is}
 use Rattle.tables.proofs.Compiling.{IsRead}
 use Rattle.tables.specs.Rows.{cells, rows_of, begins_with, Finds, HasNoRecord, AreNumbered, IsStored}
 use Rattle.tables.specs.Calls.{Stops, HasStepLimit, Loaded}
-use Rattle.tables.specs.Faults.{fault_of}
+use Rattle.tables.specs.Faults.{table_fault_of}
 use Rattle.tables.specs.Texts.{HasInvalid, Unread, ShowsNumbered, rises, rises_from}
 use Rattle.tables.specs.declared.table_fault.TableFault.{TableFault}
 use Rattle.tables.specs.declared.table_fault.TableFault.TheVariants.{NotARecord}
@@ -112,7 +112,7 @@ by_number = (col 1 0, ascending Binary) ∷ []
 pub record Loader (text : List ℕ) (kept : BookTable) (old : State) : Type 1 where
   pub plain : IsPlain (understood old.now.schema text)
   pub loaded : (new : State) (rows : List Row) → ShowsNumbered text old new rows → Finds kept (begins_with []) old.now rows × IsStored kept old.now
-  pub stops : (new : State) (e : Error) → FailsToQuery text [] old new e → Stops ⊥ (HasStepLimit old) old new (fault_of e)
+  pub stops : (new : State) (e : Error) → FailsToQuery text [] old new e → Stops ⊥ (HasStepLimit old) old new (table_fault_of e)
   pub invalid : (IsRecord : Row → Type 0) → HasInvalid (λ values. IsRecord (drop 1 values)) text [] old → HasNoRecord kept (begins_with []) IsRecord old.now
 
 all_pass : {X : Type 0} (xs : List X) → filter (λ x. true) xs ≡ xs

@@ -35,7 +35,7 @@ use Rattle.sqlite.specs.Does.{Does}
 use Rattle.sqlite.specs.State.{State, IsLive}
 use Rattle.sqlite.proofs.StateLemmas.{refers_if_sound}
 use Rattle.tables.specs.Calls.{RefusesRow}
-use Rattle.tables.specs.Faults.{fault_of}
+use Rattle.tables.specs.Faults.{table_fault_of}
 use Rattle.tables.specs.declared.table_fault.TableFault.TheVariants.{Store}
 use Rattle.tables.specs.Schema.{BookTable, IsTable, table_of}
 use Rattle.tables.specs.Rows.{HasNoNumber, IsKeyTaken, IsTooBig}
@@ -47,10 +47,10 @@ use Rattle.tables.proofs.Statements.{Stopper, table_stopper}
 use Rattle.tables.proofs.Stopping.{in_place}
 
 sourced_stops : (limit : Option ℕ) (db : Database) (params : Row) (terms : List Term) (width : ℕ) → accepts_terms terms params ≡ true → (stop : Option Error) → Sourced limit db params (Values terms width) (Err stop)
-    → (e : Error) × (stop ≡ Some e) × IsSome limit × (fault_of e ≡ Store)
+    → (e : Error) × (stop ≡ Some e) × IsSome limit × (table_fault_of e ≡ Store)
 sourced_stops limit db params terms width fits None h = absurd h
 sourced_stops limit db params terms width fits (Some e) (inl h) = absurd (true≢false (sym fits ∙ h.1))
-sourced_stops limit db params terms width fits (Some e) (inr h) = (e, refl, h.1, ap fault_of h.0)
+sourced_stops limit db params terms width fits (Some e) (inr h) = (e, refl, h.1, ap table_fault_of h.0)
 
 module _ (kept : BookTable) (limit : Option ℕ) (old : Database) (text : List ℕ) (params : Row) (terms : List Term) (width : ℕ) (there : IsTable kept old.schema) (x source : Row)
     (one : value_rows params width (length terms / width) terms ≡ source ∷ []) (cast_is : cast_row (table_of kept there.tree) source ≡ Null ∷ x)
@@ -171,14 +171,14 @@ module _ (kept : BookTable) (limit : Option ℕ) (old : Database) (text : List �
       ]
 
   module _ (sound : IsDatabase old) (e : Error) where
-    pub insert_stops : Does limit plain_mode params old text None (Insert (place kept old.schema there).0 (Values terms width)) (Err (Some e)) → (IsSome limit ⊎ Why) × (fault_of e ≡ Store)
+    pub insert_stops : Does limit plain_mode params old text None (Insert (place kept old.schema there).0 (Values terms width)) (Err (Some e)) → (IsSome limit ⊎ Why) × (table_fault_of e ≡ Store)
     insert_stops does =
         let changed = rw is at does in
         elim changed [
           | inl first ↦ elim first.1 [
             | inl sourced ↦
                 let it = sourced_stops limit old (params ++ []) terms width fits_all sourced.0 sourced.1 in
-                (inl it.2, ap fault_of (some_same (err_same first.2 ∙ err_same sourced.2 ∙ it.1)) ∙ it.3)
+                (inl it.2, ap table_fault_of (some_same (err_same first.2 ∙ err_same sourced.2 ∙ it.1)) ∙ it.3)
             | inr given ↦ elim given.2 [
               | inl counted ↦ absurd (let no = counted.1 in cc)
               | inr counter ↦ elim counter.2 [
@@ -187,7 +187,7 @@ module _ (kept : BookTable) (limit : Option ℕ) (old : Database) (text : List �
                     elim (not_made old.schema old.trees edit idle edited.1.0 (written_as given.0 given.1 _ edited.1.1)) [
                       | inl refused ↦
                           let same : Some e ≡ Some (edit_error refused.0) = end ∙ ap (option_map edit_error) refused.1 in
-                          (inr (refusal (sound.obeys.rules Unique) refused.0 refused.2), ap fault_of (some_same same) ∙ edit_told refused.0)
+                          (inr (refusal (sound.obeys.rules Unique) refused.0 refused.2), ap table_fault_of (some_same same) ∙ edit_told refused.0)
                       | inr big ↦ absurd (let no = end ∙ ap (option_map edit_error) big.0 in cc)
                     ]
                 | inr mid ↦ elim mid.2 [ inl counts ↦ absurd (let no = counts.1 in cc) | inr done ↦ absurd (let no = done.2 in cc) ]

@@ -34,7 +34,7 @@ use Rattle.sqlite.specs.Effect.{Database, RefusesQuery, RefusesToAlter, IsNoText
 use Rattle.sqlite.specs.Rows.{Queried}
 use Rattle.sqlite_catalog.specs.declared.error.Refusal as alter
 use Rattle.sqlite_catalog.specs.declared.error.Refusal.TheVariants as altering
-use Rattle.tables.specs.Faults.{fault_of}
+use Rattle.tables.specs.Faults.{table_fault_of}
 use Rattle.tables.specs.Schema.{BookTable, table_of}
 use Rattle.tables.specs.declared.table_fault.TableFault.TheVariants.{Store}
 use Rattle.tables.proofs.Answering.{plain_query, from_true}
@@ -43,14 +43,14 @@ use Rattle.tables.proofs.Known.{Known}
 pub err_same : {B E : Type 0} {a b : E} → ◌≡◌ {A = Result B E} (Err a) (Err b) → a ≡ b
 err_same e = cc
 
-pub edit_told : (why : Refusal) → fault_of (edit_error why) ≡ Store
+pub edit_told : (why : Refusal) → table_fault_of (edit_error why) ≡ Store
 edit_told (Violates rule) = refl
 edit_told Mismatch = refl
 edit_told NoRowid = refl
 edit_told BadReference = refl
 edit_told TooDeep = refl
 
-alter_told : (why : alter.Refusal) → fault_of (alter_error why) ≡ Store
+alter_told : (why : alter.Refusal) → table_fault_of (alter_error why) ≡ Store
 alter_told (altering.Invalid e) = refl
 alter_told altering.NameTaken = refl
 alter_told altering.BadName = refl
@@ -59,9 +59,9 @@ alter_told altering.BadText = refl
 alter_told altering.TooBig = refl
 alter_told (altering.Violates rule) = refl
 
-pub makes_told : (text : List ℕ) (Refuses : alter.Refusal → Type 0) (e : Error) → IsNoText text e ⊎ RefusesToAlter Refuses e → fault_of e ≡ Store
-makes_told text Refuses e (inl h) = ap fault_of h.1
-makes_told text Refuses e (inr h) = ap fault_of h.2 ∙ alter_told h.0
+pub makes_told : (text : List ℕ) (Refuses : alter.Refusal → Type 0) (e : Error) → IsNoText text e ⊎ RefusesToAlter Refuses e → table_fault_of e ≡ Store
+makes_told text Refuses e (inl h) = ap table_fault_of h.1
+makes_told text Refuses e (inr h) = ap table_fault_of h.2 ∙ alter_told h.0
 
 -- ---- queries
 
@@ -76,20 +76,20 @@ accepted kept filters project order params schema at tree known fits = simp (kno
 
 -- so only a limit on its steps stops it
 pub limited : (kept : BookTable) (filters project : List Term) (order : List (Term × Key)) (params : Row) (limit : Option ℕ) (db : Database) (at tree : ℕ) → Known kept db.schema at tree → suits kept filters project order params ≡ true
-    → (e : Error) → RefusesQuery limit db (record { lets = []; body = plain_query tree filters project order }) params e → IsSome limit × (fault_of e ≡ Store)
+    → (e : Error) → RefusesQuery limit db (record { lets = []; body = plain_query tree filters project order }) params e → IsSome limit × (table_fault_of e ≡ Store)
 limited kept filters project order params limit db at tree known fits e (inl h) = absurd (true≢false (sym (accepted kept filters project order params db.schema at tree known fits) ∙ h.1))
 limited kept filters project order params limit db at tree known fits e (inr (inl h)) = elim h.1 [ inl none ↦ absurd none | inr some ↦ absurd (any_has _ _ some).2 ]
-limited kept filters project order params limit db at tree known fits e (inr (inr h)) = (h.1, ap fault_of h.0)
+limited kept filters project order params limit db at tree known fits e (inr (inr h)) = (h.1, ap table_fault_of h.0)
 
 pub queried_stops : (limit : Option ℕ) (db : Database) (q : Rattle.sqlite_schema.specs.declared.program.Program.Program) (params : Row) (stop : Option Error) → Queried limit db q params (Err stop)
     → (e : Error) × (stop ≡ Some e) × RefusesQuery limit db q params e
 queried_stops limit db q params None h = absurd h
 queried_stops limit db q params (Some e) h = (e, refl, h)
 
-pub refused_told : (limit : Option ℕ) (db : Database) (q : Rattle.sqlite_schema.specs.declared.program.Program.Program) (params : Row) (e : Error) → RefusesQuery limit db q params e → fault_of e ≡ Store
-refused_told limit db q params e (inl h) = ap fault_of h.0
-refused_told limit db q params e (inr (inl h)) = ap fault_of h.0
-refused_told limit db q params e (inr (inr h)) = ap fault_of h.0
+pub refused_told : (limit : Option ℕ) (db : Database) (q : Rattle.sqlite_schema.specs.declared.program.Program.Program) (params : Row) (e : Error) → RefusesQuery limit db q params e → table_fault_of e ≡ Store
+refused_told limit db q params e (inl h) = ap table_fault_of h.0
+refused_told limit db q params e (inr (inl h)) = ap table_fault_of h.0
+refused_told limit db q params e (inr (inr h)) = ap table_fault_of h.0
 
 -- ---- edits
 

@@ -21,8 +21,8 @@ use Rattle.tables.specs.Schema.{BookTable, IsTable}
 use Rattle.tables.proofs.Known.{place, known}
 use Rattle.tables.proofs.Compiling.{IsRead}
 use Rattle.tables.specs.Calls.{Ran, CrashMayLeave, IsUnchangedOrUndone, Stops, Faults}
-use Rattle.tables.specs.Texts.{Performs}
-use Rattle.tables.specs.Faults.{fault_of}
+use Rattle.tables.specs.Texts.{RunsStatement}
+use Rattle.tables.specs.Faults.{table_fault_of}
 use Rattle.tables.specs.declared.table_fault.TableFault.{TableFault}
 use Rattle.tables.specs.declared.table_fault.TableFault.TheVariants.{Store}
 
@@ -37,7 +37,7 @@ failed text params old new e (inr ran) = elim (cases_Bool (shows_rows false ran.
 
 -- what is known of a text that writes, from a state on
 pub record Writer (text : List ℕ) (params : Row) (Is : Database → Database → Type 0) (old : State) : Type 1 where
-  pub ran : {A : Type 0} (new : State) (result : Result A TableFault) → Performs text params old new result → Ran Is old new result
+  pub ran : {A : Type 0} (new : State) (result : Result A TableFault) → RunsStatement text params old new result → Ran Is old new result
   pub left : (new : State) → Survives old new (CommitsBy text params old) → CrashMayLeave Is old new
 
 module _ (text : List ℕ) (params : Row) (command : Command) (schema : Schema) (is : command_of (understood schema text) ≡ command) (plain : IsPlain (understood schema text))
@@ -45,7 +45,7 @@ module _ (text : List ℕ) (params : Row) (command : Command) (schema : Schema) 
     (does : (t : List ℕ) → t ≡ statement_of text (understood schema text) → (tally : Tally) (after : Database) → IsDatabase after → Does old.step_limit plain_mode params old.now t None command (Ok (tally, after)) → Is old.now after)
     (writes : (new : State) (t : List ℕ) (count : ℕ) → Runs old new None command t params count → Writes old new None command t params count)
     (not_commit : command ≡ Commit → ⊥) (not_release : (name : List ℕ) → command ≡ Release name → ⊥) where
-  ran : {A : Type 0} (new : State) (result : Result A TableFault) → Performs text params old new result → Ran Is old new result
+  ran : {A : Type 0} (new : State) (result : Result A TableFault) → RunsStatement text params old new result → Ran Is old new result
   ran new (Err f) h _ = (failed text params old new h.0 h.2, λ e. some_fault h.0 (sym h.1 ∙ e))
   ran new (Ok a) h _ =
       let w = writes new _ h.0 (runs_as text params old new schema has command is plain h.0 h.1) in
@@ -79,12 +79,12 @@ module _ (kept : BookTable) (text : List ℕ) (params : Row) (command : ℕ → 
 
 -- what is known of a text that writes and does not go through, from a state on
 pub record Stopper (text : List ℕ) (params : Row) (too_big why : Type 0) (old : State) : Type 1 where
-  pub stops : (new : State) (e : Error) → Executes text params old new (Err e) → Stops too_big why old new (fault_of e)
+  pub stops : (new : State) (e : Error) → Executes text params old new (Err e) → Stops too_big why old new (table_fault_of e)
 
 module _ (kept : BookTable) (text : List ℕ) (params : Row) (command : ℕ → ℕ → Command) {count : ℕ} (read : IsRead kept text count command) (fits : count ≡ length params) (TooBig Why : Type 0) (old : State) (there : IsTable kept old.now.schema)
     (quiet : (at tree : ℕ) (c : Compiled) → c.command ≡ command at tree → c.returning ≡ None → shows_rows false c ≡ false)
     (big : (t : List ℕ) → Does old.step_limit plain_mode params old.now t None (command (place kept old.now.schema there).0 there.tree) (Err None) → TooBig)
-    (why : (t : List ℕ) (e : Error) → IsTrue old.is_open → Does old.step_limit plain_mode params old.now t None (command (place kept old.now.schema there).0 there.tree) (Err (Some e)) → Why × (fault_of e ≡ Store))
+    (why : (t : List ℕ) (e : Error) → IsTrue old.is_open → Does old.step_limit plain_mode params old.now t None (command (place kept old.now.schema there).0 there.tree) (Err (Some e)) → Why × (table_fault_of e ≡ Store))
     (placed : (e : Error) → IsMisplaced old (command (place kept old.now.schema there).0 there.tree) e → ⊥) where
   pub table_stopper : Stopper text params TooBig Why old
   table_stopper =
@@ -96,7 +96,7 @@ module _ (kept : BookTable) (text : List ℕ) (params : Row) (command : ℕ → 
 
 module _ {text : List ℕ} {params : Row} {TooBig Why : Type 0} {B : Type 0} (old new : State) (owed : HasCleanDisk old → B) (stopper : B → Stopper text params TooBig Why old)
     (survives : Survives old new (CommitsBy text params old)) where
-  pub faults_by : {A : Type 0} (result : Result A TableFault) → (HasCleanDisk new → Performs text params old new result) → Faults TooBig Why old new result
+  pub faults_by : {A : Type 0} (result : Result A TableFault) → (HasCleanDisk new → RunsStatement text params old new result) → Faults TooBig Why old new result
   faults_by (Ok a) performs clean = tt
   faults_by (Err fault) performs clean =
       let h = performs clean in
@@ -106,7 +106,7 @@ module _ {text : List ℕ} {params : Row} {TooBig Why : Type 0} {B : Type 0} (ol
 
 module _ {text : List ℕ} {params : Row} {Is : Database → Database → Type 0} {B : Type 0} (old new : State) (owed : HasCleanDisk old → B) (writer : B → Writer text params Is old)
     (survives : Survives old new (CommitsBy text params old)) where
-  pub ran_by : {A : Type 0} (result : Result A TableFault) → (HasCleanDisk new → Performs text params old new result) → Ran Is old new result
+  pub ran_by : {A : Type 0} (result : Result A TableFault) → (HasCleanDisk new → RunsStatement text params old new result) → Ran Is old new result
   ran_by result performs clean = (writer (owed (omega (arith, survives.clean)))).ran new result (performs clean) clean
 
   pub left_by : CrashMayLeave Is old new
@@ -120,10 +120,10 @@ pub record Written {A : Type 0} (Is : Database → Database → Type 0) (TooBig 
 
 module _ {text : List ℕ} {given params : Row} {Is : Database → Database → Type 0} {TooBig Why : Type 0} (old new : State) (is : given ≡ params) where
   pub written_by : {B : Type 0} → (HasCleanDisk old → B) → (B → Writer text params Is old) → (B → Stopper text params TooBig Why old) → Survives old new (CommitsBy text given old)
-      → {A : Type 0} (result : Result A TableFault) → (HasCleanDisk new → Performs text given old new result) → Written Is TooBig Why old new result
+      → {A : Type 0} (result : Result A TableFault) → (HasCleanDisk new → RunsStatement text given old new result) → Written Is TooBig Why old new result
   written_by owed writer stopper survives result performs =
       let same = subst (λ ps. Survives old new (CommitsBy text ps old)) is survives in
-      let does = λ (clean : HasCleanDisk new). subst (λ ps. Performs text ps old new result) is (performs clean) in
+      let does = λ (clean : HasCleanDisk new). subst (λ ps. RunsStatement text ps old new result) is (performs clean) in
       record {
         ran = ran_by old new owed writer same result does;
         fault = faults_by old new owed stopper same result does;
@@ -132,9 +132,9 @@ module _ {text : List ℕ} {given params : Row} {Is : Database → Database → 
 
   -- the same where two facts are owed, and where none is
   pub written_by_both : {B C : Type 0} → (HasCleanDisk old → B) → (HasCleanDisk old → C) → (B → C → Writer text params Is old) → (B → C → Stopper text params TooBig Why old) → Survives old new (CommitsBy text given old)
-      → {A : Type 0} (result : Result A TableFault) → (HasCleanDisk new → Performs text given old new result) → Written Is TooBig Why old new result
+      → {A : Type 0} (result : Result A TableFault) → (HasCleanDisk new → RunsStatement text given old new result) → Written Is TooBig Why old new result
   written_by_both {B} {C} owed also writer stopper = written_by (λ clean. (owed clean, also clean)) (λ (both : B × C). writer both.0 both.1) (λ (both : B × C). stopper both.0 both.1)
 
   pub written_at : Writer text params Is old → Stopper text params TooBig Why old → Survives old new (CommitsBy text given old)
-      → {A : Type 0} (result : Result A TableFault) → (HasCleanDisk new → Performs text given old new result) → Written Is TooBig Why old new result
+      → {A : Type 0} (result : Result A TableFault) → (HasCleanDisk new → RunsStatement text given old new result) → Written Is TooBig Why old new result
   written_at writer stopper = written_by {B = Unit {0}} (λ _. tt) (λ _. writer) (λ _. stopper)

@@ -19,11 +19,11 @@ use Rattle.sqlite.specs.Listing.{understood}
 use Rattle.sqlite.specs.State.{State, Fails, HasCause, IsUnchanged, Executes, ExecutesIn, IsNotRun, IsNoStatement, IsMisplaced, IsStatement, RunsAlone, shows_rows, text_of, mode_of}
 use Rattle.sqlite.proofs.Callers.{IsPlain, command_of, statement_of}
 use Rattle.tables.specs.Calls.{IsUnchangedOrUndone, Failed, Stops}
-use Rattle.tables.specs.Faults.{fault_of}
+use Rattle.tables.specs.Faults.{table_fault_of}
 use Rattle.tables.specs.declared.table_fault.TableFault.{TableFault}
 use Rattle.tables.specs.declared.table_fault.TableFault.TheVariants.{Store, NotARecord}
 
-pub some_fault : (e : Error) → fault_of e ≡ NotARecord → ⊥
+pub some_fault : (e : Error) → table_fault_of e ≡ NotARecord → ⊥
 some_fault (SqliteFailure OutOfMemory) h = cc
 some_fault _ h = cc
 
@@ -44,16 +44,16 @@ caused old new A B f cause.Full h = h
 caused old new A B f cause.Broken h = h
 caused old new A B f cause.Unstorable h = f h
 
-pub failed_for : (old new : State) (A B : Type 0) → (A → B) → (e : Error) → Fails old new A e → Failed B old new (fault_of e)
+pub failed_for : (old new : State) (A B : Type 0) → (A → B) → (e : Error) → Fails old new A e → Failed B old new (table_fault_of e)
 failed_for old new A B f e h = (e, (h.0, h.1, caused old new A B f h.0 h.2, h.3, h.4), refl)
 
 -- a refusal is never told as want of memory
-pub told : (e f : Error) → e ≡ f → fault_of f ≡ Store → fault_of e ≡ Store
-told e f is store = ap fault_of is ∙ store
+pub told : (e f : Error) → e ≡ f → table_fault_of f ≡ Store → table_fault_of e ≡ Store
+told e f is store = ap table_fault_of is ∙ store
 
-misplaced_told : (s : State) (command : Command) (e : Error) → IsMisplaced s command e → fault_of e ≡ Store
-misplaced_told s command e (inl h) = ap fault_of h.0
-misplaced_told s command e (inr h) = ap fault_of h.0
+misplaced_told : (s : State) (command : Command) (e : Error) → IsMisplaced s command e → table_fault_of e ≡ Store
+misplaced_told s command e (inl h) = ap table_fault_of h.0
+misplaced_told s command e (inr h) = ap table_fault_of h.0
 
 -- a command that neither begins nor ends a transaction, nor uses a savepoint, is in place anywhere
 pub in_place : (s : State) (command : Command) (e : Error) → (command ≡ Begin → ⊥) → (command ≡ Commit → ⊥) → (command ≡ Rollback → ⊥) → ((name : List ℕ) → command ≡ Release name → ⊥)
@@ -78,11 +78,11 @@ is_statement s text params e plain whole (inr (c, is, inr (inl (differ, _)))) = 
 is_statement s text params e plain whole (inr (c, is, inr (inr (some, _)))) = some (subst IsPlain is plain).1
 
 -- a text that is none is not told as want of memory either
-pub statement_told : (s : State) (text : List ℕ) (params : Row) (e : Error) → IsNoStatement s text params e → fault_of e ≡ Store
-statement_told s text params e (inl (fault, _, is)) = ap fault_of is
-statement_told s text params e (inr (c, _, inl (_, is))) = ap fault_of is
-statement_told s text params e (inr (c, _, inr (inl (_, is)))) = ap fault_of is
-statement_told s text params e (inr (c, _, inr (inr (_, is)))) = ap fault_of is
+pub statement_told : (s : State) (text : List ℕ) (params : Row) (e : Error) → IsNoStatement s text params e → table_fault_of e ≡ Store
+statement_told s text params e (inl (fault, _, is)) = ap table_fault_of is
+statement_told s text params e (inr (c, _, inl (_, is))) = ap table_fault_of is
+statement_told s text params e (inr (c, _, inr (inl (_, is)))) = ap table_fault_of is
+statement_told s text params e (inr (c, _, inr (inr (_, is)))) = ap table_fault_of is
 
 -- ---- a statement that is run
 
@@ -95,15 +95,15 @@ Ends old new t params returning command e =
 module _ (text : List ℕ) (params : Row) (command : Command) (schema : Schema) (is : command_of (understood schema text) ≡ command) (plain : IsPlain (understood schema text))
     (quiet : (c : Compiled) → c.command ≡ command → c.returning ≡ None → shows_rows false c ≡ false) (old : State) (has : old.now.schema ≡ schema) (TooBig Why : Type 0)
     (big : (t : List ℕ) → t ≡ statement_of text (understood schema text) → Does old.step_limit (mode_of old) params old.now t None command (Err None) → TooBig)
-    (why : (t : List ℕ) (e : Error) → t ≡ statement_of text (understood schema text) → IsWrite command → IsTrue old.is_open → Does old.step_limit (mode_of old) params old.now t None command (Err (Some e)) → Why × (fault_of e ≡ Store))
+    (why : (t : List ℕ) (e : Error) → t ≡ statement_of text (understood schema text) → IsWrite command → IsTrue old.is_open → Does old.step_limit (mode_of old) params old.now t None command (Err (Some e)) → Why × (table_fault_of e ≡ Store))
     (misplaced : (e : Error) → IsMisplaced old command e → Why) where
-  ended : (new : State) (e : Error) (t : List ℕ) → t ≡ statement_of text (understood schema text) → Ends old new t params None command e → Stops TooBig Why old new (fault_of e)
+  ended : (new : State) (e : Error) (t : List ℕ) → t ≡ statement_of text (understood schema text) → Ends old new t params None command e → Stops TooBig Why old new (table_fault_of e)
   ended new e t same (inl (inl out_of_place, unchanged)) = inr (misplaced e out_of_place, unchanged, misplaced_told old command e out_of_place)
   ended new e t same (inl (inr (inl writes, does), unchanged)) = let it = why t e same writes unchanged.0.was_open does in inr (it.0, unchanged, it.1)
   ended new e t same (inl (inr (inr shows, does), unchanged)) = absurd (let no = shows in cc)
   ended new e t same (inr fails) = inl (failed_for old new _ TooBig (big t same) e fails)
 
-  pub stopped_in : (new : State) (e : Error) → (c : Compiled) × (it : IsStatement old text params c) × RunsAlone false old new text c (timed params c.formats it.now) (Err e) → Stops TooBig Why old new (fault_of e)
+  pub stopped_in : (new : State) (e : Error) → (c : Compiled) × (it : IsStatement old text params c) × RunsAlone false old new text c (timed params c.formats it.now) (Err e) → Stops TooBig Why old new (table_fault_of e)
   stopped_in new e ran =
       let known = sym ran.1.is ∙ ap (λ s. understood s text) has in
       let bare = subst IsPlain (sym known) plain in
@@ -113,7 +113,7 @@ module _ (text : List ℕ) (params : Row) (command : Command) (schema : Schema) 
       ended new e (text_of text ran.0) (ap (statement_of text) known) (subst (λ k. Ends old new (text_of text ran.0) params None k e) as_command (rw (bare.0, bare.1, append-nil params) at run))
 
   module _ (whole : IsWhole text (length params) (understood schema text)) where
-    pub stopped : (new : State) (e : Error) → Executes text params old new (Err e) → Stops TooBig Why old new (fault_of e)
+    pub stopped : (new : State) (e : Error) → Executes text params old new (Err e) → Stops TooBig Why old new (table_fault_of e)
     unfolding ExecutesIn IsNotRun
     stopped new e (inl (inl none)) = absurd (is_statement old text params e (subst (λ s. IsPlain (understood s text)) (sym has) plain) (subst (λ s. IsWhole text (length params) (understood s text)) (sym has) whole) none.0)
     stopped new e (inl (inr fails)) = inl (failed_for old new ⊥ TooBig (λ none. absurd none) e fails)

@@ -17,8 +17,8 @@ use Rattle.sqlite.proofs.StateLemmas.{survives_weaker}
 use Rattle.sqlite.proofs.Callers.{IsPlain, command_of, runs_as}
 use Rattle.tables.proofs.Stopping.{IsWhole, left, of_store, stopped}
 use Rattle.tables.specs.Calls.{Begun, Committed, Faults, Gave, Stops}
-use Rattle.tables.specs.Faults.{fault_of}
-use Rattle.tables.specs.Texts.{Performs}
+use Rattle.tables.specs.Faults.{table_fault_of}
+use Rattle.tables.specs.Texts.{RunsStatement}
 use Rattle.tables.specs.declared.table_fault.TableFault.{TableFault}
 
 -- what a text is read as, whatever the schema
@@ -49,7 +49,7 @@ may sql command said old db h =
 module _ (sql : List ℕ) (command : Command) (said : IsSaid sql command) (quiet : (c : Compiled) → c.command ≡ command → c.returning ≡ None → shows_rows false c ≡ false)
     (silent : IsWrite command → ⊥) (stored : (old : State) (t : List ℕ) → Does old.step_limit (mode_of old) [] old.now t None command (Err None) → ⊥)
     (Why : State → Type 0) (placed : (old : State) (e : Error) → IsMisplaced old command e → Why old) where
-  pub refused_by : (old new : State) (fault : TableFault) (e : Error) → fault ≡ fault_of e → Executes sql [] old new (Err e) → Stops ⊥ (Why old) old new fault
+  pub refused_by : (old new : State) (fault : TableFault) (e : Error) → fault ≡ table_fault_of e → Executes sql [] old new (Err e) → Stops ⊥ (Why old) old new fault
   refused_by old new fault e is h =
       subst (Stops ⊥ (Why old) old new) (sym is)
       (stopped sql [] command old.now.schema (said.is _) (said.plain _) quiet old refl ⊥ (Why old) (λ t _. stored old t) (λ t e _ writes. absurd (silent writes)) (placed old) (said.whole _) new e h)
@@ -73,27 +73,27 @@ rolls_back_out old e (inl (_, inr it)) = it.1
 rolls_back_out old e (inr (_, name, inl release, _)) = absurd (cc)
 rolls_back_out old e (inr (_, name, inr back, _)) = absurd (cc)
 
-pub begin_ran : {A : Type 0} (old new : State) (result : Result A TableFault) → Performs (codes "BEGIN") [] old new result → Gave (Begun old new) old new result
+pub begin_ran : {A : Type 0} (old new : State) (result : Result A TableFault) → RunsStatement (codes "BEGIN") [] old new result → Gave (Begun old new) old new result
 begin_ran old new (Err f) h clean = let stops = refused_by _ Begin said_begin (λ c is none. rw (is, none) refl) (λ h. h) (λ old t h. cc) (λ s. IsTrue s.in_transaction) begins_in old new f h.0 h.1 h.2 in (left _ _ old new f stops, of_store _ _ old new f stops)
 begin_ran old new (Ok a) h clean = let r = runs_as _ [] old new old.now.schema refl Begin (said_begin.is _) (said_begin.plain _) h.0 h.1 in (r.1, r.4)
 
-pub begin_faults : {A : Type 0} (old new : State) (result : Result A TableFault) → (HasCleanDisk new → Performs (codes "BEGIN") [] old new result) → Faults ⊥ (IsTrue old.in_transaction) old new result
+pub begin_faults : {A : Type 0} (old new : State) (result : Result A TableFault) → (HasCleanDisk new → RunsStatement (codes "BEGIN") [] old new result) → Faults ⊥ (IsTrue old.in_transaction) old new result
 begin_faults old new (Err f) performs clean = let h = performs clean in refused_by _ Begin said_begin (λ c is none. rw (is, none) refl) (λ h. h) (λ old t h. cc) (λ s. IsTrue s.in_transaction) begins_in old new f h.0 h.1 h.2
 begin_faults old new (Ok a) performs clean = tt
 
-pub commit_ran : {A : Type 0} (old new : State) (result : Result A TableFault) → Performs (codes "COMMIT") [] old new result → Gave (Committed old new) old new result
+pub commit_ran : {A : Type 0} (old new : State) (result : Result A TableFault) → RunsStatement (codes "COMMIT") [] old new result → Gave (Committed old new) old new result
 commit_ran old new (Err f) h clean = let stops = refused_by _ Commit said_commit (λ c is none. rw (is, none) refl) (λ h. h) (λ old t h. cc) (λ s. s.in_transaction ≡ false) commits_out old new f h.0 h.1 h.2 in (left _ _ old new f stops, of_store _ _ old new f stops)
 commit_ran old new (Ok a) h clean = let r = runs_as _ [] old new old.now.schema refl Commit (said_commit.is _) (said_commit.plain _) h.0 h.1 in (r.0, r.1, r.4)
 
-pub commit_faults : {A : Type 0} (old new : State) (result : Result A TableFault) → (HasCleanDisk new → Performs (codes "COMMIT") [] old new result) → Faults ⊥ (old.in_transaction ≡ false) old new result
+pub commit_faults : {A : Type 0} (old new : State) (result : Result A TableFault) → (HasCleanDisk new → RunsStatement (codes "COMMIT") [] old new result) → Faults ⊥ (old.in_transaction ≡ false) old new result
 commit_faults old new (Err f) performs clean = let h = performs clean in refused_by _ Commit said_commit (λ c is none. rw (is, none) refl) (λ h. h) (λ old t h. cc) (λ s. s.in_transaction ≡ false) commits_out old new f h.0 h.1 h.2
 commit_faults old new (Ok a) performs clean = tt
 
-pub rollback_ran : {A : Type 0} (old new : State) (result : Result A TableFault) → Performs (codes "ROLLBACK") [] old new result → Gave (IsRolledBack old new) old new result
+pub rollback_ran : {A : Type 0} (old new : State) (result : Result A TableFault) → RunsStatement (codes "ROLLBACK") [] old new result → Gave (IsRolledBack old new) old new result
 rollback_ran old new (Err f) h clean = let stops = refused_by _ Rollback said_rollback (λ c is none. rw (is, none) refl) (λ h. h) (λ old t h. cc) (λ s. s.in_transaction ≡ false) rolls_back_out old new f h.0 h.1 h.2 in (left _ _ old new f stops, of_store _ _ old new f stops)
 rollback_ran old new (Ok a) h clean = let r = runs_as _ [] old new old.now.schema refl Rollback (said_rollback.is _) (said_rollback.plain _) h.0 h.1 in r.1
 
-pub rollback_faults : {A : Type 0} (old new : State) (result : Result A TableFault) → (HasCleanDisk new → Performs (codes "ROLLBACK") [] old new result) → Faults ⊥ (old.in_transaction ≡ false) old new result
+pub rollback_faults : {A : Type 0} (old new : State) (result : Result A TableFault) → (HasCleanDisk new → RunsStatement (codes "ROLLBACK") [] old new result) → Faults ⊥ (old.in_transaction ≡ false) old new result
 rollback_faults old new (Err f) performs clean = let h = performs clean in refused_by _ Rollback said_rollback (λ c is none. rw (is, none) refl) (λ h. h) (λ old t h. cc) (λ s. s.in_transaction ≡ false) rolls_back_out old new f h.0 h.1 h.2
 rollback_faults old new (Ok a) performs clean = tt
 
@@ -156,6 +156,6 @@ rollback_ended old new e (inr ran) =
       ]
     ]
 
-pub rollback_ends : {A : Type 0} (old new : State) (result : Result A TableFault) → Performs (codes "ROLLBACK") [] old new result → new.in_transaction ≡ false
+pub rollback_ends : {A : Type 0} (old new : State) (result : Result A TableFault) → RunsStatement (codes "ROLLBACK") [] old new result → new.in_transaction ≡ false
 rollback_ends old new (Err f) h = rollback_ended old new h.0 h.2
 rollback_ends old new (Ok a) h = (runs_as _ [] old new old.now.schema refl Rollback (said_rollback.is _) (said_rollback.plain _) h.0 h.1).1.autocommit

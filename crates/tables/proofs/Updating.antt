@@ -38,7 +38,7 @@ use Rattle.tables.proofs.Deleting.{Lacks, left_from, left_has, equal_is}
 use Rattle.tables.proofs.Statements.{Writer, Stopper, table_writer, table_stopper}
 use Rattle.tables.proofs.Stopping.{in_place}
 use Rattle.tables.proofs.Refusing.{err_same, edit_told, queried_stops, refused_told, not_made}
-use Rattle.tables.specs.Faults.{fault_of}
+use Rattle.tables.specs.Faults.{table_fault_of}
 use Rattle.tables.specs.declared.table_fault.TableFault.TheVariants.{Store}
 use Rattle.tables.specs.Schema.{BookTable, IsTable, IsUnreferenced, table_of}
 use Rattle.tables.specs.Rows.{cells, rows_of, AreNumbered, BecomesTooBig, Changes, Updates}
@@ -195,9 +195,9 @@ module _ (kept : BookTable) (filter terms : List Term) (text : List ℕ)
 
 -- ---- why it is not made
 
-edit_said : (e : Error) (why : Option Refusal) → Some e ≡ option_map edit_error why → fault_of e ≡ Store
+edit_said : (e : Error) (why : Option Refusal) → Some e ≡ option_map edit_error why → table_fault_of e ≡ Store
 edit_said e None h = absurd (cc)
-edit_said e (Some why) h = ap fault_of (some_same h) ∙ edit_told why
+edit_said e (Some why) h = ap table_fault_of (some_same h) ∙ edit_told why
 
 module _ (kept : BookTable) (limit : Option ℕ) (old : Database) (text : List ℕ) (params : Row) (filter terms : List Term) (there : IsTable kept old.schema) (free : IsUnreferenced kept old.schema)
     (test : Row → Bool) (tests : (r : Row) → list_all (holds (params ∷ r ∷ [])) filter ≡ test (cells kept r))
@@ -214,19 +214,19 @@ module _ (kept : BookTable) (limit : Option ℕ) (old : Database) (text : List �
   found_at : slice_get old.schema.tables (place kept old.schema there).0 ≡ Some own
   found_at = (place kept old.schema there).2
 
-  pub update_told : (e : Error) → Does limit plain_mode params old text None (Update (place kept old.schema there).0 program) (Err (Some e)) → fault_of e ≡ Store
+  pub update_told : (e : Error) → Does limit plain_mode params old text None (Update (place kept old.schema there).0 program) (Err (Some e)) → table_fault_of e ≡ Store
   update_told e does =
       let changed = rw found_at at does in
       elim changed [
         | inl first ↦ elim first.1 [
-          | inl asked ↦ let it = queried_stops limit old program params asked.0 asked.1 in ap fault_of (some_same (err_same first.2 ∙ err_same asked.2 ∙ it.1)) ∙ refused_told limit old program params it.0 it.2
+          | inl asked ↦ let it = queried_stops limit old program params asked.0 asked.1 in ap table_fault_of (some_same (err_same first.2 ∙ err_same asked.2 ∙ it.1)) ∙ refused_told limit old program params it.0 it.2
           | inr on ↦ elim on.2 [
             | inl edited ↦ edit_said e edited.1.0 (err_same first.2 ∙ err_same edited.2 ∙ edited.1.2)
             | inr done ↦ absurd (let no = done.2 in cc)
           ]
         ]
         | inr wrote ↦ elim wrote.2 [
-          | inl tested ↦ ap fault_of (some_same (err_same tested.2 ∙ tested.1.1))
+          | inl tested ↦ ap table_fault_of (some_same (err_same tested.2 ∙ tested.1.1))
           | inr kept_keys ↦ elim kept_keys.2 [ inl shown ↦ absurd (let no = shown.1 in cc) | inr done ↦ absurd (let no = done.2 in cc) ]
         ]
       ]

@@ -40,7 +40,7 @@ pub record StandsAs (tables : List Table) (found wanted : Table) : Type 0 where
   pub own : is_own_tree tables found.tree wanted.name ≡ true
 
 -- the text declares the table
-pub record IsTextOf (it : BookTable) (text : List ℕ) : Type 0 where
+pub record DeclaresTable (it : BookTable) (text : List ℕ) : Type 0 where
   pub defines : table_defined_by text ≡ Ok (table_of it 0)
   pub plain : HaveNoDefault it.columns
 

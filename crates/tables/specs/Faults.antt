@@ -7,12 +7,12 @@ use Rattle.tables.specs.declared.table_fault.TableFault.{TableFault}
 use Rattle.tables.specs.declared.table_fault.TableFault.TheVariants.{Store, Memory, NotARecord}
 
 -- want of memory is 91, and every other failure is 90
-abbrev pub fault_of : Error → TableFault
-fault_of (SqliteFailure OutOfMemory) = Memory
-fault_of _ = Store
+abbrev pub table_fault_of : Error → TableFault
+table_fault_of (SqliteFailure OutOfMemory) = Memory
+table_fault_of _ = Store
 
 -- a fault as it is printed
-abbrev pub fault_text : TableFault → List ℕ
-fault_text Store = codes "90 Store"
-fault_text Memory = codes "91 Memory"
-fault_text NotARecord = codes "a row is no record of its table"
+abbrev pub table_fault_text : TableFault → List ℕ
+table_fault_text Store = codes "90 Store"
+table_fault_text Memory = codes "91 Memory"
+table_fault_text NotARecord = codes "a row is no record of its table"

@@ -7,7 +7,7 @@ ghost use Rattle.sqlite_resolve.specs.Compile.{table_defined_by};
 ghost use Rattle.sqlite_schema.specs.declared.schema.Table.{Table as SqlTable};
 ghost use Rattle.sqlite_value.specs.declared.value.Value.TheVariants as value;
 ghost use Rattle.tables.specs.Schema.{BookTable, IsTable, HasColumns, table_found, table_of};
-ghost use Rattle.tables.specs.Declarations.{IsSimple, IsLike, HaveNoDefault, StandsAs, IsTextOf, is_own_tree};
+ghost use Rattle.tables.specs.Declarations.{IsSimple, IsLike, HaveNoDefault, StandsAs, DeclaresTable, is_own_tree};
 ghost use Rattle.tables.specs.declared.table_fault.TableFault.TheVariants as fault;
 
 use crate::table_fault::TableFault;
@@ -187,9 +187,10 @@ pub(crate) fn is_there<S: Alter>(
     conn: &Connection<S>,
     text: &str,
 ) -> Result<bool, TableFault>
-    ensures there { (it : BookTable) → IsTextOf it text.now
+    ensures there { (it : BookTable) → DeclaresTable it text.now
         → IfOk result (λ yes. IsTrue yes ↔ IsTable it (state S.Store conn.now).now.schema) }
-    ensures fault { (it : BookTable) → IsTextOf it text.now → IfErr result (λ e. e ≡ fault.Memory) }
+    ensures fault { (it : BookTable) → DeclaresTable it text.now
+        → IfErr result (λ e. e ≡ fault.Memory) }
 {
     let wanted = define(alloc, text)?;
     Ok(is_there_as(conn, &wanted))
@@ -201,9 +202,10 @@ pub(crate) fn has_columns<S: Alter>(
     conn: &Connection<S>,
     text: &str,
 ) -> Result<bool, TableFault>
-    ensures has { (it : BookTable) → IsTextOf it text.now
+    ensures has { (it : BookTable) → DeclaresTable it text.now
         → IfOk result (λ yes. IsTrue yes ↔ HasColumns it (state S.Store conn.now).now.schema) }
-    ensures fault { (it : BookTable) → IsTextOf it text.now → IfErr result (λ e. e ≡ fault.Memory) }
+    ensures fault { (it : BookTable) → DeclaresTable it text.now
+        → IfErr result (λ e. e ≡ fault.Memory) }
 {
     let wanted = define(alloc, text)?;
     Ok(has_columns_of(conn, &wanted))

@@ -2,7 +2,7 @@
 ghost use Rattle.sqlite.specs.Values.{bound};
 ghost use Rattle.sqlite.specs.State.{HasCleanDisk, IsLive, Survives, CommitsBy};
 ghost use Rattle.sqlite.specs.Held.{state};
-ghost use Rattle.tables.specs.Texts.{Performs};
+ghost use Rattle.tables.specs.Texts.{RunsStatement};
 
 use crate::table_fault::TableFault;
 use sqlite::{Alter, Connection};
@@ -14,7 +14,7 @@ pub(crate) fn run<S: Alter>(
     sql: &str,
     params: &[ValueRef<'_>],
 ) -> Result<(), TableFault>
-    ensures runs { HasCleanDisk (state S.Store conn.new) → Performs sql.now (bound params.now)
+    ensures runs { HasCleanDisk (state S.Store conn.new) → RunsStatement sql.now (bound params.now)
         (state S.Store conn.old) (state S.Store conn.new) result }
     ensures live { IsLive (state S.Store conn.old) }
     ensures survives { Survives (state S.Store conn.old) (state S.Store conn.new)

@@ -17,9 +17,9 @@ pub enum TableFault {
 
 impl fmt::Display for TableFault {
     ghost use Rattle.std.specs.Prelude.{Some};
-    ghost use Rattle.tables.specs.Faults.{fault_text};
+    ghost use Rattle.tables.specs.Faults.{table_fault_text};
 
-    ghost output = { λ fault. Some (fault_text fault) };
+    ghost output = { λ fault. Some (table_fault_text fault) };
 
     fn fmt<W: fmt::Write>(&self, f: &mut fmt::Formatter<W>) -> fmt::Result {
         f.write_str(match self {
@@ -34,9 +34,9 @@ impl std::error::Error for TableFault {}
 
 impl From<Error> for TableFault {
     ghost use Rattle.std.specs.Prelude.{◌≡◌};
-    ghost use Rattle.tables.specs.Faults.{fault_of};
+    ghost use Rattle.tables.specs.Faults.{table_fault_of};
 
-    ghost from_gives = { λ error fault. fault ≡ fault_of error };
+    ghost from_gives = { λ error fault. fault ≡ table_fault_of error };
 
     fn from(error: Error) -> TableFault {
         match error {

@@ -8,7 +8,7 @@ use Rattle.command.specs.declared.refusal.Refusal.{Refusal}
 use Rattle.command.specs.declared.refusal.Refusal.TheVariants.{NumberUsed, NoSuchCrew, CrewExists, NoSuchPairing, PairingExists, SeatTaken, WrongSeat, NotAssigned, PairingCrewed, Flown, Overlap, Limits, NoSuchDuty, GroundExists, NoSuchGround, SegmentCount}
 use Rattle.stored_json.specs.ReplyText.{reply_text}
 use Rattle.stored_json.specs.declared.fault.CodecFault.{CodecFault}
-use Rattle.codec.specs.RefusalText.{fault_reply, refusal_text}
+use Rattle.codec.specs.RefusalText.{fault_reply, refusal_json_text}
 use Rattle.state_rows.specs.declared.fault.StoreFault.{StoreFault}
 use Rattle.state_rows.specs.declared.fault.StoreFault.TheVariants as fault
 use Rattle.http_message.specs.Plan.{Subject, crew, pairing, exceedances}
@@ -49,7 +49,7 @@ Answered = Result Reply Refusal
 -- its text in JSON
 abbrev pub answer_text : Answered → List ℕ
 answer_text (Ok reply) = reply_text reply
-answer_text (Err refusal) = refusal_text refusal
+answer_text (Err refusal) = refusal_json_text refusal
 
 -- the status of an answer: 200, or that of its refusal
 abbrev pub answer_status : Answered → ℕ
@@ -87,8 +87,8 @@ report_answer text = record { status = 200; media_type = PlainText; text = text 
 
 -- the member or the pairing of a report isn't there
 abbrev pub IsAbsent : Subject → Answer → Type 0
-IsAbsent (crew id) answer = answer ≡ json 404 (refusal_text NoSuchCrew)
-IsAbsent (pairing id) answer = answer ≡ json 404 (refusal_text NoSuchPairing)
+IsAbsent (crew id) answer = answer ≡ json 404 (refusal_json_text NoSuchCrew)
+IsAbsent (pairing id) answer = answer ≡ json 404 (refusal_json_text NoSuchPairing)
 IsAbsent exceedances answer = ⊥
 
 -- ---- as the program makes them

@@ -6,7 +6,7 @@ use Rattle.sqlite.specs.Held.{state}
 use Rattle.duty.specs.Plans.{Plan}
 use Rattle.command.specs.declared.refusal.Refusal.{Refusal}
 use Rattle.command.specs.declared.refusal.Refusal.TheVariants.{NoSuchCrew, NoSuchPairing}
-use Rattle.codec.specs.RefusalText.{refusal_text}
+use Rattle.codec.specs.RefusalText.{refusal_json_text}
 use Rattle.roster.specs.Folds as folds
 use Rattle.roster.specs.Folds.{Fold, Replies, import}
 use Rattle.roster.specs.Honest.{Honest}
@@ -49,13 +49,13 @@ IsTextOf s what (Err report.Memory) = ⊤
 
 -- that what a refusal of the book names isn't there
 abbrev pub TellsAbsence : Refusal → Result Answer HandlerFault → Type 0
-TellsAbsence refusal result = Tells (json 404 (refusal_text refusal)) result
+TellsAbsence refusal result = Tells (json 404 (refusal_json_text refusal)) result
 
 -- what a book shows, and the answer that tells it
 abbrev pub IsReportOf : Show → Option (List ℕ) → Answer → Type 0
 IsReportOf what (Some text) answer = answer ≡ report_answer text
-IsReportOf (Crew who) None answer = answer ≡ json 404 (refusal_text NoSuchCrew)
-IsReportOf (Pairing id) None answer = answer ≡ json 404 (refusal_text NoSuchPairing)
+IsReportOf (Crew who) None answer = answer ≡ json 404 (refusal_json_text NoSuchCrew)
+IsReportOf (Pairing id) None answer = answer ≡ json 404 (refusal_json_text NoSuchPairing)
 IsReportOf Exceedances None answer = ⊥
 
 -- the report of a roster was told, if there was memory for it

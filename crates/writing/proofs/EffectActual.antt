@@ -30,7 +30,7 @@ use Rattle.tables.specs.Rows.{begins_with}
 use Rattle.tables.specs.declared.period.PeriodRecord.{PeriodRecord}
 use Rattle.tables.proofs.PeriodTexts.{with_period_times_is}
 use Rattle.writing.specs.Calls.{IsFit, Then}
-use Rattle.state_rows.specs.Rows.{TableName, pairing, period, segment, seat, exceedance, At, PeriodOf, SegmentOf, ExceedanceAt, In, InPairing, InPeriod, InSegment, InSeat, InExceedance, Rows, row_of_period, row_of_segment, row_of_exceedance, times_flown}
+use Rattle.state_rows.specs.Rows.{TableName, pairing, period, segment, seat, exceedance, At, PeriodOf, SegmentOf, ExceedanceAt, InTable, InPairing, InPeriod, InSegment, InSeat, InExceedance, Rows, row_of_period, row_of_segment, row_of_exceedance, times_flown}
 use Rattle.writing.specs.Writing.{FliesPeriod, FliesSegments, RecordsAll}
 use Rattle.writing.proofs.Growing.{SomeOf, placed, some_of, each_grows}
 use Rattle.state_rows.proofs.Lists.{one_value, some_same}
@@ -402,7 +402,7 @@ module _ (s : State) (id : List ℕ) (a : ActualTimes) (r : PairingEntry) (there
     reflown = record s { pairings = changed_at s.pairings id (with_actual a); exceedances = fold (recorded key the_period) s.exceedances es }
 
     abbrev first : sets.Sets
-    first = sets.put period Retimed (In s)
+    first = sets.put period Retimed (InTable s)
 
     abbrev second : sets.Sets
     second = sets.put segment Reflown first
@@ -410,7 +410,7 @@ module _ (s : State) (id : List ℕ) (a : ActualTimes) (r : PairingEntry) (there
     abbrev third : sets.Sets
     third = sets.put exceedance (λ x. SomeOf (NewExceedance key the_period) 0 es x ⊎ InExceedance s x) second
 
-    flown_words : (name : TableName) (row : Row) → third name row ↔ In reflown name row
+    flown_words : (name : TableName) (row : Row) → third name row ↔ InTable reflown name row
     flown_words pairing row = pairings_stay row
     flown_words period row = periods_words row
     flown_words segment row = segments_words row
@@ -424,7 +424,7 @@ module _ (s : State) (id : List ℕ) (a : ActualTimes) (r : PairingEntry) (there
         let one = is.0 in
         let two = is.2.0 in
         let fit_one = updates_keep period of_period (with_period_times a.report a.release) old one fit is.1 in
-        let shows_one : sets.Shows first one = sets.updated period old one fit (In s) rows of_period (with_period_times a.report a.release) is.1 in
+        let shows_one : sets.Shows first one = sets.updated period old one fit (InTable s) rows of_period (with_period_times a.report a.release) is.1 in
         let segments = all_flown id a.period 0 a.segments one two fit_one is.2.1 in
         let fit_two = fit_after one two fit_one segment _ segments in
         let shows_two : sets.Shows second two = sets.changed segment one two fit_one first shows_one _ _ segments (λ x. (
@@ -436,4 +436,4 @@ module _ (s : State) (id : List ℕ) (a : ActualTimes) (r : PairingEntry) (there
           λ h. elim h [ inl new ↦ inl new | inr was ↦ inr ((shows_two exceedance x).0 was) ],
           λ h. elim h [ inl new ↦ inl new | inr was ↦ inr ((shows_two exceedance x).1 was) ],
         )) in
-        sets.shows_as third (In reflown) new flown_words shows_three
+        sets.shows_as third (InTable reflown) new flown_words shows_three

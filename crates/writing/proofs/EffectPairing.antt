@@ -17,7 +17,7 @@ use Rattle.roster.specs.State.{State}
 use Rattle.roster.specs.declared.state.PairingEntry.{PairingEntry}
 use Rattle.tables.specs.Rows.{begins_with}
 use Rattle.writing.specs.Calls.{IsFit}
-use Rattle.state_rows.specs.Rows.{TableName, book, crew, pairing, period, segment, seat, ground_duty, exceedance, request, table, At, PeriodOf, SegmentOf, In, InPairing, InPeriod, InSegment, InSeat, Rows, row_of_pairing, row_of_period, row_of_segment}
+use Rattle.state_rows.specs.Rows.{TableName, book, crew, pairing, period, segment, seat, ground_duty, exceedance, request, table, At, PeriodOf, SegmentOf, InTable, InPairing, InPeriod, InSegment, InSeat, Rows, row_of_pairing, row_of_period, row_of_segment}
 use Rattle.writing.specs.Writing.{AddsPairing, RemovesPairing}
 use Rattle.writing.proofs.Growing.{SomeOf, placed, some_of, each_grows}
 use Rattle.state_rows.proofs.Lists.{one_value}
@@ -123,7 +123,7 @@ module _ (s : State) (plan : Plan) (free : fin.get s.pairings plan.id ≡ None) 
   )
 
   abbrev first : sets.Sets
-  first = sets.put pairing (λ x. (x ≡ row_of_pairing plan.id) ⊎ InPairing s x) (In s)
+  first = sets.put pairing (λ x. (x ≡ row_of_pairing plan.id) ⊎ InPairing s x) (InTable s)
 
   abbrev second : sets.Sets
   second = sets.put period (λ x. SomeOf (NewPeriod plan.id) 0 plan.periods x ⊎ InPeriod s x) first
@@ -131,7 +131,7 @@ module _ (s : State) (plan : Plan) (free : fin.get s.pairings plan.id ≡ None) 
   abbrev third : sets.Sets
   third = sets.put segment (λ x. SomeOf (NewSegments plan.id) 0 plan.periods x ⊎ InSegment s x) second
 
-  added_words : (name : TableName) (row : Row) → third name row ↔ In added name row
+  added_words : (name : TableName) (row : Row) → third name row ↔ InTable added name row
   added_words pairing row = pairing_added row
   added_words period row = periods_added row
   added_words segment row = segments_added row
@@ -143,7 +143,7 @@ module _ (s : State) (plan : Plan) (free : fin.get s.pairings plan.id ≡ None) 
       let one = is.0 in
       let two = is.2.0 in
       let fit_one = inserts_keep pairing (row_of_pairing plan.id) old one fit is.1 in
-      let shows_one = sets.inserted pairing old one fit (In s) rows (row_of_pairing plan.id) is.1 in
+      let shows_one = sets.inserted pairing old one fit (InTable s) rows (row_of_pairing plan.id) is.1 in
       let periods = each_grows period _ (NewPeriod plan.id) (λ _ _ _ _ _ h. h) 0 plan.periods one two fit_one is.2.1 in
       let fit_two = fit_after one two fit_one period _ periods in
       let shows_two : sets.Shows second two = sets.changed period one two fit_one first shows_one _ _ periods (λ x. (
@@ -155,7 +155,7 @@ module _ (s : State) (plan : Plan) (free : fin.get s.pairings plan.id ≡ None) 
         λ h. elim h [ inl new ↦ inl new | inr was ↦ inr ((shows_two segment x).0 was) ],
         λ h. elim h [ inl new ↦ inl new | inr was ↦ inr ((shows_two segment x).1 was) ],
       )) in
-      sets.shows_as third (In added) new added_words shows_three
+      sets.shows_as third (InTable added) new added_words shows_three
 
 -- ---- A pairing that goes
 
@@ -209,7 +209,7 @@ module _ (s : State) (id : List ℕ) (uncrewed_there : (r : PairingEntry) → fi
   )
 
   abbrev left_first : sets.Sets
-  left_first = sets.put segment (λ x. InSegment s x × (of_id x ≡ false)) (In s)
+  left_first = sets.put segment (λ x. InSegment s x × (of_id x ≡ false)) (InTable s)
 
   abbrev left_second : sets.Sets
   left_second = sets.put period (λ x. InPeriod s x × (of_id x ≡ false)) left_first
@@ -217,7 +217,7 @@ module _ (s : State) (id : List ℕ) (uncrewed_there : (r : PairingEntry) → fi
   abbrev left_third : sets.Sets
   left_third = sets.put pairing (λ x. InPairing s x × (of_id x ≡ false)) left_second
 
-  gone_words : (name : TableName) (row : Row) → left_third name row ↔ In gone name row
+  gone_words : (name : TableName) (row : Row) → left_third name row ↔ InTable gone name row
   gone_words pairing row = pairing_gone row
   gone_words period row = periods_gone row
   gone_words segment row = segments_gone row
@@ -229,8 +229,8 @@ module _ (s : State) (id : List ℕ) (uncrewed_there : (r : PairingEntry) → fi
       let one = is.0 in
       let two = is.2.0 in
       let fit_one = deletes_keep segment of_id old one fit is.1 in
-      let shows_one : sets.Shows left_first one = sets.deleted segment old one fit (In s) rows of_id is.1 in
+      let shows_one : sets.Shows left_first one = sets.deleted segment old one fit (InTable s) rows of_id is.1 in
       let fit_two = deletes_keep period of_id one two fit_one is.2.1 in
       let shows_two : sets.Shows left_second two = sets.deleted period one two fit_one left_first shows_one of_id is.2.1 in
       let shows_three : sets.Shows left_third new = sets.deleted pairing two new fit_two left_second shows_two of_id is.2.2 in
-      sets.shows_as left_third (In gone) new gone_words shows_three
+      sets.shows_as left_third (InTable gone) new gone_words shows_three

@@ -16,7 +16,7 @@ use Rattle.roster.specs.declared.change.SeatChange.{SeatChange}
 use Rattle.roster.specs.declared.state.PairingEntry.{PairingEntry}
 use Rattle.tables.specs.Rows.{Changes, begins_with, rows_of}
 use Rattle.writing.specs.Calls.{Then, Each, IsFit}
-use Rattle.state_rows.specs.Rows.{TableName, pairing, period, segment, seat, table, At, HeldSeat, In, InSeat, Rows, row_of_seat, seat_number}
+use Rattle.state_rows.specs.Rows.{TableName, pairing, period, segment, seat, table, At, HeldSeat, InTable, InSeat, Rows, row_of_seat, seat_number}
 use Rattle.writing.specs.Writing.{FreesSeat, Seats, Reseats}
 use Rattle.writing.proofs.EffectPlans.{Pairings, SamePlan, SamePlans, pairing_told, period_told, segment_told}
 use Rattle.writing.proofs.Growing.{changed_twice}
@@ -179,7 +179,7 @@ module _ (s : State) (c : SeatChange) (r : PairingEntry) (there : fin.get s.pair
   ]
 
   seat_words : (name : TableName) (row : Row) →
-      sets.put seat (λ x. NewRow c c.holder x ⊎ (InSeat s x × (of_seat c x ≡ false))) (In s) name row ↔ In after name row
+      sets.put seat (λ x. NewRow c c.holder x ⊎ (InSeat s x × (of_seat c x ≡ false))) (InTable s) name row ↔ InTable after name row
   seat_words seat row = (seat_forth row, seat_back row)
   seat_words pairing row = (pairing_told s (reseated s.pairings c) (plans_forth s.pairings c r there) row, pairing_told after s.pairings (plans_back s.pairings c r there) row)
   seat_words period row = (period_told s (reseated s.pairings c) (plans_forth s.pairings c r there) row, period_told after s.pairings (plans_back s.pairings c r there) row)
@@ -190,7 +190,7 @@ module _ (s : State) (c : SeatChange) (r : PairingEntry) (there : fin.get s.pair
   one_reseated old new fit rows is =
       let changes = seat_changes c c.holder old new fit is in (
         fit_after old new fit seat _ changes,
-        sets.shows_as _ _ new seat_words (sets.changed seat old new fit (In s) rows _ _ changes (λ x. (
+        sets.shows_as _ _ new seat_words (sets.changed seat old new fit (InTable s) rows _ _ changes (λ x. (
           λ h. elim h [ inl new ↦ inl new | inr was ↦ inr ((rows seat x).0 was.0, was.1) ],
           λ h. elim h [ inl new ↦ inl new | inr was ↦ inr ((rows seat x).1 was.0, was.1) ],
         ))),

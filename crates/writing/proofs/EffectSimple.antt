@@ -12,7 +12,7 @@ use Rattle.roster.specs.State.{State}
 use Rattle.roster.specs.declared.state.LoggedCommand.{LoggedCommand}
 use Rattle.tables.specs.Rows.{Inserts, Deletes, begins_with}
 use Rattle.writing.specs.Calls.{IsFit}
-use Rattle.state_rows.specs.Rows.{TableName, crew, ground_duty, request, table, In, InCrew, InGround, InRequest, Rows, row_of_member, row_of_ground, row_of_request}
+use Rattle.state_rows.specs.Rows.{TableName, crew, ground_duty, request, table, InTable, InCrew, InGround, InRequest, Rows, row_of_member, row_of_ground, row_of_request}
 use Rattle.writing.proofs.Sets as sets
 use Rattle.state_rows.proofs.Tests.{fails, others}
 use Rattle.state_rows.proofs.Values.{text_is}
@@ -36,14 +36,14 @@ abbrev with_member : State → List ℕ → Member → State
 with_member s id m = record s { crew = fin.insert s.crew id m }
 
 member_words : (s : State) (id : List ℕ) (m : Member) → fin.get s.crew id ≡ None → (name : TableName) (row : Row) →
-    sets.put crew (λ x. (x ≡ row_of_member id m) ⊎ InCrew s x) (In s) name row ↔ In (with_member s id m) name row
+    sets.put crew (λ x. (x ≡ row_of_member id m) ⊎ InCrew s x) (InTable s) name row ↔ InTable (with_member s id m) name row
 member_words s id m free crew row = crew_added s id m free row
 member_words s id m free name row = (λ h. h, λ h. h)
 
 pub member_added : (s : State) (id : List ℕ) (m : Member) (old new : Database) → fin.get s.crew id ≡ None → IsFit old → Rows s old →
     Inserts (table crew) (row_of_member id m) old new → Rows (with_member s id m) new
 member_added s id m old new free fit rows inserts =
-    sets.shows_as _ _ new (member_words s id m free) (sets.inserted crew old new fit (In s) rows (row_of_member id m) inserts)
+    sets.shows_as _ _ new (member_words s id m free) (sets.inserted crew old new fit (InTable s) rows (row_of_member id m) inserts)
 
 -- ---- A new ground duty
 
@@ -64,14 +64,14 @@ abbrev with_ground : State → GroundPlan → State
 with_ground s g = record s { grounds = fin.insert s.grounds g.id g }
 
 ground_words : (s : State) (g : GroundPlan) → fin.get s.grounds g.id ≡ None → (name : TableName) (row : Row) →
-    sets.put ground_duty (λ x. (x ≡ row_of_ground g.id g) ⊎ InGround s x) (In s) name row ↔ In (with_ground s g) name row
+    sets.put ground_duty (λ x. (x ≡ row_of_ground g.id g) ⊎ InGround s x) (InTable s) name row ↔ InTable (with_ground s g) name row
 ground_words s g free ground_duty row = ground_added s g free row
 ground_words s g free name row = (λ h. h, λ h. h)
 
 pub ground_duty_added : (s : State) (g : GroundPlan) (old new : Database) → fin.get s.grounds g.id ≡ None → IsFit old → Rows s old →
     Inserts (table ground_duty) (row_of_ground g.id g) old new → Rows (with_ground s g) new
 ground_duty_added s g old new free fit rows inserts =
-    sets.shows_as _ _ new (ground_words s g free) (sets.inserted ground_duty old new fit (In s) rows (row_of_ground g.id g) inserts)
+    sets.shows_as _ _ new (ground_words s g free) (sets.inserted ground_duty old new fit (InTable s) rows (row_of_ground g.id g) inserts)
 
 -- ---- A ground duty that goes
 
@@ -94,14 +94,14 @@ ground_gone s id row = (
 )
 
 gone_words : (s : State) (id : List ℕ) (name : TableName) (row : Row) →
-    sets.put ground_duty (λ x. InGround s x × (of_id id x ≡ false)) (In s) name row ↔ In (without_ground s id) name row
+    sets.put ground_duty (λ x. InGround s x × (of_id id x ≡ false)) (InTable s) name row ↔ InTable (without_ground s id) name row
 gone_words s id ground_duty row = ground_gone s id row
 gone_words s id name row = (λ h. h, λ h. h)
 
 pub ground_removed : (s : State) (id : List ℕ) (old new : Database) → IsFit old → Rows s old →
     Deletes (table ground_duty) (of_id id) old new → Rows (without_ground s id) new
 ground_removed s id old new fit rows deletes =
-    sets.shows_as _ _ new (gone_words s id) (sets.deleted ground_duty old new fit (In s) rows (of_id id) deletes)
+    sets.shows_as _ _ new (gone_words s id) (sets.deleted ground_duty old new fit (InTable s) rows (of_id id) deletes)
 
 -- ---- A command that is kept
 
@@ -128,11 +128,11 @@ kept_added s key r free row = (
 )
 
 kept_words : (s : State) (key : KeyParts) (r : LoggedCommand) → fin.get s.requests (key_name key) ≡ None → (name : TableName) (row : Row) →
-    sets.put request (λ x. (x ≡ row_of_request key r) ⊎ InRequest s x) (In s) name row ↔ In (with_request s key r) name row
+    sets.put request (λ x. (x ≡ row_of_request key r) ⊎ InRequest s x) (InTable s) name row ↔ InTable (with_request s key r) name row
 kept_words s key r free request row = kept_added s key r free row
 kept_words s key r free name row = (λ h. h, λ h. h)
 
 pub request_added : (s : State) (key : KeyParts) (r : LoggedCommand) (old new : Database) → fin.get s.requests (key_name key) ≡ None → IsFit old → Rows s old →
     Inserts (table request) (row_of_request key r) old new → Rows (with_request s key r) new
 request_added s key r old new free fit rows inserts =
-    sets.shows_as _ _ new (kept_words s key r free) (sets.inserted request old new fit (In s) rows (row_of_request key r) inserts)
+    sets.shows_as _ _ new (kept_words s key r free) (sets.inserted request old new fit (InTable s) rows (row_of_request key r) inserts)

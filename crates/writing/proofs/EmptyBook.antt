@@ -13,14 +13,14 @@ use Rattle.tables.specs.Rows.{Inserts, rows_of}
 use Rattle.writing.specs.Calls.{Changed, Then}
 use Rattle.writing.specs.Kept.{IsBookOf, AreStored}
 use Rattle.writing.specs.Making.{HasEmpty, Grows, AreUnreferenced, all_tables}
-use Rattle.state_rows.specs.Rows.{TableName, book, crew, pairing, period, segment, seat, ground_duty, exceedance, request, table, HasJust, In, Rows}
+use Rattle.state_rows.specs.Rows.{TableName, book, crew, pairing, period, segment, seat, ground_duty, exceedance, request, table, HasJust, InTable, Rows}
 use Rattle.writing.proofs.Tables.{is_same, rows_stay, stored_stays, no_rows, none_stored, made_book}
 
 nothing : {X : Type 0} (q : List ℕ) (x : X) → fin.get (fin.empty {X = X} {R = name_cmp}) q ≡ Some x → ⊥
 nothing {X} q x e = let no : None ≡ Some x = sym (fin.get-empty {X = X} name_cmp q) ∙ e in cc
 
 -- no table but `book` has a row of the empty book
-no_row : (zone : List ℕ) (name : TableName) (row : Row) → (name ≡ book → ⊥) → In (empty zone) name row → ⊥
+no_row : (zone : List ℕ) (name : TableName) (row : Row) → (name ≡ book → ⊥) → InTable (empty zone) name row → ⊥
 no_row zone book row other is = other refl
 no_row zone crew row other is = nothing _ _ is.0.there
 no_row zone pairing row other is = nothing _ _ is.0.there
@@ -36,7 +36,7 @@ module _ (zone : List ℕ) (mid new : Database) (made : HasEmpty all_tables mid)
   none_before : (name : TableName) (row : Row) → Has (rows_of (table name) mid) row → ⊥
   none_before name row h = subst (λ (rows : List Row). Has rows row) (no_rows mid made name) h
 
-  elsewhere : (name : TableName) → (name ≡ book → ⊥) → is_same book name ≡ false → HasJust (table name) new (In (empty zone) name)
+  elsewhere : (name : TableName) → (name ≡ book → ⊥) → is_same book name ≡ false → HasJust (table name) new (InTable (empty zone) name)
   elsewhere name other differ row = (
     λ h. absurd (none_before name row (subst (λ (rows : List Row). Has rows row) (rows_stay mid new (made_book mid made) book _ inserts name differ) h)),
     λ is. absurd (no_row zone name row other is),

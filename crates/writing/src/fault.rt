@@ -43,10 +43,10 @@ impl From<StoreFault> for CreateFault {
 
 impl From<TableFault> for CreateFault {
     ghost use Rattle.std.specs.Prelude.{◌≡◌};
-    ghost use Rattle.state_rows.specs.Faults.{fault_of};
+    ghost use Rattle.state_rows.specs.Faults.{store_fault_of};
     ghost use Rattle.writing.specs.declared.fault.CreateFault.TheVariants.{Fault};
 
-    ghost from_gives = { λ fault given. given ≡ Fault (fault_of fault) };
+    ghost from_gives = { λ fault given. given ≡ Fault (store_fault_of fault) };
 
     fn from(fault: TableFault) -> CreateFault {
         CreateFault::Fault(StoreFault::from(fault))

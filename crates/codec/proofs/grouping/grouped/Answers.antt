@@ -1,6 +1,6 @@
 use Rattle.std.proofs.Common.{◌≡◌, ◌+◌, ◌++◌, ◌∷◌, [], List, ℕ, length, length-append, subst, arith}
 use Rattle.std.specs.Vec.Iter.{into_iter_items}
-use Rattle.codec.specs.Grouping.{Grows, IsReading}
+use Rattle.codec.specs.Grouping.{AddsSegment, IsReading}
 use Rattle.codec.specs.declared.scheduled.ScheduledSegment.{ScheduledSegment}
 use Rattle.codec.proofs.Loop.{step}
 use Rattle.codec.proofs.grouping.grouped.Goals as goal
@@ -15,6 +15,6 @@ loop-it-preserved c =
     let inv = c.loop-it.invariant in
     let rest = into_iter_items c.next.new.self in
     let reading = subst (λ (r : List ScheduledSegment). IsReading segments done r old) c.in-Some.ensures.steps.0 inv.1 in
-    let grown = subst (λ (n : ℕ). Grows n it old longer) inv.0 c.in-Ok.ensures.grown in
+    let grown = subst (λ (n : ℕ). AddsSegment n it old longer) inv.0 c.in-Ok.ensures.grown in
     let count : c.loop-it.number + 1 ≡ 2 + length (done ++ it ∷ []) = omega (arith, inv.0, length-append done (it ∷ [])) in
     (count, step segments done rest it old longer reading c.in-Ok.ensures.stands c.in-Ok.ensures.place grown)

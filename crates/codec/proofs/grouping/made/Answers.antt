@@ -4,7 +4,7 @@ use Rattle.std.specs.Vec.Iter.{into_iter_items}
 use Rattle.std.proofs.lemmas.List.{map-append}
 use Rattle.duty.specs.Plans.{Plan}
 use Rattle.codec.specs.Grouping.{told}
-use Rattle.codec.specs.Schedule.{is_pairing}
+use Rattle.codec.specs.Schedule.{is_faultless_plan}
 use Rattle.codec.specs.declared.grouping.Draft.{Draft}
 use Rattle.codec.proofs.Loop.{no_pairing}
 use Rattle.codec.proofs.grouping.made.Goals as goal
@@ -17,5 +17,5 @@ returns-in-Err-clause-refused c =
     let inv = c.loop-draft.invariant in
     let split : c.args.drafts.items ≡ done ++ draft ∷ rest = sym inv.0 ∙ ap (λ (r : List Draft). done ++ r) c.in-Some.ensures.steps.0 in
     let tolds = ap (λ (ds : List Draft). map told ds) split ∙ map-append told done (draft ∷ rest) in
-    let made = subst (λ (ps : List Plan). list_all is_pairing ps ≡ true) inv.1 inv.2 in
+    let made = subst (λ (ps : List Plan). list_all is_faultless_plan ps ≡ true) inv.1 inv.2 in
     inr (draft.first, refl, (map told done, map told rest, told draft, tolds, made, no_pairing c.in-Err.field-0 (told draft).1 c.in-Err.ensures, refl))

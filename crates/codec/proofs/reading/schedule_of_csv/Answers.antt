@@ -4,7 +4,7 @@ use Rattle.csv.specs.Reading.{AreRecords, default_config, strip_bom}
 use Rattle.csv.specs.Records.{fields_of}
 use Rattle.csv.specs.declared.parser.State.TheVariants.{StartRecord}
 use Rattle.codec.specs.Grouping.{plans_of, told}
-use Rattle.codec.specs.Schedule.{HasRecords, Holds}
+use Rattle.codec.specs.Schedule.{HasRecords, IsHeaderWithSegments}
 use Rattle.codec.proofs.Loop.{are_of, unmade}
 use Rattle.codec.proofs.Planned.{all_planned}
 use Rattle.codec.proofs.reading.schedule_of_csv.Goals as goal
@@ -19,7 +19,7 @@ returns-clause-refused c =
     let read = subst (λ (t : List ℕ). AreRecords default_config StartRecord t (map fields_of c.in_ok-records.records.items)) (ap strip_bom is_text.0 ∙ is_text.1.1) c.in_ok-records.ensures in
     let all : map fields_of c.in_ok-records.records.items ≡ rows.0 ∷ rows.1 = search (c.deref.ensures.value, rows.2) in
     let records : HasRecords text (rows.0 ∷ rows.1) = subst (λ (rs : List (List (List ℕ))). HasRecords text rs) all read in
-    let holds : Holds text segments = (is_text.1, rows.1, rows.0, records, rows.3, rows.4) in
+    let holds : IsHeaderWithSegments text segments = (is_text.1, rows.1, rows.0, records, rows.3, rows.4) in
     let grouped = c.in_ok-grouped.ensures.grouped in
     let are = are_of tolds segments grouped.0 grouped.1 (all_planned c.in_ok-grouped.field-0.items) in
     let placed = c.in_ok-grouped.ensures.placed in
