@@ -11,8 +11,8 @@ use Rattle.roster.specs.declared.change.Change.{Change}
 use Rattle.state_rows.specs.declared.fault.StoreFault.{StoreFault}
 use Rattle.state_rows.specs.declared.fault.StoreFault.TheVariants.{Store, Memory}
 use Rattle.lookup.specs.Reads.{ChangesNothing, IsOpen, Shows}
-use Rattle.writing.specs.Kept.{Holds, IsBookOf, KeepOthers}
-use Rattle.writing.specs.Next.{IsNext}
+use Rattle.writing.specs.Kept.{HoldBookOf, IsBookOf, KeepOthers}
+use Rattle.writing.specs.Next.{IsAcceptedChange}
 use Rattle.writing.specs.Outcomes.{CrashAddsNothing, CrashAddsOnly, HoldsNow, CrashLeaves, CrashLeavesSome, StaysOpen, StillShows, either, one}
 use Rattle.book.specs.Asking.{StepOutcome, Done}
 use Rattle.book.specs.Kept.{HasOne, IsKept, Keeps, StillHolds, either_kept, is_store_fault}
@@ -36,7 +36,7 @@ module _ (now : conn.State) (s t : State) (same : HasCleanDisk now → t ≡ s) 
 
   leaves_if : (was : State) → CrashLeaves now (either_kept was s) → CrashLeaves now (either_kept was t)
   leaves_if was leaves = record {
-    crash = λ clean trees may. subst (λ (x : State). (r : State) × either_kept was x r × Holds trees r) (sym (same clean)) (leaves.crash clean trees may);
+    crash = λ clean trees may. subst (λ (x : State). (r : State) × either_kept was x r × HoldBookOf trees r) (sym (same clean)) (leaves.crash clean trees may);
   }
 
 -- ---- A read
@@ -139,12 +139,12 @@ did_answer now was wanted a keeps shown same = record {
   done = (keeps_if now was wanted same keeps, holds_if now was wanted same shown, now_if now was wanted same);
 }
 
-module _ (old new : conn.State) (was : State) (change : Change) (keeps : Keeps old was) (held : StillHolds old was) (next : HasCleanDisk old → IsNext was change) (clean : HasCleanDisk new → HasCleanDisk old) (some : CrashLeavesSome new)
+module _ (old new : conn.State) (was : State) (change : Change) (keeps : Keeps old was) (held : StillHolds old was) (next : HasCleanDisk old → IsAcceptedChange was change) (clean : HasCleanDisk new → HasCleanDisk old) (some : CrashLeavesSome new)
     (others : CrashAddsOnly old new (KeepOthers old.now)) (counts : old.faults ≤ new.faults) where
   -- it was kept
   pub did_keep : {A : Type 0} (a : A) → IsCommand change.command →
-      (IsNext was change → CrashLeaves old (one was) → CrashLeaves new (one (after was change))) →
-      (IsNext was change → CrashLeaves old (one was) → HoldsNow new (after was change)) → StepOutcome old new was (after was change) (Ok a)
+      (IsAcceptedChange was change → CrashLeaves old (one was) → CrashLeaves new (one (after was change))) →
+      (IsAcceptedChange was change → CrashLeaves old (one was) → HoldsNow new (after was change)) → StepOutcome old new was (after was change) (Ok a)
   did_keep a command ok made =
       let shown : HoldsNow new (after was change) = λ c. made (next (clean c)) keeps.leaves c in
       record {
@@ -167,7 +167,7 @@ module _ (old new : conn.State) (was : State) (change : Change) (keeps : Keeps o
   -- it was not, or nobody knows
   pub did_fail : {A B : Type 0} (fault : StoreFault) →
       (CrashLeaves old (one was) → ◌≡◌ {A = Result B StoreFault} (Err fault) (Err Memory) → CrashLeaves new (one was)) →
-      (IsNext was change → CrashLeaves old (one was) → ◌≡◌ {A = Result B StoreFault} (Err fault) (Err Store) → CrashLeaves new (either was (after was change))) →
+      (IsAcceptedChange was change → CrashLeaves old (one was) → ◌≡◌ {A = Result B StoreFault} (Err fault) (Err Store) → CrashLeaves new (either was (after was change))) →
       (◌≡◌ {A = Result B StoreFault} (Err fault) (Err Store) → IsCommand change.command) → StillShows old new →
       (◌≡◌ {A = Result B StoreFault} (Err fault) (Err Memory) → StaysOpen old new) → StepOutcome {A = A} old new was (after was change) (Err fault)
   did_fail Memory memory store command shown still_open = record {

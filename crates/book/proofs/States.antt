@@ -38,7 +38,7 @@ use Rattle.roster.specs.declared.state.LoggedCommand.{LoggedCommand}
 use Rattle.loading.specs.SameRows.{HasInstants}
 use Rattle.loading.proofs.SameStates.{database_holds_one_state}
 use Rattle.store.specs.Found.{IsFound}
-use Rattle.writing.specs.Kept.{IsBookOf, Holds}
+use Rattle.writing.specs.Kept.{IsBookOf, HoldBookOf}
 use Rattle.writing.specs.Outcomes.{CrashAddsNothing, HoldsNow, CrashLeaves, CrashLeavesSome, StillShows, either, one}
 use Rattle.book.specs.Kept.{IsKept, Keeps, StillHolds, either_kept}
 
@@ -62,7 +62,7 @@ kept_after s key instruction change reply is kept step =
     }
 
 -- trees hold one such state at most
-pub one_held : (trees : Trees) (s t : State) → Holds trees s → Holds trees t → IsKept s → IsKept t → s ≡ t
+pub one_held : (trees : Trees) (s t : State) → HoldBookOf trees s → HoldBookOf trees t → IsKept s → IsKept t → s ≡ t
 one_held trees s t p q a b =
     let same : p.0 ≡ q.0 = lists_once (trees catalog_tree) p.0 q.0 p.1.database.lists q.1.database.lists in
     let first : IsBookOf s (record { schema = q.0; trees = trees }) = subst (λ (schema : Schema). IsBookOf s (record { schema = schema; trees = trees })) same p.1 in
@@ -76,7 +76,7 @@ pub same_state : (now : conn.State) (s t : State) → Keeps now s → Keeps now 
 same_state now s t a b clean = ∥∥₁_elim (a.some clean) (one_state s t) (λ left.
     let x = a.leaves.crash clean left.0 left.1 in
     let y = b.leaves.crash clean left.0 left.1 in
-    one_held left.0 s t (subst (Holds left.0) x.1 x.2) (subst (Holds left.0) y.1 y.2) (a.kept clean) (b.kept clean))
+    one_held left.0 s t (subst (HoldBookOf left.0) x.1 x.2) (subst (HoldBookOf left.0) y.1 y.2) (a.kept clean) (b.kept clean))
 
 -- what was so of a crash stays so where it leaves nothing else
 pub still_leaves : (old new : conn.State) (P : State → Type 0) → CrashAddsNothing old new → CrashLeaves old P → CrashLeaves new P
@@ -164,7 +164,7 @@ module _ (old new : conn.State) (s r : State) (held : Keeps old r) (keeps : Keep
   shows_as of t shown is clean = let it = shown clean in (it.0, subst (λ (x : State). IsBookOf x new.now) (is ∙ ap of (same clean)) it.1)
 
   pub either_as : (of : State → State) → CrashLeaves new (either_kept r (of r)) → CrashLeaves new (either_kept s (of s))
-  either_as of now = record { crash = λ clean trees may. subst (λ (x : State). (t : State) × either_kept x (of x) t × Holds trees t) (same clean) (now.crash clean trees may) }
+  either_as of now = record { crash = λ clean trees may. subst (λ (x : State). (t : State) × either_kept x (of x) t × HoldBookOf trees t) (same clean) (now.crash clean trees may) }
 
   pub still_as : StillHolds new r → StillHolds new s
   still_as shown clean opened = subst (λ (x : State). IsBookOf x new.now) (same clean) (shown clean opened)

@@ -12,7 +12,7 @@ ghost use Rattle.roster.specs.Folds.{answer_of, next};
 ghost use Rattle.roster.specs.State.{State, empty};
 ghost use Rattle.roster.specs.Steps.{step_of};
 ghost use Rattle.lookup.specs.Reads.{ChangesNothing, IsOpen};
-ghost use Rattle.writing.specs.Commits.{IsMade, IsNotMade};
+ghost use Rattle.writing.specs.Commits.{AreTablesMade, IsNotMade};
 ghost use Rattle.writing.specs.Making.{IsFree};
 ghost use Rattle.writing.specs.Outcomes.{CrashAddsNothing, IsOutside, CrashLeavesSome, StaysOpen, StillShows};
 ghost use Rattle.book.specs.Answered.{IsAnswered};
@@ -77,7 +77,7 @@ impl<S: Alter> Book<S> {
         requires { IsOutside (state S.Store conn) }
         ensures fresh { IfOk result (λ b. b.failed ≡ false) }
         ensures made { IfOk result
-            (λ b. IsMade (state S.Store conn) (state S.Store b.held) (empty zone)) }
+            (λ b. AreTablesMade (state S.Store conn) (state S.Store b.held) (empty zone)) }
         ensures kept { IfOk result (λ b. IsDurablyAt S.Store b (empty zone)) }
         ensures not_made { IfErr result (λ e. IsNotMade S.Store conn e.1 (empty zone) e.0) }
         ensures refused { (¬ IsFree (state S.Store conn).now.schema)

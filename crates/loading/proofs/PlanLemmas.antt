@@ -20,7 +20,7 @@ use Rattle.state_rows.proofs.FewPeriods.{few_periods}
 use Rattle.state_rows.proofs.Lists.{same_list, some_same, one_value}
 use Rattle.loading.proofs.SamePairings.{fdps_same}
 use Rattle.loading.specs.PlanRows.{Periods, Segments, period_name, segment_name, HasNoGap, HasNoGaps, AreUngapped, EachBeside, AreTimes, block_pair, actual_pair}
-use Rattle.loading.specs.PlanRows.{planned_segment, IsSegment, HasRowOf, AreSegments, HasNoSegments, IsActualOf, HasSegments, IsReadPeriod, HasPeriodRow, ArePeriodsRead, HasNoPeriods, IsTold}
+use Rattle.loading.specs.PlanRows.{planned_segment, IsSegment, HasRowOf, AreSegments, HasNoSegments, IsActualOf, HasSegments, IsReadPeriod, HasPeriodRow, ArePeriodsRead, HasNoPeriods, IsPairingOfRows}
 use Rattle.loading.specs.Reading.{Blames}
 use Rattle.state_rows.specs.Rows.{times_flown}
 use Rattle.loading.specs.declared.fault.LoadFault.{LoadFault}
@@ -406,18 +406,18 @@ module _ (periods : Periods) (rows : Segments) (id : List ℕ) where
     each_as_planned = same_plan planned (λ i fdp e. (beside planned actuals are.count are.each i fdp e).2.2.planned)
 
     -- a pairing that the rows tell of has just these periods
-    same_periods : (r : PairingEntry) → IsTold periods rows id r → planned ≡ r.plan.periods
+    same_periods : (r : PairingEntry) → IsPairingOfRows periods rows id r → planned ≡ r.plan.periods
     same_periods r told = same_listed (λ k. fin.get periods (period_name id k)) (Beside actuals) (Beside r.actuals) planned r.plan.periods as_listed
         (beside r.plan.periods r.actuals told.places told.each, told.all) (beside_once actuals r.actuals)
 
-    pub refused_plan : (fault : DutyFault) → checked (pairing_fault (plan id planned)) (plan id planned) ≡ Err fault → (r : PairingEntry) → IsTold periods rows id r → ⊥
+    pub refused_plan : (fault : DutyFault) → checked (pairing_fault (plan id planned)) (plan id planned) ≡ Err fault → (r : PairingEntry) → IsPairingOfRows periods rows id r → ⊥
     refused_plan fault err r told =
         let periods_are : map as_planned planned ≡ r.plan.periods = each_as_planned ∙ same_periods r told in
         let same : r.plan ≡ plan id planned = λ i. record { id = told.named i; periods = sym periods_are i } in
         refused_of (pairing_fault (plan id planned)) (plan id planned) fault err (sym (ap pairing_fault same) ∙ told.plan)
 
     pub told_plan : (p : Plan) → checked (pairing_fault (plan id planned)) (plan id planned) ≡ Ok p →
-        IsTold periods rows id (record { plan = p; actuals = actuals; captain = None; first_officer = None })
+        IsPairingOfRows periods rows id (record { plan = p; actuals = actuals; captain = None; first_officer = None })
     told_plan p ok =
         let made = made_of (pairing_fault (plan id planned)) (plan id planned) p ok in
         let periods_are : planned ≡ p.periods = sym each_as_planned ∙ ap (λ x. x.periods) made.1 in
@@ -429,7 +429,7 @@ module _ (periods : Periods) (rows : Segments) (id : List ℕ) where
           all = λ k it e. let at = as_listed.1 k it e in (at.0, at.1, subst (λ l. at.0 < length l) periods_are at.2);
         }
 
-  pub untold : HasNoPeriods periods rows id → (r : PairingEntry) → IsTold periods rows id r → ⊥
+  pub untold : HasNoPeriods periods rows id → (r : PairingEntry) → IsPairingOfRows periods rows id r → ⊥
   untold bad r told =
       let at = told.all bad.0 bad.1 bad.2 in
       let n = at.1 in

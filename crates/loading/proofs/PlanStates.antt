@@ -23,7 +23,7 @@ use Rattle.loading.proofs.PlanLemmas.{there_within, same_plan, same_listed, time
 use Rattle.loading.proofs.SamePairings.{planned_report}
 use Rattle.state_rows.proofs.Values.{numbers_same, text_is, number_is}
 use Rattle.loading.specs.Loading.{IsPlanned, actual_has_instants}
-use Rattle.loading.specs.PlanRows.{Periods, Segments, period_name, segment_name, AreTimes, block_pair, actual_pair, IsSegment, HasRowOf, HasPeriodRow, IsReadPeriod, HasSegments, IsTold}
+use Rattle.loading.specs.PlanRows.{Periods, Segments, period_name, segment_name, AreTimes, block_pair, actual_pair, IsSegment, HasRowOf, HasPeriodRow, IsReadPeriod, HasSegments, IsPairingOfRows}
 use Rattle.loading.specs.PlanRows.{PeriodRows, SegmentRows, ArePeriodsKeyed, AreSegmentsKeyed}
 use Rattle.state_rows.specs.Rows.{InPeriod, InSegment, At, PeriodOf, SegmentOf, row_of_period, row_of_segment, times_flown}
 
@@ -192,12 +192,12 @@ module _ (s : State) (m : Periods) (n : Segments) (m_keyed : ArePeriodsKeyed m) 
       (row.1.place, known.1 ∙ number_is (at_column 1), subst (λ (x : PairingEntry). row.1.place < length x.plan.periods) same (slice_get_within row.0.value.plan.periods row.1.place row.1.fdp row.1.planned))
 
   -- so the refusal of a pairing is right: no state has it
-  pub state_told : IsTold m n id r
+  pub state_told : IsPairingOfRows m n id r
   state_told = record { named = is.named; plan = is.plan; places = is.places; each = period_each; all = period_all }
 
 -- ---- What rows tell has those rows, and is a pairing that is planned
 
-module _ (m : Periods) (n : Segments) (m_keyed : ArePeriodsKeyed m) (n_keyed : AreSegmentsKeyed n) (id : List ℕ) (r : PairingEntry) (told : IsTold m n id r) where
+module _ (m : Periods) (n : Segments) (m_keyed : ArePeriodsKeyed m) (n_keyed : AreSegmentsKeyed n) (id : List ℕ) (r : PairingEntry) (told : IsPairingOfRows m n id r) where
   period_same : (place : ℕ) (fdp : Fdp) (actual : Option ActualTimes) (it : PeriodRecord) → fin.get m (period_name id (place + 1)) ≡ Some it → IsReadPeriod n id (place + 1) it fdp actual →
       row_of_period id place fdp actual ≡ period_row it
   period_same place fdp actual it e is =
@@ -318,7 +318,7 @@ module _ (n : Segments) (id : List ℕ) (number : ℕ) (fdp : Fdp) where
       let same : a ≡ b = λ i. record { period = (w.0 ∙ sym v.0) i; report = (pair i).0; release = (pair i).1; segments = segments i } in
       ap Some same
 
-module _ (m : Periods) (n : Segments) (id : List ℕ) (r q : PairingEntry) (told : IsTold m n id r) (also : IsTold m n id q) where
+module _ (m : Periods) (n : Segments) (id : List ℕ) (r q : PairingEntry) (told : IsPairingOfRows m n id r) (also : IsPairingOfRows m n id q) where
   periods_once : r.plan.periods ≡ q.plan.periods
   periods_once = same_listed (λ k. fin.get m (period_name id k)) (Beside m n id r.actuals) (Beside m n id q.actuals) r.plan.periods q.plan.periods
       (beside m n id r.plan.periods r.actuals told.places told.each, told.all) (beside m n id q.plan.periods q.actuals also.places also.each, also.all) (beside_once m n id r.actuals q.actuals)
@@ -334,7 +334,7 @@ module _ (m : Periods) (n : Segments) (id : List ℕ) (r q : PairingEntry) (told
       let same : a ≡ b.0 = actual_once n id (i + 1) fdp.0 row.0 a b.0 row.2 (subst (λ v. IsReadPeriod n id (i + 1) v fdp.0 b.0) alike other.2) in
       b.1 ∙ ap Some (sym same)
 
-pub told_once : (m : Periods) (n : Segments) (id : List ℕ) (r q : PairingEntry) → IsTold m n id r → IsTold m n id q → (r.plan ≡ q.plan) × (r.actuals ≡ q.actuals)
+pub told_once : (m : Periods) (n : Segments) (id : List ℕ) (r q : PairingEntry) → IsPairingOfRows m n id r → IsPairingOfRows m n id q → (r.plan ≡ q.plan) × (r.actuals ≡ q.actuals)
 told_once m n id r q told also = (
   λ i. record { id = (told.named ∙ sym also.named) i; periods = periods_once m n id r q told also i },
   same_list r.actuals q.actuals (actual_kept m n id r q told also) (actual_kept m n id q r also told),
@@ -343,7 +343,7 @@ told_once m n id r q told also = (
 -- ---- A state of which the rows tell each pairing has just these rows
 
 module _ (s : State) (m : Periods) (n : Segments) (m_keyed : ArePeriodsKeyed m) (n_keyed : AreSegmentsKeyed n)
-    (told : (id : List ℕ) (r : PairingEntry) → fin.get s.pairings id ≡ Some r → IsTold m n id r)
+    (told : (id : List ℕ) (r : PairingEntry) → fin.get s.pairings id ≡ Some r → IsPairingOfRows m n id r)
     (of_pairing : (it : PeriodRecord) → fin.get m (period_name it.pairing it.number) ≡ Some it → (r : PairingEntry) × (fin.get s.pairings it.pairing ≡ Some r))
     (of_period : (it : SegmentRecord) → fin.get n (segment_name it.pairing it.period it.number) ≡ Some it → (p : PeriodRecord) × (fin.get m (period_name it.pairing it.period) ≡ Some p)) where
   pub periods_are : (row : Row) → PeriodRows m row ↔ InPeriod s row

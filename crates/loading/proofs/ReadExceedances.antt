@@ -38,7 +38,7 @@ use Rattle.state_rows.proofs.Tests.{passes}
 use Rattle.state_rows.proofs.Values.{ids_same, int_is, text_is, number_is}
 use Rattle.loading.proofs.Telling.{unread, of_blame, clean_before}
 use Rattle.loading.specs.Loading.{IsKey, IsExceedance, ArePlanned, AreSeated, name_of, IsRight, IsSeatRight, AreRight, IsDamaged, Justifies}
-use Rattle.loading.specs.Reading.{ExceedancesRead, IsFlown, IsRecorded, row_of_recorded, ReadsAs, Blames, HasRows, IsUnreadable, AgreesThrough, Mapped, AreOnce, TellsOf, HasStranger}
+use Rattle.loading.specs.Reading.{ExceedancesRead, IsFlown, IsExceedanceInRange, row_of_recorded, ReadsAs, Blames, HasRows, IsUnreadable, AgreesThrough, Mapped, AreOnce, TellsOf, HasStranger}
 use Rattle.loading.specs.declared.fault.LoadFault.{LoadFault}
 use Rattle.loading.specs.declared.fault.TableName.TheVariants as table_name
 use Rattle.state_rows.specs.Rows.{HasJust, row_of_pairing, exceedance, ground_duty}
@@ -47,7 +47,7 @@ use Rattle.state_rows.specs.Rows.{HasJust, row_of_pairing, exceedance, ground_du
 
 module _ (members : Crew) (pairings : fin.FinMap name_cmp PairingEntry) (it : ExceedanceRecord) where
   abbrev Tells : Option Entry → Type 0
-  Tells = TellsOf (λ id p e. e ≡ entry.Exceedance id p) row_of_recorded (IsRecorded members pairings) (exceedance_row it)
+  Tells = TellsOf (λ id p e. e ≡ entry.Exceedance id p) row_of_recorded (IsExceedanceInRange members pairings) (exceedance_row it)
 
   pub no_key : ((key : KeyParts) → IsKey key → it.number ≡ pos key.number → it.part ≡ key.part → ⊥) → Tells None
   no_key none id p e is = none id.key is.is.is_key (int_is (ap (λ (row : Row). column row 0) e)) (number_is (ap (λ (row : Row). column row 1) e))
@@ -110,8 +110,8 @@ module _ (members : Crew) (pairings : fin.FinMap name_cmp PairingEntry) (it : Ex
 pub none_read : (records : List ExceedanceRecord) (s : State) → s.exceedances ≡ fin.empty → ExceedancesRead records 0 s s
 none_read records s none = record {
   same = refl;
-  mapped = λ once. subst (Mapped name_of row_of_recorded (IsRecorded s.crew s.pairings) (take 0 (map exceedance_row records))) (sym none)
-      (nothing_mapped name_of ids_same row_of_recorded (IsRecorded s.crew s.pairings));
+  mapped = λ once. subst (Mapped name_of row_of_recorded (IsExceedanceInRange s.crew s.pairings) (take 0 (map exceedance_row records))) (sym none)
+      (nothing_mapped name_of ids_same row_of_recorded (IsExceedanceInRange s.crew s.pairings));
 }
 
 module _ (records : List ExceedanceRecord) (at : ℕ) (it : ExceedanceRecord) (there : slice_get records at ≡ Some it) where
@@ -119,7 +119,7 @@ module _ (records : List ExceedanceRecord) (at : ℕ) (it : ExceedanceRecord) (t
   as_begun : (s t : State) (e : Option Entry) → ExceedancesRead records at s t → Tells t.crew t.pairings it e → Tells s.crew s.pairings it e
   as_begun s t e read = subst (λ (r : State). Tells r.crew r.pairings it e) read.same
 
-  pub stranger : (s t : State) → ExceedancesRead records at s t → Tells t.crew t.pairings it None → HasStranger row_of_recorded (IsRecorded s.crew s.pairings) (map exceedance_row records)
+  pub stranger : (s t : State) → ExceedancesRead records at s t → Tells t.crew t.pairings it None → HasStranger row_of_recorded (IsExceedanceInRange s.crew s.pairings) (map exceedance_row records)
   stranger s t read none = record { row = exceedance_row it; here = mapped_at exceedance_row records at it there; strange = as_begun s t None read none }
 
   pub one_read : (s t u : State) (e : Entry) → Tells t.crew t.pairings it (Some e) → ExceedancesRead records at s t → u ≡ put t e → ExceedancesRead records (at + 1) s u
@@ -131,8 +131,8 @@ module _ (records : List ExceedanceRecord) (at : ℕ) (it : ExceedanceRecord) (t
       let exceedances_are : u.exceedances ≡ fin.insert t.exceedances (name_of id) p = ap (λ (r : State). r.exceedances) is in
       record {
         same = is ∙ (λ i. record (read.same i) { exceedances = fin.insert t.exceedances (name_of id) p }) ∙ (λ i. record s { exceedances = sym exceedances_are i });
-        mapped = λ once. subst (λ m. Mapped name_of row_of_recorded (IsRecorded s.crew s.pairings) (take (at + 1) (map exceedance_row records)) m) (sym exceedances_are)
-            (next_mapped name_of ids_same row_of_recorded (IsRecorded s.crew s.pairings) t.exceedances id p (map exceedance_row records) at
+        mapped = λ once. subst (λ m. Mapped name_of row_of_recorded (IsExceedanceInRange s.crew s.pairings) (take (at + 1) (map exceedance_row records)) m) (sym exceedances_are)
+            (next_mapped name_of ids_same row_of_recorded (IsExceedanceInRange s.crew s.pairings) t.exceedances id p (map exceedance_row records) at
             (mapped_place exceedance_row records at it there ∙ ap Some told.3) (read.mapped once) told.4 once);
       }
 
@@ -242,7 +242,7 @@ module _ (s : State) (db : Database) (above : AgreesThrough ground_duty s db) wh
   pub unreadable : IsUnreadable exceedance IsExceedanceRow db → IsDamaged exceedance db
   unreadable why = damaged (not_unreadable db why)
 
-  pub strange : (rows : List Row) → HasRows exceedance db rows → HasStranger row_of_recorded (IsRecorded s.crew s.pairings) rows → IsDamaged exceedance db
+  pub strange : (rows : List Row) → HasRows exceedance db rows → HasStranger row_of_recorded (IsExceedanceInRange s.crew s.pairings) rows → IsDamaged exceedance db
   strange rows read stranger = damaged (λ right.
       let it = recorded_in right.0 db right.1 stranger.row ((read.all stranger.row).1 stranger.here) in
       let is = known_here s right.0 db above.right.0 right.1.0.0 it.0 it.1 it.3 in
@@ -254,7 +254,7 @@ module _ (s : State) (db : Database) (above : AgreesThrough ground_duty s db) wh
       ((read.all (row_of_recorded id p)).1 first) ((read.all (row_of_recorded id q)).1 second) (itself id p) (itself id q)
 
   pub right : (rows : List Row) (t : State) → HasRows exceedance db rows → t ≡ record s { exceedances = t.exceedances } →
-      (AreOnce row_of_recorded rows → Mapped name_of row_of_recorded (IsRecorded s.crew s.pairings) rows t.exceedances) → AgreesThrough exceedance t db
+      (AreOnce row_of_recorded rows → Mapped name_of row_of_recorded (IsExceedanceInRange s.crew s.pairings) rows t.exceedances) → AgreesThrough exceedance t db
   right rows t read same mapped =
       let map = mapped (exceedances_once rows read) in
       record {
@@ -290,20 +290,20 @@ module _ (s : State) (old new : conn.State) (above : HasCleanDisk old → Agrees
 
   pub is_read : (records seen : List ExceedanceRecord) (result : Result State LoadFault) → seen ≡ records →
       (HasCleanDisk new → IsUnchanged old new × HasRows exceedance old.now (map exceedance_row records)) → CrashLeavesNoMore old new →
-      MatchResult result (ExceedancesRead seen (length seen) s) (Blames table_name.Exceedance (HasStranger row_of_recorded (IsRecorded s.crew s.pairings) (map exceedance_row seen))) →
+      MatchResult result (ExceedancesRead seen (length seen) s) (Blames table_name.Exceedance (HasStranger row_of_recorded (IsExceedanceInRange s.crew s.pairings) (map exceedance_row seen))) →
       ReadsAs Now (λ f. Justifies f old.now) old new result
   is_read records seen (Ok r) same saw left done = record {
     told = λ clean.
         let it = saw clean in
         let read = subst (λ l. ExceedancesRead l (length l) s r) same done in
         let mapped = λ (once : AreOnce row_of_recorded (map exceedance_row records)).
-        subst (λ l. Mapped name_of row_of_recorded (IsRecorded s.crew s.pairings) l r.exceedances) (all_taken exceedance_row records) (read.mapped once) in
+        subst (λ l. Mapped name_of row_of_recorded (IsExceedanceInRange s.crew s.pairings) l r.exceedances) (all_taken exceedance_row records) (read.mapped once) in
         (it.0, (right s old.now (above (clean_before old new left clean)) (map exceedance_row records) r it.1 read.same mapped, read.same));
     left = left;
   }
   is_read records seen (Err fault) same saw left blame = record {
     told = λ clean.
-        let why = subst (λ l. Blames table_name.Exceedance (HasStranger row_of_recorded (IsRecorded s.crew s.pairings) (map exceedance_row l)) fault) same blame in
+        let why = subst (λ l. Blames table_name.Exceedance (HasStranger row_of_recorded (IsExceedanceInRange s.crew s.pairings) (map exceedance_row l)) fault) same blame in
         of_blame table_name.Exceedance _ old.now (strange s old.now (above (clean_before old new left clean)) (map exceedance_row records) (saw clean).1) fault why;
     left = left;
   }

@@ -41,8 +41,8 @@ use Rattle.loading.proofs.Telling.{clean_before, of_blame}
 use Rattle.state_rows.proofs.Values.{text_is}
 use Rattle.loading.specs.Keyed.{Ids, AreIds, HasIds, HasPeriods, HasSegmentsOf, HasUntold, IsPairingOf, IsPeriodTable, IsSegmentOf, IsSegmentTable, PairingsRead}
 use Rattle.loading.specs.Loading.{AreRight, IsCrewRight, IsDamaged, IsPairingRight, IsPlanned, IsSegmentRight, Justifies, named}
-use Rattle.loading.specs.PlanRows.{IsTold, PeriodRows, Periods, SegmentRows, Segments, period_name, segment_name}
-use Rattle.loading.specs.Reading.{AreFree, Blames, IsFree, AgreesThrough, ReadsAs}
+use Rattle.loading.specs.PlanRows.{IsPairingOfRows, PeriodRows, Periods, SegmentRows, Segments, period_name, segment_name}
+use Rattle.loading.specs.Reading.{AreFree, Blames, HasNoHolder, AgreesThrough, ReadsAs}
 use Rattle.state_rows.specs.Rows.{At, InPeriod, InSegment, PeriodOf, SegmentOf, crew, pairing, period, segment, row_of_pairing, row_of_period, row_of_segment, times_flown}
 use Rattle.loading.specs.declared.fault.LoadFault.{LoadFault}
 use Rattle.loading.specs.declared.fault.TableName as name
@@ -68,10 +68,10 @@ module _ (ids : Ids) (m : Periods) (n : Segments) where
     its_id : fin.contains_key ids x.0 ≡ true
     its_id = ap is_some (is_there (λ id. id) (λ id. fin.contains_key t.pairings id ≡ true) ids x left adding.passed).1
 
-    pub untold : ((r : PairingEntry) → IsTold m n x.0 r → ⊥) → HasUntold ids m n
+    pub untold : ((r : PairingEntry) → IsPairingOfRows m n x.0 r → ⊥) → HasUntold ids m n
     untold none = record { id = x.0; here = its_id; untold = none }
 
-    module _ (u : State) (r : PairingEntry) (told : IsTold m n x.0 r) (free : IsFree r) (made : u ≡ put t (entry.Pairing r)) where
+    module _ (u : State) (r : PairingEntry) (told : IsPairingOfRows m n x.0 r) (free : HasNoHolder r) (made : u ≡ put t (entry.Pairing r)) where
       pairings_are : u.pairings ≡ fin.insert t.pairings x.0 r
       pairings_are = ap (λ (w : State). w.pairings) made ∙ ap (λ k. fin.insert t.pairings k r) told.named
 
@@ -314,10 +314,10 @@ module _ (s : State) (db : Database) (above : AgreesThrough crew s db) where
             let periods_same : (row : Row) → PeriodRows m row ↔ InPeriod t row = λ row. (λ h. (right.1.1 row).0 ((periods.rows row).1 h), λ h. (periods.rows row).0 ((right.1.1 row).1 h)) in
             let segments_same : (row : Row) → SegmentRows n row ↔ InSegment t row = λ row. (λ h. (right.1.2.1 row).0 ((segments.rows row).1 h), λ h. (segments.rows row).0 ((right.1.2.1 row).1 h)) in
             let told = state_told t m n periods.keyed segments.keyed periods_same segments_same at.0.name at.0.value at.0.there (right.1.3 at.0.name at.0.value at.0.there) in
-            it.untold at.0.value (subst (λ k. IsTold m n k at.0.value) (sym same) told))
+            it.untold at.0.value (subst (λ k. IsPairingOfRows m n k at.0.value) (sym same) told))
 
         module _ (t : State) (read : PairingsRead ids m n s t) where
-          told : (id : List ℕ) (r : PairingEntry) → fin.get t.pairings id ≡ Some r → IsTold m n id r
+          told : (id : List ℕ) (r : PairingEntry) → fin.get t.pairings id ≡ Some r → IsPairingOfRows m n id r
           told id r e = (read.known id r e).told
 
           of_pairing : (it : PeriodRecord) → fin.get m (period_name it.pairing it.number) ≡ Some it → (r : PairingEntry) × (fin.get t.pairings it.pairing ≡ Some r)

@@ -25,7 +25,7 @@ use Rattle.state_rows.proofs.Lists.{one_value, some_same}
 use Rattle.loading.proofs.Mapping.{mapped_at, mapped_place, of_appended, in_appended, of_taken, take_next, has_at}
 use Rattle.loading.proofs.ReadCrew.{seat_known, number_known}
 use Rattle.state_rows.proofs.Values.{text_is, number_is}
-use Rattle.loading.specs.Reading.{seat_of, AreOnce, SeatIndex, SeatsRead, IsHeld, IsSamePlan, AreCrewed, AreFree, AreUnseated, Blames, row_of_held, TellsOf, HasStranger}
+use Rattle.loading.specs.Reading.{seat_of, AreOnce, SeatIndex, SeatsRead, IsSeatHeldBy, IsSamePlan, AreCrewed, AreFree, AreUnseated, Blames, row_of_held, TellsOf, HasStranger}
 use Rattle.state_rows.specs.Rows.{InSeat, row_of_seat}
 use Rattle.loading.specs.declared.fault.LoadFault.{LoadFault}
 use Rattle.loading.specs.declared.fault.LoadFault.TheVariants.{NotABook, Version, Damaged, Fault}
@@ -36,7 +36,7 @@ use Rattle.loading.specs.declared.read_seats.HeldSeat.{HeldSeat}
 
 module _ (members : Crew) (pairings : fin.FinMap name_cmp PairingEntry) (it : SeatRecord) where
   abbrev Tells : Option HeldSeat → Type 0
-  Tells = TellsOf (λ at who held. (held.pairing ≡ at.pairing) × (held.taken.seat ≡ at.seat) × (held.taken.crew ≡ who)) row_of_held (IsHeld members pairings) (seat_row it)
+  Tells = TellsOf (λ at who held. (held.pairing ≡ at.pairing) × (held.taken.seat ≡ at.seat) × (held.taken.crew ≡ who)) row_of_held (IsSeatHeldBy members pairings) (seat_row it)
 
   same_seat : (at : SeatIndex) (who : List ℕ) → seat_row it ≡ row_of_held at who → seat_of it.seat ≡ Some at.seat
   same_seat at who e = ap seat_of (number_is (ap (λ (row : Row). column row 1) e)) ∙ seat_known at.seat
@@ -207,7 +207,7 @@ module _ (records : List SeatRecord) (count : ℕ) (it : SeatRecord) (there : sl
   pairing_was (Some a) None r same e = absurd same
   pairing_was None (Some b) r same e = absurd same
 
-  as_begun : (s t : State) → SeatsRead records count s t → (at : SeatIndex) (who : List ℕ) → IsHeld s.crew s.pairings at who → IsHeld t.crew t.pairings at who
+  as_begun : (s t : State) → SeatsRead records count s t → (at : SeatIndex) (who : List ℕ) → IsSeatHeldBy s.crew s.pairings at who → IsSeatHeldBy t.crew t.pairings at who
   as_begun s t read at who is =
       let q = pairing_was _ _ is.rostered (read.planned at.pairing) is.of_pairing in
       record {
@@ -218,14 +218,14 @@ module _ (records : List SeatRecord) (count : ℕ) (it : SeatRecord) (there : sl
         of_kind = is.of_kind;
       }
 
-  pub stranger : (s t : State) → SeatsRead records count s t → Tells t.crew t.pairings it None → HasStranger row_of_held (IsHeld s.crew s.pairings) (map seat_row records)
+  pub stranger : (s t : State) → SeatsRead records count s t → Tells t.crew t.pairings it None → HasStranger row_of_held (IsSeatHeldBy s.crew s.pairings) (map seat_row records)
   stranger s t read none = record {
     row = seat_row it;
     here = mapped_at seat_row records count it there;
     strange = λ at who e is. none at who e (as_begun s t read at who is);
   }
 
-  one_taken : (s t : State) (at : SeatIndex) (who : List ℕ) → seat_row it ≡ row_of_held at who → (is : IsHeld t.crew t.pairings at who) → SeatsRead records count s t →
+  one_taken : (s t : State) (at : SeatIndex) (who : List ℕ) → seat_row it ≡ row_of_held at who → (is : IsSeatHeldBy t.crew t.pairings at who) → SeatsRead records count s t →
       SeatsRead records (count + 1) s (taken t at who is.rostered is.of_pairing)
   one_taken s t at who row_is is read =
       let place = mapped_place seat_row records count it there ∙ ap Some row_is in
@@ -305,7 +305,7 @@ all_crewed items s listed =
     )
 
 pub read_stranger : (fault : LoadFault) (records : List SeatRecord) (s : State) →
-    Blames table_name.Seat (HasStranger row_of_held (IsHeld s.crew s.pairings) (map seat_row records)) fault → Blames table_name.Seat (AreUnseated records s) fault
+    Blames table_name.Seat (HasStranger row_of_held (IsSeatHeldBy s.crew s.pairings) (map seat_row records)) fault → Blames table_name.Seat (AreUnseated records s) fault
 read_stranger NotABook records s blame = blame
 read_stranger Version records s blame = blame
 read_stranger (Damaged other) records s blame = (blame.0, inl blame.1)

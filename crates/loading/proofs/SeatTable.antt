@@ -32,7 +32,7 @@ use Rattle.loading.proofs.SameStates.{crew_told}
 use Rattle.loading.proofs.Telling.{unread, of_blame, clean_before}
 use Rattle.state_rows.proofs.Tests.{passes}
 use Rattle.loading.specs.Loading.{IsPlanned, IsSegmentRight, AreRight, IsDamaged, Justifies}
-use Rattle.loading.specs.Reading.{AreOnce, SeatIndex, SeatsRead, IsHeld, IsSamePlan, AreCrewed, AreUnseated, row_of_held, ReadsAs, Blames, HasRows, IsUnreadable, AgreesThrough, HasStranger}
+use Rattle.loading.specs.Reading.{AreOnce, SeatIndex, SeatsRead, IsSeatHeldBy, IsSamePlan, AreCrewed, AreUnseated, row_of_held, ReadsAs, Blames, HasRows, IsUnreadable, AgreesThrough, HasStranger}
 use Rattle.state_rows.specs.Rows.{table, crew, InPairing, InPeriod, InSegment, InSeat, seat_number, seat, segment}
 use Rattle.loading.specs.declared.fault.LoadFault.{LoadFault}
 use Rattle.loading.specs.declared.fault.TableName.TheVariants as table_name
@@ -172,7 +172,7 @@ module _ (s : State) (db : Database) (above : AgreesThrough segment s db) where
   unreadable why = damaged (not_unreadable db why)
 
   -- a row of no seat here is of none in any state with the tables above
-  stranger_wrong : (rows : List Row) → HasRows seat db rows → HasStranger row_of_held (IsHeld s.crew s.pairings) rows → AreRight seat db → ⊥
+  stranger_wrong : (rows : List Row) → HasRows seat db rows → HasStranger row_of_held (IsSeatHeldBy s.crew s.pairings) rows → AreRight seat db → ⊥
   stranger_wrong rows read stranger right =
       let x = (right.1.1.1 stranger.row).0 ((read.all stranger.row).1 stranger.here) in
       let at = x.0 in

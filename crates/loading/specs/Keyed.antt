@@ -16,8 +16,8 @@ use Rattle.tables.specs.declared.pairing.PairingRecord.{PairingRecord}
 use Rattle.tables.specs.declared.period.PeriodRecord.{PeriodRecord}
 use Rattle.tables.specs.declared.segment.SegmentRecord.{SegmentRecord}
 use Rattle.loading.specs.Loading.{ArePeriods, IsInstantIfAny}
-use Rattle.loading.specs.PlanRows.{Periods, Segments, PeriodRows, SegmentRows, ArePeriodsKeyed, AreSegmentsKeyed, AreUngapped, HasNoGaps, IsTold, period_name, segment_name}
-use Rattle.loading.specs.Reading.{AreOnce, HasStranger, IsFree, Mapped}
+use Rattle.loading.specs.PlanRows.{Periods, Segments, PeriodRows, SegmentRows, ArePeriodsKeyed, AreSegmentsKeyed, AreUngapped, HasNoGaps, IsPairingOfRows, period_name, segment_name}
+use Rattle.loading.specs.Reading.{AreOnce, HasStranger, HasNoHolder, Mapped}
 use Rattle.state_rows.specs.Rows.{HasJust, row_of_pairing}
 use Rattle.loading.specs.declared.plan_rows.PeriodKey.{PeriodKey}
 use Rattle.loading.specs.declared.plan_rows.SegmentKey.{SegmentKey}
@@ -174,8 +174,8 @@ pub record HasSegmentsOf (db : Database) (periods : Periods) (segments : Segment
 -- the pairing of one of these ids, as the rows tell it
 pub record IsPairingOf (ids : Ids) (periods : Periods) (segments : Segments) (id : List ℕ) (r : PairingEntry) : Type 0 where
   pub of_id : fin.contains_key ids id ≡ true
-  pub told : IsTold periods segments id r
-  pub free : IsFree r
+  pub told : IsPairingOfRows periods segments id r
+  pub free : HasNoHolder r
 
 -- just the pairings of these ids are set in a roster
 pub record PairingsRead (ids : Ids) (periods : Periods) (segments : Segments) (old new : State) : Type 0 where
@@ -187,4 +187,4 @@ pub record PairingsRead (ids : Ids) (periods : Periods) (segments : Segments) (o
 pub record HasUntold (ids : Ids) (periods : Periods) (segments : Segments) : Type 0 where
   pub id : List ℕ
   pub here : fin.contains_key ids id ≡ true
-  pub untold : (r : PairingEntry) → IsTold periods segments id r → ⊥
+  pub untold : (r : PairingEntry) → IsPairingOfRows periods segments id r → ⊥

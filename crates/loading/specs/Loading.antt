@@ -154,20 +154,20 @@ AreRequests s = ((name : List ℕ) (r : LoggedCommand) → fin.get s.requests na
 -- ---- The tables in turn
 
 -- the table is there as its text declares it, with just the rows of the state
-abbrev pub Kept : TableName → State → Database → Type 0
-Kept name s db = IsOfBook (table name) db.schema × HasJust (table name) db (InTable s name)
+abbrev pub IsTableOfState : TableName → State → Database → Type 0
+IsTableOfState name s db = IsOfBook (table name) db.schema × HasJust (table name) db (InTable s name)
 
 -- Down to each table in turn: those above are right, and so is it, with the rows of this state.
 abbrev pub IsBookRight : State → Database → Type 0
-IsBookRight s db = Kept book s db × (is_zone_text s.zone ≡ true)
+IsBookRight s db = IsTableOfState book s db × (is_zone_text s.zone ≡ true)
 
 -- down to `crew`
 abbrev pub IsCrewRight : State → Database → Type 0
-IsCrewRight s db = IsBookRight s db × Kept crew s db × AreMembers s
+IsCrewRight s db = IsBookRight s db × IsTableOfState crew s db × AreMembers s
 
 -- down to `pairing`
 abbrev pub IsPairingRight : State → Database → Type 0
-IsPairingRight s db = IsCrewRight s db × Kept pairing s db × AreNamed s
+IsPairingRight s db = IsCrewRight s db × IsTableOfState pairing s db × AreNamed s
 
 -- a period isn't yet compared with the state's: until the segments are there nothing tells whether its actual is whole
 abbrev pub IsPeriodRight : State → Database → Type 0
@@ -175,23 +175,23 @@ IsPeriodRight s db = IsPairingRight s db × IsOfBook period_table db.schema × A
 
 -- down to `segment`: now periods are compared with the state's too
 abbrev pub IsSegmentRight : State → Database → Type 0
-IsSegmentRight s db = IsPeriodRight s db × HasJust period_table db (InPeriod s) × Kept segment s db × ArePlanned s
+IsSegmentRight s db = IsPeriodRight s db × HasJust period_table db (InPeriod s) × IsTableOfState segment s db × ArePlanned s
 
 -- down to `seat`
 abbrev pub IsSeatRight : State → Database → Type 0
-IsSeatRight s db = IsSegmentRight s db × Kept seat s db × AreSeated s
+IsSeatRight s db = IsSegmentRight s db × IsTableOfState seat s db × AreSeated s
 
 -- down to `ground`
 abbrev pub IsGroundRight : State → Database → Type 0
-IsGroundRight s db = IsSeatRight s db × Kept ground_duty s db × AreGrounds s
+IsGroundRight s db = IsSeatRight s db × IsTableOfState ground_duty s db × AreGrounds s
 
 -- down to `exceedance`
 abbrev pub IsExceedanceRight : State → Database → Type 0
-IsExceedanceRight s db = IsGroundRight s db × Kept exceedance s db × AreExceedances s
+IsExceedanceRight s db = IsGroundRight s db × IsTableOfState exceedance s db × AreExceedances s
 
 -- down to `request`, the last
 abbrev pub IsRequestRight : State → Database → Type 0
-IsRequestRight s db = IsExceedanceRight s db × Kept request s db × AreRequests s
+IsRequestRight s db = IsExceedanceRight s db × IsTableOfState request s db × AreRequests s
 
 -- the tables down to the one of this name are right, with the rows of this state
 abbrev pub IsRight : TableName → State → Database → Type 0

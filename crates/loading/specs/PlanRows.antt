@@ -139,7 +139,7 @@ HasNoPeriods periods segments id = (number : ℕ) × (it : PeriodRecord) × (fin
 -- ---- A pairing
 
 -- the pairing that the rows tell of: its periods are just those with a row
-pub record IsTold (periods : Periods) (segments : Segments) (id : List ℕ) (r : PairingEntry) : Type 0 where
+pub record IsPairingOfRows (periods : Periods) (segments : Segments) (id : List ℕ) (r : PairingEntry) : Type 0 where
   pub named : r.plan.id ≡ id
   pub plan : pairing_fault r.plan ≡ None
   pub places : length r.actuals ≡ length r.plan.periods

@@ -123,7 +123,7 @@ pub record IsFlown (pairings : fin.FinMap name_cmp PairingEntry) (p : PeriodId) 
   pub flown : slice_get rostered.actuals place ≡ Some (Some actual)
 
 -- an exceedance whose period has a number of eight bits, as each period of a pairing has
-pub record IsRecorded (members : Crew) (pairings : fin.FinMap name_cmp PairingEntry) (id : ExceedanceId) (p : PeriodId) : Type 0 where
+pub record IsExceedanceInRange (members : Crew) (pairings : fin.FinMap name_cmp PairingEntry) (id : ExceedanceId) (p : PeriodId) : Type 0 where
   pub is : IsExceedance members pairings id p
   pub fits : p.number < 256
 
@@ -144,7 +144,7 @@ pub record GroundsRead (records : List GroundRecord) (count : ℕ) (old new : ro
 -- so are the exceedances
 pub record ExceedancesRead (records : List ExceedanceRecord) (count : ℕ) (old new : roster.State) : Type 0 where
   pub same : new ≡ record old { exceedances = new.exceedances }
-  pub mapped : AreOnce row_of_recorded (map exceedance_row records) → Mapped name_of row_of_recorded (IsRecorded old.crew old.pairings) (take count (map exceedance_row records)) new.exceedances
+  pub mapped : AreOnce row_of_recorded (map exceedance_row records) → Mapped name_of row_of_recorded (IsExceedanceInRange old.crew old.pairings) (take count (map exceedance_row records)) new.exceedances
 
 -- so are the requests
 pub record RequestsRead (records : List RequestRecord) (count : ℕ) (old new : roster.State) : Type 0 where
@@ -167,7 +167,7 @@ abbrev pub row_of_held : SeatIndex → List ℕ → Row
 row_of_held at who = row_of_seat at.pairing at.seat who
 
 -- the pairing is there, and the holder is a member of the seat's kind
-pub record IsHeld (members : Crew) (pairings : fin.FinMap name_cmp PairingEntry) (at : SeatIndex) (who : List ℕ) : Type 0 where
+pub record IsSeatHeldBy (members : Crew) (pairings : fin.FinMap name_cmp PairingEntry) (at : SeatIndex) (who : List ℕ) : Type 0 where
   pub rostered : PairingEntry
   pub of_pairing : fin.get pairings at.pairing ≡ Some rostered
   pub member : Member
@@ -192,16 +192,16 @@ abbrev pub AreCrewed : roster.State → Type 0
 AreCrewed s = (id : List ℕ) (r : PairingEntry) → fin.get s.pairings id ≡ Some r → is_flown r ≡ true → is_fully_crewed r ≡ true
 
 -- no seat is held
-abbrev pub IsFree : PairingEntry → Type 0
-IsFree r = (r.captain ≡ None) × (r.first_officer ≡ None)
+abbrev pub HasNoHolder : PairingEntry → Type 0
+HasNoHolder r = (r.captain ≡ None) × (r.first_officer ≡ None)
 
 -- no seat of any pairing is held
 abbrev pub AreFree : roster.State → Type 0
-AreFree s = (id : List ℕ) (r : PairingEntry) → fin.get s.pairings id ≡ Some r → IsFree r
+AreFree s = (id : List ℕ) (r : PairingEntry) → fin.get s.pairings id ≡ Some r → HasNoHolder r
 
 -- some row is of no seat, or some flown pairing has a free one
 abbrev pub AreUnseated : List SeatRecord → roster.State → Type 0
-AreUnseated records s = HasStranger row_of_held (IsHeld s.crew s.pairings) (map seat_row records)
+AreUnseated records s = HasStranger row_of_held (IsSeatHeldBy s.crew s.pairings) (map seat_row records)
     ⊎ ((r : roster.State) × SeatsRead records (length records) s r × (AreCrewed r → ⊥))
 
 -- ---- The book's own row

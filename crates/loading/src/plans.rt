@@ -8,7 +8,7 @@ ghost use Rattle.duty.specs.declared.segment.Segment as declared_segment;
 ghost use Rattle.stored_json.specs.Instants.{is_instant};
 ghost use Rattle.duty.specs.Plans.{ActualTimes};
 ghost use Rattle.roster.specs.declared.state.PairingEntry as declared_rostered;
-ghost use Rattle.loading.specs.PlanRows.{AreTimes, planned_segment, IsSegment, HasNoGaps, AreUngapped, AreSegments, HasNoSegments, IsActualOf, IsReadPeriod, ArePeriodsRead, HasNoPeriods, IsTold};
+ghost use Rattle.loading.specs.PlanRows.{AreTimes, planned_segment, IsSegment, HasNoGaps, AreUngapped, AreSegments, HasNoSegments, IsActualOf, IsReadPeriod, ArePeriodsRead, HasNoPeriods, IsPairingOfRows};
 ghost use Rattle.loading.specs.Reading.{Blames};
 ghost use Rattle.loading.specs.declared.fault.TableName.TheVariants as table_name;
 
@@ -259,9 +259,9 @@ pub(crate) fn pairing_of(
 ) -> Result<PairingEntry, LoadFault>
     requires periods { AreUngapped rows.now.periods }
     requires segments { HasNoGaps rows.now.segments }
-    ensures told { MatchResult result (IsTold rows.now.periods rows.now.segments id.now)
+    ensures told { MatchResult result (IsPairingOfRows rows.now.periods rows.now.segments id.now)
         (Blames table_name.Segment ((r : declared_rostered.PairingEntry)
-        → IsTold rows.now.periods rows.now.segments id.now r → ⊥)) }
+        → IsPairingOfRows rows.now.periods rows.now.segments id.now r → ⊥)) }
     ensures free { IfOk result (λ r. (r.captain ≡ None) × (r.first_officer ≡ None)) }
 {
     let found = periods_of(alloc, rows, id)?;

@@ -9,7 +9,7 @@ ghost use Rattle.command.specs.declared.member.Member.{Member as MemberOf};
 ghost use Rattle.roster.specs.Pairings.{is_flown, is_fully_crewed};
 ghost use Rattle.tables.specs.Records.{seat_row, IsSeatRow};
 ghost use Rattle.loading.specs.Loading.{Justifies};
-ghost use Rattle.loading.specs.Reading.{AreCrewed, AreFree, AreUnseated, IsHeld, SeatsRead, row_of_held, ReadsAs, HasRows, IsUnreadable, Blames, AgreesThrough, TellsOf, HasStranger};
+ghost use Rattle.loading.specs.Reading.{AreCrewed, AreFree, AreUnseated, IsSeatHeldBy, SeatsRead, row_of_held, ReadsAs, HasRows, IsUnreadable, Blames, AgreesThrough, TellsOf, HasStranger};
 ghost use Rattle.state_rows.specs.Rows.{seat, segment};
 ghost use Rattle.loading.specs.declared.fault.TableName.TheVariants as table_name;
 
@@ -97,7 +97,7 @@ fn held_seat_of(
 ) -> Result<Option<HeldSeat>, MemoryFault>
     ensures { IfOk result (TellsOf
         (λ at who it. (it.pairing ≡ at.pairing) × (it.taken.seat ≡ at.seat) × (it.taken.crew ≡ who))
-        row_of_held (IsHeld roster.now.crew roster.now.pairings) (seat_row row.now)) }
+        row_of_held (IsSeatHeldBy roster.now.crew roster.now.pairings) (seat_row row.now)) }
 {
     let Some(seat) = seat_of_number(row.seat) else {
         return Ok(None);
@@ -121,7 +121,8 @@ fn take_seats(alloc: Global, roster: Roster, records: &[SeatRecord]) -> Result<R
     requires { AreFree roster }
     ensures { MatchResult result (SeatsRead records.now (length records.now) roster)
         (Blames table_name.Seat
-        (HasStranger row_of_held (IsHeld roster.crew roster.pairings) (map seat_row records.now))) }
+        (HasStranger row_of_held (IsSeatHeldBy roster.crew roster.pairings)
+        (map seat_row records.now))) }
 {
     let mut roster = roster;
     for row in records {

@@ -48,7 +48,7 @@ use Rattle.loading.specs.OnePairing.{IsToldBy}
 use Rattle.loading.specs.PlanRows.{ArePeriodsKeyed, AreSegmentsKeyed, PeriodRows, Periods, SegmentRows, Segments, period_name, segment_name}
 use Rattle.loading.specs.Reading.{AreOnce, Mapped, Under}
 use Rattle.lookup.specs.Reads.{Shows}
-use Rattle.lookup.specs.Plans.{FindsPlan, HoldsSeat, IfSome, IsTold, TellsPairing}
+use Rattle.lookup.specs.Plans.{FindsPlan, HoldsSeat, IfSome, IsPairingOfRecords, TellsPairing}
 use Rattle.lookup.specs.declared.pairing.PlanRecords.{PlanRecords}
 use Rattle.lookup.proofs.ReadLemmas.{in_found, of_found}
 use Rattle.lookup.proofs.OnePairing.{pairing_is}

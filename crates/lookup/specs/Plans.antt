@@ -38,7 +38,7 @@ HoldsSeat number seats None = (i : ℕ) (row : SeatRecord) → slice_get seats i
 HoldsSeat number seats (Some who) = (i : ℕ) × (row : SeatRecord) × (slice_get seats i ≡ Some row) × (row.seat ≡ number) × (who ≡ row.crew)
 
 -- the pairing that some records tell of, with who holds its seats
-pub record IsTold (id : List ℕ) (periods : List PeriodRecord) (segments : List SegmentRecord) (seats : List SeatRecord) (r : PairingEntry) : Type 0 where
+pub record IsPairingOfRecords (id : List ℕ) (periods : List PeriodRecord) (segments : List SegmentRecord) (seats : List SeatRecord) (r : PairingEntry) : Type 0 where
   pub free : PairingEntry
   pub told : IsToldBy id periods segments free
   pub plan : r.plan ≡ free.plan
@@ -49,4 +49,4 @@ pub record IsTold (id : List ℕ) (periods : List PeriodRecord) (segments : List
 -- there is none where there is no period
 abbrev pub TellsPairing : List ℕ → List PeriodRecord → List SegmentRecord → List SeatRecord → Option PairingEntry → Type 0
 TellsPairing id [] segments seats found = found ≡ None
-TellsPairing id (p ∷ ps) segments seats found = (r : PairingEntry) × (found ≡ Some r) × IsTold id (p ∷ ps) segments seats r
+TellsPairing id (p ∷ ps) segments seats found = (r : PairingEntry) × (found ≡ Some r) × IsPairingOfRecords id (p ∷ ps) segments seats r

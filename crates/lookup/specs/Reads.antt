@@ -41,7 +41,7 @@ pub record ReadsRows {A : Type 0} (it : TableName) (test : Row → Bool) (rows :
   pub told : HasCleanDisk new → IfOk result (λ a. IsUnchanged old new × Finds (table it) test old.now (rows a))
 
 -- what a read by key tells: nothing is changed, and the answer is what the state has that is shown
-pub record Reads {A : Type 0} (Is : State → A → Type 0) (old new : conn.State) (result : Result A StoreFault) : Type 0 where
+pub record ReadsByKey {A : Type 0} (Is : State → A → Type 0) (old new : conn.State) (result : Result A StoreFault) : Type 0 where
   pub stays : Stays old new
   pub opened : OnOk result (IsOpen new)
   pub told : HasCleanDisk new → (s : State) → Shows old s → IfOk result (λ a. Shows new s × Is s a)

@@ -8,7 +8,7 @@ ghost use Rattle.tables.specs.Rows.{begins_with};
 ghost use Rattle.loading.specs.Reading.{row_of_recorded};
 ghost use Rattle.writing.specs.Outcomes.{IsOutside};
 ghost use Rattle.state_rows.specs.Rows.{exceedance};
-ghost use Rattle.lookup.specs.Reads.{Reads, ReadsRows};
+ghost use Rattle.lookup.specs.Reads.{ReadsByKey, ReadsRows};
 ghost use Rattle.lookup.specs.Recorded.{AreRead};
 
 use duty::{CrewId, PairingId};
@@ -91,7 +91,7 @@ pub fn exceedances_at<S: Alter>(
     conn: &mut Connection<S>,
 ) -> Result<OrdMap<ExceedanceId, PeriodId>, StoreFault>
     requires { IsOutside (state S.Store conn.old) }
-    ensures { Reads (λ s found. found ≡ s.exceedances) (state S.Store conn.old)
+    ensures { ReadsByKey (λ s found. found ≡ s.exceedances) (state S.Store conn.old)
         (state S.Store conn.new) result }
 {
     let records = exceedance_rows(alloc, conn)?;

@@ -10,7 +10,7 @@ ghost use Rattle.tables.specs.Rows.{begins_with, equals_at};
 ghost use Rattle.writing.specs.Outcomes.{IsOutside, IsOverBook};
 ghost use Rattle.state_rows.specs.Rows.{ground_duty};
 ghost use Rattle.part.specs.Sources.{AreJust, IsGroundOf};
-ghost use Rattle.lookup.specs.Reads.{Reads, ReadsRows};
+ghost use Rattle.lookup.specs.Reads.{ReadsByKey, ReadsRows};
 ghost use Rattle.lookup.specs.Entries.{HasFirstGround, grounds_in};
 
 use duty::{CrewId, Ground, GroundId};
@@ -104,7 +104,7 @@ pub fn ground_at<S: Alter>(
 ) -> Result<Option<Ground>, StoreFault>
     requires outside { IsOutside (state S.Store conn.old) }
     requires over { IsOverBook (state S.Store conn.old) }
-    ensures { Reads (λ s found. found ≡ fin.get s.grounds id.now) (state S.Store conn.old)
+    ensures { ReadsByKey (λ s found. found ≡ fin.get s.grounds id.now) (state S.Store conn.old)
         (state S.Store conn.new) result }
 {
     let records = ground_rows(alloc, conn, id.as_str())?;
@@ -119,7 +119,8 @@ pub fn grounds_held_at<S: Alter>(
 ) -> Result<Vec<GroundId>, StoreFault>
     requires outside { IsOutside (state S.Store conn.old) }
     requires over { IsOverBook (state S.Store conn.old) }
-    ensures { Reads (λ s found. AreJust (IsGroundOf s who.now) found.items) (state S.Store conn.old)
+    ensures { ReadsByKey (λ s found. AreJust (IsGroundOf s who.now) found.items)
+        (state S.Store conn.old)
         (state S.Store conn.new) result }
 {
     let records = crew_ground_rows(alloc, conn, who.as_str())?;

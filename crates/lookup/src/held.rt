@@ -9,7 +9,7 @@ ghost use Rattle.tables.specs.Rows.{equals_at};
 ghost use Rattle.writing.specs.Outcomes.{IsOutside, IsOverBook};
 ghost use Rattle.state_rows.specs.Rows.{seat};
 ghost use Rattle.part.specs.Sources.{AreJust, IsHeldBy};
-ghost use Rattle.lookup.specs.Reads.{Reads, ReadsRows, ids_in};
+ghost use Rattle.lookup.specs.Reads.{ReadsByKey, ReadsRows, ids_in};
 
 use duty::{CrewId, PairingId};
 use sqlite::{Alter, Connection};
@@ -57,7 +57,8 @@ pub fn pairings_held_at<S: Alter>(
 ) -> Result<Vec<PairingId>, StoreFault>
     requires outside { IsOutside (state S.Store conn.old) }
     requires over { IsOverBook (state S.Store conn.old) }
-    ensures { Reads (λ s found. AreJust (IsHeldBy s who.now) found.items) (state S.Store conn.old)
+    ensures { ReadsByKey (λ s found. AreJust (IsHeldBy s who.now) found.items)
+        (state S.Store conn.old)
         (state S.Store conn.new) result }
 {
     let records = seat_rows(alloc, conn, who.as_str())?;

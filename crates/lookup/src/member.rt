@@ -9,7 +9,7 @@ ghost use Rattle.tables.specs.Records.{crew_row};
 ghost use Rattle.tables.specs.Rows.{begins_with};
 ghost use Rattle.writing.specs.Outcomes.{IsOutside, IsOverBook};
 ghost use Rattle.state_rows.specs.Rows.{crew};
-ghost use Rattle.lookup.specs.Reads.{HasFirst, Reads, ReadsRows};
+ghost use Rattle.lookup.specs.Reads.{HasFirst, ReadsByKey, ReadsRows};
 
 use command::{Member, Seat};
 use duty::CrewId;
@@ -66,7 +66,7 @@ pub fn member_at<S: Alter>(
 ) -> Result<Option<Member>, StoreFault>
     requires outside { IsOutside (state S.Store conn.old) }
     requires over { IsOverBook (state S.Store conn.old) }
-    ensures { Reads (λ s found. found ≡ fin.get s.crew id.now) (state S.Store conn.old)
+    ensures { ReadsByKey (λ s found. found ≡ fin.get s.crew id.now) (state S.Store conn.old)
         (state S.Store conn.new) result }
 {
     let records = crew_rows(alloc, conn, id.as_str())?;

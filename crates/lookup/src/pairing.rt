@@ -9,7 +9,7 @@ ghost use Rattle.tables.specs.Records.{period_row, seat_row, segment_row};
 ghost use Rattle.tables.specs.Rows.{begins_with};
 ghost use Rattle.writing.specs.Outcomes.{IsOutside, IsOverBook};
 ghost use Rattle.state_rows.specs.Rows.{period, seat, segment};
-ghost use Rattle.lookup.specs.Reads.{Reads, ReadsRows};
+ghost use Rattle.lookup.specs.Reads.{ReadsByKey, ReadsRows};
 ghost use Rattle.lookup.specs.Plans.{HoldsSeat, ReadsPlan, TellsPairing};
 
 use duty::{CrewId, PairingId};
@@ -173,7 +173,7 @@ pub fn pairing_at<S: Alter>(
 ) -> Result<Option<PairingEntry>, StoreFault>
     requires outside { IsOutside (state S.Store conn.old) }
     requires over { IsOverBook (state S.Store conn.old) }
-    ensures { Reads (λ s found. found ≡ fin.get s.pairings id.now) (state S.Store conn.old)
+    ensures { ReadsByKey (λ s found. found ≡ fin.get s.pairings id.now) (state S.Store conn.old)
         (state S.Store conn.new) result }
 {
     let rows = plan_rows(alloc, conn, id.as_str())?;

@@ -10,7 +10,7 @@ ghost use Rattle.tables.specs.Records.{request_row};
 ghost use Rattle.tables.specs.Rows.{begins_with};
 ghost use Rattle.writing.specs.Outcomes.{IsOutside, IsOverBook};
 ghost use Rattle.state_rows.specs.Rows.{request};
-ghost use Rattle.lookup.specs.Reads.{Reads, ReadsRows};
+ghost use Rattle.lookup.specs.Reads.{ReadsByKey, ReadsRows};
 ghost use Rattle.lookup.specs.Entries.{HasFirstRequest};
 
 use command::Key;
@@ -70,7 +70,8 @@ pub fn request_at<S: Alter>(
 ) -> Result<Option<LoggedCommand>, StoreFault>
     requires outside { IsOutside (state S.Store conn.old) }
     requires over { IsOverBook (state S.Store conn.old) }
-    ensures { Reads (λ s found. found ≡ fin.get s.requests (key_name key)) (state S.Store conn.old)
+    ensures { ReadsByKey (λ s found. found ≡ fin.get s.requests (key_name key))
+        (state S.Store conn.old)
         (state S.Store conn.new) result }
 {
     let records = request_rows(alloc, conn, key)?;

@@ -7,7 +7,7 @@ ghost use Rattle.tables.specs.Records.{book_row};
 ghost use Rattle.tables.specs.Rows.{begins_with};
 ghost use Rattle.writing.specs.Outcomes.{IsOutside, IsOverBook};
 ghost use Rattle.state_rows.specs.Rows.{book};
-ghost use Rattle.lookup.specs.Reads.{Reads, ReadsRows};
+ghost use Rattle.lookup.specs.Reads.{ReadsByKey, ReadsRows};
 ghost use Rattle.lookup.specs.Entries.{HasFirstZone};
 
 use sqlite::{Alter, Connection};
@@ -53,7 +53,7 @@ fn first_zone(alloc: Global, records: &[BookRecord]) -> Result<Zone, StoreFault>
 pub fn zone_at<S: Alter>(alloc: Global, conn: &mut Connection<S>) -> Result<Zone, StoreFault>
     requires outside { IsOutside (state S.Store conn.old) }
     requires over { IsOverBook (state S.Store conn.old) }
-    ensures { Reads (λ s zone. zone ≡ s.zone) (state S.Store conn.old)
+    ensures { ReadsByKey (λ s zone. zone ≡ s.zone) (state S.Store conn.old)
         (state S.Store conn.new) result }
 {
     let records = book_rows(alloc, conn)?;

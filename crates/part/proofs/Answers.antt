@@ -10,7 +10,7 @@ use Rattle.roster.specs.Pairings.{holds}
 use Rattle.roster.specs.Places.{Place, periods_at, ground_at, periods_of, grounds_of as grounds_at, all_but, others}
 use Rattle.roster.specs.State.{State, zone_of}
 use Rattle.roster.specs.declared.state.PairingEntry.{PairingEntry}
-use Rattle.part.specs.Part.{AnswersAsWhole, Part, members_named, pairings_named, grounds_named, is_one_of, judged_by, needs_member, needs_pairing, needs_ground, pairings_of, grounds_of}
+use Rattle.part.specs.Part.{AnswersAsWhole, Part, members_named, pairings_named, grounds_named, is_one_of, judged_by, needs_member, needs_pairing, needs_ground, pairings_needed, grounds_needed}
 use Rattle.part.proofs.Retained.{same_name, or_left, or_right, retained, from_retained, same_passing}
 use Rattle.std.proofs.lemmas.Slice.Eq.{bytes_eq-Decides}
 use Rattle.part.proofs.Alike.{Agree, same_step}
@@ -31,7 +31,7 @@ module _ (s : State) (key : KeyParts) (instruction : Instruction) where
   -- the pairings that a judged member holds, and the ground duties
   judged_periods : (who : List ℕ) → is_one_of (judged_by s instruction) who ≡ true → periods_of part who ≡ periods_of s who
   judged_periods who judged =
-      ap (flat_map (periods_at (zone_of s who))) (same_passing (holds who) (pairings_of s instruction) s.pairings
+      ap (flat_map (periods_at (zone_of s who))) (same_passing (holds who) (pairings_needed s instruction) s.pairings
       (λ id r there. (from_retained s.pairings (needs_pairing s instruction) id r there).1)
       (λ id r there held. retained s.pairings (needs_pairing s instruction) id
       (or_right (is_one_of (pairings_named instruction) id) _
@@ -40,7 +40,7 @@ module _ (s : State) (key : KeyParts) (instruction : Instruction) where
 
   judged_grounds : (who : List ℕ) → is_one_of (judged_by s instruction) who ≡ true → grounds_at part who ≡ grounds_at s who
   judged_grounds who judged =
-      ap (map ground_at) (same_passing (λ g. bytes_eq g.crew who) (grounds_of s instruction) s.grounds
+      ap (map ground_at) (same_passing (λ g. bytes_eq g.crew who) (grounds_needed s instruction) s.grounds
       (λ id g there. (from_retained s.grounds (needs_ground s instruction) id g there).1)
       (λ id g there of_member. retained s.grounds (needs_ground s instruction) id
       (or_right (is_one_of (grounds_named instruction) id) _

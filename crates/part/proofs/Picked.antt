@@ -17,7 +17,7 @@ use Rattle.roster.specs.Pairings.{holds, is_held_by}
 use Rattle.roster.specs.State.{State}
 use Rattle.roster.specs.declared.state.PairingEntry.{PairingEntry}
 use Rattle.roster.proofs.Members.{first_or_later, is_first, is_later, none_in}
-use Rattle.part.specs.Part.{members_named, pairings_named, grounds_named, held_by, holders, is_one_of, judged_by, judged_in, needs_member, needs_pairing, needs_ground, pairings_of, grounds_of}
+use Rattle.part.specs.Part.{members_named, pairings_named, grounds_named, held_by, holders, is_one_of, judged_by, judged_in, needs_member, needs_pairing, needs_ground, pairings_needed, grounds_needed}
 use Rattle.part.specs.Sources.{AreJust, IsGroundOfOne, IsHeldByOne, IsPartOf, members_wanted, pick, picked}
 use Rattle.part.proofs.Retained.{same_name, get_retained, any_first, any_later, or_right}
 use Rattle.std.proofs.Common.{append-nil, append_assoc}
@@ -234,7 +234,7 @@ module _ (s : State) where
 module _ (s : State) (instruction : Instruction) where
   -- the pairings that a judged member holds
   pub pairings_are : (ids : List (List ℕ)) → AreJust (IsHeldByOne s (judged_by s instruction)) ids →
-      picked s.pairings (picked s.pairings fin.empty (pairings_named instruction)) ids ≡ pairings_of s instruction
+      picked s.pairings (picked s.pairings fin.empty (pairings_named instruction)) ids ≡ pairings_needed s instruction
   pairings_are ids just = picked_twice s.pairings (pairings_named instruction) ids (needs_pairing s instruction) (λ q r there.
       ap (λ b. is_one_of (pairings_named instruction) q || b)
       (same_test (is_one_of ids q) (list_any (λ who. holds who r) (judged_by s instruction))
@@ -248,7 +248,7 @@ module _ (s : State) (instruction : Instruction) where
       ∙ ap (λ o. option_map_or (λ x. list_any (λ who. holds who x) (judged_by s instruction)) o false) (sym there)))
 
   pub grounds_are : (ids : List (List ℕ)) → AreJust (IsGroundOfOne s (judged_by s instruction)) ids →
-      picked s.grounds (picked s.grounds fin.empty (grounds_named instruction)) ids ≡ grounds_of s instruction
+      picked s.grounds (picked s.grounds fin.empty (grounds_named instruction)) ids ≡ grounds_needed s instruction
   grounds_are ids just = picked_twice s.grounds (grounds_named instruction) ids (needs_ground s instruction) (λ q g there.
       ap (λ b. is_one_of (grounds_named instruction) q || b)
       (same_test (is_one_of ids q) (is_one_of (judged_by s instruction) g.crew)
@@ -273,7 +273,7 @@ module _ (s : State) (instruction : Instruction) where
   all_theirs [] who = refl
   all_theirs (row ∷ rows) who = ap (λ b. bytes_eq row.1.crew who || b) (all_theirs rows who)
 
-  pub members_are : (pairings : fin.FinMap name_cmp PairingEntry) (grounds : fin.FinMap name_cmp GroundPlan) → pairings ≡ pairings_of s instruction → grounds ≡ grounds_of s instruction →
+  pub members_are : (pairings : fin.FinMap name_cmp PairingEntry) (grounds : fin.FinMap name_cmp GroundPlan) → pairings ≡ pairings_needed s instruction → grounds ≡ grounds_needed s instruction →
       picked s.crew fin.empty (members_wanted instruction pairings grounds) ≡ fin.retain_keys s.crew (needs_member s instruction)
   members_are pairings grounds p g = picked_once s.crew (members_wanted instruction pairings grounds) (needs_member s instruction) (λ who.
       any_append (λ other. bytes_eq other who) (members_named instruction ++ flat_map (λ row. holders row.1) (fin.entries pairings)) (map (λ row. row.1.crew) (fin.entries grounds))
@@ -288,7 +288,7 @@ module _ (s : State) (instruction : Instruction) where
   pub plans_are : (p0 p1 p2 : fin.FinMap name_cmp PairingEntry) (names names' judged judged' held held' : List (List ℕ)) →
       p0 ≡ fin.empty → names ≡ pairings_named instruction → names' ≡ names → p1 ≡ picked s.pairings p0 names' →
       judged ≡ judged_in p1 instruction → judged' ≡ judged → AreJust (IsHeldByOne s judged') held → held' ≡ held → p2 ≡ picked s.pairings p1 held' →
-      (p2 ≡ pairings_of s instruction) × (judged ≡ judged_by s instruction)
+      (p2 ≡ pairings_needed s instruction) × (judged ≡ judged_by s instruction)
   plans_are p0 p1 p2 names names' judged judged' held held' e0 en en' e1 ej ej' just eh e2 =
       let first : p1 ≡ picked s.pairings fin.empty (pairings_named instruction) = e1 ∙ (λ i. picked s.pairings (e0 i) ((en' ∙ en) i)) in
       let same = ej ∙ judged_same p1 first in (
@@ -298,7 +298,7 @@ module _ (s : State) (instruction : Instruction) where
 
   pub grounds_as : (p0 p1 p2 : fin.FinMap name_cmp GroundPlan) (names names' judged theirs theirs' : List (List ℕ)) →
       p0 ≡ fin.empty → names ≡ grounds_named instruction → names' ≡ names → p1 ≡ picked s.grounds p0 names' →
-      AreJust (IsGroundOfOne s judged) theirs → theirs' ≡ theirs → p2 ≡ picked s.grounds p1 theirs' → judged ≡ judged_by s instruction → p2 ≡ grounds_of s instruction
+      AreJust (IsGroundOfOne s judged) theirs → theirs' ≡ theirs → p2 ≡ picked s.grounds p1 theirs' → judged ≡ judged_by s instruction → p2 ≡ grounds_needed s instruction
   grounds_as p0 p1 p2 names names' judged theirs theirs' e0 en en' e1 just et e2 ej =
       let first : p1 ≡ picked s.grounds fin.empty (grounds_named instruction) = e1 ∙ (λ i. picked s.grounds (e0 i) ((en' ∙ en) i)) in
       e2 ∙ (λ i. picked s.grounds (first i) (et i)) ∙ grounds_are theirs (subst (λ l. AreJust (IsGroundOfOne s l) theirs) ej just)

@@ -13,8 +13,8 @@ use Rattle.roster.specs.State.{State}
 use Rattle.roster.specs.declared.state.PairingEntry.{PairingEntry}
 
 -- what a call tells: while the source may be believed it shows the state that it showed, and the answer is the state's
-abbrev pub Tells : {X A E : Type 0} → (X → Type 0) → (X → State → Type 0) → (State → A → Type 0) → X → X → Result A E → Type 0
-Tells IsClean Shows Is old new result =
+abbrev pub TellsOfState : {X A E : Type 0} → (X → Type 0) → (X → State → Type 0) → (State → A → Type 0) → X → X → Result A E → Type 0
+TellsOfState IsClean Shows Is old new result =
     (IsClean new → IsClean old) × (IsClean new → (s : State) → Shows old s → IfOk result (λ a. Shows new s × Is s a))
 
 -- the member holds the pairing of this id

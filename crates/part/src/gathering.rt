@@ -5,8 +5,8 @@ ghost use Rattle.std.specs.Prelude.{◌≡◌, ◌++◌, OnOk};
 ghost use Rattle.std.specs.FinMap as fin;
 ghost use Rattle.std.specs.Str.{bytes_eq};
 ghost use Rattle.command.specs.Keys.{key_name};
-ghost use Rattle.part.specs.Part.{Part, pairings_of, grounds_of, judged_by, needs_member};
-ghost use Rattle.part.specs.Sources.{AreJust, IsGroundOfOne, IsHeldByOne, Tells};
+ghost use Rattle.part.specs.Part.{Part, pairings_needed, grounds_needed, judged_by, needs_member};
+ghost use Rattle.part.specs.Sources.{AreJust, IsGroundOfOne, IsHeldByOne, TellsOfState};
 
 use crate::named::{grounds_named, judged_in, members_wanted, pairings_named};
 use crate::pick::{pick_grounds, pick_members, pick_pairings, pick_request};
@@ -32,7 +32,7 @@ fn held_by_one<S: Source>(
     source: &mut S,
     judged: &[CrewId],
 ) -> Result<Vec<PairingId>, S::Fault>
-    ensures told { Tells S.is_clean S.shows
+    ensures told { TellsOfState S.is_clean S.shows
         (λ s found. AreJust (IsHeldByOne s judged.now) found.items) source.old source.new result }
     ensures left { S.stays source.old source.new }
     ensures serves { OnOk result (S.serves source.old source.new) }
@@ -51,7 +51,7 @@ fn grounds_of_one<S: Source>(
     source: &mut S,
     judged: &[CrewId],
 ) -> Result<Vec<GroundId>, S::Fault>
-    ensures told { Tells S.is_clean S.shows
+    ensures told { TellsOfState S.is_clean S.shows
         (λ s found. AreJust (IsGroundOfOne s judged.now) found.items) source.old source.new result }
     ensures left { S.stays source.old source.new }
     ensures serves { OnOk result (S.serves source.old source.new) }
@@ -77,7 +77,8 @@ fn gather_plans<S: Source>(
     source: &mut S,
     instruction: &Instruction,
 ) -> Result<Plans, S::Fault>
-    ensures told { Tells S.is_clean S.shows (λ s it. (it.pairings ≡ pairings_of s instruction.now)
+    ensures told { TellsOfState S.is_clean S.shows
+        (λ s it. (it.pairings ≡ pairings_needed s instruction.now)
         × (it.judged.items ≡ judged_by s instruction.now)) source.old source.new result }
     ensures left { S.stays source.old source.new }
     ensures serves { OnOk result (S.serves source.old source.new) }
@@ -99,8 +100,8 @@ fn gather_grounds<S: Source>(
     instruction: &Instruction,
     judged: &[CrewId],
 ) -> Result<OrdMap<GroundId, Ground>, S::Fault>
-    ensures told { Tells S.is_clean S.shows (λ s it. judged.now ≡ judged_by s instruction.now
-        → it ≡ grounds_of s instruction.now) source.old source.new result }
+    ensures told { TellsOfState S.is_clean S.shows (λ s it. judged.now ≡ judged_by s instruction.now
+        → it ≡ grounds_needed s instruction.now) source.old source.new result }
     ensures left { S.stays source.old source.new }
     ensures serves { OnOk result (S.serves source.old source.new) }
 {
@@ -120,9 +121,9 @@ fn gather_members<S: Source>(
     pairings: &OrdMap<PairingId, PairingEntry>,
     grounds: &OrdMap<GroundId, Ground>,
 ) -> Result<OrdMap<CrewId, Member>, S::Fault>
-    ensures told { Tells S.is_clean S.shows
-        (λ s it. pairings.now ≡ pairings_of s instruction.now
-        → grounds.now ≡ grounds_of s instruction.now
+    ensures told { TellsOfState S.is_clean S.shows
+        (λ s it. pairings.now ≡ pairings_needed s instruction.now
+        → grounds.now ≡ grounds_needed s instruction.now
         → it ≡ fin.retain_keys s.crew (needs_member s instruction.now)) source.old source.new result }
     ensures left { S.stays source.old source.new }
     ensures serves { OnOk result (S.serves source.old source.new) }
@@ -140,7 +141,7 @@ fn gather_requests<S: Source>(
     source: &mut S,
     key: Key,
 ) -> Result<OrdMap<Key, LoggedCommand>, S::Fault>
-    ensures told { Tells S.is_clean S.shows
+    ensures told { TellsOfState S.is_clean S.shows
         (λ s it. it ≡ fin.retain_keys s.requests (bytes_eq (key_name key)))
         source.old source.new result }
     ensures left { S.stays source.old source.new }
@@ -158,7 +159,7 @@ pub fn gather<S: Source>(
     key: Key,
     command: &Command,
 ) -> Result<Roster, S::Fault>
-    ensures told { Tells S.is_clean S.shows
+    ensures told { TellsOfState S.is_clean S.shows
         (λ s it. it ≡ Part s key command.now) source.old source.new result }
     ensures left { S.stays source.old source.new }
     ensures serves { OnOk result (S.serves source.old source.new) }

@@ -1,6 +1,6 @@
 //! What holds of the parts of a state. Each of these functions does nothing; its clause is a law.
 
-ghost use Rattle.part.specs.Part.{AnswersAsWhole, StaysSound};
+ghost use Rattle.part.specs.Part.{AnswersAsWhole, PartStaysSound};
 ghost use Rattle.part.specs.Shown.{HasExceedanceText, HasMemberText, HasPairingText};
 
 /// A part answers its command as the whole state does: with the same verdict, reply and change.
@@ -10,7 +10,7 @@ pub fn answers_as_whole()
 
 /// The part of a sound state is sound.
 pub fn part_is_sound()
-    ensures { StaysSound }
+    ensures { PartStaysSound }
 {}
 
 /// A member's text is that of the member's part.

@@ -2,7 +2,7 @@
 
 ghost use Rattle.std.specs.Prelude.{◌≡◌, OnOk};
 ghost use Rattle.command.specs.Keys.{key_name};
-ghost use Rattle.part.specs.Sources.{IsPartOf, Tells, picked, pick};
+ghost use Rattle.part.specs.Sources.{IsPartOf, TellsOfState, picked, pick};
 
 use crate::source::Source;
 use command::{Key, Member};
@@ -18,7 +18,7 @@ pub(crate) fn pick_request<S: Source>(
     key: Key,
     requests: &mut OrdMap<Key, LoggedCommand>,
 ) -> Result<(), S::Fault>
-    ensures told { Tells S.is_clean S.shows
+    ensures told { TellsOfState S.is_clean S.shows
         (λ s _. requests.new ≡ pick s.requests requests.old (key_name key))
         source.old source.new result }
     ensures left { S.stays source.old source.new }
@@ -37,7 +37,7 @@ pub(crate) fn pick_pairing<S: Source>(
     id: &PairingId,
     pairings: &mut OrdMap<PairingId, PairingEntry>,
 ) -> Result<(), S::Fault>
-    ensures told { Tells S.is_clean S.shows
+    ensures told { TellsOfState S.is_clean S.shows
         (λ s _. pairings.new ≡ pick s.pairings pairings.old id.now) source.old source.new result }
     ensures left { S.stays source.old source.new }
     ensures serves { OnOk result (S.serves source.old source.new) }
@@ -55,7 +55,7 @@ pub(crate) fn pick_pairings<S: Source>(
     ids: &[PairingId],
     pairings: &mut OrdMap<PairingId, PairingEntry>,
 ) -> Result<(), S::Fault>
-    ensures told { Tells S.is_clean S.shows
+    ensures told { TellsOfState S.is_clean S.shows
         (λ s _. pairings.new ≡ picked s.pairings pairings.old ids.now)
         source.old source.new result }
     ensures left { S.stays source.old source.new }
@@ -74,7 +74,7 @@ fn pick_ground<S: Source>(
     id: &GroundId,
     grounds: &mut OrdMap<GroundId, Ground>,
 ) -> Result<(), S::Fault>
-    ensures told { Tells S.is_clean S.shows
+    ensures told { TellsOfState S.is_clean S.shows
         (λ s _. grounds.new ≡ pick s.grounds grounds.old id.now) source.old source.new result }
     ensures left { S.stays source.old source.new }
     ensures serves { OnOk result (S.serves source.old source.new) }
@@ -92,7 +92,7 @@ pub(crate) fn pick_grounds<S: Source>(
     ids: &[GroundId],
     grounds: &mut OrdMap<GroundId, Ground>,
 ) -> Result<(), S::Fault>
-    ensures told { Tells S.is_clean S.shows
+    ensures told { TellsOfState S.is_clean S.shows
         (λ s _. grounds.new ≡ picked s.grounds grounds.old ids.now) source.old source.new result }
     ensures left { S.stays source.old source.new }
     ensures serves { OnOk result (S.serves source.old source.new) }
@@ -111,7 +111,7 @@ pub(crate) fn pick_member<S: Source>(
     id: &CrewId,
     crew: &mut OrdMap<CrewId, Member>,
 ) -> Result<(), S::Fault>
-    ensures told { Tells S.is_clean S.shows (λ s _. IsPartOf crew.old s.crew
+    ensures told { TellsOfState S.is_clean S.shows (λ s _. IsPartOf crew.old s.crew
         → crew.new ≡ pick s.crew crew.old id.now) source.old source.new result }
     ensures left { S.stays source.old source.new }
     ensures serves { OnOk result (S.serves source.old source.new) }
@@ -132,7 +132,7 @@ pub(crate) fn pick_members<S: Source>(
     ids: &[CrewId],
     crew: &mut OrdMap<CrewId, Member>,
 ) -> Result<(), S::Fault>
-    ensures told { Tells S.is_clean S.shows (λ s _. IsPartOf crew.old s.crew
+    ensures told { TellsOfState S.is_clean S.shows (λ s _. IsPartOf crew.old s.crew
         → crew.new ≡ picked s.crew crew.old ids.now) source.old source.new result }
     ensures left { S.stays source.old source.new }
     ensures serves { OnOk result (S.serves source.old source.new) }

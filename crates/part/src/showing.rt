@@ -5,7 +5,7 @@ ghost use Rattle.std.specs.Prelude.{◌≡◌, OnOk};
 ghost use Rattle.std.specs.FinMap as fin;
 ghost use Rattle.std.specs.Str.{bytes_eq};
 ghost use Rattle.part.specs.Shown.{exceedances_part, is_ground_of, is_held_of, member_part, pairing_part};
-ghost use Rattle.part.specs.Sources.{Tells};
+ghost use Rattle.part.specs.Sources.{TellsOfState};
 
 use crate::pick::{pick_grounds, pick_member, pick_pairing, pick_pairings};
 use crate::source::Source;
@@ -21,7 +21,7 @@ fn held_pairings<S: Source>(
     source: &mut S,
     who: &CrewId,
 ) -> Result<OrdMap<PairingId, PairingEntry>, S::Fault>
-    ensures told { Tells S.is_clean S.shows
+    ensures told { TellsOfState S.is_clean S.shows
         (λ s it. it ≡ fin.retain_keys s.pairings (is_held_of s who.now))
         source.old source.new result }
     ensures left { S.stays source.old source.new }
@@ -39,7 +39,7 @@ fn grounds_held<S: Source>(
     source: &mut S,
     who: &CrewId,
 ) -> Result<OrdMap<GroundId, Ground>, S::Fault>
-    ensures told { Tells S.is_clean S.shows
+    ensures told { TellsOfState S.is_clean S.shows
         (λ s it. it ≡ fin.retain_keys s.grounds (is_ground_of s who.now))
         source.old source.new result }
     ensures left { S.stays source.old source.new }
@@ -57,7 +57,7 @@ fn one_member<S: Source>(
     source: &mut S,
     who: &CrewId,
 ) -> Result<OrdMap<CrewId, Member>, S::Fault>
-    ensures told { Tells S.is_clean S.shows
+    ensures told { TellsOfState S.is_clean S.shows
         (λ s it. it ≡ fin.retain_keys s.crew (bytes_eq who.now)) source.old source.new result }
     ensures left { S.stays source.old source.new }
     ensures serves { OnOk result (S.serves source.old source.new) }
@@ -74,7 +74,7 @@ fn one_pairing<S: Source>(
     source: &mut S,
     id: &PairingId,
 ) -> Result<OrdMap<PairingId, PairingEntry>, S::Fault>
-    ensures told { Tells S.is_clean S.shows
+    ensures told { TellsOfState S.is_clean S.shows
         (λ s it. it ≡ fin.retain_keys s.pairings (bytes_eq id.now)) source.old source.new result }
     ensures left { S.stays source.old source.new }
     ensures serves { OnOk result (S.serves source.old source.new) }
@@ -90,7 +90,7 @@ pub fn gather_member<S: Source>(
     source: &mut S,
     who: &CrewId,
 ) -> Result<Roster, S::Fault>
-    ensures told { Tells S.is_clean S.shows
+    ensures told { TellsOfState S.is_clean S.shows
         (λ s it. it ≡ member_part s who.now) source.old source.new result }
     ensures left { S.stays source.old source.new }
     ensures serves { OnOk result (S.serves source.old source.new) }
@@ -116,7 +116,7 @@ pub fn gather_pairing<S: Source>(
     source: &mut S,
     id: &PairingId,
 ) -> Result<Roster, S::Fault>
-    ensures told { Tells S.is_clean S.shows
+    ensures told { TellsOfState S.is_clean S.shows
         (λ s it. it ≡ pairing_part s id.now) source.old source.new result }
     ensures left { S.stays source.old source.new }
     ensures serves { OnOk result (S.serves source.old source.new) }
@@ -136,7 +136,7 @@ pub fn gather_pairing<S: Source>(
 
 /// Gathers the exceedances alone.
 pub fn gather_exceedances<S: Source>(alloc: Global, source: &mut S) -> Result<Roster, S::Fault>
-    ensures told { Tells S.is_clean S.shows
+    ensures told { TellsOfState S.is_clean S.shows
         (λ s it. it ≡ exceedances_part s) source.old source.new result }
     ensures left { S.stays source.old source.new }
     ensures serves { OnOk result (S.serves source.old source.new) }

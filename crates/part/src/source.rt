@@ -4,7 +4,7 @@ ghost use Rattle.std.specs.Prelude.{◌≡◌, OnOk};
 ghost use Rattle.std.specs.FinMap as fin;
 ghost use Rattle.command.specs.Keys.{key_name};
 ghost use Rattle.roster.specs.State.{State};
-ghost use Rattle.part.specs.Sources.{Tells, IsHeldBy, IsGroundOf, AreJust};
+ghost use Rattle.part.specs.Sources.{TellsOfState, IsHeldBy, IsGroundOf, AreJust};
 
 use command::{Key, Member};
 use duty::{CrewId, Ground, GroundId, PairingId};
@@ -45,21 +45,22 @@ pub trait Source {
 
     /// Reads the zone.
     fn zone(&mut self, alloc: Global) -> Result<Zone, Self::Fault>
-        ensures told { Tells is_clean shows (λ s zone. zone ≡ s.zone) self.old self.new result }
+        ensures told { TellsOfState is_clean shows (λ s zone. zone ≡ s.zone)
+            self.old self.new result }
         ensures left { stays self.old self.new }
         ensures serves { OnOk result (serves self.old self.new) }
         ensures there { OnOk result (is_there self.new) };
 
     /// Reads what a key holds.
     fn request(&mut self, alloc: Global, key: Key) -> Result<Option<LoggedCommand>, Self::Fault>
-        ensures told { Tells is_clean shows
+        ensures told { TellsOfState is_clean shows
             (λ s found. found ≡ fin.get s.requests (key_name key)) self.old self.new result }
         ensures left { stays self.old self.new }
         ensures serves { OnOk result (serves self.old self.new) };
 
     /// Reads the member of an id.
     fn member(&mut self, alloc: Global, id: &CrewId) -> Result<Option<Member>, Self::Fault>
-        ensures told { Tells is_clean shows
+        ensures told { TellsOfState is_clean shows
             (λ s found. found ≡ fin.get s.crew id.now) self.old self.new result }
         ensures left { stays self.old self.new }
         ensures serves { OnOk result (serves self.old self.new) };
@@ -70,35 +71,35 @@ pub trait Source {
         alloc: Global,
         id: &PairingId,
     ) -> Result<Option<PairingEntry>, Self::Fault>
-        ensures told { Tells is_clean shows
+        ensures told { TellsOfState is_clean shows
             (λ s found. found ≡ fin.get s.pairings id.now) self.old self.new result }
         ensures left { stays self.old self.new }
         ensures serves { OnOk result (serves self.old self.new) };
 
     /// Reads the ground duty of an id.
     fn ground(&mut self, alloc: Global, id: &GroundId) -> Result<Option<Ground>, Self::Fault>
-        ensures told { Tells is_clean shows
+        ensures told { TellsOfState is_clean shows
             (λ s found. found ≡ fin.get s.grounds id.now) self.old self.new result }
         ensures left { stays self.old self.new }
         ensures serves { OnOk result (serves self.old self.new) };
 
     /// Reads the ids of the pairings that a member holds, in any instruction.
     fn pairings_of(&mut self, alloc: Global, who: &CrewId) -> Result<Vec<PairingId>, Self::Fault>
-        ensures told { Tells is_clean shows
+        ensures told { TellsOfState is_clean shows
             (λ s found. AreJust (IsHeldBy s who.now) found.items) self.old self.new result }
         ensures left { stays self.old self.new }
         ensures serves { OnOk result (serves self.old self.new) };
 
     /// Reads the ids of the member's ground duties, in any instruction.
     fn grounds_of(&mut self, alloc: Global, who: &CrewId) -> Result<Vec<GroundId>, Self::Fault>
-        ensures told { Tells is_clean shows
+        ensures told { TellsOfState is_clean shows
             (λ s found. AreJust (IsGroundOf s who.now) found.items) self.old self.new result }
         ensures left { stays self.old self.new }
         ensures serves { OnOk result (serves self.old self.new) };
 
     /// Reads all exceedances.
     fn exceedances(&mut self, alloc: Global) -> Result<OrdMap<ExceedanceId, PeriodId>, Self::Fault>
-        ensures told { Tells is_clean shows
+        ensures told { TellsOfState is_clean shows
             (λ s found. found ≡ s.exceedances) self.old self.new result }
         ensures left { stays self.old self.new }
         ensures serves { OnOk result (serves self.old self.new) };

@@ -2,7 +2,7 @@
 //! Through the program: `tests/reports.py`. Wrong bodies: `must-fail/`.
 
 ghost use Rattle.std.specs.Prelude.{◌≡◌, OnOk};
-ghost use Rattle.part.specs.Sources.{Tells};
+ghost use Rattle.part.specs.Sources.{TellsOfState};
 ghost use Rattle.store.specs.Shown.{shown_part};
 
 use duty::{CrewId, PairingId};
@@ -27,7 +27,7 @@ pub(crate) fn gather_shown<T: Source>(
     source: &mut T,
     what: &Show,
 ) -> Result<Roster, T::Fault>
-    ensures told { Tells T.is_clean T.shows
+    ensures told { TellsOfState T.is_clean T.shows
         (λ s it. it ≡ shown_part s what.now) source.old source.new result }
     ensures left { T.stays source.old source.new }
     ensures serves { OnOk result (T.serves source.old source.new) }

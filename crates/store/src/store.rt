@@ -9,7 +9,7 @@ ghost use Rattle.roster.specs.State.{State, empty};
 ghost use Rattle.roster.specs.Steps.{after, step_of};
 ghost use Rattle.part.specs.Part.{Part};
 ghost use Rattle.lookup.specs.Reads.{ChangesNothing, IsOpen, Shows};
-ghost use Rattle.writing.specs.Commits.{IsCommitted, IsMade, IsNotMade};
+ghost use Rattle.writing.specs.Commits.{IsCommitted, AreTablesMade, IsNotMade};
 ghost use Rattle.loading.specs.Loading.{Justifies};
 ghost use Rattle.writing.specs.Making.{IsFree};
 ghost use Rattle.writing.specs.Outcomes.{CrashLeaves, CrashLeavesSome, CrashAddsNothing, HoldsNow, IsOutside, IsOverBook, one};
@@ -66,7 +66,7 @@ impl<S: Alter> Store<S> {
     ) -> Result<Store<S>, (CreateFault, Connection<S>)>
         requires { IsOutside (state S.Store conn) }
         ensures made { IfOk result
-            (λ it. IsMade (state S.Store conn) (state S.Store it) (empty zone.now)) }
+            (λ it. AreTablesMade (state S.Store conn) (state S.Store it) (empty zone.now)) }
         ensures not_made { IfErr result (λ e. IsNotMade S.Store conn e.1 (empty zone.now) e.0) }
         ensures refused { (¬ IsFree (state S.Store conn).now.schema)
             → IsErrAnd result (λ e. e.0 ≡ CreateFault.NotEmpty) }

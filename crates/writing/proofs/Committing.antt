@@ -14,7 +14,7 @@ use Rattle.roster.specs.declared.change.Change.{Change}
 use Rattle.tables.specs.Calls.{Begun, Committed, IsUnchangedOrUndone as NotMade}
 use Rattle.writing.specs.Calls.{IsFit, IsReady, Wrote}
 use Rattle.writing.specs.Kept.{IsBookOf}
-use Rattle.writing.specs.Next.{IsNext}
+use Rattle.writing.specs.Next.{IsAcceptedChange}
 use Rattle.writing.specs.Outcomes.{CrashLeaves, IsOverBook, one, either, StillShows}
 use Rattle.writing.specs.Writing.{Writes}
 use Rattle.writing.proofs.Chaining.{keeps_then}
@@ -51,7 +51,7 @@ begun_holds g stays h begun s live settled before begins leaves clean =
 
 -- ---- After the changes
 
-pub written_holds : {A E : Type 0} (s : roster.State) (change : Change) → IsNext s change → IsMade change.command → (begun last : State) (r : Result A E) →
+pub written_holds : {A E : Type 0} (s : roster.State) (change : Change) → IsAcceptedChange s change → IsMade change.command → (begun last : State) (r : Result A E) →
     Wrote (Writes change) begun last r → IsReady begun → (HasCleanDisk begun → IsBookOf s begun.now) → IsLive last → HasCleanDisk last → IsOk r → IsBookOf (after s change) last.now
 written_holds s change next made begun last (Err e) wrote ready book live clean is = absurd (cc)
 written_holds s change next made begun last (Ok a) wrote ready book live clean is =

@@ -21,7 +21,7 @@ use Rattle.roster.specs.declared.change.Change.{Change}
 use Rattle.roster.specs.declared.change.SeatChange.{SeatChange}
 use Rattle.roster.specs.declared.state.PairingEntry.{PairingEntry}
 use Rattle.writing.specs.Calls.{IsFit}
-use Rattle.writing.specs.Next.{IsNext}
+use Rattle.writing.specs.Next.{IsAcceptedChange}
 use Rattle.state_rows.specs.Rows.{ExceedanceAt, Rows}
 use Rattle.writing.specs.Writing.{Writes, WritesInstruction}
 use Rattle.writing.proofs.EffectActual.{actual_flown}
@@ -110,7 +110,7 @@ requests_stay s change (Actual id a) = refl
 
 -- ---- All of it
 
-pub written : (s : State) (change : Change) → IsNext s change → IsMade change.command → (old new : Database) → IsFit old → Rows s old → Writes change old new → Rows (after s change) new
+pub written : (s : State) (change : Change) → IsAcceptedChange s change → IsMade change.command → (old new : Database) → IsFit old → Rows s old → Writes change old new → Rows (after s change) new
 unfolding after
 written s change next =
     let it = accepted s next.key next.instruction change next.reply next.accepted in

@@ -12,7 +12,7 @@ use Rattle.tables.specs.Records.{book_row}
 use Rattle.tables.specs.Rows.{Inserts, rows_of}
 use Rattle.writing.specs.Calls.{Changed, Then}
 use Rattle.writing.specs.Kept.{IsBookOf, AreStored}
-use Rattle.writing.specs.Making.{HasEmpty, Grows, AreUnreferenced, all_tables}
+use Rattle.writing.specs.Making.{HasEmpty, MakesTables, AreUnreferenced, all_tables}
 use Rattle.state_rows.specs.Rows.{TableName, book, crew, pairing, period, segment, seat, ground_duty, exceedance, request, table, HasJust, InTable, Rows}
 use Rattle.writing.proofs.Tables.{is_same, rows_stay, stored_stays, no_rows, none_stored, made_book}
 
@@ -63,7 +63,7 @@ module _ (zone : List ℕ) (mid new : Database) (made : HasEmpty all_tables mid)
 
 -- the same of the calls that make it in a transaction
 pub made_holds : {A E : Type 0} (zone text : List ℕ) (begun last : State) (r : Result A E) → text ≡ zone → (HasCleanDisk begun → AreUnreferenced begun.now.schema) →
-    Changed (Then (Grows [] all_tables) (Inserts book_table (book_row (record { one = pos 1; version = pos 1; zone = text })))) begun last r →
+    Changed (Then (MakesTables [] all_tables) (Inserts book_table (book_row (record { one = pos 1; version = pos 1; zone = text })))) begun last r →
     IsLive last → HasCleanDisk last → IsOk r → IsBookOf (empty zone) last.now
 made_holds zone text begun last (Err fault) same fresh changed live clean is = absurd (cc)
 made_holds zone text begun last (Ok a) same fresh changed live clean is =

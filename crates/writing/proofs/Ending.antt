@@ -7,7 +7,7 @@ use Rattle.sqlite.specs.State.{State, HasCleanDisk, Survives}
 use Rattle.sqlite.specs.Held.{Held, state}
 use Rattle.roster.specs.State as roster
 use Rattle.tables.specs.Calls.{Committed}
-use Rattle.writing.specs.Kept.{IsBookOf, Holds}
+use Rattle.writing.specs.Kept.{IsBookOf, HoldBookOf}
 use Rattle.writing.specs.Outcomes.{CrashLeaves, CrashMayAdd, HoldsNow, IsOverBook, one}
 
 -- ---- Answers
@@ -30,7 +30,7 @@ if_err (Err e) p = p e refl
 
 -- ---- A database, by its trees
 
-pub of_trees : (t : roster.State) (db : Database) (trees : Trees) → trees ≡ db.trees → IsBookOf t db → Holds trees t
+pub of_trees : (t : roster.State) (db : Database) (trees : Trees) → trees ≡ db.trees → IsBookOf t db → HoldBookOf trees t
 of_trees t db trees is book = (db.schema, subst (λ ts. IsBookOf t (record { schema = db.schema; trees = ts })) (sym is) book)
 
 module _ {S : Type 0} (g : Ghosts S) (last : State) (new : Held S) (t : roster.State)

@@ -9,7 +9,7 @@ use Rattle.tables.specs.Schema.{BookTable, IsTable, IsUnreferenced, table_found,
 use Rattle.sqlite_schema.specs.declared.schema.Schema.{Schema}
 use Rattle.writing.specs.Calls.{IsInside, Changed, Then}
 use Rattle.writing.specs.Kept.{KeepsPlain}
-use Rattle.writing.specs.Making.{HasEmpty, Grows, IsFree, AreUnreferenced}
+use Rattle.writing.specs.Making.{HasEmpty, MakesTables, IsFree, AreUnreferenced}
 use Rattle.writing.proofs.Chaining.{one_call, still_inside, then_call}
 
 abbrev IsEmptyTable : Database → BookTable → Type 0
@@ -37,7 +37,7 @@ kept_then a b c one two t there =
     let second = two t first.0 in
     (second.0, second.1 ∙ first.1)
 
-pub grown_on : (first second third : List BookTable) (old new : Database) → Then (Grows first second) (Grows second third) old new → Grows first third old new
+pub grown_on : (first second third : List BookTable) (old new : Database) → Then (MakesTables first second) (MakesTables second third) old new → MakesTables first third old new
 grown_on first second third old new it = (λ has. it.2.0 (it.1.0 has), kept_then old it.0 new it.1.1 it.2.1)
 
 -- a call that is done is done, whatever the faults that it could have
@@ -47,7 +47,7 @@ as_told old new changed = record { done = changed.done; kept = changed.kept; lef
 -- three in a row
 pub grown_thrice : {E : Type 0} (t u v : BookTable) (tables : List BookTable) (old one two new : State) (a b c : Unit {0}) → IsInside old →
     Ran (Makes t) old one (Ok a) → CrashMayLeave (Makes t) old one → Ran (Makes u) one two (Ok b) → CrashMayLeave (Makes u) one two → Ran (Makes v) two new (Ok c) → CrashMayLeave (Makes v) two new →
-    Changed {E = E} (Grows tables (v ∷ u ∷ t ∷ tables)) old new (Ok c)
+    Changed {E = E} (MakesTables tables (v ∷ u ∷ t ∷ tables)) old new (Ok c)
 grown_thrice {E = E} t u v tables old one two new a b c inside first first_left second second_left third third_left =
     let f = one_call (Makes t) old one inside first_left (Ok a) first in
     let in_one = still_inside old one a f in

@@ -23,7 +23,7 @@ use Rattle.tables.specs.Rows.{Changes, Inserts, Deletes, Updates, begins_with, s
 use Rattle.tables.specs.Schema.{BookTable, IsTable, book_table, table_found, table_of}
 use Rattle.writing.specs.Calls.{Changed, Each, IsFit, IsReady, Then, Wrote}
 use Rattle.writing.specs.Kept.{IsOther, KeepOthers, KeepPlain}
-use Rattle.writing.specs.Making.{Grows, IsFree, all_tables}
+use Rattle.writing.specs.Making.{MakesTables, IsFree, all_tables}
 use Rattle.writing.specs.Outcomes.{CrashLeavesOnly, CrashAddsOnly, ShowsOnly}
 use Rattle.state_rows.specs.Rows.{TableName, table, crew, pairing, period, segment, seat, ground_duty, exceedance, request, row_of_member, row_of_pairing, row_of_period, row_of_segment, row_of_seat, row_of_ground, row_of_exceedance, row_of_request, seat_number}
 use Rattle.writing.specs.Writing.{AddsPeriods, AddsSegmentOf, AddsSegmentsOf, AddsSegments, FreesSeat, Seats, Reseats, FliesPeriod, FliesSegment, FliesSegments, Records, RecordsAll, Writes, WritesInstruction}
@@ -154,7 +154,7 @@ free_name schema free t there same =
     absurd (cc)
 
 pub made_keeps : {A E : Type 0} (row : Row) (old begun last : State) (r : Result A E) → IsFree old.now.schema → (HasCleanDisk begun → Begun old begun) →
-    Changed (Then (Grows [] all_tables) (Inserts book_table row)) begun last r → IsLive last → HasCleanDisk last → IsOk r → KeepPlain old.now last.now.trees
+    Changed (Then (MakesTables [] all_tables) (Inserts book_table row)) begun last r → IsLive last → HasCleanDisk last → IsOk r → KeepPlain old.now last.now.trees
 made_keeps row old begun last (Err fault) free begins changed live clean is = absurd (cc)
 made_keeps row old begun last (Ok a) free begins changed live clean is =
     let it = changed.done clean in

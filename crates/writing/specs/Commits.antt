@@ -11,13 +11,13 @@ use Rattle.state_rows.specs.declared.fault.StoreFault.{StoreFault}
 use Rattle.state_rows.specs.declared.fault.StoreFault.TheVariants.{Memory, Store}
 use Rattle.writing.specs.Kept.{KeepOthers, KeepPlain}
 use Rattle.writing.specs.Making.{IsFree}
-use Rattle.writing.specs.Next.{IsNext}
+use Rattle.writing.specs.Next.{IsAcceptedChange}
 use Rattle.writing.specs.Outcomes.{CrashAddsNothing, CrashAddsOnly, HoldsNow, IsOutside, CrashLeaves, CrashLeavesOnly, CrashLeavesSome, CrashMayAdd, ShowsOnly, StaysOpen, StillShows, either, one}
 use Rattle.writing.specs.declared.fault.CreateFault.{CreateFault}
 use Rattle.writing.specs.declared.fault.CreateFault.TheVariants.{Fault, NotEmpty}
 
 -- the tables of a book in this state were made
-pub record IsMade (old new : State) (s : roster.State) : Type 0 where
+pub record AreTablesMade (old new : State) (s : roster.State) : Type 0 where
   -- the book: what a crash leaves, and what is shown
   pub crash : CrashLeaves new (one s)
   pub some_left : CrashLeavesSome new
@@ -42,11 +42,11 @@ pub record IsNotMade {S : Type 0} (g : Ghosts S) (old new : Held S) (s : roster.
 -- this came of the commit of a change, which the step gave of the state that a crash leaves
 pub record IsCommitted {A : Type 0} (old new : State) (change : Change) (result : Result A StoreFault) : Type 0 where
   -- the tables: the change is kept; after 91 nothing of it, after 90 all or nothing
-  pub crash : (s : roster.State) → IsNext s change → CrashLeaves old (one s) → OnOk result (CrashLeaves new (one (after s change)))
+  pub crash : (s : roster.State) → IsAcceptedChange s change → CrashLeaves old (one s) → OnOk result (CrashLeaves new (one (after s change)))
   pub memory : (s : roster.State) → CrashLeaves old (one s) → result ≡ Err Memory → CrashLeaves new (one s)
-  pub store : (s : roster.State) → IsNext s change → CrashLeaves old (one s) → result ≡ Err Store → CrashLeaves new (either s (after s change))
+  pub store : (s : roster.State) → IsAcceptedChange s change → CrashLeaves old (one s) → result ≡ Err Store → CrashLeaves new (either s (after s change))
   pub some_left : CrashLeavesSome new
-  pub shown : (s : roster.State) → IsNext s change → CrashLeaves old (one s) → OnOk result (HoldsNow new (after s change))
+  pub shown : (s : roster.State) → IsAcceptedChange s change → CrashLeaves old (one s) → OnOk result (HoldsNow new (after s change))
   pub still_shown : OnErr result (StillShows old new)
   -- where the change is kept, or may be, its instants are of their type
   pub command : OnOk result (IsCommand change.command)

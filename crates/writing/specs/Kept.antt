@@ -23,8 +23,8 @@ pub record IsBookOf (s : State) (db : Database) : Type 0 where
   pub rows : Rows s db
 
 -- by the schema that the trees list
-abbrev pub Holds : Trees → State → Type 0
-Holds trees s = (schema : Schema) × IsBookOf s (record { schema = schema; trees = trees })
+abbrev pub HoldBookOf : Trees → State → Type 0
+HoldBookOf trees s = (schema : Schema) × IsBookOf s (record { schema = schema; trees = trees })
 
 -- no table of a book has this name
 abbrev pub IsOther : List ℕ → Type 0

@@ -23,8 +23,8 @@ pub record HasEmpty (tables : List BookTable) (db : Database) : Type 0 where
   pub unreferenced : AreUnreferenced db.schema
 
 -- the second tables are there where the first were, and others keep their rows
-abbrev pub Grows : List BookTable → List BookTable → Database → Database → Type 0
-Grows first second old new = (HasEmpty first old → HasEmpty second new) × KeepsPlain old new
+abbrev pub MakesTables : List BookTable → List BookTable → Database → Database → Type 0
+MakesTables first second old new = (HasEmpty first old → HasEmpty second new) × KeepsPlain old new
 
 -- the last made comes first
 abbrev pub first_tables : List BookTable

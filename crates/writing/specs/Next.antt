@@ -10,7 +10,7 @@ use Rattle.roster.specs.declared.change.Change.{Change}
 use Rattle.roster.specs.declared.change.Verdict.TheVariants.{Accept}
 
 -- the change is what the step accepted in a sound state, of some command under some key
-pub record IsNext (s : State) (change : Change) : Type 0 where
+pub record IsAcceptedChange (s : State) (change : Change) : Type 0 where
   pub sound : Sound s
   pub key : KeyParts
   pub instruction : Instruction

@@ -5,7 +5,7 @@ use Rattle.sqlite_trees.specs.Tree.{Trees}
 use Rattle.sqlite.specs.State.{State, HasCleanDisk}
 use Rattle.roster.specs.State as roster
 use Rattle.tables.specs.Schema.{IsBook}
-use Rattle.writing.specs.Kept.{IsBookOf, Holds, AreStored}
+use Rattle.writing.specs.Kept.{IsBookOf, HoldBookOf, AreStored}
 
 -- All of this is said as long as the disk has returned what was written.
 
@@ -19,7 +19,7 @@ either s t = λ r. (r ≡ s) ⊎ (r ≡ t)
 
 -- a crash leaves the tables of a book in a state of which P holds, and nothing else
 pub record CrashLeaves (now : State) (P : roster.State → Type 0) : Type 0 where
-  pub crash : HasCleanDisk now → (trees : Trees) → now.may_leave trees → (s : roster.State) × P s × Holds trees s
+  pub crash : HasCleanDisk now → (trees : Trees) → now.may_leave trees → (s : roster.State) × P s × HoldBookOf trees s
 
 -- and it leaves something
 abbrev pub CrashLeavesSome : State → Type 0
@@ -33,7 +33,7 @@ pub record CrashAddsNothing (old now : State) : Type 0 where
 -- a crash leaves what it could leave before, or the tables of a book in this state
 pub record CrashMayAdd (old now : State) (s : roster.State) : Type 0 where
   pub disk : HasCleanDisk now → HasCleanDisk old
-  pub crash : HasCleanDisk now → (trees : Trees) → now.may_leave trees → old.may_leave trees ⊎ Holds trees s
+  pub crash : HasCleanDisk now → (trees : Trees) → now.may_leave trees → old.may_leave trees ⊎ HoldBookOf trees s
 
 -- a crash leaves only trees of which P holds
 pub record CrashLeavesOnly (now : State) (P : Trees → Type 0) : Type 0 where

@@ -4,7 +4,7 @@
 ghost use Rattle.std.specs.Prelude.{◌≡◌, Err, IfErr, OnOk};
 ghost use Rattle.sqlite.specs.Held.{state};
 ghost use Rattle.roster.specs.State.{empty};
-ghost use Rattle.writing.specs.Commits.{IsCommitted, IsMade, IsNotMade};
+ghost use Rattle.writing.specs.Commits.{IsCommitted, AreTablesMade, IsNotMade};
 ghost use Rattle.writing.specs.Making.{IsFree};
 ghost use Rattle.writing.specs.Outcomes.{IsOutside, IsOverBook};
 
@@ -31,7 +31,7 @@ pub fn make_book<S: Alter>(
 ) -> Result<(), CreateFault>
     requires { IsOutside (state S.Store conn.old) }
     ensures made { OnOk result
-        (IsMade (state S.Store conn.old) (state S.Store conn.new) (empty zone.now)) }
+        (AreTablesMade (state S.Store conn.old) (state S.Store conn.new) (empty zone.now)) }
     ensures not_made { IfErr result (IsNotMade S.Store conn.old conn.new (empty zone.now)) }
     ensures refused { (¬ IsFree (state S.Store conn.old).now.schema)
         → result ≡ Err CreateFault.NotEmpty }

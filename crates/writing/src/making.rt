@@ -8,7 +8,7 @@ ghost use Rattle.tables.specs.Records.{book_row};
 ghost use Rattle.tables.specs.Rows.{Inserts};
 ghost use Rattle.tables.specs.Schema.{book_table, table_found, NoneRefersTo, crew_table, pairing_table, period_table, segment_table, seat_table, ground_table, exceedance_table, request_table};
 ghost use Rattle.writing.specs.Calls.{IsInside, Changed, Then};
-ghost use Rattle.writing.specs.Making.{AreUnreferenced, Grows, IsFree, first_tables, second_tables, all_tables};
+ghost use Rattle.writing.specs.Making.{AreUnreferenced, MakesTables, IsFree, first_tables, second_tables, all_tables};
 
 use sqlite::{Alter, Connection};
 use state_rows::StoreFault;
@@ -54,7 +54,7 @@ pub(crate) fn make_tables<S: Alter>(
     requires free { HasCleanDisk (state S.Store conn.old)
         → AreUnreferenced (state S.Store conn.old).now.schema }
     requires inside { IsInside (state S.Store conn.old) }
-    ensures { Changed (Then (Grows [] all_tables) (Inserts book_table (book_row book.now)))
+    ensures { Changed (Then (MakesTables [] all_tables) (Inserts book_table (book_row book.now)))
         (state S.Store conn.old) (state S.Store conn.new) result }
 {
     make_first(conn)?;
@@ -65,7 +65,7 @@ pub(crate) fn make_tables<S: Alter>(
 
 fn make_first<S: Alter>(conn: &mut Connection<S>) -> Result<(), StoreFault>
     requires { IsInside (state S.Store conn.old) }
-    ensures { Changed (Grows [] first_tables) (state S.Store conn.old)
+    ensures { Changed (MakesTables [] first_tables) (state S.Store conn.old)
         (state S.Store conn.new) result }
 {
     create_book(conn)?;
@@ -75,7 +75,7 @@ fn make_first<S: Alter>(conn: &mut Connection<S>) -> Result<(), StoreFault>
 
 fn make_second<S: Alter>(conn: &mut Connection<S>) -> Result<(), StoreFault>
     requires { IsInside (state S.Store conn.old) }
-    ensures { Changed (Grows first_tables second_tables) (state S.Store conn.old)
+    ensures { Changed (MakesTables first_tables second_tables) (state S.Store conn.old)
         (state S.Store conn.new) result }
 {
     create_period(conn)?;
@@ -85,7 +85,7 @@ fn make_second<S: Alter>(conn: &mut Connection<S>) -> Result<(), StoreFault>
 
 fn make_third<S: Alter>(conn: &mut Connection<S>) -> Result<(), StoreFault>
     requires { IsInside (state S.Store conn.old) }
-    ensures { Changed (Grows second_tables all_tables) (state S.Store conn.old)
+    ensures { Changed (MakesTables second_tables all_tables) (state S.Store conn.old)
         (state S.Store conn.new) result }
 {
     create_ground(conn)?;

@@ -4,7 +4,7 @@ use Rattle.sqlite.specs.State.{HasCleanDisk}
 use Rattle.sqlite.proofs.StateLemmas.{survives_then, survives_weaker}
 use Rattle.roster.specs.Steps.{after}
 use Rattle.roster.specs.State.{State}
-use Rattle.writing.specs.Next.{IsNext}
+use Rattle.writing.specs.Next.{IsAcceptedChange}
 use Rattle.writing.specs.Outcomes.{CrashLeaves, one}
 use Rattle.writing.proofs.Committing.{begun_ready, begun_holds, written_holds, kept_leaves, either_leaves, ended_fit, undone_fit, none_done, over_at_end, unbegun_over, unbegun_shows, undone_shows, on_err_of, weaker}
 use Rattle.writing.proofs.Ending.{on_ok, on_err, ended_leaves, ended_now}
@@ -48,7 +48,7 @@ returns-clause-committed g c =
     let before = λ (clean : HasCleanDisk begun). let d : HasCleanDisk old = omega (arith, c.in_ok-begin.ensures.crash.clean) in d in
     let late = λ (clean : HasCleanDisk new). let d : HasCleanDisk last = omega (arith, ended.crash.clean) in d in
     let ready = begun_ready old begun before c.requires.over c.in_ok-begin.ensures.gave in
-    let holds = λ (s : State) (next : IsNext s c.args.change.now) (leaves : CrashLeaves old (one s)) (clean : HasCleanDisk new) (is : IsOk c.write_change-done.result).
+    let holds = λ (s : State) (next : IsAcceptedChange s c.args.change.now) (leaves : CrashLeaves old (one s)) (clean : HasCleanDisk new) (is : IsOk c.write_change-done.result).
     written_holds s c.args.change.now next c.in_ok-row.ensures.command.0 begun last c.write_change-done.result c.write_change-done.ensures ready
     (begun_holds G g.met.S.Store.stays c.args.conn.now begun s c.schema-live.ensures.live settled before c.in_ok-begin.ensures.gave leaves) ended.live (omega (arith, ended.crash.clean)) is in
     let keeps = λ (clean : HasCleanDisk new) (is : IsOk c.write_change-done.result).
