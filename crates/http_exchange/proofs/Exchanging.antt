@@ -6,72 +6,72 @@ use Rattle.std.proofs.KnownBytes.{Appends-trans}
 use Rattle.http_message.proofs.HeadLemmas.{has_byte}
 use Rattle.http_message.specs.Heading.{Heading}
 use Rattle.http_message.specs.Plan as planning
-use Rattle.http_message.specs.Plan.{Planned, Subject, plan, refuse, receive}
+use Rattle.http_message.specs.Plan.{Planned, Subject, plan_for_head, refuse, receive}
 use Rattle.http_message.specs.Reading as reading
 use Rattle.http_message.specs.declared.plan.ExpectedBody.{ExpectedBody}
 use Rattle.http_message.specs.declared.reading.ReadFault.TheVariants.{Memory}
 use Rattle.http_message.specs.declared.refusals.RequestFault.{RequestFault}
 use Rattle.http_message.specs.declared.refusals.RequestFault.TheVariants.{NoHead, CutBody}
 use Rattle.http_exchange.specs.Body.{IsWholeAt, IsCutAt}
-use Rattle.http_exchange.specs.Final.{Final, IsAnswerTold, IsSent, IsTold, OrFails, of_answer, of_fault, of_no_memory}
-use Rattle.http_exchange.specs.Handler.{Asked, Answer, submit, show}
+use Rattle.http_exchange.specs.Final.{Final, IsAnswerTold, IsSent, IsFinalTold, OrFails, of_answer, of_fault, of_no_memory}
+use Rattle.http_exchange.specs.Handler.{HandlerRequest, StatusText, submit, show}
 use Rattle.http_exchange.specs.declared.handler.HandlerFault.{HandlerFault}
 use Rattle.http_exchange.specs.declared.sending.ChannelFault.{ChannelFault}
 use Rattle.http_exchange.specs.declared.sending.ChannelFault.TheVariants.{Reader, Writer}
 use Rattle.http_exchange.specs.declared.exchanges.Served.TheVariants.{Answered, Nothing}
-use Rattle.http_exchange.specs.Exchange.{Held, asks, interim_bytes, receiving, AsksOnce, IsSettled, Responds, IsServed, MayHaveAsked, BreaksOff, IsBrokenOff, IsAsked}
+use Rattle.http_exchange.specs.Exchange.{ChannelBytes, asks, interim_bytes, receiving, AsksHandlerOnce, IsSettled, Responds, IsExchangeServed, MayHaveAsked, BreaksOff, IsExchangeBrokenOff, IsAnsweredAndWritten}
 
 -- what was written after other bytes
-told_after : (front : List ℕ) (out mid out' : Held) (code : ℕ) (final : Final) (is_head : Bool) → Appends out mid front → IsTold [] mid out' code final is_head → IsTold front out out' code final is_head
+told_after : (front : List ℕ) (out mid out' : ChannelBytes) (code : ℕ) (final : Final) (is_head : Bool) → Appends out mid front → IsFinalTold [] mid out' code final is_head → IsFinalTold front out out' code final is_head
 told_after front out mid out' code final is_head first (inl sent) = inl (sent.0, Appends-trans out mid out' front final.bytes first sent.1)
 told_after front out mid out' code final is_head first (inr sent) = inr (sent.0, Appends-trans out mid out' front (of_no_memory is_head).bytes first sent.1)
 
-answer_told_after : (front : List ℕ) (out mid out' : Held) (code : ℕ) (answer : Result Answer HandlerFault) (is_head : Bool) → Appends out mid front → IsAnswerTold [] mid out' code answer is_head → IsAnswerTold front out out' code answer is_head
+answer_told_after : (front : List ℕ) (out mid out' : ChannelBytes) (code : ℕ) (answer : Result StatusText HandlerFault) (is_head : Bool) → Appends out mid front → IsAnswerTold [] mid out' code answer is_head → IsAnswerTold front out out' code answer is_head
 answer_told_after front out mid out' code (Ok a) is_head first told = told_after front out mid out' code (of_answer (Ok a) is_head) is_head first told
 answer_told_after front out mid out' code (Err fault) is_head first sent = (sent.0, Appends-trans out mid out' front (of_answer (Err fault) is_head).bytes first sent.1)
 
-module _ {K : Type 0} (handles : K → K → Asked → Result Answer HandlerFault → Type 0) where
-  may_stay : (a : Result Asked RequestFault) (old : K) → MayHaveAsked handles a old old
+module _ {K : Type 0} (handles : K → K → HandlerRequest → Result StatusText HandlerFault → Type 0) where
+  may_stay : (a : Result HandlerRequest RequestFault) (old : K) → MayHaveAsked handles a old old
   may_stay (Ok asked) old = inl refl
   may_stay (Err fault) old = refl
 
-  unasked_broken : (p : Planned) (had : Held) (old : K) (fault : ChannelFault) → BreaksOff handles p had old old fault
+  unasked_broken : (p : Planned) (had : ChannelBytes) (old : K) (fault : ChannelFault) → BreaksOff handles p had old old fault
   unasked_broken p had old Reader = refl
   unasked_broken p None old Writer = tt
   unasked_broken p (Some rest) old Writer = may_stay (asks p.step rest) old
 
-  pub unasked : (p : Planned) (had : Held) (old : K) (r : Result ℕ ChannelFault) → IfErr r (λ fault. BreaksOff handles p had old old fault)
+  pub unasked : (p : Planned) (had : ChannelBytes) (old : K) (r : Result ℕ ChannelFault) → IfErr r (λ fault. BreaksOff handles p had old old fault)
   unasked p had old (Ok code) = tt
   unasked p had old (Err fault) = unasked_broken p had old fault
 
   -- ---- a head
 
-  pub refused : (fault : RequestFault) (is_head : Bool) (had out out' : Held) (old : K) (r : Result ℕ ChannelFault)
-      → OrFails r (λ code. IsTold [] out out' code (of_fault fault is_head) is_head)
+  pub refused : (fault : RequestFault) (is_head : Bool) (had out out' : ChannelBytes) (old : K) (r : Result ℕ ChannelFault)
+      → OrFails r (λ code. IsFinalTold [] out out' code (of_fault fault is_head) is_head)
       → IfOk r (λ code. Responds handles (record { is_head = is_head; step = refuse fault }) had had out out' old old code)
   refused fault is_head had out out' old (Err e) told = tt
   refused fault is_head None out out' old (Ok code) told = tt
   refused fault is_head (Some rest) out out' old (Ok code) told = inl (record { left_is = refl; settled = (refl, told) })
 
-  pub shown : (what : Subject) (is_head : Bool) (had out out' : Held) (old new : K) (r : Result ℕ ChannelFault)
-      → IsAsked handles (show what) out out' old new is_head r
+  pub shown : (what : Subject) (is_head : Bool) (had out out' : ChannelBytes) (old new : K) (r : Result ℕ ChannelFault)
+      → IsAnsweredAndWritten handles (show what) out out' old new is_head r
       → IfOk r (λ code. Responds handles (record { is_head = is_head; step = planning.show what }) had had out out' old new code)
   shown what is_head had out out' old new (Err e) asked = tt
   shown what is_head None out out' old new (Ok code) asked = tt
   shown what is_head (Some rest) out out' old new (Ok code) asked = inl (record { left_is = refl; settled = asked })
 
-  pub shown_broken : (what : Subject) (is_head : Bool) (had out out' : Held) (old new : K) (r : Result ℕ ChannelFault)
-      → IsAsked handles (show what) out out' old new is_head r
+  pub shown_broken : (what : Subject) (is_head : Bool) (had out out' : ChannelBytes) (old new : K) (r : Result ℕ ChannelFault)
+      → IsAnsweredAndWritten handles (show what) out out' old new is_head r
       → IfErr r (λ fault. BreaksOff handles (record { is_head = is_head; step = planning.show what }) had old new fault)
   shown_broken what is_head had out out' old new (Ok code) asked = tt
   shown_broken what is_head had out out' old new (Err Reader) asked = let never : Reader ≡ Writer = asked.2 in absurd cc
   shown_broken what is_head None out out' old new (Err Writer) asked = tt
   shown_broken what is_head (Some rest) out out' old new (Err Writer) asked = inr (asked.0, asked.1)
 
-  pub asked_once : (asked : Asked) (out out' : Held) (old new : K) (is_head : Bool) (r : Result ℕ ChannelFault) → IsAsked handles asked out out' old new is_head r → AsksOnce handles old new
+  pub asked_once : (asked : HandlerRequest) (out out' : ChannelBytes) (old new : K) (is_head : Bool) (r : Result ℕ ChannelFault) → IsAnsweredAndWritten handles asked out out' old new is_head r → AsksHandlerOnce handles old new
   asked_once asked out out' old new is_head r it = inr (asked, (it.0, it.1))
 
-  pub short : (p : Planned) (had out out' : Held) (old : K) (r : Result ℕ ChannelFault)
+  pub short : (p : Planned) (had out out' : ChannelBytes) (old : K) (r : Result ℕ ChannelFault)
       → OrFails r (λ code. IsSent [] out out' code (of_no_memory p.is_head))
       → IfOk r (λ code. Responds handles p had had out out' old old code)
   short p had out out' old (Err e) sent = tt
@@ -87,8 +87,8 @@ module _ {K : Type 0} (handles : K → K → Asked → Result Answer HandlerFaul
     cut_asks : (rest : List ℕ) → length rest < expected.length → asks (receive expected) rest ≡ Err CutBody
     cut_asks rest few = let e : nat_lt (length rest) expected.length ≡ true = grind (arith, nat_tests) in rw e refl
 
-    pub taken : (had left out mid out' : Held) (old new : K) (body : List ℕ) (r : Result ℕ ChannelFault)
-        → Appends out mid (interim_bytes expected.continues) → IsWholeAt expected.length had left body → IsAsked handles (submit expected.to body) mid out' old new is_head r
+    pub taken : (had left out mid out' : ChannelBytes) (old new : K) (body : List ℕ) (r : Result ℕ ChannelFault)
+        → Appends out mid (interim_bytes expected.continues) → IsWholeAt expected.length had left body → IsAnsweredAndWritten handles (submit expected.to body) mid out' old new is_head r
         → IfOk r (λ code. Responds handles (receiving expected is_head) had left out out' old new code)
     taken had left out mid out' old new body (Err e) first whole asked = tt
     taken None left out mid out' old new body (Ok code) first whole asked = tt
@@ -101,8 +101,8 @@ module _ {K : Type 0} (handles : K → K → Asked → Result Answer HandlerFaul
           settled = subst (λ a. IsSettled handles a front is_head out out' old new code) (sym (whole_asks rest whole.0)) (asked.0, handled, told);
         })
 
-    pub taken_broken : (had left mid out' : Held) (old new : K) (body : List ℕ) (r : Result ℕ ChannelFault)
-        → IsWholeAt expected.length had left body → IsAsked handles (submit expected.to body) mid out' old new is_head r
+    pub taken_broken : (had left mid out' : ChannelBytes) (old new : K) (body : List ℕ) (r : Result ℕ ChannelFault)
+        → IsWholeAt expected.length had left body → IsAnsweredAndWritten handles (submit expected.to body) mid out' old new is_head r
         → IfErr r (λ fault. BreaksOff handles (receiving expected is_head) had old new fault)
     taken_broken had left mid out' old new body (Ok code) whole asked = tt
     taken_broken had left mid out' old new body (Err Reader) whole asked = let never : Reader ≡ Writer = asked.2 in absurd cc
@@ -111,8 +111,8 @@ module _ {K : Type 0} (handles : K → K → Asked → Result Answer HandlerFaul
         let handled = subst (λ body. handles old new (submit expected.to body) asked.0) whole.1 asked.1 in
         subst (λ a. MayHaveAsked handles a old new) (sym (whole_asks rest whole.0)) (inr (asked.0, handled))
 
-    pub cut : (had left out mid out' : Held) (old : K) (r : Result ℕ ChannelFault)
-        → Appends out mid (interim_bytes expected.continues) → IsCutAt expected.length had left → OrFails r (λ code. IsTold [] mid out' code (of_fault CutBody is_head) is_head)
+    pub cut : (had left out mid out' : ChannelBytes) (old : K) (r : Result ℕ ChannelFault)
+        → Appends out mid (interim_bytes expected.continues) → IsCutAt expected.length had left → OrFails r (λ code. IsFinalTold [] mid out' code (of_fault CutBody is_head) is_head)
         → IfOk r (λ code. Responds handles (receiving expected is_head) had left out out' old old code)
     cut had left out mid out' old (Err e) first short told = tt
     cut None left out mid out' old (Ok code) first short told = tt
@@ -125,37 +125,37 @@ module _ {K : Type 0} (handles : K → K → Asked → Result Answer HandlerFaul
 
   -- ---- an input
 
-  pub nothing : (had left out : Held) (old : K) → reading.IsReadEmpty had → IsServed handles had left out out old old Nothing
+  pub nothing : (had left out : ChannelBytes) (old : K) → reading.IsReadEmpty had → IsExchangeServed handles had left out out old old Nothing
   nothing None left out old is = tt
   nothing (Some input) left out old is = (is, refl, refl)
 
-  pub no_head : (had left out out' : Held) (old : K) (code : ℕ) → reading.IsReadBad had → IsTold [] out out' code (of_fault NoHead false) false
-      → IsServed handles had left out out' old old (Answered code)
+  pub no_head : (had left out out' : ChannelBytes) (old : K) (code : ℕ) → reading.IsReadBad had → IsFinalTold [] out out' code (of_fault NoHead false) false
+      → IsExchangeServed handles had left out out' old old (Answered code)
   no_head None left out out' old code none told = tt
   no_head (Some input) left out out' old code none told = (none.0, inl (none.1, (refl, told)))
 
   -- what was read of the input, and what was answered to it
-  pub served : (had mid left out out' : Held) (old new : K) (head : Heading) (code : ℕ) → reading.IsReadWhole had mid head → Responds handles (plan head) mid left out out' old new code
-      → IsServed handles had left out out' old new (Answered code)
+  pub served : (had mid left out out' : ChannelBytes) (old new : K) (head : Heading) (code : ℕ) → reading.IsReadWhole had mid head → Responds handles (plan_for_head head) mid left out out' old new code
+      → IsExchangeServed handles had left out out' old new (Answered code)
   served None mid left out out' old new head code is answers = tt
   served (Some input) mid left out out' old new head code (h, rest, has, is, there) answers =
-      let after = subst (λ m. Responds handles (plan head) m left out out' old new code) there answers in
-      (has_byte input h rest has.reads, inr (inl (h, rest, has, subst (λ head. Responds handles (plan head) (Some rest) left out out' old new code) is after)))
+      let after = subst (λ m. Responds handles (plan_for_head head) m left out out' old new code) there answers in
+      (has_byte input h rest has.reads, inr (inl (h, rest, has, subst (λ head. Responds handles (plan_for_head head) (Some rest) left out out' old new code) is after)))
 
-  pub broken_off : (had mid : Held) (old new : K) (head : Heading) (fault : ChannelFault) → reading.IsReadWhole had mid head → BreaksOff handles (plan head) mid old new fault
-      → IsBrokenOff handles had old new fault
+  pub broken_off : (had mid : ChannelBytes) (old new : K) (head : Heading) (fault : ChannelFault) → reading.IsReadWhole had mid head → BreaksOff handles (plan_for_head head) mid old new fault
+      → IsExchangeBrokenOff handles had old new fault
   broken_off had mid old new head Reader is breaks = breaks
   broken_off None mid old new head Writer is breaks = tt
   broken_off (Some input) mid old new head Writer (h, rest, has, is, there) breaks =
-      let after = subst (λ m. BreaksOff handles (plan head) m old new Writer) there breaks in
-      inr (h, rest, has, subst (λ head. MayHaveAsked handles (asks (plan head).step rest) old new) is after)
+      let after = subst (λ m. BreaksOff handles (plan_for_head head) m old new Writer) there breaks in
+      inr (h, rest, has, subst (λ head. MayHaveAsked handles (asks (plan_for_head head).step rest) old new) is after)
 
-  pub without_memory : (had left out out' : Held) (old : K) (code : ℕ) → reading.IsUnread Memory had left → IsSent [] out out' code (of_no_memory false)
-      → IsServed handles had left out out' old old (Answered code)
+  pub without_memory : (had left out out' : ChannelBytes) (old : K) (code : ℕ) → reading.IsHeadUnread Memory had left → IsSent [] out out' code (of_no_memory false)
+      → IsExchangeServed handles had left out out' old old (Answered code)
   without_memory None left out out' old code is sent = tt
   without_memory (Some input) left out out' old code is sent = (is.0, inr (inr (record { left_is = is.1; unasked = refl; sent = sent })))
 
-  pub unasked_off : (had : Held) (old : K) (fault : ChannelFault) → IsBrokenOff handles had old old fault
+  pub unasked_off : (had : ChannelBytes) (old : K) (fault : ChannelFault) → IsExchangeBrokenOff handles had old old fault
   unasked_off had old Reader = refl
   unasked_off None old Writer = tt
   unasked_off (Some input) old Writer = inl refl

@@ -14,6 +14,6 @@ IsCutAt n None left = ⊤
 IsCutAt n (Some input) left = (length input < n) × (left ≡ Some (drop n input))
 
 -- the body is whole, or the input ends before it is
-abbrev pub IsRead : ℕ → Option (List ℕ) → Option (List ℕ) → BodyRead → Type 0
-IsRead n had left (Whole body) = IsWholeAt n had left body.items
-IsRead n had left Cut = IsCutAt n had left
+abbrev pub IsBodyRead : ℕ → Option (List ℕ) → Option (List ℕ) → BodyRead → Type 0
+IsBodyRead n had left (Whole body) = IsWholeAt n had left body.items
+IsBodyRead n had left Cut = IsCutAt n had left

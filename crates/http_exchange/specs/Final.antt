@@ -4,7 +4,7 @@ use Rattle.std.specs.Io.KnownBytes.{Appends}
 use Rattle.http_message.specs.Refusals.{status}
 use Rattle.http_message.specs.Response.{response, fault_response, no_memory, no_store}
 use Rattle.http_message.specs.declared.refusals.RequestFault.{RequestFault}
-use Rattle.http_exchange.specs.Handler.{Answer, answer}
+use Rattle.http_exchange.specs.Handler.{StatusText, answer}
 use Rattle.http_exchange.specs.declared.handler.Response.{Response}
 use Rattle.http_exchange.specs.declared.handler.HandlerFault.{HandlerFault}
 use Rattle.http_exchange.specs.declared.handler.HandlerFault.TheVariants.{Store, Memory}
@@ -29,7 +29,7 @@ abbrev pub of_no_store : Bool → Final
 of_no_store is_head = record { status = 503; bytes = no_store is_head }
 
 -- what the handler answered
-abbrev pub of_answer : Result Answer HandlerFault → Bool → Final
+abbrev pub of_answer : Result StatusText HandlerFault → Bool → Final
 of_answer (Ok a) is_head = record { status = a.status; bytes = response a.status a.media_type a.text is_head }
 of_answer (Err Store) is_head = of_no_store is_head
 of_answer (Err Memory) is_head = of_no_memory is_head
@@ -43,12 +43,12 @@ abbrev pub IsSent : List ℕ → Option (List ℕ) → Option (List ℕ) → ℕ
 IsSent front out out' code final = (code ≡ final.status) × Appends out out' (front ++ final.bytes)
 
 -- it was written, or that there was no memory for it
-abbrev pub IsTold : List ℕ → Option (List ℕ) → Option (List ℕ) → ℕ → Final → Bool → Type 0
-IsTold front out out' code final is_head = IsSent front out out' code final ⊎ IsSent front out out' code (of_no_memory is_head)
+abbrev pub IsFinalTold : List ℕ → Option (List ℕ) → Option (List ℕ) → ℕ → Final → Bool → Type 0
+IsFinalTold front out out' code final is_head = IsSent front out out' code final ⊎ IsSent front out out' code (of_no_memory is_head)
 
 -- what a handler answered was; that its store failed, or that it found no memory, takes none to tell
-abbrev pub IsAnswerTold : List ℕ → Option (List ℕ) → Option (List ℕ) → ℕ → Result Answer HandlerFault → Bool → Type 0
-IsAnswerTold front out out' code (Ok a) is_head = IsTold front out out' code (of_answer (Ok a) is_head) is_head
+abbrev pub IsAnswerTold : List ℕ → Option (List ℕ) → Option (List ℕ) → ℕ → Result StatusText HandlerFault → Bool → Type 0
+IsAnswerTold front out out' code (Ok a) is_head = IsFinalTold front out out' code (of_answer (Ok a) is_head) is_head
 IsAnswerTold front out out' code (Err fault) is_head = IsSent front out out' code (of_answer (Err fault) is_head)
 
 -- it was so, or the writer failed

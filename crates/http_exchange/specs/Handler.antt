@@ -9,12 +9,12 @@ use Rattle.http_exchange.specs.declared.handler.Response.{Response}
 use Rattle.http_exchange.specs.declared.handler.HandlerFault.{HandlerFault}
 
 -- to do what a body says, or to show a report
-pub data Asked : Type 0 where
-  submit : Submission → List ℕ → Asked
-  show : Subject → Asked
+pub data HandlerRequest : Type 0 where
+  submit : Submission → List ℕ → HandlerRequest
+  show : Subject → HandlerRequest
 
 -- a status, and a text of this type
-pub record Answer : Type 0 where
+pub record StatusText : Type 0 where
   pub status : ℕ
   pub media_type : MediaType
   pub text : List ℕ
@@ -22,15 +22,15 @@ pub record Answer : Type 0 where
 -- ---- as the program holds them
 
 -- a request as contracts see it
-abbrev pub asked : Request → Asked
+abbrev pub asked : Request → HandlerRequest
 asked (rust.Submit to body) = submit to body.now
 asked (rust.Show report) = show (subject report)
 
 -- a response as contracts see it
-abbrev pub answer : Response → Answer
+abbrev pub answer : Response → StatusText
 answer r = record { status = r.status; media_type = r.media_type; text = string_bytes r.text }
 
 -- the same of what may be a fault
-abbrev pub answer_of : Result Response HandlerFault → Result Answer HandlerFault
-answer_of (Ok r) = Ok (answer r)
-answer_of (Err fault) = Err fault
+abbrev pub answer_or_fault : Result Response HandlerFault → Result StatusText HandlerFault
+answer_or_fault (Ok r) = Ok (answer r)
+answer_or_fault (Err fault) = Err fault

@@ -25,7 +25,7 @@ pub(crate) fn read_body<R: Read>(
     requires empty { room.items ≡ [] }
     requires wide { length ≤ vec_capacity room }
     ensures { IfOk result
-        (λ it. spec.IsRead length (R.remaining reader.old) (R.remaining reader.new) it) }
+        (λ it. spec.IsBodyRead length (R.remaining reader.old) (R.remaining reader.new) it) }
 {
     let mut bytes = room;
     for _count in 0..length {

@@ -3,7 +3,7 @@
 //! What clients send and are answered: `tests/exchanges.py`. Wrong bodies: `must-fail/`.
 ghost use Rattle.std.specs.Prelude.{◌≡◌, IfErr, IfOk, MatchResult};
 ghost use Rattle.std.specs.Io.KnownBytes.{Appends};
-ghost use Rattle.http_message.specs.Plan.{plan, planned};
+ghost use Rattle.http_message.specs.Plan.{plan_for_head, planned_of};
 ghost use Rattle.http_exchange.specs.Handler.{asked};
 ghost use Rattle.http_exchange.specs.Exchange as spec;
 ghost use Rattle.http_exchange.specs.declared.sending.ChannelFault.TheVariants.{Writer};
@@ -38,11 +38,12 @@ pub fn exchange<R: Read, W: Write, K, H: Handler<K>>(
     kept: &mut K,
 ) -> Result<Served, ChannelFault>
     ensures served { IfOk result
-        (λ it. spec.IsServed H.handles (R.remaining reader.old) (R.remaining reader.new)
+        (λ it. spec.IsExchangeServed H.handles (R.remaining reader.old) (R.remaining reader.new)
         (W.contents writer.old) (W.contents writer.new) kept.old kept.new it) }
     ensures failed { IfErr result
-        (λ fault. spec.IsBrokenOff H.handles (R.remaining reader.old) kept.old kept.new fault) }
-    ensures once { spec.AsksOnce H.handles kept.old kept.new }
+        (λ fault. spec.IsExchangeBrokenOff H.handles (R.remaining reader.old)
+        kept.old kept.new fault) }
+    ensures once { spec.AsksHandlerOnce H.handles kept.old kept.new }
 {
     match read_head(alloc, reader) {
         Ok(HeadRead::Nothing) => Ok(Served::Nothing),
@@ -69,11 +70,13 @@ fn respond<R: Read, W: Write, K, H: Handler<K>>(
     head: &Head,
 ) -> Result<StatusCode, ChannelFault>
     ensures answered { IfOk result (λ status.
-        spec.Responds H.handles (plan head.now) (R.remaining reader.old) (R.remaining reader.new)
+        spec.Responds H.handles (plan_for_head head.now) (R.remaining reader.old)
+        (R.remaining reader.new)
         (W.contents writer.old) (W.contents writer.new) kept.old kept.new status) }
     ensures broken { IfErr result (λ fault.
-        spec.BreaksOff H.handles (plan head.now) (R.remaining reader.old) kept.old kept.new fault) }
-    ensures once { spec.AsksOnce H.handles kept.old kept.new }
+        spec.BreaksOff H.handles (plan_for_head head.now)
+        (R.remaining reader.old) kept.old kept.new fault) }
+    ensures once { spec.AsksHandlerOnce H.handles kept.old kept.new }
 {
     match plan_of(alloc, head) {
         Ok(plan) => follow(alloc, reader, writer, handler, kept, &plan),
@@ -91,11 +94,12 @@ fn follow<R: Read, W: Write, K, H: Handler<K>>(
     plan: &Plan<'_>,
 ) -> Result<StatusCode, ChannelFault>
     ensures answered { IfOk result (λ status.
-        spec.Responds H.handles (planned plan.now) (R.remaining reader.old) (R.remaining reader.new)
+        spec.Responds H.handles (planned_of plan.now) (R.remaining reader.old)
+        (R.remaining reader.new)
         (W.contents writer.old) (W.contents writer.new) kept.old kept.new status) }
-    ensures broken { IfErr result (λ fault. spec.BreaksOff H.handles (planned plan.now)
+    ensures broken { IfErr result (λ fault. spec.BreaksOff H.handles (planned_of plan.now)
         (R.remaining reader.old) kept.old kept.new fault) }
-    ensures once { spec.AsksOnce H.handles kept.old kept.new }
+    ensures once { spec.AsksHandlerOnce H.handles kept.old kept.new }
 {
     let is_head = plan.is_head;
     match &plan.action {
@@ -119,7 +123,7 @@ fn ask<W: Write, K, H: Handler<K>>(
     request: &Request<'_>,
     is_head: bool,
 ) -> Result<StatusCode, ChannelFault>
-    ensures { spec.IsAsked H.handles (asked request.now) (W.contents writer.old)
+    ensures { spec.IsAnsweredAndWritten H.handles (asked request.now) (W.contents writer.old)
         (W.contents writer.new) kept.old kept.new is_head result }
 {
     let answer = handler.handle(alloc, kept, request);
@@ -141,7 +145,7 @@ fn take_in<R: Read, W: Write, K, H: Handler<K>>(
         (W.contents writer.old) (W.contents writer.new) kept.old kept.new status) }
     ensures broken { IfErr result (λ fault. spec.BreaksOff H.handles
         (spec.receiving expected is_head) (R.remaining reader.old) kept.old kept.new fault) }
-    ensures once { spec.AsksOnce H.handles kept.old kept.new }
+    ensures once { spec.AsksHandlerOnce H.handles kept.old kept.new }
 {
     let Ok(room) = Vec::with_capacity(alloc, expected.length) else {
         return send_no_memory(writer, is_head);

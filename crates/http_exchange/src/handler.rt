@@ -40,7 +40,7 @@ pub trait Handler<K> {
     ghost use Rattle.http_exchange.specs.declared.handler.HandlerFault.{HandlerFault};
 
     // what is kept was so before, and so after it was asked this and gave this answer
-    ghost handles: { K → K → spec.Asked → Result spec.Answer HandlerFault → Type 0 };
+    ghost handles: { K → K → spec.HandlerRequest → Result spec.StatusText HandlerFault → Type 0 };
 
     /// Answers a request.
     fn handle(
@@ -49,5 +49,6 @@ pub trait Handler<K> {
         kept: &mut K,
         request: &Request<'_>,
     ) -> Result<Response, HandlerFault>
-        ensures { handles kept.old kept.new (spec.asked request.now) (spec.answer_of result) };
+        ensures { handles kept.old kept.new (spec.asked request.now)
+            (spec.answer_or_fault result) };
 }

@@ -2,7 +2,7 @@
 //! What clients are answered: `tests/exchanges.py`. Wrong bodies: `must-fail/`.
 ghost use Rattle.std.specs.Prelude.{◌≡◌, [], IfErr, IfOk, MatchResult};
 ghost use Rattle.std.specs.Io.KnownBytes.{Appends};
-ghost use Rattle.http_exchange.specs.Handler.{answer_of};
+ghost use Rattle.http_exchange.specs.Handler.{answer_or_fault};
 ghost use Rattle.http_exchange.specs.Final as spec;
 ghost use Rattle.http_exchange.specs.declared.sending.ChannelFault.TheVariants.{Writer};
 
@@ -40,7 +40,7 @@ pub(crate) fn send_fault<W: Write>(
     fault: RequestFault,
     is_head: bool,
 ) -> Result<StatusCode, ChannelFault>
-    ensures { spec.OrFails result (λ code. spec.IsTold [] (W.contents writer.old)
+    ensures { spec.OrFails result (λ code. spec.IsFinalTold [] (W.contents writer.old)
         (W.contents writer.new) code (spec.of_fault fault is_head) is_head) }
 {
     match fault_response(alloc, fault, is_head) {
@@ -80,7 +80,7 @@ fn send_response<W: Write>(
     answer: &Response,
     is_head: bool,
 ) -> Result<StatusCode, ChannelFault>
-    ensures { spec.OrFails result (λ code. spec.IsTold [] (W.contents writer.old)
+    ensures { spec.OrFails result (λ code. spec.IsFinalTold [] (W.contents writer.old)
         (W.contents writer.new) code (spec.of_response answer.now is_head) is_head) }
 {
     match response(
@@ -106,7 +106,7 @@ pub(crate) fn send_answer<W: Write>(
     is_head: bool,
 ) -> Result<StatusCode, ChannelFault>
     ensures { spec.OrFails result (λ code. spec.IsAnswerTold [] (W.contents writer.old)
-        (W.contents writer.new) code (answer_of answer) is_head) }
+        (W.contents writer.new) code (answer_or_fault answer) is_head) }
 {
     match answer {
         Ok(answer) => send_response(alloc, writer, &answer, is_head),

@@ -10,7 +10,7 @@ use Rattle.httparse.specs.Spans.{IsRequestAt, IsRequestWithin, RequestOverflows,
 use Rattle.httparse.proofs.GrammarLemmas.{ReadsRequest-append}
 use Rattle.std.specs.Io.KnownBytes.{Consumes, IsAtEnd}
 use Rattle.http_message.specs.Heading.{heading, shown_head}
-use Rattle.http_message.specs.Reading.{HasHead, HasNoHead, IsReadBad, IsReadWhole, IsUnread, is_line_end}
+use Rattle.http_message.specs.Reading.{HasHead, HasNoHead, IsReadBad, IsReadWhole, IsHeadUnread, is_line_end}
 use Rattle.http_message.specs.declared.reading.ReadFault.TheVariants.{Memory}
 use Rattle.std.proofs.lemmas.Bool.Decides.{nat_tests}
 
@@ -194,7 +194,7 @@ first_read had left bytes b read is = record {
 }
 
 -- of an input whose first byte was read, one byte at least
-pub one_read : (had left : Option (List ℕ)) (b : ℕ) → Consumes had left (b ∷ []) → IsUnread Memory had left
+pub one_read : (had left : Option (List ℕ)) (b : ℕ) → Consumes had left (b ∷ []) → IsHeadUnread Memory had left
 one_read None left b read = tt
 one_read (Some input) None b read = absurd read
 one_read (Some input) (Some more) b read = (omega (arith, ap length read), ap Some (sym (ap (drop 1) read)))

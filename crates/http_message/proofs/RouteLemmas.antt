@@ -9,7 +9,7 @@ use Rattle.matchit.specs.Router.{RouteOf}
 use Rattle.matchit.specs.Seek.{seek, step, own, or_else, first, param_step, has_slash}
 use Rattle.http_message.specs.declared.routes.Route.{Route}
 use Rattle.http_message.specs.declared.routes.Route.TheVariants.{Requests, Import, Crew, Pairing, Exceedances}
-use Rattle.http_message.specs.Routes.{place, table, name, exactly, id_after, is_id, first_of, at}
+use Rattle.http_message.specs.Routes.{route_of_path, route_table, name, exactly, id_after, is_path_id, first_or_other, route_with_id}
 
 -- ---- a walk over rows of any keys
 
@@ -105,17 +105,17 @@ module _ {K : Type 0} where
 -- ---- the table
 
 after_slash : RowsOf (RouteOf Route)
-after_slash = step 47 table
+after_slash = step 47 route_table
 
 abbrev Found : Type 0
 Found = Option (RouteOf Route)
 
 abbrev row_of : Route → RouteOf Route
-row_of Requests = (get_or table 4 (codes "", record { pattern = []; text = []; names = []; value = Requests })).1
-row_of Import = (get_or table 2 (codes "", record { pattern = []; text = []; names = []; value = Requests })).1
-row_of Crew = (get_or table 0 (codes "", record { pattern = []; text = []; names = []; value = Requests })).1
-row_of Pairing = (get_or table 3 (codes "", record { pattern = []; text = []; names = []; value = Requests })).1
-row_of Exceedances = (get_or table 1 (codes "", record { pattern = []; text = []; names = []; value = Requests })).1
+row_of Requests = (get_or route_table 4 (codes "", record { pattern = []; text = []; names = []; value = Requests })).1
+row_of Import = (get_or route_table 2 (codes "", record { pattern = []; text = []; names = []; value = Requests })).1
+row_of Crew = (get_or route_table 0 (codes "", record { pattern = []; text = []; names = []; value = Requests })).1
+row_of Pairing = (get_or route_table 3 (codes "", record { pattern = []; text = []; names = []; value = Requests })).1
+row_of Exceedances = (get_or route_table 1 (codes "", record { pattern = []; text = []; names = []; value = Requests })).1
 
 abbrev named : Option (Route × List ℕ) → Found
 named o = option_map (λ found. row_of found.0) o
@@ -123,11 +123,11 @@ named o = option_map (λ found. row_of found.0) o
 -- the rest of a path after its slash
 abbrev rest_place : List ℕ → Option (Route × List ℕ)
 rest_place p =
-    first_of (at Requests (exactly (codes "requests") p))
-    (first_of (at Import (id_after (codes "imports/") p))
-    (first_of (at Crew (id_after (codes "crew/") p))
-    (first_of (at Pairing (id_after (codes "pairings/") p))
-    (at Exceedances (exactly (codes "exceedances") p)))))
+    first_or_other (route_with_id Requests (exactly (codes "requests") p))
+    (first_or_other (route_with_id Import (id_after (codes "imports/") p))
+    (first_or_other (route_with_id Crew (id_after (codes "crew/") p))
+    (first_or_other (route_with_id Pairing (id_after (codes "pairings/") p))
+    (route_with_id Exceedances (exactly (codes "exceedances") p)))))
 
 text : (w : List ℕ) → list_all (λ b. nat_lt b 256) w ≡ true → IsText w
 text [] e = tt
@@ -137,66 +137,66 @@ text (b ∷ w) e = let parts = both (nat_lt b 256) (list_all (λ b. nat_lt b 256
     both true y e = (refl, e)
     both false y e = absurd cc
 
-named_at : (r : Route) (o : Option (List ℕ)) → option_map (λ _. row_of r) o ≡ named (at r o)
+named_at : (r : Route) (o : Option (List ℕ)) → option_map (λ _. row_of r) o ≡ named (route_with_id r o)
 named_at r None = refl
 named_at r (Some id) = refl
 
-none_after : {A : Type 0} (o : Option A) → first_of o None ≡ o
+none_after : {A : Type 0} (o : Option A) → first_or_other o None ≡ o
 none_after None = refl
 none_after (Some a) = refl
 
-split : (c : ℕ) (p : List ℕ) → IsText p → seek 0 (step c (step 47 table)) p ≡ named (rest_place (c ∷ p))
+split : (c : ℕ) (p : List ℕ) → IsText p → seek 0 (step c (step 47 route_table)) p ≡ named (rest_place (c ∷ p))
 split c p t = by99 (99 == c) refl
   where
-    by114 : (v : Bool) → (114 == c) ≡ v → (99 == c) ≡ false → (101 == c) ≡ false → (105 == c) ≡ false → (112 == c) ≡ false → seek 0 (step c (step 47 table)) p ≡ named (rest_place (c ∷ p))
+    by114 : (v : Bool) → (114 == c) ≡ v → (99 == c) ≡ false → (101 == c) ≡ false → (105 == c) ≡ false → (112 == c) ≡ false → seek 0 (step c (step 47 route_table)) p ≡ named (rest_place (c ∷ p))
     by114 true e f g h i =
         let is : 114 ≡ c = grind (arith, nat_tests) in
-        subst (λ c. seek 0 (step c (step 47 table)) p ≡ named (rest_place (c ∷ p))) is
-        (seek_exactly (codes "equests") p (row_of Requests) (text (codes "equests") refl) ∙ named_at Requests (exactly (codes "equests") p) ∙ ap named (sym (none_after (at Requests (exactly (codes "equests") p)))))
+        subst (λ c. seek 0 (step c (step 47 route_table)) p ≡ named (rest_place (c ∷ p))) is
+        (seek_exactly (codes "equests") p (row_of Requests) (text (codes "equests") refl) ∙ named_at Requests (exactly (codes "equests") p) ∙ ap named (sym (none_after (route_with_id Requests (exactly (codes "equests") p)))))
     by114 false e f g h i = rw (e, f, g, h, i) (seek_none 0 p)
 
-    by112 : (v : Bool) → (112 == c) ≡ v → (99 == c) ≡ false → (101 == c) ≡ false → (105 == c) ≡ false → seek 0 (step c (step 47 table)) p ≡ named (rest_place (c ∷ p))
+    by112 : (v : Bool) → (112 == c) ≡ v → (99 == c) ≡ false → (101 == c) ≡ false → (105 == c) ≡ false → seek 0 (step c (step 47 route_table)) p ≡ named (rest_place (c ∷ p))
     by112 true e f g h =
         let is : 112 ≡ c = grind (arith, nat_tests) in
-        subst (λ c. seek 0 (step c (step 47 table)) p ≡ named (rest_place (c ∷ p))) is
-        (seek_param (codes "airings/") p (row_of Pairing) (text (codes "airings/") refl) t ∙ named_at Pairing (id_after (codes "airings/") p) ∙ ap named (sym (none_after (at Pairing (id_after (codes "airings/") p)))))
+        subst (λ c. seek 0 (step c (step 47 route_table)) p ≡ named (rest_place (c ∷ p))) is
+        (seek_param (codes "airings/") p (row_of Pairing) (text (codes "airings/") refl) t ∙ named_at Pairing (id_after (codes "airings/") p) ∙ ap named (sym (none_after (route_with_id Pairing (id_after (codes "airings/") p)))))
     by112 false e f g h = by114 (114 == c) refl f g h e
 
-    by105 : (v : Bool) → (105 == c) ≡ v → (99 == c) ≡ false → (101 == c) ≡ false → seek 0 (step c (step 47 table)) p ≡ named (rest_place (c ∷ p))
+    by105 : (v : Bool) → (105 == c) ≡ v → (99 == c) ≡ false → (101 == c) ≡ false → seek 0 (step c (step 47 route_table)) p ≡ named (rest_place (c ∷ p))
     by105 true e f g =
         let is : 105 ≡ c = grind (arith, nat_tests) in
-        subst (λ c. seek 0 (step c (step 47 table)) p ≡ named (rest_place (c ∷ p))) is
-        (seek_param (codes "mports/") p (row_of Import) (text (codes "mports/") refl) t ∙ named_at Import (id_after (codes "mports/") p) ∙ ap named (sym (none_after (at Import (id_after (codes "mports/") p)))))
+        subst (λ c. seek 0 (step c (step 47 route_table)) p ≡ named (rest_place (c ∷ p))) is
+        (seek_param (codes "mports/") p (row_of Import) (text (codes "mports/") refl) t ∙ named_at Import (id_after (codes "mports/") p) ∙ ap named (sym (none_after (route_with_id Import (id_after (codes "mports/") p)))))
     by105 false e f g = by112 (112 == c) refl f g e
 
-    by101 : (v : Bool) → (101 == c) ≡ v → (99 == c) ≡ false → seek 0 (step c (step 47 table)) p ≡ named (rest_place (c ∷ p))
+    by101 : (v : Bool) → (101 == c) ≡ v → (99 == c) ≡ false → seek 0 (step c (step 47 route_table)) p ≡ named (rest_place (c ∷ p))
     by101 true e f =
         let is : 101 ≡ c = grind (arith, nat_tests) in
-        subst (λ c. seek 0 (step c (step 47 table)) p ≡ named (rest_place (c ∷ p))) is
+        subst (λ c. seek 0 (step c (step 47 route_table)) p ≡ named (rest_place (c ∷ p))) is
         (seek_exactly (codes "xceedances") p (row_of Exceedances) (text (codes "xceedances") refl) ∙ named_at Exceedances (exactly (codes "xceedances") p))
     by101 false e f = by105 (105 == c) refl f e
 
-    by99 : (v : Bool) → (99 == c) ≡ v → seek 0 (step c (step 47 table)) p ≡ named (rest_place (c ∷ p))
+    by99 : (v : Bool) → (99 == c) ≡ v → seek 0 (step c (step 47 route_table)) p ≡ named (rest_place (c ∷ p))
     by99 true e =
         let is : 99 ≡ c = grind (arith, nat_tests) in
-        subst (λ c. seek 0 (step c (step 47 table)) p ≡ named (rest_place (c ∷ p))) is
-        (seek_param (codes "rew/") p (row_of Crew) (text (codes "rew/") refl) t ∙ named_at Crew (id_after (codes "rew/") p) ∙ ap named (sym (none_after (at Crew (id_after (codes "rew/") p)))))
+        subst (λ c. seek 0 (step c (step 47 route_table)) p ≡ named (rest_place (c ∷ p))) is
+        (seek_param (codes "rew/") p (row_of Crew) (text (codes "rew/") refl) t ∙ named_at Crew (id_after (codes "rew/") p) ∙ ap named (sym (none_after (route_with_id Crew (id_after (codes "rew/") p)))))
     by99 false e = by101 (101 == c) refl e
 
-under_slash : (p : List ℕ) → IsText p → seek 0 (step 47 table) p ≡ named (rest_place p)
+under_slash : (p : List ℕ) → IsText p → seek 0 (step 47 route_table) p ≡ named (rest_place p)
 unfolding seek
 under_slash [] t = refl
-under_slash (c ∷ p) t = literal_step (step 47 table) c p refl refl ∙ split c p t.1
+under_slash (c ∷ p) t = literal_step (step 47 route_table) c p refl refl ∙ split c p t.1
 
-pub table_found : (path : List ℕ) → IsText path → first table path ≡ named (place path)
+pub table_found : (path : List ℕ) → IsText path → first route_table path ≡ named (route_of_path path)
 unfolding seek
 table_found [] t = refl
-table_found (b ∷ p) t = literal_step table b p refl refl ∙ by (47 == b) refl
+table_found (b ∷ p) t = literal_step route_table b p refl refl ∙ by (47 == b) refl
   where
-    by : (v : Bool) → (47 == b) ≡ v → seek 0 (step b table) p ≡ named (place (b ∷ p))
+    by : (v : Bool) → (47 == b) ≡ v → seek 0 (step b route_table) p ≡ named (route_of_path (b ∷ p))
     by true e =
         let is : 47 ≡ b = grind (arith, nat_tests) in
-        subst (λ b. seek 0 (step b table) p ≡ named (place (b ∷ p))) is (under_slash p t.1)
+        subst (λ b. seek 0 (step b route_table) p ≡ named (route_of_path (b ∷ p))) is (under_slash p t.1)
     by false e = rw e (seek_none 0 p)
 
 -- ---- what stands after the name
@@ -212,14 +212,14 @@ text_of (b ∷ p) h = (let first = h 0 in omega arith, text_of p (λ k. h (suc k
 abbrev Good : List ℕ → Option (Route × List ℕ) → Type 0
 Good path o = (r : Route × List ℕ) → o ≡ Some r → (r.1 ≡ drop (length (name r.0)) path) × (path ≡ name r.0 ++ drop (length (name r.0)) path)
 
-good_first : (path : List ℕ) (a b : Option (Route × List ℕ)) → Good path a → Good path b → Good path (first_of a b)
+good_first : (path : List ℕ) (a b : Option (Route × List ℕ)) → Good path a → Good path b → Good path (first_or_other a b)
 good_first path None b p q = q
 good_first path (Some x) b p q = p
 
 id_stands : (front path id : List ℕ) → id_after front path ≡ Some id → path ≡ front ++ id
-id_stands [] path id e = by (is_id path) refl e
+id_stands [] path id e = by (is_path_id path) refl e
   where
-    by : (v : Bool) → is_id path ≡ v → (if v then Some path else None) ≡ Some id → path ≡ id
+    by : (v : Bool) → is_path_id path ≡ v → (if v then Some path else None) ≡ Some id → path ≡ id
     by true f e = cc
     by false f e = absurd cc
 id_stands (a ∷ front) [] id e = absurd cc
@@ -236,10 +236,10 @@ name_stands text path id e = by (bytes_eq text path) refl e
     by true f e = let same : text ≡ path = (bytes_eq-Decides text path).0 f in let nil : [] ≡ id = cc in (sym same, sym nil)
     by false f e = absurd cc
 
-good_id : (path front : List ℕ) (route : Route) → name route ≡ front → Good path (at route (id_after front path))
+good_id : (path front : List ℕ) (route : Route) → name route ≡ front → Good path (route_with_id route (id_after front path))
 good_id path front route n r e = by (id_after front path) refl e
   where
-    by : (o : Option (List ℕ)) → id_after front path ≡ o → at route o ≡ Some r → (r.1 ≡ drop (length (name r.0)) path) × (path ≡ name r.0 ++ drop (length (name r.0)) path)
+    by : (o : Option (List ℕ)) → id_after front path ≡ o → route_with_id route o ≡ Some r → (r.1 ≡ drop (length (name r.0)) path) × (path ≡ name r.0 ++ drop (length (name r.0)) path)
     by None f e = absurd cc
     by (Some id) f e =
         let is = id_stands front path id f in
@@ -247,10 +247,10 @@ good_id path front route n r e = by (id_after front path) refl e
         subst (λ r. (r.1 ≡ drop (length (name r.0)) path) × (path ≡ name r.0 ++ drop (length (name r.0)) path)) here
         (rw (n, is) (sym (drop-append_seam front id)), rw (n, is) (ap (λ t. front ++ t) (sym (drop-append_seam front id))))
 
-good_name : (path text : List ℕ) (route : Route) → name route ≡ text → Good path (at route (exactly text path))
+good_name : (path text : List ℕ) (route : Route) → name route ≡ text → Good path (route_with_id route (exactly text path))
 good_name path text route n r e = by (exactly text path) refl e
   where
-    by : (o : Option (List ℕ)) → exactly text path ≡ o → at route o ≡ Some r → (r.1 ≡ drop (length (name r.0)) path) × (path ≡ name r.0 ++ drop (length (name r.0)) path)
+    by : (o : Option (List ℕ)) → exactly text path ≡ o → route_with_id route o ≡ Some r → (r.1 ≡ drop (length (name r.0)) path) × (path ≡ name r.0 ++ drop (length (name r.0)) path)
     by None f e = absurd cc
     by (Some id) f e =
         let is = name_stands text path id f in
@@ -259,7 +259,7 @@ good_name path text route n r e = by (exactly text path) refl e
         subst (λ r. (r.1 ≡ drop (length (name r.0)) path) × (path ≡ name r.0 ++ drop (length (name r.0)) path)) here
         (rw (n, is.0, is.1) (sym nil), rw (n, is.0, nil) (sym (append-nil text)))
 
-good_place : (path : List ℕ) → Good path (place path)
+good_place : (path : List ℕ) → Good path (route_of_path path)
 good_place path =
     good_first path _ _ (good_name path (codes "/requests") Requests refl)
     (good_first path _ _ (good_id path (codes "/imports/") Import refl)
@@ -280,10 +280,10 @@ agrees path (Some r) good =
     let g = good r refl in
     subst (λ v. (Some r ≡ Some (v, drop (length (name v)) path)) × (path ≡ name v ++ drop (length (name v)) path)) (sym (value_is r.0)) (ap (λ id. Some (r.0, id)) g.0, g.1)
 
-pub routed : (path : List ℕ) → IsText path → Agrees path (first table path) (place path)
-routed path t = subst (λ f. Agrees path f (place path)) (sym (table_found path t)) (agrees path (place path) (good_place path))
+pub routed : (path : List ℕ) → IsText path → Agrees path (first route_table path) (route_of_path path)
+routed path t = subst (λ f. Agrees path f (route_of_path path)) (sym (table_found path t)) (agrees path (route_of_path path) (good_place path))
 
-pub routed_by : (router : RowsOf (RouteOf Route)) (path : List ℕ) (found : Found) → router ≡ table → first router path ≡ found → ((k : ℕ) → Fits w8 (get_or path k 0)) → Agrees path found (place path)
+pub routed_by : (router : RowsOf (RouteOf Route)) (path : List ℕ) (found : Found) → router ≡ route_table → first router path ≡ found → ((k : ℕ) → Fits w8 (get_or path k 0)) → Agrees path found (route_of_path path)
 routed_by router path found is answer bytes =
-    let a : first table path ≡ found = subst (λ t. first t path ≡ found) is answer in
-    subst (λ f. Agrees path f (place path)) a (routed path (text_of path bytes))
+    let a : first route_table path ≡ found = subst (λ t. first t path ≡ found) is answer in
+    subst (λ f. Agrees path f (route_of_path path)) a (routed path (text_of path bytes))

@@ -3,8 +3,8 @@ use Rattle.std.specs.Prelude.{ℕ, Bool, ◌&&◌, ◌||◌, not, List, [], ◌�
 use Rattle.std.specs.Str.{is_utf8}
 use Rattle.http_message.specs.Fields.{values, has}
 use Rattle.http_message.specs.Heading.{Heading}
-use Rattle.http_message.specs.Numbers.{length_of, import_number}
-use Rattle.http_message.specs.Routes.{place}
+use Rattle.http_message.specs.Numbers.{body_length_of, import_number}
+use Rattle.http_message.specs.Routes.{route_of_path}
 use Rattle.http_message.specs.Target.{path_of}
 use Rattle.http_message.specs.declared.routes.Route.{Route}
 use Rattle.http_message.specs.declared.routes.Route.TheVariants as route
@@ -52,18 +52,18 @@ module _ (h : Heading) where
   shown what = if is_method (codes "GET") || is_method (codes "HEAD") then show what else refuse (NoMethod methods.GetAndHead)
 
   -- a client of HTTP/1.1 waits before it sends a body of so many bytes, if it has any
-  abbrev pub continues : ℕ → Bool
-  continues n = h.minor == 1 && (nat_lt 0 n && has (codes "100-continue") (field (codes "expect")))
+  abbrev pub client_waits : ℕ → Bool
+  client_waits n = h.minor == 1 && (nat_lt 0 n && has (codes "100-continue") (field (codes "expect")))
 
   -- a body of a length that is known and is at most 1,048,576 bytes is received
   abbrev pub with_length : Submission → Option ℕ → Step
   with_length to None = refuse BadLength
-  with_length to (Some n) = if nat_lt 1_048_576 n then refuse TooLong else receive (record { to = to; length = n; continues = continues n })
+  with_length to (Some n) = if nat_lt 1_048_576 n then refuse TooLong else receive (record { to = to; length = n; continues = client_waits n })
 
   -- just one field has to tell the length
   abbrev pub with_lengths : Submission → List (List ℕ) → Step
   with_lengths to [] = refuse NoLength
-  with_lengths to (value ∷ []) = with_length to (length_of value)
+  with_lengths to (value ∷ []) = with_length to (body_length_of value)
   with_lengths to (value ∷ other ∷ more) = refuse BadLength
 
   -- a body is received from `POST` alone
@@ -78,17 +78,17 @@ module _ (h : Heading) where
   imported (Some number) = posted (Import number)
 
   -- what each resource is asked for
-  abbrev pub at_place : Option (Route × List ℕ) → Step
-  at_place None = refuse NoResource
-  at_place (Some (route.Requests, id)) = posted Command
-  at_place (Some (route.Import, id)) = imported (import_number id)
-  at_place (Some (route.Crew, id)) = shown (crew id)
-  at_place (Some (route.Pairing, id)) = shown (pairing id)
-  at_place (Some (route.Exceedances, id)) = shown exceedances
+  abbrev pub step_of_route : Option (Route × List ℕ) → Step
+  step_of_route None = refuse NoResource
+  step_of_route (Some (route.Requests, id)) = posted Command
+  step_of_route (Some (route.Import, id)) = imported (import_number id)
+  step_of_route (Some (route.Crew, id)) = shown (crew id)
+  step_of_route (Some (route.Pairing, id)) = shown (pairing id)
+  step_of_route (Some (route.Exceedances, id)) = shown exceedances
 
   -- the resource of a path that is UTF-8
   abbrev pub at_path : List ℕ → Step
-  at_path path = if is_utf8 path then at_place (place path) else refuse NoResource
+  at_path path = if is_utf8 path then step_of_route (route_of_path path) else refuse NoResource
 
   -- ---- from the first check on: the host, a transfer coding, the path
 
@@ -97,15 +97,15 @@ module _ (h : Heading) where
   lacks_host = h.minor == 1 && not (length (field (codes "host")) == 1)
 
   -- the checks in their order
-  abbrev pub checked : Step
-  checked =
+  abbrev pub step_after_checks : Step
+  step_after_checks =
       if lacks_host then refuse NotOneHost
       else (if nat_lt 0 (length (field (codes "transfer-encoding"))) then refuse TransferCoding
       else at_path (path_of h.target))
 
   -- what is to be done for this head
-  abbrev pub plan : Planned
-  plan = record { is_head = is_method (codes "HEAD"); step = checked }
+  abbrev pub plan_for_head : Planned
+  plan_for_head = record { is_head = is_method (codes "HEAD"); step = step_after_checks }
 
 -- ---- as the program holds it
 
@@ -122,5 +122,5 @@ step (rust.Receive expected) = receive expected
 step (rust.Show what) = show (subject what)
 
 -- a plan as contracts see it
-abbrev pub planned : Plan → Planned
-planned p = record { is_head = p.is_head; step = step p.action }
+abbrev pub planned_of : Plan → Planned
+planned_of p = record { is_head = p.is_head; step = step p.action }

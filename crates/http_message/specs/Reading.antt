@@ -37,16 +37,16 @@ IsReadEmpty None = ⊤
 IsReadEmpty (Some input) = input ≡ []
 
 -- what a reader had and has left, where that is known
-abbrev pub IsRead : Option (List ℕ) → Option (List ℕ) → HeadRead → Type 0
-IsRead had left Nothing = IsReadEmpty had
-IsRead had left NoHead = IsReadBad had
-IsRead had left (Whole head) = IsReadWhole had left head
+abbrev pub IsHeadRead : Option (List ℕ) → Option (List ℕ) → HeadRead → Type 0
+IsHeadRead had left Nothing = IsReadEmpty had
+IsHeadRead had left NoHead = IsReadBad had
+IsHeadRead had left (Whole head) = IsReadWhole had left head
 
 -- where there was no memory, one byte was read
-abbrev pub IsUnread : ReadFault → Option (List ℕ) → Option (List ℕ) → Type 0
-IsUnread Memory None left = ⊤
-IsUnread Memory (Some input) left = (0 < length input) × (left ≡ Some (drop 1 input))
-IsUnread Reader had left = ⊤
+abbrev pub IsHeadUnread : ReadFault → Option (List ℕ) → Option (List ℕ) → Type 0
+IsHeadUnread Memory None left = ⊤
+IsHeadUnread Memory (Some input) left = (0 < length input) × (left ≡ Some (drop 1 input))
+IsHeadUnread Reader had left = ⊤
 
 -- ---- what the reading of a head tells itself
 

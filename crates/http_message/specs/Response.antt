@@ -48,12 +48,12 @@ abbrev pub response : ℕ → MediaType → List ℕ → Bool → List ℕ
 response code media text is_head = message code media None text is_head
 
 -- the text that tells a status
-unfoldable pub fault_text : ℕ → List ℕ
-fault_text code = codes "{\"result\":\"error\",\"status\":" ++ decimal code ++ codes "}"
+unfoldable pub status_error_text : ℕ → List ℕ
+status_error_text code = codes "{\"result\":\"error\",\"status\":" ++ decimal code ++ codes "}"
 
 -- a request is refused
 abbrev pub fault_response : RequestFault → Bool → List ℕ
-fault_response fault is_head = message (status fault) media.Json (allow fault) (fault_text (status fault)) is_head
+fault_response fault is_head = message (status fault) media.Json (allow fault) (status_error_text (status fault)) is_head
 
 -- the text that tells want of memory (91)
 unfoldable pub memory_text : List ℕ

@@ -7,37 +7,37 @@ use Rattle.http_message.specs.declared.routes.Route.{Route}
 use Rattle.http_message.specs.declared.routes.Route.TheVariants.{Requests, Import, Crew, Pairing, Exceedances}
 
 -- an id in a path is one or more bytes without a slash
-abbrev pub is_id : List ℕ → Bool
-is_id [] = false
-is_id (b ∷ id) = not (list_any (λ b. b == 47) (b ∷ id))
+abbrev pub is_path_id : List ℕ → Bool
+is_path_id [] = false
+is_path_id (b ∷ id) = not (list_any (λ b. b == 47) (b ∷ id))
 
 -- the id that follows these bytes
 abbrev pub id_after : List ℕ → List ℕ → Option (List ℕ)
-id_after [] path = if is_id path then Some path else None
+id_after [] path = if is_path_id path then Some path else None
 id_after (a ∷ front) [] = None
 id_after (a ∷ front) (b ∷ path) = if a == b then id_after front path else None
 
 -- the first, if it is there, else the other
-abbrev pub first_of : {A : Type 0} → Option A → Option A → Option A
-first_of (Some a) other = Some a
-first_of None other = other
+abbrev pub first_or_other : {A : Type 0} → Option A → Option A → Option A
+first_or_other (Some a) other = Some a
+first_or_other None other = other
 
 -- the path is these bytes
 abbrev pub exactly : List ℕ → List ℕ → Option (List ℕ)
 exactly name path = if bytes_eq name path then Some [] else None
 
 -- the resource with its id, by the paths of the table
-abbrev pub at : Route → Option (List ℕ) → Option (Route × List ℕ)
-at route id = option_map (λ id. (route, id)) id
+abbrev pub route_with_id : Route → Option (List ℕ) → Option (Route × List ℕ)
+route_with_id route id = option_map (λ id. (route, id)) id
 
 -- what a path names, and the id or the number in it
-abbrev pub place : List ℕ → Option (Route × List ℕ)
-place path =
-    first_of (at Requests (exactly (codes "/requests") path))
-    (first_of (at Import (id_after (codes "/imports/") path))
-    (first_of (at Crew (id_after (codes "/crew/") path))
-    (first_of (at Pairing (id_after (codes "/pairings/") path))
-    (at Exceedances (exactly (codes "/exceedances") path)))))
+abbrev pub route_of_path : List ℕ → Option (Route × List ℕ)
+route_of_path path =
+    first_or_other (route_with_id Requests (exactly (codes "/requests") path))
+    (first_or_other (route_with_id Import (id_after (codes "/imports/") path))
+    (first_or_other (route_with_id Crew (id_after (codes "/crew/") path))
+    (first_or_other (route_with_id Pairing (id_after (codes "/pairings/") path))
+    (route_with_id Exceedances (exactly (codes "/exceedances") path)))))
 
 -- ---- What the router says to itself
 
@@ -54,8 +54,8 @@ abbrev pub row : List ℕ → List ℕ → List (ℕ × ℕ) → Route → List 
 row pattern text names route = (pattern, record { pattern = pattern; text = text; names = names; value = route })
 
 -- the rows of the router, in the order in which it keeps them
-abbrev pub table : RowsOf (RouteOf Route)
-table =
+abbrev pub route_table : RowsOf (RouteOf Route)
+route_table =
     row (codes "/crew/" ++ 256 ∷ []) (codes "/crew/{id}") ((7, 9) ∷ []) Crew
     ∷ row (codes "/exceedances") (codes "/exceedances") [] Exceedances
     ∷ row (codes "/imports/" ++ 256 ∷ []) (codes "/imports/{number}") ((10, 16) ∷ []) Import

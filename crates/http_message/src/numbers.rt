@@ -13,7 +13,7 @@ pub(crate) const MOST_BODY: usize = 1_048_576;
 
 /// Reads the length that a field's value tells, up to one byte more than a body may have.
 pub(crate) fn length_of(value: &[u8]) -> Option<usize>
-    ensures { result ≡ spec.length_of value.now }
+    ensures { result ≡ spec.body_length_of value.now }
 {
     if is_number(value) {
         Some(saturated(value))

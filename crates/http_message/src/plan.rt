@@ -67,7 +67,7 @@ pub enum Report<'h> {
 
 /// Decides what a head asks for. Each check comes after those before it in `specs/Plan.antt`.
 pub fn plan_of(alloc: Global, head: &Head) -> Result<Plan<'_>, MemoryFault>
-    ensures { IfOk result (λ it. spec.planned it ≡ spec.plan head.now) }
+    ensures { IfOk result (λ it. spec.planned_of it ≡ spec.plan_for_head head.now) }
 {
     match checked(alloc, head) {
         Ok(action) => Ok(Plan {
@@ -80,7 +80,7 @@ pub fn plan_of(alloc: Global, head: &Head) -> Result<Plan<'_>, MemoryFault>
 
 /// Makes the checks from the first on.
 fn checked(alloc: Global, head: &Head) -> Result<Action<'_>, MemoryFault>
-    ensures { IfOk result (λ it. spec.step it ≡ spec.checked head.now) }
+    ensures { IfOk result (λ it. spec.step it ≡ spec.step_after_checks head.now) }
 {
     if lacks_host(head) {
         return Ok(Action::Refuse(RequestFault::NotOneHost));
@@ -113,7 +113,7 @@ fn placed<'h>(alloc: Global, head: &'h Head, path: &'h [u8]) -> Result<Action<'h
 
 /// Decides what a resource is asked for.
 fn routed<'h>(head: &'h Head, route: Route, id: &'h str) -> Action<'h>
-    ensures { spec.step result ≡ spec.at_place head.now (Some (route, id.now)) }
+    ensures { spec.step result ≡ spec.step_of_route head.now (Some (route, id.now)) }
 {
     match route {
         Route::Requests => posted(head, Submission::Command),
@@ -175,7 +175,7 @@ fn sized<'h>(head: &'h Head, to: Submission) -> Action<'h>
 
 /// Returns whether a client waits before it sends a body of so many bytes.
 fn continues(head: &Head, length: usize) -> bool
-    ensures { result ≡ spec.continues head.now length }
+    ensures { result ≡ spec.client_waits head.now length }
 {
     head.minor() == 1 && length > 0 && head.has(b"expect", b"100-continue")
 }

@@ -41,9 +41,9 @@ pub enum ReadFault {
 /// empty lines in front cost no parse, and a parse comes at most once for each line of a head that has 64 fields at most.
 pub fn read_head<R: Read>(alloc: Global, reader: &mut R) -> Result<HeadRead, ReadFault>
     ensures read { IfOk result
-        (λ it. spec.IsRead (R.remaining reader.old) (R.remaining reader.new) it) }
+        (λ it. spec.IsHeadRead (R.remaining reader.old) (R.remaining reader.new) it) }
     ensures unread { IfErr result
-        (λ fault. spec.IsUnread fault (R.remaining reader.old) (R.remaining reader.new)) }
+        (λ fault. spec.IsHeadUnread fault (R.remaining reader.old) (R.remaining reader.new)) }
 {
     let Some(first) = read_byte(reader)? else {
         return Ok(HeadRead::Nothing);

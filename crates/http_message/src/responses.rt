@@ -159,9 +159,9 @@ fn close_line() -> &'static str
 }
 
 /// Writes the text that tells a status in JSON.
-#[tactic(auto, unfolding(crate::specs::Response::fault_text))]
+#[tactic(auto, unfolding(crate::specs::Response::status_error_text))]
 fn fault_text(alloc: Global, status: u16) -> Result<String, MemoryFault>
-    ensures { IfOk result (λ it. string_bytes it ≡ spec.fault_text status) }
+    ensures { IfOk result (λ it. string_bytes it ≡ spec.status_error_text status) }
 {
     Ok(format!(in alloc; "{{\"result\":\"error\",\"status\":{status}}}")?)
 }

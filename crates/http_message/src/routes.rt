@@ -25,7 +25,7 @@ pub enum Route {
 /// Finds what a path names, and the id or the number in it.
 pub fn route_of<'p>(alloc: Global, path: &'p str) -> Result<Option<(Route, &'p str)>, MemoryFault>
     ensures { IfOk result
-        (λ it. option_map (λ found. (found.0, found.1.now)) it ≡ spec.place path.now) }
+        (λ it. option_map (λ found. (found.0, found.1.now)) it ≡ spec.route_of_path path.now) }
 {
     let Ok(router) = router(alloc) else {
         return Err(MemoryFault);
@@ -63,7 +63,7 @@ fn name_of(route: Route) -> &'static str
 
 /// Makes the table of the resources.
 fn router(alloc: Global) -> Result<Router<Route>, InsertError>
-    ensures { IfOk result (λ router. router ≡ spec.table) }
+    ensures { IfOk result (λ router. router ≡ spec.route_table) }
 {
     let mut router = Router::new(alloc);
     router.insert("/requests", Route::Requests)?;

@@ -12,14 +12,14 @@ use Rattle.writing.specs.Kept.{KeepOthers}
 use Rattle.writing.specs.Outcomes.{CrashAddsOnly, CrashLeaves}
 use Rattle.book.specs.Kept.{HasTables, IsDurablyAt, IsClean, Kept, StillHasTables}
 use Rattle.http_message.specs.Heading.{heading}
-use Rattle.http_message.specs.Plan.{Planned, plan}
+use Rattle.http_message.specs.Plan.{Planned, plan_for_head}
 use Rattle.http_message.specs.Reading.{HasHead, HasNoHead}
 use Rattle.http_message.specs.declared.refusals.RequestFault.{RequestFault}
 use Rattle.http_message.specs.declared.refusals.RequestFault.TheVariants.{NoHead}
 use Rattle.http_exchange.specs.Exchange as exchange
-use Rattle.http_exchange.specs.Exchange.{Held, asks, interim, unread}
-use Rattle.http_exchange.specs.Final.{IsAnswerTold, IsSent, IsTold, of_answer, of_fault, of_no_memory, of_no_store}
-use Rattle.http_exchange.specs.Handler.{Answer, Asked}
+use Rattle.http_exchange.specs.Exchange.{ChannelBytes, asks, interim, unread}
+use Rattle.http_exchange.specs.Final.{IsAnswerTold, IsSent, IsFinalTold, of_answer, of_fault, of_no_memory, of_no_store}
+use Rattle.http_exchange.specs.Handler.{StatusText, HandlerRequest}
 use Rattle.http_exchange.specs.declared.exchanges.Served.{Served}
 use Rattle.http_exchange.specs.declared.exchanges.Served.TheVariants.{Answered, Nothing}
 use Rattle.http_exchange.specs.declared.handler.HandlerFault.{HandlerFault}
@@ -37,10 +37,10 @@ or_true true = refl
 or_true false = refl
 
 module _ {S : Type 0} (g : Ghosts S) where
-  abbrev handles : Kept S → Kept S → Asked → Result Answer HandlerFault → Type 0
+  abbrev handles : Kept S → Kept S → HandlerRequest → Result StatusText HandlerFault → Type 0
   handles old new asked result = IsHandled g old new asked result
 
-  has_failed : (old new : Kept S) (asked : Asked) → handles old new asked (Err Store) → IsTrue new.failed
+  has_failed : (old new : Kept S) (asked : HandlerRequest) → handles old new asked (Err Store) → IsTrue new.failed
   has_failed old new asked it = subst IsTrue (sym it.kept.failed) (or_true old.failed)
 
   module _ (s : State) (old new : Kept S) (at : IsDurablyAt g old s) where
@@ -54,7 +54,7 @@ module _ {S : Type 0} (g : Ghosts S) where
 
     -- ---- what is left by a request, whatever was told
 
-    left_by : (asked : Asked) (answer : Result Answer HandlerFault) → handles old new asked answer → (new ≡ old) ⊎ ((commands : Commands) × Asks asked commands × IsLeftBy g s old new commands)
+    left_by : (asked : HandlerRequest) (answer : Result StatusText HandlerFault) → handles old new asked answer → (new ≡ old) ⊎ ((commands : Commands) × Asks asked commands × IsLeftBy g s old new commands)
     left_by asked (Ok a) it =
         let did = it.done s at in
         inr (did.1.0, did.1.1, inl (all_done did.1.0 did.1.2.0 did.1.2.1))
@@ -69,7 +69,7 @@ module _ {S : Type 0} (g : Ghosts S) where
 
     -- ---- one exchange
 
-    module _ (input : List ℕ) (left out out' : Held) (code : ℕ) where
+    module _ (input : List ℕ) (left out out' : ChannelBytes) (code : ℕ) where
       abbrev Ends : Type 0
       Ends = IsGiven g s input left out out' old new code ⊎ (IsStoreTold g s input left out out' new code ⊎ IsMemoryTold g s input left out out' old new code)
 
@@ -98,9 +98,9 @@ module _ {S : Type 0} (g : Ghosts S) where
 
       module _ (some : 0 < length input) (h : RequestHead) (rest : List ℕ) (head : HasHead input h rest) where
         abbrev p : Planned
-        p = plan (heading h)
+        p = plan_for_head (heading h)
 
-        abbrev given : Asked → Answer → Commands → Response
+        abbrev given : HandlerRequest → StatusText → Commands → Response
         given asked a commands = record { interim = interim p.step; final = of_answer (Ok a) p.is_head; commands = commands; unread = Some (unread p.step rest) }
 
         at_head : new ≡ old → left ≡ Some rest → IsSent [] out out' code (of_no_memory p.is_head) → Ends
@@ -109,11 +109,11 @@ module _ {S : Type 0} (g : Ghosts S) where
         at_end : new.failed ≡ old.failed → left ≡ Some (unread p.step rest) → IsSent (interim p.step) out out' code (of_no_memory p.is_head) → IsBegunOf g s input p rest old new → Ends
         at_end failed left_is sent begun = inr (inr (record { some = some; status = sent.0; failed = failed; told = inr (h, rest, head, inr (left_is, sent.1, begun)) }))
 
-        request : (asked : Asked) (commands : Commands) → asks p.step rest ≡ Ok asked → Asks asked commands → IsRequestFor input p rest asked commands
+        request : (asked : HandlerRequest) (commands : Commands) → asks p.step rest ≡ Ok asked → Asks asked commands → IsRequestFor input p rest asked commands
         request asked commands is listed = record { h = h; head = head; planned = refl; whole = is; listed = listed }
 
         refused : (fault : RequestFault) → asks p.step rest ≡ Err fault → left ≡ Some (unread p.step rest) → new ≡ old
-            → IsTold (interim p.step) out out' code (of_fault fault p.is_head) p.is_head → Ends
+            → IsFinalTold (interim p.step) out out' code (of_fault fault p.is_head) p.is_head → Ends
         refused fault is left_is same (inl sent) = inl (record {
           response = record { interim = interim p.step; final = of_fault fault p.is_head; commands = []; unread = Some (unread p.step rest) };
           is = (
@@ -138,7 +138,7 @@ module _ {S : Type 0} (g : Ghosts S) where
         })
         refused fault is left_is same (inr sent) = at_end (not_failed same) left_is sent (inl same)
 
-        answered : IsClean g new → (asked : Asked) (answer : Result Answer HandlerFault) → asks p.step rest ≡ Ok asked → left ≡ Some (unread p.step rest)
+        answered : IsClean g new → (asked : HandlerRequest) (answer : Result StatusText HandlerFault) → asks p.step rest ≡ Ok asked → left ≡ Some (unread p.step rest)
             → handles old new asked answer → IsAnswerTold (interim p.step) out out' code answer p.is_head → Ends
         answered clean asked (Ok a) is left_is it (inl sent) =
             let did = it.done s at in
@@ -187,7 +187,7 @@ module _ {S : Type 0} (g : Ghosts S) where
             begun (inl same) = inl same
             begun (inr did) = inr (asked, did.0, request asked did.0 is did.1, did.2)
 
-        settled : IsClean g new → (a : Result Asked RequestFault) → asks p.step rest ≡ a → left ≡ Some (unread p.step rest)
+        settled : IsClean g new → (a : Result HandlerRequest RequestFault) → asks p.step rest ≡ a → left ≡ Some (unread p.step rest)
             → exchange.IsSettled handles a (interim p.step) p.is_head out out' old new code → Ends
         settled clean (Err fault) is left_is it = refused fault is left_is it.0 it.1
         settled clean (Ok asked) is left_is it = answered clean asked it.0 is left_is it.1 it.2
@@ -196,28 +196,28 @@ module _ {S : Type 0} (g : Ghosts S) where
         with_head clean (inl it) = settled clean (asks p.step rest) refl it.left_is it.settled
         with_head clean (inr it) = at_head it.unasked it.left_is it.sent
 
-      ends : IsClean g new → exchange.IsServedOf handles input left out out' old new (Answered code) → Ends
+      ends : IsClean g new → exchange.IsExchangeServedOf handles input left out out' old new (Answered code) → Ends
       ends clean (some, inl it) = without_head some it.0 it.1
       ends clean (some, inr (inl it)) = with_head some it.0 it.1 it.2 clean it.3
       ends clean (some, inr (inr it)) = at_once some (inr it.left_is) it.unasked it.sent
 
-    served_so : IsClean g new → (had left out out' : Held) (it : Served) → exchange.IsServed handles had left out out' old new it → IsServed g s had left out out' old new it
+    served_so : IsClean g new → (had left out out' : ChannelBytes) (it : Served) → exchange.IsExchangeServed handles had left out out' old new it → IsServed g s had left out out' old new it
     served_so clean None left out out' it said = tt
     served_so clean (Some input) left out out' Nothing said = said
     served_so clean (Some input) left out out' (Answered code) said = ends input left out out' code clean said
 
-    pub served : IsClean g new → (had left out out' : Held) (r : Result Served ChannelFault) → IfOk r (λ it. exchange.IsServed handles had left out out' old new it)
+    pub served : IsClean g new → (had left out out' : ChannelBytes) (r : Result Served ChannelFault) → IfOk r (λ it. exchange.IsExchangeServed handles had left out out' old new it)
         → IfOk r (λ it. IsServed g s had left out out' old new it)
     served clean had left out out' (Ok it) said = served_so clean had left out out' it said
     served clean had left out out' (Err fault) said = tt
 
     -- ---- a channel that failed
 
-    broken_at : (input : List ℕ) → exchange.IsBrokenOff handles (Some input) old new Writer → IsBrokenOff g s (Some input) old new Writer
+    broken_at : (input : List ℕ) → exchange.IsExchangeBrokenOff handles (Some input) old new Writer → IsBrokenOff g s (Some input) old new Writer
     broken_at input (inl same) = inl same
-    broken_at input (inr (h, rest, head, may)) = go (asks (plan (heading h)).step rest) refl may
+    broken_at input (inr (h, rest, head, may)) = go (asks (plan_for_head (heading h)).step rest) refl may
       where
-        go : (a : Result Asked RequestFault) → asks (plan (heading h)).step rest ≡ a → exchange.MayHaveAsked handles a old new → IsBrokenOff g s (Some input) old new Writer
+        go : (a : Result HandlerRequest RequestFault) → asks (plan_for_head (heading h)).step rest ≡ a → exchange.MayHaveAsked handles a old new → IsBrokenOff g s (Some input) old new Writer
         go (Err fault) is same = inl same
         go (Ok asked) is (inl same) = inl same
         go (Ok asked) is (inr (answer, it)) = by (left_by asked answer it)
@@ -225,7 +225,7 @@ module _ {S : Type 0} (g : Ghosts S) where
             by : (new ≡ old) ⊎ ((commands : Commands) × Asks asked commands × IsLeftBy g s old new commands) → IsBrokenOff g s (Some input) old new Writer
             by (inl same) = inl same
             by (inr did) = inr (
-              plan (heading h),
+              plan_for_head (heading h),
               rest,
               asked,
               did.0,
@@ -233,19 +233,19 @@ module _ {S : Type 0} (g : Ghosts S) where
               did.2,
             )
 
-    broken_so : (had : Held) (fault : ChannelFault) → exchange.IsBrokenOff handles had old new fault → IsBrokenOff g s had old new fault
+    broken_so : (had : ChannelBytes) (fault : ChannelFault) → exchange.IsExchangeBrokenOff handles had old new fault → IsBrokenOff g s had old new fault
     broken_so had Reader said = said
     broken_so None Writer said = tt
     broken_so (Some input) Writer said = broken_at input said
 
-    pub broken_off : (had : Held) (r : Result Served ChannelFault) → IfErr r (λ fault. exchange.IsBrokenOff handles had old new fault)
+    pub broken_off : (had : ChannelBytes) (r : Result Served ChannelFault) → IfErr r (λ fault. exchange.IsExchangeBrokenOff handles had old new fault)
         → IfErr r (λ fault. IsBrokenOff g s had old new fault)
     broken_off had (Ok it) said = tt
     broken_off had (Err fault) said = broken_so had fault said
 
     -- ---- whatever the input is
 
-    pub once : exchange.AsksOnce handles old new → AsksOnce g s old new
+    pub once : exchange.AsksHandlerOnce handles old new → AsksOnce g s old new
     once (inl same) = inl same
     once (inr (asked, (answer, it))) = by (left_by asked answer it)
       where
@@ -253,19 +253,19 @@ module _ {S : Type 0} (g : Ghosts S) where
         by (inl same) = inl same
         by (inr did) = inr (asked, did.0, did.1, did.2)
 
-    pub honest : exchange.AsksOnce handles old new → Honest s → CrashLeaves (state g new.held) Honest
+    pub honest : exchange.AsksHandlerOnce handles old new → Honest s → CrashLeaves (state g new.held) Honest
     honest (inl same) fair = subst (λ b. CrashLeaves (state g b.held) Honest) (sym same) (still_honest g old s at fair)
     honest (inr (asked, (answer, it))) fair = it.kept.honest s at fair
 
   module _ (old new : Kept S) where
-    pub shut : exchange.AsksOnce handles old new → IsTrue old.failed → new ≡ old
+    pub shut : exchange.AsksHandlerOnce handles old new → IsTrue old.failed → new ≡ old
     shut (inl same) failed = same
     shut (inr (asked, (answer, it))) failed = it.kept.shut failed
 
-    pub clean : exchange.AsksOnce handles old new → IsClean g new → IsClean g old
+    pub clean : exchange.AsksHandlerOnce handles old new → IsClean g new → IsClean g old
     clean (inl same) now = subst (λ b. IsClean g b) same now
     clean (inr (asked, (answer, it))) now = it.kept.disk now
 
-    pub others : exchange.AsksOnce handles old new → CrashAddsOnly (state g old.held) (state g new.held) (KeepOthers (state g old.held).now)
+    pub others : exchange.AsksHandlerOnce handles old new → CrashAddsOnly (state g old.held) (state g new.held) (KeepOthers (state g old.held).now)
     others (inl same) = subst (λ b. CrashAddsOnly (state g old.held) (state g b.held) (KeepOthers (state g old.held).now)) (sym same) (record { crash = λ clean trees may. inl may })
     others (inr (asked, (answer, it))) = it.kept.others_left

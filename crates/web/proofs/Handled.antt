@@ -27,7 +27,7 @@ use Rattle.store.specs.declared.show.Show.{Show}
 use Rattle.http_message.specs.Plan.{Subject, crew, pairing, exceedances}
 use Rattle.http_message.specs.declared.plan.Submission.TheVariants.{Command, Import}
 use Rattle.http_exchange.specs.Handler as http
-use Rattle.http_exchange.specs.Handler.{Answer, submit}
+use Rattle.http_exchange.specs.Handler.{StatusText, submit}
 use Rattle.http_exchange.specs.declared.handler.HandlerFault.{HandlerFault}
 use Rattle.http_exchange.specs.declared.handler.HandlerFault.TheVariants.{Store, Memory}
 use Rattle.web.specs.Acts.{Commands, IsReport, command_of, commands_of, request_answer, show_of}
@@ -56,7 +56,7 @@ pub still : {S : Type 0} (g : Ghosts S) (now : Kept S) (s : State) → HasTables
 still g now s has = λ clean is_open. (has clean).1
 
 module _ {S : Type 0} (g : Ghosts S) (book : Kept S) where
-  unasked_kept : (result : Result Answer HandlerFault) → is_store_fault result ≡ false → IsKept g book book result
+  unasked_kept : (result : Result StatusText HandlerFault) → is_store_fault result ≡ false → IsKept g book book result
   unasked_kept result none = record {
     failed = or_false book.failed ∙ ap (λ b. book.failed || b) (sym none);
     shut = λ _. refl;
@@ -66,14 +66,14 @@ module _ {S : Type 0} (g : Ghosts S) (book : Kept S) where
   }
 
   -- there was no memory to ask
-  pub no_memory : (asked : http.Asked) → IsHandled g book book asked (Err Memory)
+  pub no_memory : (asked : http.HandlerRequest) → IsHandled g book book asked (Err Memory)
   no_memory asked = record { kept = unasked_kept (Err Memory) refl; done = λ s at. inl refl }
 
   pub none_added : (number : ℕ) (plans : List Plan) → AreAdded g book book number plans (Err Memory)
   none_added number plans = record { kept = unasked_kept (Err Memory) refl; done = λ s at. (0, at, λ has. still g book s has) }
 
   -- a body that isn't read asks nothing
-  pub command_unread : (body : List ℕ) (fault : CodecFault) (told : Result Answer HandlerFault) → read_request body ≡ Err fault → Tells (fault_answer fault) told
+  pub command_unread : (body : List ℕ) (fault : CodecFault) (told : Result StatusText HandlerFault) → read_request body ≡ Err fault → Tells (fault_answer fault) told
       → IsHandled g book book (submit Command body) told
   command_unread body fault (Ok answer) is tells = record {
     kept = unasked_kept (Ok answer) refl;
@@ -82,7 +82,7 @@ module _ {S : Type 0} (g : Ghosts S) (book : Kept S) where
   command_unread body fault (Err Store) is tells = absurd tells
   command_unread body fault (Err Memory) is tells = no_memory (submit Command body)
 
-  pub schedule_unread : (number : ℕ) (body : List ℕ) (fault : CodecFault) (line : ℕ) (told : Result Answer HandlerFault) → fault ≡ BadCsv line → IsAtFault body line
+  pub schedule_unread : (number : ℕ) (body : List ℕ) (fault : CodecFault) (line : ℕ) (told : Result StatusText HandlerFault) → fault ≡ BadCsv line → IsAtFault body line
       → Tells (fault_answer fault) told → IsHandled g book book (submit (Import number) body) told
   schedule_unread number body fault line (Ok answer) is at_fault tells = record {
     kept = unasked_kept (Ok answer) refl;
@@ -97,7 +97,7 @@ module _ {S : Type 0} (g : Ghosts S) (book : Kept S) where
 module _ {S : Type 0} (g : Ghosts S) (old new : Kept S) where
   -- ---- commands
 
-  pub asked_by : (asked : folds.Asked) (r : Result book.Answer StoreFault) (told : Result Answer HandlerFault) → IsToldAs r told
+  pub asked_by : (asked : folds.Asked) (r : Result book.Answer StoreFault) (told : Result StatusText HandlerFault) → IsToldAs r told
       → new.failed ≡ (old.failed || kept.is_store_fault r)
       → (IsTrue old.failed → (r ≡ Err fault.Store) × (new ≡ old))
       → (IsClean g new → IsClean g old)
@@ -130,12 +130,12 @@ module _ {S : Type 0} (g : Ghosts S) (old new : Kept S) where
         done = λ s at. inl (memory s at refl, λ t. shown s at t);
       })
 
-  pub command_read : (body : List ℕ) (number : ℕ) (instruction : Instruction) (key : KeyParts) (told : Result Answer HandlerFault) → read_request body ≡ Ok (number, instruction)
+  pub command_read : (body : List ℕ) (number : ℕ) (instruction : Instruction) (key : KeyParts) (told : Result StatusText HandlerFault) → read_request body ≡ Ok (number, instruction)
       → key ≡ record { number = number; part = 0 } → IsAsked g old new (key, instruction) told → IsHandled g old new (submit Command body) told
   command_read body number instruction key told is under it =
       go told (subst (λ k. IsAsked g old new (k, instruction) told) under it)
     where
-      go : (told : Result Answer HandlerFault) → IsAsked g old new (command_of (number, instruction)) told → IsHandled g old new (submit Command body) told
+      go : (told : Result StatusText HandlerFault) → IsAsked g old new (command_of (number, instruction)) told → IsHandled g old new (submit Command body) told
       go (Ok answer) asked = record { kept = asked.kept; done = λ s at. let did = asked.done s at in rw is (did.0, (command_of (number, instruction) ∷ [], refl, did.1)) }
       go (Err Store) asked = record { kept = asked.kept; done = λ s at. rw is (command_of (number, instruction) ∷ [], refl, (0, asked.done s at)) }
       go (Err Memory) asked = record { kept = asked.kept; done = λ s at. inr (rw is (command_of (number, instruction) ∷ [], refl, begun s (asked.done s at))) }
@@ -146,7 +146,7 @@ module _ {S : Type 0} (g : Ghosts S) (old new : Kept S) where
 
   -- ---- imports
 
-  pub added_by : (number : ℕ) (plans : List Plan) (commands : Commands) (answers : List book.Answer) (f : Option StoreFault) (told : Result Answer HandlerFault)
+  pub added_by : (number : ℕ) (plans : List Plan) (commands : Commands) (answers : List book.Answer) (f : Option StoreFault) (told : Result StatusText HandlerFault)
       → commands ≡ import number plans → AreToldAs answers f told
       → new.failed ≡ (old.failed || kept.is_some_store_fault f)
       → (IsTrue old.failed → (f ≡ Some fault.Store) × (answers ≡ []) × (new ≡ old))
@@ -195,7 +195,7 @@ module _ {S : Type 0} (g : Ghosts S) (old new : Kept S) where
         );
       })
 
-  pub schedule_read : (number : ℕ) (body : List ℕ) (plans : List Plan) (told : Result Answer HandlerFault) → IsSchedule body plans → AreAdded g old new number plans told
+  pub schedule_read : (number : ℕ) (body : List ℕ) (plans : List Plan) (told : Result StatusText HandlerFault) → IsSchedule body plans → AreAdded g old new number plans told
       → IsHandled g old new (submit (Import number) body) told
   schedule_read number body plans (Ok answer) is added = record {
     kept = added.kept;
@@ -206,13 +206,13 @@ module _ {S : Type 0} (g : Ghosts S) (old new : Kept S) where
 
   -- ---- reports
 
-  is_report : (about : Subject) (shown : Option (List ℕ)) (answer : Answer) → IsReportOf (show_of about) shown answer → IsReport about shown answer
+  is_report : (about : Subject) (shown : Option (List ℕ)) (answer : StatusText) → IsReportOf (show_of about) shown answer → IsReport about shown answer
   is_report about (Some text) answer is = is
   is_report (crew id) None answer is = is
   is_report (pairing id) None answer is = is
   is_report exceedances None answer is = is
 
-  pub reported_by : (about : Subject) (what : Show) (r : Result State StoreFault) (told : Result Answer HandlerFault) → what ≡ show_of about → IsReportToldAs r what told
+  pub reported_by : (about : Subject) (what : Show) (r : Result State StoreFault) (told : Result StatusText HandlerFault) → what ≡ show_of about → IsReportToldAs r what told
       → new.failed ≡ (old.failed || kept.is_store_fault r)
       → (IsTrue old.failed → (r ≡ Err fault.Store) × (new ≡ old))
       → (IsClean g new → IsClean g old)
@@ -226,7 +226,7 @@ module _ {S : Type 0} (g : Ghosts S) (old new : Kept S) where
       go r told (subst (λ w. IsReportToldAs r w told) is tells) failed (λ f. (shut f).1)
       (λ s at c. subst (λ w. IfOk r (λ roster. (shown : Option (List ℕ)) → IsShown roster w shown ↔ IsShown s w shown)) is (text s at c)) tables
     where
-      kept_so : (told : Result Answer HandlerFault) → new.failed ≡ (old.failed || is_store_fault told) → (IsTrue old.failed → new ≡ old) → IsKept g old new told
+      kept_so : (told : Result StatusText HandlerFault) → new.failed ≡ (old.failed || is_store_fault told) → (IsTrue old.failed → new ≡ old) → IsKept g old new told
       kept_so told failed shut = record {
         failed = failed;
         shut = shut;
@@ -245,7 +245,7 @@ module _ {S : Type 0} (g : Ghosts S) (old new : Kept S) where
             (it.0, (inl it.1, subst kept.IsKept (sym it.1) (at.kept c)), it.2);
       }
 
-      go : (r : Result State StoreFault) (told : Result Answer HandlerFault) → IsReportToldAs r (show_of about) told → new.failed ≡ (old.failed || kept.is_store_fault r)
+      go : (r : Result State StoreFault) (told : Result StatusText HandlerFault) → IsReportToldAs r (show_of about) told → new.failed ≡ (old.failed || kept.is_store_fault r)
           → (IsTrue old.failed → new ≡ old)
           → ((s : State) → IsDurablyAt g old s → IsClean g new → IfOk r (λ roster. (shown : Option (List ℕ)) → IsShown roster (show_of about) shown ↔ IsShown s (show_of about) shown))
           → ((s : State) → IsDurablyAt g old s → HasTables g old s → OnOk r (HasTables g new s)) → IsHandled g old new (http.show about) told

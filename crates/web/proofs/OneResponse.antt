@@ -11,7 +11,7 @@ use Rattle.roster.specs.Folds.{Replies, import}
 use Rattle.roster.specs.State.{State}
 use Rattle.store.specs.Shown.{IsShown}
 use Rattle.http_message.specs.Heading.{heading}
-use Rattle.http_message.specs.Plan.{Planned, Subject, crew, pairing, exceedances, plan}
+use Rattle.http_message.specs.Plan.{Planned, Subject, crew, pairing, exceedances, plan_for_head}
 use Rattle.http_message.specs.declared.plan.Submission.{Submission}
 use Rattle.http_message.specs.declared.plan.Submission.TheVariants.{Command, Import}
 use Rattle.http_message.specs.declared.refusals.RequestFault.{RequestFault}
@@ -19,7 +19,7 @@ use Rattle.http_exchange.specs.Exchange as exchange
 use Rattle.http_exchange.specs.Exchange.{asks}
 use Rattle.http_exchange.specs.Final.{Final, of_answer}
 use Rattle.http_exchange.specs.Handler as http
-use Rattle.http_exchange.specs.Handler.{Answer, submit}
+use Rattle.http_exchange.specs.Handler.{StatusText, submit}
 use Rattle.web.specs.Acts.{Asks, Commands, IsAnswer, IsReport, show_of}
 use Rattle.web.specs.Answers.{fault_answer, parts_answer}
 use Rattle.web.specs.Laws.{HasOneResponse}
@@ -33,7 +33,7 @@ one_import number body a b (inl (plans, is, are)) (inr (line, at_fault, none)) =
 one_import number body a b (inr (line, at_fault, none)) (inl (plans, is, are)) = absurd (has_no_fault body plans line is at_fault)
 one_import number body a b (inr (line, at_fault, none)) (inr (line', at_fault', none')) = none ∙ sym none'
 
-one_list : (asked : http.Asked) (a b : Commands) → Asks asked a → Asks asked b → a ≡ b
+one_list : (asked : http.HandlerRequest) (a b : Commands) → Asks asked a → Asks asked b → a ≡ b
 one_list (submit Command body) a b is is' = is ∙ sym is'
 one_list (submit (Import number) body) a b is is' = one_import number body a b is is'
 one_list (http.show what) a b is is' = is ∙ sym is'
@@ -41,7 +41,7 @@ one_list (http.show what) a b is is' = is ∙ sym is'
 -- ---- the answer
 
 module _ (s : State) where
-  one_schedule_answer : (number : ℕ) (body : List ℕ) (a b : Answer) → IsAnswer s (submit (Import number) body) a → IsAnswer s (submit (Import number) body) b → a ≡ b
+  one_schedule_answer : (number : ℕ) (body : List ℕ) (a b : StatusText) → IsAnswer s (submit (Import number) body) a → IsAnswer s (submit (Import number) body) b → a ≡ b
   one_schedule_answer number body a b (inl (plans, is, are)) (inl (plans', is', are')) =
       are ∙ ap (λ p. parts_answer (Replies s (import number p))) (is_of_one_list body plans plans' is is') ∙ sym are'
   one_schedule_answer number body a b (inl (plans, is, are)) (inr (line, at_fault, told)) = absurd (has_no_fault body plans line is at_fault)
@@ -59,13 +59,13 @@ module _ (s : State) where
   one_text exceedances (Some a) None is is' = absurd is'
   one_text exceedances None b is is' = absurd is
 
-  one_report : (what : Subject) (shown : Option (List ℕ)) (a b : Answer) → IsReport what shown a → IsReport what shown b → a ≡ b
+  one_report : (what : Subject) (shown : Option (List ℕ)) (a b : StatusText) → IsReport what shown a → IsReport what shown b → a ≡ b
   one_report what (Some text) a b is is' = is ∙ sym is'
   one_report (crew id) None a b is is' = is ∙ sym is'
   one_report (pairing id) None a b is is' = is ∙ sym is'
   one_report exceedances None a b is is' = absurd is
 
-  one_answer : (asked : http.Asked) (a b : Answer) → IsAnswer s asked a → IsAnswer s asked b → a ≡ b
+  one_answer : (asked : http.HandlerRequest) (a b : StatusText) → IsAnswer s asked a → IsAnswer s asked b → a ≡ b
   one_answer (submit Command body) a b is is' = is ∙ sym is'
   one_answer (submit (Import number) body) a b is is' = one_schedule_answer number body a b is is'
   one_answer (http.show what) a b (shown, is, told) (shown', is', told') =
@@ -73,7 +73,7 @@ module _ (s : State) where
 
   -- ---- the response
 
-  one_final : (asked : Result http.Asked RequestFault) (is_head : Bool) (a b : Commands) (f f' : Final) → IsFinal s asked is_head a f → IsFinal s asked is_head b f' → (a ≡ b) × (f ≡ f')
+  one_final : (asked : Result http.HandlerRequest RequestFault) (is_head : Bool) (a b : Commands) (f f' : Final) → IsFinal s asked is_head a f → IsFinal s asked is_head b f' → (a ≡ b) × (f ≡ f')
   one_final (Err fault) is_head a b f f' (none, is) (none', is') = (none ∙ sym none', is ∙ sym is')
   one_final (Ok asked) is_head a b f f' (listed, (answer, told, is)) (listed', (answer', told', is')) =
       (one_list asked a b listed listed', is ∙ ap (λ t. of_answer (Ok t) is_head) (one_answer asked answer answer' told told') ∙ sym is')
@@ -99,4 +99,4 @@ one_response s input r other (some, inl (none, is)) (some', inr (h, rest, head, 
 one_response s input r other (some, inr (h, rest, head, is)) (some', inl (none, is')) = absurd (none h rest head)
 one_response s input r other (some, inr (h, rest, head, is)) (some', inr (h', rest', head', is')) =
     let same = request_unique input h h' rest rest' head.reads head'.reads in
-    one_response_to s (plan (heading h')) rest' r other (subst (λ k. IsResponseTo s (plan (heading k)) rest' r) same.0 (subst (λ t. IsResponseTo s (plan (heading h)) t r) same.1 is)) is'
+    one_response_to s (plan_for_head (heading h')) rest' r other (subst (λ k. IsResponseTo s (plan_for_head (heading k)) rest' r) same.0 (subst (λ t. IsResponseTo s (plan_for_head (heading h)) t r) same.1 is)) is'

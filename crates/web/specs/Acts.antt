@@ -16,7 +16,7 @@ use Rattle.store.specs.declared.show.Show.TheVariants as show
 use Rattle.http_message.specs.Plan.{Subject, crew, pairing, exceedances}
 use Rattle.http_message.specs.declared.plan.Submission.TheVariants.{Command, Import}
 use Rattle.http_exchange.specs.Handler as http
-use Rattle.http_exchange.specs.Handler.{Answer, submit}
+use Rattle.http_exchange.specs.Handler.{StatusText, submit}
 use Rattle.web.specs.Answers.{IsAbsent, command_answer, fault_answer, parts_answer, report_answer}
 
 -- commands under their keys
@@ -33,7 +33,7 @@ commands_of (Ok read) = command_of read ∷ []
 commands_of (Err fault) = []
 
 -- the commands that a request asks: the one of a body that is read; the parts of a schedule; of another body, and of a report, none
-abbrev pub Asks : http.Asked → Commands → Type 0
+abbrev pub Asks : http.HandlerRequest → Commands → Type 0
 Asks (submit Command body) commands = commands ≡ commands_of (read_request body)
 Asks (submit (Import number) body) commands =
     ((plans : List Plan) × IsSchedule body plans × (commands ≡ import number plans))
@@ -47,18 +47,18 @@ show_of (pairing id) = show.Pairing id
 show_of exceedances = show.Exceedances
 
 -- the text of a report, or that there is none
-abbrev pub IsReport : Subject → Option (List ℕ) → Answer → Type 0
+abbrev pub IsReport : Subject → Option (List ℕ) → StatusText → Type 0
 IsReport what (Some text) answer = answer ≡ report_answer text
 IsReport what None answer = IsAbsent what answer
 
 module _ (s : State) where
   -- the answer to a body that is read is the book's to its command, and another is told why it isn't
-  abbrev pub request_answer : Result (ℕ × Instruction) CodecFault → Answer
+  abbrev pub request_answer : Result (ℕ × Instruction) CodecFault → StatusText
   request_answer (Ok (number, instruction)) = command_answer (folds.answer_of (step_of s (record { number = number; part = 0 }) instruction))
   request_answer (Err fault) = fault_answer fault
 
   -- the answer to a request in this state
-  abbrev pub IsAnswer : http.Asked → Answer → Type 0
+  abbrev pub IsAnswer : http.HandlerRequest → StatusText → Type 0
   IsAnswer (submit Command body) answer = answer ≡ request_answer (read_request body)
   IsAnswer (submit (Import number) body) answer =
       ((plans : List Plan) × IsSchedule body plans × (answer ≡ parts_answer (Replies s (import number plans))))

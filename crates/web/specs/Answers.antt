@@ -13,12 +13,12 @@ use Rattle.state_rows.specs.declared.fault.StoreFault.{StoreFault}
 use Rattle.state_rows.specs.declared.fault.StoreFault.TheVariants as fault
 use Rattle.http_message.specs.Plan.{Subject, crew, pairing, exceedances}
 use Rattle.http_message.specs.declared.responses.MediaType.TheVariants.{Json, PlainText}
-use Rattle.http_exchange.specs.Handler.{Answer}
+use Rattle.http_exchange.specs.Handler.{StatusText}
 use Rattle.http_exchange.specs.declared.handler.HandlerFault.{HandlerFault}
 use Rattle.http_exchange.specs.declared.handler.HandlerFault.TheVariants.{Store, Memory}
 
 -- a text in JSON, under a status
-abbrev pub json : ℕ → List ℕ → Answer
+abbrev pub json : ℕ → List ℕ → StatusText
 json status text = record { status = status; media_type = Json; text = text }
 
 -- ---- Commands
@@ -57,11 +57,11 @@ answer_status (Ok reply) = 200
 answer_status (Err refusal) = refusal_status refusal
 
 -- the answer to a command
-abbrev pub command_answer : Answered → Answer
+abbrev pub command_answer : Answered → StatusText
 command_answer answer = json (answer_status answer) (answer_text answer)
 
 -- why a body isn't read
-abbrev pub fault_answer : CodecFault → Answer
+abbrev pub fault_answer : CodecFault → StatusText
 fault_answer fault = json 422 (fault_reply fault)
 
 -- ---- Imports
@@ -76,17 +76,17 @@ abbrev pub parts_text : List Answered → List ℕ
 parts_text answers = codes "{\"parts\":[" ++ with_commas answers ++ codes "]}"
 
 -- what each part was answered, refused ones too
-abbrev pub parts_answer : List Answered → Answer
+abbrev pub parts_answer : List Answered → StatusText
 parts_answer answers = json 200 (parts_text answers)
 
 -- ---- Reports
 
 -- the text of a report
-abbrev pub report_answer : List ℕ → Answer
+abbrev pub report_answer : List ℕ → StatusText
 report_answer text = record { status = 200; media_type = PlainText; text = text }
 
 -- the member or the pairing of a report isn't there
-abbrev pub IsAbsent : Subject → Answer → Type 0
+abbrev pub IsAbsent : Subject → StatusText → Type 0
 IsAbsent (crew id) answer = answer ≡ json 404 (refusal_json_text NoSuchCrew)
 IsAbsent (pairing id) answer = answer ≡ json 404 (refusal_json_text NoSuchPairing)
 IsAbsent exceedances answer = ⊥
@@ -99,12 +99,12 @@ fault_of fault.Store = Store
 fault_of fault.Memory = Memory
 
 -- this was told, if there was memory for it
-abbrev pub Tells : Answer → Result Answer HandlerFault → Type 0
+abbrev pub Tells : StatusText → Result StatusText HandlerFault → Type 0
 Tells wanted (Ok answer) = answer ≡ wanted
 Tells wanted (Err Store) = ⊥
 Tells wanted (Err Memory) = ⊤
 
 -- the text under the status, or want of memory where there is no text
-abbrev pub IsInJson : ℕ → Result (String Global) MemoryFault → Result Answer HandlerFault → Type 0
+abbrev pub IsInJson : ℕ → Result (String Global) MemoryFault → Result StatusText HandlerFault → Type 0
 IsInJson status (Ok text) result = result ≡ Ok (json status (string_bytes text))
 IsInJson status (Err fault) result = result ≡ Err Memory

@@ -22,7 +22,7 @@ use Rattle.store.specs.Shown.{IsShown}
 use Rattle.book.specs.declared.answer.Answer as book
 use Rattle.store.specs.declared.show.Show.{Show}
 use Rattle.store.specs.declared.show.Show.TheVariants.{Crew, Pairing, Exceedances}
-use Rattle.http_exchange.specs.Handler.{Answer, Asked}
+use Rattle.http_exchange.specs.Handler.{StatusText, HandlerRequest}
 use Rattle.http_exchange.specs.declared.handler.HandlerFault.{HandlerFault}
 use Rattle.http_exchange.specs.declared.handler.HandlerFault.TheVariants.{Store, Memory}
 use Rattle.web.specs.Acts.{Asks, Commands, IsAnswer}
@@ -31,12 +31,12 @@ use Rattle.web.specs.Answers.{Tells, command_answer, fault_of, json, parts_answe
 -- ---- what is told of what the book did
 
 -- an answer to a command, or its fault
-abbrev pub IsToldAs : Result book.Answer StoreFault → Result Answer HandlerFault → Type 0
+abbrev pub IsToldAs : Result book.Answer StoreFault → Result StatusText HandlerFault → Type 0
 IsToldAs (Ok answer) told = Tells (command_answer (result_of answer)) told
 IsToldAs (Err fault) told = told ≡ Err (fault_of fault)
 
 -- the answers to all parts, or the fault that ended them
-abbrev pub AreToldAs : List book.Answer → Option StoreFault → Result Answer HandlerFault → Type 0
+abbrev pub AreToldAs : List book.Answer → Option StoreFault → Result StatusText HandlerFault → Type 0
 AreToldAs answers None told = Tells (parts_answer (map result_of answers)) told
 AreToldAs answers (Some fault) told = told ≡ Err (fault_of fault)
 
@@ -48,31 +48,31 @@ IsTextOf s what (Err report.NoSuchPairing) = IsShown s what None × ((id : List 
 IsTextOf s what (Err report.Memory) = ⊤
 
 -- that what a refusal of the book names isn't there
-abbrev pub TellsAbsence : Refusal → Result Answer HandlerFault → Type 0
+abbrev pub TellsAbsence : Refusal → Result StatusText HandlerFault → Type 0
 TellsAbsence refusal result = Tells (json 404 (refusal_json_text refusal)) result
 
 -- what a book shows, and the answer that tells it
-abbrev pub IsReportOf : Show → Option (List ℕ) → Answer → Type 0
+abbrev pub IsReportOf : Show → Option (List ℕ) → StatusText → Type 0
 IsReportOf what (Some text) answer = answer ≡ report_answer text
 IsReportOf (Crew who) None answer = answer ≡ json 404 (refusal_json_text NoSuchCrew)
 IsReportOf (Pairing id) None answer = answer ≡ json 404 (refusal_json_text NoSuchPairing)
 IsReportOf Exceedances None answer = ⊥
 
 -- the report of a roster was told, if there was memory for it
-abbrev pub IsReported : State → Show → Result Answer HandlerFault → Type 0
+abbrev pub IsReported : State → Show → Result StatusText HandlerFault → Type 0
 IsReported s what (Ok answer) = (shown : Option (List ℕ)) × IsShown s what shown × IsReportOf what shown answer
 IsReported s what (Err Store) = ⊥
 IsReported s what (Err Memory) = ⊤
 
 -- what a book shows, or its fault
-abbrev pub IsReportToldAs : Result State StoreFault → Show → Result Answer HandlerFault → Type 0
+abbrev pub IsReportToldAs : Result State StoreFault → Show → Result StatusText HandlerFault → Type 0
 IsReportToldAs (Ok roster) what told = IsReported roster what told
 IsReportToldAs (Err fault) what told = told ≡ Err (fault_of fault)
 
 -- ---- what the book did
 
 -- the answer is a fault of the store
-abbrev pub is_store_fault : Result Answer HandlerFault → Bool
+abbrev pub is_store_fault : Result StatusText HandlerFault → Bool
 is_store_fault (Ok answer) = false
 is_store_fault (Err Store) = true
 is_store_fault (Err Memory) = false
@@ -80,20 +80,20 @@ is_store_fault (Err Memory) = false
 module _ {S : Type 0} (g : Ghosts S) (old new : Kept S) where
   -- what the commands leave, of which all were done; or of which the store failed at one, which is in doubt; or of which there was no
   -- memory for one, or to tell what they were answered
-  abbrev pub IsLeft : State → Commands → Result Answer HandlerFault → Type 0
+  abbrev pub IsLeft : State → Commands → Result StatusText HandlerFault → Type 0
   IsLeft s commands (Ok answer) = IsDurablyAt g new (Fold s commands) × (HasTables g old s → HasTables g new (Fold s commands))
   IsLeft s commands (Err Store) = (n : ℕ) × IsInDoubt g new (Fold s (take n commands)) (Fold s (take (n + 1) commands))
   IsLeft s commands (Err Memory) = (n : ℕ) × IsDurablyAt g new (Fold s (take n commands)) × (HasTables g old s → StillHasTables g new (Fold s (take n commands)))
 
   -- the request was answered as it is in this state, or where it wasn't, what it asks was begun, or nothing was asked
-  abbrev pub IsDone : State → Asked → Result Answer HandlerFault → Type 0
+  abbrev pub IsDone : State → HandlerRequest → Result StatusText HandlerFault → Type 0
   IsDone s asked (Ok answer) =
       (IsClean g new → IsAnswer s asked answer) × ((commands : Commands) × Asks asked commands × IsLeft s commands (Ok answer))
   IsDone s asked (Err Store) = (commands : Commands) × Asks asked commands × IsLeft s commands (Err Store)
   IsDone s asked (Err Memory) = (new ≡ old) ⊎ ((commands : Commands) × Asks asked commands × IsLeft s commands (Err Memory))
 
   -- what is said whatever is asked
-  pub record IsKept (result : Result Answer HandlerFault) : Type 0 where
+  pub record IsKept (result : Result StatusText HandlerFault) : Type 0 where
     pub failed : new.failed ≡ (old.failed || is_store_fault result)
     pub shut : IsTrue old.failed → new ≡ old
     pub disk : IsClean g new → IsClean g old
@@ -101,14 +101,14 @@ module _ {S : Type 0} (g : Ghosts S) (old new : Kept S) where
     pub others_left : CrashAddsOnly (state g old.held) (state g new.held) (KeepOthers (state g old.held).now)
 
   -- the book was handed a request, and gave this result
-  pub record IsHandled (asked : Asked) (result : Result Answer HandlerFault) : Type 0 where
+  pub record IsHandled (asked : HandlerRequest) (result : Result StatusText HandlerFault) : Type 0 where
     pub kept : IsKept result
     pub done : (s : State) → IsDurablyAt g old s → IsDone s asked result
 
   -- ---- commands
 
   -- a command was asked
-  abbrev pub IsAskedIn : State → folds.Asked → Result Answer HandlerFault → Type 0
+  abbrev pub IsAskedIn : State → folds.Asked → Result StatusText HandlerFault → Type 0
   IsAskedIn s asked (Ok answer) =
       (IsClean g new → answer ≡ command_answer (folds.answer_of (step_of s asked.0 asked.1)))
       × (IsDurablyAt g new (folds.next s asked) × (HasTables g old s → HasTables g new (folds.next s asked)))
@@ -118,18 +118,18 @@ module _ {S : Type 0} (g : Ghosts S) (old new : Kept S) where
       ⊎ (IsDurablyAt g new (folds.next s asked) × (HasTables g old s → StillHasTables g new (folds.next s asked)))
 
   -- a command was asked, in whichever state the book was; with what is said whatever is asked
-  pub record IsAsked (asked : folds.Asked) (result : Result Answer HandlerFault) : Type 0 where
+  pub record IsAsked (asked : folds.Asked) (result : Result StatusText HandlerFault) : Type 0 where
     pub kept : IsKept result
     pub done : (s : State) → IsDurablyAt g old s → IsAskedIn s asked result
 
   -- ---- imports
 
   -- these pairings were added
-  abbrev pub AreAddedIn : State → Commands → Result Answer HandlerFault → Type 0
+  abbrev pub AreAddedIn : State → Commands → Result StatusText HandlerFault → Type 0
   AreAddedIn s commands (Ok answer) = (IsClean g new → answer ≡ parts_answer (Replies s commands)) × IsLeft s commands (Ok answer)
   AreAddedIn s commands (Err fault) = IsLeft s commands (Err fault)
 
   -- pairings were added, in whichever state the book was; with what is said whatever is asked
-  pub record AreAdded (number : ℕ) (plans : List Plan) (result : Result Answer HandlerFault) : Type 0 where
+  pub record AreAdded (number : ℕ) (plans : List Plan) (result : Result StatusText HandlerFault) : Type 0 where
     pub kept : IsKept result
     pub done : (s : State) → IsDurablyAt g old s → AreAddedIn s (import number plans) result

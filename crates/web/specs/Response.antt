@@ -3,14 +3,14 @@ use Rattle.std.specs.Prelude.{◌≡◌, ◌⊎◌, ◌<◌, ℕ, Bool, false, L
 use Rattle.httparse.specs.Grammar.{RequestHead}
 use Rattle.roster.specs.State.{State}
 use Rattle.http_message.specs.Heading.{heading}
-use Rattle.http_message.specs.Plan.{Planned, plan}
+use Rattle.http_message.specs.Plan.{Planned, plan_for_head}
 use Rattle.http_message.specs.Reading.{HasHead, HasNoHead}
 use Rattle.http_message.specs.declared.refusals.RequestFault.{RequestFault}
 use Rattle.http_message.specs.declared.refusals.RequestFault.TheVariants.{NoHead}
 use Rattle.http_exchange.specs.Exchange as exchange
 use Rattle.http_exchange.specs.Exchange.{asks}
 use Rattle.http_exchange.specs.Final.{Final, of_answer, of_fault}
-use Rattle.http_exchange.specs.Handler.{Answer, Asked}
+use Rattle.http_exchange.specs.Handler.{StatusText, HandlerRequest}
 use Rattle.web.specs.Acts.{Asks, Commands, IsAnswer}
 
 -- what is written before a body is read, and in the end; the commands that are done; and what is left unread, where that is said
@@ -30,9 +30,9 @@ no_head = record { interim = []; final = of_fault NoHead false; commands = []; u
 
 module _ (s : State) where
   -- a request that asks nothing is refused, and another is answered as the book answers it
-  abbrev pub IsFinal : Result Asked RequestFault → Bool → Commands → Final → Type 0
+  abbrev pub IsFinal : Result HandlerRequest RequestFault → Bool → Commands → Final → Type 0
   IsFinal (Err fault) is_head commands final = (commands ≡ []) × (final ≡ of_fault fault is_head)
-  IsFinal (Ok asked) is_head commands final = Asks asked commands × ((answer : Answer) × IsAnswer s asked answer × (final ≡ of_answer (Ok answer) is_head))
+  IsFinal (Ok asked) is_head commands final = Asks asked commands × ((answer : StatusText) × IsAnswer s asked answer × (final ≡ of_answer (Ok answer) is_head))
 
   -- the response to a head with this plan, after which these bytes stand
   pub record IsResponseTo (p : Planned) (rest : List ℕ) (r : Response) : Type 0 where
@@ -45,5 +45,5 @@ module _ (s : State) where
   IsResponse input r =
       (0 < length input) × (
       (HasNoHead input × (r ≡ no_head))
-      ⊎ ((h : RequestHead) × (rest : List ℕ) × HasHead input h rest × IsResponseTo (plan (heading h)) rest r)
+      ⊎ ((h : RequestHead) × (rest : List ℕ) × HasHead input h rest × IsResponseTo (plan_for_head (heading h)) rest r)
       )

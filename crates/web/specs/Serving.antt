@@ -7,11 +7,11 @@ use Rattle.roster.specs.Folds.{Fold}
 use Rattle.roster.specs.State.{State}
 use Rattle.book.specs.Kept.{HasTables, IsDurablyAt, IsInDoubt, Kept, StillHasTables}
 use Rattle.http_message.specs.Heading.{heading}
-use Rattle.http_message.specs.Plan.{Planned, plan}
+use Rattle.http_message.specs.Plan.{Planned, plan_for_head}
 use Rattle.http_message.specs.Reading.{HasHead, HasNoHead}
 use Rattle.http_message.specs.Response.{no_memory, no_store}
-use Rattle.http_exchange.specs.Exchange.{Held, asks, interim, unread}
-use Rattle.http_exchange.specs.Handler.{Asked}
+use Rattle.http_exchange.specs.Exchange.{ChannelBytes, asks, interim, unread}
+use Rattle.http_exchange.specs.Handler.{HandlerRequest}
 use Rattle.http_exchange.specs.declared.exchanges.Served.{Served}
 use Rattle.http_exchange.specs.declared.exchanges.Served.TheVariants.{Answered, Nothing}
 use Rattle.http_exchange.specs.declared.sending.ChannelFault.{ChannelFault}
@@ -20,15 +20,15 @@ use Rattle.web.specs.Acts.{Asks, Commands}
 use Rattle.web.specs.Response.{IsResponse, Response, bytes}
 
 -- the input asks these commands: its head, by its plan and what stands after it, is a request that asks them
-pub record IsRequestFor (input : List ℕ) (p : Planned) (rest : List ℕ) (asked : Asked) (commands : Commands) : Type 0 where
+pub record IsRequestFor (input : List ℕ) (p : Planned) (rest : List ℕ) (asked : HandlerRequest) (commands : Commands) : Type 0 where
   pub h : RequestHead
   pub head : HasHead input h rest
-  pub planned : p ≡ plan (heading h)
+  pub planned : p ≡ plan_for_head (heading h)
   pub whole : asks p.step rest ≡ Ok asked
   pub listed : Asks asked commands
 
 -- what is left unread is what the response says, where it says it
-abbrev pub IsUnread : Option (List ℕ) → Held → Type 0
+abbrev pub IsUnread : Option (List ℕ) → ChannelBytes → Type 0
 IsUnread None left = ⊤
 IsUnread (Some rest) left = left ≡ Some rest
 
@@ -44,7 +44,7 @@ module _ {S : Type 0} (g : Ghosts S) (s : State) where
   -- ---- a response
 
   -- the response to the input was given, and its commands are done
-  pub record IsGiven (input : List ℕ) (left out out' : Held) (old new : Kept S) (code : ℕ) : Type 0 where
+  pub record IsGiven (input : List ℕ) (left out out' : ChannelBytes) (old new : Kept S) (code : ℕ) : Type 0 where
     pub response : Response
     pub is : IsResponse s input response
     pub status : code ≡ response.final.status
@@ -55,10 +55,10 @@ module _ {S : Type 0} (g : Ghosts S) (s : State) where
     pub tables : HasTables g old s → HasTables g new (Fold s response.commands)
 
   -- the book's store failed (90): so it is told, after the interim response
-  pub record IsStoreTold (input : List ℕ) (left out out' : Held) (new : Kept S) (code : ℕ) : Type 0 where
+  pub record IsStoreTold (input : List ℕ) (left out out' : ChannelBytes) (new : Kept S) (code : ℕ) : Type 0 where
     pub p : Planned
     pub rest : List ℕ
-    pub asked : Asked
+    pub asked : HandlerRequest
     pub commands : Commands
     pub request : IsRequestFor input p rest asked commands
     pub status : code ≡ 503
@@ -69,27 +69,27 @@ module _ {S : Type 0} (g : Ghosts S) (s : State) where
 
   -- the commands were begun, or none was asked
   abbrev pub IsBegunOf : List ℕ → Planned → List ℕ → Kept S → Kept S → Type 0
-  IsBegunOf input p rest old new = (new ≡ old) ⊎ ((asked : Asked) × (commands : Commands) × IsRequestFor input p rest asked commands × IsBegun old new commands)
+  IsBegunOf input p rest old new = (new ≡ old) ⊎ ((asked : HandlerRequest) × (commands : Commands) × IsRequestFor input p rest asked commands × IsBegun old new commands)
 
   -- there was no memory to tell that there is no head, or for a head, of which one byte was read
-  abbrev pub IsToldAtOnce : List ℕ → Held → Held → Held → Kept S → Kept S → Type 0
+  abbrev pub IsToldAtOnce : List ℕ → ChannelBytes → ChannelBytes → ChannelBytes → Kept S → Kept S → Type 0
   IsToldAtOnce input left out out' old new = (HasNoHead input ⊎ (left ≡ Some (drop 1 input))) × (new ≡ old) × Appends out out' (no_memory false)
 
   -- or after a head: before anything more was read, written or asked; or after the interim response, and the body where there is one
-  abbrev pub IsToldAfter : List ℕ → Planned → List ℕ → Held → Held → Held → Kept S → Kept S → Type 0
+  abbrev pub IsToldAfter : List ℕ → Planned → List ℕ → ChannelBytes → ChannelBytes → ChannelBytes → Kept S → Kept S → Type 0
   IsToldAfter input p rest left out out' old new =
       ((left ≡ Some rest) × (new ≡ old) × Appends out out' (no_memory p.is_head))
       ⊎ ((left ≡ Some (unread p.step rest)) × Appends out out' (interim p.step ++ no_memory p.is_head) × IsBegunOf input p rest old new)
 
   -- there was no memory (91): so it is told, in place of the final response
-  pub record IsMemoryTold (input : List ℕ) (left out out' : Held) (old new : Kept S) (code : ℕ) : Type 0 where
+  pub record IsMemoryTold (input : List ℕ) (left out out' : ChannelBytes) (old new : Kept S) (code : ℕ) : Type 0 where
     pub some : 0 < length input
     pub status : code ≡ 503
     pub failed : new.failed ≡ old.failed
-    pub told : IsToldAtOnce input left out out' old new ⊎ ((h : RequestHead) × (rest : List ℕ) × HasHead input h rest × IsToldAfter input (plan (heading h)) rest left out out' old new)
+    pub told : IsToldAtOnce input left out out' old new ⊎ ((h : RequestHead) × (rest : List ℕ) × HasHead input h rest × IsToldAfter input (plan_for_head (heading h)) rest left out out' old new)
 
   -- an input without a byte is served nothing
-  abbrev pub IsServedOf : List ℕ → Held → Held → Held → Kept S → Kept S → Served → Type 0
+  abbrev pub IsServedOf : List ℕ → ChannelBytes → ChannelBytes → ChannelBytes → Kept S → Kept S → Served → Type 0
   IsServedOf input left out out' old new Nothing = (input ≡ []) × (out' ≡ out) × (new ≡ old)
   IsServedOf input left out out' old new (Answered code) =
       IsGiven input left out out' old new code
@@ -97,7 +97,7 @@ module _ {S : Type 0} (g : Ghosts S) (s : State) where
       ⊎ IsMemoryTold input left out out' old new code)
 
   -- the same, where it is known what the reader has
-  abbrev pub IsServed : Held → Held → Held → Held → Kept S → Kept S → Served → Type 0
+  abbrev pub IsServed : ChannelBytes → ChannelBytes → ChannelBytes → ChannelBytes → Kept S → Kept S → Served → Type 0
   IsServed None left out out' old new it = ⊤
   IsServed (Some input) left out out' old new it = IsServedOf input left out out' old new it
 
@@ -108,12 +108,12 @@ module _ {S : Type 0} (g : Ghosts S) (s : State) where
   IsLeftBy old new commands = IsBegun old new commands ⊎ (IsTrue new.failed × IsBroken new commands)
 
   -- where the reader failed, nothing was asked; where the writer did, at most what the input asks
-  abbrev pub IsBrokenOff : Held → Kept S → Kept S → ChannelFault → Type 0
+  abbrev pub IsBrokenOff : ChannelBytes → Kept S → Kept S → ChannelFault → Type 0
   IsBrokenOff had old new Reader = new ≡ old
   IsBrokenOff None old new Writer = ⊤
   IsBrokenOff (Some input) old new Writer =
-      (new ≡ old) ⊎ ((p : Planned) × (rest : List ℕ) × (asked : Asked) × (commands : Commands) × IsRequestFor input p rest asked commands × IsLeftBy old new commands)
+      (new ≡ old) ⊎ ((p : Planned) × (rest : List ℕ) × (asked : HandlerRequest) × (commands : Commands) × IsRequestFor input p rest asked commands × IsLeftBy old new commands)
 
   -- whatever the input is: nothing was asked, or the commands of one request
   abbrev pub AsksOnce : Kept S → Kept S → Type 0
-  AsksOnce old new = (new ≡ old) ⊎ ((asked : Asked) × (commands : Commands) × Asks asked commands × IsLeftBy old new commands)
+  AsksOnce old new = (new ≡ old) ⊎ ((asked : HandlerRequest) × (commands : Commands) × Asks asked commands × IsLeftBy old new commands)

@@ -1,7 +1,7 @@
 //! What a book's answers are told as: a status and a text.
 //! What clients are answered: `tests/exchanges.py`. Wrong bodies: `must-fail/`.
 ghost use Rattle.std.specs.Prelude.{◌≡◌};
-ghost use Rattle.http_exchange.specs.Handler.{answer_of};
+ghost use Rattle.http_exchange.specs.Handler.{answer_or_fault};
 ghost use Rattle.web.specs.Answers as spec;
 ghost use Rattle.web.specs.Handling.{IsToldAs};
 
@@ -19,7 +19,7 @@ pub(crate) fn in_json(
     status: StatusCode,
     text: Result<String, MemoryFault>,
 ) -> Result<Response, HandlerFault>
-    ensures { spec.IsInJson status text (answer_of result) }
+    ensures { spec.IsInJson status text (answer_or_fault result) }
 {
     match text {
         Ok(text) => Ok(Response {
@@ -36,7 +36,7 @@ pub(crate) fn told(
     alloc: Global,
     answer: Result<Answer, BookFault>,
 ) -> Result<Response, HandlerFault>
-    ensures { IsToldAs answer (answer_of result) }
+    ensures { IsToldAs answer (answer_or_fault result) }
 {
     match answer {
         Ok(Answer::Accepted(reply)) => in_json(StatusCode::OK, reply_to_json(alloc, &reply)),
@@ -59,7 +59,7 @@ pub(crate) fn fault_of(fault: BookFault) -> HandlerFault
 
 /// Tells why a body isn't read.
 pub(crate) fn told_unread(alloc: Global, fault: CodecFault) -> Result<Response, HandlerFault>
-    ensures { spec.Tells (spec.fault_answer fault) (answer_of result) }
+    ensures { spec.Tells (spec.fault_answer fault) (answer_or_fault result) }
 {
     in_json(
         StatusCode::UNPROCESSABLE_ENTITY,

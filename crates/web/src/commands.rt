@@ -1,7 +1,7 @@
 //! Commands that are posted.
 //! What clients send and are answered: `tests/exchanges.py`. Wrong bodies: `must-fail-more/`.
 ghost use Rattle.http_message.specs.declared.plan.Submission.TheVariants as submission;
-ghost use Rattle.http_exchange.specs.Handler.{answer_of, submit};
+ghost use Rattle.http_exchange.specs.Handler.{answer_or_fault, submit};
 ghost use Rattle.web.specs.Handling as spec;
 
 use crate::answers::{told, told_unread};
@@ -19,7 +19,7 @@ pub(crate) fn answer_command<S: Alter>(
     body: &[u8],
 ) -> Result<Response, HandlerFault>
     ensures { spec.IsHandled S.Store book.old book.new (submit submission.Command body.now)
-        (answer_of result) }
+        (answer_or_fault result) }
 {
     match command_of_json(alloc, body) {
         Ok((number, command)) => {
@@ -40,7 +40,7 @@ fn ask<S: Alter>(
     key: Key,
     command: &Command,
 ) -> Result<Response, HandlerFault>
-    ensures { spec.IsAsked S.Store book.old book.new (key, command.now) (answer_of result) }
+    ensures { spec.IsAsked S.Store book.old book.new (key, command.now) (answer_or_fault result) }
 {
     let answer = book.ask(alloc, key, command);
     told(alloc, answer)

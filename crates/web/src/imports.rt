@@ -4,7 +4,7 @@ ghost use Rattle.std.specs.Prelude.{◌≡◌, ◌≤◌, IfOk, length};
 ghost use Rattle.command.specs.declared.instruction.Instruction.TheVariants.{AddPairing};
 ghost use Rattle.roster.specs.Folds.{import};
 ghost use Rattle.http_message.specs.declared.plan.Submission.TheVariants as submission;
-ghost use Rattle.http_exchange.specs.Handler.{answer_of, submit};
+ghost use Rattle.http_exchange.specs.Handler.{answer_or_fault, submit};
 ghost use Rattle.web.specs.Handling as spec;
 
 use crate::answers::{fault_of, in_json, told_unread};
@@ -28,7 +28,7 @@ pub(crate) fn answer_schedule<S: Alter>(
     body: &[u8],
 ) -> Result<Response, HandlerFault>
     ensures { spec.IsHandled S.Store book.old book.new (submit (submission.Import number) body.now)
-        (answer_of result) }
+        (answer_or_fault result) }
 {
     match schedule_of_csv(alloc, body) {
         Ok(pairings) => add_all(alloc, book, number, pairings),
@@ -45,7 +45,8 @@ fn add_all<S: Alter>(
     pairings: Vec<Pairing>,
 ) -> Result<Response, HandlerFault>
     requires { length pairings.items ≤ 10_000 }
-    ensures { spec.AreAdded S.Store book.old book.new number pairings.items (answer_of result) }
+    ensures { spec.AreAdded S.Store book.old book.new number pairings.items
+        (answer_or_fault result) }
 {
     let Ok(commands) = commands_of(alloc, number, pairings) else {
         return Err(HandlerFault::Memory);
@@ -56,7 +57,7 @@ fn add_all<S: Alter>(
 
 /// Tells what the parts were answered: all of them, or the fault that ended them.
 fn told_parts(alloc: Global, run: &Run) -> Result<Response, HandlerFault>
-    ensures { spec.AreToldAs run.now.answers.items run.now.fault (answer_of result) }
+    ensures { spec.AreToldAs run.now.answers.items run.now.fault (answer_or_fault result) }
 {
     match run.fault {
         None => in_json(StatusCode::OK, parts_to_json(alloc, &run.answers)),

@@ -2,7 +2,7 @@
 //! What clients send and are answered: `tests/exchanges.py`. Wrong bodies: `must-fail/`.
 ghost use Rattle.std.specs.Prelude.{◌≡◌, IfOk};
 ghost use Rattle.http_message.specs.Plan.{subject};
-ghost use Rattle.http_exchange.specs.Handler.{answer_of, show};
+ghost use Rattle.http_exchange.specs.Handler.{answer_or_fault, show};
 ghost use Rattle.web.specs.Acts.{show_of};
 ghost use Rattle.web.specs.Handling as spec;
 
@@ -27,7 +27,7 @@ pub(crate) fn answer_report<S: Alter>(
     report: &Report<'_>,
 ) -> Result<Response, HandlerFault>
     ensures { spec.IsHandled S.Store book.old book.new (show (subject report.now))
-        (answer_of result) }
+        (answer_or_fault result) }
 {
     let Ok(what) = shown_by(alloc, report) else {
         return Err(HandlerFault::Memory);
@@ -60,7 +60,7 @@ fn told_report(
     shown: Result<Roster, BookFault>,
     what: &Show,
 ) -> Result<Response, HandlerFault>
-    ensures { spec.IsReportToldAs shown what.now (answer_of result) }
+    ensures { spec.IsReportToldAs shown what.now (answer_or_fault result) }
 {
     match shown {
         Ok(roster) => reported(alloc, &roster, what),
@@ -70,7 +70,7 @@ fn told_report(
 
 /// Tells a report of a roster.
 fn reported(alloc: Global, roster: &Roster, what: &Show) -> Result<Response, HandlerFault>
-    ensures { spec.IsReported roster.now what.now (answer_of result) }
+    ensures { spec.IsReported roster.now what.now (answer_or_fault result) }
 {
     match text_of(alloc, roster, what) {
         Ok(text) => Ok(Response {
@@ -86,7 +86,7 @@ fn reported(alloc: Global, roster: &Roster, what: &Show) -> Result<Response, Han
 
 /// Tells that the member or the pairing of a report isn't there.
 fn absent(alloc: Global, refusal: &Refusal) -> Result<Response, HandlerFault>
-    ensures { spec.TellsAbsence refusal.now (answer_of result) }
+    ensures { spec.TellsAbsence refusal.now (answer_or_fault result) }
 {
     in_json(StatusCode::NOT_FOUND, refusal_to_json(alloc, refusal))
 }

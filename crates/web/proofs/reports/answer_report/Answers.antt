@@ -1,5 +1,5 @@
 use Rattle.http_message.specs.Plan.{subject}
-use Rattle.http_exchange.specs.Handler.{answer_of, show}
+use Rattle.http_exchange.specs.Handler.{answer_or_fault, show}
 use Rattle.web.proofs.Handled.{no_memory, reported_by}
 use Rattle.web.proofs.reports.answer_report.Goals as goal
 
@@ -9,5 +9,5 @@ returns-in_default g c = no_memory g.S.Store c.args.book.now (show (subject c.ar
 pub returns : goal.returns
 returns g c =
     let shown = c.show-shown.ensures in
-    reported_by g.S.Store c.args.book.now c.show-shown.new.self (subject c.args.report.now) c.in-Ok.what c.show-shown.result (answer_of c.told_report.result)
+    reported_by g.S.Store c.args.book.now c.show-shown.new.self (subject c.args.report.now) c.in-Ok.what c.show-shown.result (answer_or_fault c.told_report.result)
     c.in-Ok.ensures c.told_report.ensures shown.failed shown.shut shown.disk shown.text shown.kept shown.shown shown.still_shown shown.nothing_new
