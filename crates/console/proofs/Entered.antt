@@ -20,7 +20,7 @@ use Rattle.console.proofs.Filled.{Filled, takes_one, NoneMissing, check_none, ch
 use Rattle.console.proofs.Filled.{default_found, first_there, given_all, given_first, given_found, is_found}
 use Rattle.console.proofs.Filled.{no_default_found, rows_filled, was_given}
 use Rattle.console.proofs.NumberRead.{is_checked, number_there, rows_read}
-use Rattle.console.specs.CommandLine.{command_line, do_one, duty, exceedances, import, init, last_number, last_port}
+use Rattle.console.specs.CommandLine.{command_line, do_one, duty, exceedances, import_app, init, last_number, last_port}
 use Rattle.console.specs.CommandLine.{most_connections, optional_connections, pairing, roster, serve}
 use Rattle.console.specs.Arguments.{HasArguments}
 
@@ -147,13 +147,13 @@ do_gives s name rules negates words none =
     let p = first_there _ _ there in
     inr (inr (inl (name, record { file = given_first (codes "file") rows found.0 (was_given _ p.0) })))
 
-import_gives : (s : Shape) → s.name ≡ codes "import" → s.rules ≡ rules_of import → s.subcommand_negates_reqs ≡ false
+import_gives : (s : Shape) → s.name ≡ codes "import" → s.rules ≡ rules_of import_app → s.subcommand_negates_reqs ≡ false
     → (words : List Text)
     → level_fault s [] nothing_held words false [] ≡ [] → IsMet (rows_at s words)
 import_gives s name rules negates words none =
     let rows = rows_after s.rules [] words in
-    let found = rows_there s (rules_of import) rules refl negates words none in
-    let there : NoneMissing (rules_of import) rows = found.1 in
+    let found = rows_there s (rules_of import_app) rules refl negates words none in
+    let there : NoneMissing (rules_of import_app) rows = found.1 in
     let p = first_there _ _ there in
     let q = first_there _ _ p.1 in
     let checked = rows_read (codes "number") last_number s words (ap (list_all (is_checked (codes "number") last_number)) rules)
@@ -260,7 +260,7 @@ is_met words none = line_gives IsMet (built command_line) words (
     (
       do_gives (as_built command_line do_one.top) refl refl refl,
       (
-        import_gives (as_built command_line import.top) refl refl refl,
+        import_gives (as_built command_line import_app.top) refl refl refl,
         (
           roster_gives (as_built command_line roster.top) refl refl refl,
           (

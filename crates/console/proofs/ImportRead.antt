@@ -22,13 +22,13 @@ use Rattle.console.proofs.NumberRead.{number_fails, number_passes}
 use Rattle.console.proofs.PlainLine.{line_fails, line_passes, line_read, line_refused, line_stated, one_name}
 use Rattle.console.proofs.PlainLine.{first_fails, same_text, stopped_at, top}
 use Rattle.console.proofs.PlainWords.{at, plain_fault, plain_walked, row}
-use Rattle.console.specs.CommandLine.{MeetsImport, States, command_line, import, last_number, request_number}
+use Rattle.console.specs.CommandLine.{MeetsImport, States, command_line, import_app, last_number, request_number}
 use Rattle.console.specs.Plain.{IsImport, import_words, is_plain}
 use Rattle.console.specs.declared.actions.Action.{Action}
 use Rattle.console.specs.declared.actions.Action.TheVariants.{Duty, Init, Do, Import, Roster, Pairing, Exceedances, Serve}
 
 abbrev leaf : Shape
-leaf = as_built command_line import.top
+leaf = as_built command_line import_app.top
 
 import_met : ◌≡◌ {A = Walk} (walked top.top.rules (names_of top) (walk_from nothing_held) (codes "import"))
     (stopped_at (codes "import") [])

@@ -60,8 +60,8 @@ abbrev pub do_one : App
 do_one = with_rule (new_app (codes "do")) (wanted (codes "file"))
 
 -- `import FILE NUMBER`
-abbrev pub import : App
-import = with_rule (with_rule (new_app (codes "import"))
+abbrev pub import_app : App
+import_app = with_rule (with_rule (new_app (codes "import"))
     (wanted (codes "file"))) (wanted_number last_number (codes "number"))
 
 -- `roster FILE CREW`
@@ -95,11 +95,11 @@ bare = on_top (λ s. record s {
 abbrev pub command_line : App
 command_line =
     with_subcommand (with_subcommand (with_subcommand (with_subcommand (with_subcommand (with_subcommand (with_subcommand
-    (with_subcommand bare duty.top) init.top) do_one.top) import.top) roster.top) pairing.top) exceedances.top) serve.top
+    (with_subcommand bare duty.top) init.top) do_one.top) import_app.top) roster.top) pairing.top) exceedances.top) serve.top
 
 -- the command is built as `app` says
-abbrev pub IsCommand : App → Command → Type 0
-IsCommand app c = (app_of c ≡ app) × ((out-Command c).has_globals ≡ false)
+abbrev pub IsCommandOfApp : App → Command → Type 0
+IsCommandOfApp app c = (app_of c ≡ app) × ((out-Command c).has_globals ≡ false)
 
 -- `duty` was met, with these arguments
 abbrev pub MeetsDuty : Text → Text → List Text → Text × List Row → Type 0

@@ -10,7 +10,7 @@ ghost use Rattle.clap.specs.Words.{rule_of, subcommand_of, subcommand_rows_of};
 ghost use Rattle.clap.specs.declared.error.kind.ErrorKind.TheVariants.{OutOfMemory, ValueValidation};
 ghost use Rattle.console.specs.Arguments.{HasArguments, HasDo, HasDuty, HasExceedances, HasImport, HasInit};
 ghost use Rattle.console.specs.Arguments.{HasNumber, HasPairing, HasRoster, HasServe};
-ghost use Rattle.console.specs.CommandLine.{IsCommand, States, bare, command_line, do_one, duty, exceedances, import};
+ghost use Rattle.console.specs.CommandLine.{IsCommandOfApp, States, bare, command_line, do_one, duty, exceedances, import_app};
 ghost use Rattle.console.specs.CommandLine.{init, last_number, last_port, most_connections, number_up_to};
 ghost use Rattle.console.specs.CommandLine.{optional_connections, pairing, request_number, roster, serve, wanted, wanted_number};
 ghost use Rattle.console.specs.Plain.{IsDo, IsDuty, IsExceedances, IsImport, IsInit, IsPairing, IsRoster, IsServe};
@@ -222,7 +222,7 @@ fn read(alloc: Global, words: &[&str]) -> Result<Action, Error>
 
 /// Makes the whole command line.
 fn command<'a>(alloc: Global) -> Result<Command<'a>, AllocError>
-    ensures { IfOk result (IsCommand command_line) }
+    ensures { IfOk result (IsCommandOfApp command_line) }
 {
     bare_command(alloc)?
         .subcommand(duty_command(alloc)?)?
@@ -237,7 +237,7 @@ fn command<'a>(alloc: Global) -> Result<Command<'a>, AllocError>
 
 /// Makes the program without its subcommands.
 fn bare_command<'a>(alloc: Global) -> Result<Command<'a>, AllocError>
-    ensures { IfOk result (IsCommand bare) }
+    ensures { IfOk result (IsCommandOfApp bare) }
 {
     Command::new(alloc, "rosterbook")
         .version("0.1.0")
@@ -252,7 +252,7 @@ fn bare_command<'a>(alloc: Global) -> Result<Command<'a>, AllocError>
 
 /// Makes the subcommand `duty`.
 fn duty_command<'a>(alloc: Global) -> Result<Command<'a>, AllocError>
-    ensures { IfOk result (IsCommand duty) }
+    ensures { IfOk result (IsCommandOfApp duty) }
 {
     let zone = positional(alloc, "zone", "ZONE").help(ZONE_HELP);
     let report = positional(alloc, "report", "REPORT").help(REPORT_HELP);
@@ -269,7 +269,7 @@ fn duty_command<'a>(alloc: Global) -> Result<Command<'a>, AllocError>
 
 /// Makes the subcommand `init`.
 fn init_command<'a>(alloc: Global) -> Result<Command<'a>, AllocError>
-    ensures { IfOk result (IsCommand init) }
+    ensures { IfOk result (IsCommandOfApp init) }
 {
     let file = positional(alloc, "file", "FILE").help(NEW_FILE_HELP);
     let zone = positional(alloc, "zone", "ZONE").help(ZONE_HELP);
@@ -282,7 +282,7 @@ fn init_command<'a>(alloc: Global) -> Result<Command<'a>, AllocError>
 
 /// Makes the subcommand `do`.
 fn do_command<'a>(alloc: Global) -> Result<Command<'a>, AllocError>
-    ensures { IfOk result (IsCommand do_one) }
+    ensures { IfOk result (IsCommandOfApp do_one) }
 {
     let file = positional(alloc, "file", "FILE").help(FILE_HELP);
     Command::new(alloc, "do")
@@ -293,7 +293,7 @@ fn do_command<'a>(alloc: Global) -> Result<Command<'a>, AllocError>
 
 /// Makes the subcommand `import`.
 fn import_command<'a>(alloc: Global) -> Result<Command<'a>, AllocError>
-    ensures { IfOk result (IsCommand import) }
+    ensures { IfOk result (IsCommandOfApp import_app) }
 {
     let file = positional(alloc, "file", "FILE").help(FILE_HELP);
     let number = positional(alloc, "number", "NUMBER")
@@ -308,7 +308,7 @@ fn import_command<'a>(alloc: Global) -> Result<Command<'a>, AllocError>
 
 /// Makes the subcommand `roster`.
 fn roster_command<'a>(alloc: Global) -> Result<Command<'a>, AllocError>
-    ensures { IfOk result (IsCommand roster) }
+    ensures { IfOk result (IsCommandOfApp roster) }
 {
     let file = positional(alloc, "file", "FILE").help(FILE_HELP);
     let crew = positional(alloc, "crew", "CREW").help(CREW_HELP);
@@ -321,7 +321,7 @@ fn roster_command<'a>(alloc: Global) -> Result<Command<'a>, AllocError>
 
 /// Makes the subcommand `pairing`.
 fn pairing_command<'a>(alloc: Global) -> Result<Command<'a>, AllocError>
-    ensures { IfOk result (IsCommand pairing) }
+    ensures { IfOk result (IsCommandOfApp pairing) }
 {
     let file = positional(alloc, "file", "FILE").help(FILE_HELP);
     let id = positional(alloc, "pairing", "PAIRING").help(PAIRING_HELP);
@@ -334,7 +334,7 @@ fn pairing_command<'a>(alloc: Global) -> Result<Command<'a>, AllocError>
 
 /// Makes the subcommand `exceedances`.
 fn exceedances_command<'a>(alloc: Global) -> Result<Command<'a>, AllocError>
-    ensures { IfOk result (IsCommand exceedances) }
+    ensures { IfOk result (IsCommandOfApp exceedances) }
 {
     let file = positional(alloc, "file", "FILE").help(FILE_HELP);
     Command::new(alloc, "exceedances")
@@ -345,7 +345,7 @@ fn exceedances_command<'a>(alloc: Global) -> Result<Command<'a>, AllocError>
 
 /// Makes the subcommand `serve`.
 fn serve_command<'a>(alloc: Global) -> Result<Command<'a>, AllocError>
-    ensures { IfOk result (IsCommand serve) }
+    ensures { IfOk result (IsCommandOfApp serve) }
 {
     let file = positional(alloc, "file", "FILE").help(FILE_HELP);
     Command::new(alloc, "serve")

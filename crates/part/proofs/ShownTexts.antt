@@ -7,7 +7,7 @@ use Rattle.std.specs.Str.{bytes_eq}
 use Rattle.report.specs.ExceedanceText.{IsExceedanceText}
 use Rattle.report.specs.Lines.{IsInOrder}
 use Rattle.report.specs.PairingText.{pairing_lines}
-use Rattle.report.specs.RosterText.{IsRosterText, IsTextOf, lines_of, ground_line, period_lines}
+use Rattle.report.specs.RosterText.{IsRosterText, IsMemberText, lines_of, ground_line, roster_period_lines}
 use Rattle.command.specs.declared.member.Member.{Member}
 use Rattle.duty.specs.Plans.{GroundPlan}
 use Rattle.roster.specs.Pairings.{holds}
@@ -34,7 +34,7 @@ module _ (s : State) (who : List ℕ) where
       (λ id g there theirs. retained s.grounds (is_ground_of s who) id (ap (λ o. option_map_or (λ (x : GroundPlan). bytes_eq x.crew who) o false) there ∙ theirs) ∙ there)
 
   lines_same : lines_of part who ≡ lines_of s who
-  lines_same i = flat_map period_lines (pairings_same i) ++ map ground_line (grounds_same i)
+  lines_same i = flat_map roster_period_lines (pairings_same i) ++ map ground_line (grounds_same i)
 
 module _ (s t : State) (who : List ℕ) (crew : fin.get s.crew who ≡ fin.get t.crew who) (lines : lines_of s who ≡ lines_of t who) where
   roster_on : (text : List ℕ) → IsRosterText s who text → IsRosterText t who text

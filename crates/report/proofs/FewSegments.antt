@@ -16,7 +16,7 @@ use Rattle.duty.specs.declared.segment.Segment.{Segment}
 use Rattle.duty.specs.declared.segment.BlockTimes.{BlockTimes}
 use Rattle.roster.specs.Pairings.{flown}
 use Rattle.roster.specs.declared.state.PairingEntry.{PairingEntry}
-use Rattle.report.specs.Periods.{period_of, periods_of}
+use Rattle.report.specs.Periods.{period_of, pairing_periods}
 use Rattle.report.specs.declared.periods.PeriodInForce.{PeriodInForce}
 
 no_first : (fault : Option DutyFault) (rest : List (Option DutyFault)) → first_fault (fault ∷ rest) ≡ None → (fault ≡ None) × (first_fault rest ≡ None)
@@ -70,5 +70,5 @@ few_each (f ∷ fdps) (a ∷ actuals) from e = elim (cases_Bool (is_short f)) [
   | inr failed ↦ absurd (let no = rw failed at e in cc)
 ]
 
-pub few_in_force : (r : PairingEntry) → pairing_fault r.plan ≡ None → All Few (periods_of r)
+pub few_in_force : (r : PairingEntry) → pairing_fault r.plan ≡ None → All Few (pairing_periods r)
 few_in_force r sound = few_each r.plan.periods r.actuals 1 (none_long r.plan.periods (counted r.plan sound))

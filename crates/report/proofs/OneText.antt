@@ -22,12 +22,12 @@ use Rattle.roster.specs.declared.state.ExceedanceId.{ExceedanceId}
 use Rattle.roster.specs.declared.state.PeriodId.{PeriodId}
 use Rattle.roster.proofs.Members.{from_filter, from_flat_map, from_map, from_numbers, from_rows}
 use Rattle.roster.proofs.Records.{names_same}
-use Rattle.report.specs.ExceedanceText.{Row, header, line}
+use Rattle.report.specs.ExceedanceText.{ExceedanceEntry, exceedances_header, line}
 use Rattle.report.specs.Laws.{HasOneExceedanceText, HasOneRoster}
 use Rattle.report.specs.Lines.{IsInOrder, key_of}
-use Rattle.report.specs.Periods.{periods_of}
+use Rattle.report.specs.Periods.{pairing_periods}
 use Rattle.report.specs.RosterText as roster
-use Rattle.report.specs.RosterText.{IsRosterText, IsTextOf, ground_line, ground_lines, lines_of, period_line, period_lines}
+use Rattle.report.specs.RosterText.{IsRosterText, IsMemberText, ground_line, ground_lines, lines_of, roster_period_line, roster_period_lines}
 use Rattle.report.specs.declared.line.Line.{Line}
 use Rattle.report.specs.declared.periods.PeriodInForce.{PeriodInForce}
 use Rattle.report.proofs.OneOrder.{one_order}
@@ -47,7 +47,7 @@ texts_same (a ∷ x) (b ∷ y) r t e =
 -- the line of a period by its place in its pairing, counted from 0, and that of a ground duty
 abbrev period_at : State → List ℕ → ℕ → Option Line
 period_at s id k =
-    option_and_then (λ r. option_map (λ p. period_line id (1 + k, p)) (slice_get (periods_of r) k)) (fin.get s.pairings id)
+    option_and_then (λ r. option_map (λ p. roster_period_line id (1 + k, p)) (slice_get (pairing_periods r) k)) (fin.get s.pairings id)
 
 abbrev ground_at : State → List ℕ → Option Line
 ground_at s id = option_map (λ g. ground_line (id, g)) (fin.get s.grounds id)
@@ -56,7 +56,7 @@ record IsPeriodLine (s : State) (a : Line) : Type 0 where
   id : List ℕ
   k : ℕ
   p : PeriodInForce
-  is : a ≡ period_line id (1 + k, p)
+  is : a ≡ roster_period_line id (1 + k, p)
   at : period_at s id k ≡ Some a
 
 record IsGroundLine (s : State) (a : Line) : Type 0 where
@@ -66,22 +66,22 @@ record IsGroundLine (s : State) (a : Line) : Type 0 where
   at : ground_at s id ≡ Some a
 
 of_period : (s : State) (who : List ℕ) (a : Line)
-    → Contains (flat_map period_lines (filter (λ row. holds who row.1) (fin.entries s.pairings))) a → IsPeriodLine s a
+    → Contains (flat_map roster_period_lines (filter (λ row. holds who row.1) (fin.entries s.pairings))) a → IsPeriodLine s a
 of_period s who a c =
-    let row = from_flat_map period_lines (filter (λ row. holds who row.1) (fin.entries s.pairings)) a c in
+    let row = from_flat_map roster_period_lines (filter (λ row. holds who row.1) (fin.entries s.pairings)) a c in
     let of = from_filter (λ row. holds who row.1) (fin.entries s.pairings) row.0 row.1 in
     let got = from_rows s.pairings row.0.0 row.0.1 of.0 in
-    let numbered = from_map (period_line row.0.0) (enumerate_from 1 (periods_of row.0.1)) a row.2 in
-    let place = from_numbers 1 (periods_of row.0.1) numbered.0 numbered.1 in
-    let is : period_line row.0.0 (1 + place.0, numbered.0.1) ≡ a = ap (λ n. period_line row.0.0 (n, numbered.0.1)) place.1 ∙ numbered.2 in
+    let numbered = from_map (roster_period_line row.0.0) (enumerate_from 1 (pairing_periods row.0.1)) a row.2 in
+    let place = from_numbers 1 (pairing_periods row.0.1) numbered.0 numbered.1 in
+    let is : roster_period_line row.0.0 (1 + place.0, numbered.0.1) ≡ a = ap (λ n. roster_period_line row.0.0 (n, numbered.0.1)) place.1 ∙ numbered.2 in
     record {
       id = row.0.0;
       k = place.0;
       p = numbered.0.1;
       is = sym is;
       at =
-          ap (option_and_then (λ r. option_map (λ p. period_line row.0.0 (1 + place.0, p)) (slice_get (periods_of r) place.0))) got
-          ∙ ap (option_map (λ p. period_line row.0.0 (1 + place.0, p))) place.2 ∙ ap Some is;
+          ap (option_and_then (λ r. option_map (λ p. roster_period_line row.0.0 (1 + place.0, p)) (slice_get (pairing_periods r) place.0))) got
+          ∙ ap (option_map (λ p. roster_period_line row.0.0 (1 + place.0, p))) place.2 ∙ ap Some is;
     }
 
 of_ground : (s : State) (who : List ℕ) (a : Line) → Contains (ground_lines s who) a → IsGroundLine s a
@@ -98,7 +98,7 @@ of_ground s who a c =
 
 two_periods : (s : State) (a b : Line) → IsPeriodLine s a → IsPeriodLine s b → key_of a ≡ key_of b → a ≡ b
 two_periods s a b x y e =
-    let keys : key_of (period_line x.id (1 + x.k, x.p)) ≡ key_of (period_line y.id (1 + y.k, y.p)) = ap key_of (sym x.is) ∙ e ∙ ap key_of y.is in
+    let keys : key_of (roster_period_line x.id (1 + x.k, x.p)) ≡ key_of (roster_period_line y.id (1 + y.k, y.p)) = ap key_of (sym x.is) ∙ e ∙ ap key_of y.is in
     let texts = texts_same x.id y.id ((1 + x.k) ∷ []) ((1 + y.k) ∷ []) cc in
     let number : 1 + x.k ≡ 1 + y.k = let l = texts.1 in cc in
     let place : x.k ≡ y.k = omega (arith, number) in
@@ -112,14 +112,14 @@ two_grounds s a b x y e =
 
 one_kind : (s : State) (a b : Line) → IsPeriodLine s a → IsGroundLine s b → key_of a ≡ key_of b → ⊥
 one_kind s a b x y e =
-    let keys : key_of (period_line x.id (1 + x.k, x.p)) ≡ key_of (ground_line (y.id, y.g)) = ap key_of (sym x.is) ∙ e ∙ ap key_of y.is in
+    let keys : key_of (roster_period_line x.id (1 + x.k, x.p)) ≡ key_of (ground_line (y.id, y.g)) = ap key_of (sym x.is) ∙ e ∙ ap key_of y.is in
     let kind : ◌≡◌ {A = ℕ} 0 1 = cc in
     absurd (omega (arith, kind))
 
 known_by_key : (s : State) (who : List ℕ) (a b : Line) → Contains (lines_of s who) a → Contains (lines_of s who) b
     → key_of a ≡ key_of b → a ≡ b
 known_by_key s who a b in_a in_b e =
-    let periods = flat_map period_lines (filter (λ row. holds who row.1) (fin.entries s.pairings)) in
+    let periods = flat_map roster_period_lines (filter (λ row. holds who row.1) (fin.entries s.pairings)) in
     elim (Contains-append_cases periods (ground_lines s who) a in_a) [
       | inl x ↦ elim (Contains-append_cases periods (ground_lines s who) b in_b) [
         | inl y ↦ two_periods s a b (of_period s who a x) (of_period s who b y) e
@@ -151,7 +151,7 @@ pub one_roster : HasOneRoster
 one_roster s who a b x y =
     let member : x.member ≡ y.member = same_Some x.member y.member (sym x.is_there ∙ y.is_there) in
     let lines : x.told.lines ≡ y.told.lines = same_lines s who x.told.lines y.told.lines x.told.in_order y.told.in_order in
-    x.told.is ∙ ap₂ (λ (m : Member) ls. roster.header who m ++ flat_map (λ line. line.text) ls) member lines ∙ sym y.told.is
+    x.told.is ∙ ap₂ (λ (m : Member) ls. roster.roster_header who m ++ flat_map (λ line. line.text) ls) member lines ∙ sym y.told.is
 
 -- ---- Exceedances
 
@@ -163,7 +163,7 @@ same_id a b e =
     let parts = names_same a.key b.key a.crew b.crew a.section b.section e in
     λ i. record { key = parts.0 i; crew = parts.1 i; section = parts.2 i }
 
-same_rows : (xs ys : List Row) → named_rows name xs ≡ named_rows name ys → xs ≡ ys
+same_rows : (xs ys : List ExceedanceEntry) → named_rows name xs ≡ named_rows name ys → xs ≡ ys
 same_rows [] [] e = refl
 same_rows [] (y ∷ ys) e = let no : [] ≡ (name y.0, y.1) ∷ named_rows name ys = e in absurd (cc)
 same_rows (x ∷ xs) [] e = let no : (name x.0, x.1) ∷ named_rows name xs ≡ [] = e in absurd (cc)
@@ -173,9 +173,9 @@ same_rows (x ∷ xs) (y ∷ ys) e =
     let rest : named_rows name xs ≡ named_rows name ys = cc in
     let id = same_id x.0 y.0 (ap (λ (p : List ℕ × PeriodId). p.0) first) in
     let period = ap (λ (p : List ℕ × PeriodId). p.1) first in
-    ap₂ (λ (z : Row) zs. z ∷ zs) (λ i. (id i, period i)) (same_rows xs ys rest)
+    ap₂ (λ (z : ExceedanceEntry) zs. z ∷ zs) (λ i. (id i, period i)) (same_rows xs ys rest)
 
 pub one_exceedance_text : HasOneExceedanceText
 one_exceedance_text s a b x y =
     let rows : x.rows ≡ y.rows = same_rows x.rows y.rows (x.are ∙ sym y.are) in
-    x.is ∙ ap (λ rows. header (length rows) ++ flat_map line rows) rows ∙ sym y.is
+    x.is ∙ ap (λ rows. exceedances_header (length rows) ++ flat_map line rows) rows ∙ sym y.is

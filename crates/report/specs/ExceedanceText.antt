@@ -10,26 +10,26 @@ use Rattle.roster.specs.declared.state.ExceedanceId.{ExceedanceId}
 use Rattle.roster.specs.declared.state.PeriodId.{PeriodId}
 
 -- an exceedance, and the period that it is of
-abbrev pub Row : Type 0
-Row = ExceedanceId × PeriodId
+abbrev pub ExceedanceEntry : Type 0
+ExceedanceEntry = ExceedanceId × PeriodId
 
 -- the first line, with how many there are
-abbrev pub header : ℕ → List ℕ
-header count = codes "EXCEEDANCES " ++ decimal count ++ codes "\n"
+abbrev pub exceedances_header : ℕ → List ℕ
+exceedances_header count = codes "EXCEEDANCES " ++ decimal count ++ codes "\n"
 
 -- the number of the command, the member, the section, and the period of the pairing
-abbrev pub line : Row → List ℕ
+abbrev pub line : ExceedanceEntry → List ℕ
 line (id, period) =
     (decimal id.key.number ++ codes " " ++ id.crew)
     ++ (codes " " ++ section_text id.section)
     ++ codes " " ++ period.pairing ++ codes "/" ++ decimal period.number ++ codes "\n"
 
 -- the rows are those of the state, in the order of their names: number, part, member, section
-abbrev pub AreExceedances : State → List Row → Type 0
-AreExceedances s rows = named_rows (λ id. exceedance_name id.key id.crew id.section) rows ≡ fin.entries s.exceedances
+abbrev pub AreExceedanceRows : State → List ExceedanceEntry → Type 0
+AreExceedanceRows s rows = named_rows (λ id. exceedance_name id.key id.crew id.section) rows ≡ fin.entries s.exceedances
 
 -- how many there are, and the line of each in turn
 pub record IsExceedanceText (s : State) (text : List ℕ) : Type 0 where
-  pub rows : List Row
-  pub are : AreExceedances s rows
-  pub is : text ≡ header (length rows) ++ flat_map line rows
+  pub rows : List ExceedanceEntry
+  pub are : AreExceedanceRows s rows
+  pub is : text ≡ exceedances_header (length rows) ++ flat_map line rows

@@ -8,7 +8,7 @@ use Rattle.time117.specs.Instant.{written}
 use Rattle.duty.specs.declared.segment.Segment.{Segment}
 use Rattle.roster.specs.State.{State}
 use Rattle.roster.specs.declared.state.PairingEntry.{PairingEntry}
-use Rattle.report.specs.Periods.{periods_of, word}
+use Rattle.report.specs.Periods.{pairing_periods, word}
 use Rattle.report.specs.declared.periods.PeriodInForce.{PeriodInForce}
 
 -- who holds a seat, or a dash
@@ -21,8 +21,8 @@ abbrev pub seat_line : List ℕ → Option (List ℕ) → List ℕ
 seat_line seat holder = seat ++ codes " " ++ holder_text holder ++ codes "\n"
 
 -- the times in force
-abbrev pub period_line : ℕ → PeriodInForce → List ℕ
-period_line number p =
+abbrev pub pairing_period_line : ℕ → PeriodInForce → List ℕ
+pairing_period_line number p =
     (decimal number ++ codes " " ++ word p)
     ++ codes " report " ++ written p.fdp.report ++ codes " release " ++ written p.fdp.release ++ codes "\n"
 
@@ -34,12 +34,12 @@ segment_line period (number, s) =
     ++ codes " " ++ s.to ++ codes " " ++ written s.block_in ++ codes "\n"
 
 -- a period, and its segments in turn
-abbrev pub period_lines : ℕ × PeriodInForce → List ℕ
-period_lines (number, p) = period_line number p ++ flat_map (segment_line number) (enumerate_from 1 p.fdp.segments)
+abbrev pub pairing_period_lines : ℕ × PeriodInForce → List ℕ
+pairing_period_lines (number, p) = pairing_period_line number p ++ flat_map (segment_line number) (enumerate_from 1 p.fdp.segments)
 
 -- the lines of the periods in turn, each with its segments
 abbrev pub lines_of_periods : PairingEntry → List ℕ
-lines_of_periods r = flat_map period_lines (enumerate_from 1 (periods_of r))
+lines_of_periods r = flat_map pairing_period_lines (enumerate_from 1 (pairing_periods r))
 
 -- the lines of a pairing: its id, its two seats, its periods
 abbrev pub pairing_lines : List ℕ → PairingEntry → List ℕ

@@ -14,8 +14,8 @@ abbrev pub period_of : Fdp × Option ActualTimes → PeriodInForce
 period_of planned = record { fdp = flown planned; is_flown = is_some planned.1 }
 
 -- the periods of a pairing in turn
-abbrev pub periods_of : PairingEntry → List PeriodInForce
-periods_of r = map period_of (zip r.plan.periods r.actuals)
+abbrev pub pairing_periods : PairingEntry → List PeriodInForce
+pairing_periods r = map period_of (zip r.plan.periods r.actuals)
 
 -- where its times come from
 abbrev pub source : Bool → List ℕ
@@ -27,8 +27,8 @@ abbrev pub word : PeriodInForce → List ℕ
 word p = source p.is_flown
 
 -- the length of a flight duty period (117.3), from its report to the last block-in
-abbrev pub length_of : Fdp → ℕ
-length_of f = last_in f.report (map span_of f.segments) - f.report
+abbrev pub length_to_last_block_in : Fdp → ℕ
+length_to_last_block_in f = last_in f.report (map span_of f.segments) - f.report
 
 -- the flight time in it (1.1), from block-out to block-in of each segment
 abbrev pub flight_time_of : Fdp → ℕ

@@ -14,7 +14,7 @@ use Rattle.roster.specs.State.{State}
 use Rattle.roster.specs.declared.state.PairingEntry.{PairingEntry}
 use Rattle.period_verdict.specs.Texts.{hours_text}
 use Rattle.report.specs.Lines.{IsInOrder}
-use Rattle.report.specs.Periods.{periods_of, word, length_of, flight_time_of}
+use Rattle.report.specs.Periods.{pairing_periods, word, length_to_last_block_in, flight_time_of}
 use Rattle.report.specs.declared.line.Line.{Line}
 use Rattle.report.specs.declared.line.Place.TheVariants.{Period, Ground}
 use Rattle.report.specs.declared.periods.PeriodInForce.{PeriodInForce}
@@ -27,11 +27,11 @@ span_text begin end = written begin ++ codes " " ++ written end
 
 -- the length of a period, and the flight time in it
 abbrev pub lengths_text : Fdp → List ℕ
-lengths_text f = codes " fdp " ++ hours_text (length_of f) ++ codes " flight " ++ hours_text (flight_time_of f) ++ codes "\n"
+lengths_text f = codes " fdp " ++ hours_text (length_to_last_block_in f) ++ codes " flight " ++ hours_text (flight_time_of f) ++ codes "\n"
 
 -- a period of a pairing runs to its release
-abbrev pub period_line : List ℕ → ℕ × PeriodInForce → Line
-period_line id (number, p) = record {
+abbrev pub roster_period_line : List ℕ → ℕ × PeriodInForce → Line
+roster_period_line id (number, p) = record {
   begin = p.fdp.report;
   end = p.fdp.release;
   place = Period id number;
@@ -51,8 +51,8 @@ ground_line (id, g) = record {
 -- ---- A member's lines
 
 -- the lines of a pairing's periods in turn
-abbrev pub period_lines : List ℕ × PairingEntry → List Line
-period_lines (id, r) = map (period_line id) (enumerate_from 1 (periods_of r))
+abbrev pub roster_period_lines : List ℕ × PairingEntry → List Line
+roster_period_lines (id, r) = map (roster_period_line id) (enumerate_from 1 (pairing_periods r))
 
 -- the lines of a member's ground duties
 abbrev pub ground_lines : State → List ℕ → List Line
@@ -60,22 +60,22 @@ ground_lines s who = map ground_line (filter (λ row. bytes_eq row.1.crew who) (
 
 -- the periods of the pairings that the member holds, and the member's ground duties
 abbrev pub lines_of : State → List ℕ → List Line
-lines_of s who = flat_map period_lines (filter (λ row. holds who row.1) (fin.entries s.pairings)) ++ ground_lines s who
+lines_of s who = flat_map roster_period_lines (filter (λ row. holds who row.1) (fin.entries s.pairings)) ++ ground_lines s who
 
 -- ---- The text
 
 -- the first line: the member's id, seat and name
-abbrev pub header : List ℕ → Member → List ℕ
-header who member = codes "ROSTER " ++ who ++ codes " " ++ seat_text member.seat ++ codes " " ++ member.name ++ codes "\n"
+abbrev pub roster_header : List ℕ → Member → List ℕ
+roster_header who member = codes "ROSTER " ++ who ++ codes " " ++ seat_text member.seat ++ codes " " ++ member.name ++ codes "\n"
 
 -- the member, and then the lines in their order
-pub record IsTextOf (s : State) (who : List ℕ) (member : Member) (text : List ℕ) : Type 0 where
+pub record IsMemberText (s : State) (who : List ℕ) (member : Member) (text : List ℕ) : Type 0 where
   pub lines : List Line
   pub in_order : IsInOrder (lines_of s who) lines
-  pub is : text ≡ header who member ++ flat_map (λ line. line.text) lines
+  pub is : text ≡ roster_header who member ++ flat_map (λ line. line.text) lines
 
 -- the same, of a member who is there
 pub record IsRosterText (s : State) (who text : List ℕ) : Type 0 where
   pub member : Member
   pub is_there : fin.get s.crew who ≡ Some member
-  pub told : IsTextOf s who member text
+  pub told : IsMemberText s who member text

@@ -22,7 +22,7 @@ pub fn exceedance_text(alloc: Global, roster: &Roster) -> Result<String, ReportF
 }
 
 fn header(alloc: Global, count: usize) -> Result<String, MemoryFault>
-    ensures { IfOk result (λ text. string_bytes text ≡ spec.header count) }
+    ensures { IfOk result (λ text. string_bytes text ≡ spec.exceedances_header count) }
 {
     Ok(format!(in alloc; "EXCEEDANCES {count}\n")?)
 }

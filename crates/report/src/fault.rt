@@ -17,9 +17,9 @@ pub enum ReportFault {
 
 impl fmt::Display for ReportFault {
     ghost use Rattle.std.specs.Prelude.{Some};
-    ghost use Rattle.report.specs.Faults.{fault_text};
+    ghost use Rattle.report.specs.Faults.{report_fault_text};
 
-    ghost output = { λ fault. Some (fault_text fault) };
+    ghost output = { λ fault. Some (report_fault_text fault) };
 
     fn fmt<W: fmt::Write>(&self, f: &mut fmt::Formatter<W>) -> fmt::Result {
         f.write_str(match self {

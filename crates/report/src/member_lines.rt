@@ -44,7 +44,7 @@ fn member_text(
     member: &Member,
 ) -> Result<String, MemoryFault>
     ensures { IfOk result
-        (λ text. spec.IsTextOf roster.now who.now member.now (string_bytes text)) }
+        (λ text. spec.IsMemberText roster.now who.now member.now (string_bytes text)) }
 {
     let lines = in_order(lines_of(alloc, roster, who)?)?;
     text_of(header(alloc, who, member)?, &lines)
@@ -52,7 +52,7 @@ fn member_text(
 
 /// Writes the first line: the member's id, seat and name.
 fn header(alloc: Global, who: &CrewId, member: &Member) -> Result<String, MemoryFault>
-    ensures { IfOk result (λ text. string_bytes text ≡ spec.header who.now member.now) }
+    ensures { IfOk result (λ text. string_bytes text ≡ spec.roster_header who.now member.now) }
 {
     let mut text = format!(in alloc; "ROSTER {} {}", who.as_str(), member.seat)?;
     text.push_str(&format!(in alloc; " {}\n", member.name.as_str())?)?;
@@ -81,7 +81,7 @@ fn add_periods(
     lines: &mut Vec<Line>,
 ) -> Result<(), MemoryFault>
     ensures { OnOk result
-        (lines.new.items ≡ lines.old.items ++ spec.period_lines (id.now, rostered.now)) }
+        (lines.new.items ≡ lines.old.items ++ spec.roster_period_lines (id.now, rostered.now)) }
 {
     let periods = periods_of(alloc, rostered)?;
     for (index, period) in periods.iter().enumerate() {
@@ -115,7 +115,7 @@ fn period_line(
     period: &PeriodInForce,
 ) -> Result<Line, MemoryFault>
     requires { length period.now.fdp.segments ≤ 12 }
-    ensures { IfOk result (λ line. line ≡ spec.period_line id.now (number, period.now)) }
+    ensures { IfOk result (λ line. line ≡ spec.roster_period_line id.now (number, period.now)) }
 {
     let (begin, end) = (period.fdp.report, period.fdp.release);
     let mut text = span_text(alloc, begin, end)?;

@@ -64,7 +64,8 @@ fn lines_of_periods(alloc: Global, rostered: &PairingEntry) -> Result<String, Me
 
 /// Writes a period's line, and those of its segments.
 fn period_lines(alloc: Global, number: usize, period: &PeriodInForce) -> Result<String, MemoryFault>
-    ensures { IfOk result (λ text. string_bytes text ≡ spec.period_lines (number, period.now)) }
+    ensures { IfOk result
+        (λ text. string_bytes text ≡ spec.pairing_period_lines (number, period.now)) }
 {
     let mut text = period_line(alloc, number, period)?;
     for (index, segment) in period.fdp.segments.as_slice().iter().enumerate() {
@@ -74,7 +75,7 @@ fn period_lines(alloc: Global, number: usize, period: &PeriodInForce) -> Result<
 }
 
 fn period_line(alloc: Global, number: usize, period: &PeriodInForce) -> Result<String, MemoryFault>
-    ensures { IfOk result (λ text. string_bytes text ≡ spec.period_line number period.now) }
+    ensures { IfOk result (λ text. string_bytes text ≡ spec.pairing_period_line number period.now) }
 {
     let report = instant(alloc, period.fdp.report)?;
     let release = instant(alloc, period.fdp.release)?;

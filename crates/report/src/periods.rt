@@ -30,7 +30,7 @@ impl PeriodInForce {
 
     /// Returns the length in minutes, from report to the last block-in.
     pub fn length(&self) -> u32
-        ensures { result ≡ spec.length_of self.now.fdp }
+        ensures { result ≡ spec.length_to_last_block_in self.now.fdp }
     {
         let end = last_block_in(self.fdp.report, self.fdp.segments.as_slice());
         end.number().saturating_sub(self.fdp.report.number())
@@ -64,7 +64,7 @@ fn last_block_in(report: Minute, segments: &[Segment]) -> Minute
 
 /// Copies the periods of a pairing in turn, with their times in force.
 pub fn periods_of(alloc: Global, rostered: &PairingEntry) -> Result<Vec<PeriodInForce>, MemoryFault>
-    ensures periods { IfOk result (λ periods. periods.items ≡ spec.periods_of rostered.now) }
+    ensures periods { IfOk result (λ periods. periods.items ≡ spec.pairing_periods rostered.now) }
     ensures few { IfOk result
         (λ periods. All (λ period. length period.fdp.segments ≤ 12) periods.items) }
 {

@@ -7,7 +7,7 @@ use Rattle.std.proofs.Common.{String, Global}
 use Rattle.std.specs.Io.KnownBytes.{Appends}
 use Rattle.roster.specs.State.{State}
 use Rattle.report.specs.ExceedanceText.{IsExceedanceText}
-use Rattle.report.specs.Faults.{fault_text}
+use Rattle.report.specs.Faults.{report_fault_text}
 use Rattle.report.specs.PairingText.{pairing_lines, pairing_text}
 use Rattle.report.specs.RosterText.{IsRosterText}
 use Rattle.report.specs.declared.fault.ReportFault.{ReportFault}
@@ -56,7 +56,7 @@ pub text_told : (s : State) (what : Show) (text : List ℕ) (out out' err : Held
 text_told s what text out out' err is prints = record { shown = Some text; is = is; told = (refl, prints, refl) }
 
 pub absence_told : (s : State) (what : Show) (fault : ReportFault) (out err err' : Held) → fault ≢ Memory
-    → (fault ≡ Memory) ⊎ (IsShown s what None × IsAbsence what fault) → Appends err err' (refused (fault_text fault))
+    → (fault ≡ Memory) ⊎ (IsShown s what None × IsAbsence what fault) → Appends err err' (refused (report_fault_text fault))
     → IsToldOf s what Refused out out err err'
 absence_told s what fault out err err' other (inl e) tells = absurd (other e)
 absence_told s what fault out err err' other (inr is) tells =

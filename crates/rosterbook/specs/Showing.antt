@@ -5,7 +5,7 @@ use Rattle.std.specs.Global.{Global}
 use Rattle.std.specs.Prelude.{String}
 use Rattle.roster.specs.State.{State}
 use Rattle.state_rows.specs.declared.fault.StoreFault.TheVariants.{Store}
-use Rattle.report.specs.Faults.{fault_text}
+use Rattle.report.specs.Faults.{report_fault_text}
 use Rattle.report.specs.declared.fault.ReportFault.{ReportFault}
 use Rattle.report.specs.declared.fault.ReportFault.TheVariants.{NoSuchCrew, NoSuchPairing, Memory}
 use Rattle.book.specs.Kept.{Kept}
@@ -29,7 +29,7 @@ IsAbsence Exceedances fault = ⊥
 abbrev pub Tells : Show → Option (List ℕ) → Status → Held → Held → Held → Held → Type 0
 Tells what (Some text) status out out' err err' = (status ≡ Done) × Appends out out' text × (err' ≡ err)
 Tells what None status out out' err err' =
-    (status ≡ Refused) × (out' ≡ out) × ((fault : ReportFault) × IsAbsence what fault × Appends err err' (refused (fault_text fault)))
+    (status ≡ Refused) × (out' ≡ out) × ((fault : ReportFault) × IsAbsence what fault × Appends err err' (refused (report_fault_text fault)))
 
 -- what a state shows was told
 pub record IsToldOf (s : State) (what : Show) (status : Status) (out out' err err' : Held) : Type 0 where

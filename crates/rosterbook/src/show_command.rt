@@ -2,7 +2,7 @@
 //! Worked texts: `tests/reports.py`. Wrong bodies: `must-fail/`.
 ghost use Rattle.std.specs.Prelude.{◌≡◌, ◌≢◌, IfErr, IfOk, IsTrue, string_bytes};
 ghost use Rattle.std.specs.Io.KnownBytes.{Appends};
-ghost use Rattle.report.specs.Faults.{fault_text};
+ghost use Rattle.report.specs.Faults.{report_fault_text};
 ghost use Rattle.roster.specs.State.{State};
 ghost use Rattle.book.specs.Kept.{IsDurablyAt, IsClean};
 ghost use Rattle.store.specs.declared.show.Show.TheVariants as show;
@@ -130,7 +130,7 @@ pub fn show_text<S: Alter, O: Write, E: Write>(
 /// Tells that the member or the pairing isn't there, or stops for want of memory.
 fn tell_absence<E: Write>(fault: ReportFault, err: &mut E) -> Result<Status, Stop>
     ensures told { IfOk result (λ status. (status ≡ Status.Refused) × (fault ≢ ReportFault.Memory)
-        × Appends (E.contents err.old) (E.contents err.new) (refused (fault_text fault))) }
+        × Appends (E.contents err.old) (E.contents err.new) (refused (report_fault_text fault))) }
     ensures stopped { IfErr result IsOfChannel }
 {
     match fault {

@@ -1,6 +1,6 @@
 use Rattle.std.proofs.lemmas.Result.{IfOk-weaker}
 use Rattle.clap.specs.Simple.{App, with_subcommand}
-use Rattle.console.specs.CommandLine.{bare, do_one, duty, exceedances, import, init, pairing, roster, serve}
+use Rattle.console.specs.CommandLine.{bare, do_one, duty, exceedances, import_app, init, pairing, roster, serve}
 use Rattle.console.proofs.Commands.{subcommand_added}
 use Rattle.console.proofs.command_line.command.Goals as goal
 
@@ -14,7 +14,7 @@ abbrev to_do : App
 to_do = with_subcommand to_init do_one.top
 
 abbrev to_import : App
-to_import = with_subcommand to_do import.top
+to_import = with_subcommand to_do import_app.top
 
 abbrev to_roster : App
 to_roster = with_subcommand to_import roster.top
@@ -33,7 +33,7 @@ returns c =
     c.in_ok-subcommand-2.ensures c.in_ok-init_command.ensures in
     let third = subcommand_added to_init do_one _ _ c.in_ok-subcommand-3.field-0 second
     c.in_ok-subcommand-3.ensures c.in_ok-do_command.ensures in
-    let fourth = subcommand_added to_do import _ _ c.in_ok-subcommand-4.field-0 third
+    let fourth = subcommand_added to_do import_app _ _ c.in_ok-subcommand-4.field-0 third
     c.in_ok-subcommand-4.ensures c.in_ok-import_command.ensures in
     let fifth = subcommand_added to_import roster _ _ c.in_ok-subcommand-5.field-0 fourth
     c.in_ok-subcommand-5.ensures c.in_ok-roster_command.ensures in

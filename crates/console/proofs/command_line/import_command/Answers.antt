@@ -5,7 +5,7 @@ use Rattle.clap.specs.Values.{NarrowsTo}
 use Rattle.clap.specs.Walk.{Rule, rule_of}
 use Rattle.clap.specs.Simple.{new_app}
 use Rattle.clap.specs.declared.builder.value_parser.ValueParser.TheVariants.{Unsigned}
-use Rattle.console.specs.CommandLine.{IsCommand, last_number, wanted, wanted_number}
+use Rattle.console.specs.CommandLine.{IsCommandOfApp, last_number, wanted, wanted_number}
 use Rattle.console.proofs.Commands.{argument_added}
 use Rattle.console.proofs.command_line.import_command.Goals as goal
 
@@ -23,7 +23,7 @@ returns c =
     ap rule_of c.value_parser-number.ensures.others
     ∙ (ap (λ q. record (rule_of c.help.result) { parser = q }) parsed
     ∙ ap (λ (r : Rule). record r { parser = Some (Unsigned 1 last_number) }) help_is) in
-    let start : IsCommand (new_app (codes "import")) c.after_help.result = (search rules, search rules) in
+    let start : IsCommandOfApp (new_app (codes "import")) c.after_help.result = (search rules, search rules) in
     let first = argument_added _ _ c.after_help.result c.help-file.result c.in_ok-arg.field-0 start
     c.in_ok-arg.ensures file_is (search rules) in
     IfOk-weaker c.arg-2.result _ _

@@ -2,14 +2,14 @@ use Rattle.std.proofs.Common.{rules, ◌≡◌, codes}
 use Rattle.std.proofs.lemmas.Result.{IfOk-weaker}
 use Rattle.clap.specs.Walk.{rule_of}
 use Rattle.clap.specs.Simple.{new_app}
-use Rattle.console.specs.CommandLine.{IsCommand, wanted}
+use Rattle.console.specs.CommandLine.{IsCommandOfApp, wanted}
 use Rattle.console.proofs.Commands.{argument_added}
 use Rattle.console.proofs.command_line.serve_command.Goals as goal
 
 pub returns : goal.returns
 returns c =
     let file_is : rule_of c.help-file.result ≡ wanted (codes "file") = search rules in
-    let start : IsCommand (new_app (codes "serve")) c.after_help.result = (search rules, search rules) in
+    let start : IsCommandOfApp (new_app (codes "serve")) c.after_help.result = (search rules, search rules) in
     let first = argument_added _ _ c.after_help.result c.help-file.result c.in_ok-arg.field-0 start
     c.in_ok-arg.ensures file_is (search rules) in
     let second = argument_added _ _ c.in_ok-arg.field-0 c.port_argument.result c.in_ok-arg-2.field-0 first

@@ -6,7 +6,7 @@ use Rattle.report.proofs.exceedances.exceedance_text.Goals as goal
 pub loop-id-init : goal.loop-id-init
 loop-id-init c =
     let rows = c.iter-id-items.result in
-    let head : string_bytes c.in_ok-text.text ≡ spec.header (length rows) = c.in_ok-text.ensures ∙ ap spec.header (c.len.ensures ∙ sym (counted c.args.roster.now rows c.iter-id-items.ensures)) in
+    let head : string_bytes c.in_ok-text.text ≡ spec.exceedances_header (length rows) = c.in_ok-text.ensures ∙ ap spec.exceedances_header (c.len.ensures ∙ sym (counted c.args.roster.now rows c.iter-id-items.ensures)) in
     rw (c.into_iter-id-iterator.ensures.into_iter_gives, head) refl
 
 pub returns-clause-text : goal.returns-clause-text

@@ -6,4 +6,4 @@ use Rattle.report.proofs.exceedances.exceedance_text.Given as goal
 abbrev pub invariant-loop-id : goal.invariant-loop-id
 invariant-loop-id l =
     string_bytes l.text ++ flat_map spec.line l.id-iterator
-    ≡ spec.header (length l.initial.id-iterator) ++ flat_map spec.line l.initial.id-iterator
+    ≡ spec.exceedances_header (length l.initial.id-iterator) ++ flat_map spec.line l.initial.id-iterator

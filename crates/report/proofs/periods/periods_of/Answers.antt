@@ -4,7 +4,7 @@ use Rattle.std.specs.Slice.Iter.{iter_rest}
 use Rattle.std.proofs.lemmas.List.{append-nil}
 use Rattle.std.proofs.lemmas.Slice.Zip.{either_empty_from_Zip}
 use Rattle.duty.proofs.ListLemmas.{zip-empty}
-use Rattle.report.specs.Periods.{period_of, periods_of}
+use Rattle.report.specs.Periods.{period_of, pairing_periods}
 use Rattle.report.proofs.FewSegments.{Few, few_in_force}
 use Rattle.report.proofs.periods.periods_of.Goals as goal
 
@@ -17,7 +17,7 @@ returns c =
       | inl e ↦ ap (λ xs. map period_of (zip xs actuals)) e
       | inr e ↦ ap (λ ys. map period_of (zip periods ys)) e ∙ ap (map period_of) (zip-empty periods)
     ] in
-    let all : c.loop-period.periods.items ≡ periods_of c.args.rostered.now =
+    let all : c.loop-period.periods.items ≡ pairing_periods c.args.rostered.now =
     sym (append-nil c.loop-period.periods.items) ∙ ap (λ ys. c.loop-period.periods.items ++ ys) (sym none)
     ∙ c.loop-period.invariant in
     record {
