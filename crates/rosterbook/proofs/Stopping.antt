@@ -14,8 +14,8 @@ use Rattle.book.specs.Answered.{IsAnswered}
 use Rattle.book.specs.Kept.{IsDurablyAt, IsClean, IsInDoubt, Kept, is_store_fault, result_of}
 use Rattle.book.specs.declared.answer.Answer.{Answer}
 use Rattle.book.proofs.Runs.{fold_more}
-use Rattle.rosterbook.specs.Asking.{Answered, Answers, AreStopped, IsAskStopped, IsLeft, IsOfBook, IsStoppedIn, Request, commands_of, left_by}
-use Rattle.rosterbook.specs.Streams.{Held, IsOfChannel, Reads}
+use Rattle.rosterbook.specs.Asking.{ReplyOrRefusal, Answers, AreStopped, IsAskStopped, IsLeftAfterAnswers, IsBookFault, IsStoppedIn, Request, asked_by_request, left_by_request}
+use Rattle.rosterbook.specs.Streams.{StreamBytes, IsOfChannel, ReadsInput}
 use Rattle.rosterbook.specs.declared.status.Status.{Status}
 use Rattle.rosterbook.specs.declared.stop.Stop.{Stop}
 use Rattle.rosterbook.specs.declared.stop.Stop.TheVariants as stops
@@ -23,7 +23,7 @@ use Rattle.rosterbook.specs.declared.stop.Stop.TheVariants.{Book}
 use Rattle.rosterbook.proofs.PartsAdded.{AreAsked, AreSoFar, one_asked}
 
 -- a reader or a writer doesn't fail as the book does
-pub no_fault_of_book : (stop : Stop) → IsOfChannel stop → IsOfBook stop → ⊥
+pub no_fault_of_book : (stop : Stop) → IsOfChannel stop → IsBookFault stop → ⊥
 no_fault_of_book stop (inl memory) (fault, is) = absurd (cc)
 no_fault_of_book stop (inr channel) (fault, is) = absurd (cc)
 
@@ -38,7 +38,7 @@ has_failed : (fault : StoreFault) (was is : Bool) → is ≡ (was || is_store_fa
 has_failed Store was is failed at_store = rw failed (or_true was)
 has_failed Memory was is failed at_store = absurd (cc)
 
-module _ {S : Type 0} (g : Ghosts S) (old now new : Kept S) (asked : List Asked) (count : ℕ) (answers : List Answered) where
+module _ {S : Type 0} (g : Ghosts S) (old now new : Kept S) (asked : List Asked) (count : ℕ) (answers : List ReplyOrRefusal) where
   -- no line was written of the last answer
   pub untold : (stop : Stop) → IsOfChannel stop → count ≤ length asked → length answers ≡ count →
       ((s : State) → IsDurablyAt g old s → IsClean g new → answers ≡ take count (Replies s asked)) →
@@ -63,7 +63,7 @@ module _ {S : Type 0} (g : Ghosts S) (old now new : Kept S) (asked : List Asked)
 
   left_at : (fault : StoreFault) (s : State) (a : Asked) → Fold s (take (count + 1) asked) ≡ next (Fold s (take count asked)) a →
       (fault ≡ Memory → IsDurablyAt g new (Fold s (take count asked))) →
-      (fault ≡ Store → IsInDoubt g new (Fold s (take count asked)) (next (Fold s (take count asked)) a)) → IsLeft g new s asked count (Book fault)
+      (fault ≡ Store → IsInDoubt g new (Fold s (take count asked)) (next (Fold s (take count asked)) a)) → IsLeftAfterAnswers g new s asked count (Book fault)
   left_at Store s a more memory store = rw more (store refl)
   left_at Memory s a more memory store = memory refl
 
@@ -87,7 +87,7 @@ module _ {S : Type 0} (g : Ghosts S) (old now new : Kept S) (asked : List Asked)
         left = λ s at.
             let so_far = Fold s (take count asked) in
             let more : Fold s (take (count + 1) asked) ≡ next so_far a = rw is_a at (fold_more s asked count a within) in
-            subst (λ n. IsLeft g new s asked n (Book fault)) (sym each) (left_at fault s a more (memory so_far (was.left s at)) (store so_far (was.left s at)));
+            subst (λ n. IsLeftAfterAnswers g new s asked n (Book fault)) (sym each) (left_at fault s a more (memory so_far (was.left s at)) (store so_far (was.left s at)));
       }
 
 -- want of memory, before anything was asked
@@ -101,31 +101,31 @@ err_told (Err e) P Q it weaker = weaker e it
 
 -- ---- `do`
 
-pub request_stopped : {S : Type 0} (g : Ghosts S) (old new : Kept S) (request : Request) (number : ℕ) (instruction : Instruction) (key : KeyParts) (answers : List Answered) (stop : Stop) →
-    request ≡ Ok (number, instruction) → key ≡ record { number = number; part = 0 } → IsStoppedIn g old new ((key, instruction) ∷ []) answers stop → IsStoppedIn g old new (commands_of request) answers stop
+pub request_stopped : {S : Type 0} (g : Ghosts S) (old new : Kept S) (request : Request) (number : ℕ) (instruction : Instruction) (key : KeyParts) (answers : List ReplyOrRefusal) (stop : Stop) →
+    request ≡ Ok (number, instruction) → key ≡ record { number = number; part = 0 } → IsStoppedIn g old new ((key, instruction) ∷ []) answers stop → IsStoppedIn g old new (asked_by_request request) answers stop
 request_stopped g old new request number instruction key answers stop is under stopped =
     let under_key : KeyParts = record { number = number; part = 0 } in
     let at_key : IsStoppedIn g old new ((under_key, instruction) ∷ []) answers stop = subst (λ k. IsStoppedIn g old new ((k, instruction) ∷ []) answers stop) under stopped in
-    subst (λ r. IsStoppedIn g old new (commands_of r) answers stop) (sym is) at_key
+    subst (λ r. IsStoppedIn g old new (asked_by_request r) answers stop) (sym is) at_key
 
 -- the answer was not written
-answer_untold : {S : Type 0} (g : Ghosts S) (old new : Kept S) (request : Request) (answer : Answered) (stop : Stop) → IsOfChannel stop →
+answer_untold : {S : Type 0} (g : Ghosts S) (old new : Kept S) (request : Request) (answer : ReplyOrRefusal) (stop : Stop) → IsOfChannel stop →
     ((s : State) → IsDurablyAt g old s → IsClean g new → Answers s request answer) →
-    ((s : State) → IsDurablyAt g old s → IsDurablyAt g new (left_by s request)) →
-    (answers : List Answered) × IsStoppedIn g old new (commands_of request) answers stop × (length answers < length (commands_of request) → ⊥)
-answer_untold g old new (Ok asked) answer stop which answered left = (answer ∷ [], untold g old new new (commands_of (Ok asked)) 1 (answer ∷ []) stop which (omega arith) refl answered left, λ fewer. absurd (omega (arith, fewer)))
+    ((s : State) → IsDurablyAt g old s → IsDurablyAt g new (left_by_request s request)) →
+    (answers : List ReplyOrRefusal) × IsStoppedIn g old new (asked_by_request request) answers stop × (length answers < length (asked_by_request request) → ⊥)
+answer_untold g old new (Ok asked) answer stop which answered left = (answer ∷ [], untold g old new new (asked_by_request (Ok asked)) 1 (answer ∷ []) stop which (omega arith) refl answered left, λ fewer. absurd (omega (arith, fewer)))
 answer_untold g old new (Err fault) answer stop which answered left = ([], untold g old new new [] 0 [] stop which (omega arith) refl (λ s at is_clean. refl) left, λ fewer. absurd (omega (arith, fewer)))
 
-pub asked_untold : {S : Type 0} (g : Ghosts S) (old new : Kept S) (held out out' : Held) (input : List ℕ) (answer : Answered) (stop : Stop) → IsOfChannel stop → Reads held input →
+pub asked_untold : {S : Type 0} (g : Ghosts S) (old new : Kept S) (held out out' : StreamBytes) (input : List ℕ) (answer : ReplyOrRefusal) (stop : Stop) → IsOfChannel stop → ReadsInput held input →
     ((s : State) → IsDurablyAt g old s → IsClean g new → Answers s (read_request input) answer) →
-    ((s : State) → IsDurablyAt g old s → IsDurablyAt g new (left_by s (read_request input))) → IsAskStopped g old new held out out' stop
+    ((s : State) → IsDurablyAt g old s → IsDurablyAt g new (left_by_request s (read_request input))) → IsAskStopped g old new held out out' stop
 asked_untold g old new held out out' input answer stop which read answered left =
     let it = answer_untold g old new (read_request input) answer stop which answered left in
     inr (input, it.0, read, it.1, λ fewer. absurd (it.2 fewer))
 
 -- ---- `import`
 
-module _ {S : Type 0} (g : Ghosts S) (old now new : Kept S) (number : ℕ) (plans : List Plan) (count : ℕ) (status : Status) (out out' : Held) where
+module _ {S : Type 0} (g : Ghosts S) (old now new : Kept S) (number : ℕ) (plans : List Plan) (count : ℕ) (status : Status) (out out' : StreamBytes) where
   abbrev parts : List Asked
   parts = import number plans
 
@@ -138,7 +138,7 @@ module _ {S : Type 0} (g : Ghosts S) (old now new : Kept S) (number : ℕ) (plan
     printed = λ is. was.printed;
   }
 
-  pub part_untold : (out'' : Held) (a : Asked) (answer : Answer) (stop : Stop) → IsOfChannel stop → count < length parts → slice_get parts count ≡ Some a →
+  pub part_untold : (out'' : StreamBytes) (a : Asked) (answer : Answer) (stop : Stop) → IsOfChannel stop → count < length parts → slice_get parts count ≡ Some a →
       AreSoFar g old now parts count status out out' → IsAnswered g now new a (Ok answer) → AreStopped g old new number plans out out'' stop
   part_untold out'' a answer stop which within at_count was answered = record {
     answers = was.answers ++ result_of answer ∷ [];

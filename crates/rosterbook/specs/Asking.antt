@@ -19,44 +19,44 @@ use Rattle.stored_json.specs.declared.fault.CodecFault.{CodecFault}
 use Rattle.state_rows.specs.declared.fault.StoreFault.{StoreFault}
 use Rattle.state_rows.specs.declared.fault.StoreFault.TheVariants.{Store}
 use Rattle.book.specs.Kept.{IsDurablyAt, IsClean, IsInDoubt, Kept}
-use Rattle.rosterbook.specs.Streams.{Held, IsOfChannel, Prints, Reads, line_end, refused}
+use Rattle.rosterbook.specs.Streams.{StreamBytes, IsOfChannel, Prints, ReadsInput, line_end, refused_line}
 use Rattle.rosterbook.specs.declared.status.Status.{Status}
 use Rattle.rosterbook.specs.declared.status.Status.TheVariants.{Done, Refused}
 use Rattle.rosterbook.specs.declared.stop.Stop.{Stop}
 use Rattle.rosterbook.specs.declared.stop.Stop.TheVariants.{Book}
 
 -- what the book answers a command, or a part of an import
-abbrev pub Answered : Type 0
-Answered = Result Reply Refusal
+abbrev pub ReplyOrRefusal : Type 0
+ReplyOrRefusal = Result Reply Refusal
 
 -- how the program ends after an answer
-abbrev pub status_of : Answered → Status
-status_of (Ok reply) = Done
-status_of (Err refusal) = Refused
+abbrev pub status_of_answer : ReplyOrRefusal → Status
+status_of_answer (Ok reply) = Done
+status_of_answer (Err refusal) = Refused
 
 -- ---- Where the program stops
 
 -- the book met a fault: of its store (90), or want of memory (91)
-abbrev pub IsOfBook : Stop → Type 0
-IsOfBook stop = (fault : StoreFault) × (stop ≡ Book fault)
+abbrev pub IsBookFault : Stop → Type 0
+IsBookFault stop = (fault : StoreFault) × (stop ≡ Book fault)
 
 module _ {S : Type 0} (g : Ghosts S) where
   -- what is left where so many commands were answered: after a fault of the store (90) the one after them is in doubt
-  abbrev pub IsLeft : Kept S → State → List Asked → ℕ → Stop → Type 0
-  IsLeft new s asked n (Book Store) = IsInDoubt g new (Fold s (take n asked)) (Fold s (take (n + 1) asked))
-  IsLeft new s asked n stop = IsDurablyAt g new (Fold s (take n asked))
+  abbrev pub IsLeftAfterAnswers : Kept S → State → List Asked → ℕ → Stop → Type 0
+  IsLeftAfterAnswers new s asked n (Book Store) = IsInDoubt g new (Fold s (take n asked)) (Fold s (take (n + 1) asked))
+  IsLeftAfterAnswers new s asked n stop = IsDurablyAt g new (Fold s (take n asked))
 
   -- these commands were asked in turn, and got these answers before the program stopped
-  pub record IsStoppedIn (old new : Kept S) (asked : List Asked) (answers : List Answered) (stop : Stop) : Type 0 where
-    pub told : IsOfBook stop ⊎ IsOfChannel stop
+  pub record IsStoppedIn (old new : Kept S) (asked : List Asked) (answers : List ReplyOrRefusal) (stop : Stop) : Type 0 where
+    pub told : IsBookFault stop ⊎ IsOfChannel stop
     pub few : length answers ≤ length asked
-    pub unanswered : IsOfBook stop → length answers < length asked
+    pub unanswered : IsBookFault stop → length answers < length asked
     pub failed : stop ≡ Book Store → IsTrue new.failed
     pub answered : (s : State) → IsDurablyAt g old s → IsClean g new → answers ≡ take (length answers) (Replies s asked)
-    pub left : (s : State) → IsDurablyAt g old s → IsLeft new s asked (length answers) stop
+    pub left : (s : State) → IsDurablyAt g old s → IsLeftAfterAnswers new s asked (length answers) stop
 
 -- nothing was asked, and nothing written
-pub record IsUnasked {S : Type 0} (old new : Kept S) (out out' : Held) (stop : Stop) : Type 0 where
+pub record IsUnasked {S : Type 0} (old new : Kept S) (out out' : StreamBytes) (stop : Stop) : Type 0 where
   pub unchanged : new ≡ old
   pub silent : out' ≡ out
   pub told : IsOfChannel stop
@@ -68,18 +68,18 @@ abbrev pub Request : Type 0
 Request = Result (ℕ × Instruction) CodecFault
 
 -- the text of an answer
-abbrev pub answer_json : Answered → List ℕ
+abbrev pub answer_json : ReplyOrRefusal → List ℕ
 answer_json (Ok reply) = reply_text reply
 answer_json (Err refusal) = json.refusal_json_text refusal
 
 -- one that is not read is told so, and another its answer
-abbrev pub told_json : Request → Answered → Status × List ℕ
-told_json (Ok asked) answer = (status_of answer, answer_json answer)
+abbrev pub told_json : Request → ReplyOrRefusal → Status × List ℕ
+told_json (Ok asked) answer = (status_of_answer answer, answer_json answer)
 told_json (Err fault) answer = (Refused, json.fault_reply fault)
 
 -- a request was read, and told what it was answered
-pub record IsTold (held out out' : Held) (status : Status) (input : List ℕ) (answer : Answered) : Type 0 where
-  pub read : Reads held input
+pub record IsRequestReadAndTold (held out out' : StreamBytes) (status : Status) (input : List ℕ) (answer : ReplyOrRefusal) : Type 0 where
+  pub read : ReadsInput held input
   pub printed : Prints (told_json (read_request input) answer) status out out'
 
 -- the command of a request, under part 0 of its number
@@ -87,102 +87,102 @@ abbrev pub asked_as : ℕ × Instruction → Asked
 asked_as (number, instruction) = (record { number = number; part = 0 }, instruction)
 
 -- the book's answer in a state
-abbrev pub Answers : State → Request → Answered → Type 0
+abbrev pub Answers : State → Request → ReplyOrRefusal → Type 0
 Answers s (Ok asked) answer = answer ∷ [] ≡ Replies s (asked_as asked ∷ [])
 Answers s (Err fault) answer = ⊤
 
 -- the state after a request: one that isn't read changes nothing
-abbrev pub left_by : State → Request → State
-left_by s (Ok asked) = next s (asked_as asked)
-left_by s (Err fault) = s
+abbrev pub left_by_request : State → Request → State
+left_by_request s (Ok asked) = next s (asked_as asked)
+left_by_request s (Err fault) = s
 
 -- what is asked: one command, or none where the request isn't read
-abbrev pub commands_of : Request → List Asked
-commands_of (Ok asked) = asked_as asked ∷ []
-commands_of (Err fault) = []
+abbrev pub asked_by_request : Request → List Asked
+asked_by_request (Ok asked) = asked_as asked ∷ []
+asked_by_request (Err fault) = []
 
 -- the answer was the book's, where its state is known
-pub record IsAsked {S : Type 0} (g : Ghosts S) (old new : Kept S) (held out out' : Held) (status : Status) : Type 0 where
+pub record IsRequestAnswered {S : Type 0} (g : Ghosts S) (old new : Kept S) (held out out' : StreamBytes) (status : Status) : Type 0 where
   pub input : List ℕ
-  pub answer : Answered
-  pub told : IsTold held out out' status input answer
+  pub answer : ReplyOrRefusal
+  pub told : IsRequestReadAndTold held out out' status input answer
   pub answered : (s : State) → IsDurablyAt g old s → IsClean g new → Answers s (read_request input) answer
-  pub left : (s : State) → IsDurablyAt g old s → IsDurablyAt g new (left_by s (read_request input))
+  pub left : (s : State) → IsDurablyAt g old s → IsDurablyAt g new (left_by_request s (read_request input))
 
 -- the program stopped before it asked anything, or when it had asked what was read: nothing was printed where that has no answer
-abbrev pub IsAskStopped : {S : Type 0} → Ghosts S → Kept S → Kept S → Held → Held → Held → Stop → Type 0
+abbrev pub IsAskStopped : {S : Type 0} → Ghosts S → Kept S → Kept S → StreamBytes → StreamBytes → StreamBytes → Stop → Type 0
 IsAskStopped g old new held out out' stop =
     IsUnasked old new out out' stop
-    ⊎ ((input : List ℕ) × (answers : List Answered) × Reads held input
-    × IsStoppedIn g old new (commands_of (read_request input)) answers stop
-    × (length answers < length (commands_of (read_request input)) → out' ≡ out))
+    ⊎ ((input : List ℕ) × (answers : List ReplyOrRefusal) × ReadsInput held input
+    × IsStoppedIn g old new (asked_by_request (read_request input)) answers stop
+    × (length answers < length (asked_by_request (read_request input)) → out' ≡ out))
 
 -- ---- `import`
 
 -- the line of a part
-abbrev pub part_line : ℕ → Answered → List ℕ
+abbrev pub part_line : ℕ → ReplyOrRefusal → List ℕ
 part_line part (Ok reply) = decimal part ++ codes " accepted" ++ line_end
 part_line part (Err refusal) = decimal part ++ codes " refused " ++ refusal_text refusal ++ line_end
 
 -- the lines of parts, from this one on
-abbrev pub part_lines : ℕ → List Answered → List ℕ
+abbrev pub part_lines : ℕ → List ReplyOrRefusal → List ℕ
 part_lines part [] = []
 part_lines part (answer ∷ answers) = part_line part answer ++ part_lines (part + 1) answers
 
 -- refused if any part was
-abbrev pub status_with : Status → Answered → Status
+abbrev pub status_with : Status → ReplyOrRefusal → Status
 status_with status (Ok reply) = status
 status_with status (Err refusal) = Refused
 
 -- how the program ends after the answers of an import
-abbrev pub status_of_all : List Answered → Status
+abbrev pub status_of_all : List ReplyOrRefusal → Status
 status_of_all answers = fold status_with Done answers
 
 -- each of these pairings was told what it was answered
-pub record AreTold (plans : List Plan) (answers : List Answered) (status : Status) (out out' : Held) : Type 0 where
+pub record AreTold (plans : List Plan) (answers : List ReplyOrRefusal) (status : Status) (out out' : StreamBytes) : Type 0 where
   pub each : length answers ≡ length plans
   pub printed : Appends out out' (part_lines 1 answers)
   pub ends : status ≡ status_of_all answers
 
 -- the answers were the book's, where its state is known
-pub record AreAdded {S : Type 0} (g : Ghosts S) (old new : Kept S) (number : ℕ) (plans : List Plan) (status : Status) (out out' : Held) : Type 0 where
-  pub answers : List Answered
+pub record AreAddedAndTold {S : Type 0} (g : Ghosts S) (old new : Kept S) (number : ℕ) (plans : List Plan) (status : Status) (out out' : StreamBytes) : Type 0 where
+  pub answers : List ReplyOrRefusal
   pub told : AreTold plans answers status out out'
   pub answered : (s : State) → IsDurablyAt g old s → IsClean g new → answers ≡ Replies s (import number plans)
   pub left : (s : State) → IsDurablyAt g old s → IsDurablyAt g new (Fold s (import number plans))
 
 -- the text is no schedule, which was told with the record at fault
-pub record IsNoSchedule (text : List ℕ) (status : Status) (out out' err err' : Held) : Type 0 where
+pub record IsNoSchedule (text : List ℕ) (status : Status) (out out' err err' : StreamBytes) : Type 0 where
   pub line : ℕ
   pub at_fault : IsAtFault text line
   pub ends : status ≡ Refused
   pub prints : out' ≡ out
-  pub complains : Appends err err' (refused (codes "30 BadCsv " ++ decimal line))
+  pub complains : Appends err err' (refused_line (codes "30 BadCsv " ++ decimal line))
 
 -- a schedule was read, and its pairings were told their answers; or it was none
-pub record IsImportTold (held out out' err err' : Held) (status : Status) : Type 0 where
+pub record IsImportTold (held out out' err err' : StreamBytes) (status : Status) : Type 0 where
   pub text : List ℕ
-  pub read : Reads held text
+  pub read : ReadsInput held text
   pub told : IsNoSchedule text status out out' err err'
-      ⊎ ((plans : List Plan) × (answers : List Answered) × IsSchedule text plans × AreTold plans answers status out out' × (err' ≡ err))
+      ⊎ ((plans : List Plan) × (answers : List ReplyOrRefusal) × IsSchedule text plans × AreTold plans answers status out out' × (err' ≡ err))
 
 -- the same of a book
-pub record IsImported {S : Type 0} (g : Ghosts S) (old new : Kept S) (number : ℕ) (held out out' err err' : Held) (status : Status) : Type 0 where
+pub record IsImported {S : Type 0} (g : Ghosts S) (old new : Kept S) (number : ℕ) (held out out' err err' : StreamBytes) (status : Status) : Type 0 where
   pub text : List ℕ
-  pub read : Reads held text
+  pub read : ReadsInput held text
   pub done : (IsNoSchedule text status out out' err err' × (new ≡ old))
-      ⊎ ((plans : List Plan) × IsSchedule text plans × AreAdded g old new number plans status out out' × (err' ≡ err))
+      ⊎ ((plans : List Plan) × IsSchedule text plans × AreAddedAndTold g old new number plans status out out' × (err' ≡ err))
 
 -- the program stopped among these pairings: at a fault of the book (90, 91) just the lines of what was answered were printed
-pub record AreStopped {S : Type 0} (g : Ghosts S) (old new : Kept S) (number : ℕ) (plans : List Plan) (out out' : Held) (stop : Stop) : Type 0 where
-  pub answers : List Answered
+pub record AreStopped {S : Type 0} (g : Ghosts S) (old new : Kept S) (number : ℕ) (plans : List Plan) (out out' : StreamBytes) (stop : Stop) : Type 0 where
+  pub answers : List ReplyOrRefusal
   pub asked : IsStoppedIn g old new (import number plans) answers stop
-  pub printed : IsOfBook stop → Appends out out' (part_lines 1 answers)
+  pub printed : IsBookFault stop → Appends out out' (part_lines 1 answers)
 
 -- the program stopped before it added anything, or among the pairings of the schedule that was read
-abbrev pub IsImportStopped : {S : Type 0} → Ghosts S → Kept S → Kept S → ℕ → Held → Held → Held → Held → Held → Stop → Type 0
+abbrev pub IsImportStopped : {S : Type 0} → Ghosts S → Kept S → Kept S → ℕ → StreamBytes → StreamBytes → StreamBytes → StreamBytes → StreamBytes → Stop → Type 0
 IsImportStopped g old new number held out out' err err' stop =
     IsUnasked old new out out' stop
-    ⊎ ((text : List ℕ) × (plans : List Plan) × Reads held text × IsSchedule text plans
+    ⊎ ((text : List ℕ) × (plans : List Plan) × ReadsInput held text × IsSchedule text plans
     × AreStopped g old new number plans out out' stop
     × (err' ≡ err))

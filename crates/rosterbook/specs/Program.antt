@@ -2,13 +2,13 @@
 use Rattle.std.specs.Prelude.{◌≡◌, ℕ, Bool, true, false, List, [], ◌++◌, codes, map, string_bytes, Result, Ok, Err}
 use Rattle.std.specs.Io.KnownBytes.{Appends}
 use Rattle.time117.specs.Local.{is_zone_text}
-use Rattle.rosterbook.specs.Asking.{Answered, IsImportTold, IsTold}
+use Rattle.rosterbook.specs.Asking.{ReplyOrRefusal, IsImportTold, IsRequestReadAndTold}
 use Rattle.rosterbook.specs.Serving.{IsServeTold}
 use Rattle.rosterbook.specs.Showing.{IsToldOf}
 use Rattle.roster.specs.State.{State}
 use Rattle.store.specs.declared.show.Show.TheVariants as show
 use Rattle.period_verdict.specs.FaultText.{line_fault_text}
-pub use Rattle.rosterbook.specs.Streams.{Held, line_end, refused}
+pub use Rattle.rosterbook.specs.Streams.{StreamBytes, line_end, refused_line}
 use Rattle.writing.specs.Faults.{create_text}
 use Rattle.writing.specs.declared.fault.CreateFault.{CreateFault}
 use Rattle.period_verdict.specs.Verdict.{Line, line_of}
@@ -27,7 +27,7 @@ exit_status Usage = 2
 exit_status Failed = 3
 
 -- a status, and the bytes of standard output and standard error
-pub record Answer : Type 0 where
+pub record ProgramOutput : Type 0 where
   pub status : Status
   pub out : List ℕ
   pub err : List ℕ
@@ -39,51 +39,51 @@ verdict_status false = Refused
 
 -- the line of a refusal
 abbrev pub refusal_line : LineFault → List ℕ
-refusal_line fault = refused (line_fault_text fault)
+refusal_line fault = refused_line (line_fault_text fault)
 
 -- what `duty` answers: the line, or the refusal
-abbrev pub duty_answer : Result Line LineFault → Answer
+abbrev pub duty_answer : Result Line LineFault → ProgramOutput
 duty_answer (Ok line) = record { status = verdict_status line.1; out = line.0 ++ line_end; err = [] }
 duty_answer (Err fault) = record { status = Refused; out = []; err = refusal_line fault }
 
 -- want of memory, before anything was written
-abbrev pub memory_answer : Answer
+abbrev pub memory_answer : ProgramOutput
 memory_answer = record { status = Failed; out = []; err = refusal_line Memory }
 
 -- a book was made
-abbrev pub ready : Answer
+abbrev pub ready : ProgramOutput
 ready = record { status = Done; out = codes "ready" ++ line_end; err = [] }
 
 -- no book was made
-abbrev pub unmade : CreateFault → Answer
-unmade fault = record { status = Failed; out = []; err = refused (create_text fault) }
+abbrev pub unmade : CreateFault → ProgramOutput
+unmade fault = record { status = Failed; out = []; err = refused_line (create_text fault) }
 
 -- whether the text is a zone's
-abbrev pub init_answer : Bool → Answer
+abbrev pub init_answer : Bool → ProgramOutput
 init_answer true = ready
 init_answer false = record { status = Refused; out = []; err = refusal_line Zone }
 
 -- the answer was given whole: its status, and its bytes at the end of what the two writers held
-pub record Gives (answer : Answer) (status : Status) (out out' err err' : Held) : Type 0 where
+pub record Gives (answer : ProgramOutput) (status : Status) (out out' err err' : StreamBytes) : Type 0 where
   pub ends : status ≡ answer.status
   pub prints : Appends out out' answer.out
   pub complains : Appends err err' answer.err
 
 -- the action was answered whole, by what a reader has
-abbrev pub Performs : Action → Status → Held → Held → Held → Held → Held → Type 0
-Performs (Duty zone report times) status held out out' err err' =
+abbrev pub PerformsAction : Action → Status → StreamBytes → StreamBytes → StreamBytes → StreamBytes → StreamBytes → Type 0
+PerformsAction (Duty zone report times) status held out out' err err' =
     Gives (duty_answer (line_of (string_bytes zone) (string_bytes report) (map string_bytes times.items))) status out out' err err'
-Performs (Init file zone) status held out out' err err' =
+PerformsAction (Init file zone) status held out out' err err' =
     Gives (init_answer (is_zone_text (string_bytes zone))) status out out' err err'
-Performs (Do file) status held out out' err err' =
-    (input : List ℕ) × (answer : Answered) × IsTold held out out' status input answer × (err' ≡ err)
-Performs (Import file number) status held out out' err err' = IsImportTold held out out' err err' status
-Performs (Roster file crew) status held out out' err err' = (s : State) × IsToldOf s (show.Crew (string_bytes crew)) status out out' err err'
-Performs (Pairing file id) status held out out' err err' = (s : State) × IsToldOf s (show.Pairing (string_bytes id)) status out out' err err'
-Performs (Exceedances file) status held out out' err err' = (s : State) × IsToldOf s show.Exceedances status out out' err err'
-Performs (Serve file port connections) status held out out' err err' = IsServeTold port connections out out' err err' status
+PerformsAction (Do file) status held out out' err err' =
+    (input : List ℕ) × (answer : ReplyOrRefusal) × IsRequestReadAndTold held out out' status input answer × (err' ≡ err)
+PerformsAction (Import file number) status held out out' err err' = IsImportTold held out out' err err' status
+PerformsAction (Roster file crew) status held out out' err err' = (s : State) × IsToldOf s (show.Crew (string_bytes crew)) status out out' err err'
+PerformsAction (Pairing file id) status held out out' err err' = (s : State) × IsToldOf s (show.Pairing (string_bytes id)) status out out' err err'
+PerformsAction (Exceedances file) status held out out' err err' = (s : State) × IsToldOf s show.Exceedances status out out' err err'
+PerformsAction (Serve file port connections) status held out out' err err' = IsServeTold port connections out out' err err' status
 
 -- the same, with this exit status
-abbrev pub IsPerformed : Action → ℕ → Held → Held → Held → Held → Held → Type 0
+abbrev pub IsPerformed : Action → ℕ → StreamBytes → StreamBytes → StreamBytes → StreamBytes → StreamBytes → Type 0
 IsPerformed action code held out out' err err' =
-    (status : Status) × (code ≡ exit_status status) × Performs action status held out out' err err'
+    (status : Status) × (code ≡ exit_status status) × PerformsAction action status held out out' err err'

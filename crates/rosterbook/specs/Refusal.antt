@@ -5,8 +5,8 @@ use Rattle.rosterbook.specs.declared.status.Status.{Status}
 use Rattle.rosterbook.specs.declared.status.Status.TheVariants.{Done, Usage, Failed}
 
 -- help and the version were asked for, memory ran out, and all else is a mistake
-abbrev pub status_of : ErrorKind → Status
-status_of DisplayHelp = Done
-status_of DisplayVersion = Done
-status_of OutOfMemory = Failed
-status_of _ = Usage
+abbrev pub status_of_error : ErrorKind → Status
+status_of_error DisplayHelp = Done
+status_of_error DisplayVersion = Done
+status_of_error OutOfMemory = Failed
+status_of_error _ = Usage

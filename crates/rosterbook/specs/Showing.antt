@@ -12,8 +12,8 @@ use Rattle.book.specs.Kept.{Kept}
 use Rattle.store.specs.Shown.{IsShown}
 use Rattle.store.specs.declared.show.Show.{Show}
 use Rattle.store.specs.declared.show.Show.TheVariants.{Crew, Pairing, Exceedances}
-use Rattle.rosterbook.specs.Streams.{Held, IsOfChannel, refused}
-use Rattle.rosterbook.specs.Asking.{IsOfBook}
+use Rattle.rosterbook.specs.Streams.{StreamBytes, IsOfChannel, refused_line}
+use Rattle.rosterbook.specs.Asking.{IsBookFault}
 use Rattle.rosterbook.specs.declared.status.Status.{Status}
 use Rattle.rosterbook.specs.declared.status.Status.TheVariants.{Done, Refused}
 use Rattle.rosterbook.specs.declared.stop.Stop.{Stop}
@@ -26,24 +26,24 @@ IsAbsence (Pairing id) fault = fault ≡ NoSuchPairing
 IsAbsence Exceedances fault = ⊥
 
 -- a text is printed, and that there is none is told
-abbrev pub Tells : Show → Option (List ℕ) → Status → Held → Held → Held → Held → Type 0
-Tells what (Some text) status out out' err err' = (status ≡ Done) × Appends out out' text × (err' ≡ err)
-Tells what None status out out' err err' =
-    (status ≡ Refused) × (out' ≡ out) × ((fault : ReportFault) × IsAbsence what fault × Appends err err' (refused (report_fault_text fault)))
+abbrev pub PrintsText : Show → Option (List ℕ) → Status → StreamBytes → StreamBytes → StreamBytes → StreamBytes → Type 0
+PrintsText what (Some text) status out out' err err' = (status ≡ Done) × Appends out out' text × (err' ≡ err)
+PrintsText what None status out out' err err' =
+    (status ≡ Refused) × (out' ≡ out) × ((fault : ReportFault) × IsAbsence what fault × Appends err err' (refused_line (report_fault_text fault)))
 
 -- what a state shows was told
-pub record IsToldOf (s : State) (what : Show) (status : Status) (out out' err err' : Held) : Type 0 where
+pub record IsToldOf (s : State) (what : Show) (status : Status) (out out' err err' : StreamBytes) : Type 0 where
   pub shown : Option (List ℕ)
   pub is : IsShown s what shown
-  pub told : Tells what shown status out out' err err'
+  pub told : PrintsText what shown status out out' err err'
 
 -- a text is what a state shows; there is none where it shows nothing, or for want of memory
-abbrev pub IsTextOf : State → Show → Result (String Global) ReportFault → Type 0
-IsTextOf s what (Ok text) = IsShown s what (Some (string_bytes text))
-IsTextOf s what (Err fault) = (fault ≡ Memory) ⊎ (IsShown s what None × IsAbsence what fault)
+abbrev pub IsShownTextOrFault : State → Show → Result (String Global) ReportFault → Type 0
+IsShownTextOrFault s what (Ok text) = IsShown s what (Some (string_bytes text))
+IsShownTextOrFault s what (Err fault) = (fault ≡ Memory) ⊎ (IsShown s what None × IsAbsence what fault)
 
 -- the program stopped: nothing was printed before the text was there
-pub record IsShowStopped {S : Type 0} (new : Kept S) (out out' : Held) (stop : Stop) : Type 0 where
-  pub told : IsOfBook stop ⊎ IsOfChannel stop
-  pub silent : IsOfBook stop → out' ≡ out
+pub record IsShowStopped {S : Type 0} (new : Kept S) (out out' : StreamBytes) (stop : Stop) : Type 0 where
+  pub told : IsBookFault stop ⊎ IsOfChannel stop
+  pub silent : IsBookFault stop → out' ≡ out
   pub failed : stop ≡ Book Store → IsTrue new.failed

@@ -34,8 +34,9 @@ pub(crate) fn answer_do<R: Read, O: Write>(
     reader: &mut R,
     out: &mut O,
 ) -> Result<Status, Stop>
-    ensures { IfOk result (λ status. (input : List ℕ) × (answer : spec.Answered)
-        × spec.IsTold (R.remaining reader.old) (O.contents out.old) (O.contents out.new)
+    ensures { IfOk result (λ status. (input : List ℕ) × (answer : spec.ReplyOrRefusal)
+        × spec.IsRequestReadAndTold (R.remaining reader.old) (O.contents out.old)
+        (O.contents out.new)
         status input answer) }
 {
     ask_once(rt.alloc(), FileBook::open(rt, file)?, reader, out)
@@ -48,8 +49,9 @@ fn ask_once<D: Disk + Drop, R: Read, O: Write>(
     reader: &mut R,
     out: &mut O,
 ) -> Result<Status, Stop>
-    ensures { IfOk result (λ status. (input : List ℕ) × (answer : spec.Answered)
-        × spec.IsTold (R.remaining reader.old) (O.contents out.old) (O.contents out.new)
+    ensures { IfOk result (λ status. (input : List ℕ) × (answer : spec.ReplyOrRefusal)
+        × spec.IsRequestReadAndTold (R.remaining reader.old) (O.contents out.old)
+        (O.contents out.new)
         status input answer) }
 {
     let done = ask_json(alloc, &mut book, reader, out);
@@ -66,7 +68,7 @@ pub fn ask_json<S: Alter, R: Read, O: Write>(
     reader: &mut R,
     out: &mut O,
 ) -> Result<Status, Stop>
-    ensures asked { IfOk result (λ status. spec.IsAsked S.Store book.old book.new
+    ensures asked { IfOk result (λ status. spec.IsRequestAnswered S.Store book.old book.new
         (R.remaining reader.old) (O.contents out.old) (O.contents out.new) status) }
     ensures stopped { IfErr result (λ stop. spec.IsAskStopped S.Store book.old book.new
         (R.remaining reader.old) (O.contents out.old) (O.contents out.new) stop) }
@@ -79,14 +81,14 @@ pub fn ask_json<S: Alter, R: Read, O: Write>(
 
 /// Asks a book the body of a request.
 fn ask_body<S: Alter>(alloc: Global, book: &mut Book<S>, body: &[u8]) -> Result<Told, Stop>
-    ensures told { IfOk result (λ told. (answer : spec.Answered)
+    ensures told { IfOk result (λ told. (answer : spec.ReplyOrRefusal)
         × ((told.status, string_bytes told.line) ≡ spec.told_json (read_request body.now) answer)
         × ((s : State) → IsDurablyAt S.Store book.old s → IsClean S.Store book.new
         → spec.Answers s (read_request body.now) answer)
         × ((s : State) → IsDurablyAt S.Store book.old s
-        → IsDurablyAt S.Store book.new (spec.left_by s (read_request body.now)))) }
-    ensures stopped { IfErr result (λ stop. (answers : List spec.Answered)
-        × spec.IsStoppedIn S.Store book.old book.new (spec.commands_of (read_request body.now))
+        → IsDurablyAt S.Store book.new (spec.left_by_request s (read_request body.now)))) }
+    ensures stopped { IfErr result (λ stop. (answers : List spec.ReplyOrRefusal)
+        × spec.IsStoppedIn S.Store book.old book.new (spec.asked_by_request (read_request body.now))
         answers stop) }
 {
     match command_of_json(alloc, body) {
@@ -108,14 +110,14 @@ fn ask_command<S: Alter>(
     key: Key,
     command: &Command,
 ) -> Result<Told, Stop>
-    ensures told { IfOk result (λ told. (answer : spec.Answered)
-        × (told.status ≡ spec.status_of answer)
+    ensures told { IfOk result (λ told. (answer : spec.ReplyOrRefusal)
+        × (told.status ≡ spec.status_of_answer answer)
         × (string_bytes told.line ≡ spec.answer_json answer)
         × ((s : State) → IsDurablyAt S.Store book.old s → IsClean S.Store book.new
         → answer ≡ answer_of (step_of s key command.now))
         × ((s : State) → IsDurablyAt S.Store book.old s
         → IsDurablyAt S.Store book.new (next s (key, command.now)))) }
-    ensures stopped { IfErr result (λ stop. (answers : List spec.Answered)
+    ensures stopped { IfErr result (λ stop. (answers : List spec.ReplyOrRefusal)
         × spec.IsStoppedIn S.Store book.old book.new ((key, command.now) ∷ []) answers stop) }
 {
     let answer = book.ask(alloc, key, command)?;
@@ -124,7 +126,8 @@ fn ask_command<S: Alter>(
 
 /// Writes what a book's answer is told as.
 fn line_of(alloc: Global, answer: &Answer) -> Result<Told, MemoryFault>
-    ensures status { IfOk result (λ told. told.status ≡ spec.status_of (result_of answer.now)) }
+    ensures status { IfOk result
+        (λ told. told.status ≡ spec.status_of_answer (result_of answer.now)) }
     ensures line { IfOk result
         (λ told. string_bytes told.line ≡ spec.answer_json (result_of answer.now)) }
 {

@@ -94,7 +94,7 @@ fn add_all<S: Alter, O: Write>(
     out: &mut O,
 ) -> Result<Status, Stop>
     requires { length pairings.items ≤ 10_000 }
-    ensures added { IfOk result (λ status. spec.AreAdded S.Store book.old book.new number
+    ensures added { IfOk result (λ status. spec.AreAddedAndTold S.Store book.old book.new number
         pairings.items status (O.contents out.old) (O.contents out.new)) }
     ensures stopped { IfErr result (spec.AreStopped S.Store book.old book.new number pairings.items
         (O.contents out.old) (O.contents out.new)) }

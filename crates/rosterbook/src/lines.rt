@@ -16,7 +16,7 @@ const MOST: u64 = MOST_BYTES as u64 + 1;
 
 /// Reads what a reader gives, and no more than is needed to find it too long.
 pub(crate) fn read_input<R: Read>(alloc: Global, reader: &mut R) -> io::Result<Vec<u8>>
-    ensures { IfOk result (λ input. spec.Reads (R.remaining reader.old) input.items) }
+    ensures { IfOk result (λ input. spec.ReadsInput (R.remaining reader.old) input.items) }
 {
     let mut bytes = Vec::new(alloc);
     reader.take(MOST).read_to_end(&mut bytes)?;
@@ -43,7 +43,8 @@ pub(crate) fn write_text<W: Write>(writer: &mut W, text: &str) -> io::Result<()>
 /// Writes the line of a refusal at once.
 pub(crate) fn refuse<W: Write, F: Display>(writer: &mut W, fault: &F) -> io::Result<()>
     ensures { IfSome (F.output fault.now) (λ text.
-        OnOk result (Appends (W.contents writer.old) (W.contents writer.new) (spec.refused text))) }
+        OnOk result (Appends (W.contents writer.old) (W.contents writer.new)
+        (spec.refused_line text))) }
 {
     writeln!(writer, "refused {fault}")?;
     writer.flush()

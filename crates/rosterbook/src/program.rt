@@ -45,7 +45,8 @@ fn try_perform<R: Read, O: Write, E: Write>(
     err: &mut E,
 ) -> Result<Status, Stop>
     ensures { IfOk result
-        (λ status. status ≢ Status.Failed → spec.Performs action.now status (R.remaining reader.old)
+        (λ status. status ≢ Status.Failed
+        → spec.PerformsAction action.now status (R.remaining reader.old)
         (O.contents out.old) (O.contents out.new) (E.contents err.old) (E.contents err.new)) }
 {
     match action {

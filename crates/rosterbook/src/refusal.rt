@@ -4,7 +4,7 @@ ghost use Rattle.std.specs.Prelude.{◌≡◌, ◌≢◌, ◌⊎◌, IfOk, OnOk,
 ghost use Rattle.std.specs.Io.KnownBytes.{Appends};
 ghost use Rattle.clap.specs.Words.{kind_of};
 ghost use Rattle.rosterbook.specs.Program.{exit_status};
-ghost use Rattle.rosterbook.specs.Refusal.{status_of};
+ghost use Rattle.rosterbook.specs.Refusal.{status_of_error};
 
 use crate::program::status_after;
 use crate::status::Status;
@@ -18,9 +18,9 @@ use std::io::Write;
 /// line `refused 91 Memory` on `err` with status 3, and where a writer fails the line is
 /// `refused 92 Channel` with status 3.
 pub fn tell_refusal<O: Write, E: Write>(error: &Error, out: &mut O, err: &mut E) -> u8
-    ensures status { (result ≡ exit_status (status_of (kind_of error.now)))
+    ensures status { (result ≡ exit_status (status_of_error (kind_of error.now)))
         ⊎ (result ≡ exit_status Status.Failed) }
-    ensures out { status_of (kind_of error.now) ≢ Status.Done → out.new ≡ out.old }
+    ensures out { status_of_error (kind_of error.now) ≢ Status.Done → out.new ≡ out.old }
     ensures err { result ≡ exit_status Status.Done → err.new ≡ err.old }
 {
     let done = write_refusal(error, out, err);
@@ -33,9 +33,9 @@ fn write_refusal<O: Write, E: Write>(
     out: &mut O,
     err: &mut E,
 ) -> Result<Status, Stop>
-    ensures status { IfOk result (λ s. s ≡ status_of (kind_of error.now)) }
-    ensures out { status_of (kind_of error.now) ≢ Status.Done → out.new ≡ out.old }
-    ensures err { status_of (kind_of error.now) ≡ Status.Done → err.new ≡ err.old }
+    ensures status { IfOk result (λ s. s ≡ status_of_error (kind_of error.now)) }
+    ensures out { status_of_error (kind_of error.now) ≢ Status.Done → out.new ≡ out.old }
+    ensures err { status_of_error (kind_of error.now) ≡ Status.Done → err.new ≡ err.old }
     ensures memory { kind_of error.now ≡ ErrorKind.OutOfMemory
         → OnOk result
         (Appends (E.contents err.old) (E.contents err.new) (codes "refused 91 Memory\n")) }

@@ -103,7 +103,8 @@ fn listen<V: Server, O: Write, E: Write>(
     err: &mut E,
 ) -> Result<Status, Stop>
     ensures served { IfOk result
-        (spec.IsServed V.serves V.fails port connections server.old server.new (O.contents out.old)
+        (spec.IsServeDone V.serves V.fails port connections server.old server.new
+        (O.contents out.old)
         (O.contents out.new) (E.contents err.old) (E.contents err.new)) }
     ensures stopped { IfErr result
         (spec.IsServeStopped V.serves V.fails port connections server.old server.new
@@ -124,7 +125,7 @@ fn tell_port<O: Write>(out: &mut O, port: u16) -> io::Result<()>
 
 /// Returns how the program ends after connections were served.
 fn status_of(ending: Ending) -> Result<Status, Stop>
-    ensures { result ≡ spec.status_of ending.failed ending.told }
+    ensures { result ≡ spec.status_of_serve ending.failed ending.told }
 {
     if ending.failed {
         Err(Stop::Book(BookFault::Store))

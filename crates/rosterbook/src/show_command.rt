@@ -7,7 +7,7 @@ ghost use Rattle.roster.specs.State.{State};
 ghost use Rattle.book.specs.Kept.{IsDurablyAt, IsClean};
 ghost use Rattle.store.specs.declared.show.Show.TheVariants as show;
 ghost use Rattle.rosterbook.specs.Showing as spec;
-ghost use Rattle.rosterbook.specs.Streams.{IsOfChannel, refused};
+ghost use Rattle.rosterbook.specs.Streams.{IsOfChannel, refused_line};
 
 use crate::lines::{refuse, write_text};
 use crate::status::Status;
@@ -130,7 +130,8 @@ pub fn show_text<S: Alter, O: Write, E: Write>(
 /// Tells that the member or the pairing isn't there, or stops for want of memory.
 fn tell_absence<E: Write>(fault: ReportFault, err: &mut E) -> Result<Status, Stop>
     ensures told { IfOk result (λ status. (status ≡ Status.Refused) × (fault ≢ ReportFault.Memory)
-        × Appends (E.contents err.old) (E.contents err.new) (refused (report_fault_text fault))) }
+        × Appends (E.contents err.old) (E.contents err.new)
+        (refused_line (report_fault_text fault))) }
     ensures stopped { IfErr result IsOfChannel }
 {
     match fault {
@@ -148,9 +149,9 @@ fn shown_by<S: Alter>(
     book: &mut Book<S>,
     what: &Show,
 ) -> Result<Result<String, ReportFault>, BookFault>
-    ensures some { IfOk result (λ text. (s : State) × spec.IsTextOf s what.now text) }
+    ensures some { IfOk result (λ text. (s : State) × spec.IsShownTextOrFault s what.now text) }
     ensures text { (s : State) → IsDurablyAt S.Store book.old s → IsClean S.Store book.new
-        → IfOk result (λ text. spec.IsTextOf s what.now text) }
+        → IfOk result (λ text. spec.IsShownTextOrFault s what.now text) }
     ensures kept { (s : State) → IsDurablyAt S.Store book.old s → IsDurablyAt S.Store book.new s }
     ensures failed { IfErr result (λ fault. fault ≡ BookFault.Store → IsTrue book.new.failed) }
 {
@@ -160,7 +161,7 @@ fn shown_by<S: Alter>(
 
 /// Writes a text of a roster.
 fn text_of(alloc: Global, roster: &Roster, what: &Show) -> Result<String, ReportFault>
-    ensures { spec.IsTextOf roster.now what.now result }
+    ensures { spec.IsShownTextOrFault roster.now what.now result }
 {
     match what {
         Show::Crew(who) => roster_text(alloc, roster, who),

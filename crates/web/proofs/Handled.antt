@@ -31,8 +31,8 @@ use Rattle.http_exchange.specs.Handler.{StatusText, submit}
 use Rattle.http_exchange.specs.declared.handler.HandlerFault.{HandlerFault}
 use Rattle.http_exchange.specs.declared.handler.HandlerFault.TheVariants.{Store, Memory}
 use Rattle.web.specs.Acts.{Commands, IsReport, command_of, commands_of, request_answer, show_of}
-use Rattle.web.specs.Answers.{Tells, command_answer, fault_answer, parts_answer}
-use Rattle.web.specs.Handling.{AreAdded, AreToldAs, IsAsked, IsAskedIn, IsHandled, IsKept, IsLeft, IsReportOf, IsReportToldAs, IsToldAs, is_store_fault}
+use Rattle.web.specs.Answers.{TellsAnswer, command_answer, fault_answer, parts_answer}
+use Rattle.web.specs.Handling.{AreAdded, AreToldAs, IsCommandAsked, IsAskedIn, IsHandled, HoldsWhateverIsAsked, IsLeftByCommands, IsReportOf, IsReportToldAs, IsToldAs, answers_store_fault}
 
 pub or_false : (b : Bool) → b ≡ (b || false)
 or_false true = refl
@@ -56,7 +56,7 @@ pub still : {S : Type 0} (g : Ghosts S) (now : Kept S) (s : State) → HasTables
 still g now s has = λ clean is_open. (has clean).1
 
 module _ {S : Type 0} (g : Ghosts S) (book : Kept S) where
-  unasked_kept : (result : Result StatusText HandlerFault) → is_store_fault result ≡ false → IsKept g book book result
+  unasked_kept : (result : Result StatusText HandlerFault) → answers_store_fault result ≡ false → HoldsWhateverIsAsked g book book result
   unasked_kept result none = record {
     failed = or_false book.failed ∙ ap (λ b. book.failed || b) (sym none);
     shut = λ _. refl;
@@ -73,7 +73,7 @@ module _ {S : Type 0} (g : Ghosts S) (book : Kept S) where
   none_added number plans = record { kept = unasked_kept (Err Memory) refl; done = λ s at. (0, at, λ has. still g book s has) }
 
   -- a body that isn't read asks nothing
-  pub command_unread : (body : List ℕ) (fault : CodecFault) (told : Result StatusText HandlerFault) → read_request body ≡ Err fault → Tells (fault_answer fault) told
+  pub command_unread : (body : List ℕ) (fault : CodecFault) (told : Result StatusText HandlerFault) → read_request body ≡ Err fault → TellsAnswer (fault_answer fault) told
       → IsHandled g book book (submit Command body) told
   command_unread body fault (Ok answer) is tells = record {
     kept = unasked_kept (Ok answer) refl;
@@ -83,7 +83,7 @@ module _ {S : Type 0} (g : Ghosts S) (book : Kept S) where
   command_unread body fault (Err Memory) is tells = no_memory (submit Command body)
 
   pub schedule_unread : (number : ℕ) (body : List ℕ) (fault : CodecFault) (line : ℕ) (told : Result StatusText HandlerFault) → fault ≡ BadCsv line → IsAtFault body line
-      → Tells (fault_answer fault) told → IsHandled g book book (submit (Import number) body) told
+      → TellsAnswer (fault_answer fault) told → IsHandled g book book (submit (Import number) body) told
   schedule_unread number body fault line (Ok answer) is at_fault tells = record {
     kept = unasked_kept (Ok answer) refl;
     done = λ s at. (
@@ -109,7 +109,7 @@ module _ {S : Type 0} (g : Ghosts S) (old new : Kept S) where
       → ((s : State) → IsDurablyAt g old s → HasTables g old s → OnErr r (StillHasTables g new s))
       → ((s : State) → IsDurablyAt g old s → Honest s → CrashLeaves (state g new.held) Honest)
       → CrashAddsOnly (state g old.held) (state g new.held) (KeepOthers (state g old.held).now)
-      → IsAsked g old new asked told
+      → IsCommandAsked g old new asked told
   asked_by asked (Ok a) (Ok answer) tells failed shut clean reply answered tables memory store shown honest others = record {
     kept = record { failed = failed; shut = λ f. (shut f).1; disk = clean; honest = honest; others_left = others };
     done = λ s at. ((λ c. tells ∙ ap command_answer (reply s at c)), (answered s at, λ t. tables s at t));
@@ -120,27 +120,27 @@ module _ {S : Type 0} (g : Ghosts S) (old new : Kept S) where
     done = λ s at. inr (answered s at, λ t. still g new (folds.next s asked) (tables s at t));
   }
   asked_by asked (Err fault.Store) told tells failed shut clean reply answered tables memory store shown honest others =
-      subst (IsAsked g old new asked) (sym tells) (record {
+      subst (IsCommandAsked g old new asked) (sym tells) (record {
         kept = record { failed = failed; shut = λ f. (shut f).1; disk = clean; honest = honest; others_left = others };
         done = λ s at. store s at refl;
       })
   asked_by asked (Err fault.Memory) told tells failed shut clean reply answered tables memory store shown honest others =
-      subst (IsAsked g old new asked) (sym tells) (record {
+      subst (IsCommandAsked g old new asked) (sym tells) (record {
         kept = record { failed = failed; shut = λ f. (shut f).1; disk = clean; honest = honest; others_left = others };
         done = λ s at. inl (memory s at refl, λ t. shown s at t);
       })
 
   pub command_read : (body : List ℕ) (number : ℕ) (instruction : Instruction) (key : KeyParts) (told : Result StatusText HandlerFault) → read_request body ≡ Ok (number, instruction)
-      → key ≡ record { number = number; part = 0 } → IsAsked g old new (key, instruction) told → IsHandled g old new (submit Command body) told
+      → key ≡ record { number = number; part = 0 } → IsCommandAsked g old new (key, instruction) told → IsHandled g old new (submit Command body) told
   command_read body number instruction key told is under it =
-      go told (subst (λ k. IsAsked g old new (k, instruction) told) under it)
+      go told (subst (λ k. IsCommandAsked g old new (k, instruction) told) under it)
     where
-      go : (told : Result StatusText HandlerFault) → IsAsked g old new (command_of (number, instruction)) told → IsHandled g old new (submit Command body) told
+      go : (told : Result StatusText HandlerFault) → IsCommandAsked g old new (command_of (number, instruction)) told → IsHandled g old new (submit Command body) told
       go (Ok answer) asked = record { kept = asked.kept; done = λ s at. let did = asked.done s at in rw is (did.0, (command_of (number, instruction) ∷ [], refl, did.1)) }
       go (Err Store) asked = record { kept = asked.kept; done = λ s at. rw is (command_of (number, instruction) ∷ [], refl, (0, asked.done s at)) }
       go (Err Memory) asked = record { kept = asked.kept; done = λ s at. inr (rw is (command_of (number, instruction) ∷ [], refl, begun s (asked.done s at))) }
         where
-          begun : (s : State) → IsAskedIn g old new s (command_of (number, instruction)) (Err Memory) → IsLeft g old new s (command_of (number, instruction) ∷ []) (Err Memory)
+          begun : (s : State) → IsAskedIn g old new s (command_of (number, instruction)) (Err Memory) → IsLeftByCommands g old new s (command_of (number, instruction) ∷ []) (Err Memory)
           begun s (inl (at, shown)) = (0, at, shown)
           begun s (inr (at, shown)) = (1, at, shown)
 
@@ -226,7 +226,7 @@ module _ {S : Type 0} (g : Ghosts S) (old new : Kept S) where
       go r told (subst (λ w. IsReportToldAs r w told) is tells) failed (λ f. (shut f).1)
       (λ s at c. subst (λ w. IfOk r (λ roster. (shown : Option (List ℕ)) → IsShown roster w shown ↔ IsShown s w shown)) is (text s at c)) tables
     where
-      kept_so : (told : Result StatusText HandlerFault) → new.failed ≡ (old.failed || is_store_fault told) → (IsTrue old.failed → new ≡ old) → IsKept g old new told
+      kept_so : (told : Result StatusText HandlerFault) → new.failed ≡ (old.failed || answers_store_fault told) → (IsTrue old.failed → new ≡ old) → HoldsWhateverIsAsked g old new told
       kept_so told failed shut = record {
         failed = failed;
         shut = shut;

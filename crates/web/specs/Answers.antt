@@ -43,21 +43,21 @@ refusal_status NoSuchGround = 409
 refusal_status (SegmentCount period) = 422
 
 -- what the book answers a command, or a part of an import
-abbrev pub Answered : Type 0
-Answered = Result Reply Refusal
+abbrev pub ReplyResult : Type 0
+ReplyResult = Result Reply Refusal
 
 -- its text in JSON
-abbrev pub answer_text : Answered → List ℕ
+abbrev pub answer_text : ReplyResult → List ℕ
 answer_text (Ok reply) = reply_text reply
 answer_text (Err refusal) = refusal_json_text refusal
 
 -- the status of an answer: 200, or that of its refusal
-abbrev pub answer_status : Answered → ℕ
+abbrev pub answer_status : ReplyResult → ℕ
 answer_status (Ok reply) = 200
 answer_status (Err refusal) = refusal_status refusal
 
 -- the answer to a command
-abbrev pub command_answer : Answered → StatusText
+abbrev pub command_answer : ReplyResult → StatusText
 command_answer answer = json (answer_status answer) (answer_text answer)
 
 -- why a body isn't read
@@ -67,16 +67,16 @@ fault_answer fault = json 422 (fault_reply fault)
 -- ---- Imports
 
 -- the texts of all parts in turn, with a comma between
-abbrev pub with_commas : List Answered → List ℕ
+abbrev pub with_commas : List ReplyResult → List ℕ
 with_commas [] = []
 with_commas (first ∷ others) = answer_text first ++ flat_map (λ a. codes "," ++ answer_text a) others
 
 -- the answers to the parts of an import, as one text
-abbrev pub parts_text : List Answered → List ℕ
+abbrev pub parts_text : List ReplyResult → List ℕ
 parts_text answers = codes "{\"parts\":[" ++ with_commas answers ++ codes "]}"
 
 -- what each part was answered, refused ones too
-abbrev pub parts_answer : List Answered → StatusText
+abbrev pub parts_answer : List ReplyResult → StatusText
 parts_answer answers = json 200 (parts_text answers)
 
 -- ---- Reports
@@ -94,15 +94,15 @@ IsAbsent exceedances answer = ⊥
 -- ---- as the program makes them
 
 -- a fault of the book
-abbrev pub fault_of : StoreFault → HandlerFault
-fault_of fault.Store = Store
-fault_of fault.Memory = Memory
+abbrev pub handler_fault_of : StoreFault → HandlerFault
+handler_fault_of fault.Store = Store
+handler_fault_of fault.Memory = Memory
 
 -- this was told, if there was memory for it
-abbrev pub Tells : StatusText → Result StatusText HandlerFault → Type 0
-Tells wanted (Ok answer) = answer ≡ wanted
-Tells wanted (Err Store) = ⊥
-Tells wanted (Err Memory) = ⊤
+abbrev pub TellsAnswer : StatusText → Result StatusText HandlerFault → Type 0
+TellsAnswer wanted (Ok answer) = answer ≡ wanted
+TellsAnswer wanted (Err Store) = ⊥
+TellsAnswer wanted (Err Memory) = ⊤
 
 -- the text under the status, or want of memory where there is no text
 abbrev pub IsInJson : ℕ → Result (String Global) MemoryFault → Result StatusText HandlerFault → Type 0

@@ -26,30 +26,30 @@ use Rattle.http_exchange.specs.Handler.{StatusText, HandlerRequest}
 use Rattle.http_exchange.specs.declared.handler.HandlerFault.{HandlerFault}
 use Rattle.http_exchange.specs.declared.handler.HandlerFault.TheVariants.{Store, Memory}
 use Rattle.web.specs.Acts.{Asks, Commands, IsAnswer}
-use Rattle.web.specs.Answers.{Tells, command_answer, fault_of, json, parts_answer, report_answer}
+use Rattle.web.specs.Answers.{TellsAnswer, command_answer, handler_fault_of, json, parts_answer, report_answer}
 
 -- ---- what is told of what the book did
 
 -- an answer to a command, or its fault
 abbrev pub IsToldAs : Result book.Answer StoreFault → Result StatusText HandlerFault → Type 0
-IsToldAs (Ok answer) told = Tells (command_answer (result_of answer)) told
-IsToldAs (Err fault) told = told ≡ Err (fault_of fault)
+IsToldAs (Ok answer) told = TellsAnswer (command_answer (result_of answer)) told
+IsToldAs (Err fault) told = told ≡ Err (handler_fault_of fault)
 
 -- the answers to all parts, or the fault that ended them
 abbrev pub AreToldAs : List book.Answer → Option StoreFault → Result StatusText HandlerFault → Type 0
-AreToldAs answers None told = Tells (parts_answer (map result_of answers)) told
-AreToldAs answers (Some fault) told = told ≡ Err (fault_of fault)
+AreToldAs answers None told = TellsAnswer (parts_answer (map result_of answers)) told
+AreToldAs answers (Some fault) told = told ≡ Err (handler_fault_of fault)
 
 -- the text of a report of this state
-abbrev pub IsTextOf : State → Show → Result (String Global) ReportFault → Type 0
-IsTextOf s what (Ok text) = IsShown s what (Some (string_bytes text))
-IsTextOf s what (Err report.NoSuchCrew) = IsShown s what None × ((who : List ℕ) × (what ≡ Crew who))
-IsTextOf s what (Err report.NoSuchPairing) = IsShown s what None × ((id : List ℕ) × (what ≡ Pairing id))
-IsTextOf s what (Err report.Memory) = ⊤
+abbrev pub IsReportText : State → Show → Result (String Global) ReportFault → Type 0
+IsReportText s what (Ok text) = IsShown s what (Some (string_bytes text))
+IsReportText s what (Err report.NoSuchCrew) = IsShown s what None × ((who : List ℕ) × (what ≡ Crew who))
+IsReportText s what (Err report.NoSuchPairing) = IsShown s what None × ((id : List ℕ) × (what ≡ Pairing id))
+IsReportText s what (Err report.Memory) = ⊤
 
 -- that what a refusal of the book names isn't there
 abbrev pub TellsAbsence : Refusal → Result StatusText HandlerFault → Type 0
-TellsAbsence refusal result = Tells (json 404 (refusal_json_text refusal)) result
+TellsAbsence refusal result = TellsAnswer (json 404 (refusal_json_text refusal)) result
 
 -- what a book shows, and the answer that tells it
 abbrev pub IsReportOf : Show → Option (List ℕ) → StatusText → Type 0
@@ -67,34 +67,34 @@ IsReported s what (Err Memory) = ⊤
 -- what a book shows, or its fault
 abbrev pub IsReportToldAs : Result State StoreFault → Show → Result StatusText HandlerFault → Type 0
 IsReportToldAs (Ok roster) what told = IsReported roster what told
-IsReportToldAs (Err fault) what told = told ≡ Err (fault_of fault)
+IsReportToldAs (Err fault) what told = told ≡ Err (handler_fault_of fault)
 
 -- ---- what the book did
 
 -- the answer is a fault of the store
-abbrev pub is_store_fault : Result StatusText HandlerFault → Bool
-is_store_fault (Ok answer) = false
-is_store_fault (Err Store) = true
-is_store_fault (Err Memory) = false
+abbrev pub answers_store_fault : Result StatusText HandlerFault → Bool
+answers_store_fault (Ok answer) = false
+answers_store_fault (Err Store) = true
+answers_store_fault (Err Memory) = false
 
 module _ {S : Type 0} (g : Ghosts S) (old new : Kept S) where
   -- what the commands leave, of which all were done; or of which the store failed at one, which is in doubt; or of which there was no
   -- memory for one, or to tell what they were answered
-  abbrev pub IsLeft : State → Commands → Result StatusText HandlerFault → Type 0
-  IsLeft s commands (Ok answer) = IsDurablyAt g new (Fold s commands) × (HasTables g old s → HasTables g new (Fold s commands))
-  IsLeft s commands (Err Store) = (n : ℕ) × IsInDoubt g new (Fold s (take n commands)) (Fold s (take (n + 1) commands))
-  IsLeft s commands (Err Memory) = (n : ℕ) × IsDurablyAt g new (Fold s (take n commands)) × (HasTables g old s → StillHasTables g new (Fold s (take n commands)))
+  abbrev pub IsLeftByCommands : State → Commands → Result StatusText HandlerFault → Type 0
+  IsLeftByCommands s commands (Ok answer) = IsDurablyAt g new (Fold s commands) × (HasTables g old s → HasTables g new (Fold s commands))
+  IsLeftByCommands s commands (Err Store) = (n : ℕ) × IsInDoubt g new (Fold s (take n commands)) (Fold s (take (n + 1) commands))
+  IsLeftByCommands s commands (Err Memory) = (n : ℕ) × IsDurablyAt g new (Fold s (take n commands)) × (HasTables g old s → StillHasTables g new (Fold s (take n commands)))
 
   -- the request was answered as it is in this state, or where it wasn't, what it asks was begun, or nothing was asked
   abbrev pub IsDone : State → HandlerRequest → Result StatusText HandlerFault → Type 0
   IsDone s asked (Ok answer) =
-      (IsClean g new → IsAnswer s asked answer) × ((commands : Commands) × Asks asked commands × IsLeft s commands (Ok answer))
-  IsDone s asked (Err Store) = (commands : Commands) × Asks asked commands × IsLeft s commands (Err Store)
-  IsDone s asked (Err Memory) = (new ≡ old) ⊎ ((commands : Commands) × Asks asked commands × IsLeft s commands (Err Memory))
+      (IsClean g new → IsAnswer s asked answer) × ((commands : Commands) × Asks asked commands × IsLeftByCommands s commands (Ok answer))
+  IsDone s asked (Err Store) = (commands : Commands) × Asks asked commands × IsLeftByCommands s commands (Err Store)
+  IsDone s asked (Err Memory) = (new ≡ old) ⊎ ((commands : Commands) × Asks asked commands × IsLeftByCommands s commands (Err Memory))
 
   -- what is said whatever is asked
-  pub record IsKept (result : Result StatusText HandlerFault) : Type 0 where
-    pub failed : new.failed ≡ (old.failed || is_store_fault result)
+  pub record HoldsWhateverIsAsked (result : Result StatusText HandlerFault) : Type 0 where
+    pub failed : new.failed ≡ (old.failed || answers_store_fault result)
     pub shut : IsTrue old.failed → new ≡ old
     pub disk : IsClean g new → IsClean g old
     pub honest : (s : State) → IsDurablyAt g old s → Honest s → CrashLeaves (state g new.held) Honest
@@ -102,7 +102,7 @@ module _ {S : Type 0} (g : Ghosts S) (old new : Kept S) where
 
   -- the book was handed a request, and gave this result
   pub record IsHandled (asked : HandlerRequest) (result : Result StatusText HandlerFault) : Type 0 where
-    pub kept : IsKept result
+    pub kept : HoldsWhateverIsAsked result
     pub done : (s : State) → IsDurablyAt g old s → IsDone s asked result
 
   -- ---- commands
@@ -118,18 +118,18 @@ module _ {S : Type 0} (g : Ghosts S) (old new : Kept S) where
       ⊎ (IsDurablyAt g new (folds.next s asked) × (HasTables g old s → StillHasTables g new (folds.next s asked)))
 
   -- a command was asked, in whichever state the book was; with what is said whatever is asked
-  pub record IsAsked (asked : folds.Asked) (result : Result StatusText HandlerFault) : Type 0 where
-    pub kept : IsKept result
+  pub record IsCommandAsked (asked : folds.Asked) (result : Result StatusText HandlerFault) : Type 0 where
+    pub kept : HoldsWhateverIsAsked result
     pub done : (s : State) → IsDurablyAt g old s → IsAskedIn s asked result
 
   -- ---- imports
 
   -- these pairings were added
   abbrev pub AreAddedIn : State → Commands → Result StatusText HandlerFault → Type 0
-  AreAddedIn s commands (Ok answer) = (IsClean g new → answer ≡ parts_answer (Replies s commands)) × IsLeft s commands (Ok answer)
-  AreAddedIn s commands (Err fault) = IsLeft s commands (Err fault)
+  AreAddedIn s commands (Ok answer) = (IsClean g new → answer ≡ parts_answer (Replies s commands)) × IsLeftByCommands s commands (Ok answer)
+  AreAddedIn s commands (Err fault) = IsLeftByCommands s commands (Err fault)
 
   -- pairings were added, in whichever state the book was; with what is said whatever is asked
   pub record AreAdded (number : ℕ) (plans : List Plan) (result : Result StatusText HandlerFault) : Type 0 where
-    pub kept : IsKept result
+    pub kept : HoldsWhateverIsAsked result
     pub done : (s : State) → IsDurablyAt g old s → AreAddedIn s (import number plans) result

@@ -38,8 +38,8 @@ module _ {S : Type 0} (g : Ghosts S) (s : State) where
   IsBegun old new commands = (n : ℕ) × IsDurablyAt g new (Fold s (take n commands)) × (HasTables g old s → StillHasTables g new (Fold s (take n commands)))
 
   -- the store failed at one of them, which is done or not
-  abbrev pub IsBroken : Kept S → Commands → Type 0
-  IsBroken new commands = (n : ℕ) × IsInDoubt g new (Fold s (take n commands)) (Fold s (take (n + 1) commands))
+  abbrev pub IsInDoubtAtOne : Kept S → Commands → Type 0
+  IsInDoubtAtOne new commands = (n : ℕ) × IsInDoubt g new (Fold s (take n commands)) (Fold s (take (n + 1) commands))
 
   -- ---- a response
 
@@ -65,7 +65,7 @@ module _ {S : Type 0} (g : Ghosts S) (s : State) where
     pub written : Appends out out' (interim p.step ++ no_store p.is_head)
     pub left_is : left ≡ Some (unread p.step rest)
     pub failed : IsTrue new.failed
-    pub state : IsBroken new commands
+    pub state : IsInDoubtAtOne new commands
 
   -- the commands were begun, or none was asked
   abbrev pub IsBegunOf : List ℕ → Planned → List ℕ → Kept S → Kept S → Type 0
@@ -105,7 +105,7 @@ module _ {S : Type 0} (g : Ghosts S) (s : State) where
 
   -- what a request asks was begun, or, after a fault of the store, is in doubt at one of its commands
   abbrev pub IsLeftBy : Kept S → Kept S → Commands → Type 0
-  IsLeftBy old new commands = IsBegun old new commands ⊎ (IsTrue new.failed × IsBroken new commands)
+  IsLeftBy old new commands = IsBegun old new commands ⊎ (IsTrue new.failed × IsInDoubtAtOne new commands)
 
   -- where the reader failed, nothing was asked; where the writer did, at most what the input asks
   abbrev pub IsBrokenOff : ChannelBytes → Kept S → Kept S → ChannelFault → Type 0

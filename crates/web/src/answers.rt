@@ -49,7 +49,7 @@ pub(crate) fn told(
 
 /// Names a fault of the book as one of the handler.
 pub(crate) fn fault_of(fault: BookFault) -> HandlerFault
-    ensures { result ≡ spec.fault_of fault }
+    ensures { result ≡ spec.handler_fault_of fault }
 {
     match fault {
         BookFault::Store => HandlerFault::Store,
@@ -59,7 +59,7 @@ pub(crate) fn fault_of(fault: BookFault) -> HandlerFault
 
 /// Tells why a body isn't read.
 pub(crate) fn told_unread(alloc: Global, fault: CodecFault) -> Result<Response, HandlerFault>
-    ensures { spec.Tells (spec.fault_answer fault) (answer_or_fault result) }
+    ensures { spec.TellsAnswer (spec.fault_answer fault) (answer_or_fault result) }
 {
     in_json(
         StatusCode::UNPROCESSABLE_ENTITY,

@@ -40,7 +40,8 @@ fn ask<S: Alter>(
     key: Key,
     command: &Command,
 ) -> Result<Response, HandlerFault>
-    ensures { spec.IsAsked S.Store book.old book.new (key, command.now) (answer_or_fault result) }
+    ensures { spec.IsCommandAsked S.Store book.old book.new (key, command.now)
+        (answer_or_fault result) }
 {
     let answer = book.ask(alloc, key, command);
     told(alloc, answer)

@@ -93,7 +93,7 @@ fn absent(alloc: Global, refusal: &Refusal) -> Result<Response, HandlerFault>
 
 /// Writes a text of a roster.
 fn text_of(alloc: Global, roster: &Roster, what: &Show) -> Result<String, ReportFault>
-    ensures { spec.IsTextOf roster.now what.now result }
+    ensures { spec.IsReportText roster.now what.now result }
 {
     match what {
         Show::Crew(who) => roster_text(alloc, roster, who),

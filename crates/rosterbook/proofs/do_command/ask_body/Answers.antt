@@ -2,7 +2,7 @@ use Rattle.std.proofs.Common.{rules, inl, inr, [], subst, sym, string_bytes}
 use Rattle.std.proofs.lemmas.Result.{IfErr-weaker, IfOk-weaker}
 use Rattle.rosterbook.proofs.Answering.{request_answered, request_unread}
 use Rattle.codec.specs.Requests.{read_request}
-use Rattle.rosterbook.specs.Asking.{IsStoppedIn, commands_of}
+use Rattle.rosterbook.specs.Asking.{IsStoppedIn, asked_by_request}
 use Rattle.rosterbook.proofs.Stopping.{err_told, request_stopped, unasked}
 use Rattle.rosterbook.proofs.do_command.ask_body.Goals as goal
 
@@ -29,5 +29,5 @@ returns-in_ok-fault_to_json-in-Err g c = record {
 pub returns-in_err-fault_to_json-in-Err-clause-stopped : goal.returns-in_err-fault_to_json-in-Err-clause-stopped
 returns-in_err-fault_to_json-in-Err-clause-stopped g c =
     let book = c.args.book.now in
-    let asked = commands_of (read_request c.args.body.now) in
+    let asked = asked_by_request (read_request c.args.body.now) in
     err_told c.from_residual.result _ _ c.from_residual.ensures.1 (λ stop is. ([], subst (IsStoppedIn g.S.Store book book asked []) (sym is) (unasked g.S.Store book asked)))
