@@ -25,7 +25,7 @@ use Rattle.roster.specs.State.{State, empty}
 use Rattle.roster.specs.Steps.{step_of}
 use Rattle.state_rows.specs.declared.fault.StoreFault.{StoreFault}
 use Rattle.state_rows.specs.declared.fault.StoreFault.TheVariants.{Store, Memory}
-use Rattle.writing.specs.Kept.{Holds}
+use Rattle.writing.specs.Kept.{HoldBookOf}
 use Rattle.writing.specs.Outcomes.{CrashLeaves, either}
 use Rattle.book.specs.Kept.{Ends, IsClean, IsDurablyAt, IsKept, Keeps, Kept, either_kept, is_some_store_fault, result_of}
 use Rattle.book.specs.Headline.{IsHeld}
@@ -326,7 +326,7 @@ module _ {S : Type 0} (g : Ghosts S) where
 
 pub record IsLived (trees : Trees) (s : State) (life : List (List Call)) : Type 0 where
   pub left : State
-  pub holds : Holds trees left
+  pub holds : HoldBookOf trees left
   pub done : List (List Asked)
   pub are : AreDoneInTurn s life done
   pub fold : left ≡ Fold s (in_turn done)
@@ -363,7 +363,7 @@ module _ {S : Type 0} (g : Ghosts S) where
     ]
 
   -- the state that a book was taken up with is the one that a crash left
-  taken_up_at : (stopped again : Kept S) (t : State) (up : IsTakenUp g stopped again) → IsClean g again → IsKept t → Holds up.shown.now.trees t → IsDurablyAt g again t
+  taken_up_at : (stopped again : Kept S) (t : State) (up : IsTakenUp g stopped again) → IsClean g again → IsKept t → HoldBookOf up.shown.now.trees t → IsDurablyAt g again t
   taken_up_at stopped again t up clean kept holds =
       let found = up.found.found clean in
       let same = one_held up.shown.now.trees up.found.it t (up.shown.now.schema, found.book) holds
