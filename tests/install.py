@@ -4,7 +4,8 @@
     tests/install.py
 
 The manual page and the completions of bash and zsh have to name each subcommand, argument and option that `--help` has, and no other,
-and all have the zones of docs/REFUSALS.md, which has all refusals. The completions are asked as a shell asks them, those of zsh where it is on the PATH. What
+and all have the zones of docs/REFUSALS.md, which has all refusals. `do --help`, the manual page and docs/FORMATS.md have the same members of
+each command. The completions are asked as a shell asks them, those of zsh where it is on the PATH. What
 differs is told on standard error. The last line is 'N passed, M failed', and the exit status 1 where M isn't 0.
 """
 
@@ -108,6 +109,10 @@ def plain(line):
     if re.match(r"\.[BI]R ", line):
         line = "".join(shlex.split(line[4:], posix=False)).replace('"', "")
     return re.sub(r"^\.[BI] |\\f[BIR]", "", line).replace("\\-", "-")
+
+
+def plain_lines(lines):
+    return "\n".join(plain(line) for line in lines.splitlines())
 
 
 def of_synopsis(page):
@@ -256,6 +261,22 @@ def try_zones(office):
     return wanted
 
 
+def try_members(office):
+    """The members of each of the nine commands, in turn, and those of a period and of a segment."""
+    rows = re.findall(r"^\| `([a-z-]+)` \| (`[^|]+`) \|$", text("docs/FORMATS.md"), re.M)
+    wanted = [(name, re.findall(r"`(\w+)`", members)) for name, members in rows]
+    office.expect("the formats have nine commands", len({name for name, _ in wanted}), 9)
+    page = text(MANUAL)
+    for where, said in (("do --help", rosterbook("do", "--help").out), ("the manual page", plain_lines(section(page, "COMMANDS")))):
+        listed = re.findall(r"^ *([a-z]+(?:-[a-z]+)?)  +((?:[a-z_]+, )*[a-z_]+)$", said, re.M)
+        found = [(name, members.split(", ")) for name, members in listed if name in dict(wanted)]
+        office.expect(f"the commands of {where}", found, wanted)
+        for parts in ("objects with report, release, segments", "objects with flight, from, out, to, in", "actual have out and in"):
+            office.expect(f"{where}: {parts}", parts in " ".join(said.split()), True)
+    office.expect("--help names the page of refusals", "REFUSALS.md" in rosterbook("--help").out, True)
+    office.expect("the manual page names the page of refusals", "REFUSALS.md" in section(page, "REFUSALS"), True)
+
+
 def try_the_page_of_refusals(office):
     """docs/REFUSALS.md has each refusal of the formats and of the rules once, in order of the numbers."""
     page, formats, rules = (text(f"docs/{it}.md") for it in ("REFUSALS", "FORMATS", "RULES"))
@@ -385,6 +406,7 @@ def main():
         (folder / "folder").mkdir()
         (folder / "book.db").write_text("")
         try_names(office)
+        try_members(office)
         try_the_page_of_refusals(office)
         wanted_zones = try_zones(office)
         try_bash(office, folder, wanted_zones)

@@ -170,10 +170,12 @@ command_lines() {
 
 helps() {
     case_of help 0 'The roster book*' '' --help
-    help_of '' duty init 'do' import roster pairing exceedances serve FILE ZONE NUMBER PORT CREW PAIRING REPORT TIME "$zone" "$report"
+    help_of '' duty init 'do' import roster pairing exceedances serve FILE ZONE NUMBER PORT CREW PAIRING REPORT TIME "$zone" "$report" \
+        REFUSALS.md 'man rosterbook'
     help_of duty duty ZONE REPORT TIME "$zone" "$report" 'UTC instant' Example:
     help_of init init FILE ZONE "$zone" UTC 'new or empty' Example:
-    help_of 'do' 'do' FILE 'JSON on standard input' '"number":1' add-crew actual '90 Store' 'Exit status'
+    help_of 'do' 'do' FILE 'JSON on standard input' '"number":1' '  add-crew        crew, seat, name' \
+        '  actual          pairing, period, report, release, segments' '90 Store' 'Exit status'
     help_of import import FILE NUMBER 'CSV on standard input' 'from 1 to 9223372036854775807' '  pairing,period,report,release,flight,from,out,to,in' \
         'record 1' '90 Store' 'Exit status'
     help_of roster roster FILE CREW 'rosterbook roster roster.db C1' 'hours and minutes' 'Exit status'

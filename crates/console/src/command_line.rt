@@ -33,7 +33,9 @@ Arguments of the commands:
   REPORT   report, a UTC instant such as 2025-06-10T15:59Z
   TIME     block-out and block-in in turn, UTC instants as 2025-06-10T16:30Z
 
-'rosterbook COMMAND --help' says more of a command.";
+'rosterbook COMMAND --help' says more of a command. The usual causes of each
+refusal, and what to do, are in REFUSALS.md: in docs/ of the repository, in
+share/doc/rosterbook of an installation. See also 'man rosterbook'.";
 
 const DUTY_EXAMPLE: &str = "\
 Example:
@@ -55,10 +57,34 @@ Example:
   echo '{\"number\":1,\"do\":\"add-crew\",\"crew\":\"C1\",\"seat\":\"captain\",
     \"name\":\"Ada Ray\"}' | rosterbook do roster.db
 
-Commands: add-crew, add-pairing, cancel-pairing, assign, release, swap,
-add-ground, cancel-ground, actual.
+A command is one JSON object in UTF-8. It has \"number\", a whole number from 1
+to 9223372036854775807, \"do\", which is one of these words, and more members:
+  add-crew        crew, seat, name
+  add-pairing     pairing, periods
+  cancel-pairing  pairing
+  assign          pairing, crew
+  release         pairing, crew
+  swap            pairing, crew, other_pairing, other_crew
+  add-ground      ground, crew, begin, end, task
+  cancel-ground   ground
+  actual          pairing, period, report, release, segments
 
-The same command under the same number is answered as it was and acts once.
+All of them are required, in any order. Members of other names are ignored.
+  crew, pairing, ground, other_crew, other_pairing
+                  an id: 1 to 12 of A-Z, 0-9 and -
+  seat            \"captain\" or \"first officer\"
+  name, task      a text of 1 to 60 bytes
+  period          a whole number from 1 to 10
+  report, release, begin, end, out, in
+                  a UTC instant such as \"2025-06-10T15:59Z\"
+  periods         an array of 1 to 10 objects with report, release, segments
+  segments        an array of 1 to 12 objects with flight, from, out, to, in;
+                  those of actual have out and in
+  flight          1 to 8 of A-Z and 0-9
+  from, to        an airport: 3 or 4 of A-Z and 0-9
+
+If you send a command again under its number, you get the first answer again,
+and it is done once. 'rosterbook --help' says where refusals are explained.
 One program at a time has a book: the others are refused with 90 Store.
 
 Exit status: 0 accepted, 1 refused, 2 a mistake in the command line, 3 there is
@@ -68,12 +94,13 @@ const IMPORT_EXAMPLE: &str = "\
 Example:
   rosterbook import roster.db 500 < schedule.csv
 
-The schedule has a record a segment, after this header, which is record 1 where
-a refusal names the record at fault:
+The first line of the schedule is this header, which refusals call record 1:
   pairing,period,report,release,flight,from,out,to,in
+Each line after it is a segment.
 
-The pairings are the parts 1, 2, .. of the request NUMBER. An import that was
-stopped is handed in again, whole and under its number: each part acts once.
+The pairings are the parts 1, 2, .. of the request NUMBER. If an import was
+stopped, hand in the whole schedule again under the same number: each part is
+done once. 'rosterbook --help' says where refusals are explained.
 One program at a time has a book: the others are refused with 90 Store.
 
 Exit status: 0 all accepted, 1 the schedule or a part is refused, 2 a mistake
@@ -84,8 +111,9 @@ const ROSTER_EXAMPLE: &str = "\
 Example:
   rosterbook roster roster.db C1
 
-The member's id, seat and name, and then the duties in order of time, which is
-UTC: 'plan' as planned, 'actual' as flown. Lengths are hours and minutes.
+Prints the member's id, seat and name, and then the duties in order of time:
+'plan' is as planned, 'actual' as flown. Times are UTC. Lengths are hours and
+minutes.
 
 Exit status: 0 done, 1 there is no such member, 2 a mistake in the command line,
 3 there is no book in the file, or the file, memory or the output fails";
@@ -94,8 +122,8 @@ const PAIRING_EXAMPLE: &str = "\
 Example:
   rosterbook pairing roster.db B101
 
-Who holds the seats (a free one has '-'), and then the periods with their
-segments, in UTC: 'plan' as planned, 'actual' as flown.
+Prints who holds the seats ('-' if nobody does), and then the periods with
+their segments: 'plan' is as planned, 'actual' as flown. Times are UTC.
 
 Exit status: 0 done, 1 there is no such pairing, 2 a mistake in the command
 line, 3 there is no book in the file, or the file, memory or the output fails";
@@ -104,8 +132,9 @@ const EXCEEDANCES_EXAMPLE: &str = "\
 Example:
   rosterbook exceedances roster.db
 
-How many there are, and a line each: the number of the request that recorded it,
-the member, the section of 14 CFR Part 117, and the period of the pairing.
+Prints how many there are, and a line for each: the number of the request that
+recorded it, the member, the section of 14 CFR Part 117, and the period of the
+pairing.
 
 Exit status: 0 done, 2 a mistake in the command line, 3 there is no book in the
 file, or the file, memory or the output fails";
@@ -116,9 +145,9 @@ Example:
   curl http://127.0.0.1:8117/crew/C1
 
 Prints 'listening PORT' once clients can connect, and then answers one request
-of HTTP in each connection, one after the other. A connection that fails is told
-on standard error, as 'refused 92 Channel' or 'refused 93 Network', and counts.
-It stops after N connections, or after an answer 90.
+of HTTP in each connection, one after the other. If a connection fails, it
+prints 'refused 92 Channel' or 'refused 93 Network' on standard error, and
+counts the connection. It ends after N connections, or after an answer 90.
 One program at a time has a book: the others are refused with 90 Store.
 
 Exit status: 0 after N connections, 2 a mistake in the command line, 3 an answer
