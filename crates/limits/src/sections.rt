@@ -127,7 +127,8 @@ fn push_if(list: &mut Vec<Section>, is_broken: bool, section: Section) -> Result
     Ok(())
 }
 
-/// Returns whether the limit is broken.
+/// Returns whether the limit is broken. It serves the prover alone: that the answer is the test of the limit's section is
+/// proved once, for all eight.
 fn is_broken<L: Limit>(limit: &L, history: &History, new: &History) -> bool
     ensures { result ≡ breaks L.SECTION history.now new.now }
 {
@@ -136,17 +137,10 @@ fn is_broken<L: Limit>(limit: &L, history: &History, new: &History) -> bool
 
 /// Judges new duties by the eight limits. `history` has the member's duties in force with the new ones in it; a window
 /// or a rest that the new duties don't touch is not judged.
+#[tactic(auto, unfolding(crate::specs::Judgement::Broken))]
 pub fn judge(history: &History, new: &History) -> Sections
     ensures list { result ≡ Broken history.now new.now }
     ensures each { (s : Sectioned) → (Contains result s ↔ Rule s history.now new.now) }
-{
-    judged(history, new)
-}
-
-/// Judges the same, by the list alone.
-#[tactic(auto, unfolding(crate::specs::Judgement::Broken))]
-fn judged(history: &History, new: &History) -> Sections
-    ensures { result ≡ Broken history.now new.now }
 {
     Sections {
         flight_time: is_broken(&FlightTime, history, new),
