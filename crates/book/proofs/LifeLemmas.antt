@@ -13,7 +13,7 @@ use Rattle.command.specs.declared.refusal.Refusal.{Refusal}
 use Rattle.roster.proofs.Accepted.{accepted, passed_each}
 use Rattle.roster.proofs.KeepsHonest.{keeps_honest}
 use Rattle.roster.proofs.Lists.{first_of_all, first_or_later, later, no_member}
-use Rattle.roster.proofs.MadeByCommands.{made_by_commands}
+use Rattle.roster.proofs.MadeByCommands.{stays_honest}
 use Rattle.roster.proofs.Requests.{keeps_requests}
 use Rattle.roster.proofs.Sound.{keeps_sound}
 use Rattle.roster.proofs.WithinLimits.{accepted_within_limits}
@@ -21,12 +21,12 @@ use Rattle.roster.specs.Folds.{Asked, Fold, Replies, answer_of, next}
 use Rattle.roster.specs.Honest.{Honest}
 use Rattle.roster.specs.Laws.{AreMade, PassesChecks}
 use Rattle.roster.specs.Refusals.{refusals}
-use Rattle.roster.specs.State.{State, empty}
+use Rattle.roster.specs.State.{State}
 use Rattle.roster.specs.Steps.{step_of}
 use Rattle.state_rows.specs.declared.fault.StoreFault.{StoreFault}
 use Rattle.state_rows.specs.declared.fault.StoreFault.TheVariants.{Store, Memory}
 use Rattle.writing.specs.Kept.{HoldBookOf}
-use Rattle.writing.specs.Outcomes.{CrashLeaves, either}
+use Rattle.writing.specs.Outcomes.{CrashLeaves, CrashLeavesSome, either}
 use Rattle.book.specs.Kept.{Ends, IsClean, IsDurablyAt, IsKept, Keeps, Kept, either_kept, is_some_store_fault, result_of}
 use Rattle.book.specs.Headline.{IsHeld}
 use Rattle.book.specs.Lives.{ActOnce, AreCalls, AreDone, AreDoneInTurn, AreWithinLimits, Call, EachLifeHolds, GoesOn, IsCall, IsLeftOf, IsTakenUp, Life, in_turn, for_many, for_one, for_report, acknowledged, acknowledged_by, answers, answers_by, doubted_by, in_doubt, is_stopped}
@@ -363,12 +363,12 @@ module _ {S : Type 0} (g : Ghosts S) where
     ]
 
   -- the state that a book was taken up with is the one that a crash left
-  taken_up_at : (stopped again : Kept S) (t : State) (up : IsTakenUp g stopped again) → IsClean g again → IsKept t → HoldBookOf up.shown.now.trees t → IsDurablyAt g again t
+  taken_up_at : (stopped again : Kept S) (t : State) (up : IsTakenUp g stopped again) → IsClean g again → IsKept t → HoldBookOf up.shown.trees t → IsDurablyAt g again t
   taken_up_at stopped again t up clean kept holds =
-      let found = up.found.found clean in
-      let same = one_held up.shown.now.trees up.found.it t (up.shown.now.schema, found.book) holds
+      let found = up.found clean in
+      let same = one_held up.shown.trees up.it t (up.shown.schema, found.book) holds
           (record { sound = found.sound; instants = found.instants }) kept in
-      subst (λ (x : State). Keeps (state g again.held) x) same up.found.keeps
+      subst (λ (x : State). IsDurablyAt g again x) same up.kept
 
   lived : (later : List (List Call)) (calls : List Call) (old stopped last : Kept S) (s : State) → old.failed ≡ false → IsDurablyAt g old s → AreCalls g old calls stopped →
       GoesOn g stopped later last → HasCleanDisk (state g last.held) → (trees : Trees) → (state g last.held).may_leave trees → IsLived trees s (calls ∷ later)
@@ -388,7 +388,7 @@ module _ {S : Type 0} (g : Ghosts S) where
   lived (more ∷ later) calls old stopped last s fresh at are on clean trees may =
       let again = on.0 in
       let up = on.2 in
-      let it = (reaches g calls old stopped s fresh at are).crash up.clean up.shown.now.trees up.left in
+      let it = (reaches g calls old stopped s fresh at are).crash up.clean up.shown.trees up.left in
       let x = one_of s it.0 (acknowledged calls) (acknowledged calls ++ in_doubt calls) it.1.0 in
       let again_clean = clean_before g more again on.1 on.3 (clean_stopped later on.1 last on.4 clean) in
       let begun : IsDurablyAt g again (Fold s x.done) = subst (λ (y : State). IsDurablyAt g again y) x.fold
@@ -424,19 +424,43 @@ acts_once begin done before between after asked reply here told =
     keeps_requests (next s asked) asked.0 (record { command = asked.1; reply = reply }) between (held_next s asked reply told) in
     step_repeats (Fold (next s asked) between) (Fold begin (before ++ asked ∷ between)) asked reply (fold_append begin before (asked ∷ between)) held
 
+-- ---- Something is left
+
+call_leaves : {S : Type 0} (g : Ghosts S) (call : Call) (old new : Kept S) → IsCall g old call new → CrashLeavesSome (state g new.held)
+call_leaves g (for_one asked result) old new is = is.1.some_left
+call_leaves g (for_many commands run) old new is = is.1.some_left
+call_leaves g (for_report fault) old new is = is.some_left
+
+module _ {S : Type 0} (g : Ghosts S) where
+  calls_leave : (calls : List Call) (old new : Kept S) → CrashLeavesSome (state g old.held) → AreCalls g old calls new → CrashLeavesSome (state g new.held)
+  calls_leave [] old new some are = subst (λ (b : Kept S). CrashLeavesSome (state g b.held)) (sym are) some
+  calls_leave (call ∷ calls) old new some are = calls_leave calls are.0 new (call_leaves g call old are.0 are.1) are.2
+
+  sessions_leave : (later : List (List Call)) (stopped last : Kept S) → CrashLeavesSome (state g stopped.held) → GoesOn g stopped later last → CrashLeavesSome (state g last.held)
+  sessions_leave [] stopped last some on = subst (λ (b : Kept S). CrashLeavesSome (state g b.held)) (sym on) some
+  sessions_leave (calls ∷ later) stopped last some on =
+      sessions_leave later on.1 last (calls_leave calls on.0 on.1 on.2.kept.some on.3) on.4
+
 -- ---- Whole lives
 
 pub each_life_holds : {S : Type 0} (g : Ghosts S) → EachLifeHolds g
-each_life_holds g zone calls later last life = record {
-  crash = λ clean trees may.
-      let it = lived g later calls life.made life.left last (empty zone) life.fresh life.kept life.first life.more clean trees may in
-      let done = in_turn it.done in
-      (it.left, record {
-        done = it.done;
-        are = it.are;
-        fold = it.fold;
-        within_limits = are_within_limits (empty zone) done;
-        once = acts_once (empty zone) done;
-        honest = subst Honest (sym it.fold) (made_by_commands keeps_sound keeps_honest zone done (each_of done it.made)).1;
-      }, it.holds);
-}
+each_life_holds g begin calls later last life = (
+  record {
+    crash = λ clean trees may.
+        let it = lived g later calls life.made life.left last begin life.fresh life.kept life.first life.more clean trees may in
+        let done = in_turn it.done in
+        let was_clean = clean_before g calls life.made life.left life.first (clean_stopped g later life.left last life.more clean) in
+        (it.left, record {
+          done = it.done;
+          are = it.are;
+          fold = it.fold;
+          within_limits = are_within_limits begin done;
+          once = acts_once begin done;
+          held = λ asked reply held. subst (λ (t : State). IsHeld t asked reply) (sym it.fold)
+              (keeps_requests begin asked.0 (record { command = asked.1; reply = reply }) done held);
+          honest = λ honest. subst Honest (sym it.fold)
+              (stays_honest keeps_sound keeps_honest begin done (each_of done it.made) (life.kept.kept was_clean).sound honest);
+        }, it.holds);
+  },
+  sessions_leave g later life.left last (calls_leave g calls life.made life.left life.kept.some life.first) life.more,
+)

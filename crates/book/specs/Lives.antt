@@ -1,23 +1,23 @@
--- Whole lives of a book: it is made once, asked, stopped anywhere, taken up again over what a crash left, and asked again.
+-- Whole lives of a book: it is made or found, asked, stopped anywhere, taken up again over what a crash left, and asked again.
 use Rattle.std.specs.Prelude.{◌≡◌, ℕ, Bool, true, false, if◌then◌else◌, ◌||◌, IsTrue, ◌⊎◌, ◌↔◌, List, [], ◌∷◌, ◌++◌, drop, length, map, take, Option, Result, Ok, Err}
 use Rattle.std.specs.List.{flat_map}
-use Rattle.sqlite_trees.specs.Tree.{Trees}
 use Rattle.sqlite_trees.specs.declared.store.Store.{Ghosts}
-use Rattle.sqlite.specs.State as conn
+use Rattle.sqlite.specs.Effect.{Database}
 use Rattle.sqlite.specs.Held.{state}
 use Rattle.command.specs.Instructions.{IsMade}
 use Rattle.command.specs.declared.exceedance.Reply.{Reply}
 use Rattle.roster.specs.Folds.{Asked, Fold, Replies, answer_of}
 use Rattle.roster.specs.Honest.{Honest}
 use Rattle.roster.specs.Laws.{AreMade, IsAccepted, PassesChecks, is_assignment}
-use Rattle.roster.specs.State.{State, empty}
+use Rattle.roster.specs.State.{State}
 use Rattle.roster.specs.Steps.{step_of}
 use Rattle.roster.specs.declared.change.Verdict.TheVariants.{Repeat}
 use Rattle.state_rows.specs.declared.fault.StoreFault.{StoreFault}
-use Rattle.writing.specs.Outcomes.{CrashLeaves}
+use Rattle.store.specs.Found.{IsFound}
+use Rattle.writing.specs.Outcomes.{CrashLeaves, CrashLeavesSome}
 use Rattle.book.specs.Answered.{IsAnswered}
-use Rattle.book.specs.Headline.{BreaksNoLimit}
-use Rattle.book.specs.Kept.{HasFoundBook, IsClean, IsDurablyAt, Kept, is_some_store_fault, is_store_fault, result_of}
+use Rattle.book.specs.Headline.{BreaksNoLimit, IsHeld}
+use Rattle.book.specs.Kept.{IsClean, IsDurablyAt, Kept, is_some_store_fault, is_store_fault, result_of}
 use Rattle.book.specs.Ran.{HasRun}
 use Rattle.book.specs.declared.answer.Answer.{Answer}
 use Rattle.book.specs.declared.answer.Run.{Run}
@@ -76,6 +76,7 @@ module _ {S : Type 0} (g : Ghosts S) where
     pub shut : IsTrue old.failed → new ≡ old
     pub disk : IsClean g new → IsClean g old
     pub kept : (s : State) → IsDurablyAt g old s → IsDurablyAt g new s
+    pub some_left : CrashLeavesSome (state g new.held)
 
   -- a book was called so, and is the new one then: as the contracts of `Book::ask`, `Import::next`, `Book::run` and `Book::show` say
   abbrev pub IsCall : Kept S → Call → Kept S → Type 0
@@ -91,15 +92,17 @@ module _ {S : Type 0} (g : Ghosts S) where
 -- ---- Lives
 
 module _ {S : Type 0} (g : Ghosts S) where
-  -- a book was stopped, and `Book::adopt` took it up again over what a crash left of it
+  -- a book was stopped, and `Book::adopt` took it up again over what a crash left of it: as its clauses `fresh` and `means` say
   pub record IsTakenUp (stopped again : Kept S) : Type 0 where
-    -- what the new connection showed
-    pub shown : conn.State
-    pub left : (state g stopped.held).may_leave shown.now.trees
+    -- what the new connection showed, and the state that was found in it
+    pub shown : Database
+    pub it : State
+    pub left : (state g stopped.held).may_leave shown.trees
     -- the disk had returned what was written
     pub clean : IsClean g stopped
     pub fresh : again.failed ≡ false
-    pub found : HasFoundBook shown (state g again.held)
+    pub found : IsClean g again → IsFound it shown
+    pub kept : IsDurablyAt g again it
 
   -- more sessions, each over what a crash left of the one before
   abbrev pub GoesOn : Kept S → List (List Call) → Kept S → Type 0
@@ -107,11 +110,12 @@ module _ {S : Type 0} (g : Ghosts S) where
   GoesOn stopped (calls ∷ later) last =
       (again : Kept S) × (left : Kept S) × IsTakenUp stopped again × AreCalls again calls left × GoesOn left later last
 
-  -- a life: `Book::create` made the book, which was called so in its first session, and so in later ones; it is the last one now
-  pub record Life (zone : List ℕ) (calls : List Call) (later : List (List Call)) (last : Kept S) : Type 0 where
+  -- a life: a book was durably at this state, as `Book::create` and `Book::adopt` make one; it was called so in its first session, and
+  -- so in later ones; it is the last one now
+  pub record Life (begin : State) (calls : List Call) (later : List (List Call)) (last : Kept S) : Type 0 where
     pub made : Kept S
     pub fresh : made.failed ≡ false
-    pub kept : IsDurablyAt g made (empty zone)
+    pub kept : IsDurablyAt g made begin
     pub left : Kept S
     pub first : AreCalls made calls left
     pub more : GoesOn left later last
@@ -148,15 +152,17 @@ ActOnce begin done = (before between after : List Asked) (asked : Asked) (reply 
     step_of (Fold begin (before ++ asked ∷ between)) asked.0 asked.1 ≡ Repeat reply
 
 -- a state that is left of a life
-pub record IsLeftOf (zone : List ℕ) (life : List (List Call)) (s : State) : Type 0 where
+pub record IsLeftOf (begin : State) (life : List (List Call)) (s : State) : Type 0 where
   pub done : List (List Asked)
-  pub are : AreDoneInTurn (empty zone) life done
-  pub fold : s ≡ Fold (empty zone) (in_turn done)
-  pub within_limits : AreWithinLimits (empty zone) (in_turn done)
-  pub once : ActOnce (empty zone) (in_turn done)
-  pub honest : Honest s
+  pub are : AreDoneInTurn begin life done
+  pub fold : s ≡ Fold begin (in_turn done)
+  pub within_limits : AreWithinLimits begin (in_turn done)
+  pub once : ActOnce begin (in_turn done)
+  -- what was held when it began is held still, and an honest book is honest still
+  pub held : (asked : Asked) (reply : Reply) → IsHeld begin asked reply → IsHeld s asked reply
+  pub honest : Honest begin → Honest s
 
--- whatever a book is asked, and wherever it is stopped: a crash leaves a state that is left of its life, and nothing else
+-- whatever a book is asked, and wherever it is stopped: a crash leaves something, and nothing but a state that is left of its life
 abbrev pub EachLifeHolds : {S : Type 0} → Ghosts S → Type 0
-EachLifeHolds {S} g = (zone : List ℕ) (calls : List Call) (later : List (List Call)) (last : Kept S) →
-    Life g zone calls later last → CrashLeaves (state g last.held) (IsLeftOf zone (calls ∷ later))
+EachLifeHolds {S} g = (begin : State) (calls : List Call) (later : List (List Call)) (last : Kept S) → Life g begin calls later last →
+    CrashLeaves (state g last.held) (IsLeftOf begin (calls ∷ later)) × CrashLeavesSome (state g last.held)

@@ -6,10 +6,10 @@ use crate::keeping::Book;
 use sqlite::Alter;
 
 impl<S: Alter> Book<S> {
-    /// Does nothing. Its clause is a law: a book is made, asked, stopped anywhere, taken up again over what a crash left, and
-    /// asked again, any number of times. Then a crash leaves the state of the commands up to some point that covers each
-    /// acknowledged one, and nothing else; none of them was accepted that broke a limit, each acts once, and each limit that a
-    /// member's duties break has its exceedance.
+    /// Does nothing. Its clause is a law: a book is made or found, asked, stopped anywhere, taken up again over what a crash
+    /// left, and asked again, any number of times. Then a crash leaves the state of the commands up to some point that covers
+    /// each acknowledged one, and nothing else. An assignment among them was accepted if and only if it passed the book's checks
+    /// and broke no limit, each acts once, and of an honest book each limit that a member's duties break has its exceedance.
     pub fn each_life_holds()
         ensures { EachLifeHolds S.Store }
     {
