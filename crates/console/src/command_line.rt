@@ -239,7 +239,8 @@ pub fn action(alloc: Global, words: &[&str]) -> Result<Action, Error>
     read(alloc, words)
 }
 
-/// Reads the same, as `clap` states it alone.
+/// Reads the same, as `clap` states it alone. It serves the prover alone: the other clauses of `action` are proved of one
+/// result, and not of each way in which this function may end.
 fn read(alloc: Global, words: &[&str]) -> Result<Action, Error>
     ensures ok { IfOk result
         (λ a. IsSomeAnd (subcommand_of command_line (texts words.now)) (States a)) }
