@@ -46,7 +46,8 @@ pub(crate) fn is_free<S: Alter>(conn: &Connection<S>) -> bool
         && is_name_free(conn, "request")
 }
 
-/// Makes the tables, with the row of the book.
+/// Makes the tables, with the row of the book. They are made in threes for the prover alone, which is shown once what three
+/// calls in turn make.
 pub(crate) fn make_tables<S: Alter>(
     conn: &mut Connection<S>,
     book: &BookRecord,
@@ -63,6 +64,7 @@ pub(crate) fn make_tables<S: Alter>(
     Ok(insert_book(conn, book)?)
 }
 
+/// Makes the tables `book`, `crew` and `pairing`.
 fn make_first<S: Alter>(conn: &mut Connection<S>) -> Result<(), StoreFault>
     requires { IsInside (state S.Store conn.old) }
     ensures { Changed (MakesTables [] first_tables) (state S.Store conn.old)
@@ -73,6 +75,7 @@ fn make_first<S: Alter>(conn: &mut Connection<S>) -> Result<(), StoreFault>
     Ok(create_pairing(conn)?)
 }
 
+/// Makes the tables `period`, `segment` and `seat`.
 fn make_second<S: Alter>(conn: &mut Connection<S>) -> Result<(), StoreFault>
     requires { IsInside (state S.Store conn.old) }
     ensures { Changed (MakesTables first_tables second_tables) (state S.Store conn.old)
@@ -83,6 +86,7 @@ fn make_second<S: Alter>(conn: &mut Connection<S>) -> Result<(), StoreFault>
     Ok(create_seat(conn)?)
 }
 
+/// Makes the tables `ground`, `exceedance` and `request`.
 fn make_third<S: Alter>(conn: &mut Connection<S>) -> Result<(), StoreFault>
     requires { IsInside (state S.Store conn.old) }
     ensures { Changed (MakesTables second_tables all_tables) (state S.Store conn.old)
