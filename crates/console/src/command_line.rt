@@ -112,8 +112,8 @@ Example:
   rosterbook roster roster.db C1
 
 Prints the member's id, seat and name, and then the duties in order of time:
-'plan' is as planned, 'actual' as flown. Times are UTC. Lengths are hours and
-minutes.
+'plan' is as planned, 'actual' as flown. Times are UTC. Lengths are
+hours and minutes.
 
 Exit status: 0 done, 1 there is no such member, 2 a mistake in the command line,
 3 there is no book in the file, or the file, memory or the output fails";
