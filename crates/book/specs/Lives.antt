@@ -108,7 +108,7 @@ module _ {S : Type 0} (g : Ghosts S) where
   abbrev pub GoesOn : Kept S → List (List Call) → Kept S → Type 0
   GoesOn stopped [] last = last ≡ stopped
   GoesOn stopped (calls ∷ later) last =
-      (again : Kept S) × (left : Kept S) × IsTakenUp stopped again × AreCalls again calls left × GoesOn left later last
+      (again : Kept S) × (left : Kept S) × IsTakenUp stopped again × AreCalls g again calls left × GoesOn left later last
 
   -- a life: a book was durably at this state, as `Book::create` and `Book::adopt` make one; it was called so in its first session, and
   -- so in later ones; it is the last one now
@@ -117,7 +117,7 @@ module _ {S : Type 0} (g : Ghosts S) where
     pub fresh : made.failed ≡ false
     pub kept : IsDurablyAt g made begin
     pub left : Kept S
-    pub first : AreCalls made calls left
+    pub first : AreCalls g made calls left
     pub more : GoesOn left later last
 
 -- ---- What comes of them
