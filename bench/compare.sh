@@ -40,7 +40,10 @@ listen() {
     : >listening
     "$rosterbook" serve "$1" $port --connections 1000000 >listening &
     server=$!
-    until grep -q . listening; do sleep 0.001; done
+    until grep -q . listening; do
+        kill -0 "$server" 2>/dev/null || { echo "bench/compare.sh: the server did not start on port $port" >&2; exit 1; }
+        sleep 0.001
+    done
 }
 
 hush() {
