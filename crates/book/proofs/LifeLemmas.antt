@@ -226,8 +226,7 @@ module _ {S : Type 0} (g : Ghosts S) where
   shut [] old new failed are = (are, refl, refl)
   shut (call ∷ calls) old new failed are =
       let first = call_shut g call old are.0 failed are.1 in
-      let rest = shut calls are.0 new (subst (λ (b : Kept S). IsTrue b.failed) (sym first.0) failed) are.2 in
-      (
+      let rest = shut calls are.0 new (subst (λ (b : Kept S). IsTrue b.failed) (sym first.0) failed) are.2 in (
         rest.0 ∙ first.0,
         both_none (acknowledged_by call) (acknowledged calls) first.1 rest.1,
         both_none (answers_by call) (answers calls) first.2 rest.2,
@@ -251,7 +250,7 @@ module _ {S : Type 0} (g : Ghosts S) where
         let same : in_doubt calls ≡ in_doubt (call ∷ calls) = ap (λ b. cond b (doubted_by call) (in_doubt calls)) (sym calm) in
         sym (fold_append s (acknowledged_by call) (acknowledged calls ++ in_doubt calls))
         ∙ ap (Fold s) (sym (append_all (acknowledged_by call) (acknowledged calls) (in_doubt calls))
-            ∙ ap (λ (l : List Asked). (acknowledged_by call ++ acknowledged calls) ++ l) same)
+        ∙ ap (λ (l : List Asked). (acknowledged_by call ++ acknowledged calls) ++ l) same)
 
     -- and of one whose first call did, since the others do nothing
     stopped_first : acknowledged calls ≡ [] → Fold s (acknowledged_by call) ≡ Fold s (acknowledged (call ∷ calls))
@@ -262,7 +261,7 @@ module _ {S : Type 0} (g : Ghosts S) where
     stopped_second stopped none =
         let same : doubted_by call ≡ in_doubt (call ∷ calls) = ap (λ b. cond b (doubted_by call) (in_doubt calls)) (sym stopped) in
         ap (Fold s) (ap (λ (l : List Asked). l ++ doubted_by call) (sym (second_none (acknowledged_by call) (acknowledged calls) none))
-            ∙ ap (λ (l : List Asked). (acknowledged_by call ++ acknowledged calls) ++ l) same)
+        ∙ ap (λ (l : List Asked). (acknowledged_by call ++ acknowledged calls) ++ l) same)
 
   reaches : (calls : List Call) (old new : Kept S) (s : State) → old.failed ≡ false → IsDurablyAt g old s → AreCalls g old calls new → Reached s calls new
   reaches [] old new s fresh at are =
@@ -367,7 +366,7 @@ module _ {S : Type 0} (g : Ghosts S) where
   taken_up_at stopped again t up clean kept holds =
       let found = up.found clean in
       let same = one_held up.shown.trees up.it t (up.shown.schema, found.book) holds
-          (record { sound = found.sound; instants = found.instants }) kept in
+      (record { sound = found.sound; instants = found.instants }) kept in
       subst (λ (x : State). IsDurablyAt g again x) same up.kept
 
   lived : (later : List (List Call)) (calls : List Call) (old stopped last : Kept S) (s : State) → old.failed ≡ false → IsDurablyAt g old s → AreCalls g old calls stopped →
@@ -392,7 +391,7 @@ module _ {S : Type 0} (g : Ghosts S) where
       let x = one_of s it.0 (acknowledged calls) (acknowledged calls ++ in_doubt calls) it.1.0 in
       let again_clean = clean_before g more again on.1 on.3 (clean_stopped later on.1 last on.4 clean) in
       let begun : IsDurablyAt g again (Fold s x.done) = subst (λ (y : State). IsDurablyAt g again y) x.fold
-          (taken_up_at stopped again it.0 up again_clean it.1.1 it.2) in
+      (taken_up_at stopped again it.0 up again_clean it.1.1 it.2) in
       let rest = lived later more again on.1 last (Fold s x.done) up.fresh begun on.3 on.4 clean trees may in
       record {
         left = rest.left;
@@ -408,8 +407,7 @@ module _ {S : Type 0} (g : Ghosts S) where
 are_within_limits : (begin : State) (done : List Asked) → AreWithinLimits begin done
 are_within_limits begin done before after asked here assignment =
     let s = Fold begin before in
-    let law = accepted_within_limits s asked.0 asked.1 assignment in
-    (
+    let law = accepted_within_limits s asked.0 asked.1 assignment in (
       λ is.
           let it = accepted s asked.0 asked.1 is.0 is.1 is.2 in
           let passes : PassesChecks s asked.0 asked.1 = record { free = it.free; passes = λ row c _. passed_each (refusals s asked.1) it.passes row c } in
@@ -449,18 +447,21 @@ each_life_holds g begin calls later last life = (
     crash = λ clean trees may.
         let it = lived g later calls life.made life.left last begin life.fresh life.kept life.first life.more clean trees may in
         let done = in_turn it.done in
-        let was_clean = clean_before g calls life.made life.left life.first (clean_stopped g later life.left last life.more clean) in
-        (it.left, record {
-          done = it.done;
-          are = it.are;
-          fold = it.fold;
-          within_limits = are_within_limits begin done;
-          once = acts_once begin done;
-          held = λ asked reply held. subst (λ (t : State). IsHeld t asked reply) (sym it.fold)
-              (keeps_requests begin asked.0 (record { command = asked.1; reply = reply }) done held);
-          honest = λ honest. subst Honest (sym it.fold)
-              (stays_honest keeps_sound keeps_honest begin done (each_of done it.made) (life.kept.kept was_clean).sound honest);
-        }, it.holds);
+        let was_clean = clean_before g calls life.made life.left life.first (clean_stopped g later life.left last life.more clean) in (
+          it.left,
+          record {
+            done = it.done;
+            are = it.are;
+            fold = it.fold;
+            within_limits = are_within_limits begin done;
+            once = acts_once begin done;
+            held = λ asked reply held. subst (λ (t : State). IsHeld t asked reply) (sym it.fold)
+                (keeps_requests begin asked.0 (record { command = asked.1; reply = reply }) done held);
+            honest = λ honest. subst Honest (sym it.fold)
+                (stays_honest keeps_sound keeps_honest begin done (each_of done it.made) (life.kept.kept was_clean).sound honest);
+          },
+          it.holds,
+        );
   },
   sessions_leave g later life.left last (calls_leave g calls life.made life.left life.kept.some life.first) life.more,
 )

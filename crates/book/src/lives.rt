@@ -12,6 +12,5 @@ impl<S: Alter> Book<S> {
     /// and broke no limit, each acts once, and of an honest book each limit that a member's duties break has its exceedance.
     pub fn each_life_holds()
         ensures { EachLifeHolds S.Store }
-    {
-    }
+    {}
 }
