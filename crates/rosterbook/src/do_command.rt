@@ -14,8 +14,7 @@ use crate::stop::Stop;
 use book::{Answer, Book, FileBook};
 use codec::{CodecFault, command_of_json, fault_to_json, refusal_to_json, reply_to_json};
 use command::{Command, Key};
-use sqlite::{Alter, FileStore};
-use sqlite_disk::Disk;
+use sqlite::Alter;
 use std::alloc::Global;
 use std::io::{Read, Write};
 use values::MemoryFault;
@@ -27,7 +26,7 @@ pub(crate) struct Told {
     status: Status,
 }
 
-/// Answers `rosterbook do`: opens the book, and then reads a command and asks it.
+/// Answers `rosterbook do`: opens the book, then reads a command and asks it, and closes the book.
 pub(crate) fn answer_do<R: Read, O: Write>(
     rt: &HostRuntime,
     file: &str,
@@ -39,22 +38,8 @@ pub(crate) fn answer_do<R: Read, O: Write>(
         (O.contents out.new)
         status input answer) }
 {
-    ask_once(rt.alloc(), FileBook::open(rt, file)?, reader, out)
-}
-
-/// Asks a book one command, and closes it.
-fn ask_once<D: Disk + Drop, R: Read, O: Write>(
-    alloc: Global,
-    mut book: Book<FileStore<D>>,
-    reader: &mut R,
-    out: &mut O,
-) -> Result<Status, Stop>
-    ensures { IfOk result (λ status. (input : List ℕ) × (answer : spec.ReplyOrRefusal)
-        × spec.IsRequestReadAndTold (R.remaining reader.old) (O.contents out.old)
-        (O.contents out.new)
-        status input answer) }
-{
-    let done = ask_json(alloc, &mut book, reader, out);
+    let mut book = FileBook::open(rt, file)?;
+    let done = ask_json(rt.alloc(), &mut book, reader, out);
     book.close();
     done
 }

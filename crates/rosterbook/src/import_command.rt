@@ -12,13 +12,13 @@ use crate::stop::Stop;
 use book::{Answer, Book, FileBook, Import};
 use codec::{CodecFault, RequestNumber, schedule_of_csv};
 use duty::Pairing;
-use sqlite::{Alter, FileStore};
-use sqlite_disk::Disk;
+use sqlite::Alter;
 use std::alloc::Global;
 use std::io;
 use std::io::{Read, Write};
 
-/// Answers `rosterbook import`: opens the book, and then reads a schedule and adds its pairings.
+/// Answers `rosterbook import`: opens the book, then reads a schedule and adds its pairings, and closes
+/// the book.
 pub(crate) fn answer_import<R: Read, O: Write, E: Write>(
     rt: &HostRuntime,
     file: &str,
@@ -30,29 +30,8 @@ pub(crate) fn answer_import<R: Read, O: Write, E: Write>(
     ensures { IfOk result (spec.IsImportTold (R.remaining reader.old) (O.contents out.old)
         (O.contents out.new) (E.contents err.old) (E.contents err.new)) }
 {
-    import_once(
-        rt.alloc(),
-        FileBook::open(rt, file)?,
-        number,
-        reader,
-        out,
-        err,
-    )
-}
-
-/// Adds the pairings of one schedule to a book, and closes it.
-fn import_once<D: Disk + Drop, R: Read, O: Write, E: Write>(
-    alloc: Global,
-    mut book: Book<FileStore<D>>,
-    number: RequestNumber,
-    reader: &mut R,
-    out: &mut O,
-    err: &mut E,
-) -> Result<Status, Stop>
-    ensures { IfOk result (spec.IsImportTold (R.remaining reader.old) (O.contents out.old)
-        (O.contents out.new) (E.contents err.old) (E.contents err.new)) }
-{
-    let done = import_csv(alloc, &mut book, number, reader, out, err);
+    let mut book = FileBook::open(rt, file)?;
+    let done = import_csv(rt.alloc(), &mut book, number, reader, out, err);
     book.close();
     done
 }

@@ -50,7 +50,7 @@ impl<D: Disk + Drop> BookServer<FileStore<D>> {
     }
 }
 
-/// Answers `rosterbook serve`: opens the book, binds the port, and then serves connections.
+/// Answers `rosterbook serve`: opens the book, binds the port, then serves connections, and closes the book.
 pub(crate) fn answer_serve<O: Write, E: Write>(
     rt: &HostRuntime,
     file: &str,
@@ -65,31 +65,16 @@ pub(crate) fn answer_serve<O: Write, E: Write>(
     let book = FileBook::open(rt, file)?;
     match TcpListener::bind(rt, (Ipv4Addr::LOCALHOST, port)) {
         Ok(listener) => {
-            let server = BookServer { listener, book };
-            serve_once(rt.alloc(), server, port, connections, out, err)
+            let mut server = BookServer { listener, book };
+            let done = listen(rt.alloc(), &mut server, port, connections, out, err);
+            server.close();
+            done
         }
         Err(_) => {
             book.close();
             Err(Stop::Network)
         }
     }
-}
-
-/// Serves the connections to a book, and closes it.
-fn serve_once<D: Disk + Drop, O: Write, E: Write>(
-    alloc: Global,
-    mut server: BookServer<FileStore<D>>,
-    port: u16,
-    connections: u32,
-    out: &mut O,
-    err: &mut E,
-) -> Result<Status, Stop>
-    ensures { IfOk result (spec.IsServeTold port connections (O.contents out.old)
-        (O.contents out.new) (E.contents err.old) (E.contents err.new)) }
-{
-    let done = listen(alloc, &mut server, port, connections, out, err);
-    server.close();
-    done
 }
 
 /// Tells the port, and serves so many connections, or fewer where the store fails. That the line of a failed connection can't be

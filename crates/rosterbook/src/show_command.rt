@@ -16,8 +16,7 @@ use book::{Book, BookFault, FileBook, Show};
 use duty::{CrewId, PairingId};
 use report::{ReportFault, exceedance_text, pairing_text, roster_text};
 use roster::Roster;
-use sqlite::{Alter, FileStore};
-use sqlite_disk::Disk;
+use sqlite::Alter;
 use std::alloc::Global;
 use std::io::Write;
 use values::{MemoryFault, Text};
@@ -72,7 +71,7 @@ fn copy_of(alloc: Global, text: &str) -> Result<Text, MemoryFault>
     Ok(Text::new(String::from_str(alloc, text)?))
 }
 
-/// Opens a book and shows it.
+/// Opens a book and shows it, and lets go of its files as they are: to close them would copy the log into the database.
 fn show_file<O: Write, E: Write>(
     rt: &HostRuntime,
     file: &str,
@@ -83,21 +82,8 @@ fn show_file<O: Write, E: Write>(
     ensures { IfOk result (λ status. (s : State) × spec.IsToldOf s what.now status
         (O.contents out.old) (O.contents out.new) (E.contents err.old) (E.contents err.new)) }
 {
-    show_once(rt.alloc(), FileBook::open(rt, file)?, what, out, err)
-}
-
-/// Shows a book, and lets go of its files as they are: to close them would copy the log into the database.
-fn show_once<D: Disk + Drop, O: Write, E: Write>(
-    alloc: Global,
-    mut book: Book<FileStore<D>>,
-    what: &Show,
-    out: &mut O,
-    err: &mut E,
-) -> Result<Status, Stop>
-    ensures { IfOk result (λ status. (s : State) × spec.IsToldOf s what.now status
-        (O.contents out.old) (O.contents out.new) (E.contents err.old) (E.contents err.new)) }
-{
-    show_text(alloc, &mut book, what, out, err)
+    let mut book = FileBook::open(rt, file)?;
+    show_text(rt.alloc(), &mut book, what, out, err)
 }
 
 /// Prints the text of a member, of a pairing or of the exceedances by what a book shows, or tells that the member or the pairing
