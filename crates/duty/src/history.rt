@@ -1,5 +1,6 @@
 //! The duties of a crew member, with their minutes in order of time.
-//! A history is tested below; new duties in one, beside a slow count: `tests/judgement.py`. Wrong bodies: `must-fail/`.
+//! A history's minutes and free runs: `src/histories.rt` of `book_tests`; new duties in one, beside a slow count: `tests/judgement.py`.
+//! Wrong bodies: `must-fail/`.
 ghost use Rattle.std.specs.Prelude.{◌≡◌, ◌<◌, ◌≤◌, ◌-◌, ◌++◌, ◌∷◌, [], IfOk, OnOk, OnErr, pos, negsuc, ◌-ℤ◌, ◌≤ℤ◌, unsigned_abs, IsFalse, IsTrue, ◌⊎◌, ◌↔◌};
 ghost use Rattle.std.specs.List.{flat_map};
 ghost use Rattle.duty.specs.Minutes.{count, minutes_in, spans_of, Meets, HasFreeRun, Overlap};
@@ -224,35 +225,5 @@ impl TryClone for History {
             flight_duty: self.flight_duty.try_clone(alloc)?,
             on_duty: self.on_duty.try_clone(alloc)?,
         })
-    }
-}
-
-#[cfg(test)]
-mod tests {
-    use super::History;
-    use crate::tests::june;
-    use values::MemoryFault;
-
-    #[test]
-    fn keeps_its_duties_and_three_lists(rt: HostRuntime) -> Result<(), MemoryFault> {
-        let history = june(rt.alloc())?;
-        let History {
-            duties,
-            flying,
-            flight_duty,
-            on_duty,
-        } = &history;
-        assert_eq!(rt; duties.len(), 5);
-        assert_eq!(rt; flying.as_slice().len(), 8);
-        assert_eq!(rt; on_duty.as_slice().len(), 4);
-        let list = flight_duty.as_slice();
-        assert_eq!(rt; list.len(), 4);
-        assert_eq!(rt; list[3].span.from.number(), 13_381_140);
-        assert_eq!(rt; list[3].span.to.number(), 13_382_550);
-        assert_eq!(rt; list[0].total, 720);
-        assert_eq!(rt; list[1].total, 1_440);
-        assert_eq!(rt; list[2].total, 2_190);
-        assert_eq!(rt; list[3].total, 3_600);
-        Ok(())
     }
 }

@@ -21,8 +21,6 @@ mod segment;
 mod shape;
 mod span;
 pub mod tag;
-#[cfg(test)]
-mod tests;
 
 pub use actual::Actual;
 pub use duty_in_force::DutyInForce;

@@ -103,7 +103,8 @@ pub(crate) fn read_crew<S: Alter>(
     requires above { HasCleanDisk (state S.Store conn.old)
         → AgreesThrough book roster (state S.Store conn.old).now }
     ensures read { ReadsAs (λ r. AgreesThrough crew r (state S.Store conn.old).now
-        × (r ≡ record roster { crew = r.crew })) (λ fault. Justifies fault (state S.Store conn.old).now)
+        × (r ≡ record roster { crew = r.crew }))
+        (λ fault. Justifies fault (state S.Store conn.old).now)
         (state S.Store conn.old) (state S.Store conn.new) result }
     ensures rest { IfOk result (λ r. r ≡ record roster { crew = r.crew }) }
 {

@@ -124,7 +124,8 @@ fn gather_members<S: Source>(
     ensures told { TellsOfState S.is_clean S.shows
         (λ s it. pairings.now ≡ pairings_needed s instruction.now
         → grounds.now ≡ grounds_needed s instruction.now
-        → it ≡ fin.retain_keys s.crew (needs_member s instruction.now)) source.old source.new result }
+        → it ≡ fin.retain_keys s.crew (needs_member s instruction.now))
+        source.old source.new result }
     ensures left { S.stays source.old source.new }
     ensures serves { OnOk result (S.serves source.old source.new) }
 {
