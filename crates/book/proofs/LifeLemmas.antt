@@ -8,8 +8,6 @@ use Rattle.sqlite.specs.State as conn
 use Rattle.sqlite.specs.State.{HasCleanDisk}
 use Rattle.sqlite.specs.Held.{state}
 use Rattle.command.specs.Instructions.{IsMade}
-use Rattle.command.specs.declared.exceedance.Reply.{Reply}
-use Rattle.command.specs.declared.refusal.Refusal.{Refusal}
 use Rattle.roster.proofs.Accepted.{accepted, passed_each}
 use Rattle.roster.proofs.KeepsHonest.{keeps_honest}
 use Rattle.roster.proofs.Lists.{first_of_all, first_or_later, later, no_member}
@@ -17,7 +15,7 @@ use Rattle.roster.proofs.MadeByCommands.{stays_honest}
 use Rattle.roster.proofs.Requests.{keeps_requests}
 use Rattle.roster.proofs.Sound.{keeps_sound}
 use Rattle.roster.proofs.WithinLimits.{accepted_within_limits}
-use Rattle.roster.specs.Folds.{Asked, Fold, Replies, answer_of, next}
+use Rattle.roster.specs.Folds.{Asked, Fold, Replies, ReplyOrRefusal, answer_of, next}
 use Rattle.roster.specs.Honest.{Honest}
 use Rattle.roster.specs.Laws.{AreMade, PassesChecks}
 use Rattle.roster.specs.Refusals.{refusals}
@@ -182,7 +180,7 @@ module _ {S : Type 0} (g : Ghosts S) where
   -- the answers are the machine's
   call_replies : (call : Call) (old new : Kept S) (s : State) → IsDurablyAt g old s → IsCall g old call new → IsClean g new →
       map result_of (answers_by call) ≡ Replies s (acknowledged_by call)
-  call_replies (for_one (key, instruction) (Ok answer)) old new s at is clean = ap (λ (r : Result Reply Refusal). r ∷ []) (is.1.reply s at clean)
+  call_replies (for_one (key, instruction) (Ok answer)) old new s at is clean = ap (λ (r : ReplyOrRefusal). r ∷ []) (is.1.reply s at clean)
   call_replies (for_one asked (Err fault)) old new s at is clean = refl
   call_replies (for_many commands run) old new s at is clean = is.1.replies s at clean ∙ replies_take s commands (length run.answers.items)
   call_replies (for_report fault) old new s at is clean = refl
@@ -286,8 +284,8 @@ module _ {S : Type 0} (g : Ghosts S) where
       map result_of (answers (call ∷ calls)) ≡ Replies s (acknowledged (call ∷ calls))
   join_replies call calls s first rest =
       map-append result_of (answers_by call) (answers calls)
-      ∙ ap (λ (l : List (Result Reply Refusal)). l ++ map result_of (answers calls)) first
-      ∙ ap (λ (l : List (Result Reply Refusal)). Replies s (acknowledged_by call) ++ l) rest
+      ∙ ap (λ (l : List ReplyOrRefusal). l ++ map result_of (answers calls)) first
+      ∙ ap (λ (l : List ReplyOrRefusal). Replies s (acknowledged_by call) ++ l) rest
       ∙ sym (replies_append s (acknowledged_by call) (acknowledged calls))
 
   none_replies : (s : State) (calls : List Call) → acknowledged calls ≡ [] → answers calls ≡ [] → map result_of (answers calls) ≡ Replies s (acknowledged calls)

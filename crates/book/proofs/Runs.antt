@@ -2,9 +2,7 @@
 use Rattle.std.proofs.Common.{◌≡◌, ◌<◌, ℕ, zero, suc, ◌+◌, List, [], ◌∷◌, ◌++◌, Result, length, take, get_or, refl, ap, subst, sym, add-one, arith, inl, inr, Ok, Err, OnOk}
 use Rattle.sqlite.specs.State as conn
 use Rattle.sqlite.specs.State.{HasCleanDisk}
-use Rattle.command.specs.declared.exceedance.Reply.{Reply}
-use Rattle.command.specs.declared.refusal.Refusal.{Refusal}
-use Rattle.roster.specs.Folds.{Asked, Fold, Replies, answer_of, next}
+use Rattle.roster.specs.Folds.{Asked, Fold, Replies, ReplyOrRefusal, answer_of, next}
 use Rattle.roster.specs.Honest.{Honest}
 use Rattle.roster.specs.State.{State}
 use Rattle.roster.specs.Steps.{step_of}
@@ -19,7 +17,7 @@ fold_suc s (x ∷ l) zero a h = refl
 fold_suc s (x ∷ l) (suc i) a h = fold_suc (next s x) l i a (omega arith)
 
 -- what one of them is answered
-abbrev pub answer_in : State → Asked → Result Reply Refusal
+abbrev pub answer_in : State → Asked → ReplyOrRefusal
 answer_in s a = answer_of (step_of s a.0 a.1)
 
 replies_suc : (s : State) (l : List Asked) (i : ℕ) (a : Asked) → i < length l → take (suc i) (Replies s l) ≡ take i (Replies s l) ++ answer_in (Fold s (take i l)) (get_or l i a) ∷ []

@@ -5,9 +5,7 @@ use Rattle.sqlite_trees.specs.declared.store.Store.{Ghosts}
 use Rattle.sqlite.specs.State as conn
 use Rattle.sqlite.specs.State.{HasCleanDisk}
 use Rattle.sqlite.specs.Held.{Held, held_code, state}
-use Rattle.command.specs.declared.exceedance.Reply.{Reply}
-use Rattle.command.specs.declared.refusal.Refusal.{Refusal}
-use Rattle.roster.specs.Folds.{Asked, Fold}
+use Rattle.roster.specs.Folds.{Asked, Fold, ReplyOrRefusal}
 use Rattle.roster.specs.Sound.{Sound}
 use Rattle.roster.specs.State.{State}
 use Rattle.loading.specs.SameRows.{HasInstants}
@@ -85,7 +83,7 @@ pub record HasFoundBook (old now : conn.State) : Type 0 where
 -- ---- Answers
 
 -- an answer as a result: the reply, or the refusal
-abbrev pub result_of : Answer → Result Reply Refusal
+abbrev pub result_of : Answer → ReplyOrRefusal
 result_of (Accepted reply) = Ok reply
 result_of (Refused refusal) = Err refusal
 

@@ -12,12 +12,16 @@ use Rattle.roster.specs.Steps.{step_of, after}
 use Rattle.roster.specs.declared.change.Verdict.{Verdict}
 use Rattle.roster.specs.declared.change.Verdict.TheVariants.{Repeat, Accept, Refuse}
 
+-- what a command is answered
+abbrev pub ReplyOrRefusal : Type 0
+ReplyOrRefusal = Result Reply Refusal
+
 -- a command under its key
 abbrev pub Asked : Type 0
 Asked = KeyParts × Instruction
 
 -- what a verdict answers: a repeat is answered with the kept reply
-abbrev pub answer_of : Verdict → Result Reply Refusal
+abbrev pub answer_of : Verdict → ReplyOrRefusal
 answer_of (Repeat reply) = Ok reply
 answer_of (Accept change reply) = Ok reply
 answer_of (Refuse refusal) = Err refusal
@@ -37,7 +41,7 @@ abbrev pub Fold : State → List Asked → State
 Fold s asked = fold next s asked
 
 -- their answers in turn
-abbrev pub Replies : State → List Asked → List (Result Reply Refusal)
+abbrev pub Replies : State → List Asked → List ReplyOrRefusal
 Replies s [] = []
 Replies s ((key, instruction) ∷ asked) = answer_of (step_of s key instruction) ∷ Replies (next s (key, instruction)) asked
 

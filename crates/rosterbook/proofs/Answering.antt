@@ -15,8 +15,11 @@ use Rattle.stored_json.specs.Texts.{codec_fault_text}
 use Rattle.stored_json.specs.declared.fault.CodecFault.{CodecFault}
 use Rattle.stored_json.specs.declared.fault.CodecFault.TheVariants.{BadCsv}
 use Rattle.book.specs.Kept.{IsDurablyAt, IsClean, Kept}
-use Rattle.rosterbook.specs.Asking.{ReplyOrRefusal, Answers, AreAddedAndTold, AreTold, IsImported, IsImportTold, IsNoSchedule, Request, answer_json, left_by_request, status_of_answer, told_json}
-use Rattle.rosterbook.specs.Streams.{StreamBytes, ReadsInput, refused_line}
+use Rattle.roster.specs.Folds.{ReplyOrRefusal}
+use Rattle.web.specs.Answers.{answer_json}
+use Rattle.rosterbook.specs.Asking.{Answers, AreAddedAndTold, AreTold, IsImported, IsImportTold, IsNoSchedule, Request, left_by_request, status_of_answer, told_json}
+use Rattle.http_exchange.specs.Exchange.{ChannelBytes}
+use Rattle.rosterbook.specs.Streams.{ReadsInput, refused_line}
 use Rattle.rosterbook.specs.declared.status.Status.{Status}
 use Rattle.rosterbook.specs.declared.status.Status.TheVariants.{Refused}
 
@@ -52,11 +55,11 @@ request_unread g book status line request fault is ends says = rw is (Err Number
 
 -- ---- `import`
 
-pub schedule_added : {S : Type 0} (g : Ghosts S) (old new : Kept S) (number : ℕ) (held out out' err : StreamBytes) (status : Status) (text : List ℕ) (plans : List Plan) →
+pub schedule_added : {S : Type 0} (g : Ghosts S) (old new : Kept S) (number : ℕ) (held out out' err : ChannelBytes) (status : Status) (text : List ℕ) (plans : List Plan) →
     ReadsInput held text → IsSchedule text plans → AreAddedAndTold g old new number plans status out out' → IsImported g old new number held out out' err err status
 schedule_added g old new number held out out' err status text plans read is added = record { text = text; read = read; done = inr (plans, is, added, refl) }
 
-pub schedule_refused : {S : Type 0} (g : Ghosts S) (book : Kept S) (number : ℕ) (held out err err' : StreamBytes) (text : List ℕ) (fault : CodecFault) (line : ℕ) →
+pub schedule_refused : {S : Type 0} (g : Ghosts S) (book : Kept S) (number : ℕ) (held out err err' : ChannelBytes) (text : List ℕ) (fault : CodecFault) (line : ℕ) →
     ReadsInput held text → fault ≡ BadCsv line → IsAtFault text line → Appends err err' (refused_line (codec_fault_text fault)) → IsImported g book book number held out out err err' Refused
 schedule_refused g book number held out err err' text fault line read is at_fault told = record {
   text = text;
@@ -64,7 +67,7 @@ schedule_refused g book number held out err err' text fault line read is at_faul
   done = inl (record { line = line; at_fault = at_fault; ends = refl; prints = refl; complains = subst (λ f. Appends err err' (refused_line (codec_fault_text f))) is told }, refl);
 }
 
-pub imported_told : {S : Type 0} (g : Ghosts S) (old new : Kept S) (number : ℕ) (held out out' err err' : StreamBytes) (status : Status) →
+pub imported_told : {S : Type 0} (g : Ghosts S) (old new : Kept S) (number : ℕ) (held out out' err err' : ChannelBytes) (status : Status) →
     IsImported g old new number held out out' err err' status → IsImportTold held out out' err err' status
 imported_told g old new number held out out' err err' status it = record {
   text = it.text;

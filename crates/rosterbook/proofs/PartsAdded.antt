@@ -14,15 +14,16 @@ use Rattle.book.specs.Answered.{IsAnswered}
 use Rattle.book.specs.Kept.{IsDurablyAt, IsClean, Kept, result_of}
 use Rattle.book.specs.declared.answer.Answer.{Answer}
 use Rattle.book.proofs.Runs.{answer_in, fold_more, replies_more}
-use Rattle.rosterbook.specs.Asking.{ReplyOrRefusal, AreAddedAndTold, part_line, part_lines, status_of_all, status_with}
-use Rattle.rosterbook.specs.Streams.{StreamBytes}
+use Rattle.roster.specs.Folds.{ReplyOrRefusal}
+use Rattle.rosterbook.specs.Asking.{AreAddedAndTold, part_line, part_lines, status_of_all, status_with}
+use Rattle.http_exchange.specs.Exchange.{ChannelBytes}
 use Rattle.rosterbook.specs.declared.status.Status.{Status}
 use Rattle.rosterbook.specs.declared.status.Status.TheVariants.{Done}
 use Rattle.rosterbook.proofs.RefusalLemmas.{appends_nothing}
 
 -- ---- What was written
 
-pub appends_both : (held held' held'' : StreamBytes) (xs ys : List ℕ) → Appends held held' xs → Appends held' held'' ys → Appends held held'' (xs ++ ys)
+pub appends_both : (held held' held'' : ChannelBytes) (xs ys : List ℕ) → Appends held held' xs → Appends held' held'' ys → Appends held held'' (xs ++ ys)
 appends_both None held' held'' xs ys first second = tt
 appends_both (Some a) None held'' xs ys first second = absurd first
 appends_both (Some a) (Some b) None xs ys first second = absurd second
@@ -62,7 +63,7 @@ pub record AreAsked {S : Type 0} (g : Ghosts S) (old now : Kept S) (asked : List
   pub left : (s : State) → IsDurablyAt g old s → IsDurablyAt g now (Fold s (take count asked))
 
 -- and were told them
-pub record AreSoFar {S : Type 0} (g : Ghosts S) (old now : Kept S) (asked : List Asked) (count : ℕ) (status : Status) (out out' : StreamBytes) : Type 0 where
+pub record AreSoFar {S : Type 0} (g : Ghosts S) (old now : Kept S) (asked : List Asked) (count : ℕ) (status : Status) (out out' : ChannelBytes) : Type 0 where
   pub answers : List ReplyOrRefusal
   pub asked_so_far : AreAsked g old now asked count answers
   pub printed : Appends out out' (part_lines 1 answers)
@@ -71,7 +72,7 @@ pub record AreSoFar {S : Type 0} (g : Ghosts S) (old now : Kept S) (asked : List
 pub none_asked : {S : Type 0} (g : Ghosts S) (book : Kept S) (asked : List Asked) → AreAsked g book book asked 0 []
 none_asked g book asked = record { each = refl; clean = λ clean. clean; answered = λ s at clean. refl; left = λ s at. at }
 
-pub none_yet : {S : Type 0} (g : Ghosts S) (book : Kept S) (asked : List Asked) (out : StreamBytes) → AreSoFar g book book asked 0 Done out out
+pub none_yet : {S : Type 0} (g : Ghosts S) (book : Kept S) (asked : List Asked) (out : ChannelBytes) → AreSoFar g book book asked 0 Done out out
 none_yet g book asked out = record { answers = []; asked_so_far = none_asked g book asked; printed = appends_nothing out; ends = refl }
 
 module _ {S : Type 0} (g : Ghosts S) (old now new : Kept S) (asked : List Asked) (count : ℕ) where
@@ -97,7 +98,7 @@ module _ {S : Type 0} (g : Ghosts S) (old now new : Kept S) (asked : List Asked)
             rw more (leaves so_far (was.left s at));
       }
 
-  pub one_more : (status : Status) (out out' out'' : StreamBytes) (a : Asked) (answer : Answer) → count < length asked → slice_get asked count ≡ Some a →
+  pub one_more : (status : Status) (out out' out'' : ChannelBytes) (a : Asked) (answer : Answer) → count < length asked → slice_get asked count ≡ Some a →
       AreSoFar g old now asked count status out out' → IsAnswered g now new a (Ok answer) →
       Appends out' out'' (part_line (count + 1) (result_of answer)) →
       AreSoFar g old new asked (count + 1) (status_with status (result_of answer)) out out''
@@ -111,7 +112,7 @@ module _ {S : Type 0} (g : Ghosts S) (old now new : Kept S) (asked : List Asked)
         ends = ap (λ s. status_with s (result_of answer)) was.ends ∙ sym (fold-append status_with Done was.answers (result_of answer ∷ []));
       }
 
-pub all_added : {S : Type 0} (g : Ghosts S) (old new : Kept S) (number : ℕ) (plans : List Plan) (status : Status) (out out' : StreamBytes) →
+pub all_added : {S : Type 0} (g : Ghosts S) (old new : Kept S) (number : ℕ) (plans : List Plan) (status : Status) (out out' : ChannelBytes) →
     AreSoFar g old new (import number plans) (length plans) status out out' → AreAddedAndTold g old new number plans status out out'
 all_added g old new number plans status out out' all =
     let l = import number plans in

@@ -3,7 +3,7 @@ use Rattle.std.proofs.Common.{◌≡◌, ◌<◌, ℕ, ◌+◌, ◌&&◌, true, 
 use Rattle.std.proofs.lemmas.List.{append_assoc}
 use Rattle.std.specs.Io.KnownBytes.{Appends}
 use Rattle.rosterbook.specs.Serving.{AllServed, CutShort, InTurn, Outcome, failure_line, failure_lines}
-use Rattle.rosterbook.specs.Streams.{StreamBytes}
+use Rattle.http_exchange.specs.Exchange.{ChannelBytes}
 use Rattle.rosterbook.proofs.PartsAdded.{appends_both}
 use Rattle.rosterbook.proofs.RefusalLemmas.{appends_nothing}
 
@@ -18,7 +18,7 @@ both_told true true told = (refl, refl)
 both_told true false told = absurd (cc)
 both_told false second told = absurd (cc)
 
-lines_so_far : (err err' err'' : StreamBytes) (told told' : Bool) (outcomes : List Outcome) (outcome : Outcome) →
+lines_so_far : (err err' err'' : ChannelBytes) (told told' : Bool) (outcomes : List Outcome) (outcome : Outcome) →
     (told ≡ true → Appends err err' (failure_lines outcomes)) → (told' ≡ true → Appends err' err'' (failure_line outcome)) →
     (told && told') ≡ true → Appends err err'' (failure_lines (outcomes ++ outcome ∷ []))
 lines_so_far err err' err'' told told' outcomes outcome first second both =
@@ -33,10 +33,10 @@ module _ {V : Type 0} (serves : V → V → Outcome → Type 0) (fails : V → B
   in_turn old now new [] outcome same served well = (new, subst (λ v. serves v new outcome) same served, well, refl)
   in_turn old now new (x ∷ outcomes) outcome (next, first, first_well, rest) served well = (next, first, first_well, in_turn next now new outcomes outcome rest served well)
 
-  pub none_served : (server : V) (err : StreamBytes) (told : Bool) → AllServed serves fails 0 server server err err told
+  pub none_served : (server : V) (err : ChannelBytes) (told : Bool) → AllServed serves fails 0 server server err err told
   none_served server err told = record { outcomes = []; each = refl; served = refl; lines = λ all. appends_nothing err }
 
-  module _ (count : ℕ) (old now new : V) (outcome : Outcome) (err err' err'' : StreamBytes) (told told' : Bool) where
+  module _ (count : ℕ) (old now new : V) (outcome : Outcome) (err err' err'' : ChannelBytes) (told told' : Bool) where
     pub one_served : AllServed serves fails count old now err err' told → serves now new outcome → fails new ≡ false →
         (told' ≡ true → Appends err' err'' (failure_line outcome)) → AllServed serves fails (count + 1) old new err err'' (told && told')
     one_served so_far served well line = record {

@@ -16,7 +16,8 @@ use Rattle.store.specs.Shown.{IsShown}
 use Rattle.store.specs.declared.show.Show.{Show}
 use Rattle.store.specs.declared.show.Show.TheVariants.{Crew, Pairing, Exceedances}
 use Rattle.rosterbook.specs.Showing.{IsAbsence, IsShownTextOrFault, IsToldOf}
-use Rattle.rosterbook.specs.Streams.{StreamBytes, refused_line}
+use Rattle.http_exchange.specs.Exchange.{ChannelBytes}
+use Rattle.rosterbook.specs.Streams.{refused_line}
 use Rattle.rosterbook.specs.declared.status.Status.TheVariants.{Done, Refused}
 
 -- ---- A text of a roster
@@ -51,11 +52,11 @@ same_text (Err fault) what roster s same (inr is) = inr ((same None).0 is.0, is.
 
 -- ---- What is printed
 
-pub text_told : (s : State) (what : Show) (text : List ℕ) (out out' err : StreamBytes) → IsShown s what (Some text) → Appends out out' text
+pub text_told : (s : State) (what : Show) (text : List ℕ) (out out' err : ChannelBytes) → IsShown s what (Some text) → Appends out out' text
     → IsToldOf s what Done out out' err err
 text_told s what text out out' err is prints = record { shown = Some text; is = is; told = (refl, prints, refl) }
 
-pub absence_told : (s : State) (what : Show) (fault : ReportFault) (out err err' : StreamBytes) → fault ≢ Memory
+pub absence_told : (s : State) (what : Show) (fault : ReportFault) (out err err' : ChannelBytes) → fault ≢ Memory
     → (fault ≡ Memory) ⊎ (IsShown s what None × IsAbsence what fault) → Appends err err' (refused_line (report_fault_text fault))
     → IsToldOf s what Refused out out err err'
 absence_told s what fault out err err' other (inl e) tells = absurd (other e)

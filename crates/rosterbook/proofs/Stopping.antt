@@ -14,8 +14,10 @@ use Rattle.book.specs.Answered.{IsAnswered}
 use Rattle.book.specs.Kept.{IsDurablyAt, IsClean, IsInDoubt, Kept, is_store_fault, result_of}
 use Rattle.book.specs.declared.answer.Answer.{Answer}
 use Rattle.book.proofs.Runs.{fold_more}
-use Rattle.rosterbook.specs.Asking.{ReplyOrRefusal, Answers, AreStopped, IsAskStopped, IsLeftAfterAnswers, IsBookFault, IsStoppedIn, Request, asked_by_request, left_by_request}
-use Rattle.rosterbook.specs.Streams.{StreamBytes, IsOfChannel, ReadsInput}
+use Rattle.roster.specs.Folds.{ReplyOrRefusal}
+use Rattle.rosterbook.specs.Asking.{Answers, AreStopped, IsAskStopped, IsLeftAfterAnswers, IsBookFault, IsStoppedIn, Request, asked_by_request, left_by_request}
+use Rattle.http_exchange.specs.Exchange.{ChannelBytes}
+use Rattle.rosterbook.specs.Streams.{IsOfChannel, ReadsInput}
 use Rattle.rosterbook.specs.declared.status.Status.{Status}
 use Rattle.rosterbook.specs.declared.stop.Stop.{Stop}
 use Rattle.rosterbook.specs.declared.stop.Stop.TheVariants as stops
@@ -116,7 +118,7 @@ answer_untold : {S : Type 0} (g : Ghosts S) (old new : Kept S) (request : Reques
 answer_untold g old new (Ok asked) answer stop which answered left = (answer ∷ [], untold g old new new (asked_by_request (Ok asked)) 1 (answer ∷ []) stop which (omega arith) refl answered left, λ fewer. absurd (omega (arith, fewer)))
 answer_untold g old new (Err fault) answer stop which answered left = ([], untold g old new new [] 0 [] stop which (omega arith) refl (λ s at is_clean. refl) left, λ fewer. absurd (omega (arith, fewer)))
 
-pub asked_untold : {S : Type 0} (g : Ghosts S) (old new : Kept S) (held out out' : StreamBytes) (input : List ℕ) (answer : ReplyOrRefusal) (stop : Stop) → IsOfChannel stop → ReadsInput held input →
+pub asked_untold : {S : Type 0} (g : Ghosts S) (old new : Kept S) (held out out' : ChannelBytes) (input : List ℕ) (answer : ReplyOrRefusal) (stop : Stop) → IsOfChannel stop → ReadsInput held input →
     ((s : State) → IsDurablyAt g old s → IsClean g new → Answers s (read_request input) answer) →
     ((s : State) → IsDurablyAt g old s → IsDurablyAt g new (left_by_request s (read_request input))) → IsAskStopped g old new held out out' stop
 asked_untold g old new held out out' input answer stop which read answered left =
@@ -125,7 +127,7 @@ asked_untold g old new held out out' input answer stop which read answered left 
 
 -- ---- `import`
 
-module _ {S : Type 0} (g : Ghosts S) (old now new : Kept S) (number : ℕ) (plans : List Plan) (count : ℕ) (status : Status) (out out' : StreamBytes) where
+module _ {S : Type 0} (g : Ghosts S) (old now new : Kept S) (number : ℕ) (plans : List Plan) (count : ℕ) (status : Status) (out out' : ChannelBytes) where
   abbrev parts : List Asked
   parts = import number plans
 
@@ -138,7 +140,7 @@ module _ {S : Type 0} (g : Ghosts S) (old now new : Kept S) (number : ℕ) (plan
     printed = λ is. was.printed;
   }
 
-  pub part_untold : (out'' : StreamBytes) (a : Asked) (answer : Answer) (stop : Stop) → IsOfChannel stop → count < length parts → slice_get parts count ≡ Some a →
+  pub part_untold : (out'' : ChannelBytes) (a : Asked) (answer : Answer) (stop : Stop) → IsOfChannel stop → count < length parts → slice_get parts count ≡ Some a →
       AreSoFar g old now parts count status out out' → IsAnswered g now new a (Ok answer) → AreStopped g old new number plans out out'' stop
   part_untold out'' a answer stop which within at_count was answered = record {
     answers = was.answers ++ result_of answer ∷ [];

@@ -6,28 +6,23 @@ use Rattle.std.specs.Io.KnownBytes.{Appends}
 use Rattle.sqlite_trees.specs.declared.store.Store.{Ghosts}
 use Rattle.duty.specs.Plans.{Plan}
 use Rattle.command.specs.Texts.{refusal_text}
-use Rattle.command.specs.declared.exceedance.Reply.{Reply}
 use Rattle.command.specs.declared.instruction.Instruction.{Instruction}
-use Rattle.command.specs.declared.refusal.Refusal.{Refusal}
 use Rattle.codec.specs.Schedule.{IsAtFault, IsSchedule}
-use Rattle.roster.specs.Folds.{Asked, Fold, Replies, import, next}
+use Rattle.roster.specs.Folds.{Asked, Fold, Replies, ReplyOrRefusal, import, next}
 use Rattle.roster.specs.State.{State}
 use Rattle.codec.specs.Requests.{read_request}
 use Rattle.codec.specs.RefusalText as json
-use Rattle.stored_json.specs.ReplyText.{reply_text}
 use Rattle.stored_json.specs.declared.fault.CodecFault.{CodecFault}
 use Rattle.state_rows.specs.declared.fault.StoreFault.{StoreFault}
 use Rattle.state_rows.specs.declared.fault.StoreFault.TheVariants.{Store}
 use Rattle.book.specs.Kept.{IsDurablyAt, IsClean, IsInDoubt, Kept}
-use Rattle.rosterbook.specs.Streams.{StreamBytes, IsOfChannel, Prints, ReadsInput, line_end, refused_line}
+use Rattle.web.specs.Answers.{answer_json}
+use Rattle.http_exchange.specs.Exchange.{ChannelBytes}
+use Rattle.rosterbook.specs.Streams.{IsOfChannel, Prints, ReadsInput, line_end, refused_line}
 use Rattle.rosterbook.specs.declared.status.Status.{Status}
 use Rattle.rosterbook.specs.declared.status.Status.TheVariants.{Done, Refused}
 use Rattle.rosterbook.specs.declared.stop.Stop.{Stop}
 use Rattle.rosterbook.specs.declared.stop.Stop.TheVariants.{Book}
-
--- what the book answers a command, or a part of an import
-abbrev pub ReplyOrRefusal : Type 0
-ReplyOrRefusal = Result Reply Refusal
 
 -- how the program ends after an answer
 abbrev pub status_of_answer : ReplyOrRefusal → Status
@@ -56,7 +51,7 @@ module _ {S : Type 0} (g : Ghosts S) where
     pub left : (s : State) → IsDurablyAt g old s → IsLeftAfterAnswers new s asked (length answers) stop
 
 -- nothing was asked, and nothing written
-pub record IsUnasked {S : Type 0} (old new : Kept S) (out out' : StreamBytes) (stop : Stop) : Type 0 where
+pub record IsUnasked {S : Type 0} (old new : Kept S) (out out' : ChannelBytes) (stop : Stop) : Type 0 where
   pub unchanged : new ≡ old
   pub silent : out' ≡ out
   pub told : IsOfChannel stop
@@ -67,18 +62,13 @@ pub record IsUnasked {S : Type 0} (old new : Kept S) (out out' : StreamBytes) (s
 abbrev pub Request : Type 0
 Request = Result (ℕ × Instruction) CodecFault
 
--- the text of an answer
-abbrev pub answer_json : ReplyOrRefusal → List ℕ
-answer_json (Ok reply) = reply_text reply
-answer_json (Err refusal) = json.refusal_json_text refusal
-
 -- one that is not read is told so, and another its answer
 abbrev pub told_json : Request → ReplyOrRefusal → Status × List ℕ
 told_json (Ok asked) answer = (status_of_answer answer, answer_json answer)
 told_json (Err fault) answer = (Refused, json.fault_reply fault)
 
 -- a request was read, and told what it was answered
-pub record IsRequestReadAndTold (held out out' : StreamBytes) (status : Status) (input : List ℕ) (answer : ReplyOrRefusal) : Type 0 where
+pub record IsRequestReadAndTold (held out out' : ChannelBytes) (status : Status) (input : List ℕ) (answer : ReplyOrRefusal) : Type 0 where
   pub read : ReadsInput held input
   pub printed : Prints (told_json (read_request input) answer) status out out'
 
@@ -102,7 +92,7 @@ asked_by_request (Ok asked) = asked_as asked ∷ []
 asked_by_request (Err fault) = []
 
 -- the answer was the book's, where its state is known
-pub record IsRequestAnswered {S : Type 0} (g : Ghosts S) (old new : Kept S) (held out out' : StreamBytes) (status : Status) : Type 0 where
+pub record IsRequestAnswered {S : Type 0} (g : Ghosts S) (old new : Kept S) (held out out' : ChannelBytes) (status : Status) : Type 0 where
   pub input : List ℕ
   pub answer : ReplyOrRefusal
   pub told : IsRequestReadAndTold held out out' status input answer
@@ -110,7 +100,7 @@ pub record IsRequestAnswered {S : Type 0} (g : Ghosts S) (old new : Kept S) (hel
   pub left : (s : State) → IsDurablyAt g old s → IsDurablyAt g new (left_by_request s (read_request input))
 
 -- the program stopped before it asked anything, or when it had asked what was read: nothing was printed where that has no answer
-abbrev pub IsAskStopped : {S : Type 0} → Ghosts S → Kept S → Kept S → StreamBytes → StreamBytes → StreamBytes → Stop → Type 0
+abbrev pub IsAskStopped : {S : Type 0} → Ghosts S → Kept S → Kept S → ChannelBytes → ChannelBytes → ChannelBytes → Stop → Type 0
 IsAskStopped g old new held out out' stop =
     IsUnasked old new out out' stop
     ⊎ ((input : List ℕ) × (answers : List ReplyOrRefusal) × ReadsInput held input
@@ -139,20 +129,20 @@ abbrev pub status_of_all : List ReplyOrRefusal → Status
 status_of_all answers = fold status_with Done answers
 
 -- each of these pairings was told what it was answered
-pub record AreTold (plans : List Plan) (answers : List ReplyOrRefusal) (status : Status) (out out' : StreamBytes) : Type 0 where
+pub record AreTold (plans : List Plan) (answers : List ReplyOrRefusal) (status : Status) (out out' : ChannelBytes) : Type 0 where
   pub each : length answers ≡ length plans
   pub printed : Appends out out' (part_lines 1 answers)
   pub ends : status ≡ status_of_all answers
 
 -- the answers were the book's, where its state is known
-pub record AreAddedAndTold {S : Type 0} (g : Ghosts S) (old new : Kept S) (number : ℕ) (plans : List Plan) (status : Status) (out out' : StreamBytes) : Type 0 where
+pub record AreAddedAndTold {S : Type 0} (g : Ghosts S) (old new : Kept S) (number : ℕ) (plans : List Plan) (status : Status) (out out' : ChannelBytes) : Type 0 where
   pub answers : List ReplyOrRefusal
   pub told : AreTold plans answers status out out'
   pub answered : (s : State) → IsDurablyAt g old s → IsClean g new → answers ≡ Replies s (import number plans)
   pub left : (s : State) → IsDurablyAt g old s → IsDurablyAt g new (Fold s (import number plans))
 
 -- the text is no schedule, which was told with the record at fault
-pub record IsNoSchedule (text : List ℕ) (status : Status) (out out' err err' : StreamBytes) : Type 0 where
+pub record IsNoSchedule (text : List ℕ) (status : Status) (out out' err err' : ChannelBytes) : Type 0 where
   pub line : ℕ
   pub at_fault : IsAtFault text line
   pub ends : status ≡ Refused
@@ -160,27 +150,27 @@ pub record IsNoSchedule (text : List ℕ) (status : Status) (out out' err err' :
   pub complains : Appends err err' (refused_line (codes "30 BadCsv " ++ decimal line))
 
 -- a schedule was read, and its pairings were told their answers; or it was none
-pub record IsImportTold (held out out' err err' : StreamBytes) (status : Status) : Type 0 where
+pub record IsImportTold (held out out' err err' : ChannelBytes) (status : Status) : Type 0 where
   pub text : List ℕ
   pub read : ReadsInput held text
   pub told : IsNoSchedule text status out out' err err'
       ⊎ ((plans : List Plan) × (answers : List ReplyOrRefusal) × IsSchedule text plans × AreTold plans answers status out out' × (err' ≡ err))
 
 -- the same of a book
-pub record IsImported {S : Type 0} (g : Ghosts S) (old new : Kept S) (number : ℕ) (held out out' err err' : StreamBytes) (status : Status) : Type 0 where
+pub record IsImported {S : Type 0} (g : Ghosts S) (old new : Kept S) (number : ℕ) (held out out' err err' : ChannelBytes) (status : Status) : Type 0 where
   pub text : List ℕ
   pub read : ReadsInput held text
   pub done : (IsNoSchedule text status out out' err err' × (new ≡ old))
       ⊎ ((plans : List Plan) × IsSchedule text plans × AreAddedAndTold g old new number plans status out out' × (err' ≡ err))
 
 -- the program stopped among these pairings: at a fault of the book (90, 91) just the lines of what was answered were printed
-pub record AreStopped {S : Type 0} (g : Ghosts S) (old new : Kept S) (number : ℕ) (plans : List Plan) (out out' : StreamBytes) (stop : Stop) : Type 0 where
+pub record AreStopped {S : Type 0} (g : Ghosts S) (old new : Kept S) (number : ℕ) (plans : List Plan) (out out' : ChannelBytes) (stop : Stop) : Type 0 where
   pub answers : List ReplyOrRefusal
   pub asked : IsStoppedIn g old new (import number plans) answers stop
   pub printed : IsBookFault stop → Appends out out' (part_lines 1 answers)
 
 -- the program stopped before it added anything, or among the pairings of the schedule that was read
-abbrev pub IsImportStopped : {S : Type 0} → Ghosts S → Kept S → Kept S → ℕ → StreamBytes → StreamBytes → StreamBytes → StreamBytes → StreamBytes → Stop → Type 0
+abbrev pub IsImportStopped : {S : Type 0} → Ghosts S → Kept S → Kept S → ℕ → ChannelBytes → ChannelBytes → ChannelBytes → ChannelBytes → ChannelBytes → Stop → Type 0
 IsImportStopped g old new number held out out' err err' stop =
     IsUnasked old new out out' stop
     ⊎ ((text : List ℕ) × (plans : List Plan) × ReadsInput held text × IsSchedule text plans

@@ -2,13 +2,15 @@
 use Rattle.std.specs.Prelude.{◌≡◌, ℕ, Bool, true, false, List, [], ◌++◌, codes, map, string_bytes, Result, Ok, Err}
 use Rattle.std.specs.Io.KnownBytes.{Appends}
 use Rattle.time117.specs.Local.{is_zone_text}
-use Rattle.rosterbook.specs.Asking.{ReplyOrRefusal, IsImportTold, IsRequestReadAndTold}
+use Rattle.roster.specs.Folds.{ReplyOrRefusal}
+use Rattle.rosterbook.specs.Asking.{IsImportTold, IsRequestReadAndTold}
 use Rattle.rosterbook.specs.Serving.{IsServeTold}
 use Rattle.rosterbook.specs.Showing.{IsToldOf}
 use Rattle.roster.specs.State.{State}
 use Rattle.store.specs.declared.show.Show.TheVariants as show
 use Rattle.period_verdict.specs.FaultText.{line_fault_text}
-pub use Rattle.rosterbook.specs.Streams.{StreamBytes, line_end, refused_line}
+use Rattle.http_exchange.specs.Exchange.{ChannelBytes}
+pub use Rattle.rosterbook.specs.Streams.{line_end, refused_line}
 use Rattle.writing.specs.Faults.{create_text}
 use Rattle.writing.specs.declared.fault.CreateFault.{CreateFault}
 use Rattle.period_verdict.specs.Verdict.{Line, line_of}
@@ -64,13 +66,13 @@ init_answer true = ready
 init_answer false = record { status = Refused; out = []; err = refusal_line Zone }
 
 -- the answer was given whole: its status, and its bytes at the end of what the two writers held
-pub record Gives (answer : ProgramOutput) (status : Status) (out out' err err' : StreamBytes) : Type 0 where
+pub record Gives (answer : ProgramOutput) (status : Status) (out out' err err' : ChannelBytes) : Type 0 where
   pub ends : status ≡ answer.status
   pub prints : Appends out out' answer.out
   pub complains : Appends err err' answer.err
 
 -- the action was answered whole, by what a reader has
-abbrev pub PerformsAction : Action → Status → StreamBytes → StreamBytes → StreamBytes → StreamBytes → StreamBytes → Type 0
+abbrev pub PerformsAction : Action → Status → ChannelBytes → ChannelBytes → ChannelBytes → ChannelBytes → ChannelBytes → Type 0
 PerformsAction (Duty zone report times) status held out out' err err' =
     Gives (duty_answer (line_of (string_bytes zone) (string_bytes report) (map string_bytes times.items))) status out out' err err'
 PerformsAction (Init file zone) status held out out' err err' =
@@ -84,6 +86,6 @@ PerformsAction (Exceedances file) status held out out' err err' = (s : State) ×
 PerformsAction (Serve file port connections) status held out out' err err' = IsServeTold port connections out out' err err' status
 
 -- the same, with this exit status
-abbrev pub IsPerformed : Action → ℕ → StreamBytes → StreamBytes → StreamBytes → StreamBytes → StreamBytes → Type 0
+abbrev pub IsPerformed : Action → ℕ → ChannelBytes → ChannelBytes → ChannelBytes → ChannelBytes → ChannelBytes → Type 0
 IsPerformed action code held out out' err err' =
     (status : Status) × (code ≡ exit_status status) × PerformsAction action status held out out' err err'

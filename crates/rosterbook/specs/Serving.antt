@@ -6,7 +6,8 @@ use Rattle.http_exchange.specs.declared.exchanges.Served.{Served}
 use Rattle.web.specs.ServeText.{serve_text}
 use Rattle.web.specs.declared.connections.ServeFault.{ServeFault}
 use Rattle.state_rows.specs.declared.fault.StoreFault.TheVariants.{Store}
-use Rattle.rosterbook.specs.Streams.{StreamBytes, IsOfChannel, line_end, refused_line}
+use Rattle.http_exchange.specs.Exchange.{ChannelBytes}
+use Rattle.rosterbook.specs.Streams.{IsOfChannel, line_end, refused_line}
 use Rattle.rosterbook.specs.declared.status.Status.{Status}
 use Rattle.rosterbook.specs.declared.status.Status.TheVariants.{Done}
 use Rattle.rosterbook.specs.declared.stop.Stop.{Stop}
@@ -38,14 +39,14 @@ module _ {V : Type 0} (serves : V → V → Outcome → Type 0) (fails : V → B
   InTurn old new (outcome ∷ outcomes) = (next : V) × serves old next outcome × (fails next ≡ false) × InTurn next new outcomes
 
   -- so many were; where all lines could be written, those of the failed ones were, and nothing else
-  pub record AllServed (count : ℕ) (old new : V) (err err' : StreamBytes) (told : Bool) : Type 0 where
+  pub record AllServed (count : ℕ) (old new : V) (err err' : ChannelBytes) (told : Bool) : Type 0 where
     pub outcomes : List Outcome
     pub each : length outcomes ≡ count
     pub served : InTurn old new outcomes
     pub lines : told ≡ true → Appends err err' (failure_lines outcomes)
 
   -- the store failed at one of so many, after which none was served
-  pub record CutShort (count : ℕ) (old new : V) (err err' : StreamBytes) (told : Bool) : Type 0 where
+  pub record CutShort (count : ℕ) (old new : V) (err err' : ChannelBytes) (told : Bool) : Type 0 where
     pub outcomes : List Outcome
     pub last : Outcome
     pub before : V
@@ -56,18 +57,18 @@ module _ {V : Type 0} (serves : V → V → Outcome → Type 0) (fails : V → B
     pub lines : told ≡ true → Appends err err' (failure_lines (outcomes ++ last ∷ []))
 
   -- all connections were served, or the store failed at one
-  abbrev pub HasEnded : ℕ → V → V → StreamBytes → StreamBytes → Bool → Bool → Type 0
+  abbrev pub HasEnded : ℕ → V → V → ChannelBytes → ChannelBytes → Bool → Bool → Type 0
   HasEnded count old new err err' told false = AllServed count old new err err' told
   HasEnded count old new err err' told true = CutShort count old new err err' told
 
   -- the port was told, and then all connections were served
-  pub record IsServeDone (port count : ℕ) (old new : V) (out out' err err' : StreamBytes) (status : Status) : Type 0 where
+  pub record IsServeDone (port count : ℕ) (old new : V) (out out' err err' : ChannelBytes) (status : Status) : Type 0 where
     pub ends : status ≡ Done
     pub listens : Appends out out' (port_line port)
     pub served : AllServed count old new err err' true
 
   -- the port couldn't be told, and none was served; or the line of one couldn't be written, and all were; or the store failed
-  abbrev pub IsServeStopped : ℕ → ℕ → V → V → StreamBytes → StreamBytes → StreamBytes → StreamBytes → Stop → Type 0
+  abbrev pub IsServeStopped : ℕ → ℕ → V → V → ChannelBytes → ChannelBytes → ChannelBytes → ChannelBytes → Stop → Type 0
   IsServeStopped port count old new out out' err err' stop =
       (IsOfChannel stop × (new ≡ old) × (err' ≡ err))
       ⊎ ((stop ≡ Channel) × Appends out out' (port_line port) × AllServed count old new err err' false)
@@ -80,7 +81,7 @@ status_of_serve false true = Ok Done
 status_of_serve false false = Err Channel
 
 -- the port was told, and a line for each connection that failed, of so many
-pub record IsServeTold (port count : ℕ) (out out' err err' : StreamBytes) (status : Status) : Type 0 where
+pub record IsServeTold (port count : ℕ) (out out' err err' : ChannelBytes) (status : Status) : Type 0 where
   pub outcomes : List Outcome
   pub ends : status ≡ Done
   pub each : length outcomes ≡ count

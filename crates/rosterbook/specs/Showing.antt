@@ -12,7 +12,8 @@ use Rattle.book.specs.Kept.{Kept}
 use Rattle.store.specs.Shown.{IsShown}
 use Rattle.store.specs.declared.show.Show.{Show}
 use Rattle.store.specs.declared.show.Show.TheVariants.{Crew, Pairing, Exceedances}
-use Rattle.rosterbook.specs.Streams.{StreamBytes, IsOfChannel, refused_line}
+use Rattle.http_exchange.specs.Exchange.{ChannelBytes}
+use Rattle.rosterbook.specs.Streams.{IsOfChannel, refused_line}
 use Rattle.rosterbook.specs.Asking.{IsBookFault}
 use Rattle.rosterbook.specs.declared.status.Status.{Status}
 use Rattle.rosterbook.specs.declared.status.Status.TheVariants.{Done, Refused}
@@ -26,13 +27,13 @@ IsAbsence (Pairing id) fault = fault ≡ NoSuchPairing
 IsAbsence Exceedances fault = ⊥
 
 -- a text is printed, and that there is none is told
-abbrev pub PrintsText : Show → Option (List ℕ) → Status → StreamBytes → StreamBytes → StreamBytes → StreamBytes → Type 0
+abbrev pub PrintsText : Show → Option (List ℕ) → Status → ChannelBytes → ChannelBytes → ChannelBytes → ChannelBytes → Type 0
 PrintsText what (Some text) status out out' err err' = (status ≡ Done) × Appends out out' text × (err' ≡ err)
 PrintsText what None status out out' err err' =
     (status ≡ Refused) × (out' ≡ out) × ((fault : ReportFault) × IsAbsence what fault × Appends err err' (refused_line (report_fault_text fault)))
 
 -- what a state shows was told
-pub record IsToldOf (s : State) (what : Show) (status : Status) (out out' err err' : StreamBytes) : Type 0 where
+pub record IsToldOf (s : State) (what : Show) (status : Status) (out out' err err' : ChannelBytes) : Type 0 where
   pub shown : Option (List ℕ)
   pub is : IsShown s what shown
   pub told : PrintsText what shown status out out' err err'
@@ -43,7 +44,7 @@ IsShownTextOrFault s what (Ok text) = IsShown s what (Some (string_bytes text))
 IsShownTextOrFault s what (Err fault) = (fault ≡ Memory) ⊎ (IsShown s what None × IsAbsence what fault)
 
 -- the program stopped: nothing was printed before the text was there
-pub record IsShowStopped {S : Type 0} (new : Kept S) (out out' : StreamBytes) (stop : Stop) : Type 0 where
+pub record IsShowStopped {S : Type 0} (new : Kept S) (out out' : ChannelBytes) (stop : Stop) : Type 0 where
   pub told : IsBookFault stop ⊎ IsOfChannel stop
   pub silent : IsBookFault stop → out' ≡ out
   pub failed : stop ≡ Book Store → IsTrue new.failed

@@ -2,16 +2,13 @@
 use Rattle.std.specs.Prelude.{◌≡◌, ◌⊎◌, ⊤, ℕ, List, [], ◌∷◌, ◌++◌, ◌+◌, take, codes, Option, Some, None}
 use Rattle.std.specs.Io.KnownBytes.{Appends}
 use Rattle.codec.specs.Bounds.{most_bytes}
+use Rattle.http_exchange.specs.Exchange.{ChannelBytes}
 use Rattle.rosterbook.specs.declared.status.Status.{Status}
 use Rattle.rosterbook.specs.declared.stop.Stop.{Stop}
 use Rattle.rosterbook.specs.declared.stop.Stop.TheVariants.{Memory, Channel}
 
--- the bytes that a writer holds, or that a reader has, where they are known
-abbrev pub StreamBytes : Type 0
-StreamBytes = Option (List ℕ)
-
 -- what is read of the bytes that a reader has: at most one more than a request or a schedule may have
-abbrev pub ReadsInput : StreamBytes → List ℕ → Type 0
+abbrev pub ReadsInput : ChannelBytes → List ℕ → Type 0
 ReadsInput None input = ⊤
 ReadsInput (Some bytes) input = input ≡ take (most_bytes + 1) bytes
 
@@ -24,7 +21,7 @@ abbrev pub refused_line : List ℕ → List ℕ
 refused_line fault = codes "refused " ++ fault ++ line_end
 
 -- a line was written, and the program ends so
-abbrev pub Prints : Status × List ℕ → Status → StreamBytes → StreamBytes → Type 0
+abbrev pub Prints : Status × List ℕ → Status → ChannelBytes → ChannelBytes → Type 0
 Prints told status out out' = (status ≡ told.0) × Appends out out' (told.1 ++ line_end)
 
 -- how the program stops where a reader or a writer fails, or the program itself finds no memory

@@ -1,11 +1,12 @@
 //! `rosterbook do`: a request on standard input, asked of a book. The definitions are in `specs/Asking.antt`.
 //! Transcripts: `tests/transcripts/requests.txt` and `all_commands.txt`. Wrong bodies: `must-fail/`.
 ghost use Rattle.std.specs.Prelude.{◌≡◌, ◌∷◌, [], ℕ, List, IfErr, IfOk, string_bytes};
-ghost use Rattle.roster.specs.Folds.{answer_of, next};
+ghost use Rattle.roster.specs.Folds.{ReplyOrRefusal, answer_of, next};
 ghost use Rattle.roster.specs.State.{State};
 ghost use Rattle.roster.specs.Steps.{step_of};
 ghost use Rattle.book.specs.Kept.{IsDurablyAt, IsClean, result_of};
 ghost use Rattle.codec.specs.Requests.{read_request};
+ghost use Rattle.web.specs.Answers.{answer_json};
 ghost use Rattle.rosterbook.specs.Asking as spec;
 
 use crate::lines::{read_input, write_line};
@@ -33,7 +34,7 @@ pub(crate) fn answer_do<R: Read, O: Write>(
     reader: &mut R,
     out: &mut O,
 ) -> Result<Status, Stop>
-    ensures { IfOk result (λ status. (input : List ℕ) × (answer : spec.ReplyOrRefusal)
+    ensures { IfOk result (λ status. (input : List ℕ) × (answer : ReplyOrRefusal)
         × spec.IsRequestReadAndTold (R.remaining reader.old) (O.contents out.old)
         (O.contents out.new)
         status input answer) }
@@ -66,13 +67,13 @@ pub fn ask_json<S: Alter, R: Read, O: Write>(
 
 /// Asks a book the body of a request.
 fn ask_body<S: Alter>(alloc: Global, book: &mut Book<S>, body: &[u8]) -> Result<Told, Stop>
-    ensures told { IfOk result (λ told. (answer : spec.ReplyOrRefusal)
+    ensures told { IfOk result (λ told. (answer : ReplyOrRefusal)
         × ((told.status, string_bytes told.line) ≡ spec.told_json (read_request body.now) answer)
         × ((s : State) → IsDurablyAt S.Store book.old s → IsClean S.Store book.new
         → spec.Answers s (read_request body.now) answer)
         × ((s : State) → IsDurablyAt S.Store book.old s
         → IsDurablyAt S.Store book.new (spec.left_by_request s (read_request body.now)))) }
-    ensures stopped { IfErr result (λ stop. (answers : List spec.ReplyOrRefusal)
+    ensures stopped { IfErr result (λ stop. (answers : List ReplyOrRefusal)
         × spec.IsStoppedIn S.Store book.old book.new (spec.asked_by_request (read_request body.now))
         answers stop) }
 {
@@ -95,14 +96,14 @@ fn ask_command<S: Alter>(
     key: Key,
     command: &Command,
 ) -> Result<Told, Stop>
-    ensures told { IfOk result (λ told. (answer : spec.ReplyOrRefusal)
+    ensures told { IfOk result (λ told. (answer : ReplyOrRefusal)
         × (told.status ≡ spec.status_of_answer answer)
-        × (string_bytes told.line ≡ spec.answer_json answer)
+        × (string_bytes told.line ≡ answer_json answer)
         × ((s : State) → IsDurablyAt S.Store book.old s → IsClean S.Store book.new
         → answer ≡ answer_of (step_of s key command.now))
         × ((s : State) → IsDurablyAt S.Store book.old s
         → IsDurablyAt S.Store book.new (next s (key, command.now)))) }
-    ensures stopped { IfErr result (λ stop. (answers : List spec.ReplyOrRefusal)
+    ensures stopped { IfErr result (λ stop. (answers : List ReplyOrRefusal)
         × spec.IsStoppedIn S.Store book.old book.new ((key, command.now) ∷ []) answers stop) }
 {
     let answer = book.ask(alloc, key, command)?;
@@ -114,7 +115,7 @@ fn line_of(alloc: Global, answer: &Answer) -> Result<Told, MemoryFault>
     ensures status { IfOk result
         (λ told. told.status ≡ spec.status_of_answer (result_of answer.now)) }
     ensures line { IfOk result
-        (λ told. string_bytes told.line ≡ spec.answer_json (result_of answer.now)) }
+        (λ told. string_bytes told.line ≡ answer_json (result_of answer.now)) }
 {
     match answer {
         Answer::Accepted(reply) => Ok(Told {

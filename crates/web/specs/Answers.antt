@@ -3,9 +3,9 @@ use Rattle.std.specs.Prelude.{◌≡◌, ⊤, ℕ, List, [], ◌∷◌, ◌++◌
 use Rattle.std.specs.Global.{Global}
 use Rattle.std.specs.List.{flat_map}
 use Rattle.values.specs.declared.memory_fault.MemoryFault.{MemoryFault}
-use Rattle.command.specs.declared.exceedance.Reply.{Reply}
 use Rattle.command.specs.declared.refusal.Refusal.{Refusal}
 use Rattle.command.specs.declared.refusal.Refusal.TheVariants.{NumberUsed, NoSuchCrew, CrewExists, NoSuchPairing, PairingExists, SeatTaken, WrongSeat, NotAssigned, PairingCrewed, Flown, Overlap, Limits, NoSuchDuty, GroundExists, NoSuchGround, SegmentCount}
+use Rattle.roster.specs.Folds.{ReplyOrRefusal}
 use Rattle.stored_json.specs.ReplyText.{reply_text}
 use Rattle.stored_json.specs.declared.fault.CodecFault.{CodecFault}
 use Rattle.codec.specs.RefusalText.{fault_reply, refusal_json_text}
@@ -42,23 +42,19 @@ refusal_status GroundExists = 409
 refusal_status NoSuchGround = 409
 refusal_status (SegmentCount period) = 422
 
--- what the book answers a command, or a part of an import
-abbrev pub ReplyResult : Type 0
-ReplyResult = Result Reply Refusal
-
--- its text in JSON
-abbrev pub answer_text : ReplyResult → List ℕ
-answer_text (Ok reply) = reply_text reply
-answer_text (Err refusal) = refusal_json_text refusal
+-- the text of an answer of the book in JSON
+abbrev pub answer_json : ReplyOrRefusal → List ℕ
+answer_json (Ok reply) = reply_text reply
+answer_json (Err refusal) = refusal_json_text refusal
 
 -- the status of an answer: 200, or that of its refusal
-abbrev pub answer_status : ReplyResult → ℕ
+abbrev pub answer_status : ReplyOrRefusal → ℕ
 answer_status (Ok reply) = 200
 answer_status (Err refusal) = refusal_status refusal
 
 -- the answer to a command
-abbrev pub command_answer : ReplyResult → StatusText
-command_answer answer = json (answer_status answer) (answer_text answer)
+abbrev pub command_answer : ReplyOrRefusal → StatusText
+command_answer answer = json (answer_status answer) (answer_json answer)
 
 -- why a body isn't read
 abbrev pub fault_answer : CodecFault → StatusText
@@ -67,16 +63,16 @@ fault_answer fault = json 422 (fault_reply fault)
 -- ---- Imports
 
 -- the texts of all parts in turn, with a comma between
-abbrev pub with_commas : List ReplyResult → List ℕ
+abbrev pub with_commas : List ReplyOrRefusal → List ℕ
 with_commas [] = []
-with_commas (first ∷ others) = answer_text first ++ flat_map (λ a. codes "," ++ answer_text a) others
+with_commas (first ∷ others) = answer_json first ++ flat_map (λ a. codes "," ++ answer_json a) others
 
 -- the answers to the parts of an import, as one text
-abbrev pub parts_text : List ReplyResult → List ℕ
+abbrev pub parts_text : List ReplyOrRefusal → List ℕ
 parts_text answers = codes "{\"parts\":[" ++ with_commas answers ++ codes "]}"
 
 -- what each part was answered, refused ones too
-abbrev pub parts_answer : List ReplyResult → StatusText
+abbrev pub parts_answer : List ReplyOrRefusal → StatusText
 parts_answer answers = json 200 (parts_text answers)
 
 -- ---- Reports

@@ -37,7 +37,7 @@ fn listed(alloc: Global, answers: &[Answer]) -> Result<String, MemoryFault>
 /// Writes the other answers, each after a comma.
 fn others_to_json(alloc: Global, answers: &[Answer]) -> Result<String, MemoryFault>
     ensures { IfOk result (λ text. string_bytes text
-        ≡ flat_map (λ a. codes "," ++ spec.answer_text a) (map result_of answers.now)) }
+        ≡ flat_map (λ a. codes "," ++ spec.answer_json a) (map result_of answers.now)) }
 {
     let mut text = String::new(alloc);
     for answer in answers {
@@ -49,7 +49,7 @@ fn others_to_json(alloc: Global, answers: &[Answer]) -> Result<String, MemoryFau
 
 /// Writes what a command was answered.
 fn answer_to_json(alloc: Global, answer: &Answer) -> Result<String, MemoryFault>
-    ensures { IfOk result (λ text. string_bytes text ≡ spec.answer_text (result_of answer.now)) }
+    ensures { IfOk result (λ text. string_bytes text ≡ spec.answer_json (result_of answer.now)) }
 {
     match answer {
         Answer::Accepted(reply) => reply_to_json(alloc, reply),

@@ -9,5 +9,5 @@ use Rattle.web.proofs.parts.others_to_json.Goals as goal
 pub returns : goal.returns
 returns c =
     c.loop-answer.invariant
-    ∙ ap (flat_map (λ a. codes "," ++ spec.answer_text (result_of a))) (take_all c.loop-answer.answer-index c.args.answers.now (omega arith))
+    ∙ ap (flat_map (λ a. codes "," ++ spec.answer_json (result_of a))) (take_all c.loop-answer.answer-index c.args.answers.now (omega arith))
     ∙ others_told c.args.answers.now
