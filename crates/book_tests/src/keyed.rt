@@ -6,7 +6,7 @@ ghost use Rattle.tables.specs.Calls.{HoldsBook};
 
 use crate::contents::sorted;
 use crate::fault::Untold;
-use crate::opening::create;
+use crate::opening::{create, opened};
 use sqlite::{Alter, Connection};
 use std::alloc::Global;
 use std::test::Fail;
@@ -23,9 +23,26 @@ use tables::seat::{SeatRecord, seats_by_crew, seats_of};
 use tables::segment::{SegmentRecord, segments_of};
 use values::TryClone;
 
-/// The word at a place of a line, counted from 0; none is empty.
-fn word(line: &str, at: usize) -> &str {
-    line.split(' ').nth(at).unwrap_or("")
+/// A step of a test: a statement that is run, or what is looked for.
+#[derive(Clone, Copy)]
+enum Step {
+    Run(&'static str),
+    /// Whether there are no tables.
+    IsEmpty,
+    /// Whether the tables of a book are there.
+    IsBook,
+    Book,
+    Member(&'static str),
+    Pairing(&'static str),
+    PeriodsOf(&'static str),
+    SegmentsOf(&'static str),
+    SeatsOf(&'static str),
+    SeatsBy(&'static str),
+    Ground(&'static str),
+    GroundsBy(&'static str),
+    /// A request's number and part.
+    Request(i64, u32),
+    Exceedances,
 }
 
 /// A record that is told as a line.
@@ -170,151 +187,144 @@ fn look<S: Alter>(alloc: Global, conn: &Connection<S>) -> Result<(), Untold>
     }
 }
 
-/// The records of a request's number and part.
-fn request<S: Alter>(
+/// The records that are found of a pairing.
+fn found_of_pairing<S: Alter>(
     alloc: Global,
     conn: &mut Connection<S>,
-    number: &str,
-    part: &str,
+    step: Step,
 ) -> Result<String, Untold> {
     look(alloc, conn)?;
-    match (number.parse::<i64>(), part.parse::<u32>()) {
-        (Ok(number), Ok(part)) => in_order(alloc, request_by_key(alloc, conn, number, part)),
+    match step {
+        Step::Pairing(id) => in_order(alloc, pairing_by_id(alloc, conn, id)),
+        Step::PeriodsOf(id) => in_order(alloc, periods_of(alloc, conn, id)),
+        Step::SegmentsOf(id) => in_order(alloc, segments_of(alloc, conn, id)),
+        Step::SeatsOf(id) => in_order(alloc, seats_of(alloc, conn, id)),
         _ => Err(Untold::Unread),
     }
 }
 
-/// What is found of a kind, for an id where it takes one.
-fn found_of<S: Alter>(
+/// The records that are found of a member.
+fn found_of_member<S: Alter>(
     alloc: Global,
     conn: &mut Connection<S>,
-    kind: &str,
-    id: &str,
+    step: Step,
 ) -> Result<String, Untold> {
     look(alloc, conn)?;
-    match kind {
-        "book" => in_order(alloc, load_book(alloc, conn)),
-        "member" => in_order(alloc, crew_by_id(alloc, conn, id)),
-        "pairing" => in_order(alloc, pairing_by_id(alloc, conn, id)),
-        "periods-of" => in_order(alloc, periods_of(alloc, conn, id)),
-        "segments-of" => in_order(alloc, segments_of(alloc, conn, id)),
-        "seats-of" => in_order(alloc, seats_of(alloc, conn, id)),
-        "seats-by" => in_order(alloc, seats_by_crew(alloc, conn, id)),
-        "ground" => in_order(alloc, ground_by_id(alloc, conn, id)),
-        "grounds-by" => in_order(alloc, grounds_by_crew(alloc, conn, id)),
-        "exceedances" => in_turn(alloc, exceedances(alloc, conn)),
-        _ => Err(Untold::Unread),
+    match step {
+        Step::Member(id) => in_order(alloc, crew_by_id(alloc, conn, id)),
+        Step::SeatsBy(id) => in_order(alloc, seats_by_crew(alloc, conn, id)),
+        Step::GroundsBy(id) => in_order(alloc, grounds_by_crew(alloc, conn, id)),
+        _ => found_of_pairing(alloc, conn, step),
     }
 }
 
-/// What a line asks for: whether there are no tables, whether those of a book are there, or records.
-///
-///     find nothing
-///     find tables
-///     find book
-///     find member C1
-///     find pairing P1
-///     find periods-of P1
-///     find segments-of P1
-///     find seats-of P1
-///     find seats-by C1
-///     find ground G1
-///     find grounds-by C1
-///     find request 1 0
-///     find exceedances
-fn found<S: Alter>(alloc: Global, conn: &mut Connection<S>, line: &str) -> Result<String, Untold> {
-    let (kind, id) = (word(line, 1), word(line, 2));
-    match kind {
-        "nothing" => yes(alloc, is_empty(conn)),
-        "tables" => yes(alloc, is_book(alloc, conn)?),
-        "request" => request(alloc, conn, id, word(line, 3)),
-        _ => found_of(alloc, conn, kind, id),
+/// The records that are found.
+fn found<S: Alter>(alloc: Global, conn: &mut Connection<S>, step: Step) -> Result<String, Untold> {
+    look(alloc, conn)?;
+    match step {
+        Step::Book => in_order(alloc, load_book(alloc, conn)),
+        Step::Ground(id) => in_order(alloc, ground_by_id(alloc, conn, id)),
+        Step::Request(number, part) => in_order(alloc, request_by_key(alloc, conn, number, part)),
+        Step::Exceedances => in_turn(alloc, exceedances(alloc, conn)),
+        _ => found_of_member(alloc, conn, step),
     }
 }
 
-/// What is told of a line, as `found` says; any other than those is a statement, of which nothing is told.
-fn done<S: Alter>(alloc: Global, conn: &mut Connection<S>, line: &str) -> Result<String, Untold> {
-    if word(line, 0) == "find" {
-        return found(alloc, conn, line);
+/// What is told of a step; nothing of a statement.
+fn done<S: Alter>(alloc: Global, conn: &mut Connection<S>, step: Step) -> Result<String, Untold> {
+    match step {
+        Step::Run(statement) => {
+            conn.execute_batch(statement)?;
+            Ok(String::new(alloc))
+        }
+        Step::IsEmpty => yes(alloc, is_empty(conn)),
+        Step::IsBook => yes(alloc, is_book(alloc, conn)?),
+        _ => found(alloc, conn, step),
     }
-    conn.execute_batch(line)?;
-    Ok(String::new(alloc))
 }
 
-/// What is told of lines that are taken in turn.
+/// What is told of steps that are taken in turn.
 fn all_done<S: Alter>(
     alloc: Global,
     conn: &mut Connection<S>,
-    lines: &str,
+    steps: &[Step],
 ) -> Result<String, Untold> {
     let mut text = String::new(alloc);
-    for line in lines.split('\n') {
-        text.push_str(done(alloc, conn, line.trim_ascii())?.as_str())?;
+    for step in steps {
+        text.push_str(done(alloc, conn, *step)?.as_str())?;
     }
     Ok(text)
 }
 
-/// What is told of these lines before a book is made, and of those in an empty book.
+/// What is told of these steps before a book is made, and of those in an empty book.
 fn told_over<S: Alter + Drop>(
     alloc: Global,
     mut conn: Connection<S>,
-    before: &str,
-    lines: &str,
+    before: &[Step],
+    steps: &[Step],
 ) -> Result<String, Untold> {
     let mut text = all_done(alloc, &mut conn, before)?;
-    match create(alloc, conn) {
-        Ok(book) => {
-            let mut conn = book.into_connection();
-            text.push_str(all_done(alloc, &mut conn, lines)?.as_str())?;
-            Ok(text)
-        }
-        Err((told, _conn)) => told,
-    }
+    let mut conn = opened(create(alloc, conn))?.into_connection();
+    text.push_str(all_done(alloc, &mut conn, steps)?.as_str())?;
+    Ok(text)
 }
 
 /// The same, over memory.
-fn over_memory(alloc: Global, before: &str, lines: &str) -> Result<String, Untold> {
-    told_over(alloc, Connection::open_in_memory(alloc)?, before, lines)
+fn over_memory(alloc: Global, before: &[Step], steps: &[Step]) -> Result<String, Untold> {
+    told_over(alloc, Connection::open_in_memory(alloc)?, before, steps)
 }
 
 #[test]
 fn records_are_found_by_key(rt: HostRuntime) -> Result<(), Fail> {
     let text = over_memory(
         rt.alloc(),
-        "find nothing
-        find tables",
-        "find nothing
-        find tables
-        INSERT INTO crew VALUES ('C1', 0, 'Ada Ray'), ('F1', 1, 'Zoë Lind')
-        INSERT INTO pairing VALUES ('P1'), ('P2')
-        INSERT INTO period VALUES ('P1', 1, 100, 700, 110, 720), ('P1', 2, 800, 900, NULL, NULL), ('P2', 1, 100, 700, NULL, NULL)
-        INSERT INTO segment VALUES ('P1', 1, 1, 'RB1', 'BOS', 'IAD', 160, 610, 170, 620)
-        INSERT INTO segment VALUES ('P1', 2, 1, 'RB2', 'IAD', 'BOS', 810, 890, NULL, NULL)
-        INSERT INTO segment VALUES ('P2', 1, 1, 'RB1', 'BOS', 'IAD', 160, 610, NULL, NULL)
-        INSERT INTO seat VALUES ('P1', 0, 'C1'), ('P1', 1, 'F1'), ('P2', 0, 'C1')
-        INSERT INTO ground VALUES ('G1', 'C1', 'Simulator', 720, 780), ('G2', 'F1', 'Simulator', 720, 780)
-        INSERT INTO ground VALUES ('G3', 'C1', 'Training', 1, 2)
-        INSERT INTO request VALUES (7, 0, 'a', 'b'), (7, 1, 'c', 'd'), (9223372036854775807, 10000, 'e', 'f')
-        find book
-        find member F1
-        find member F2
-        find pairing P2
-        find pairing P3
-        find periods-of P1
-        find periods-of P3
-        find segments-of P1
-        find segments-of P3
-        find seats-of P1
-        find seats-of P3
-        find seats-by C1
-        find seats-by C2
-        find ground G2
-        find ground G4
-        find grounds-by C1
-        find grounds-by C2
-        find request 7 1
-        find request 9223372036854775807 10000
-        find request 8 0",
+        &[Step::IsEmpty, Step::IsBook],
+        &[
+            Step::IsEmpty,
+            Step::IsBook,
+            Step::Run("INSERT INTO crew VALUES ('C1', 0, 'Ada Ray'), ('F1', 1, 'Zoë Lind')"),
+            Step::Run("INSERT INTO pairing VALUES ('P1'), ('P2')"),
+            Step::Run(
+                "INSERT INTO period VALUES ('P1', 1, 100, 700, 110, 720), ('P1', 2, 800, 900, NULL, NULL), ('P2', 1, 100, 700, NULL, NULL)",
+            ),
+            Step::Run(
+                "INSERT INTO segment VALUES ('P1', 1, 1, 'RB1', 'BOS', 'IAD', 160, 610, 170, 620)",
+            ),
+            Step::Run(
+                "INSERT INTO segment VALUES ('P1', 2, 1, 'RB2', 'IAD', 'BOS', 810, 890, NULL, NULL)",
+            ),
+            Step::Run(
+                "INSERT INTO segment VALUES ('P2', 1, 1, 'RB1', 'BOS', 'IAD', 160, 610, NULL, NULL)",
+            ),
+            Step::Run("INSERT INTO seat VALUES ('P1', 0, 'C1'), ('P1', 1, 'F1'), ('P2', 0, 'C1')"),
+            Step::Run(
+                "INSERT INTO ground VALUES ('G1', 'C1', 'Simulator', 720, 780), ('G2', 'F1', 'Simulator', 720, 780)",
+            ),
+            Step::Run("INSERT INTO ground VALUES ('G3', 'C1', 'Training', 1, 2)"),
+            Step::Run(
+                "INSERT INTO request VALUES (7, 0, 'a', 'b'), (7, 1, 'c', 'd'), (9223372036854775807, 10000, 'e', 'f')",
+            ),
+            Step::Book,
+            Step::Member("F1"),
+            Step::Member("F2"),
+            Step::Pairing("P2"),
+            Step::Pairing("P3"),
+            Step::PeriodsOf("P1"),
+            Step::PeriodsOf("P3"),
+            Step::SegmentsOf("P1"),
+            Step::SegmentsOf("P3"),
+            Step::SeatsOf("P1"),
+            Step::SeatsOf("P3"),
+            Step::SeatsBy("C1"),
+            Step::SeatsBy("C2"),
+            Step::Ground("G2"),
+            Step::Ground("G4"),
+            Step::GroundsBy("C1"),
+            Step::GroundsBy("C2"),
+            Step::Request(7, 1),
+            Step::Request(9_223_372_036_854_775_807, 10_000),
+            Step::Request(8, 0),
+        ],
     )?;
     assert_eq!(rt;
         text.as_str(),
@@ -337,12 +347,20 @@ fn records_are_found_by_key(rt: HostRuntime) -> Result<(), Fail> {
 fn exceedances_come_in_the_order_of_key_member_and_section(rt: HostRuntime) -> Result<(), Fail> {
     let text = over_memory(
         rt.alloc(),
-        "find nothing",
-        "find exceedances
-        INSERT INTO exceedance VALUES (113, 0, 'F1', 2, 'P1', 1), (113, 0, 'C1', 8, 'P1', 1)
-        INSERT INTO exceedance VALUES (113, 0, 'C1', 2, 'P1', 1), (9, 0, 'C2', 5, 'P1', 1)
-        INSERT INTO exceedance VALUES (113, 1, 'C1', 1, 'P1', 1), (9223372036854775807, 10000, 'C1', 2, 'P1', 1)
-        find exceedances",
+        &[Step::IsEmpty],
+        &[
+            Step::Exceedances,
+            Step::Run(
+                "INSERT INTO exceedance VALUES (113, 0, 'F1', 2, 'P1', 1), (113, 0, 'C1', 8, 'P1', 1)",
+            ),
+            Step::Run(
+                "INSERT INTO exceedance VALUES (113, 0, 'C1', 2, 'P1', 1), (9, 0, 'C2', 5, 'P1', 1)",
+            ),
+            Step::Run(
+                "INSERT INTO exceedance VALUES (113, 1, 'C1', 1, 'P1', 1), (9223372036854775807, 10000, 'C1', 2, 'P1', 1)",
+            ),
+            Step::Exceedances,
+        ],
     )?;
     assert_eq!(rt;
         text.as_str(),

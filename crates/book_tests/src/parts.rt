@@ -6,13 +6,14 @@ use crate::opening::{create, opened};
 use crate::requests::{key, plan};
 use book::{Answer, Book};
 use command::{Command, Key};
+use duty::Id;
 use roster::Roster;
 use sqlite::{Alter, Connection};
 use std::alloc::Global;
 use std::test::Fail;
-use store::Store;
+use store::{Store, StoreFault};
 use stored_json::read_canonical;
-use values::TryClone;
+use values::{OrdMap, TryClone};
 
 /// The pairings of the book: C1 holds P7, P8, P13A and P13B, F1 holds P13A, and C2 holds P91. P92 is free.
 const PLANS: [(&str, [&str; 4]); 6] = [
@@ -41,14 +42,21 @@ const FILLED: [&str; 12] = [
         {\"in\":\"2025-06-11T07:00Z\",\"out\":\"2025-06-10T23:00Z\"}]}",
 ];
 
+/// Fails unless a command is accepted.
+fn accepted(answer: &Result<Answer, StoreFault>) -> Result<(), Untold> {
+    match answer {
+        Ok(Answer::Accepted(_)) => Ok(()),
+        Ok(Answer::Refused(_)) => Err(Untold::Unmade),
+        Err(fault) => Err(Untold::Unanswered(*fault)),
+    }
+}
+
 /// Asks a book a command, which it accepts.
 fn ask<S: Alter>(alloc: Global, book: &mut Book<S>, number: u8, text: &str) -> Result<(), Untold> {
     let command = read_canonical(alloc, text)?;
-    match book.ask(alloc, key(number), &command) {
-        Ok(Answer::Accepted(_)) => Ok(()),
-        Ok(Answer::Refused(_)) => Err(Untold::Unmade),
-        Err(fault) => Err(fault.into()),
-    }
+    let answer = book.ask(alloc, key(number), &command);
+    drop(command);
+    accepted(&answer)
 }
 
 /// Fills a book with all that one can have.
@@ -66,24 +74,23 @@ fn fill<S: Alter>(alloc: Global, book: &mut Book<S>) -> Result<(), Untold> {
     Ok(())
 }
 
+/// Adds the ids of a table, and a line that ends them.
+fn add_ids<T, V>(table: &OrdMap<Id<T>, V>, text: &mut String) -> Result<(), Untold> {
+    for (id, _) in table.iter() {
+        text.push_str(id.as_str())?;
+        text.push_str(" ")?;
+    }
+    text.push_str("| ")?;
+    Ok(())
+}
+
 /// The ids of its pairings, members and ground duties, and how many exceedances and requests it has.
 fn told(alloc: Global, part: &Roster) -> Result<String, Untold> {
     let mut text = String::new(alloc);
-    for (id, _) in part.pairings.iter() {
-        text.push_str(id.as_str())?;
-        text.push_str(" ")?;
-    }
-    text.push_str("|")?;
-    for (id, _) in part.crew.iter() {
-        text.push_str(" ")?;
-        text.push_str(id.as_str())?;
-    }
-    text.push_str(" |")?;
-    for (id, _) in part.grounds.iter() {
-        text.push_str(" ")?;
-        text.push_str(id.as_str())?;
-    }
-    let counts = format!(in alloc; " | {} {}\n", part.exceedances.len(), part.requests.len())?;
+    add_ids(&part.pairings, &mut text)?;
+    add_ids(&part.crew, &mut text)?;
+    add_ids(&part.grounds, &mut text)?;
+    let counts = format!(in alloc; "{} {}\n", part.exceedances.len(), part.requests.len())?;
     text.push_str(counts.as_str())?;
     Ok(text)
 }

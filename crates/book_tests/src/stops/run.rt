@@ -108,15 +108,18 @@ fn is_shut<T>(answer: &Result<T, StoreFault>) -> bool {
     matches!(answer, Err(StoreFault::Store))
 }
 
+/// Whether a book answers 90 for this.
+fn shows_no<S: Alter>(alloc: Global, book: &mut Book<S>, show: Show) -> bool {
+    is_shut(&book.show(alloc, &show))
+}
+
 /// Whether a book shows nothing more.
 fn shows_nothing<S: Alter>(alloc: Global, book: &mut Book<S>) -> Result<bool, Untold> {
-    let crew = Show::Crew(CrewId::new(Text::new(String::from_str(alloc, "C1")?)));
-    let pairing = Show::Pairing(PairingId::new(Text::new(String::from_str(alloc, "P10")?)));
-    Ok(
-        is_shut(&book.show(alloc, &crew))
-            && is_shut(&book.show(alloc, &pairing))
-            && is_shut(&book.show(alloc, &Show::Exceedances)),
-    )
+    let crew = CrewId::new(Text::new(String::from_str(alloc, "C1")?));
+    let shows_no_crew = shows_no(alloc, book, Show::Crew(crew));
+    let pairing = PairingId::new(Text::new(String::from_str(alloc, "P10")?));
+    let shows_no_pairing = shows_no(alloc, book, Show::Pairing(pairing));
+    Ok(shows_no_crew && shows_no_pairing && shows_no(alloc, book, Show::Exceedances))
 }
 
 /// Whether each command is answered 90.

@@ -65,13 +65,20 @@ const OTHER: Planned = Planned {
 };
 
 /// The pairing that a command adds.
-fn pairing(alloc: Global, planned: &Planned) -> Result<Pairing, Untold> {
-    let text = plan(alloc, planned.id, planned.times)?;
-    let command = read_canonical(alloc, text.as_str())?;
+fn pairing_of(alloc: Global, command: &Command) -> Result<Pairing, Untold> {
     match command.instruction() {
         Instruction::AddPairing(pairing) => Ok(pairing.try_clone(alloc)?),
         _ => Err(Untold::Unmade),
     }
+}
+
+/// The pairing of a plan.
+fn pairing(alloc: Global, planned: &Planned) -> Result<Pairing, Untold> {
+    let text = plan(alloc, planned.id, planned.times)?;
+    let command = read_canonical(alloc, text.as_str())?;
+    let pairing = pairing_of(alloc, &command);
+    drop(command);
+    pairing
 }
 
 /// Whether a command is a part of the import.
@@ -88,20 +95,23 @@ pub fn pairings(alloc: Global) -> Result<Vec<Pairing>, Untold> {
     Ok(pairings)
 }
 
-/// The command at this place with its key, where it is no part of the import.
-pub fn asked(alloc: Global, at: usize) -> Result<(Key, Command), Untold> {
+/// The number and the text of the command at this place, where it is no part of the import.
+fn numbered(alloc: Global, at: usize) -> Result<(u8, String), Untold> {
     let (number, text) = match at {
         0 => (1, CAPTAIN),
         5 => (3, ASSIGNED),
         6 => (4, OFFICER),
         7 => (5, JOINED),
         8 => (6, FLOWN),
-        _ => {
-            let planned = plan(alloc, P20.id, P20.times)?;
-            return Ok((key(2), read_canonical(alloc, planned.as_str())?));
-        }
+        _ => return Ok((2, plan(alloc, P20.id, P20.times)?)),
     };
-    Ok((key(number), read_canonical(alloc, text)?))
+    Ok((number, String::from_str(alloc, text)?))
+}
+
+/// The command at this place with its key, where it is no part of the import.
+pub fn asked(alloc: Global, at: usize) -> Result<(Key, Command), Untold> {
+    let (number, text) = numbered(alloc, at)?;
+    Ok((key(number), read_canonical(alloc, text.as_str())?))
 }
 
 /// The row of a request whose reply has these exceedances.
@@ -154,65 +164,104 @@ const LATE: [&str; 2] = ["13381140|13382370", "13381860|13382340"];
 const EXCEEDANCES: &str =
     "{\"crew\":\"C1\",\"section\":\"117.13(a)\"},{\"crew\":\"F1\",\"section\":\"117.13(a)\"}";
 
+/// What a command adds that adds no pairing: some rows, and that of its request.
+struct Kept {
+    command: usize,
+    rows: &'static [&'static str],
+    key: &'static str,
+    text: &'static str,
+    exceedances: &'static str,
+}
+
+const KEPT: [Kept; 5] = [
+    Kept {
+        command: 1,
+        rows: &["crew C1|0|Ada Ray"],
+        key: "1|0",
+        text: CAPTAIN,
+        exceedances: "",
+    },
+    Kept {
+        command: 6,
+        rows: &["seat P10|0|C1"],
+        key: "3|0",
+        text: ASSIGNED,
+        exceedances: "",
+    },
+    Kept {
+        command: 7,
+        rows: &["crew F1|1|Zoë Roy"],
+        key: "4|0",
+        text: OFFICER,
+        exceedances: "",
+    },
+    Kept {
+        command: 8,
+        rows: &["seat P10|1|F1"],
+        key: "5|0",
+        text: JOINED,
+        exceedances: "",
+    },
+    Kept {
+        command: 9,
+        rows: &["exceedance 6|0|C1|2|P10|1", "exceedance 6|0|F1|2|P10|1"],
+        key: "6|0",
+        text: FLOWN,
+        exceedances: EXCEEDANCES,
+    },
+];
+
+/// The pairings that are added, each by this command and under this key.
+const ADDED: [(usize, Planned, &str); 3] = [(2, P20, "2|0"), (3, P10, "500|1"), (5, P30, "500|3")];
+
 /// Adds a row.
 fn add(alloc: Global, row: &str, lines: &mut Vec<String>) -> Result<(), Untold> {
     lines.push(String::from_str(alloc, row)?)?;
     Ok(())
 }
 
-/// The rows that one command adds, but for those of P10's times.
-fn add_rows(alloc: Global, command: usize, lines: &mut Vec<String>) -> Result<(), Untold> {
-    let row = match command {
-        1 => {
-            add(alloc, "crew C1|0|Ada Ray", lines)?;
-            request_row(alloc, "1|0", CAPTAIN, "")?
+/// Adds the rows of a command that adds no pairing.
+fn add_kept(alloc: Global, kept: &Kept, lines: &mut Vec<String>) -> Result<(), Untold> {
+    for row in kept.rows {
+        add(alloc, row, lines)?;
+    }
+    lines.push(request_row(alloc, kept.key, kept.text, kept.exceedances)?)?;
+    Ok(())
+}
+
+/// Adds the rows of a pairing after so many commands. The last one tells how P10 was flown.
+fn add_planned(
+    alloc: Global,
+    planned: &Planned,
+    key: &str,
+    count: usize,
+    lines: &mut Vec<String>,
+) -> Result<(), Untold> {
+    let is_flown = planned.day == P10.day && count == COMMANDS;
+    add_times(alloc, planned, if is_flown { LATE } else { PLANNED }, lines)?;
+    add_pairing(alloc, planned, key, lines)
+}
+
+/// Adds the rows after so many commands.
+fn add_rows(alloc: Global, count: usize, lines: &mut Vec<String>) -> Result<(), Untold> {
+    add(alloc, "book 1|1|EST5EDT,M3.2.0,M11.1.0", lines)?;
+    for kept in &KEPT {
+        if kept.command <= count {
+            add_kept(alloc, kept, lines)?;
         }
-        2 => {
-            add_times(alloc, &P20, PLANNED, lines)?;
-            return add_pairing(alloc, &P20, "2|0", lines);
+    }
+    for (command, planned, key) in ADDED {
+        if command <= count {
+            add_planned(alloc, &planned, key, count, lines)?;
         }
-        3 => return add_pairing(alloc, &P10, "500|1", lines),
-        5 => {
-            add_times(alloc, &P30, PLANNED, lines)?;
-            return add_pairing(alloc, &P30, "500|3", lines);
-        }
-        6 => {
-            add(alloc, "seat P10|0|C1", lines)?;
-            request_row(alloc, "3|0", ASSIGNED, "")?
-        }
-        7 => {
-            add(alloc, "crew F1|1|Zoë Roy", lines)?;
-            request_row(alloc, "4|0", OFFICER, "")?
-        }
-        8 => {
-            add(alloc, "seat P10|1|F1", lines)?;
-            request_row(alloc, "5|0", JOINED, "")?
-        }
-        9 => {
-            add(alloc, "exceedance 6|0|C1|2|P10|1", lines)?;
-            add(alloc, "exceedance 6|0|F1|2|P10|1", lines)?;
-            request_row(alloc, "6|0", FLOWN, EXCEEDANCES)?
-        }
-        _ => return Ok(()),
-    };
-    lines.push(row)?;
+    }
     Ok(())
 }
 
 /// The rows after so many commands.
 fn after(alloc: Global, count: usize) -> Result<String, Untold> {
     let mut lines = Vec::new(alloc);
-    add(alloc, "book 1|1|EST5EDT,M3.2.0,M11.1.0", &mut lines)?;
-    for command in 1..=COMMANDS {
-        if command <= count {
-            add_rows(alloc, command, &mut lines)?;
-        }
-    }
-    if count >= COMMANDS {
-        add_times(alloc, &P10, LATE, &mut lines)?;
-    } else if count > PARTS[0] {
-        add_times(alloc, &P10, PLANNED, &mut lines)?;
-    }
+    add_rows(alloc, count, &mut lines)?;
     sorted(alloc, lines)
 }
 

@@ -1,0 +1,99 @@
+//! What a history of duties counts, and where it has time free of duty.
+
+use crate::fault::Untold;
+use duty::{DutyInForce, FdpInForce, History, Kind, Span};
+use std::alloc::Global;
+use std::test::Fail;
+use time117::Minute;
+
+/// The minute of that number.
+fn minute(number: u32) -> Minute {
+    Minute::from_number(number).unwrap_or(Minute::FIRST)
+}
+
+/// A flight duty period of these flights.
+fn period(
+    alloc: Global,
+    report: u32,
+    flights: &[(u32, u32)],
+    release: u32,
+) -> Result<DutyInForce, Untold> {
+    let mut segments = Vec::new(alloc);
+    for (out, into) in flights {
+        segments.push(Span {
+            from: minute(*out),
+            to: minute(*into),
+        })?;
+    }
+    Ok(DutyInForce::Fdp(FdpInForce::new(0, minute(report), minute(release), segments)))
+}
+
+/// A flight duty period in minutes: report, flights and release.
+type Flown = (u32, &'static [(u32, u32)], u32);
+
+/// Five periods of June 2025, of which the last begins inside the one before it.
+const JUNE: [Flown; 5] = [
+    (
+        13_375_440,
+        &[(13_375_500, 13_375_620), (13_375_980, 13_376_160)],
+        13_376_160,
+    ),
+    (
+        13_376_880,
+        &[(13_376_940, 13_377_060), (13_377_420, 13_377_600)],
+        13_377_600,
+    ),
+    (
+        13_378_320,
+        &[(13_378_380, 13_378_500), (13_378_860, 13_379_070)],
+        13_379_070,
+    ),
+    (13_381_140, &[(13_381_860, 13_382_340)], 13_382_370),
+    (13_382_310, &[(13_382_370, 13_382_550)], 13_382_580),
+];
+
+/// Their history.
+fn june(alloc: Global) -> Result<History, Untold> {
+    let mut history = History::empty(alloc);
+    for (report, flights, release) in JUNE {
+        history.add(period(alloc, report, flights, release)?)?;
+    }
+    Ok(history)
+}
+
+/// How many duties it has, and how many minutes of flight, of flight duty and of duty in the week before 12 June.
+fn told(alloc: Global, history: &History) -> Result<String, Untold> {
+    let (from, to) = (13_373_280, 13_383_360);
+    let flight = history.flight_minutes(from, to);
+    let flight_duty = history.fdp_minutes(from, to);
+    let duty = history.duty_minutes(from, to);
+    Ok(format!(in alloc; "{} {flight} {flight_duty} {duty}", history.duties().len())?)
+}
+
+/// The same, of all its minutes, where each kind has its own list of them.
+fn told_of_all(alloc: Global, history: &History) -> Result<String, Untold> {
+    let flight = history.intervals(Kind::Flight).total();
+    let flight_duty = history.intervals(Kind::FlightDuty).total();
+    let duty = history.intervals(Kind::Duty).total();
+    Ok(format!(in alloc; "{flight} {flight_duty} {duty}")?)
+}
+
+#[test]
+fn counts_its_minutes_once(rt: HostRuntime) -> Result<(), Fail> {
+    let history = june(rt.alloc())?;
+    assert_eq!(rt; told(rt.alloc(), &history)?.as_str(), "5 1590 3600 3630");
+    assert_eq!(rt;
+        told_of_all(rt.alloc(), &history)?.as_str(),
+        "1590 3600 3630"
+    );
+    Ok(())
+}
+
+#[test]
+fn looks_for_free_runs(rt: HostRuntime) -> Result<(), Fail> {
+    let history = june(rt.alloc())?;
+    let report = 13_382_310;
+    assert!(rt; history.free_run(report - 10_080, report, 3_210));
+    assert!(rt; !history.free_run(report - 10_080, report, 3_211));
+    Ok(())
+}
