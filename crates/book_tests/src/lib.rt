@@ -1,15 +1,13 @@
 //! Tests over memory: what a book answers in one session, asked one by one or all in one run, and which rows are then in the tables;
 //! what the tables find by key; the part of the state that a command needs; a book stopped at each call on its files; a transaction
-//! that can't be taken back; copies of the values of the crates below, and what a history of duties counts; exchanges of HTTP with a
-//! handler that notes what it is asked, and with a book; and one over a loopback connection.
+//! that can't be taken back; what a history of duties counts; exchanges of HTTP with a handler that notes what it is asked, and with a
+//! book; and one over a loopback connection.
 #![tactic(auto)]
 
 #[cfg(test)]
 mod clerk;
 #[cfg(test)]
 mod contents;
-#[cfg(test)]
-mod copies;
 #[cfg(test)]
 mod exchanges;
 #[cfg(test)]

@@ -14,7 +14,7 @@ use store::StoreFault;
 use values::Text;
 
 /// What is done with a database in files while they are open.
-pub trait Act: Drop {
+pub trait Act: Copy {
     type Told;
 
     fn act<S: Alter + Drop>(
@@ -176,7 +176,7 @@ fn not_made(told: Result<String, Untold>) -> Reached {
 }
 
 /// Makes a book, and asks it the first commands, so many.
-#[derive(Drop)]
+#[derive(Clone, Copy)]
 pub struct Asking {
     pub count: usize,
 }
@@ -230,7 +230,7 @@ pub struct Again {
 }
 
 /// Takes up the book that is there, or makes one, and asks it all commands.
-#[derive(Drop)]
+#[derive(Clone, Copy)]
 pub struct HandedInAgain;
 
 /// Whether all commands are answered as always.
@@ -270,7 +270,7 @@ pub enum Taken {
 }
 
 /// Takes up the book that is there.
-#[derive(Drop)]
+#[derive(Clone, Copy)]
 pub struct TakingUp;
 
 impl Act for TakingUp {

@@ -2,7 +2,6 @@
 
 ghost use Rattle.roster.specs.Steps.{IsUnderFreeKey};
 
-use crate::opening::EASTERN;
 use crate::requests::{CANCEL, CAPTAIN, LATE, LEFT, OFFICER, PLAN, RELEASE, RIGHT, key};
 use command::{Command, Key};
 use roster::{Roster, Verdict};
@@ -10,6 +9,9 @@ use std::alloc::Global;
 use std::test::Fail;
 use stored_json::read_canonical;
 use time117::Zone;
+
+/// The zone of New York.
+const EASTERN: &str = "EST5EDT,M3.2.0,M11.1.0";
 
 /// Orders of all nine kinds, each under a number of its own.
 const ACCEPTED: [(u8, &str); 20] = [
