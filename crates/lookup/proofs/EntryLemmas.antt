@@ -35,7 +35,7 @@ use Rattle.state_rows.proofs.Tests.{found, passes}
 use Rattle.state_rows.proofs.Values.{number_is, text_is}
 use Rattle.writing.specs.Kept.{IsBookOf}
 use Rattle.writing.specs.Outcomes.{CrashAddsNothing}
-use Rattle.part.specs.Sources.{AreJust, IsGroundOf}
+use Rattle.roster.specs.Holding.{AreJust, IsGroundOf}
 use Rattle.lookup.specs.Reads.{Shows}
 use Rattle.lookup.specs.Entries.{HasFirstRequest, HasFirstGround, HasFirstZone, ground_told, grounds_in}
 use Rattle.lookup.proofs.HeldLemmas.{text_same}

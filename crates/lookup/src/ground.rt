@@ -9,7 +9,7 @@ ghost use Rattle.tables.specs.Records.{ground_row};
 ghost use Rattle.tables.specs.Rows.{begins_with, equals_at};
 ghost use Rattle.writing.specs.Outcomes.{IsOutside, IsOverBook};
 ghost use Rattle.state_rows.specs.Rows.{ground_duty};
-ghost use Rattle.part.specs.Sources.{AreJust, IsGroundOf};
+ghost use Rattle.roster.specs.Holding.{AreJust, IsGroundOf};
 ghost use Rattle.lookup.specs.Reads.{ReadsByKey, ReadsRows};
 ghost use Rattle.lookup.specs.Entries.{HasFirstGround, grounds_in};
 

@@ -8,7 +8,7 @@ ghost use Rattle.tables.specs.Records.{seat_row};
 ghost use Rattle.tables.specs.Rows.{equals_at};
 ghost use Rattle.writing.specs.Outcomes.{IsOutside, IsOverBook};
 ghost use Rattle.state_rows.specs.Rows.{seat};
-ghost use Rattle.part.specs.Sources.{AreJust, IsHeldBy};
+ghost use Rattle.roster.specs.Holding.{AreJust, IsHeldBy};
 ghost use Rattle.lookup.specs.Reads.{ReadsByKey, ReadsRows, ids_in};
 
 use duty::{CrewId, PairingId};

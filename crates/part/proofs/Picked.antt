@@ -18,7 +18,8 @@ use Rattle.roster.specs.State.{State}
 use Rattle.roster.specs.declared.state.PairingEntry.{PairingEntry}
 use Rattle.roster.proofs.Members.{first_or_later, is_first, is_later, none_in}
 use Rattle.part.specs.Part.{members_named, pairings_named, grounds_named, held_by, holders, is_one_of, judged_by, judged_in, needs_member, needs_pairing, needs_ground, pairings_needed, grounds_needed}
-use Rattle.part.specs.Sources.{AreJust, IsGroundOfOne, IsHeldByOne, IsPartOf, members_wanted, pick, picked}
+use Rattle.roster.specs.Holding.{AreJust}
+use Rattle.part.specs.Sources.{IsGroundOfOne, IsHeldByOne, IsPartOf, members_wanted, pick, picked}
 use Rattle.part.proofs.Retained.{same_name, get_retained, any_first, any_later, or_right}
 use Rattle.std.proofs.Common.{append-nil, append_assoc}
 use Rattle.std.proofs.lemmas.Option.{same_Some}

@@ -1,14 +1,13 @@
 -- What a source that is read by key tells of the state that it shows.
-use Rattle.std.specs.Prelude.{◌≡◌, ◌↔◌, ◌++◌, true, List, map, ℕ, Result, IfOk, Some}
+use Rattle.std.specs.Prelude.{◌≡◌, ◌++◌, List, map, ℕ, Result, IfOk, Some}
 use Rattle.std.specs.FinMap as fin
 use Rattle.std.specs.List.{Contains, fold, flat_map}
 use Rattle.std.specs.Option.{option_map_or}
-use Rattle.std.specs.Str.{bytes_eq}
 use Rattle.values.specs.Name.{name_cmp}
 use Rattle.duty.specs.Plans.{GroundPlan}
 use Rattle.command.specs.declared.instruction.Instruction.{Instruction}
 use Rattle.part.specs.Part.{holders, members_named}
-use Rattle.roster.specs.Pairings.{holds}
+use Rattle.roster.specs.Holding.{IsGroundOf, IsHeldBy}
 use Rattle.roster.specs.State.{State}
 use Rattle.roster.specs.declared.state.PairingEntry.{PairingEntry}
 
@@ -16,18 +15,6 @@ use Rattle.roster.specs.declared.state.PairingEntry.{PairingEntry}
 abbrev pub TellsOfState : {X A E : Type 0} → (X → Type 0) → (X → State → Type 0) → (State → A → Type 0) → X → X → Result A E → Type 0
 TellsOfState IsClean Shows Is old new result =
     (IsClean new → IsClean old) × (IsClean new → (s : State) → Shows old s → IfOk result (λ a. Shows new s × Is s a))
-
--- the member holds the pairing of this id
-abbrev pub IsHeldBy : State → List ℕ → List ℕ → Type 0
-IsHeldBy s who id = (r : PairingEntry) × (fin.get s.pairings id ≡ Some r) × (holds who r ≡ true)
-
--- the ground duty of this id is the member's
-abbrev pub IsGroundOf : State → List ℕ → List ℕ → Type 0
-IsGroundOf s who id = (g : GroundPlan) × (fin.get s.grounds id ≡ Some g) × (bytes_eq g.crew who ≡ true)
-
--- just the ids of which a fact holds
-abbrev pub AreJust : (List ℕ → Type 0) → List (List ℕ) → Type 0
-AreJust Is ids = (id : List ℕ) → Contains ids id ↔ Is id
 
 -- a map with what another has under an id, if it has anything there; and so for each of some ids
 abbrev pub pick : {V : Type 0} → fin.FinMap name_cmp V → fin.FinMap name_cmp V → List ℕ → fin.FinMap name_cmp V

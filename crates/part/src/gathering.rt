@@ -6,7 +6,8 @@ ghost use Rattle.std.specs.FinMap as fin;
 ghost use Rattle.std.specs.Str.{bytes_eq};
 ghost use Rattle.command.specs.Keys.{key_name};
 ghost use Rattle.part.specs.Part.{Part, pairings_needed, grounds_needed, judged_by, needs_member};
-ghost use Rattle.part.specs.Sources.{AreJust, IsGroundOfOne, IsHeldByOne, TellsOfState};
+ghost use Rattle.roster.specs.Holding.{AreJust};
+ghost use Rattle.part.specs.Sources.{IsGroundOfOne, IsHeldByOne, TellsOfState};
 
 use crate::named::{grounds_named, judged_in, members_wanted, pairings_named};
 use crate::pick::{pick_grounds, pick_members, pick_pairings, pick_request};

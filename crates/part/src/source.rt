@@ -4,7 +4,8 @@ ghost use Rattle.std.specs.Prelude.{◌≡◌, OnOk};
 ghost use Rattle.std.specs.FinMap as fin;
 ghost use Rattle.command.specs.Keys.{key_name};
 ghost use Rattle.roster.specs.State.{State};
-ghost use Rattle.part.specs.Sources.{TellsOfState, IsHeldBy, IsGroundOf, AreJust};
+ghost use Rattle.roster.specs.Holding.{IsHeldBy, IsGroundOf, AreJust};
+ghost use Rattle.part.specs.Sources.{TellsOfState};
 
 use command::{Key, Member};
 use duty::{CrewId, Ground, GroundId, PairingId};

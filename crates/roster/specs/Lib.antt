@@ -1,6 +1,7 @@
 pub mod Entries
 pub mod ExceedanceOrder
 pub mod Folds
+pub mod Holding
 pub mod Honest
 pub mod Laws
 pub mod LeftOut

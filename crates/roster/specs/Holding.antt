@@ -1,0 +1,21 @@
+-- Whose a pairing and a ground duty of the state are.
+use Rattle.std.specs.Prelude.{◌≡◌, ◌↔◌, true, List, ℕ, Some}
+use Rattle.std.specs.FinMap as fin
+use Rattle.std.specs.List.{Contains}
+use Rattle.std.specs.Str.{bytes_eq}
+use Rattle.duty.specs.Plans.{GroundPlan}
+use Rattle.roster.specs.Pairings.{holds}
+use Rattle.roster.specs.State.{State}
+use Rattle.roster.specs.declared.state.PairingEntry.{PairingEntry}
+
+-- the member holds the pairing of this id
+abbrev pub IsHeldBy : State → List ℕ → List ℕ → Type 0
+IsHeldBy s who id = (r : PairingEntry) × (fin.get s.pairings id ≡ Some r) × (holds who r ≡ true)
+
+-- the ground duty of this id is the member's
+abbrev pub IsGroundOf : State → List ℕ → List ℕ → Type 0
+IsGroundOf s who id = (g : GroundPlan) × (fin.get s.grounds id ≡ Some g) × (bytes_eq g.crew who ≡ true)
+
+-- just the ids of which a fact holds
+abbrev pub AreJust : (List ℕ → Type 0) → List (List ℕ) → Type 0
+AreJust Is ids = (id : List ℕ) → Contains ids id ↔ Is id
