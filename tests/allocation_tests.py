@@ -1,15 +1,15 @@
 #!/usr/bin/env python3
-"""Refuses the program of the crate allocation_tests memory, one call for it after the other, and compares what it prints.
+"""Refuses tests of the crate call_tests memory, one call for it after the other, and looks at whether they pass.
 
-    tests/allocation_tests.py [--all] [PART..]
+    tests/allocation_tests.py [--all] [TEST..]
 
-The program tries calls of the library crates: where one is told that there is no memory, it compares what the call was to leave as it
-was, and makes the same call again. So it prints the same whichever of its own calls for memory is refused, and writes to standard
-error how that was told. Each of its parts is run with its first call refused, then with the second one, and so on, up to a run in
-which none is; the longest part only with one in 31, but for --all. Each of these runs
+The tests of its module `allocation` try calls of the library crates: where one is told that there is no memory, the test compares what
+the call was to leave as it was, and makes the same call again. So a test passes whichever of its own calls for memory is refused, and
+writes to standard error how that was told. Each is run alone, in a process of its own, with its first call refused, then with the
+second one, and so on, up to a run in which none is; the longest only with one in 31, but for --all. Each of these runs
 
-- prints what a run with all memory prints, which is what stands in the crate's file stdout, and ends with status 0;
-- tells want of memory as the part may: 91 of a call that has changed nothing, 90 of a store that failed, 503 and 92 over HTTP.
+- passes, as it does with all memory;
+- tells want of memory as the test may: 91 of a call that has changed nothing, 90 of a store that failed, 503 and 92 over HTTP.
 
 The line before the last one says how many calls were refused; the last line is 'N passed, M failed', in which such a run counts as
 one, and the exit status is 1 where M isn't 0. Where there is no C compiler, nothing is tried.
@@ -25,14 +25,16 @@ from dataclasses import dataclass, field
 from office import TOP, Ran
 from refusing import Memory, folder, has_compiler
 
-CRATE = TOP / "crates" / "allocation_tests"
-PROGRAM = CRATE / "out" / "allocation_tests"
+CRATE = TOP / "crates" / "call_tests"
+PROGRAM = CRATE / "out" / "call_tests_tests"
+MODULE = "allocation"
 STRIDES = {"book": 31}  # from one call that is refused to the next one, where that isn't one
 NO_CALL = 1_000  # so many calls behind the last one there is none
-PATIENCE = 60  # seconds for a run of the program
+PATIENCE = 60  # seconds for a run of a test
+PASSED = "\ntest result: ok\n"  # what the program prints of one
 
-# Each part, and how want of memory may be told in it.
-PARTS = {
+# Each test, and how want of memory may be told in it.
+TESTS = {
     "table": {"91"},
     "write": {"91"},
     "insert": {"91"},
@@ -43,11 +45,12 @@ PARTS = {
     "schedule": {"91"},
     "book": {"91", "90"},
     "http": {"503", "92"},
+    "line": {"91"},
 }
 
 
 def crates():
-    """The crates that the program is made of."""
+    """The crates that the tests are made of."""
     lines = (line.split(":") for line in (TOP / "crates.txt").read_text().splitlines() if ":" in line and line[0] != "#")
     listed = {name: below.split() for name, below in lines}
     found = [CRATE.name]
@@ -57,27 +60,26 @@ def crates():
 
 
 def sources():
-    """The files that the program is made of."""
+    """The files that the tests are made of."""
     for name in crates():
         for folder in ("src", "specs", "proofs"):
             yield from (TOP / "crates" / name / folder).glob("**/*.*")
 
 
 def build():
-    """Proves and builds the program, where it is missing or older than a source; returns whether it is there."""
+    """Proves and builds the tests, where they are missing or older than a source; returns whether they are there."""
     if PROGRAM.exists() and all(file.stat().st_mtime <= PROGRAM.stat().st_mtime for file in sources()):
         return True
-    print("tests/allocation_tests.py: proving and building the program ..", file=sys.stderr)
-    ran = subprocess.run(["rt", "run"], cwd=CRATE, stdin=subprocess.DEVNULL, stdout=subprocess.DEVNULL)
+    print("tests/allocation_tests.py: proving and building the tests ..", file=sys.stderr)
+    ran = subprocess.run(["rt", "test"], cwd=CRATE, stdin=subprocess.DEVNULL, stdout=subprocess.DEVNULL)
     if ran.returncode == 0:
         PROGRAM.touch()
     return ran.returncode == 0
 
 
-def texts():
-    """What each part prints with all memory."""
-    names = "|".join(PARTS)
-    return dict(re.findall(rf"^({names}): (.*?\n)(?=(?:{names}): |\Z)", (CRATE / "stdout").read_text(), re.M | re.S))
+def written():
+    """The names of the tests that are in the crate's module."""
+    return re.findall(r"^#\[test\]\nfn (\w+)\(", (CRATE / "src" / f"{MODULE}.rt").read_text(), re.M)
 
 
 @dataclass
@@ -97,17 +99,17 @@ class Desk:
         if got != wanted:
             print(f"tests/allocation_tests.py: {what}\n  wanted: {wanted}\n  got:    {got}", file=sys.stderr)
 
-    def numbers(self, part, run):
+    def numbers(self, test, run):
         """The numbers of the calls that are refused."""
-        return range(1, self.memory.count(run) + 1, 1 if self.is_all else STRIDES.get(part, 1))
+        return range(1, self.memory.count(run) + 1, 1 if self.is_all else STRIDES.get(test, 1))
 
 
-def runner(part):
-    """What runs a part."""
+def runner(test):
+    """What runs a test."""
 
     def run(**options):
         try:
-            ran = subprocess.run([PROGRAM, part], stdin=subprocess.DEVNULL, capture_output=True, timeout=PATIENCE, **options)
+            ran = subprocess.run([PROGRAM, f"{MODULE}::{test}"], stdin=subprocess.DEVNULL, capture_output=True, timeout=PATIENCE, **options)
         except subprocess.TimeoutExpired:
             return Ran(None, "", "")
         return Ran(ran.returncode, ran.stdout.decode(errors="replace"), ran.stderr.decode(errors="replace"))
@@ -115,22 +117,22 @@ def runner(part):
     return run
 
 
-def try_part(desk, part, text):
-    run = runner(part)
-    whole = Ran(0, f"{part}: {text}", "")
-    desk.expect(f"{part} with all memory", run(), whole)
+def try_one(desk, test):
+    run = runner(test)
+    whole = Ran(0, PASSED, "")
+    desk.expect(f"{test} with all memory", run(), whole)
     told = Counter()
-    numbers = desk.numbers(part, run)
+    numbers = desk.numbers(test, run)
     for number in numbers:
         ended, function = desk.memory.refuse(run, number)
-        ways_told = ended.err.replace(f"{part}: ", "").split()
-        wanted = Ran(0, whole.out, ended.err if len(ways_told) < 2 and PARTS[part].issuperset(ways_told) else "")
-        desk.expect(f"{part}: call {number}, of {function or 'none'}, refused", ended, wanted)
+        ways_told = ended.err.split()
+        wanted = Ran(0, PASSED, ended.err if len(ways_told) < 2 and TESTS[test].issuperset(ways_told) else "")
+        desk.expect(f"{test}: call {number}, of {function or 'none'}, refused", ended, wanted)
         desk.functions[function or "none"] += 1
         told.update(ways_told or ["nothing"])
-    desk.expect(f"{part} with a call refused that isn't made", desk.memory.refuse(run, numbers[-1] + NO_CALL), (whole, ""))
-    ways = PARTS[part] if numbers.step == 1 else {"91"}
-    desk.expect(f"{part}: how want of memory is told", ways - {*told}, set())
+    desk.expect(f"{test} with a call refused that isn't made", desk.memory.refuse(run, numbers[-1] + NO_CALL), (whole, ""))
+    ways = TESTS[test] if numbers.step == 1 else {"91"}
+    desk.expect(f"{test}: how want of memory is told", ways - {*told}, set())
     desk.told += told
 
 
@@ -144,11 +146,11 @@ def summary(desk):
 def main():
     asked_for = argparse.ArgumentParser(description=__doc__.split("\n")[0])
     asked_for.add_argument("--all", action="store_true", help="refuse each call for memory in turn")
-    asked_for.add_argument("parts", nargs="*", metavar="PART")
+    asked_for.add_argument("tests", nargs="*", metavar="TEST")
     asked_for = asked_for.parse_args()
-    for part in asked_for.parts:
-        if part not in PARTS:
-            sys.exit(f"tests/allocation_tests.py: there is no part {part}")
+    for test in asked_for.tests:
+        if test not in TESTS:
+            sys.exit(f"tests/allocation_tests.py: there is no test {test}")
     if not has_compiler():
         print("tests/allocation_tests.py: no call for memory is refused, since no cc is on the PATH", file=sys.stderr)
         print("0 passed, 0 failed")
@@ -157,10 +159,9 @@ def main():
         return 3
     with folder("allocation-tests-") as room:
         desk = Desk(Memory.built(room), asked_for.all)
-        printed = texts()
-        desk.expect("the parts in the file stdout", list(printed), list(PARTS))
-        for part in asked_for.parts or PARTS:
-            try_part(desk, part, printed.get(part, ""))
+        desk.expect("the tests", written(), list(TESTS))
+        for test in asked_for.tests or TESTS:
+            try_one(desk, test)
     print(summary(desk))
     print(f"{desk.passed} passed, {desk.failed} failed")
     return 1 if desk.failed else 0

@@ -187,46 +187,22 @@ fn look<S: Alter>(alloc: Global, conn: &Connection<S>) -> Result<(), Untold>
     }
 }
 
-/// The records that are found of a pairing.
-fn found_of_pairing<S: Alter>(
-    alloc: Global,
-    conn: &mut Connection<S>,
-    step: Step,
-) -> Result<String, Untold> {
-    look(alloc, conn)?;
-    match step {
-        Step::Pairing(id) => in_order(alloc, pairing_by_id(alloc, conn, id)),
-        Step::PeriodsOf(id) => in_order(alloc, periods_of(alloc, conn, id)),
-        Step::SegmentsOf(id) => in_order(alloc, segments_of(alloc, conn, id)),
-        Step::SeatsOf(id) => in_order(alloc, seats_of(alloc, conn, id)),
-        _ => Err(Untold::Unread),
-    }
-}
-
-/// The records that are found of a member.
-fn found_of_member<S: Alter>(
-    alloc: Global,
-    conn: &mut Connection<S>,
-    step: Step,
-) -> Result<String, Untold> {
-    look(alloc, conn)?;
-    match step {
-        Step::Member(id) => in_order(alloc, crew_by_id(alloc, conn, id)),
-        Step::SeatsBy(id) => in_order(alloc, seats_by_crew(alloc, conn, id)),
-        Step::GroundsBy(id) => in_order(alloc, grounds_by_crew(alloc, conn, id)),
-        _ => found_of_pairing(alloc, conn, step),
-    }
-}
-
 /// The records that are found.
 fn found<S: Alter>(alloc: Global, conn: &mut Connection<S>, step: Step) -> Result<String, Untold> {
     look(alloc, conn)?;
     match step {
         Step::Book => in_order(alloc, load_book(alloc, conn)),
+        Step::Member(id) => in_order(alloc, crew_by_id(alloc, conn, id)),
+        Step::Pairing(id) => in_order(alloc, pairing_by_id(alloc, conn, id)),
+        Step::PeriodsOf(id) => in_order(alloc, periods_of(alloc, conn, id)),
+        Step::SegmentsOf(id) => in_order(alloc, segments_of(alloc, conn, id)),
+        Step::SeatsOf(id) => in_order(alloc, seats_of(alloc, conn, id)),
+        Step::SeatsBy(id) => in_order(alloc, seats_by_crew(alloc, conn, id)),
         Step::Ground(id) => in_order(alloc, ground_by_id(alloc, conn, id)),
+        Step::GroundsBy(id) => in_order(alloc, grounds_by_crew(alloc, conn, id)),
         Step::Request(number, part) => in_order(alloc, request_by_key(alloc, conn, number, part)),
         Step::Exceedances => in_turn(alloc, exceedances(alloc, conn)),
-        _ => found_of_member(alloc, conn, step),
+        _ => Err(Untold::Unread),
     }
 }
 

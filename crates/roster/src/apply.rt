@@ -115,9 +115,10 @@ impl Roster {
         ensures ok { OnOk result (self.new ≡ kept self.old change.now) }
         ensures err { OnErr result (self.new ≡ self.old) }
     {
+        // (the command last: its drop takes the prover long)
         let request = LoggedCommand {
-            command: change.command.try_clone(alloc)?,
             reply: change.reply.try_clone(alloc)?,
+            command: change.command.try_clone(alloc)?,
         };
         self.requests.insert(change.key, request)
     }
@@ -161,6 +162,24 @@ impl Roster {
         }
     }
 
+    /// Copies the exceedances, with those that the change records of a period.
+    fn with_recorded(
+        &self,
+        alloc: Global,
+        change: &Change,
+        pairing: &PairingId,
+        number: u8,
+    ) -> Result<OrdMap<ExceedanceId, PeriodId>, MemoryFault>
+        ensures { let period : PeriodOf = record { pairing = pairing.now; number = number } in
+            IfOk result (λ records. records ≡ fold (recorded change.now.key period)
+            self.now.exceedances change.now.reply.exceedances) }
+    {
+        let mut records = self.exceedances.try_clone(alloc)?;
+        let recorded = change.reply.exceedances.as_slice();
+        record_all(alloc, change.key, pairing, number, recorded, &mut records)?;
+        Ok(records)
+    }
+
     /// Puts an actual in its place, and records its exceedances.
     fn fly(
         &mut self,
@@ -178,19 +197,11 @@ impl Roster {
             }) }
         ensures err { OnErr result (self.new ≡ self.old) }
     {
-        let mut records = self.exceedances.try_clone(alloc)?;
-        let recorded = change.reply.exceedances.as_slice();
-        record_all(
-            alloc,
-            change.key,
-            id,
-            actual.period(),
-            recorded,
-            &mut records,
-        )?;
-        let actual = actual.try_clone(alloc)?;
-        self.exceedances = records;
-        self.pairings.edit(id, Flown { actual });
+        let flown = Flown {
+            actual: actual.try_clone(alloc)?,
+        };
+        self.exceedances = self.with_recorded(alloc, change, id, actual.period())?;
+        self.pairings.edit(id, flown);
         Ok(())
     }
 }

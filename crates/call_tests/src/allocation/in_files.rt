@@ -7,11 +7,11 @@ mod files;
 mod session;
 mod shown;
 
+use crate::allocation::in_files::desk::Desk;
+use crate::allocation::in_files::files::{Found, opened, usable};
+use crate::allocation::in_files::session::{Next, Stage};
+use crate::allocation::told::Told;
 use crate::fault::Fault;
-use crate::in_files::desk::Desk;
-use crate::in_files::files::{Found, opened, usable};
-use crate::in_files::session::{Next, Stage};
-use crate::told::Told;
 use sqlite::{FileStore, Files};
 use sqlite_disk::Memory;
 use std::alloc::Global;

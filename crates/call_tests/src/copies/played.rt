@@ -2,57 +2,38 @@
 
 ghost use Rattle.roster.specs.Steps.{IsUnderFreeKey};
 
-use crate::requests::{CANCEL, CAPTAIN, LATE, LEFT, OFFICER, PLAN, RELEASE, RIGHT, key};
+use crate::requests::{
+    CANCEL, CAPTAIN, G1, G2, LATE, Line, OFFICER, OTHER_CAPTAIN, P1, P2, P3, RELEASE, TAKE,
+    TAKE_RIGHT, eastern, key,
+};
 use command::{Command, Key};
 use roster::{Roster, Verdict};
 use std::alloc::Global;
 use std::test::Fail;
 use stored_json::read_canonical;
-use time117::Zone;
-
-/// The zone of New York.
-const EASTERN: &str = "EST5EDT,M3.2.0,M11.1.0";
 
 /// Orders of all nine kinds, each under a number of its own.
-const ACCEPTED: [(u8, &str); 20] = [
+const ACCEPTED: [Line; 20] = [
     (1, CAPTAIN),
-    (
-        2,
-        "{\"do\":\"add-crew\",\"crew\":\"C2\",\"seat\":\"captain\",\"name\":\"Bo Lind\"}",
-    ),
+    (2, OTHER_CAPTAIN),
     (3, OFFICER),
-    (4, PLAN),
-    (
-        5,
-        "{\"do\":\"add-pairing\",\"pairing\":\"P2\",\"periods\":[{\"report\":\"2025-06-12T11:00Z\",\"release\":\"2025-06-12T20:00Z\",\
-        \"segments\":[{\"flight\":\"RB1\",\"from\":\"BOS\",\"out\":\"2025-06-12T12:00Z\",\"to\":\"IAD\",\"in\":\"2025-06-12T19:30Z\"}]}]}",
-    ),
-    // Reports too soon after the release of P1 as it is flown.
-    (
-        6,
-        "{\"do\":\"add-pairing\",\"pairing\":\"P3\",\"periods\":[{\"report\":\"2025-06-11T12:00Z\",\"release\":\"2025-06-11T15:30Z\",\
-        \"segments\":[{\"flight\":\"RB1\",\"from\":\"BOS\",\"out\":\"2025-06-11T13:00Z\",\"to\":\"IAD\",\"in\":\"2025-06-11T15:00Z\"}]}]}",
-    ),
-    (7, LEFT),
+    (4, P1),
+    (5, P2),
+    (6, P3),
+    (7, TAKE),
     (8, RELEASE),
     (9, CANCEL),
-    (10, PLAN),
-    (11, LEFT),
-    (12, RIGHT),
+    (10, P1),
+    (11, TAKE),
+    (12, TAKE_RIGHT),
     (13, "{\"do\":\"assign\",\"pairing\":\"P2\",\"crew\":\"C2\"}"),
     (14, "{\"do\":\"assign\",\"pairing\":\"P2\",\"crew\":\"F1\"}"),
     (
         15,
         "{\"do\":\"swap\",\"pairing\":\"P1\",\"crew\":\"C1\",\"other_pairing\":\"P2\",\"other_crew\":\"C2\"}",
     ),
-    (
-        16,
-        "{\"do\":\"add-ground\",\"ground\":\"G1\",\"crew\":\"C1\",\"begin\":\"2025-06-20T12:00Z\",\"end\":\"2025-06-20T20:00Z\",\"task\":\"Simulator\"}",
-    ),
-    (
-        17,
-        "{\"do\":\"add-ground\",\"ground\":\"G2\",\"crew\":\"F1\",\"begin\":\"2025-06-21T12:00Z\",\"end\":\"2025-06-21T20:00Z\",\"task\":\"Training\"}",
-    ),
+    (16, G1),
+    (17, G2),
     (
         18,
         "{\"do\":\"add-ground\",\"ground\":\"G3\",\"crew\":\"F1\",\"begin\":\"2025-06-22T12:00Z\",\"end\":\"2025-06-22T20:00Z\",\"task\":\"Training\"}",
@@ -62,12 +43,12 @@ const ACCEPTED: [(u8, &str); 20] = [
 ];
 
 /// One for each refusal of the book, in the order of their numbers.
-const REFUSED: [(u8, &str); 16] = [
+const REFUSED: [Line; 16] = [
     (1, RELEASE),
     (30, "{\"do\":\"assign\",\"pairing\":\"P3\",\"crew\":\"C9\"}"),
     (30, CAPTAIN),
     (30, "{\"do\":\"assign\",\"pairing\":\"P9\",\"crew\":\"C1\"}"),
-    (30, PLAN),
+    (30, P1),
     (30, "{\"do\":\"assign\",\"pairing\":\"P2\",\"crew\":\"C2\"}"),
     (
         30,
@@ -130,7 +111,7 @@ fn judged(
     Ok(verdict)
 }
 
-fn ask(alloc: Global, played: &mut Played, (number, text): (u8, &str)) -> Result<(), Fail> {
+fn ask(alloc: Global, played: &mut Played, (number, text): Line) -> Result<(), Fail> {
     let command = read_canonical(alloc, text)?;
     let verdict = judged(alloc, &mut played.roster, key(number), &command);
     drop(command);
@@ -138,7 +119,7 @@ fn ask(alloc: Global, played: &mut Played, (number, text): (u8, &str)) -> Result
     Ok(())
 }
 
-fn ask_all(alloc: Global, played: &mut Played, requests: &[(u8, &str)]) -> Result<(), Fail> {
+fn ask_all(alloc: Global, played: &mut Played, requests: &[Line]) -> Result<(), Fail> {
     for request in requests {
         ask(alloc, played, *request)?;
     }
@@ -146,9 +127,8 @@ fn ask_all(alloc: Global, played: &mut Played, requests: &[(u8, &str)]) -> Resul
 }
 
 fn empty(alloc: Global) -> Result<Played, Fail> {
-    let zone = Zone::read(alloc, EASTERN)?;
     Ok(Played {
-        roster: Roster::empty(alloc, zone)?,
+        roster: Roster::empty(alloc, eastern(alloc)?)?,
         verdicts: Vec::new(alloc),
     })
 }

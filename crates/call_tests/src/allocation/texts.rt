@@ -1,9 +1,9 @@
 //! Texts that are made, and texts that are read. Such a call changes nothing, so it can only be made again.
 
+use crate::allocation::machine::played;
+use crate::allocation::told::Told;
 use crate::fault::Fault;
-use crate::machine::played;
 use crate::requests::{REQUESTS, requests};
-use crate::told::Told;
 use codec::schedule_of_csv;
 use command::Command;
 use duty::{CrewId, Pairing, PairingId};
@@ -82,7 +82,7 @@ fn add_report(
 
 /// Makes the reports of all members and all pairings, and that of the exceedances.
 fn reports(alloc: Global, told: &mut Told, roster: &Roster) -> Result<String, Fault> {
-    let mut text = String::from_str(alloc, "as follows\n")?;
+    let mut text = String::new(alloc);
     for (who, _member) in roster.crew.iter() {
         add_report(alloc, told, roster, Report::Member(who), &mut text)?;
     }

@@ -5,10 +5,10 @@ ghost use Rattle.std.specs.FinMap as fin;
 ghost use Rattle.command.specs.Keys.{key_name};
 ghost use Rattle.roster.specs.Steps.{IsUnderFreeKey};
 
+use crate::allocation::same::are_rosters_same;
+use crate::allocation::told::Told;
 use crate::fault::Fault;
 use crate::requests::{REQUESTS, eastern, requests};
-use crate::same::are_rosters_same;
-use crate::told::Told;
 use command::{Command, Key};
 use roster::{Change, Roster, Verdict};
 use std::alloc::Global;

@@ -1,10 +1,10 @@
 //! The calls that a book has answered, and those that are left.
 
+use crate::allocation::machine::state;
+use crate::allocation::same::are_rosters_same;
+use crate::allocation::texts::SCHEDULE;
 use crate::fault::Fault;
-use crate::machine::state;
 use crate::requests::{OFFICE, requests};
-use crate::same::are_rosters_same;
-use crate::texts::SCHEDULE;
 use book::{Answer, Book, BookFault, Import};
 use codec::schedule_of_csv;
 use command::{Command, Instruction, Key};

@@ -1,60 +1,12 @@
 //! The entries of a roster, and the history of its duties.
 
-use command::{Key, Member};
-use duty::{CrewId, Duty, Ground, GroundId, History, PairingId};
-use roster::{Entry, ExceedanceId, LoggedCommand, PairingEntry, PeriodId, Roster};
+use crate::rows::Row;
+use duty::{Duty, History};
+use roster::{Entry, Roster};
 use std::alloc::Global;
 use std::test::Fail;
 use time117::Zone;
-use values::{OrdKey, OrdMap, TryClone};
-
-/// What a table of a roster is keyed by.
-trait Row: OrdKey + TryClone {
-    /// What stands under it.
-    type Value: TryClone;
-
-    fn entry(self, value: Self::Value) -> Entry;
-}
-
-impl Row for CrewId {
-    type Value = Member;
-
-    fn entry(self, value: Member) -> Entry {
-        Entry::Member(self, value)
-    }
-}
-
-impl Row for PairingId {
-    type Value = PairingEntry;
-
-    fn entry(self, value: PairingEntry) -> Entry {
-        Entry::Pairing(value)
-    }
-}
-
-impl Row for GroundId {
-    type Value = Ground;
-
-    fn entry(self, value: Ground) -> Entry {
-        Entry::Ground(value)
-    }
-}
-
-impl Row for ExceedanceId {
-    type Value = PeriodId;
-
-    fn entry(self, value: PeriodId) -> Entry {
-        Entry::Exceedance(self, value)
-    }
-}
-
-impl Row for Key {
-    type Value = LoggedCommand;
-
-    fn entry(self, value: LoggedCommand) -> Entry {
-        Entry::LoggedCommand(self, value)
-    }
-}
+use values::{OrdMap, TryClone};
 
 /// Adds an entry for each row of a table.
 fn add_all<K: Row>(

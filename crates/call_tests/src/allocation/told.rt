@@ -27,8 +27,8 @@ impl Told {
         }
     }
 
-    /// Writes a line for each way in which it was told, with the name of a part.
-    pub fn print<W: Write>(&self, name: &str, writer: &mut W) -> io::Result<()> {
+    /// Writes a line for each way in which it was told.
+    pub fn print<W: Write>(&self, writer: &mut W) -> io::Result<()> {
         for (number, is_told) in [
             ("91", self.memory),
             ("90", self.store),
@@ -36,7 +36,7 @@ impl Told {
             ("92", self.channel),
         ] {
             if is_told {
-                writeln!(writer, "{name}: {number}")?;
+                writeln!(writer, "{number}")?;
             }
         }
         Ok(())

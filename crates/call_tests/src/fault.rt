@@ -1,21 +1,22 @@
-//! Why nothing comes of a part: one type for each fault that its calls may meet.
+//! Why nothing comes of calls: one type for each fault that they may meet.
 
 use report::ReportFault;
+use sqlite::Error;
 use std::alloc::{AllocError, AllocFailed};
 use std::fmt;
 use stored_json::CodecFault;
 use values::MemoryFault;
 
-/// Why nothing comes of a part.
-#[derive(Clone, Copy)]
+/// Why nothing comes of calls.
+#[derive(Clone, Copy, Debug)]
 pub enum Fault {
-    /// There was no memory for what a part needs besides the calls that it tries.
+    /// There was no memory for what is needed besides the calls that are tried.
     Memory,
     /// A refused call has changed what it was to leave as it was.
     Changed,
     /// A call that was made again gave what it doesn't give with all memory.
     Otherwise,
-    /// What the part needs can't be made.
+    /// What is needed can't be made.
     Unmade,
     /// Calls were refused again and again.
     Endless,
@@ -30,6 +31,14 @@ impl fmt::Display for Fault {
             Fault::Unmade => "what is needed can't be made",
             Fault::Endless => "calls were refused again and again",
         })
+    }
+}
+
+impl std::error::Error for Fault {}
+
+impl From<Error> for Fault {
+    fn from(_error: Error) -> Fault {
+        Fault::Unmade
     }
 }
 

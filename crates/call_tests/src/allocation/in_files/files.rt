@@ -1,9 +1,9 @@
 //! The two files of a book.
 
+use crate::allocation::in_files::desk::Desk;
+use crate::allocation::in_files::session::{Next, Stage, hold};
+use crate::allocation::told::Told;
 use crate::fault::Fault;
-use crate::in_files::desk::Desk;
-use crate::in_files::session::{Next, Stage, hold};
-use crate::told::Told;
 use sqlite::{Connection, Error, ErrorCode, Files, Options};
 use sqlite_disk::{Disk, Memory};
 use std::alloc::Global;

@@ -1,62 +1,13 @@
 //! Entries that are set in a roster, as one who reads it from a file does.
 
+use crate::allocation::machine::{empty, played};
+use crate::allocation::same::are_rosters_same;
+use crate::allocation::told::Told;
 use crate::fault::Fault;
-use crate::machine::{empty, played};
-use crate::same::are_rosters_same;
-use crate::told::Told;
-use command::{Key, Member};
-use duty::{CrewId, Ground, GroundId, PairingId};
-use roster::{Entry, ExceedanceId, LoggedCommand, PairingEntry, PeriodId, Roster};
+use crate::rows::Row;
+use roster::{Entry, Roster};
 use std::alloc::Global;
-use values::{OrdKey, OrdMap, TryClone};
-
-/// What a table of a roster is keyed by.
-trait Row: OrdKey + TryClone {
-    /// What stands under it.
-    type Value: TryClone;
-
-    fn entry(self, value: Self::Value) -> Entry;
-}
-
-impl Row for CrewId {
-    type Value = Member;
-
-    fn entry(self, value: Member) -> Entry {
-        Entry::Member(self, value)
-    }
-}
-
-impl Row for PairingId {
-    type Value = PairingEntry;
-
-    fn entry(self, value: PairingEntry) -> Entry {
-        Entry::Pairing(value)
-    }
-}
-
-impl Row for GroundId {
-    type Value = Ground;
-
-    fn entry(self, value: Ground) -> Entry {
-        Entry::Ground(value)
-    }
-}
-
-impl Row for ExceedanceId {
-    type Value = PeriodId;
-
-    fn entry(self, value: PeriodId) -> Entry {
-        Entry::Exceedance(self, value)
-    }
-}
-
-impl Row for Key {
-    type Value = LoggedCommand;
-
-    fn entry(self, value: LoggedCommand) -> Entry {
-        Entry::LoggedCommand(self, value)
-    }
-}
+use values::{OrdMap, TryClone};
 
 /// Sets an entry. A roster that finds no memory has to be as the other one, which is behind.
 fn set(

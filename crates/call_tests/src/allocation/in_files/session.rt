@@ -1,10 +1,10 @@
 //! Sessions of a book over one connection.
 
+use crate::allocation::in_files::desk::Desk;
+use crate::allocation::in_files::shown::compare_shown;
+use crate::allocation::told::Told;
 use crate::fault::Fault;
-use crate::in_files::desk::Desk;
-use crate::in_files::shown::compare_shown;
 use crate::requests::eastern;
-use crate::told::Told;
 use book::{Book, BookFault, CreateFault, LoadFault};
 use roster::Roster;
 use sqlite::{Alter, Connection};

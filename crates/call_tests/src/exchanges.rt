@@ -1,9 +1,8 @@
 //! Exchanges of HTTP with a book in memory: whole, cut, and over channels that fail.
 
 use crate::clerk::channel::{Input, Output};
-use crate::contents;
-use crate::fault::Untold;
-use crate::opening::{create, opened, take_up};
+use crate::fault::Fault;
+use crate::making::made;
 use book::Book;
 use sqlite::{Alter, Connection};
 use std::alloc::Global;
@@ -74,7 +73,7 @@ fn exchanged<S: Alter>(
     book: &mut Book<S>,
     sent: &[u8],
     trial: Trial,
-) -> Result<(Ending, Vec<u8>), Untold> {
+) -> Result<(Ending, Vec<u8>), Fault> {
     let (length, fails, room) = match trial {
         Trial::Whole => (sent.len(), false, usize::MAX),
         Trial::Cut(length) => (length, false, usize::MAX),
@@ -111,7 +110,7 @@ struct Sample {
 }
 
 /// A text in bytes.
-fn bytes_of(alloc: Global, text: &str) -> Result<Vec<u8>, Untold> {
+fn bytes_of(alloc: Global, text: &str) -> Result<Vec<u8>, Fault> {
     let mut bytes = Vec::new(alloc);
     for byte in text.bytes() {
         match byte {
@@ -123,7 +122,7 @@ fn bytes_of(alloc: Global, text: &str) -> Result<Vec<u8>, Untold> {
     Ok(bytes)
 }
 
-fn sample_of(alloc: Global, place: usize, sent: &str, written: &str) -> Result<Sample, Untold> {
+fn sample_of(alloc: Global, place: usize, sent: &str, written: &str) -> Result<Sample, Fault> {
     let head = sent.split("||").next().unwrap_or(sent);
     Ok(Sample {
         place,
@@ -134,7 +133,7 @@ fn sample_of(alloc: Global, place: usize, sent: &str, written: &str) -> Result<S
 }
 
 /// All exchanges.
-fn samples(alloc: Global) -> Result<Vec<Sample>, Untold> {
+fn samples(alloc: Global) -> Result<Vec<Sample>, Fault> {
     let mut samples = Vec::new(alloc);
     let mut lines = EXCHANGES.lines();
     for place in 0..100 {
@@ -147,7 +146,7 @@ fn samples(alloc: Global) -> Result<Vec<Sample>, Untold> {
 }
 
 /// What is written before the body, where so many bytes of the request come.
-fn interim(alloc: Global, sample: &Sample, length: usize) -> Result<Vec<u8>, Untold> {
+fn interim(alloc: Global, sample: &Sample, length: usize) -> Result<Vec<u8>, Fault> {
     let front = bytes_of(alloc, CONTINUE)?;
     if length < sample.head || !sample.written.starts_with(&front) {
         return Ok(Vec::new(alloc));
@@ -156,7 +155,7 @@ fn interim(alloc: Global, sample: &Sample, length: usize) -> Result<Vec<u8>, Unt
 }
 
 /// How an exchange is to end, and what is to be written.
-fn wanted(alloc: Global, sample: &Sample, trial: Trial) -> Result<(Ending, Vec<u8>), Untold> {
+fn wanted(alloc: Global, sample: &Sample, trial: Trial) -> Result<(Ending, Vec<u8>), Fault> {
     match trial {
         Trial::Whole => Ok((
             Ending::Answered,
@@ -174,7 +173,7 @@ fn wanted(alloc: Global, sample: &Sample, trial: Trial) -> Result<(Ending, Vec<u
 }
 
 /// A copy of the first bytes.
-fn copy_of(alloc: Global, bytes: &[u8], length: usize) -> Result<Vec<u8>, Untold> {
+fn copy_of(alloc: Global, bytes: &[u8], length: usize) -> Result<Vec<u8>, Fault> {
     let mut copy = Vec::new(alloc);
     copy.extend_from_slice(bytes.get(..length).unwrap_or(bytes))?;
     Ok(copy)
@@ -187,7 +186,7 @@ fn try_one<S: Alter>(
     sample: &Sample,
     trial: Trial,
     text: &mut String,
-) -> Result<(), Untold> {
+) -> Result<(), Fault> {
     let wanted = wanted(alloc, sample, trial)?;
     let found = exchanged(alloc, book, &sample.sent, trial)?;
     if found != wanted {
@@ -203,7 +202,7 @@ fn try_cut<S: Alter>(
     book: &mut Book<S>,
     samples: &[Sample],
     text: &mut String,
-) -> Result<(), Untold> {
+) -> Result<(), Fault> {
     for sample in samples {
         for length in 0..sample.sent.len() {
             try_one(alloc, book, sample, Trial::Cut(length), text)?;
@@ -219,7 +218,7 @@ fn try_whole<S: Alter>(
     book: &mut Book<S>,
     samples: &[Sample],
     text: &mut String,
-) -> Result<(), Untold> {
+) -> Result<(), Fault> {
     for sample in samples {
         for room in 0..sample.written.len() {
             try_one(alloc, book, sample, Trial::Narrow(room), text)?;
@@ -229,15 +228,61 @@ fn try_whole<S: Alter>(
     Ok(())
 }
 
+/// A SELECT of each table beside `book`.
+const SELECTS: [&str; 8] = [
+    "SELECT id FROM crew",
+    "SELECT id FROM pairing",
+    "SELECT number FROM period",
+    "SELECT number FROM segment",
+    "SELECT seat FROM seat",
+    "SELECT id FROM ground",
+    "SELECT number FROM exceedance",
+    "SELECT number FROM request",
+];
+
+/// Adds the zone of each row of `book`.
+fn add_zones<S: Alter>(conn: &mut Connection<S>, text: &mut String) -> Result<(), Fault> {
+    for row in &conn.query_all("SELECT zone FROM book", &[])? {
+        let zone: String = row.get(0)?;
+        text.push_str(&zone)?;
+    }
+    Ok(())
+}
+
+/// The zone of a book, and how many rows each other table has.
+fn rows_told<S: Alter>(alloc: Global, conn: &mut Connection<S>) -> Result<String, Fault> {
+    let mut text = String::new(alloc);
+    add_zones(conn, &mut text)?;
+    for select in SELECTS {
+        let count = format!(in alloc; " {}", conn.query_all(select, &[])?.len())?;
+        text.push_str(&count)?;
+    }
+    Ok(text)
+}
+
+/// The book that is there.
+fn taken_up<S: Alter + Drop>(alloc: Global, conn: Connection<S>) -> Result<Book<S>, Fault> {
+    if !conn.is_autocommit() {
+        return Err(Fault::Unmade);
+    }
+    match Book::adopt(alloc, conn) {
+        Ok(book) => Ok(book),
+        Err(refused) => {
+            drop(refused);
+            Err(Fault::Changed)
+        }
+    }
+}
+
 /// Tries with a new book what leaves it as it is, and notes its rows; and then what it keeps.
-fn tried<S: Alter + Drop>(alloc: Global, conn: Connection<S>) -> Result<String, Untold> {
+fn tried<S: Alter + Drop>(alloc: Global, conn: Connection<S>) -> Result<String, Fault> {
     let samples = samples(alloc)?;
     let mut text = String::new(alloc);
-    let mut book = opened(create(alloc, conn))?;
+    let mut book = made(alloc, conn)?;
     try_cut(alloc, &mut book, &samples, &mut text)?;
     let mut conn = book.into_connection();
-    text.push_str(&contents::told(alloc, &mut conn)?)?;
-    let mut book = opened(take_up(alloc, conn))?;
+    text.push_str(&rows_told(alloc, &mut conn)?)?;
+    let mut book = taken_up(alloc, conn)?;
     try_whole(alloc, &mut book, &samples, &mut text)?;
     Ok(text)
 }
@@ -248,6 +293,6 @@ fn tried<S: Alter + Drop>(alloc: Global, conn: Connection<S>) -> Result<String, 
 fn exchanges_come_to_what_is_stated(rt: HostRuntime) -> Result<(), Fail> {
     let conn = Connection::open_in_memory(rt.alloc())?;
     let text = tried(rt.alloc(), conn)?;
-    assert_eq!(rt; text.as_str(), "book 1|1|EST5EDT,M3.2.0,M11.1.0\n");
+    assert_eq!(rt; text.as_str(), "EST5EDT,M3.2.0,M11.1.0 0 0 0 0 0 0 0 0");
     Ok(())
 }

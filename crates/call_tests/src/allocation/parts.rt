@@ -1,8 +1,8 @@
-//! The parts of the program, each of which tries some calls: their names as words of the command line.
+//! What the tests try.
 
+use crate::allocation::told::Told;
+use crate::allocation::{entries, exchange, growing, in_files, lines, machine, texts};
 use crate::fault::Fault;
-use crate::told::Told;
-use crate::{entries, exchanges, growing, in_files, machine, texts};
 use std::alloc::Global;
 
 /// Calls that are tried together.
@@ -28,37 +28,11 @@ pub enum Part {
     Book,
     /// A command that the book refuses comes over HTTP.
     Http,
+    /// The same command comes as a line, and the exceedances are shown.
+    Line,
 }
 
 impl Part {
-    pub const ALL: [Part; 10] = [
-        Part::OrdMap,
-        Part::Write,
-        Part::Insert,
-        Part::Step,
-        Part::Put,
-        Part::Canonical,
-        Part::Report,
-        Part::Schedule,
-        Part::Book,
-        Part::Http,
-    ];
-
-    pub fn name(self) -> &'static str {
-        match self {
-            Part::OrdMap => "table",
-            Part::Write => "write",
-            Part::Insert => "insert",
-            Part::Step => "step",
-            Part::Put => "put",
-            Part::Canonical => "canonical",
-            Part::Report => "report",
-            Part::Schedule => "schedule",
-            Part::Book => "book",
-            Part::Http => "http",
-        }
-    }
-
     /// Tries its calls.
     pub fn try_once(self, alloc: Global, told: &mut Told) -> Result<String, Fault> {
         match self {
@@ -71,7 +45,8 @@ impl Part {
             Part::Report => texts::report_all(alloc, told),
             Part::Schedule => texts::schedule(alloc, told),
             Part::Book => in_files::ask(alloc, told),
-            Part::Http => exchanges::exchange(alloc, told),
+            Part::Http => exchange::refused(alloc, told),
+            Part::Line => lines::refused_and_shown(alloc, told),
         }
     }
 }

@@ -6,44 +6,46 @@ use std::alloc::Global;
 use stored_json::read_canonical;
 use time117::Zone;
 
-const CAPTAIN: &str =
+pub const CAPTAIN: &str =
     "{\"crew\":\"C1\",\"do\":\"add-crew\",\"name\":\"Ada Ray\",\"seat\":\"captain\"}";
 
-const OFFICER: &str =
+pub const OFFICER: &str =
     "{\"crew\":\"F1\",\"do\":\"add-crew\",\"name\":\"Zoë Roy\",\"seat\":\"first officer\"}";
 
-const OTHER_CAPTAIN: &str =
+pub const OTHER_CAPTAIN: &str =
     "{\"crew\":\"C2\",\"do\":\"add-crew\",\"name\":\"Bo Lind\",\"seat\":\"captain\"}";
 
 /// P1 has two flights on 10 June 2025.
-const P1: &str = "{\"do\":\"add-pairing\",\"pairing\":\"P1\",\"periods\":[\
+pub const P1: &str = "{\"do\":\"add-pairing\",\"pairing\":\"P1\",\"periods\":[\
     {\"release\":\"2025-06-10T20:00Z\",\"report\":\"2025-06-10T11:00Z\",\"segments\":[\
     {\"flight\":\"RB1\",\"from\":\"BOS\",\"in\":\"2025-06-10T14:00Z\",\"out\":\"2025-06-10T12:00Z\",\"to\":\"IAD\"},\
     {\"flight\":\"RB2\",\"from\":\"IAD\",\"in\":\"2025-06-10T19:30Z\",\"out\":\"2025-06-10T15:00Z\",\"to\":\"BOS\"}]}]}";
 
-const P2: &str = "{\"do\":\"add-pairing\",\"pairing\":\"P2\",\"periods\":[\
+pub const P2: &str = "{\"do\":\"add-pairing\",\"pairing\":\"P2\",\"periods\":[\
     {\"release\":\"2025-06-12T20:00Z\",\"report\":\"2025-06-12T11:00Z\",\"segments\":[\
     {\"flight\":\"RB1\",\"from\":\"BOS\",\"in\":\"2025-06-12T19:30Z\",\"out\":\"2025-06-12T12:00Z\",\"to\":\"IAD\"}]}]}";
 
 /// It reports four and a half hours after the release from P1 as that is flown.
-const P3: &str = "{\"do\":\"add-pairing\",\"pairing\":\"P3\",\"periods\":[\
+pub const P3: &str = "{\"do\":\"add-pairing\",\"pairing\":\"P3\",\"periods\":[\
     {\"release\":\"2025-06-11T15:30Z\",\"report\":\"2025-06-11T12:00Z\",\"segments\":[\
     {\"flight\":\"RB1\",\"from\":\"BOS\",\"in\":\"2025-06-11T15:00Z\",\"out\":\"2025-06-11T13:00Z\",\"to\":\"IAD\"}]}]}";
 
-const TAKE: &str = "{\"crew\":\"C1\",\"do\":\"assign\",\"pairing\":\"P1\"}";
+pub const TAKE: &str = "{\"crew\":\"C1\",\"do\":\"assign\",\"pairing\":\"P1\"}";
 
-const TAKE_RIGHT: &str = "{\"crew\":\"F1\",\"do\":\"assign\",\"pairing\":\"P1\"}";
+pub const TAKE_RIGHT: &str = "{\"crew\":\"F1\",\"do\":\"assign\",\"pairing\":\"P1\"}";
 
-const RELEASE: &str = "{\"crew\":\"C1\",\"do\":\"release\",\"pairing\":\"P1\"}";
+pub const RELEASE: &str = "{\"crew\":\"C1\",\"do\":\"release\",\"pairing\":\"P1\"}";
 
-const G1: &str = "{\"begin\":\"2025-06-20T12:00Z\",\"crew\":\"C1\",\"do\":\"add-ground\",\
+pub const CANCEL: &str = "{\"do\":\"cancel-pairing\",\"pairing\":\"P1\"}";
+
+pub const G1: &str = "{\"begin\":\"2025-06-20T12:00Z\",\"crew\":\"C1\",\"do\":\"add-ground\",\
     \"end\":\"2025-06-20T20:00Z\",\"ground\":\"G1\",\"task\":\"Simulator\"}";
 
-const G2: &str = "{\"begin\":\"2025-06-21T12:00Z\",\"crew\":\"F1\",\"do\":\"add-ground\",\
+pub const G2: &str = "{\"begin\":\"2025-06-21T12:00Z\",\"crew\":\"F1\",\"do\":\"add-ground\",\
     \"end\":\"2025-06-21T20:00Z\",\"ground\":\"G2\",\"task\":\"Training\"}";
 
 /// P1 is flown eleven hours late, over Table A and Table B.
-const LATE: &str = "{\"do\":\"actual\",\"pairing\":\"P1\",\"period\":1,\
+pub const LATE: &str = "{\"do\":\"actual\",\"pairing\":\"P1\",\"period\":1,\
     \"release\":\"2025-06-11T07:30Z\",\"report\":\"2025-06-10T11:00Z\",\"segments\":[\
     {\"in\":\"2025-06-10T14:00Z\",\"out\":\"2025-06-10T12:00Z\"},\
     {\"in\":\"2025-06-11T07:00Z\",\"out\":\"2025-06-10T23:00Z\"}]}";
@@ -63,7 +65,7 @@ pub const REQUESTS: [Line; 24] = [
     (6, P3),
     (7, TAKE),
     (8, RELEASE),
-    (9, "{\"do\":\"cancel-pairing\",\"pairing\":\"P1\"}"),
+    (9, CANCEL),
     (10, P1),
     (11, TAKE),
     (12, TAKE_RIGHT),

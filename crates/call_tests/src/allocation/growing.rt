@@ -1,9 +1,9 @@
 //! What grows by one value at a time, or stays as it is: a table, a text, a history.
 
+use crate::allocation::same::are_tables_same;
+use crate::allocation::told::Told;
 use crate::fault::Fault;
 use crate::requests::{DUTIES, eastern, key, requests};
-use crate::same::are_tables_same;
-use crate::told::Told;
 use command::{Command, Instruction, Key};
 use duty::{Duty, History, Kind};
 use std::alloc::Global;

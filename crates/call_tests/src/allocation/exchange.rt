@@ -1,8 +1,8 @@
 //! A command that the book refuses, over HTTP.
 
+use crate::allocation::told::Told;
 use crate::fault::Fault;
-use crate::requests::eastern;
-use crate::told::Told;
+use crate::making::made;
 use book::Book;
 use sqlite::{Alter, Connection};
 use std::alloc::Global;
@@ -71,25 +71,14 @@ fn served_over<S: Alter + Drop>(
     told: &mut Told,
     conn: Connection<S>,
 ) -> Result<String, Fault> {
-    let zone = eastern(alloc)?;
-    if !conn.is_autocommit() {
-        return Err(Fault::Unmade);
-    }
-    match Book::create(alloc, conn, zone) {
-        Ok(mut book) => {
-            let text = served(alloc, told, &mut book);
-            drop(book);
-            text
-        }
-        Err(refused) => {
-            drop(refused);
-            Err(Fault::Memory)
-        }
-    }
+    let mut book = made(alloc, conn)?;
+    let text = served(alloc, told, &mut book);
+    drop(book);
+    text
 }
 
 /// Serves a client with a book without crew.
-pub fn exchange(alloc: Global, told: &mut Told) -> Result<String, Fault> {
+pub fn refused(alloc: Global, told: &mut Told) -> Result<String, Fault> {
     let Ok(conn) = Connection::open_in_memory(alloc) else {
         return Err(Fault::Memory);
     };

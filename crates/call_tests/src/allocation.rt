@@ -1,0 +1,148 @@
+//! Calls that may find no memory. A call that is told so has to leave what it would have changed as it was, and the same call, made
+//! again, has to give what it gives with all memory. So each test here passes whichever of its own calls for memory is refused, which
+//! `tests/allocation_tests.py` has done to each in turn; how want of memory was told it writes to standard error.
+
+mod entries;
+mod exchange;
+mod growing;
+mod in_files;
+mod lines;
+mod machine;
+mod parts;
+mod same;
+mod texts;
+mod told;
+
+use crate::allocation::parts::Part;
+use crate::allocation::told::Told;
+use crate::fault::Fault;
+use std::alloc::Global;
+use std::test::Fail;
+
+/// What comes of a part. Where it finds no memory for what it needs besides the calls that it tries, it begins anew.
+fn tried(alloc: Global, part: Part, told: &mut Told) -> Result<String, Fault> {
+    match part.try_once(alloc, told) {
+        Err(Fault::Memory) => part.try_once(alloc, told),
+        text => text,
+    }
+}
+
+/// The same; how want of memory was told in it is written to standard error.
+fn text_of(rt: &HostRuntime, part: Part) -> Result<String, Fail> {
+    let mut told = Told::new();
+    let text = tried(rt.alloc(), part, &mut told);
+    told.print(&mut rt.stderr())?;
+    Ok(text?)
+}
+
+#[test]
+fn table(rt: HostRuntime) -> Result<(), Fail> {
+    assert_eq!(rt; text_of(&rt, Part::OrdMap)?.as_str(), "255 keys");
+    Ok(())
+}
+
+#[test]
+fn write(rt: HostRuntime) -> Result<(), Fail> {
+    assert_eq!(rt; text_of(&rt, Part::Write)?.as_str(), "170 bytes");
+    Ok(())
+}
+
+#[test]
+fn insert(rt: HostRuntime) -> Result<(), Fail> {
+    assert_eq!(rt;
+        text_of(&rt, Part::Insert)?.as_str(),
+        "5 duties, flight 960, flight duty 1200, duty 2250"
+    );
+    Ok(())
+}
+
+#[test]
+fn step(rt: HostRuntime) -> Result<(), Fail> {
+    assert_eq!(rt;
+        text_of(&rt, Part::Step)?.as_str(),
+        "++++++++++++++++++== 1 2 12 11"
+    );
+    Ok(())
+}
+
+#[test]
+fn put(rt: HostRuntime) -> Result<(), Fail> {
+    assert_eq!(rt;
+        text_of(&rt, Part::Put)?.as_str(),
+        "3 members, 3 pairings, 1 ground duty, 4 exceedances, 18 requests"
+    );
+    Ok(())
+}
+
+#[test]
+fn canonical(rt: HostRuntime) -> Result<(), Fail> {
+    assert_eq!(rt; text_of(&rt, Part::Canonical)?.as_str(), "24 texts");
+    Ok(())
+}
+
+const REPORTS: &str = "\
+ROSTER C1 captain Ada Ray
+2025-06-12T11:00Z 2025-06-12T20:00Z pairing P2/1 plan fdp 8:30 flight 7:30
+2025-06-20T12:00Z 2025-06-20T20:00Z ground G1 Simulator
+ROSTER C2 captain Bo Lind
+2025-06-10T11:00Z 2025-06-11T07:30Z pairing P1/1 actual fdp 20:00 flight 10:00
+ROSTER F1 first officer Zoë Roy
+2025-06-10T11:00Z 2025-06-11T07:30Z pairing P1/1 actual fdp 20:00 flight 10:00
+PAIRING P1
+captain C2
+first officer F1
+1 actual report 2025-06-10T11:00Z release 2025-06-11T07:30Z
+1.1 RB1 BOS 2025-06-10T12:00Z IAD 2025-06-10T14:00Z
+1.2 RB2 IAD 2025-06-10T23:00Z BOS 2025-06-11T07:00Z
+PAIRING P2
+captain C1
+first officer -
+1 plan report 2025-06-12T11:00Z release 2025-06-12T20:00Z
+1.1 RB1 BOS 2025-06-12T12:00Z IAD 2025-06-12T19:30Z
+PAIRING P3
+captain -
+first officer -
+1 plan report 2025-06-11T12:00Z release 2025-06-11T15:30Z
+1.1 RB1 BOS 2025-06-11T13:00Z IAD 2025-06-11T15:00Z
+EXCEEDANCES 4
+18 C2 117.11(a)(1) P1/1
+18 C2 117.13(a) P1/1
+18 F1 117.11(a)(1) P1/1
+18 F1 117.13(a) P1/1
+";
+
+#[test]
+fn report(rt: HostRuntime) -> Result<(), Fail> {
+    assert_eq!(rt; text_of(&rt, Part::Report)?.as_str(), REPORTS);
+    Ok(())
+}
+
+#[test]
+fn schedule(rt: HostRuntime) -> Result<(), Fail> {
+    assert_eq!(rt;
+        text_of(&rt, Part::Schedule)?.as_str(),
+        "P10 1, P1 1, P30 2 1, 30 BadCsv 3"
+    );
+    Ok(())
+}
+
+#[test]
+fn book(rt: HostRuntime) -> Result<(), Fail> {
+    assert_eq!(rt; text_of(&rt, Part::Book)?.as_str(), "+++++++ 5+");
+    Ok(())
+}
+
+#[test]
+fn http(rt: HostRuntime) -> Result<(), Fail> {
+    assert_eq!(rt; text_of(&rt, Part::Http)?.as_str(), "409");
+    Ok(())
+}
+
+#[test]
+fn line(rt: HostRuntime) -> Result<(), Fail> {
+    assert_eq!(rt;
+        text_of(&rt, Part::Line)?.as_str(),
+        "{\"name\":\"NoSuchGround\",\"refusal\":15,\"result\":\"refused\"}\nEXCEEDANCES 0\n"
+    );
+    Ok(())
+}
