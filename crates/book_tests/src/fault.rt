@@ -5,7 +5,6 @@ use std::alloc::{AllocError, AllocFailed};
 use std::fmt;
 use store::StoreFault;
 use stored_json::CodecFault;
-use tables::TableFault;
 use values::MemoryFault;
 
 /// Why an office tells nothing.
@@ -47,12 +46,6 @@ impl From<StoreFault> for Untold {
 
 impl From<Error> for Untold {
     fn from(_error: Error) -> Untold {
-        Untold::Unread
-    }
-}
-
-impl From<TableFault> for Untold {
-    fn from(_fault: TableFault) -> Untold {
         Untold::Unread
     }
 }

@@ -1,6 +1,5 @@
 //! Tests of a book over memory: what it answers in one session, asked one by one or all in one run, and which rows are then in the
-//! tables; what the tables find by key; the part of the state that a command needs; a book stopped at each call on its files; a
-//! transaction that can't be taken back; and what a history of duties counts.
+//! tables; the part of the state that a command needs; a book stopped at each call on its files; and what a history of duties counts.
 #![tactic(auto)]
 
 #[cfg(test)]
@@ -9,8 +8,6 @@ mod contents;
 mod fault;
 #[cfg(test)]
 mod histories;
-#[cfg(test)]
-mod keyed;
 #[cfg(test)]
 mod opening;
 #[cfg(test)]
@@ -21,5 +18,3 @@ mod requests;
 mod sessions;
 #[cfg(test)]
 mod stops;
-#[cfg(test)]
-mod undoing;

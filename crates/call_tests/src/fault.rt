@@ -5,6 +5,7 @@ use sqlite::Error;
 use std::alloc::{AllocError, AllocFailed};
 use std::fmt;
 use stored_json::CodecFault;
+use tables::TableFault;
 use values::MemoryFault;
 
 /// Why nothing comes of calls.
@@ -38,6 +39,12 @@ impl std::error::Error for Fault {}
 
 impl From<Error> for Fault {
     fn from(_error: Error) -> Fault {
+        Fault::Unmade
+    }
+}
+
+impl From<TableFault> for Fault {
+    fn from(_fault: TableFault) -> Fault {
         Fault::Unmade
     }
 }

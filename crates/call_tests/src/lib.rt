@@ -1,5 +1,6 @@
-//! Tests of single calls over memory: calls of the crates from `values` to `rosterbook` that find no memory; copies of values;
-//! exchanges of HTTP with a handler that notes what it is asked, and with a book; and one over a loopback connection.
+//! Tests of single calls over memory: calls of the crates from `values` to `rosterbook` that find no memory; copies of values; what the
+//! tables find by key; a transaction that can't be taken back; exchanges of HTTP with a handler that notes what it is asked, and with a
+//! book; and one over a loopback connection.
 #![tactic(auto)]
 
 #[cfg(test)]
@@ -13,6 +14,8 @@ mod exchanges;
 #[cfg(test)]
 mod fault;
 #[cfg(test)]
+mod keyed;
+#[cfg(test)]
 mod loopback;
 #[cfg(test)]
 mod making;
@@ -20,3 +23,5 @@ mod making;
 mod requests;
 #[cfg(test)]
 mod rows;
+#[cfg(test)]
+mod undoing;
