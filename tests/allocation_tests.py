@@ -1,11 +1,11 @@
 #!/usr/bin/env python3
-"""Refuses tests of the crate call_tests memory, one call for it after the other, and looks at whether they pass.
+"""Refuses tests of the crates call_tests and book_tests memory, one call for it after the other, and looks at whether they pass.
 
     tests/allocation_tests.py [--all] [TEST..]
 
-The tests of its module `allocation` try calls of the library crates: where one is told that there is no memory, the test compares what
-the call was to leave as it was, and makes the same call again. So a test passes whichever of its own calls for memory is refused, and
-writes to standard error how that was told. Each is run alone, in a process of its own, with its first call refused, then with the
+The tests of their modules `allocation` try calls of the library crates: where one is told that there is no memory, the test compares
+what the call was to leave as it was, and makes the same call again. So a test passes whichever of its own calls for memory is refused,
+and writes to standard error how that was told. Each is run alone, in a process of its own, with its first call refused, then with the
 second one, and so on, up to a run in which none is; the longest only with one in 31, but for --all. Each of these runs
 
 - passes, as it does with all memory;
@@ -25,61 +25,69 @@ from dataclasses import dataclass, field
 from office import TOP, Ran
 from refusing import Memory, folder, has_compiler
 
-CRATE = TOP / "crates" / "call_tests"
-PROGRAM = CRATE / "out" / "call_tests_tests"
+CRATES = TOP / "crates"
 MODULE = "allocation"
 STRIDES = {"book": 31}  # from one call that is refused to the next one, where that isn't one
 NO_CALL = 1_000  # so many calls behind the last one there is none
 PATIENCE = 60  # seconds for a run of a test
-PASSED = "\ntest result: ok\n"  # what the program prints of one
+PASSED = "\ntest result: ok\n"  # what a program of tests prints of one
 
-# Each test, and how want of memory may be told in it.
+# The tests of each crate, and how want of memory may be told in each.
 TESTS = {
-    "table": {"91"},
-    "write": {"91"},
-    "insert": {"91"},
-    "step": {"91"},
-    "put": {"91"},
-    "canonical": {"91"},
-    "report": {"91"},
-    "schedule": {"91"},
-    "book": {"91", "90"},
-    "http": {"503", "92"},
-    "line": {"91"},
+    "call_tests": {
+        "table": {"91"},
+        "write": {"91"},
+        "insert": {"91"},
+        "step": {"91"},
+        "put": {"91"},
+        "canonical": {"91"},
+        "report": {"91"},
+        "schedule": {"91"},
+    },
+    "book_tests": {
+        "book": {"91", "90"},
+        "http": {"503", "92"},
+    },
 }
 
 
-def crates():
-    """The crates that the tests are made of."""
+def program(crate):
+    """The program of a crate's tests."""
+    return CRATES / crate / "out" / f"{crate}_tests"
+
+
+def crates(crate):
+    """The crates that its tests are made of."""
     lines = (line.split(":") for line in (TOP / "crates.txt").read_text().splitlines() if ":" in line and line[0] != "#")
     listed = {name: below.split() for name, below in lines}
-    found = [CRATE.name]
+    found = [crate]
     for name in found:
         found += [low for low in listed[name] if low in listed and low not in found]
     return found
 
 
-def sources():
-    """The files that the tests are made of."""
-    for name in crates():
+def sources(crate):
+    """The files that its tests are made of."""
+    for name in crates(crate):
         for folder in ("src", "specs", "proofs"):
-            yield from (TOP / "crates" / name / folder).glob("**/*.*")
+            yield from (CRATES / name / folder).glob("**/*.*")
 
 
-def build():
-    """Proves and builds the tests, where they are missing or older than a source; returns whether they are there."""
-    if PROGRAM.exists() and all(file.stat().st_mtime <= PROGRAM.stat().st_mtime for file in sources()):
+def build(crate):
+    """Proves and builds a crate's tests, where they are missing or older than a source; returns whether they are there."""
+    made = program(crate)
+    if made.exists() and all(file.stat().st_mtime <= made.stat().st_mtime for file in sources(crate)):
         return True
-    print("tests/allocation_tests.py: proving and building the tests ..", file=sys.stderr)
-    ran = subprocess.run(["rt", "test"], cwd=CRATE, stdin=subprocess.DEVNULL, stdout=subprocess.DEVNULL)
+    print(f"tests/allocation_tests.py: proving and building the tests of {crate} ..", file=sys.stderr)
+    ran = subprocess.run(["rt", "test"], cwd=CRATES / crate, stdin=subprocess.DEVNULL, stdout=subprocess.DEVNULL)
     if ran.returncode == 0:
-        PROGRAM.touch()
+        made.touch()
     return ran.returncode == 0
 
 
-def written():
+def written(crate):
     """The names of the tests that are in the crate's module."""
-    return re.findall(r"^#\[test\]\nfn (\w+)\(", (CRATE / "src" / f"{MODULE}.rt").read_text(), re.M)
+    return re.findall(r"^#\[test\]\nfn (\w+)\(", (CRATES / crate / "src" / f"{MODULE}.rt").read_text(), re.M)
 
 
 @dataclass
@@ -104,12 +112,12 @@ class Desk:
         return range(1, self.memory.count(run) + 1, 1 if self.is_all else STRIDES.get(test, 1))
 
 
-def runner(test):
-    """What runs a test."""
+def runner(crate, test):
+    """What runs a test of a crate."""
 
     def run(**options):
         try:
-            ran = subprocess.run([PROGRAM, f"{MODULE}::{test}"], stdin=subprocess.DEVNULL, capture_output=True, timeout=PATIENCE, **options)
+            ran = subprocess.run([program(crate), f"{MODULE}::{test}"], stdin=subprocess.DEVNULL, capture_output=True, timeout=PATIENCE, **options)
         except subprocess.TimeoutExpired:
             return Ran(None, "", "")
         return Ran(ran.returncode, ran.stdout.decode(errors="replace"), ran.stderr.decode(errors="replace"))
@@ -117,8 +125,8 @@ def runner(test):
     return run
 
 
-def try_one(desk, test):
-    run = runner(test)
+def try_one(desk, crate, test, ways_of_telling):
+    run = runner(crate, test)
     whole = Ran(0, PASSED, "")
     desk.expect(f"{test} with all memory", run(), whole)
     told = Counter()
@@ -126,12 +134,12 @@ def try_one(desk, test):
     for number in numbers:
         ended, function = desk.memory.refuse(run, number)
         ways_told = ended.err.split()
-        wanted = Ran(0, PASSED, ended.err if len(ways_told) < 2 and TESTS[test].issuperset(ways_told) else "")
+        wanted = Ran(0, PASSED, ended.err if len(ways_told) < 2 and ways_of_telling.issuperset(ways_told) else "")
         desk.expect(f"{test}: call {number}, of {function or 'none'}, refused", ended, wanted)
         desk.functions[function or "none"] += 1
         told.update(ways_told or ["nothing"])
     desk.expect(f"{test} with a call refused that isn't made", desk.memory.refuse(run, numbers[-1] + NO_CALL), (whole, ""))
-    ways = TESTS[test] if numbers.step == 1 else {"91"}
+    ways = ways_of_telling if numbers.step == 1 else {"91"}
     desk.expect(f"{test}: how want of memory is told", ways - {*told}, set())
     desk.told += told
 
@@ -149,19 +157,21 @@ def main():
     asked_for.add_argument("tests", nargs="*", metavar="TEST")
     asked_for = asked_for.parse_args()
     for test in asked_for.tests:
-        if test not in TESTS:
+        if not any(test in tests for tests in TESTS.values()):
             sys.exit(f"tests/allocation_tests.py: there is no test {test}")
     if not has_compiler():
         print("tests/allocation_tests.py: no call for memory is refused, since no cc is on the PATH", file=sys.stderr)
         print("0 passed, 0 failed")
         return 0
-    if not build():
+    if not all(build(crate) for crate in TESTS):
         return 3
     with folder("allocation-tests-") as room:
         desk = Desk(Memory.built(room), asked_for.all)
-        desk.expect("the tests", written(), list(TESTS))
-        for test in asked_for.tests or TESTS:
-            try_one(desk, test)
+        for crate, tests in TESTS.items():
+            desk.expect(f"the tests of {crate}", written(crate), list(tests))
+            for test, ways_of_telling in tests.items():
+                if not asked_for.tests or test in asked_for.tests:
+                    try_one(desk, crate, test, ways_of_telling)
     print(summary(desk))
     print(f"{desk.passed} passed, {desk.failed} failed")
     return 1 if desk.failed else 0

@@ -5,6 +5,7 @@ use std::alloc::{AllocError, AllocFailed};
 use std::fmt;
 use store::StoreFault;
 use stored_json::CodecFault;
+use tables::TableFault;
 use values::MemoryFault;
 
 /// Why an office tells nothing.
@@ -33,8 +34,11 @@ impl fmt::Display for Untold {
 impl std::error::Error for Untold {}
 
 impl From<CodecFault> for Untold {
-    fn from(_fault: CodecFault) -> Untold {
-        Untold::Unmade
+    fn from(fault: CodecFault) -> Untold {
+        match fault {
+            CodecFault::Memory => Untold::Memory,
+            _ => Untold::Unmade,
+        }
     }
 }
 
@@ -46,6 +50,12 @@ impl From<StoreFault> for Untold {
 
 impl From<Error> for Untold {
     fn from(_error: Error) -> Untold {
+        Untold::Unread
+    }
+}
+
+impl From<TableFault> for Untold {
+    fn from(_fault: TableFault) -> Untold {
         Untold::Unread
     }
 }

@@ -1,9 +1,9 @@
 //! Stops at each call of one of the two files: while a book is made and asked commands, of which three are the parts of an import, and
 //! while it is opened and taken up. The files are opened again over what the stop left, and all commands are handed in again.
 
-mod disk;
-mod run;
-mod states;
+pub mod disk;
+pub mod run;
+pub mod states;
 
 use crate::stops::disk::{Left, Stopped, Stops, limited, restarted, taking};
 use crate::stops::run::{Again, Asking, HandedInAgain, Reached, Taken, TakingUp, opened};

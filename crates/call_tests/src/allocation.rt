@@ -3,10 +3,7 @@
 //! `tests/allocation_tests.py` has done to each in turn; how want of memory was told it writes to standard error.
 
 mod entries;
-mod exchange;
 mod growing;
-mod in_files;
-mod lines;
 mod machine;
 mod parts;
 mod same;
@@ -122,27 +119,6 @@ fn schedule(rt: HostRuntime) -> Result<(), Fail> {
     assert_eq!(rt;
         text_of(&rt, Part::Schedule)?.as_str(),
         "P10 1, P1 1, P30 2 1, 30 BadCsv 3"
-    );
-    Ok(())
-}
-
-#[test]
-fn book(rt: HostRuntime) -> Result<(), Fail> {
-    assert_eq!(rt; text_of(&rt, Part::Book)?.as_str(), "+++++++ 5+");
-    Ok(())
-}
-
-#[test]
-fn http(rt: HostRuntime) -> Result<(), Fail> {
-    assert_eq!(rt; text_of(&rt, Part::Http)?.as_str(), "409");
-    Ok(())
-}
-
-#[test]
-fn line(rt: HostRuntime) -> Result<(), Fail> {
-    assert_eq!(rt;
-        text_of(&rt, Part::Line)?.as_str(),
-        "{\"name\":\"NoSuchGround\",\"refusal\":15,\"result\":\"refused\"}\nEXCEEDANCES 0\n"
     );
     Ok(())
 }

@@ -1,11 +1,9 @@
 //! Why nothing comes of calls: one type for each fault that they may meet.
 
 use report::ReportFault;
-use sqlite::Error;
 use std::alloc::{AllocError, AllocFailed};
 use std::fmt;
 use stored_json::CodecFault;
-use tables::TableFault;
 use values::MemoryFault;
 
 /// Why nothing comes of calls.
@@ -19,8 +17,6 @@ pub enum Fault {
     Otherwise,
     /// What is needed can't be made.
     Unmade,
-    /// Calls were refused again and again.
-    Endless,
 }
 
 impl fmt::Display for Fault {
@@ -30,24 +26,11 @@ impl fmt::Display for Fault {
             Fault::Changed => "a refused call has changed something",
             Fault::Otherwise => "a call made again gave something else",
             Fault::Unmade => "what is needed can't be made",
-            Fault::Endless => "calls were refused again and again",
         })
     }
 }
 
 impl std::error::Error for Fault {}
-
-impl From<Error> for Fault {
-    fn from(_error: Error) -> Fault {
-        Fault::Unmade
-    }
-}
-
-impl From<TableFault> for Fault {
-    fn from(_fault: TableFault) -> Fault {
-        Fault::Unmade
-    }
-}
 
 impl From<MemoryFault> for Fault {
     fn from(_fault: MemoryFault) -> Fault {

@@ -86,16 +86,6 @@ pub const REQUESTS: [Line; 24] = [
     (30, G1),
 ];
 
-/// The requests of an office of two, which a new book accepts.
-pub const OFFICE: [Line; 6] = [
-    (1, CAPTAIN),
-    (2, OFFICER),
-    (3, P1),
-    (4, TAKE),
-    (5, TAKE_RIGHT),
-    (6, LATE),
-];
-
 /// Three pairings and two ground duties, none at the time of another.
 pub const DUTIES: [Line; 5] = [(1, P1), (2, P2), (3, P3), (4, G1), (5, G2)];
 

@@ -26,11 +26,13 @@ pub trait Act: Copy {
 
 /// How a command is answered.
 #[derive(Clone, Copy, PartialEq, Eq)]
-enum Heard {
+pub enum Heard {
     /// As in a run without a stop.
     AsAlways,
     /// By 90.
     Stopped,
+    /// By 91.
+    NoMemory,
     Otherwise,
 }
 
@@ -51,7 +53,7 @@ fn compared(at: usize, answer: &Result<Answer, StoreFault>) -> Heard {
         Ok(Answer::Accepted(_)) => 0,
         Ok(Answer::Refused(refusal)) => refusal.number(),
         Err(StoreFault::Store) => return Heard::Stopped,
-        Err(StoreFault::Memory) => return Heard::Otherwise,
+        Err(StoreFault::Memory) => return Heard::NoMemory,
     };
     if ANSWERS.get(at) == Some(&number) {
         Heard::AsAlways
@@ -61,13 +63,13 @@ fn compared(at: usize, answer: &Result<Answer, StoreFault>) -> Heard {
 }
 
 /// Asks a book the command at this place, which is no part of the import.
-fn ask<S: Alter>(alloc: Global, book: &mut Book<S>, at: usize) -> Result<Heard, Untold> {
+pub fn ask<S: Alter>(alloc: Global, book: &mut Book<S>, at: usize) -> Result<Heard, Untold> {
     let (key, command) = asked(alloc, at)?;
     Ok(compared(at, &book.ask(alloc, key, &command)))
 }
 
 /// The import, whose parts come next.
-fn import<S: Alter>(alloc: Global) -> Result<Import, Untold> {
+pub fn import<S: Alter>(alloc: Global) -> Result<Import, Untold> {
     let pairings = pairings(alloc)?;
     if pairings.len() > 10_000 {
         return Err(Untold::Unmade);
@@ -76,7 +78,12 @@ fn import<S: Alter>(alloc: Global) -> Result<Import, Untold> {
 }
 
 /// Asks a book the next part of an import, which is the command at this place.
-fn ask_part<S: Alter>(alloc: Global, book: &mut Book<S>, import: &mut Import, at: usize) -> Heard {
+pub fn ask_part<S: Alter>(
+    alloc: Global,
+    book: &mut Book<S>,
+    import: &mut Import,
+    at: usize,
+) -> Heard {
     match import.next(alloc, book) {
         Some(answer) => compared(at, &answer),
         None => Heard::Otherwise,
@@ -157,7 +164,7 @@ fn far_come<S: Alter>(alloc: Global, book: &mut Book<S>, count: usize) -> Result
     let is_told = match last {
         Heard::AsAlways => true,
         Heard::Stopped => is_closed(alloc, book)?,
-        Heard::Otherwise => false,
+        Heard::NoMemory | Heard::Otherwise => false,
     };
     Ok(if is_told {
         Reached::Answered(answered)

@@ -193,7 +193,7 @@ fn follow_all(
 }
 
 /// The state that requests leave, with no second try.
-pub fn state(alloc: Global, requests: &[(Key, Command)]) -> Result<Roster, Fault> {
+fn state(alloc: Global, requests: &[(Key, Command)]) -> Result<Roster, Fault> {
     let mut roster = empty(alloc)?;
     match follow_all(alloc, &mut roster, requests) {
         Ok(()) => Ok(roster),

@@ -1,7 +1,7 @@
 //! What the tests try.
 
 use crate::allocation::told::Told;
-use crate::allocation::{entries, exchange, growing, in_files, lines, machine, texts};
+use crate::allocation::{entries, growing, machine, texts};
 use crate::fault::Fault;
 use std::alloc::Global;
 
@@ -24,12 +24,6 @@ pub enum Part {
     Report,
     /// Schedules are read.
     Schedule,
-    /// A book in files is made, asked, and handed an import.
-    Book,
-    /// A command that the book refuses comes over HTTP.
-    Http,
-    /// The same command comes as a line, and the exceedances are shown.
-    Line,
 }
 
 impl Part {
@@ -44,9 +38,6 @@ impl Part {
             Part::Canonical => texts::canonical(alloc, told),
             Part::Report => texts::report_all(alloc, told),
             Part::Schedule => texts::schedule(alloc, told),
-            Part::Book => in_files::ask(alloc, told),
-            Part::Http => exchange::refused(alloc, told),
-            Part::Line => lines::refused_and_shown(alloc, told),
         }
     }
 }

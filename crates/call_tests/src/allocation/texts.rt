@@ -104,7 +104,7 @@ pub fn report_all(alloc: Global, told: &mut Told) -> Result<String, Fault> {
 // ---- Schedules.
 
 /// Three pairings, with a byte order mark, CRLF and quotes. The second one has the id of a pairing that an office has already.
-pub const SCHEDULE: &str = "\u{feff}pairing,period,report,release,flight,from,out,to,in\r\n\
+const SCHEDULE: &str = "\u{feff}pairing,period,report,release,flight,from,out,to,in\r\n\
     P10,1,2025-06-20T06:30Z,2025-06-20T11:00Z,RB1,BOS,2025-06-20T07:30Z,IAD,2025-06-20T10:30Z\r\n\
     P1,1,2025-06-21T06:30Z,2025-06-21T11:00Z,RB1,BOS,2025-06-21T07:30Z,IAD,2025-06-21T10:30Z\r\n\
     \"P30\",\"1\",2025-06-22T06:30Z,2025-06-22T15:00Z,\"RB1\",BOS,2025-06-22T07:30Z,IAD,2025-06-22T10:30Z\r\n\

@@ -4,8 +4,9 @@ ghost use Rattle.std.specs.Prelude.{OnOk};
 ghost use Rattle.sqlite.specs.Held.{state};
 ghost use Rattle.tables.specs.Calls.{HoldsBook};
 
-use crate::fault::Fault;
-use crate::making::made;
+use crate::contents::sorted;
+use crate::fault::Untold;
+use crate::opening::{create, opened};
 use sqlite::{Alter, Connection};
 use std::alloc::Global;
 use std::test::Fail;
@@ -47,11 +48,11 @@ enum Step {
 /// A record that is told as a line.
 trait Told: TryClone + Drop {
     /// The record's columns with `|` between them, as the shell `sqlite3` prints a row.
-    fn line(&self, alloc: Global) -> Result<String, Fault>;
+    fn line(&self, alloc: Global) -> Result<String, Untold>;
 }
 
 /// A number, or nothing.
-fn if_any(alloc: Global, number: Option<u32>) -> Result<String, Fault> {
+fn if_any(alloc: Global, number: Option<u32>) -> Result<String, Untold> {
     Ok(match number {
         Some(number) => format!(in alloc; "{number}")?,
         None => String::new(alloc),
@@ -59,27 +60,27 @@ fn if_any(alloc: Global, number: Option<u32>) -> Result<String, Fault> {
 }
 
 impl Told for BookRecord {
-    fn line(&self, alloc: Global) -> Result<String, Fault> {
+    fn line(&self, alloc: Global) -> Result<String, Untold> {
         let zone = self.zone.as_str();
         Ok(format!(in alloc; "{}|{}|{zone}", self.one, self.version)?)
     }
 }
 
 impl Told for CrewRecord {
-    fn line(&self, alloc: Global) -> Result<String, Fault> {
+    fn line(&self, alloc: Global) -> Result<String, Untold> {
         let (id, name) = (self.id.as_str(), self.name.as_str());
         Ok(format!(in alloc; "{id}|{}|{name}", self.seat)?)
     }
 }
 
 impl Told for PairingRecord {
-    fn line(&self, alloc: Global) -> Result<String, Fault> {
+    fn line(&self, alloc: Global) -> Result<String, Untold> {
         Ok(String::from_str(alloc, self.id.as_str())?)
     }
 }
 
 impl Told for PeriodRecord {
-    fn line(&self, alloc: Global) -> Result<String, Fault> {
+    fn line(&self, alloc: Global) -> Result<String, Untold> {
         let pairing = self.pairing.as_str();
         let planned = format!(in alloc; "{}|{}", self.report_at, self.release_at)?;
         let report = if_any(alloc, self.act_report)?;
@@ -89,7 +90,7 @@ impl Told for PeriodRecord {
 }
 
 impl Told for SegmentRecord {
-    fn line(&self, alloc: Global) -> Result<String, Fault> {
+    fn line(&self, alloc: Global) -> Result<String, Untold> {
         let pairing = self.pairing.as_str();
         let (flight, from, to) = (
             self.flight.as_str(),
@@ -105,21 +106,21 @@ impl Told for SegmentRecord {
 }
 
 impl Told for SeatRecord {
-    fn line(&self, alloc: Global) -> Result<String, Fault> {
+    fn line(&self, alloc: Global) -> Result<String, Untold> {
         let (pairing, crew) = (self.pairing.as_str(), self.crew.as_str());
         Ok(format!(in alloc; "{pairing}|{}|{crew}", self.seat)?)
     }
 }
 
 impl Told for GroundRecord {
-    fn line(&self, alloc: Global) -> Result<String, Fault> {
+    fn line(&self, alloc: Global) -> Result<String, Untold> {
         let (id, crew, task) = (self.id.as_str(), self.crew.as_str(), self.task.as_str());
         Ok(format!(in alloc; "{id}|{crew}|{task}|{}|{}", self.begin_at, self.end_at)?)
     }
 }
 
 impl Told for ExceedanceRecord {
-    fn line(&self, alloc: Global) -> Result<String, Fault> {
+    fn line(&self, alloc: Global) -> Result<String, Untold> {
         let (crew, pairing) = (self.crew.as_str(), self.pairing.as_str());
         let key = format!(in alloc; "{}|{}", self.number, self.part)?;
         Ok(format!(in alloc; "{key}|{crew}|{}|{pairing}|{}", self.section, self.period)?)
@@ -127,17 +128,17 @@ impl Told for ExceedanceRecord {
 }
 
 impl Told for RequestRecord {
-    fn line(&self, alloc: Global) -> Result<String, Fault> {
+    fn line(&self, alloc: Global) -> Result<String, Untold> {
         let (command, reply) = (self.command.as_str(), self.reply.as_str());
         Ok(format!(in alloc; "{}|{}|{command}|{reply}", self.number, self.part)?)
     }
 }
 
 /// A copy of a record as a line.
-fn line_of_copy<R: Told>(alloc: Global, record: &R) -> Result<String, Fault> {
+fn line_of_copy<R: Told>(alloc: Global, record: &R) -> Result<String, Untold> {
     match record.try_clone(alloc) {
         Ok(copy) => copy.line(alloc),
-        Err(_) => Err(Fault::Memory),
+        Err(_) => Err(Untold::Memory),
     }
 }
 
@@ -145,7 +146,7 @@ fn line_of_copy<R: Told>(alloc: Global, record: &R) -> Result<String, Fault> {
 fn lines_of<R: Told>(
     alloc: Global,
     records: Result<Vec<R>, TableFault>,
-) -> Result<Vec<String>, Fault> {
+) -> Result<Vec<String>, Untold> {
     let mut lines = Vec::new(alloc);
     for record in &records? {
         lines.push(line_of_copy(alloc, record)?)?;
@@ -156,45 +157,38 @@ fn lines_of<R: Told>(
     Ok(lines)
 }
 
-/// Lines as one text.
-fn joined(alloc: Global, lines: &[String]) -> Result<String, Fault> {
+/// What is found, in the order of the alphabet.
+fn in_order<R: Told>(alloc: Global, records: Result<Vec<R>, TableFault>) -> Result<String, Untold> {
+    Ok(sorted(alloc, lines_of(alloc, records)?)?)
+}
+
+/// What is found, as it comes.
+fn in_turn<R: Told>(alloc: Global, records: Result<Vec<R>, TableFault>) -> Result<String, Untold> {
     let mut all = String::new(alloc);
-    for line in lines {
+    for line in &lines_of(alloc, records)? {
         all.push_str(line.as_str())?;
         all.push_str("\n")?;
     }
     Ok(all)
 }
 
-/// What is found, in the order of the alphabet.
-fn in_order<R: Told>(alloc: Global, records: Result<Vec<R>, TableFault>) -> Result<String, Fault> {
-    let mut lines = lines_of(alloc, records)?;
-    lines.sort()?;
-    joined(alloc, &lines)
-}
-
-/// What is found, as it comes.
-fn in_turn<R: Told>(alloc: Global, records: Result<Vec<R>, TableFault>) -> Result<String, Fault> {
-    joined(alloc, &lines_of(alloc, records)?)
-}
-
-fn yes(alloc: Global, holds: bool) -> Result<String, Fault> {
+fn yes(alloc: Global, holds: bool) -> Result<String, Untold> {
     Ok(String::from_str(alloc, if holds { "yes\n" } else { "no\n" })?)
 }
 
 /// Sees to what each call on a table owes.
-fn look<S: Alter>(alloc: Global, conn: &Connection<S>) -> Result<(), Fault>
+fn look<S: Alter>(alloc: Global, conn: &Connection<S>) -> Result<(), Untold>
     ensures { OnOk result (HoldsBook (state S.Store conn.now)) }
 {
     if is_book(alloc, conn)? {
         Ok(())
     } else {
-        Err(Fault::Unmade)
+        Err(Untold::Unread)
     }
 }
 
 /// The records that are found.
-fn found<S: Alter>(alloc: Global, conn: &mut Connection<S>, step: Step) -> Result<String, Fault> {
+fn found<S: Alter>(alloc: Global, conn: &mut Connection<S>, step: Step) -> Result<String, Untold> {
     look(alloc, conn)?;
     match step {
         Step::Book => in_order(alloc, load_book(alloc, conn)),
@@ -208,12 +202,12 @@ fn found<S: Alter>(alloc: Global, conn: &mut Connection<S>, step: Step) -> Resul
         Step::GroundsBy(id) => in_order(alloc, grounds_by_crew(alloc, conn, id)),
         Step::Request(number, part) => in_order(alloc, request_by_key(alloc, conn, number, part)),
         Step::Exceedances => in_turn(alloc, exceedances(alloc, conn)),
-        _ => Err(Fault::Unmade),
+        _ => Err(Untold::Unread),
     }
 }
 
 /// What is told of a step; nothing of a statement.
-fn done<S: Alter>(alloc: Global, conn: &mut Connection<S>, step: Step) -> Result<String, Fault> {
+fn done<S: Alter>(alloc: Global, conn: &mut Connection<S>, step: Step) -> Result<String, Untold> {
     match step {
         Step::Run(statement) => {
             conn.execute_batch(statement)?;
@@ -230,7 +224,7 @@ fn all_done<S: Alter>(
     alloc: Global,
     conn: &mut Connection<S>,
     steps: &[Step],
-) -> Result<String, Fault> {
+) -> Result<String, Untold> {
     let mut text = String::new(alloc);
     for step in steps {
         text.push_str(done(alloc, conn, *step)?.as_str())?;
@@ -244,15 +238,15 @@ fn told_over<S: Alter + Drop>(
     mut conn: Connection<S>,
     before: &[Step],
     steps: &[Step],
-) -> Result<String, Fault> {
+) -> Result<String, Untold> {
     let mut text = all_done(alloc, &mut conn, before)?;
-    let mut conn = made(alloc, conn)?.into_connection();
+    let mut conn = opened(create(alloc, conn))?.into_connection();
     text.push_str(all_done(alloc, &mut conn, steps)?.as_str())?;
     Ok(text)
 }
 
 /// The same, over memory.
-fn over_memory(alloc: Global, before: &[Step], steps: &[Step]) -> Result<String, Fault> {
+fn over_memory(alloc: Global, before: &[Step], steps: &[Step]) -> Result<String, Untold> {
     told_over(alloc, Connection::open_in_memory(alloc)?, before, steps)
 }
 

@@ -1,8 +1,9 @@
 //! Exchanges of HTTP with a book in memory: whole, cut, and over channels that fail.
 
 use crate::clerk::channel::{Input, Output};
-use crate::fault::Fault;
-use crate::making::made;
+use crate::contents;
+use crate::fault::Untold;
+use crate::opening::{create, opened, take_up};
 use book::Book;
 use sqlite::{Alter, Connection};
 use std::alloc::Global;
@@ -73,7 +74,7 @@ fn exchanged<S: Alter>(
     book: &mut Book<S>,
     sent: &[u8],
     trial: Trial,
-) -> Result<(Ending, Vec<u8>), Fault> {
+) -> Result<(Ending, Vec<u8>), Untold> {
     let (length, fails, room) = match trial {
         Trial::Whole => (sent.len(), false, usize::MAX),
         Trial::Cut(length) => (length, false, usize::MAX),
@@ -110,7 +111,7 @@ struct Sample {
 }
 
 /// A text in bytes.
-fn bytes_of(alloc: Global, text: &str) -> Result<Vec<u8>, Fault> {
+fn bytes_of(alloc: Global, text: &str) -> Result<Vec<u8>, Untold> {
     let mut bytes = Vec::new(alloc);
     for byte in text.bytes() {
         match byte {
@@ -122,7 +123,7 @@ fn bytes_of(alloc: Global, text: &str) -> Result<Vec<u8>, Fault> {
     Ok(bytes)
 }
 
-fn sample_of(alloc: Global, place: usize, sent: &str, written: &str) -> Result<Sample, Fault> {
+fn sample_of(alloc: Global, place: usize, sent: &str, written: &str) -> Result<Sample, Untold> {
     let head = sent.split("||").next().unwrap_or(sent);
     Ok(Sample {
         place,
@@ -133,7 +134,7 @@ fn sample_of(alloc: Global, place: usize, sent: &str, written: &str) -> Result<S
 }
 
 /// All exchanges.
-fn samples(alloc: Global) -> Result<Vec<Sample>, Fault> {
+fn samples(alloc: Global) -> Result<Vec<Sample>, Untold> {
     let mut samples = Vec::new(alloc);
     let mut lines = EXCHANGES.lines();
     for place in 0..100 {
@@ -146,7 +147,7 @@ fn samples(alloc: Global) -> Result<Vec<Sample>, Fault> {
 }
 
 /// What is written before the body, where so many bytes of the request come.
-fn interim(alloc: Global, sample: &Sample, length: usize) -> Result<Vec<u8>, Fault> {
+fn interim(alloc: Global, sample: &Sample, length: usize) -> Result<Vec<u8>, Untold> {
     let front = bytes_of(alloc, CONTINUE)?;
     if length < sample.head || !sample.written.starts_with(&front) {
         return Ok(Vec::new(alloc));
@@ -155,7 +156,7 @@ fn interim(alloc: Global, sample: &Sample, length: usize) -> Result<Vec<u8>, Fau
 }
 
 /// How an exchange is to end, and what is to be written.
-fn wanted(alloc: Global, sample: &Sample, trial: Trial) -> Result<(Ending, Vec<u8>), Fault> {
+fn wanted(alloc: Global, sample: &Sample, trial: Trial) -> Result<(Ending, Vec<u8>), Untold> {
     match trial {
         Trial::Whole => Ok((
             Ending::Answered,
@@ -173,7 +174,7 @@ fn wanted(alloc: Global, sample: &Sample, trial: Trial) -> Result<(Ending, Vec<u
 }
 
 /// A copy of the first bytes.
-fn copy_of(alloc: Global, bytes: &[u8], length: usize) -> Result<Vec<u8>, Fault> {
+fn copy_of(alloc: Global, bytes: &[u8], length: usize) -> Result<Vec<u8>, Untold> {
     let mut copy = Vec::new(alloc);
     copy.extend_from_slice(bytes.get(..length).unwrap_or(bytes))?;
     Ok(copy)
@@ -186,7 +187,7 @@ fn try_one<S: Alter>(
     sample: &Sample,
     trial: Trial,
     text: &mut String,
-) -> Result<(), Fault> {
+) -> Result<(), Untold> {
     let wanted = wanted(alloc, sample, trial)?;
     let found = exchanged(alloc, book, &sample.sent, trial)?;
     if found != wanted {
@@ -202,7 +203,7 @@ fn try_cut<S: Alter>(
     book: &mut Book<S>,
     samples: &[Sample],
     text: &mut String,
-) -> Result<(), Fault> {
+) -> Result<(), Untold> {
     for sample in samples {
         for length in 0..sample.sent.len() {
             try_one(alloc, book, sample, Trial::Cut(length), text)?;
@@ -218,7 +219,7 @@ fn try_whole<S: Alter>(
     book: &mut Book<S>,
     samples: &[Sample],
     text: &mut String,
-) -> Result<(), Fault> {
+) -> Result<(), Untold> {
     for sample in samples {
         for room in 0..sample.written.len() {
             try_one(alloc, book, sample, Trial::Narrow(room), text)?;
@@ -228,61 +229,15 @@ fn try_whole<S: Alter>(
     Ok(())
 }
 
-/// A SELECT of each table beside `book`.
-const SELECTS: [&str; 8] = [
-    "SELECT id FROM crew",
-    "SELECT id FROM pairing",
-    "SELECT number FROM period",
-    "SELECT number FROM segment",
-    "SELECT seat FROM seat",
-    "SELECT id FROM ground",
-    "SELECT number FROM exceedance",
-    "SELECT number FROM request",
-];
-
-/// Adds the zone of each row of `book`.
-fn add_zones<S: Alter>(conn: &mut Connection<S>, text: &mut String) -> Result<(), Fault> {
-    for row in &conn.query_all("SELECT zone FROM book", &[])? {
-        let zone: String = row.get(0)?;
-        text.push_str(&zone)?;
-    }
-    Ok(())
-}
-
-/// The zone of a book, and how many rows each other table has.
-fn rows_told<S: Alter>(alloc: Global, conn: &mut Connection<S>) -> Result<String, Fault> {
-    let mut text = String::new(alloc);
-    add_zones(conn, &mut text)?;
-    for select in SELECTS {
-        let count = format!(in alloc; " {}", conn.query_all(select, &[])?.len())?;
-        text.push_str(&count)?;
-    }
-    Ok(text)
-}
-
-/// The book that is there.
-fn taken_up<S: Alter + Drop>(alloc: Global, conn: Connection<S>) -> Result<Book<S>, Fault> {
-    if !conn.is_autocommit() {
-        return Err(Fault::Unmade);
-    }
-    match Book::adopt(alloc, conn) {
-        Ok(book) => Ok(book),
-        Err(refused) => {
-            drop(refused);
-            Err(Fault::Changed)
-        }
-    }
-}
-
 /// Tries with a new book what leaves it as it is, and notes its rows; and then what it keeps.
-fn tried<S: Alter + Drop>(alloc: Global, conn: Connection<S>) -> Result<String, Fault> {
+fn tried<S: Alter + Drop>(alloc: Global, conn: Connection<S>) -> Result<String, Untold> {
     let samples = samples(alloc)?;
     let mut text = String::new(alloc);
-    let mut book = made(alloc, conn)?;
+    let mut book = opened(create(alloc, conn))?;
     try_cut(alloc, &mut book, &samples, &mut text)?;
     let mut conn = book.into_connection();
-    text.push_str(&rows_told(alloc, &mut conn)?)?;
-    let mut book = taken_up(alloc, conn)?;
+    text.push_str(&contents::told(alloc, &mut conn)?)?;
+    let mut book = opened(take_up(alloc, conn))?;
     try_whole(alloc, &mut book, &samples, &mut text)?;
     Ok(text)
 }
@@ -293,6 +248,6 @@ fn tried<S: Alter + Drop>(alloc: Global, conn: Connection<S>) -> Result<String, 
 fn exchanges_come_to_what_is_stated(rt: HostRuntime) -> Result<(), Fail> {
     let conn = Connection::open_in_memory(rt.alloc())?;
     let text = tried(rt.alloc(), conn)?;
-    assert_eq!(rt; text.as_str(), "EST5EDT,M3.2.0,M11.1.0 0 0 0 0 0 0 0 0");
+    assert_eq!(rt; text.as_str(), "book 1|1|EST5EDT,M3.2.0,M11.1.0\n");
     Ok(())
 }

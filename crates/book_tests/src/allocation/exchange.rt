@@ -1,8 +1,8 @@
 //! A command that the book refuses, over HTTP.
 
 use crate::allocation::told::Told;
-use crate::fault::Fault;
-use crate::making::made;
+use crate::fault::Untold;
+use crate::opening::create;
 use book::Book;
 use sqlite::{Alter, Connection};
 use std::alloc::Global;
@@ -56,31 +56,29 @@ fn got_in_the_end<S: Alter>(
     }
 }
 
-/// What a client gets of a book is the refusal.
-fn served<S: Alter>(alloc: Global, told: &mut Told, book: &mut Book<S>) -> Result<String, Fault> {
+/// Whether a client gets the refusal of a book.
+fn gets_the_refusal<S: Alter>(alloc: Global, told: &mut Told, book: &mut Book<S>) -> bool {
     match got_in_the_end(alloc, told, book) {
-        Ok(response) if response.as_slice() == REFUSED.as_bytes() => {
-            Ok(String::from_str(alloc, "409")?)
-        }
-        _ => Err(Fault::Otherwise),
+        Ok(response) => response.as_slice() == REFUSED.as_bytes(),
+        Err(_) => false,
     }
 }
 
-fn served_over<S: Alter + Drop>(
+fn is_refused_over<S: Alter + Drop>(
     alloc: Global,
     told: &mut Told,
     conn: Connection<S>,
-) -> Result<String, Fault> {
-    let mut book = made(alloc, conn)?;
-    let text = served(alloc, told, &mut book);
-    drop(book);
-    text
+) -> Result<bool, Untold> {
+    match create(alloc, conn) {
+        Ok(mut book) => Ok(gets_the_refusal(alloc, told, &mut book)),
+        Err(_left) => Err(Untold::Memory),
+    }
 }
 
 /// Serves a client with a book without crew.
-pub fn refused(alloc: Global, told: &mut Told) -> Result<String, Fault> {
+pub fn is_refused(alloc: Global, told: &mut Told) -> Result<bool, Untold> {
     let Ok(conn) = Connection::open_in_memory(alloc) else {
-        return Err(Fault::Memory);
+        return Err(Untold::Memory);
     };
-    served_over(alloc, told, conn)
+    is_refused_over(alloc, told, conn)
 }

@@ -1,0 +1,61 @@
+//! Calls of a book that may find no memory. A call that is told so has to leave what the book shows, and the same call, made again, has
+//! to be answered as with all memory. So each test here passes whichever of its own calls for memory is refused, which
+//! `tests/allocation_tests.py` has done to each in turn; how want of memory was told it writes to standard error.
+
+mod exchange;
+mod files;
+mod shown;
+mod told;
+
+use crate::allocation::told::Told;
+use crate::fault::Untold;
+use sqlite_disk::{Fuse, Memory};
+use std::alloc::Global;
+use std::test::Fail;
+
+/// What is tried.
+#[derive(Clone, Copy)]
+enum Part {
+    /// A book in files is made, asked, and handed an import.
+    Book,
+    /// A command that the book refuses comes over HTTP.
+    Http,
+}
+
+impl Part {
+    /// Tries its calls; whether they come to what they come to with all memory.
+    fn try_once(self, alloc: Global, told: &mut Told) -> Result<bool, Untold> {
+        match self {
+            Part::Book => files::is_answered::<Fuse<Memory>>(alloc, told),
+            Part::Http => exchange::is_refused(alloc, told),
+        }
+    }
+}
+
+/// What comes of a part. Where it finds no memory for what it needs besides the calls that it tries, it begins anew.
+fn tried(alloc: Global, part: Part, told: &mut Told) -> Result<bool, Untold> {
+    match part.try_once(alloc, told) {
+        Err(Untold::Memory) => part.try_once(alloc, told),
+        done => done,
+    }
+}
+
+/// The same; how want of memory was told in it is written to standard error.
+fn is_well(rt: &HostRuntime, part: Part) -> Result<bool, Fail> {
+    let mut told = Told::new();
+    let done = tried(rt.alloc(), part, &mut told);
+    told.print(&mut rt.stderr())?;
+    Ok(done?)
+}
+
+#[test]
+fn book(rt: HostRuntime) -> Result<(), Fail> {
+    assert!(rt; is_well(&rt, Part::Book)?);
+    Ok(())
+}
+
+#[test]
+fn http(rt: HostRuntime) -> Result<(), Fail> {
+    assert!(rt; is_well(&rt, Part::Http)?);
+    Ok(())
+}

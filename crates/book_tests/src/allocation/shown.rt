@@ -1,0 +1,64 @@
+//! All that a book shows of two members and two pairings, and its exceedances, as one text.
+
+use crate::fault::Untold;
+use book::{Book, Show};
+use duty::{CrewId, PairingId};
+use report::{exceedance_text, pairing_text, roster_text};
+use sqlite::Alter;
+use std::alloc::Global;
+use values::Text;
+
+/// What is shown.
+#[derive(Clone, Copy)]
+enum Report {
+    Member(&'static str),
+    Pairing(&'static str),
+    Exceedances,
+}
+
+const REPORTS: [Report; 5] = [
+    Report::Member("C1"),
+    Report::Member("F1"),
+    Report::Pairing("P10"),
+    Report::Pairing("P20"),
+    Report::Exceedances,
+];
+
+/// What the book is asked to show.
+fn show_of(alloc: Global, report: Report) -> Result<Show, Untold> {
+    Ok(match report {
+        Report::Member(id) => Show::Crew(CrewId::new(Text::new(String::from_str(alloc, id)?))),
+        Report::Pairing(id) => {
+            Show::Pairing(PairingId::new(Text::new(String::from_str(alloc, id)?)))
+        }
+        Report::Exceedances => Show::Exceedances,
+    })
+}
+
+/// The text of what is shown; nothing of a member or a pairing that isn't there.
+fn text_of<S: Alter>(alloc: Global, book: &mut Book<S>, what: &Show) -> Result<String, Untold> {
+    let Ok(roster) = book.show(alloc, what) else {
+        return Err(Untold::Memory);
+    };
+    let text = match what {
+        Show::Crew(who) => roster_text(alloc, &roster, who),
+        Show::Pairing(id) => pairing_text(alloc, &roster, id),
+        Show::Exceedances => exceedance_text(alloc, &roster),
+    };
+    drop(roster);
+    match text {
+        Ok(text) => Ok(text),
+        Err(report::ReportFault::Memory) => Err(Untold::Memory),
+        Err(_) => Ok(String::new(alloc)),
+    }
+}
+
+/// All that a book shows.
+pub fn shown<S: Alter>(alloc: Global, book: &mut Book<S>) -> Result<String, Untold> {
+    let mut all = String::new(alloc);
+    for report in REPORTS {
+        let what = show_of(alloc, report)?;
+        all.push_str(text_of(alloc, book, &what)?.as_str())?;
+    }
+    Ok(all)
+}

@@ -1,0 +1,44 @@
+//! How a part was told that memory was wanting, and the lines that say so.
+
+use std::io;
+use std::io::Write;
+
+/// How want of memory was told, if it was.
+#[derive(Drop)]
+pub struct Told {
+    /// By a call that has changed nothing: 91.
+    pub memory: bool,
+    /// As a fault of the store: 90.
+    pub store: bool,
+    /// By the response 503.
+    pub unavailable: bool,
+    /// As a channel that failed: 92.
+    pub channel: bool,
+}
+
+impl Told {
+    /// It was not told.
+    pub fn new() -> Told {
+        Told {
+            memory: false,
+            store: false,
+            unavailable: false,
+            channel: false,
+        }
+    }
+
+    /// Writes a line for each way in which it was told.
+    pub fn print<W: Write>(&self, writer: &mut W) -> io::Result<()> {
+        for (number, is_told) in [
+            ("91", self.memory),
+            ("90", self.store),
+            ("503", self.unavailable),
+            ("92", self.channel),
+        ] {
+            if is_told {
+                writeln!(writer, "{number}")?;
+            }
+        }
+        Ok(())
+    }
+}
