@@ -190,7 +190,8 @@ fn ended(alloc: Global, told: &mut Told, session: &Session) -> Result<Option<boo
     match heard(told, session)? {
         Heard::AsAlways => match &session.rows {
             Ok(rows) => Ok(Some(are_rows_well(alloc, rows)?)),
-            Err(fault) => Err(*fault),
+            // (a row that isn't read found no memory, and all begins anew)
+            Err(_) => Err(Untold::Memory),
         },
         Heard::Stopped => Ok(None),
         Heard::NoMemory | Heard::Otherwise => Ok(Some(false)),
