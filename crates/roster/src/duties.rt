@@ -1,15 +1,16 @@
 //! A member's duties in force, and what new duties do beside them.
 //! Worked rows: `tests/answers.py`.
-ghost use Rattle.std.specs.Prelude.{◌≡◌, ◌++◌, IfOk, OnOk, map};
+ghost use Rattle.std.specs.Prelude.{◌≡◌, ◌∷◌, [], ◌++◌, IfOk, OnOk, map};
 ghost use Rattle.duty.specs.Overlaps.{overlaps as do_overlap};
 ghost use Rattle.roster.specs.LeftOut.{leaves_out};
 ghost use Rattle.roster.specs.Pairings.{holds, is_held_by, flown, periods_in_force};
-ghost use Rattle.roster.specs.Places.{period, duties, all_but, others, periods_at, periods_of, grounds_of};
+ghost use Rattle.roster.specs.Places.{period, duties, all_but, ground_at, no_place, others, periods_at, periods_of, grounds_of};
 ghost use Rattle.roster.specs.Refusals.{broken_by};
+ghost use Rattle.roster.specs.State.{zone_of};
 
 use crate::state::{PairingEntry, Roster};
 use command::Exceedance;
-use duty::{Actual, CrewId, Duty, DutyInForce, Fdp, History, PairingId};
+use duty::{Actual, CrewId, Duty, DutyInForce, Fdp, Ground, History, PairingId};
 use limits::{Section, judge};
 use std::alloc::Global;
 use time117::Zone;
@@ -195,6 +196,41 @@ impl Roster {
         let sections = judge(&history, new).list(alloc)?;
         let broken = exceedances(alloc, who, &sections)?;
         Ok(Fit { overlaps, broken })
+    }
+
+    /// Judges what the duties of a pairing do beside the member's others.
+    pub(crate) fn fit_of(
+        &self,
+        alloc: Global,
+        who: &CrewId,
+        out: LeftOut,
+        id: &PairingId,
+        rostered: &PairingEntry,
+    ) -> Result<Fit, MemoryFault>
+        ensures overlaps { IfOk result (λ fit. fit.overlaps
+            ≡ do_overlap (duties (periods_at (zone_of self.now who.now) (id.now, rostered.now)))
+            (others self.now who.now (leaves_out out.entry))) }
+        ensures broken { IfOk result (λ fit. fit.broken.items
+            ≡ broken_by who.now (others self.now who.now (leaves_out out.entry))
+            (duties (periods_at (zone_of self.now who.now) (id.now, rostered.now)))) }
+    {
+        let new = rostered.duties(alloc, self.zone_of(who), id)?;
+        self.fit(alloc, who, out, &new)
+    }
+
+    /// Judges what a ground duty does beside its member's others.
+    pub(crate) fn fit_of_ground(&self, alloc: Global, ground: &Ground) -> Result<Fit, MemoryFault>
+        ensures overlaps { IfOk result (λ fit. fit.overlaps
+            ≡ do_overlap ((ground_at (ground.now.id, ground.now)).1 ∷ [])
+            (others self.now ground.now.crew no_place)) }
+        ensures broken { IfOk result (λ fit. fit.broken.items
+            ≡ broken_by ground.now.crew (others self.now ground.now.crew no_place)
+            ((ground_at (ground.now.id, ground.now)).1 ∷ [])) }
+    {
+        let (who, zone) = (ground.crew(), self.zone_of(ground.crew()));
+        let mut new = History::empty(alloc);
+        new.insert(alloc, Duty::Ground(ground.try_clone(alloc)?), zone)?;
+        self.fit(alloc, who, LeftOut::Nothing, &new)
     }
 }
 

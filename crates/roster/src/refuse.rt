@@ -12,7 +12,7 @@ ghost use Rattle.roster.specs.State.{zone_of};
 use crate::duties::{LeftOut, is_held_by};
 use crate::state::{PairingEntry, Roster};
 use command::{Exceedance, Instruction, Refusal, Swap};
-use duty::{Actual, CrewId, Duty, Ground, GroundId, History, PairingId};
+use duty::{Actual, CrewId, Ground, GroundId, PairingId};
 use std::alloc::Global;
 use values::{MemoryFault, Sequence, TryClone};
 
@@ -101,8 +101,7 @@ impl Roster {
         if rostered.holder(member.seat).is_some() {
             return Ok(Some(Refusal::SeatTaken));
         }
-        let new = rostered.duties(alloc, self.zone_of(who), id)?;
-        let fit = self.fit(alloc, who, LeftOut::Nothing, &new)?;
+        let fit = self.fit_of(alloc, who, LeftOut::Nothing, id, rostered)?;
         if fit.overlaps {
             return Ok(Some(Refusal::Overlap));
         }
@@ -172,11 +171,10 @@ impl Roster {
             (duties (periods_at (zone_of self.now swap.now.crew)
             (swap.now.other_pairing, taken.now))))) }
     {
-        let new = taken.duties(alloc, self.zone_of(&swap.crew), &swap.other_pairing)?;
-        let fit = self.fit(alloc, &swap.crew, LeftOut::Pairing(&swap.pairing), &new)?;
-        let other_new = given.duties(alloc, self.zone_of(&swap.other_crew), &swap.pairing)?;
-        let other_out = LeftOut::Pairing(&swap.other_pairing);
-        let other_fit = self.fit(alloc, &swap.other_crew, other_out, &other_new)?;
+        let (gives, takes) = (&swap.pairing, &swap.other_pairing);
+        let fit = self.fit_of(alloc, &swap.crew, LeftOut::Pairing(gives), takes, taken)?;
+        let other_out = LeftOut::Pairing(takes);
+        let other_fit = self.fit_of(alloc, &swap.other_crew, other_out, gives, given)?;
         if fit.overlaps || other_fit.overlaps {
             return Ok(Some(Refusal::Overlap));
         }
@@ -194,13 +192,7 @@ impl Roster {
         if !self.crew.contains(ground.crew()) {
             return Ok(Some(Refusal::NoSuchCrew));
         }
-        let mut new = History::empty(alloc);
-        new.insert(
-            alloc,
-            Duty::Ground(ground.try_clone(alloc)?),
-            self.zone_of(ground.crew()),
-        )?;
-        let fit = self.fit(alloc, ground.crew(), LeftOut::Nothing, &new)?;
+        let fit = self.fit_of_ground(alloc, ground)?;
         if fit.overlaps {
             return Ok(Some(Refusal::Overlap));
         }
