@@ -1,6 +1,6 @@
 //! Why a test tells nothing: one type for each fault that its calls may meet.
 
-use sqlite::Error;
+use sqlite::{Error, ErrorCode};
 use std::alloc::{AllocError, AllocFailed};
 use std::fmt;
 use store::StoreFault;
@@ -49,14 +49,20 @@ impl From<StoreFault> for Untold {
 }
 
 impl From<Error> for Untold {
-    fn from(_error: Error) -> Untold {
-        Untold::Unread
+    fn from(error: Error) -> Untold {
+        match error {
+            Error::SqliteFailure(ErrorCode::OutOfMemory) => Untold::Memory,
+            _ => Untold::Unread,
+        }
     }
 }
 
 impl From<TableFault> for Untold {
-    fn from(_fault: TableFault) -> Untold {
-        Untold::Unread
+    fn from(fault: TableFault) -> Untold {
+        match fault {
+            TableFault::Memory => Untold::Memory,
+            _ => Untold::Unread,
+        }
     }
 }
 

@@ -190,8 +190,7 @@ fn ended(alloc: Global, told: &mut Told, session: &Session) -> Result<Option<boo
     match heard(told, session)? {
         Heard::AsAlways => match &session.rows {
             Ok(rows) => Ok(Some(are_rows_well(alloc, rows)?)),
-            // (a row that isn't read found no memory, and all begins anew)
-            Err(_) => Err(Untold::Memory),
+            Err(fault) => Err(*fault),
         },
         Heard::Stopped => Ok(None),
         Heard::NoMemory | Heard::Otherwise => Ok(Some(false)),
