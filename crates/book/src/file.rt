@@ -46,7 +46,7 @@ impl<S: Start> Book<FileStore<FileFrom<S>>> {
 }
 
 impl FileBook {
-    /// Opens the same, of the file that is there.
+    /// Opens the book of the file that is there.
     pub fn open(rt: &HostRuntime, path: &str) -> Result<FileBook, LoadFault>
         ensures fresh { IfOk result (λ b. b.failed ≡ false) }
     {

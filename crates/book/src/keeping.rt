@@ -182,8 +182,8 @@ impl<S: Alter> Book<S> {
     }
 
     /// Answers a command by the part of the state that it needs. One that is kept already is answered as it was, and changes
-    /// nothing; so does one that the machine refuses. After want of memory (91) nothing is changed, and the call may be made
-    /// again; after a fault of the store (90) it is kept or not, and each later call answers 90.
+    /// nothing; one that the machine refuses changes nothing either. After want of memory (91) nothing is changed, and the call
+    /// may be made again; after a fault of the store (90) it is kept or not, and each later call answers 90.
     pub fn ask(&mut self, alloc: Global, key: Key, command: &Command) -> Result<Answer, StoreFault>
         ensures { IsAnswered S.Store self.old self.new (key, command.now) result }
     {

@@ -2,11 +2,11 @@
 use Rattle.std.proofs.Common.{◌≡◌, ◌≤◌, ◌<◌, inl, inr, ℕ, Bool, true, false, List, [], length, take, nat_lt, refl, sym, subst, arith, Some, None, Result, Ok, Err, IfOk, IfErr}
 use Rattle.std.proofs.lemmas.Bool.Decides.{nat_tests}
 use Rattle.std.specs.Io.KnownBytes.{Appends}
-use Rattle.std.proofs.KnownBytes.{Appends-trans}
+use Rattle.std.proofs.KnownBytes.{Appends-nil, Appends-trans}
 use Rattle.http_message.proofs.HeadLemmas.{has_byte}
 use Rattle.http_message.specs.Heading.{Heading}
 use Rattle.http_message.specs.Plan as planning
-use Rattle.http_message.specs.Plan.{Planned, Subject, plan_for_head, refuse, receive}
+use Rattle.http_message.specs.Plan.{Planned, Step, Subject, plan_for_head, refuse, receive}
 use Rattle.http_message.specs.Reading as reading
 use Rattle.http_message.specs.declared.plan.ExpectedBody.{ExpectedBody}
 use Rattle.http_message.specs.declared.reading.ReadFault.TheVariants.{Memory}
@@ -19,7 +19,7 @@ use Rattle.http_exchange.specs.declared.handler.HandlerFault.{HandlerFault}
 use Rattle.http_exchange.specs.declared.sending.ChannelFault.{ChannelFault}
 use Rattle.http_exchange.specs.declared.sending.ChannelFault.TheVariants.{Reader, Writer}
 use Rattle.http_exchange.specs.declared.exchanges.Served.TheVariants.{Answered, Nothing}
-use Rattle.http_exchange.specs.Exchange.{ChannelBytes, asks, interim_bytes, receiving, AsksHandlerOnce, IsSettled, Responds, IsExchangeServed, MayHaveAsked, BreaksOff, IsExchangeBrokenOff, IsAnsweredAndWritten}
+use Rattle.http_exchange.specs.Exchange.{ChannelBytes, asks, interim, interim_bytes, receiving, AsksHandlerOnce, IsSettled, Responds, IsExchangeServed, MayHaveAsked, BreaksOff, IsExchangeBrokenOff, IsAnsweredAndWritten}
 
 -- what was written after other bytes
 told_after : (front : List ℕ) (out mid out' : ChannelBytes) (code : ℕ) (final : Final) (is_head : Bool) → Appends out mid front → IsFinalTold [] mid out' code final is_head → IsFinalTold front out out' code final is_head
@@ -35,14 +35,15 @@ module _ {K : Type 0} (handles : K → K → HandlerRequest → Result StatusTex
   may_stay (Ok asked) old = inl refl
   may_stay (Err fault) old = refl
 
-  unasked_broken : (p : Planned) (had : ChannelBytes) (old : K) (fault : ChannelFault) → BreaksOff handles p had old old fault
-  unasked_broken p had old Reader = refl
-  unasked_broken p None old Writer = tt
-  unasked_broken p (Some rest) old Writer = may_stay (asks p.step rest) old
+  pub unasked_broken : (p : Planned) (had out out' : ChannelBytes) (old : K) (fault : ChannelFault) → fault ≡ Writer → BreaksOff handles p had out out' old old fault
+  unasked_broken p had out out' old Reader is = absurd cc
+  unasked_broken p None out out' old Writer is = tt
+  unasked_broken p (Some rest) out out' old Writer is = may_stay (asks p.step rest) old
 
-  pub unasked : (p : Planned) (had : ChannelBytes) (old : K) (r : Result ℕ ChannelFault) → IfErr r (λ fault. BreaksOff handles p had old old fault)
-  unasked p had old (Ok code) = tt
-  unasked p had old (Err fault) = unasked_broken p had old fault
+  pub unasked : (p : Planned) (had out out' : ChannelBytes) (old : K) (IsDone : ℕ → Type 0) (r : Result ℕ ChannelFault) → OrFails r (λ code. IsDone code)
+      → IfErr r (λ fault. BreaksOff handles p had out out' old old fault)
+  unasked p had out out' old IsDone (Ok code) done = tt
+  unasked p had out out' old IsDone (Err fault) is = unasked_broken p had out out' old fault is
 
   -- ---- a head
 
@@ -62,7 +63,7 @@ module _ {K : Type 0} (handles : K → K → HandlerRequest → Result StatusTex
 
   pub shown_broken : (what : Subject) (is_head : Bool) (had out out' : ChannelBytes) (old new : K) (r : Result ℕ ChannelFault)
       → IsAnsweredAndWritten handles (show what) out out' old new is_head r
-      → IfErr r (λ fault. BreaksOff handles (record { is_head = is_head; step = planning.show what }) had old new fault)
+      → IfErr r (λ fault. BreaksOff handles (record { is_head = is_head; step = planning.show what }) had out out' old new fault)
   shown_broken what is_head had out out' old new (Ok code) asked = tt
   shown_broken what is_head had out out' old new (Err Reader) asked = let never : Reader ≡ Writer = asked.2 in absurd cc
   shown_broken what is_head None out out' old new (Err Writer) asked = tt
@@ -101,15 +102,19 @@ module _ {K : Type 0} (handles : K → K → HandlerRequest → Result StatusTex
           settled = subst (λ a. IsSettled handles a front is_head out out' old new code) (sym (whole_asks rest whole.0)) (asked.0, handled, told);
         })
 
-    pub taken_broken : (had left mid out' : ChannelBytes) (old new : K) (body : List ℕ) (r : Result ℕ ChannelFault)
+    pub taken_broken : (had left out mid out' : ChannelBytes) (old new : K) (body : List ℕ) (r : Result ℕ ChannelFault)
         → IsWholeAt expected.length had left body → IsAnsweredAndWritten handles (submit expected.to body) mid out' old new is_head r
-        → IfErr r (λ fault. BreaksOff handles (receiving expected is_head) had old new fault)
-    taken_broken had left mid out' old new body (Ok code) whole asked = tt
-    taken_broken had left mid out' old new body (Err Reader) whole asked = let never : Reader ≡ Writer = asked.2 in absurd cc
-    taken_broken None left mid out' old new body (Err Writer) whole asked = tt
-    taken_broken (Some rest) left mid out' old new body (Err Writer) whole asked =
+        → IfErr r (λ fault. BreaksOff handles (receiving expected is_head) had out out' old new fault)
+    taken_broken had left out mid out' old new body (Ok code) whole asked = tt
+    taken_broken had left out mid out' old new body (Err Reader) whole asked = let never : Reader ≡ Writer = asked.2 in absurd cc
+    taken_broken None left out mid out' old new body (Err Writer) whole asked = tt
+    taken_broken (Some rest) left out mid out' old new body (Err Writer) whole asked =
         let handled = subst (λ body. handles old new (submit expected.to body) asked.0) whole.1 asked.1 in
         subst (λ a. MayHaveAsked handles a old new) (sym (whole_asks rest whole.0)) (inr (asked.0, handled))
+
+    -- the reader failed in the body, after the interim response
+    pub body_unread : (had out out' : ChannelBytes) (old : K) → Appends out out' (interim_bytes expected.continues) → BreaksOff handles (receiving expected is_head) had out out' old old Reader
+    body_unread had out out' old first = (refl, first)
 
     pub cut : (had left out mid out' : ChannelBytes) (old : K) (r : Result ℕ ChannelFault)
         → Appends out mid (interim_bytes expected.continues) → IsCutAt expected.length had left → OrFails r (λ code. IsFinalTold [] mid out' code (of_fault CutBody is_head) is_head)
@@ -142,12 +147,22 @@ module _ {K : Type 0} (handles : K → K → HandlerRequest → Result StatusTex
       let after = subst (λ m. Responds handles (plan_for_head head) m left out out' old new code) there answers in
       (has_byte input h rest has.reads, inr (inl (h, rest, has, subst (λ head. Responds handles (plan_for_head head) (Some rest) left out out' old new code) is after)))
 
-  pub broken_off : (had mid : ChannelBytes) (old new : K) (head : Heading) (fault : ChannelFault) → reading.IsReadWhole had mid head → BreaksOff handles (plan_for_head head) mid old new fault
-      → IsExchangeBrokenOff handles had old new fault
-  broken_off had mid old new head Reader is breaks = breaks
-  broken_off None mid old new head Writer is breaks = tt
-  broken_off (Some input) mid old new head Writer (h, rest, has, is, there) breaks =
-      let after = subst (λ m. BreaksOff handles (plan_for_head head) m old new Writer) there breaks in
+  -- what is written before the body is read
+  interim_is : (step : Step) → (waits : Bool) × (interim step ≡ interim_bytes waits)
+  interim_is (refuse fault) = (false, refl)
+  interim_is (planning.show what) = (false, refl)
+  interim_is (receive expected) = (expected.continues, refl)
+
+  pub broken_off : (had mid out out' : ChannelBytes) (old new : K) (head : Heading) (fault : ChannelFault) → reading.IsReadWhole had mid head
+      → BreaksOff handles (plan_for_head head) mid out out' old new fault → IsExchangeBrokenOff handles had out out' old new fault
+  broken_off None mid out out' old new head Reader is breaks =
+      let it = interim_is (plan_for_head head).step in
+      (breaks.0, (it.0, subst (Appends out out') it.1 breaks.1))
+  broken_off (Some input) mid out out' old new head Reader (h, rest, has, is, there) breaks =
+      (breaks.0, inr (h, rest, has, subst (λ head. Appends out out' (interim (plan_for_head head).step)) is breaks.1))
+  broken_off None mid out out' old new head Writer is breaks = tt
+  broken_off (Some input) mid out out' old new head Writer (h, rest, has, is, there) breaks =
+      let after = subst (λ m. BreaksOff handles (plan_for_head head) m out out' old new Writer) there breaks in
       inr (h, rest, has, subst (λ head. MayHaveAsked handles (asks (plan_for_head head).step rest) old new) is after)
 
   pub without_memory : (had left out out' : ChannelBytes) (old : K) (code : ℕ) → reading.IsHeadUnread Memory had left → IsSent [] out out' code (of_no_memory false)
@@ -155,7 +170,12 @@ module _ {K : Type 0} (handles : K → K → HandlerRequest → Result StatusTex
   without_memory None left out out' old code is sent = tt
   without_memory (Some input) left out out' old code is sent = (is.0, inr (inr (record { left_is = is.1; unasked = refl; sent = sent })))
 
-  pub unasked_off : (had : ChannelBytes) (old : K) (fault : ChannelFault) → IsExchangeBrokenOff handles had old old fault
-  unasked_off had old Reader = refl
-  unasked_off None old Writer = tt
-  unasked_off (Some input) old Writer = inl refl
+  pub unasked_off : (had out out' : ChannelBytes) (old : K) (fault : ChannelFault) → fault ≡ Writer → IsExchangeBrokenOff handles had out out' old old fault
+  unasked_off had out out' old Reader is = absurd cc
+  unasked_off None out out' old Writer is = tt
+  unasked_off (Some input) out out' old Writer is = inl refl
+
+  -- the reader failed in the head
+  pub head_unread : (had out : ChannelBytes) (old : K) → IsExchangeBrokenOff handles had out out old old Reader
+  head_unread None out old = (refl, (false, Appends-nil out))
+  head_unread (Some input) out old = (refl, inl (Appends-nil out))

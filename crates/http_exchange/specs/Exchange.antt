@@ -1,5 +1,6 @@
 -- One exchange: what an input asks for, what is written, and what is left unread.
 use Rattle.std.specs.Prelude.{◌≡◌, ◌<◌, ◌⊎◌, ⊤, ℕ, Bool, false, List, [], length, drop, take, nat_lt, Option, Some, None, Result, Ok, Err, if◌then◌else◌}
+use Rattle.std.specs.Io.KnownBytes.{Appends}
 use Rattle.httparse.specs.Grammar.{RequestHead}
 use Rattle.http_message.specs.Heading.{heading}
 use Rattle.http_message.specs.Plan as planning
@@ -50,6 +51,12 @@ receiving expected is_head = record { is_head = is_head; step = receive expected
 -- known bytes of a reader or a writer
 abbrev pub ChannelBytes : Type 0
 ChannelBytes = Option (List ℕ)
+
+-- where the reader failed: nothing is written before the head is whole, and after it what is written before a body is read
+abbrev pub IsInterimAtMost : ChannelBytes → ChannelBytes → ChannelBytes → Type 0
+IsInterimAtMost None out out' = (waits : Bool) × Appends out out' (interim_bytes waits)
+IsInterimAtMost (Some input) out out' =
+    Appends out out' [] ⊎ ((h : RequestHead) × (rest : List ℕ) × HasHead input h rest × Appends out out' (interim (plan_for_head (heading h)).step))
 
 module _ {K : Type 0} (handles : K → K → HandlerRequest → Result StatusText HandlerFault → Type 0) where
   -- the handler was asked this, by what was kept before and after
@@ -107,17 +114,18 @@ module _ {K : Type 0} (handles : K → K → HandlerRequest → Result StatusTex
   MayHaveAsked (Err fault) old new = new ≡ old
   MayHaveAsked (Ok asked) old new = (new ≡ old) ⊎ WasAsked asked old new
 
-  -- where the reader failed, nothing was asked; where the writer did, at most what the request asks for
-  abbrev pub BreaksOff : Planned → ChannelBytes → K → K → ChannelFault → Type 0
-  BreaksOff p had old new Reader = new ≡ old
-  BreaksOff p None old new Writer = ⊤
-  BreaksOff p (Some rest) old new Writer = MayHaveAsked (asks p.step rest) old new
+  -- where the reader failed, nothing was asked, and a client that waits was told to go on; where the writer did, at most what the
+  -- request asks for was asked
+  abbrev pub BreaksOff : Planned → ChannelBytes → ChannelBytes → ChannelBytes → K → K → ChannelFault → Type 0
+  BreaksOff p had out out' old new Reader = (new ≡ old) × Appends out out' (interim p.step)
+  BreaksOff p None out out' old new Writer = ⊤
+  BreaksOff p (Some rest) out out' old new Writer = MayHaveAsked (asks p.step rest) old new
 
   -- the same from the head on
-  abbrev pub IsExchangeBrokenOff : ChannelBytes → K → K → ChannelFault → Type 0
-  IsExchangeBrokenOff had old new Reader = new ≡ old
-  IsExchangeBrokenOff None old new Writer = ⊤
-  IsExchangeBrokenOff (Some input) old new Writer =
+  abbrev pub IsExchangeBrokenOff : ChannelBytes → ChannelBytes → ChannelBytes → K → K → ChannelFault → Type 0
+  IsExchangeBrokenOff had out out' old new Reader = (new ≡ old) × IsInterimAtMost had out out'
+  IsExchangeBrokenOff None out out' old new Writer = ⊤
+  IsExchangeBrokenOff (Some input) out out' old new Writer =
       (new ≡ old) ⊎ ((h : RequestHead) × (rest : List ℕ) × HasHead input h rest × MayHaveAsked (asks (plan_for_head (heading h)).step rest) old new)
 
   -- ---- asking

@@ -28,8 +28,9 @@ pub enum Served {
     Nothing,
 }
 
-/// Reads a request, has the handler answer it by what is kept, and writes the response. Nothing is read past the head and the body that it
-/// announces, and of an exchange no other comes after it on the connection.
+/// Reads a request, has the handler answer it by what is kept, and writes the response. Nothing is read past the head and the body that
+/// it announces, so that a second request on the connection is not read. A client that waits is told to go on before its body is read:
+/// where the reader fails, no more than that is written.
 pub fn exchange<R: Read, W: Write, K, H: Handler<K>>(
     alloc: Global,
     reader: &mut R,
@@ -42,7 +43,7 @@ pub fn exchange<R: Read, W: Write, K, H: Handler<K>>(
         (W.contents writer.old) (W.contents writer.new) kept.old kept.new it) }
     ensures failed { IfErr result
         (λ fault. spec.IsExchangeBrokenOff H.handles (R.remaining reader.old)
-        kept.old kept.new fault) }
+        (W.contents writer.old) (W.contents writer.new) kept.old kept.new fault) }
     ensures once { spec.AsksHandlerOnce H.handles kept.old kept.new }
 {
     match read_head(alloc, reader) {
@@ -74,8 +75,8 @@ fn respond<R: Read, W: Write, K, H: Handler<K>>(
         (R.remaining reader.new)
         (W.contents writer.old) (W.contents writer.new) kept.old kept.new status) }
     ensures broken { IfErr result (λ fault.
-        spec.BreaksOff H.handles (plan_for_head head.now)
-        (R.remaining reader.old) kept.old kept.new fault) }
+        spec.BreaksOff H.handles (plan_for_head head.now) (R.remaining reader.old)
+        (W.contents writer.old) (W.contents writer.new) kept.old kept.new fault) }
     ensures once { spec.AsksHandlerOnce H.handles kept.old kept.new }
 {
     match plan_of(alloc, head) {
@@ -98,7 +99,8 @@ fn follow<R: Read, W: Write, K, H: Handler<K>>(
         (R.remaining reader.new)
         (W.contents writer.old) (W.contents writer.new) kept.old kept.new status) }
     ensures broken { IfErr result (λ fault. spec.BreaksOff H.handles (planned_of plan.now)
-        (R.remaining reader.old) kept.old kept.new fault) }
+        (R.remaining reader.old) (W.contents writer.old) (W.contents writer.new)
+        kept.old kept.new fault) }
     ensures once { spec.AsksHandlerOnce H.handles kept.old kept.new }
 {
     let is_head = plan.is_head;
@@ -144,7 +146,8 @@ fn take_in<R: Read, W: Write, K, H: Handler<K>>(
         (spec.receiving expected is_head) (R.remaining reader.old) (R.remaining reader.new)
         (W.contents writer.old) (W.contents writer.new) kept.old kept.new status) }
     ensures broken { IfErr result (λ fault. spec.BreaksOff H.handles
-        (spec.receiving expected is_head) (R.remaining reader.old) kept.old kept.new fault) }
+        (spec.receiving expected is_head) (R.remaining reader.old)
+        (W.contents writer.old) (W.contents writer.new) kept.old kept.new fault) }
     ensures once { spec.AsksHandlerOnce H.handles kept.old kept.new }
 {
     let Ok(room) = Vec::with_capacity(alloc, expected.length) else {

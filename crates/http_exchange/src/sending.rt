@@ -15,7 +15,7 @@ use std::io::Write;
 /// What of the channel failed.
 #[derive(Clone, Copy, Debug, PartialEq, Eq)]
 pub enum ChannelFault {
-    /// The reader. Nothing was asked.
+    /// The reader. Nothing was asked, and nothing but 100 (Continue) is written.
     Reader,
     /// The writer.
     Writer,

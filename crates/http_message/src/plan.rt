@@ -1,4 +1,4 @@
-//! What a head asks for, before any byte of a body is read. The definition is `plan` (`specs/Plan.antt`).
+//! What a head asks for, before any byte of a body is read. The definition is `plan_for_head` (`specs/Plan.antt`).
 //! What clients send: `tests/exchanges.py`. Wrong bodies: `must-fail/`.
 ghost use Rattle.std.specs.Prelude.{◌≡◌, IfOk, Some, codes, length};
 ghost use Rattle.http_message.specs.Fields.{values};

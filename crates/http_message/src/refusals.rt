@@ -17,7 +17,7 @@ pub enum Methods {
 /// Why a request is refused before anything is asked for it.
 #[derive(Clone, Copy, Debug, PartialEq, Eq)]
 pub enum RequestFault {
-    /// There is no whole head, or it is too long.
+    /// There is no whole head, or it is too long, or has too many fields.
     NoHead,
     /// A head of HTTP/1.1 hasn't one `Host` (RFC 9112, section 3.2).
     NotOneHost,

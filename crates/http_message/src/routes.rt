@@ -1,4 +1,4 @@
-//! The resources of a book, by their paths. The definition is `place` (`specs/Routes.antt`).
+//! The resources of a book, by their paths. The definition is `route_of_path` (`specs/Routes.antt`).
 //! What clients send: `tests/exchanges.py`. Wrong bodies: `must-fail-more/`.
 ghost use Rattle.std.specs.Prelude.{◌≡◌, ◌++◌, IfOk, drop, length, option_map};
 ghost use Rattle.http_message.specs.Routes as spec;

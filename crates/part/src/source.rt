@@ -84,14 +84,14 @@ pub trait Source {
         ensures left { stays self.old self.new }
         ensures serves { OnOk result (serves self.old self.new) };
 
-    /// Reads the ids of the pairings that a member holds, in any instruction.
+    /// Reads the ids of the pairings that a member holds, in any order.
     fn pairings_of(&mut self, alloc: Global, who: &CrewId) -> Result<Vec<PairingId>, Self::Fault>
         ensures told { TellsOfState is_clean shows
             (λ s found. AreJust (IsHeldBy s who.now) found.items) self.old self.new result }
         ensures left { stays self.old self.new }
         ensures serves { OnOk result (serves self.old self.new) };
 
-    /// Reads the ids of the member's ground duties, in any instruction.
+    /// Reads the ids of the member's ground duties, in any order.
     fn grounds_of(&mut self, alloc: Global, who: &CrewId) -> Result<Vec<GroundId>, Self::Fault>
         ensures told { TellsOfState is_clean shows
             (λ s found. AreJust (IsGroundOf s who.now) found.items) self.old self.new result }

@@ -139,8 +139,8 @@ impl<S: Alter> Store<S> {
     }
 
     /// Writes a change that the step gave of the state that the tables hold, in one transaction. After want of memory (91)
-    /// nothing is changed, and the connection is still open, unless the disk failed meanwhile; after a store's fault (90) all
-    /// of the change is kept, or nothing of it.
+    /// nothing is changed, and the connection is still open, unless the disk failed or refused a call meanwhile; after a
+    /// store's fault (90) all of the change is kept, or nothing of it.
     pub fn commit(&mut self, alloc: Global, change: &Change) -> Result<(), StoreFault>
         ensures { IsCommitted (state S.Store self.old) (state S.Store self.new) change.now result }
     {

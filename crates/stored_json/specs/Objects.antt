@@ -1,4 +1,4 @@
--- Objects by lists of their members, which a list has in any instruction.
+-- Objects by lists of their members, which a list has in any order.
 use Rattle.std.specs.Prelude.{ℕ, List, [], ◌∷◌}
 use Rattle.std.specs.Borrow.{Bor}
 use Rattle.serde_json.specs.Data.{Data, number, unsigned, string, object, Members, no_members, put}

@@ -19,7 +19,7 @@ use std::alloc::Global;
 use time117::Minute;
 use values::Text;
 
-/// Reads the command of a text that the book keeps. Members may come in any instruction, of one that comes twice the last
+/// Reads the command of a text that the book keeps. Members may come in any order; of one that comes twice the last
 /// counts, and those that aren't a command's are ignored. A fault is the first of: a text that is no object of JSON;
 /// `do`; the other members, in the order in which they stand in the definition; a text outside its shape, a swap with
 /// itself, a count, an order of times, a chain of airports. Want of memory comes wherever memory is refused.

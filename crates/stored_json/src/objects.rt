@@ -52,7 +52,7 @@ impl Scalar<'_> {
     }
 }
 
-/// Makes an object of these members, given in any instruction; of two under one name the last counts.
+/// Makes an object of these members, given in any order; of two under one name the last counts.
 pub fn object_of(alloc: Global, given: &[(&str, Scalar<'_>)]) -> Result<Value, MemoryFault>
     ensures { IfOk result (λ value. view value ≡ spec.object_json given.now) }
 {

@@ -10,7 +10,7 @@ use Rattle.roster.specs.Honest.{Honest}
 use Rattle.roster.specs.State.{State}
 use Rattle.writing.specs.Kept.{KeepOthers}
 use Rattle.writing.specs.Outcomes.{CrashAddsOnly, CrashLeaves}
-use Rattle.book.specs.Kept.{HasTables, IsDurablyAt, IsClean, Kept, StillHasTables}
+use Rattle.book.specs.Kept.{HasTables, IsDurablyAt, IsClean, Kept}
 use Rattle.http_message.specs.Heading.{heading}
 use Rattle.http_message.specs.Plan.{Planned, plan_for_head}
 use Rattle.http_message.specs.Reading.{HasHead, HasNoHead}
@@ -26,11 +26,11 @@ use Rattle.http_exchange.specs.declared.handler.HandlerFault.{HandlerFault}
 use Rattle.http_exchange.specs.declared.handler.HandlerFault.TheVariants.{Store, Memory}
 use Rattle.http_exchange.specs.declared.sending.ChannelFault.{ChannelFault}
 use Rattle.http_exchange.specs.declared.sending.ChannelFault.TheVariants.{Reader, Writer}
-use Rattle.web.specs.Acts.{Asks, Commands}
+use Rattle.web.specs.Acts.{Asks, Commands, IsAnsweredShut}
 use Rattle.web.specs.Handling.{IsDone, IsHandled}
 use Rattle.web.specs.Response.{IsFinal, Response, no_head}
-use Rattle.web.specs.Serving.{AsksOnce, IsBegun, IsBegunOf, IsBrokenOff, IsGiven, IsLeftBy, IsMemoryTold, IsRequestFor, IsServed, IsStoreTold}
-use Rattle.web.proofs.Handled.{or_false, still, still_honest}
+use Rattle.web.specs.Serving.{AsksOnce, IsBegun, IsBegunOf, IsBrokenOff, IsGiven, IsLeftBy, IsMemoryTold, IsRequestFor, IsServed, IsServedShut, IsStoreTold, StillMeans}
+use Rattle.web.proofs.Handled.{or_false, still_honest, still_means}
 
 or_true : (b : Bool) → IsTrue (b || true)
 or_true true = refl
@@ -49,7 +49,7 @@ module _ {S : Type 0} (g : Ghosts S) where
         let all : take (length commands) commands ≡ commands = take_all (length commands) commands (omega arith) in (
           length commands,
           subst (λ l. IsDurablyAt g new (Fold s l)) (sym all) done,
-          λ t. subst (λ l. StillHasTables g new (Fold s l)) (sym all) (still g new (Fold s commands) (tables t)),
+          λ t. subst (λ l. StillMeans g old new (Fold s l)) (sym all) (still_means g old new (Fold s commands) (tables t)),
         )
 
     -- ---- what is left by a request, whatever was told
@@ -213,16 +213,16 @@ module _ {S : Type 0} (g : Ghosts S) where
 
     -- ---- a channel that failed
 
-    broken_at : (input : List ℕ) → exchange.IsExchangeBrokenOff handles (Some input) old new Writer → IsBrokenOff g s (Some input) old new Writer
-    broken_at input (inl same) = inl same
-    broken_at input (inr (h, rest, head, may)) = go (asks (plan_for_head (heading h)).step rest) refl may
+    broken_at : (input : List ℕ) (out out' : ChannelBytes) → exchange.IsExchangeBrokenOff handles (Some input) out out' old new Writer → IsBrokenOff g s (Some input) out out' old new Writer
+    broken_at input out out' (inl same) = inl same
+    broken_at input out out' (inr (h, rest, head, may)) = go (asks (plan_for_head (heading h)).step rest) refl may
       where
-        go : (a : Result HandlerRequest RequestFault) → asks (plan_for_head (heading h)).step rest ≡ a → exchange.MayHaveAsked handles a old new → IsBrokenOff g s (Some input) old new Writer
+        go : (a : Result HandlerRequest RequestFault) → asks (plan_for_head (heading h)).step rest ≡ a → exchange.MayHaveAsked handles a old new → IsBrokenOff g s (Some input) out out' old new Writer
         go (Err fault) is same = inl same
         go (Ok asked) is (inl same) = inl same
         go (Ok asked) is (inr (answer, it)) = by (left_by asked answer it)
           where
-            by : (new ≡ old) ⊎ ((commands : Commands) × Asks asked commands × IsLeftBy g s old new commands) → IsBrokenOff g s (Some input) old new Writer
+            by : (new ≡ old) ⊎ ((commands : Commands) × Asks asked commands × IsLeftBy g s old new commands) → IsBrokenOff g s (Some input) out out' old new Writer
             by (inl same) = inl same
             by (inr did) = inr (
               plan_for_head (heading h),
@@ -233,15 +233,15 @@ module _ {S : Type 0} (g : Ghosts S) where
               did.2,
             )
 
-    broken_so : (had : ChannelBytes) (fault : ChannelFault) → exchange.IsExchangeBrokenOff handles had old new fault → IsBrokenOff g s had old new fault
-    broken_so had Reader said = said
-    broken_so None Writer said = tt
-    broken_so (Some input) Writer said = broken_at input said
+    broken_so : (had out out' : ChannelBytes) (fault : ChannelFault) → exchange.IsExchangeBrokenOff handles had out out' old new fault → IsBrokenOff g s had out out' old new fault
+    broken_so had out out' Reader said = said
+    broken_so None out out' Writer said = tt
+    broken_so (Some input) out out' Writer said = broken_at input out out' said
 
-    pub broken_off : (had : ChannelBytes) (r : Result Served ChannelFault) → IfErr r (λ fault. exchange.IsExchangeBrokenOff handles had old new fault)
-        → IfErr r (λ fault. IsBrokenOff g s had old new fault)
-    broken_off had (Ok it) said = tt
-    broken_off had (Err fault) said = broken_so had fault said
+    pub broken_off : (had out out' : ChannelBytes) (r : Result Served ChannelFault) → IfErr r (λ fault. exchange.IsExchangeBrokenOff handles had out out' old new fault)
+        → IfErr r (λ fault. IsBrokenOff g s had out out' old new fault)
+    broken_off had out out' (Ok it) said = tt
+    broken_off had out out' (Err fault) said = broken_so had out out' fault said
 
     -- ---- whatever the input is
 
@@ -258,9 +258,47 @@ module _ {S : Type 0} (g : Ghosts S) where
     honest (inr (asked, (answer, it))) fair = it.kept.honest s at fair
 
   module _ (old new : Kept S) where
-    pub shut : exchange.AsksHandlerOnce handles old new → IsTrue old.failed → new ≡ old
-    shut (inl same) failed = same
-    shut (inr (asked, (answer, it))) failed = it.kept.shut failed
+    pub unchanged_if_shut : exchange.AsksHandlerOnce handles old new → IsTrue old.failed → new ≡ old
+    unchanged_if_shut (inl same) failed = same
+    unchanged_if_shut (inr (asked, (answer, it))) failed = it.kept.shut failed
+
+    -- ---- what a book that has failed answers
+
+    module _ (failed : IsTrue old.failed) where
+      abbrev shut : Kept S → Kept S → HandlerRequest → Result StatusText HandlerFault → Type 0
+      shut was now asked answer = IsAnsweredShut asked answer
+
+      settled_shut : (a : Result HandlerRequest RequestFault) (front : List ℕ) (is_head : Bool) (out out' : ChannelBytes) (code : ℕ)
+          → exchange.IsSettled handles a front is_head out out' old new code → exchange.IsSettled shut a front is_head out out' old new code
+      settled_shut (Err fault) front is_head out out' code it = it
+      settled_shut (Ok asked) front is_head out out' code (answer, it, told) = (answer, it.shut failed, told)
+
+      short_shut : (rest : List ℕ) (is_head : Bool) (left out out' : ChannelBytes) (code : ℕ)
+          → exchange.IsShort handles rest is_head left out out' old new code → exchange.IsShort shut rest is_head left out out' old new code
+      short_shut rest is_head left out out' code it = record { left_is = it.left_is; unasked = it.unasked; sent = it.sent }
+
+      responds_shut : (p : Planned) (rest : List ℕ) (left out out' : ChannelBytes) (code : ℕ)
+          → exchange.Responds handles p (Some rest) left out out' old new code → exchange.Responds shut p (Some rest) left out out' old new code
+      responds_shut p rest left out out' code (inl it) =
+          inl (record { left_is = it.left_is; settled = settled_shut (asks p.step rest) (interim p.step) p.is_head out out' code it.settled })
+      responds_shut p rest left out out' code (inr it) = inr (short_shut rest p.is_head left out out' code it)
+
+      input_shut : (input : List ℕ) (left out out' : ChannelBytes) (it : Served)
+          → exchange.IsExchangeServedOf handles input left out out' old new it → exchange.IsExchangeServedOf shut input left out out' old new it
+      input_shut input left out out' Nothing said = said
+      input_shut input left out out' (Answered code) (some, inl (none, told)) = (some, inl (none, settled_shut (Err NoHead) [] false out out' code told))
+      input_shut input left out out' (Answered code) (some, inr (inl (h, rest, head, it))) =
+          (some, inr (inl (h, rest, head, responds_shut (plan_for_head (heading h)) rest left out out' code it)))
+      input_shut input left out out' (Answered code) (some, inr (inr it)) = (some, inr (inr (short_shut (drop 1 input) false left out out' code it)))
+
+      served_shut_so : (had left out out' : ChannelBytes) (it : Served) → exchange.IsExchangeServed handles had left out out' old new it → IsServedShut had left out out' old new it
+      served_shut_so None left out out' it said = tt
+      served_shut_so (Some input) left out out' it said = input_shut input left out out' it said
+
+      pub served_shut : (had left out out' : ChannelBytes) (r : Result Served ChannelFault) → IfOk r (λ it. exchange.IsExchangeServed handles had left out out' old new it)
+          → IfOk r (λ it. IsServedShut had left out out' old new it)
+      served_shut had left out out' (Ok it) said = served_shut_so had left out out' it said
+      served_shut had left out out' (Err fault) said = tt
 
     pub clean : exchange.AsksHandlerOnce handles old new → IsClean g new → IsClean g old
     clean (inl same) now = subst (λ b. IsClean g b) same now

@@ -1,5 +1,5 @@
 -- What a request comes to in a book: the commands that it asks, and what it is answered.
-use Rattle.std.specs.Prelude.{◌≡◌, ◌⊎◌, ℕ, List, [], ◌∷◌, Option, Some, None, Result, Ok, Err}
+use Rattle.std.specs.Prelude.{◌≡◌, ◌⊎◌, ⊤, ℕ, List, [], ◌∷◌, Option, Some, None, Result, Ok, Err}
 use Rattle.duty.specs.Plans.{Plan}
 use Rattle.command.specs.declared.instruction.Instruction.{Instruction}
 use Rattle.stored_json.specs.declared.fault.CodecFault.{CodecFault}
@@ -17,6 +17,8 @@ use Rattle.http_message.specs.Plan.{Subject, crew, pairing, exceedances}
 use Rattle.http_message.specs.declared.plan.Submission.TheVariants.{Command, Import}
 use Rattle.http_exchange.specs.Handler as http
 use Rattle.http_exchange.specs.Handler.{StatusText, submit}
+use Rattle.http_exchange.specs.declared.handler.HandlerFault.{HandlerFault}
+use Rattle.http_exchange.specs.declared.handler.HandlerFault.TheVariants as fault
 use Rattle.web.specs.Answers.{IsAbsent, command_answer, fault_answer, parts_answer, report_answer}
 
 -- commands under their keys
@@ -64,3 +66,23 @@ module _ (s : State) where
       ((plans : List Plan) × IsSchedule body plans × (answer ≡ parts_answer (Replies s (import number plans))))
       ⊎ ((line : ℕ) × IsAtFault body line × (answer ≡ fault_answer (BadCsv line)))
   IsAnswer (http.show what) answer = (shown : Option (List ℕ)) × IsShown s (show_of what) shown × IsReport what shown answer
+
+-- ---- a book that has failed
+
+-- why a body isn't read, which is told in whichever state the book is
+abbrev pub IsToldUnread : http.HandlerRequest → StatusText → Type 0
+IsToldUnread (submit Command body) answer = (fault : CodecFault) × (read_request body ≡ Err fault) × (answer ≡ fault_answer fault)
+IsToldUnread (submit (Import number) body) answer = (line : ℕ) × IsAtFault body line × (answer ≡ fault_answer (BadCsv line))
+IsToldUnread (http.show what) answer = ⊥
+
+-- a command or a schedule that is read, or a report
+abbrev pub IsRead : http.HandlerRequest → Type 0
+IsRead (submit Command body) = (number : ℕ) × (instruction : Instruction) × (read_request body ≡ Ok (number, instruction))
+IsRead (submit (Import number) body) = (plans : List Plan) × IsSchedule body plans
+IsRead (http.show what) = ⊤
+
+-- what a book that has failed answers: why a body isn't read, and to what is read that its store failed; or that there was no memory
+abbrev pub IsAnsweredShut : http.HandlerRequest → Result StatusText HandlerFault → Type 0
+IsAnsweredShut asked (Ok answer) = IsToldUnread asked answer
+IsAnsweredShut asked (Err fault.Store) = IsRead asked
+IsAnsweredShut asked (Err fault.Memory) = ⊤

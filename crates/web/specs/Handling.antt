@@ -25,8 +25,9 @@ use Rattle.store.specs.declared.show.Show.TheVariants.{Crew, Pairing, Exceedance
 use Rattle.http_exchange.specs.Handler.{StatusText, HandlerRequest}
 use Rattle.http_exchange.specs.declared.handler.HandlerFault.{HandlerFault}
 use Rattle.http_exchange.specs.declared.handler.HandlerFault.TheVariants.{Store, Memory}
-use Rattle.web.specs.Acts.{Asks, Commands, IsAnswer}
+use Rattle.web.specs.Acts.{Asks, Commands, IsAnswer, IsAnsweredShut}
 use Rattle.web.specs.Answers.{TellsAnswer, command_answer, handler_fault_of, json, parts_answer, report_answer}
+use Rattle.web.specs.Serving.{IsBegun, StillMeans}
 
 -- ---- what is told of what the book did
 
@@ -77,13 +78,18 @@ answers_store_fault (Ok answer) = false
 answers_store_fault (Err Store) = true
 answers_store_fault (Err Memory) = false
 
+-- there is no answer
+abbrev pub IsUnanswered : Result StatusText HandlerFault → Type 0
+IsUnanswered (Ok answer) = ⊥
+IsUnanswered (Err fault) = ⊤
+
 module _ {S : Type 0} (g : Ghosts S) (old new : Kept S) where
   -- what the commands leave, of which all were done; or of which the store failed at one, which is in doubt; or of which there was no
   -- memory for one, or to tell what they were answered
   abbrev pub IsLeftByCommands : State → Commands → Result StatusText HandlerFault → Type 0
   IsLeftByCommands s commands (Ok answer) = IsDurablyAt g new (Fold s commands) × (HasTables g old s → HasTables g new (Fold s commands))
   IsLeftByCommands s commands (Err Store) = (n : ℕ) × IsInDoubt g new (Fold s (take n commands)) (Fold s (take (n + 1) commands))
-  IsLeftByCommands s commands (Err Memory) = (n : ℕ) × IsDurablyAt g new (Fold s (take n commands)) × (HasTables g old s → StillHasTables g new (Fold s (take n commands)))
+  IsLeftByCommands s commands (Err Memory) = IsBegun g s old new commands
 
   -- the request was answered as it is in this state, or where it wasn't, what it asks was begun, or nothing was asked
   abbrev pub IsDone : State → HandlerRequest → Result StatusText HandlerFault → Type 0
@@ -103,6 +109,7 @@ module _ {S : Type 0} (g : Ghosts S) (old new : Kept S) where
   -- the book was handed a request, and gave this result
   pub record IsHandled (asked : HandlerRequest) (result : Result StatusText HandlerFault) : Type 0 where
     pub kept : HoldsWhateverIsAsked result
+    pub shut : IsTrue old.failed → IsAnsweredShut asked result
     pub done : (s : State) → IsDurablyAt g old s → IsDone s asked result
 
   -- ---- commands
@@ -114,12 +121,13 @@ module _ {S : Type 0} (g : Ghosts S) (old new : Kept S) where
       × (IsDurablyAt g new (folds.next s asked) × (HasTables g old s → HasTables g new (folds.next s asked)))
   IsAskedIn s asked (Err Store) = IsInDoubt g new s (folds.next s asked)
   IsAskedIn s asked (Err Memory) =
-      (IsDurablyAt g new s × (HasTables g old s → StillHasTables g new s))
-      ⊎ (IsDurablyAt g new (folds.next s asked) × (HasTables g old s → StillHasTables g new (folds.next s asked)))
+      (IsDurablyAt g new s × (HasTables g old s → StillMeans g old new s))
+      ⊎ (IsDurablyAt g new (folds.next s asked) × (HasTables g old s → StillMeans g old new (folds.next s asked)))
 
   -- a command was asked, in whichever state the book was; with what is said whatever is asked
   pub record IsCommandAsked (asked : folds.Asked) (result : Result StatusText HandlerFault) : Type 0 where
     pub kept : HoldsWhateverIsAsked result
+    pub shut : IsTrue old.failed → IsUnanswered result
     pub done : (s : State) → IsDurablyAt g old s → IsAskedIn s asked result
 
   -- ---- imports
@@ -132,4 +140,5 @@ module _ {S : Type 0} (g : Ghosts S) (old new : Kept S) where
   -- pairings were added, in whichever state the book was; with what is said whatever is asked
   pub record AreAdded (number : ℕ) (plans : List Plan) (result : Result StatusText HandlerFault) : Type 0 where
     pub kept : HoldsWhateverIsAsked result
+    pub shut : IsTrue old.failed → IsUnanswered result
     pub done : (s : State) → IsDurablyAt g old s → AreAddedIn s (import number plans) result

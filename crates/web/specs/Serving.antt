@@ -2,21 +2,23 @@
 use Rattle.std.specs.Prelude.{◌≡◌, ◌⊎◌, ◌<◌, ⊤, ℕ, ◌+◌, false, IsTrue, List, [], ◌++◌, length, drop, take, Option, Some, None, Result, Ok, Err}
 use Rattle.std.specs.Io.KnownBytes.{Appends}
 use Rattle.httparse.specs.Grammar.{RequestHead}
+use Rattle.sqlite.specs.Held.{state}
 use Rattle.sqlite_trees.specs.declared.store.Store.{Ghosts}
 use Rattle.roster.specs.Folds.{Fold}
 use Rattle.roster.specs.State.{State}
+use Rattle.writing.specs.Outcomes.{StaysOpen}
 use Rattle.book.specs.Kept.{HasTables, IsDurablyAt, IsInDoubt, Kept, StillHasTables}
 use Rattle.http_message.specs.Heading.{heading}
 use Rattle.http_message.specs.Plan.{Planned, plan_for_head}
 use Rattle.http_message.specs.Reading.{HasHead, HasNoHead}
 use Rattle.http_message.specs.Response.{no_memory, no_store}
-use Rattle.http_exchange.specs.Exchange.{ChannelBytes, asks, interim, unread}
+use Rattle.http_exchange.specs.Exchange.{ChannelBytes, IsInterimAtMost, IsExchangeServed, asks, interim, unread}
 use Rattle.http_exchange.specs.Handler.{HandlerRequest}
 use Rattle.http_exchange.specs.declared.exchanges.Served.{Served}
 use Rattle.http_exchange.specs.declared.exchanges.Served.TheVariants.{Answered, Nothing}
 use Rattle.http_exchange.specs.declared.sending.ChannelFault.{ChannelFault}
 use Rattle.http_exchange.specs.declared.sending.ChannelFault.TheVariants.{Reader, Writer}
-use Rattle.web.specs.Acts.{Asks, Commands}
+use Rattle.web.specs.Acts.{Asks, Commands, IsAnsweredShut}
 use Rattle.web.specs.Response.{IsResponse, Response, bytes}
 
 -- the input asks these commands: its head, by its plan and what stands after it, is a request that asks them
@@ -32,10 +34,14 @@ abbrev pub IsUnread : Option (List ℕ) → ChannelBytes → Type 0
 IsUnread None left = ⊤
 IsUnread (Some rest) left = left ≡ Some rest
 
+-- its tables mean this state as long as the connection is open, as it still is unless the disk failed or refused a call
+abbrev pub StillMeans : {S : Type 0} → Ghosts S → Kept S → Kept S → State → Type 0
+StillMeans g old new s = StillHasTables g new s × StaysOpen (state g old.held) (state g new.held)
+
 module _ {S : Type 0} (g : Ghosts S) (s : State) where
-  -- the commands were done up to some of them; that is what is shown, as long as the connection is open
+  -- the commands were done up to some of them, and that is what the tables mean
   abbrev pub IsBegun : Kept S → Kept S → Commands → Type 0
-  IsBegun old new commands = (n : ℕ) × IsDurablyAt g new (Fold s (take n commands)) × (HasTables g old s → StillHasTables g new (Fold s (take n commands)))
+  IsBegun old new commands = (n : ℕ) × IsDurablyAt g new (Fold s (take n commands)) × (HasTables g old s → StillMeans g old new (Fold s (take n commands)))
 
   -- the store failed at one of them, which is done or not
   abbrev pub IsInDoubtAtOne : Kept S → Commands → Type 0
@@ -107,13 +113,17 @@ module _ {S : Type 0} (g : Ghosts S) (s : State) where
   abbrev pub IsLeftBy : Kept S → Kept S → Commands → Type 0
   IsLeftBy old new commands = IsBegun old new commands ⊎ (IsTrue new.failed × IsInDoubtAtOne new commands)
 
-  -- where the reader failed, nothing was asked; where the writer did, at most what the input asks
-  abbrev pub IsBrokenOff : ChannelBytes → Kept S → Kept S → ChannelFault → Type 0
-  IsBrokenOff had old new Reader = new ≡ old
-  IsBrokenOff None old new Writer = ⊤
-  IsBrokenOff (Some input) old new Writer =
+  -- where the reader failed, nothing was asked, and no response is written; where the writer did, at most what the input asks was asked
+  abbrev pub IsBrokenOff : ChannelBytes → ChannelBytes → ChannelBytes → Kept S → Kept S → ChannelFault → Type 0
+  IsBrokenOff had out out' old new Reader = (new ≡ old) × IsInterimAtMost had out out'
+  IsBrokenOff None out out' old new Writer = ⊤
+  IsBrokenOff (Some input) out out' old new Writer =
       (new ≡ old) ⊎ ((p : Planned) × (rest : List ℕ) × (asked : HandlerRequest) × (commands : Commands) × IsRequestFor input p rest asked commands × IsLeftBy old new commands)
 
   -- whatever the input is: nothing was asked, or the commands of one request
   abbrev pub AsksOnce : Kept S → Kept S → Type 0
   AsksOnce old new = (new ≡ old) ⊎ ((asked : HandlerRequest) × (commands : Commands) × Asks asked commands × IsLeftBy old new commands)
+
+-- what an input is served by a book that has failed: it tells why a body isn't read, and that its store failed to what is read
+abbrev pub IsServedShut : {S : Type 0} → ChannelBytes → ChannelBytes → ChannelBytes → ChannelBytes → Kept S → Kept S → Served → Type 0
+IsServedShut had left out out' old new it = IsExchangeServed (λ was now asked told. IsAnsweredShut asked told) had left out out' old new it

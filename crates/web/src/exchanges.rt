@@ -45,7 +45,8 @@ impl<S: Alter> Handler<Book<S>> for BookHandler {
 
 /// Reads a request, has the book answer it, and writes the response (RFC 9112): a command, a schedule to be imported, or a report.
 /// Nothing is read past the head and the body that it announces. Where the book's store fails (90) or no memory is found (91), 503
-/// tells so; after 91 the request may be made again, under its number.
+/// tells so; after 91 the request may be made again, under its number. A book that has failed does nothing more: a body that isn't
+/// read is refused all the same, and what is read gets 503 (90).
 pub fn exchange<R: Read, W: Write, S: Alter>(
     alloc: Global,
     reader: &mut R,
@@ -58,12 +59,15 @@ pub fn exchange<R: Read, W: Write, S: Alter>(
         (λ it. spec.IsServed S.Store s (R.remaining reader.old) (R.remaining reader.new)
         (W.contents writer.old) (W.contents writer.new) book.old book.new it) }
     ensures broken_off { (s : State) → IsDurablyAt S.Store book.old s → IfErr result
-        (λ fault. spec.IsBrokenOff S.Store s (R.remaining reader.old) book.old book.new fault) }
+        (λ fault. spec.IsBrokenOff S.Store s (R.remaining reader.old)
+        (W.contents writer.old) (W.contents writer.new) book.old book.new fault) }
     ensures once { (s : State) → IsDurablyAt S.Store book.old s
         → spec.AsksOnce S.Store s book.old book.new }
 
     // A book that has failed, the disk, and an honest book.
-    ensures shut { IsTrue book.old.failed → book.new ≡ book.old }
+    ensures shut { IsTrue book.old.failed → (book.new ≡ book.old) × IfOk result
+        (λ it. spec.IsServedShut (R.remaining reader.old) (R.remaining reader.new)
+        (W.contents writer.old) (W.contents writer.new) book.old book.new it) }
     ensures disk { IsClean S.Store book.new → IsClean S.Store book.old }
     ensures honest { (s : State) → IsDurablyAt S.Store book.old s → Honest s
         → CrashLeaves (state S.Store book.new.held) Honest }

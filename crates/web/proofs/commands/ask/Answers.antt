@@ -6,4 +6,4 @@ pub returns : goal.returns
 returns g c =
     let asked = c.ask-answer.ensures in
     asked_by g.S.Store c.args.book.now c.ask-answer.new.self (c.args.key, c.args.command.now) c.ask-answer.result (answer_or_fault c.told.result) c.told.ensures
-    asked.failed asked.shut asked.disk asked.reply asked.answered asked.shown asked.memory asked.store asked.still_shown asked.honest asked.others_left
+    asked.failed asked.shut asked.disk asked.reply asked.answered asked.shown asked.memory asked.store asked.still_shown asked.honest asked.others_left asked.still_open

@@ -10,4 +10,4 @@ pub returns : goal.returns
 returns g c =
     let run = c.run-run.ensures in
     added_by g.S.Store c.args.book.now c.run-run.new.self c.args.number c.args.pairings.items c.deref.result.now c.run-run.result.answers.items c.run-run.result.fault
-    (answer_or_fault c.told_parts.result) (c.deref.ensures.value ∙ c.in-Ok.ensures) c.told_parts.ensures run.failed run.shut run.disk run.whole run.replies run.outcome run.shown run.still_shown run.honest run.others_left
+    (answer_or_fault c.told_parts.result) (c.deref.ensures.value ∙ c.in-Ok.ensures) c.told_parts.ensures run.failed run.shut run.disk run.whole run.replies run.outcome run.shown run.still_shown run.honest run.others_left run.still_open
