@@ -9,8 +9,9 @@
 # before and started again after; whoever asks it meanwhile finds nobody there, and asks again. A copy is read whole, by `sqlite3`
 # and by `rosterbook`, before it gets its name.
 #
-# To put a copy back: stop the service, move BOOK and BOOK-wal away, copy the copy to BOOK, start the service, and hand in again what
-# was accepted since.
+# To put a copy back: stop the service, move BOOK and BOOK-wal away, run "install -o rosterbook -g rosterbook -m 600 COPY BOOK" (where the
+# user of the service is rosterbook), start the service, and hand in again, in their order and under their numbers, the lines and schedules
+# that were accepted since. So keep all that you send.
 set -eu
 if [ $# -lt 2 ] || [ $# -gt 3 ]; then
     echo "usage: ${0##*/} BOOK FOLDER [SERVICE]" >&2
