@@ -20,7 +20,7 @@ pub record IsAfter (s : State) (before : List Session) (l : List Asked) (n : ℕ
   pub left : t ≡ Stopped s (before ++ session ∷ [])
   pub kept : IsKept t
 
--- one command as such a call
+-- how many answers the result of one command is
 abbrev pub count_of : {A : Type 0} → Result A StoreFault → ℕ
 count_of (Ok a) = 1
 count_of (Err fault) = 0

@@ -1,4 +1,4 @@
-//! Tests of single calls over values: calls of the crates from `values` to `report` that find no memory, and copies of values.
+//! Tests of single calls over values: calls of the crates from `values` to `codec` that find no memory, and copies of values.
 #![tactic(auto)]
 
 #[cfg(test)]

@@ -53,7 +53,7 @@ pub const LATE: &str = "{\"do\":\"actual\",\"pairing\":\"P1\",\"period\":1,\
 /// A request's number, and the text of its command.
 pub type Line = (u8, &'static str);
 
-/// What a new roster is asked. It accepts orders of all nine kinds, of which C1 and C2 exchange their pairings before P1 is flown;
+/// What a new roster is asked. It accepts commands of all nine kinds, of which C1 and C2 exchange their pairings before P1 is flown;
 /// repeats two of its replies; and then refuses: a number is held, a member isn't there, would have too little rest, and has a duty
 /// at that time.
 pub const REQUESTS: [Line; 24] = [

@@ -1,4 +1,4 @@
--- Which orders are refused before the book looks at them, and with which fault. Shapes of texts come first, in the order
+-- Which instructions are refused before the book looks at them, and with which fault. Shapes of texts come first, in the order
 -- of the fields; an actual's count and times come after the shape of its pairing's id.
 use Rattle.std.specs.Prelude.{◌≡◌, ◌≤◌, not, [], ◌∷◌, map, Option, None}
 use Rattle.std.specs.Str.{bytes_eq}

@@ -81,18 +81,21 @@ impl Actual {
         self.period
     }
 
+    /// Returns the report.
     pub fn report(&self) -> Minute
         ensures { result ≡ self.now.report }
     {
         self.report
     }
 
+    /// Returns the release.
     pub fn release(&self) -> Minute
         ensures { result ≡ self.now.release }
     {
         self.release
     }
 
+    /// Returns block-out and block-in of each segment, in their order.
     pub fn segments(&self) -> &[BlockTimes]
         ensures { result.now ≡ self.now.segments }
     {

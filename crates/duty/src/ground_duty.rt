@@ -77,6 +77,7 @@ impl Ground {
         })
     }
 
+    /// Returns the id.
     pub fn id(&self) -> &GroundId
         ensures id { result.now ≡ self.now.id }
         ensures sound { ground_fault self.now ≡ None }
@@ -84,12 +85,14 @@ impl Ground {
         &self.id
     }
 
+    /// Returns whose duty it is.
     pub fn crew(&self) -> &CrewId
         ensures { result.now ≡ self.now.crew }
     {
         &self.crew
     }
 
+    /// Returns the first minute of the duty.
     pub fn begin(&self) -> Minute
         ensures { result ≡ self.now.begin }
     {
@@ -103,6 +106,7 @@ impl Ground {
         self.end
     }
 
+    /// Returns what the duty is.
     pub fn task(&self) -> &Text
         ensures { result.now ≡ self.now.task }
     {

@@ -52,6 +52,7 @@ impl Pairing {
         })
     }
 
+    /// Returns the id.
     pub fn id(&self) -> &PairingId
         ensures id { result.now ≡ self.now.id }
         ensures sound { pairing_fault self.now ≡ None }

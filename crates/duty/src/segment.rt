@@ -97,7 +97,7 @@ impl Timed for BlockTimes {
     }
 }
 
-/// When a segment was really flown.
+/// Block-out and block-in of a segment (14 CFR 1.1, flight time), as planned or as flown.
 #[derive(Clone, Copy, Debug, PartialEq, Eq)]
 pub struct BlockTimes {
     pub block_out: Minute,

@@ -26,11 +26,11 @@ first_or_other None other = other
 abbrev pub exactly : List ℕ → List ℕ → Option (List ℕ)
 exactly name path = if bytes_eq name path then Some [] else None
 
--- the resource with its id, by the paths of the table
+-- a resource with its id, if there is one
 abbrev pub route_with_id : Route → Option (List ℕ) → Option (Route × List ℕ)
 route_with_id route id = option_map (λ id. (route, id)) id
 
--- what a path names, and the id or the number in it
+-- what a path names by the table of paths, and the id or the number in it
 abbrev pub route_of_path : List ℕ → Option (Route × List ℕ)
 route_of_path path =
     first_or_other (route_with_id Requests (exactly (codes "/requests") path))

@@ -16,11 +16,11 @@ use Rattle.tables.specs.declared.period.PeriodRecord.{PeriodRecord}
 use Rattle.tables.specs.declared.segment.SegmentRecord.{SegmentRecord}
 use Rattle.state_rows.specs.Rows.{times_flown}
 
--- the names of the keys: so periods are in the order of pairing and number, and segments of pairing, period and number
+-- the name of a period's key: so periods are in the order of pairing and number
 abbrev pub period_name : List ℕ → ℕ → List ℕ
 period_name pairing number = text_then pairing (number ∷ [])
 
--- the name of a segment's key
+-- the name of a segment's key: so segments are in the order of pairing, period and number
 abbrev pub segment_name : List ℕ → ℕ → ℕ → List ℕ
 segment_name pairing period number = text_then pairing (period ∷ number ∷ [])
 

@@ -83,13 +83,13 @@ abbrev pub line_of_times : List ℕ → ℕ → List ℕ → Result Line LineFau
 line_of_times zone report times =
     if not (is_block_time_count (length times)) then Err SegmentCount else line_of_fdp zone (fdp_of report times)
 
--- the instants that texts give in turn, up to the first that gives none
+-- an instant before those that follow it, or the first fault
 abbrev pub then_instant : Result ℕ TimeFault → Result (List ℕ) TimeFault → Result (List ℕ) TimeFault
 then_instant (Err fault) rest = Err fault
 then_instant (Ok time) (Err fault) = Err fault
 then_instant (Ok time) (Ok times) = Ok (time ∷ times)
 
--- the instants of a list of texts
+-- the instants that texts give in turn, up to the first that gives none
 abbrev pub read_instants : List (List ℕ) → Result (List ℕ) TimeFault
 read_instants [] = Ok []
 read_instants (text ∷ texts) = then_instant (read_instant text) (read_instants texts)
@@ -105,7 +105,7 @@ line_of_read zone (Err fault) times = Err (Time fault)
 line_of_read zone (Ok report) (Err fault) = Err (Time fault)
 line_of_read zone (Ok report) (Ok times) = line_of_times zone report times
 
--- the line of the four texts of `rosterbook duty`
+-- the line of the texts of `rosterbook duty`: a zone, a report and times
 abbrev pub line_of : List ℕ → List ℕ → List (List ℕ) → Result Line LineFault
 line_of zone report times =
     if is_zone_text zone then line_of_read zone (read_instant report) (read_instants times) else Err Zone

@@ -20,7 +20,7 @@ holder_text (Some crew) = crew
 abbrev pub seat_line : List ℕ → Option (List ℕ) → List ℕ
 seat_line seat holder = seat ++ codes " " ++ holder_text holder ++ codes "\n"
 
--- the times in force
+-- the line of a period: its number, whether it is planned or flown, and its times in force
 abbrev pub pairing_period_line : ℕ → PeriodInForce → List ℕ
 pairing_period_line number p =
     (decimal number ++ codes " " ++ word p)

@@ -32,7 +32,7 @@ left_by s (Repeat reply) = s
 left_by s (Accept change reply) = after s change
 left_by s (Refuse refusal) = s
 
--- the state after one command, and after each of a list in turn
+-- the state after one command
 abbrev pub next : State → Asked → State
 next s (key, instruction) = left_by s (step_of s key instruction)
 

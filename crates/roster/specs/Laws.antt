@@ -105,7 +105,7 @@ KeepsHonest = (s : State) (key : KeyParts) (instruction : Instruction) (change :
 abbrev pub AreMade : List Asked → Type 0
 AreMade asked = (a : Asked) → Contains asked a → IsMade a.1
 
--- so does every list of commands
+-- a list of commands leaves a sound book sound
 abbrev pub StaysSound : Type 0
 StaysSound = (s : State) (asked : List Asked) → AreMade asked → Sound s → Sound (Fold s asked)
 

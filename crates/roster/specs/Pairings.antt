@@ -26,7 +26,7 @@ abbrev pub with_holder : Seat → Option (List ℕ) → PairingEntry → Pairing
 with_holder Captain who r = record r { captain = who }
 with_holder FirstOfficer who r = record r { first_officer = who }
 
--- a seat is held; both are
+-- a seat is held
 abbrev pub is_crewed : PairingEntry → Bool
 is_crewed r = is_some r.captain || is_some r.first_officer
 

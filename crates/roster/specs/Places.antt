@@ -34,7 +34,7 @@ periods_at zone (id, r) = numbered zone id 1 (periods_in_force r)
 abbrev pub ground_at : List ℕ × GroundPlan → Placed
 ground_at (id, g) = (on_ground id, times.Ground (record { from = g.begin; to = g.end }))
 
--- a member's history: the periods of the pairings that the member holds, and the member's ground duties
+-- the periods of the pairings that a member holds, at their places
 abbrev pub periods_of : State → List ℕ → List Placed
 periods_of s who = flat_map (periods_at (zone_of s who)) (filter (λ row. holds who row.1) (fin.entries s.pairings))
 

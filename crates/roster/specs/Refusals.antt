@@ -48,7 +48,7 @@ holder_of_own_seat s id who = option_and_then (λ r. option_and_then (λ m. hold
 abbrev pub is_assigned : State → List ℕ → List ℕ → Bool
 is_assigned s id who = is_held_by who (holder_of_own_seat s id who)
 
--- a seat of the pairing is held; one is free; a period of it is flown
+-- a seat of the pairing is held
 abbrev pub has_holder : State → List ℕ → Bool
 has_holder s id = option_map_or is_crewed (fin.get s.pairings id) false
 

@@ -1,4 +1,4 @@
-//! How the program answers what a command line asks for, and how it ends. Its definition is `Answers`
+//! How the program answers what a command line asks for, and how it ends. Its definition is `PerformsAction`
 //! (`specs/Program.antt`).
 //! Each subcommand, and outputs that fail: `tests/program.sh`. Wrong bodies: `must-fail-more/`.
 ghost use Rattle.std.specs.Prelude.{◌≡◌, ◌≢◌, IfOk, IsErr};

@@ -119,7 +119,7 @@ InSegment s row = (at : At s.pairings) × (p : PeriodOf at.value) × (g : Segmen
 
 -- ---- The holders of seats
 
--- a row for each seat that is held: the pairing, the number of the seat, and the member who holds it
+-- a seat that is held, and the member who holds it
 pub record HeldSeat (r : PairingEntry) : Type 0 where
   pub seat : Seat
   pub crew : List ℕ
@@ -143,8 +143,7 @@ row_of_ground id g = ground_row (record { id = id; crew = g.crew; task = g.task;
 abbrev pub InGround : State → Row → Type 0
 InGround s row = (at : At s.grounds) × (row ≡ row_of_ground at.name at.value)
 
--- a row for each exceedance: number and part of the request that recorded it, the member, the number of the section,
--- and the period of the pairing in which it was
+-- an exceedance: the key that recorded it, the member, the section, and the period in which it was
 pub record ExceedanceAt (exceedances : fin.FinMap name_cmp PeriodId) : Type 0 where
   pub key : KeyParts
   pub crew : List ℕ
@@ -167,7 +166,7 @@ row_of_exceedance key crew section period = exceedance_row (record {
 abbrev pub InExceedance : State → Row → Type 0
 InExceedance s row = (at : ExceedanceAt s.exceedances) × (row ≡ row_of_exceedance at.key at.crew at.section at.period)
 
--- a row for each accepted command: number and part of its key, its kept text, and its reply as JSON
+-- a key that is held, with its command and reply
 pub record RequestAt (requests : fin.FinMap name_cmp LoggedCommand) : Type 0 where
   pub key : KeyParts
   pub kept : LoggedCommand

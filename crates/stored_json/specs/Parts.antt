@@ -67,7 +67,7 @@ read_segment d =
     with_part (read_named_part read_time (codes "in") d) (λ block_in.
     Some (record { flight = flight; from = origin; block_out = block_out; to = destination; block_in = block_in }))))))
 
--- as it is planned
+-- a period, as it is planned
 abbrev pub read_period : Data → Option Fdp
 read_period d =
     with_part (read_named_part read_time (codes "report") d) (λ report.

@@ -53,7 +53,7 @@ IsStored table db = AreNumbered (stored table db)
 
 -- ---- which rows: a test, where values are compared as SQL compares them, and columns count from 0
 
--- the columns from a place on, and the first columns, are these
+-- the columns from a place on are these
 abbrev pub begins_from : ℕ → List Value → Row → Bool
 begins_from at [] row = true
 begins_from at (v ∷ vs) row = is_eq (value_cmp (column row at) v) && begins_from (at + 1) vs row

@@ -16,7 +16,7 @@ abbrev pub strict_column : Bool → Kind → List ℕ → Column
 strict_column is_required kind name =
     record { name = name; kind = kind; is_strict = true; not_null = is_required; default = Null; collation = Binary }
 
--- a column of whole numbers, of texts, and of whole numbers that may be missing
+-- a column of whole numbers
 abbrev pub number : List ℕ → Column
 number = strict_column true Integer
 

@@ -26,7 +26,7 @@ pub record HasEmpty (tables : List BookTable) (db : Database) : Type 0 where
 abbrev pub MakesTables : List BookTable → List BookTable → Database → Database → Type 0
 MakesTables first second old new = (HasEmpty first old → HasEmpty second new) × KeepsPlain old new
 
--- the last made comes first
+-- the first three, the last made first
 abbrev pub first_tables : List BookTable
 first_tables = pairing_table ∷ crew_table ∷ book_table ∷ []
 

@@ -46,7 +46,7 @@ fn fill_both(
     }
 }
 
-/// Fills a table, whose keys come without an instruction.
+/// Fills a table, whose keys come in no order.
 pub fn fill(alloc: Global, told: &mut Told) -> Result<String, Fault> {
     let mut table = OrdMap::new(alloc);
     let mut other = OrdMap::new(alloc);

@@ -12,7 +12,7 @@ use std::alloc::Global;
 use std::test::Fail;
 use stored_json::read_canonical;
 
-/// Orders of all nine kinds, each under a number of its own.
+/// Commands of all nine kinds, each under a number of its own.
 const ACCEPTED: [Line; 20] = [
     (1, CAPTAIN),
     (2, OTHER_CAPTAIN),
