@@ -10,6 +10,7 @@ on standard error. The line before the last one says how many requests were cut.
 status 1 where M isn't 0.
 """
 
+import errno
 import http.client
 import os
 import resource
@@ -32,7 +33,7 @@ from exchanges import (
     refused, request_of, response, wire,
 )  # fmt: skip
 from office import PROGRAM, TOP, Book, Ran, build, order, schedule, told
-from server import LOOPBACK, free_port, receive, reset, run, serving
+from server import LOOPBACK, OTHER_ADDRESS, free_port, receive, reset, run, serving
 
 FAILED = "refused 92 Channel\n"  # what is told of a connection
 
@@ -447,6 +448,15 @@ def try_words(desk):
         desk.expect(f"port {port}, connections {connections}", (ran.status, ran.out, ran.err[:7]), (2, "", "error: "))
 
 
+def try_other_addresses(desk):
+    """The port is one of 127.0.0.1: who asks at another address of the machine finds nobody there."""
+    with serving(desk.book(), 1) as server:
+        nobody = ConnectionRefusedError(errno.ECONNREFUSED, os.strerror(errno.ECONNREFUSED))
+        desk.expect("at another address", server.exchange(HIRE, address=OTHER_ADDRESS), repr(nobody))
+        desk.expect("at its own", server.exchange(HIRE), response(200, ACCEPTED))
+        desk.expect("the end", server.end(), server.served())
+
+
 def try_full_output(desk):
     """A server that can't tell that it listens ends before it serves anybody."""
     with open("/dev/full", "w") as full:
@@ -625,8 +635,8 @@ def try_back_up(desk):
 
 TRIED = (
     try_exchanges, try_answers, try_hour, try_pieces, try_cuts, try_one_exchange, try_expectation, try_large_bodies, try_curl,
-    try_misbehaving, try_lost_answer, try_many_at_once, try_life, try_refused_books, try_words, try_full_output, try_full_errors, try_kill,
-    try_full_disk, try_full_disk_in_an_import, try_service, try_back_up, try_memory, try_silence,
+    try_misbehaving, try_lost_answer, try_many_at_once, try_life, try_refused_books, try_words, try_other_addresses, try_full_output,
+    try_full_errors, try_kill, try_full_disk, try_full_disk_in_an_import, try_service, try_back_up, try_memory, try_silence,
 )  # fmt: skip
 
 

@@ -18,6 +18,7 @@ from dataclasses import dataclass, field
 from office import PROGRAM, Ran
 
 LOOPBACK = "127.0.0.1"
+OTHER_ADDRESS = "127.0.0.2"  # of the same machine
 PATIENCE = 20  # seconds that a client waits for a byte, and the script for the server
 
 
@@ -76,15 +77,15 @@ class Server:
             self.out += more
         return True
 
-    def connect(self, patience=PATIENCE):
-        client = socket.create_connection((LOOPBACK, self.port), timeout=patience)
+    def connect(self, patience=PATIENCE, address=LOOPBACK):
+        client = socket.create_connection((address, self.port), timeout=patience)
         client.setsockopt(socket.IPPROTO_TCP, socket.TCP_NODELAY, 1)
         return client
 
-    def exchange(self, given, is_cut=False):
+    def exchange(self, given, is_cut=False, address=LOOPBACK):
         """All that it writes to a client that sends these bytes, and then ends its side if they are cut; or why that one got nothing."""
         try:
-            with self.connect() as client:
+            with self.connect(address=address) as client:
                 client.sendall(given)
                 if is_cut:
                     client.shutdown(socket.SHUT_WR)

@@ -1,4 +1,5 @@
-//! Tests of single calls over values: calls of the crates from `values` to `codec` that find no memory, and copies of values.
+//! Tests of single calls over values: calls of the crates from `values` to `codec` that find no memory, copies of values,
+//! and periods as they are flown.
 #![tactic(auto)]
 
 #[cfg(test)]
@@ -7,6 +8,8 @@ mod allocation;
 mod copies;
 #[cfg(test)]
 mod fault;
+#[cfg(test)]
+mod flown;
 #[cfg(test)]
 mod requests;
 #[cfg(test)]

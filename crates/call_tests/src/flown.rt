@@ -1,0 +1,67 @@
+//! What no run of the program shows of `duty`: that with ample memory a period is given the times at which it was flown, and is refused
+//! those of another number of segments.
+
+use crate::fault::Fault;
+use crate::requests::{LATE, P1, P2};
+use command::{Command, Instruction};
+use duty::{Actual, Fdp};
+use std::alloc::Global;
+use std::test::Fail;
+use stored_json::read_canonical;
+
+/// Whether a period has the times of an actual, and the planned report of another period.
+fn is_flown_so(flown: &Fdp, planned: &Fdp, actual: &Actual) -> bool {
+    flown.planned_report == planned.report
+        && flown.report == actual.report()
+        && flown.release == actual.release()
+        && flown
+            .segments
+            .as_slice()
+            .iter()
+            .zip(actual.segments())
+            .all(|(segment, times)| segment.block_out == times.block_out && segment.block_in == times.block_in)
+}
+
+/// How a period takes the times of an actual.
+fn told_of(alloc: Global, period: &Fdp, actual: &Actual) -> Result<String, Fault> {
+    match period.with_actual(alloc, actual) {
+        Ok(flown) if is_flown_so(&flown, period, actual) => Ok(String::from_str(alloc, "flown")?),
+        Ok(_) => Err(Fault::Otherwise),
+        Err(fault) => Ok(format!(in alloc; "{fault}")?),
+    }
+}
+
+/// How the first period of a command that adds a pairing takes the times of one that records an actual.
+fn told(alloc: Global, adding: &Command, recording: &Command) -> Result<String, Fault> {
+    let (Instruction::AddPairing(pairing), Instruction::Actual(_, actual)) =
+        (adding.instruction(), recording.instruction())
+    else {
+        return Err(Fault::Unmade);
+    };
+    match pairing.periods().first() {
+        Some(period) => told_of(alloc, period, actual),
+        None => Err(Fault::Unmade),
+    }
+}
+
+/// The same, of the texts that are kept of the commands.
+fn flown(alloc: Global, adding: &str, recording: &str) -> Result<String, Fault> {
+    let adding = read_canonical(alloc, adding)?;
+    let recording = read_canonical(alloc, recording)?;
+    let text = told(alloc, &adding, &recording);
+    drop(recording);
+    drop(adding);
+    text
+}
+
+#[test]
+fn a_period_is_flown(rt: HostRuntime) -> Result<(), Fail> {
+    assert_eq!(rt; flown(rt.alloc(), P1, LATE)?.as_str(), "flown");
+    Ok(())
+}
+
+#[test]
+fn another_number_of_segments_is_refused(rt: HostRuntime) -> Result<(), Fail> {
+    assert_eq!(rt; flown(rt.alloc(), P2, LATE)?.as_str(), "19 SegmentCount 1");
+    Ok(())
+}
