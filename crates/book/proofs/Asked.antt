@@ -66,6 +66,7 @@ did_not_read old new was wanted Memory read some keeps shown = record {
   some_left = some;
   others_left = adds_nothing_more old new _ read.left;
   faults = read.counts;
+  limit = read.limit;
   still_open = λ _. read.still_open;
   done = (still_keeps old new was read.left some keeps, shown_on old new was read.left.disk read.shown shown);
 }
@@ -74,6 +75,7 @@ did_not_read old new was wanted Store read some keeps shown = record {
   some_left = some;
   others_left = adds_nothing_more old new _ read.left;
   faults = read.counts;
+  limit = read.limit;
   still_open = λ no. absurd (cc);
   done = (one_of_either new was wanted (still_keeps old new was read.left some keeps), shown_on old new was read.left.disk read.shown shown);
 }
@@ -111,6 +113,7 @@ module _ (old mid new : conn.State) (was wanted : State) (read : ChangesNothing 
     some_left = did.some_left;
     others_left = others_after did.disk did.others_left;
     faults = omega (arith, read.counts, did.faults);
+    limit = did.limit ∙ read.limit;
     still_open = λ is. still_after did.disk (did.still_open is);
     done = after_read result did.done;
   }
@@ -124,6 +127,7 @@ did_nothing now was wanted keeps shown = record {
   some_left = keeps.some;
   others_left = adds_none now _;
   faults = omega arith;
+  limit = refl;
   still_open = λ _ clean is. inl is;
   done = (keeps, shown);
 }
@@ -135,12 +139,13 @@ did_answer now was wanted a keeps shown same = record {
   some_left = keeps.some;
   others_left = adds_none now _;
   faults = omega arith;
+  limit = refl;
   still_open = λ no. absurd (cc);
   done = (keeps_if now was wanted same keeps, holds_if now was wanted same shown, now_if now was wanted same);
 }
 
 module _ (old new : conn.State) (was : State) (change : Change) (keeps : Keeps old was) (held : StillHolds old was) (next : HasCleanDisk old → IsAcceptedChange was change) (clean : HasCleanDisk new → HasCleanDisk old) (some : CrashLeavesSome new)
-    (others : CrashAddsOnly old new (KeepOthers old.now)) (counts : old.faults ≤ new.faults) where
+    (others : CrashAddsOnly old new (KeepOthers old.now)) (counts : old.faults ≤ new.faults) (limit : new.step_limit ≡ old.step_limit) where
   -- it was kept
   pub did_keep : {A : Type 0} (a : A) → IsCommand change.command →
       (IsAcceptedChange was change → CrashLeaves old (one was) → CrashLeaves new (one (after was change))) →
@@ -152,6 +157,7 @@ module _ (old new : conn.State) (was : State) (change : Change) (keeps : Keeps o
         some_left = some;
         others_left = others;
         faults = counts;
+        limit = limit;
         still_open = λ no. absurd (cc);
         done = (
           record {
@@ -175,6 +181,7 @@ module _ (old new : conn.State) (was : State) (change : Change) (keeps : Keeps o
     some_left = some;
     others_left = others;
     faults = counts;
+    limit = limit;
     still_open = λ _. still_open refl;
     done = (
       record { kept = λ c. keeps.kept (clean c); leaves = memory keeps.leaves refl; some = some },
@@ -186,6 +193,7 @@ module _ (old new : conn.State) (was : State) (change : Change) (keeps : Keeps o
     some_left = some;
     others_left = others;
     faults = counts;
+    limit = limit;
     still_open = λ no. absurd (cc);
     done = (
       record {
@@ -214,6 +222,7 @@ did_as old new was wanted other result same did = record {
   some_left = did.some_left;
   others_left = did.others_left;
   faults = did.faults;
+  limit = did.limit;
   still_open = did.still_open;
   done = done_as old new was wanted other (λ clean. same (did.disk clean)) result did.done;
 }

@@ -90,6 +90,7 @@ module _ {S : Type 0} (g : Ghosts S) (book : Kept S) (asked : Asked) (some : Cra
     others_spared = tt;
     others_left = adds_none (state g book.held) _;
     faults = omega arith;
+    limit = refl;
     still_open = λ is. absurd (cc);
   }
 
@@ -117,5 +118,6 @@ module _ {S : Type 0} (g : Ghosts S) (book : Kept S) (asked : Asked) (some : Cra
     others_spared = tt;
     others_left = adds_none (state g book.held) _;
     faults = omega arith;
+    limit = refl;
     still_open = λ _ clean is. inl is;
   }

@@ -50,6 +50,7 @@ pub record IsAnswered {S : Type 0} (g : Ghosts S) (old new : Kept S) (asked : As
   -- what isn't the book's
   pub others_spared : OnOk result (Untouched (state g old.held) (state g new.held) ⊎ SparesOthers (state g old.held) (state g new.held))
   pub others_left : CrashAddsOnly (state g old.held) (state g new.held) (KeepOthers (state g old.held).now)
-  -- the store's faults, and the connection
+  -- the store's faults, the connection, and the limit of a statement's steps, if one is set
   pub faults : (state g old.held).faults ≤ (state g new.held).faults
+  pub limit : (state g new.held).step_limit ≡ (state g old.held).step_limit
   pub still_open : result ≡ Err Memory → StaysOpen (state g old.held) (state g new.held)

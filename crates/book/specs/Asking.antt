@@ -21,5 +21,6 @@ pub record StepOutcome {A : Type 0} (old new : conn.State) (was wanted : State) 
   pub some_left : CrashLeavesSome new
   pub others_left : CrashAddsOnly old new (KeepOthers old.now)
   pub faults : old.faults ≤ new.faults
+  pub limit : new.step_limit ≡ old.step_limit
   pub still_open : result ≡ Err Memory → StaysOpen old new
   pub done : Done old new was wanted result

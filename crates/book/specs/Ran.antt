@@ -36,6 +36,7 @@ pub record HasRun {S : Type 0} (g : Ghosts S) (old new : Kept S) (commands : Lis
   -- after a fault
   pub failed : new.failed ≡ (old.failed || is_some_store_fault run.fault)
   pub shut : IsTrue old.failed → (run.fault ≡ Some Store) × (run.answers.items ≡ []) × (new ≡ old)
-  -- the disk and the connection
+  -- the disk and the connection, and the limit of a statement's steps, if one is set
   pub disk : IsClean g new → IsClean g old
+  pub limit : (state g new.held).step_limit ≡ (state g old.held).step_limit
   pub still_open : run.fault ≡ Some Memory → StaysOpen (state g old.held) (state g new.held)

@@ -103,6 +103,8 @@ impl<S: Alter> Book<S> {
             (λ b. CrashAddsNothing (state S.Store conn) (state S.Store b.held)) }
         ensures unchanged { IfOk result
             (λ b. IsClean S.Store b → IsUnchanged (state S.Store conn) (state S.Store b.held)) }
+        ensures limit { IfOk result
+            (λ b. (state S.Store b.held).step_limit ≡ (state S.Store conn).step_limit) }
         // a refusal
         ensures not_loaded { IfErr result
             (λ e. IsNotLoaded (state S.Store conn) (state S.Store e.1) e.0) }
@@ -163,6 +165,8 @@ impl<S: Alter> Book<S> {
             (state S.Store self.new.held) }
         ensures still_open { result ≡ Err StoreFault.Memory
             → StaysOpen (state S.Store self.old.held) (state S.Store self.new.held) }
+        ensures limit { (state S.Store self.new.held).step_limit
+            ≡ (state S.Store self.old.held).step_limit }
     {
         if self.failed {
             return Err(StoreFault::Store);

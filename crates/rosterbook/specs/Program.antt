@@ -1,5 +1,5 @@
 -- What the program answers: its exit status, and what it writes to standard output and standard error.
-use Rattle.std.specs.Prelude.{◌≡◌, ℕ, Bool, true, false, List, [], ◌++◌, codes, map, string_bytes, Result, Ok, Err}
+use Rattle.std.specs.Prelude.{◌≡◌, ◌⊎◌, ℕ, Bool, true, false, List, [], ◌++◌, codes, map, string_bytes, Result, Ok, Err}
 use Rattle.std.specs.Io.KnownBytes.{Appends}
 use Rattle.time117.specs.Local.{is_zone_text}
 use Rattle.roster.specs.Folds.{ReplyOrRefusal}
@@ -70,6 +70,11 @@ pub record Gives (answer : ProgramOutput) (status : Status) (out out' err err' :
   pub ends : status ≡ answer.status
   pub prints : Appends out out' answer.out
   pub complains : Appends err err' answer.err
+
+-- `init` made no book: there was no memory to read the zone, or it is a zone and the book was refused
+abbrev pub IsUnmade : Bool → Status → ChannelBytes → ChannelBytes → ChannelBytes → ChannelBytes → Type 0
+IsUnmade is_zone status out out' err err' =
+    Gives memory_answer status out out' err err' ⊎ ((is_zone ≡ true) × ((fault : CreateFault) × Gives (unmade fault) status out out' err err'))
 
 -- the action was answered whole, by what a reader has
 abbrev pub PerformsAction : Action → Status → ChannelBytes → ChannelBytes → ChannelBytes → ChannelBytes → ChannelBytes → Type 0

@@ -1,5 +1,5 @@
 -- What `serve` makes of its connections, and where it stops.
-use Rattle.std.specs.Prelude.{◌≡◌, ◌⊎◌, ◌<◌, ℕ, Bool, true, false, List, [], ◌∷◌, ◌++◌, length, codes, Result, Ok, Err}
+use Rattle.std.specs.Prelude.{◌≡◌, ◌⊎◌, ⊤, ◌<◌, ℕ, Bool, true, false, List, [], ◌∷◌, ◌++◌, length, codes, Result, Ok, Err}
 use Rattle.std.specs.Fmt.{decimal}
 use Rattle.std.specs.Io.KnownBytes.{Appends}
 use Rattle.http_exchange.specs.declared.exchanges.Served.{Served}
@@ -27,6 +27,12 @@ abbrev pub failure_lines : List Outcome → List ℕ
 failure_lines [] = []
 failure_lines (outcome ∷ outcomes) = failure_line outcome ++ failure_lines outcomes
 
+-- one of these connections failed
+abbrev pub HasFailure : List Outcome → Type 0
+HasFailure [] = ⊥
+HasFailure (Ok served ∷ outcomes) = HasFailure outcomes
+HasFailure (Err fault ∷ outcomes) = ⊤
+
 -- the line that tells the port
 abbrev pub port_line : ℕ → List ℕ
 port_line port = codes "listening " ++ decimal port ++ line_end
@@ -38,12 +44,13 @@ module _ {V : Type 0} (serves : V → V → Outcome → Type 0) (fails : V → B
   InTurn old new [] = new ≡ old
   InTurn old new (outcome ∷ outcomes) = (next : V) × serves old next outcome × (fails next ≡ false) × InTurn next new outcomes
 
-  -- so many were; where all lines could be written, those of the failed ones were, and nothing else
+  -- so many were; where all lines could be written, those of the failed ones were, and nothing else; and if not, there was one to write
   pub record AllServed (count : ℕ) (old new : V) (err err' : ChannelBytes) (told : Bool) : Type 0 where
     pub outcomes : List Outcome
     pub each : length outcomes ≡ count
     pub served : InTurn old new outcomes
     pub lines : told ≡ true → Appends err err' (failure_lines outcomes)
+    pub untold : told ≡ false → HasFailure outcomes
 
   -- the store failed at one of so many, after which none was served
   pub record CutShort (count : ℕ) (old new : V) (err err' : ChannelBytes) (told : Bool) : Type 0 where

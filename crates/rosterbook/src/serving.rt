@@ -1,6 +1,6 @@
 //! Connections that are served one after the other. The definition is `HasEnded` (`specs/Serving.antt`).
 //! A server and its clients: `tests/serve.py`. Wrong bodies: `must-fail/`.
-ghost use Rattle.std.specs.Prelude.{◌≡◌, true};
+ghost use Rattle.std.specs.Prelude.{◌≡◌, IfOk, true};
 ghost use Rattle.std.specs.Io.KnownBytes.{Appends};
 ghost use Rattle.rosterbook.specs.Serving as spec;
 
@@ -34,7 +34,7 @@ pub(crate) trait Server {
 pub(crate) struct Ending {
     /// Whether the store failed.
     pub(crate) failed: bool,
-    /// Whether each line could be written that there was to write.
+    /// Whether the lines of all failed connections could be written.
     pub(crate) told: bool,
 }
 
@@ -65,8 +65,9 @@ pub(crate) fn serve_all<V: Server, E: Write>(
 
 /// Writes the line of a connection that failed, and answers whether it could be written. Of another nothing is written.
 fn tell_outcome<E: Write>(outcome: Result<Served, ServeFault>, err: &mut E) -> bool
-    ensures { result ≡ true
+    ensures line { result ≡ true
         → Appends (E.contents err.old) (E.contents err.new) (spec.failure_line outcome) }
+    ensures served { IfOk outcome (λ _. result ≡ true) }
 {
     match outcome {
         Ok(_) => true,

@@ -1,4 +1,5 @@
 -- What it comes to that a book is loaded, or refused.
+use Rattle.std.specs.Prelude.{◌≡◌}
 use Rattle.sqlite.specs.State as conn
 use Rattle.sqlite.specs.State.{HasCleanDisk, IsUnchanged}
 use Rattle.roster.specs.State.{State}
@@ -17,6 +18,7 @@ pub record IsLoaded (old new : conn.State) (s : State) : Type 0 where
   -- nothing was changed
   pub nothing_new : CrashAddsNothing old new
   pub unchanged : HasCleanDisk new → IsUnchanged old new
+  pub limit : new.step_limit ≡ old.step_limit
 
 -- no book was taken, for this fault, and nothing was changed
 pub record IsNotLoaded (old new : conn.State) (fault : LoadFault) : Type 0 where
@@ -24,4 +26,5 @@ pub record IsNotLoaded (old new : conn.State) (fault : LoadFault) : Type 0 where
   pub nothing_new : CrashAddsNothing old new
   pub some_left : CrashLeavesSome new
   pub still_open : StaysOpen old new
+  pub limit : new.step_limit ≡ old.step_limit
   pub outside : IsOutside new

@@ -25,6 +25,8 @@ pub record AreTablesMade (old new : State) (s : roster.State) : Type 0 where
   -- each other table that was there: what a crash leaves of it, and what is shown
   pub others_crash : CrashLeavesOnly new (KeepPlain old.now)
   pub others_shown : ShowsOnly new (KeepPlain old.now)
+  -- the limit of a statement's steps, if one is set
+  pub limit : new.step_limit ≡ old.step_limit
 
 -- no book was made, for this fault
 pub record IsNotMade {S : Type 0} (g : Ghosts S) (old new : Held S) (s : roster.State) (fault : CreateFault) : Type 0 where
@@ -35,7 +37,8 @@ pub record IsNotMade {S : Type 0} (g : Ghosts S) (old new : Held S) (s : roster.
   pub crash : CrashMayAdd (state g old) (state g new) s
   pub some_left : CrashLeavesSome (state g new)
   pub others_crash : CrashAddsOnly (state g old) (state g new) (KeepPlain (state g old).now)
-  -- the connection
+  -- the connection, and the limit of a statement's steps, if one is set
+  pub limit : (state g new).step_limit ≡ (state g old).step_limit
   pub still_open : StaysOpen (state g old) (state g new)
   pub outside : IsOutside (state g new)
 
@@ -55,7 +58,8 @@ pub record IsCommitted {A : Type 0} (old new : State) (change : Change) (result 
   pub others_crash : OnOk result (CrashLeavesOnly new (KeepOthers old.now))
   pub others_left : CrashAddsOnly old new (KeepOthers old.now)
   pub others_shown : OnOk result (ShowsOnly new (KeepOthers old.now))
-  -- the disk and the connection
+  -- the disk and the connection, and the limit of a statement's steps, if one is set
   pub disk : HasCleanDisk new → HasCleanDisk old
   pub faults : old.faults ≤ new.faults
+  pub limit : new.step_limit ≡ old.step_limit
   pub still_open : result ≡ Err Memory → StaysOpen old new

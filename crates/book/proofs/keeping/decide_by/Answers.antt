@@ -29,7 +29,7 @@ returns-in-Ok-clause-did g c s keeps shown same =
     (λ clean. next_accepted s c.args.key c.args.command.now change _ (verdict ∙ same clean))
     (did_keep old new s change keeps shown
     (λ clean. record { sound = (keeps.kept clean).sound; key = c.args.key; instruction = c.args.command.now; reply = _; accepted = sym (verdict ∙ same clean) })
-    c.commit-kept.ensures.disk c.commit-kept.ensures.some_left c.commit-kept.ensures.others_left c.commit-kept.ensures.faults _ c.in-Ok.ensures.command (c.in-Ok.ensures.crash s) (c.in-Ok.ensures.shown s))
+    c.commit-kept.ensures.disk c.commit-kept.ensures.some_left c.commit-kept.ensures.others_left c.commit-kept.ensures.faults c.commit-kept.ensures.limit _ c.in-Ok.ensures.command (c.in-Ok.ensures.crash s) (c.in-Ok.ensures.shown s))
 
 pub returns-in-Err-kept-clause-did : goal.returns-in-Err-kept-clause-did
 returns-in-Err-kept-clause-did g c s keeps shown same =
@@ -41,7 +41,7 @@ returns-in-Err-kept-clause-did g c s keeps shown same =
     (λ clean. next_accepted s c.args.key c.args.command.now change _ (verdict ∙ same clean))
     (did_fail old new s change keeps shown
     (λ clean. record { sound = (keeps.kept clean).sound; key = c.args.key; instruction = c.args.command.now; reply = _; accepted = sym (verdict ∙ same clean) })
-    c.commit-kept.ensures.disk c.commit-kept.ensures.some_left c.commit-kept.ensures.others_left c.commit-kept.ensures.faults c.in-Err-kept.fault
+    c.commit-kept.ensures.disk c.commit-kept.ensures.some_left c.commit-kept.ensures.others_left c.commit-kept.ensures.faults c.commit-kept.ensures.limit c.in-Err-kept.fault
     (c.in-Err-kept.ensures.memory s) (c.in-Err-kept.ensures.store s) c.in-Err-kept.ensures.in_doubt c.in-Err-kept.ensures.still_shown c.in-Err-kept.ensures.still_open)
 
 pub returns-in-Err-clause-did : goal.returns-in-Err-clause-did

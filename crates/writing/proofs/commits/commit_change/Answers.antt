@@ -33,6 +33,7 @@ returns-in_err-begin-clause-committed g c =
       others_shown = search rules;
       disk = search rules;
       faults = c.in_err-begin.ensures.crash.counts;
+      limit = c.in_err-begin.ensures.crash.limit;
       still_open = λ _. c.in_err-begin.ensures.crash.closes;
     }
 
@@ -74,6 +75,7 @@ returns-clause-committed g c =
       others_shown = on_ok c.end.result ended.whole ended.ok (λ is ended. shows_only last new (KeepOthers old.now) ended (λ clean. keeps clean is));
       disk = search rules;
       faults = omega (arith, c.in_ok-begin.ensures.crash.counts, c.write_change-done.ensures.changed.left.counts, ended.crash.counts);
+      limit = whole.limit;
       still_open = λ _. whole.closes;
     }
 

@@ -29,12 +29,15 @@ returns-clause-made g c =
     made_holds c.args.zone.now c.new.result begun last c.make_tables-done.result text fresh c.make_tables-done.ensures c.end.ensures.live (before clean) c.in_ok-end.ensures.whole in
     let keeps = λ (clean : HasCleanDisk new).
     made_keeps _ old begun last c.make_tables-done.result free c.in_ok-begin.ensures.gave c.make_tables-done.ensures c.end.ensures.live (before clean) c.in_ok-end.ensures.whole in
+    let first = survives_then old begun last _ _ _ (λ _ _ none. none) (λ _ _ none. none) c.in_ok-begin.ensures.crash c.make_tables-done.ensures.left in
+    let whole = survives_then old last new _ _ _ (λ _ _ none. absurd none) (λ _ _ reached. reached) first c.end.ensures.crash in
     record {
       crash = ended_leaves G last c.end.new.conn (empty c.args.zone.now) c.in_ok-end.ensures.ok holds g.met.S.Store.settled;
       some_left = search rules;
       shown = ended_now G last c.end.new.conn (empty c.args.zone.now) c.in_ok-end.ensures.ok holds;
       others_crash = leaves_only G last c.end.new.conn (KeepPlain old.now) c.in_ok-end.ensures.ok keeps g.met.S.Store.settled;
       others_shown = shows_only last new (KeepPlain old.now) c.in_ok-end.ensures.ok keeps;
+      limit = whole.limit;
     }
 
 pub returns-clause-over : goal.returns-clause-over
@@ -75,6 +78,7 @@ returns-in_err-end-clause-not_made g c =
       crash = ended_adds old last new (empty c.args.zone.now) (IsOk c.make_tables-done.result) holds whole;
       some_left = search rules;
       others_crash = may_add old last new (IsOk c.make_tables-done.result) (KeepPlain old.now) whole keeps;
+      limit = whole.limit;
       still_open = whole.closes;
       outside = search rules;
     })
@@ -89,6 +93,7 @@ returns-in_err-begin-clause-not_made g c =
       crash = search rules;
       some_left = search rules;
       others_crash = adds_nothing old new (KeepPlain old.now) c.in_err-begin.ensures.crash;
+      limit = c.in_err-begin.ensures.crash.limit;
       still_open = c.in_err-begin.ensures.crash.closes;
       outside = search rules;
     })

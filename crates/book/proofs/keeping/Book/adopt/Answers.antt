@@ -23,5 +23,8 @@ returns-in-Err-clause-again g c s keeps = still_keeps _ _ s c.in-Err.ensures.not
 pub returns-in-Ok-clause-kept : goal.returns-in-Ok-clause-kept
 returns-in-Ok-clause-kept g c s keeps = rw c.over.ensures.held (still_keeps _ _ s c.in-Ok.ensures.loaded.nothing_new c.in-Ok.ensures.loaded.some_left keeps)
 
+pub returns-in-Ok-clause-limit : goal.returns-in-Ok-clause-limit
+returns-in-Ok-clause-limit g c = rw c.over.ensures.held c.in-Ok.ensures.loaded.limit
+
 pub returns-in-Ok-clause-unchanged : goal.returns-in-Ok-clause-unchanged
 returns-in-Ok-clause-unchanged g c = rw c.over.ensures.held c.in-Ok.ensures.loaded.unchanged

@@ -72,5 +72,6 @@ returns g c =
       others_spared = rw (← c.self.view_is) (c.decide-answer.ensures.others_spared one.it one.keeps one.shown);
       others_left = rw (← c.self.view_is) did.others_left;
       faults = rw (← c.self.view_is) did.faults;
+      limit = rw (← c.self.view_is) did.limit;
       still_open = rw (← c.self.view_is) did.still_open;
     }

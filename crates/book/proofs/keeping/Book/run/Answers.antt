@@ -32,6 +32,7 @@ loop-key-preserved g c =
       some = c.ask.ensures.some_left;
       spared = spared_then g.S.Store c.args.self.now c.loop-key.self c.ask.new.self c.ask.ensures.disk was.spared c.in-Ok-ask.ensures.others_spared;
       counts = omega (arith, was.counts, c.ask.ensures.faults);
+      limit = c.ask.ensures.limit ∙ was.limit;
       replies = λ s at clean.
           let so_far = Fold s (take i xs) in
           let reply : result_of c.in-Ok-ask.answer ≡ answer_in so_far a = c.in-Ok-ask.ensures.reply so_far (was.outcome s at) clean in
@@ -80,6 +81,7 @@ returns-then-self g c =
       failed = search rules;
       shut = search rules;
       disk = search rules;
+      limit = refl;
       still_open = search rules;
     }
 
@@ -107,6 +109,7 @@ returns-in_default g c =
       failed = search rules;
       shut = search rules;
       disk = search rules;
+      limit = refl;
       still_open = search rules;
     }
 
@@ -160,6 +163,7 @@ returns-in-Err g c =
       failed = search rules;
       shut = search rules;
       disk = search rules;
+      limit = c.ask.ensures.limit ∙ was.limit;
       still_open = λ is.
           let fault : Some c.in-Err.fault ≡ Some Memory = rw (← c.stopped-in-Err.ensures.fault) is in
           spared_open g.S.Store c.args.self.now c.loop-key.self c.ask.new.self c.ask.ensures.disk was.counts was.spared (c.ask.ensures.still_open (c.in-Err.is ∙ (let same : c.in-Err.fault ≡ Memory = cc in ap Err same)));
@@ -194,5 +198,6 @@ returns g c =
       failed = search rules;
       shut = search rules;
       disk = search rules;
+      limit = was.limit;
       still_open = search rules;
     }

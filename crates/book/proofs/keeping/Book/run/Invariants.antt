@@ -22,5 +22,6 @@ invariant-loop-key g l = record {
   tables : (s : State) → IsDurablyAt g.S.Store l.initial.self s → HasTables g.S.Store l.initial.self s → HasTables g.S.Store l.self (Fold s (take l.key-index l.commands));
   spared : SameOrSpares g.S.Store l.initial.self l.self;
   counts : (state g.S.Store l.initial.self.held).faults ≤ (state g.S.Store l.self.held).faults;
+  limit : (state g.S.Store l.self.held).step_limit ≡ (state g.S.Store l.initial.self.held).step_limit;
   honest : (s : State) → Sound s → Honest s → Sound (Fold s (take l.key-index l.commands)) × Honest (Fold s (take l.key-index l.commands));
 }
