@@ -14,12 +14,10 @@ fn is_flown_so(flown: &Fdp, planned: &Fdp, actual: &Actual) -> bool {
     flown.planned_report == planned.report
         && flown.report == actual.report()
         && flown.release == actual.release()
-        && flown
-            .segments
-            .as_slice()
-            .iter()
-            .zip(actual.segments())
-            .all(|(segment, times)| segment.block_out == times.block_out && segment.block_in == times.block_in)
+        && flown.segments.as_slice().iter().zip(actual.segments()).all(|(
+            segment,
+            times,
+        )| segment.block_out == times.block_out && segment.block_in == times.block_in)
 }
 
 /// How a period takes the times of an actual.
@@ -33,9 +31,10 @@ fn told_of(alloc: Global, period: &Fdp, actual: &Actual) -> Result<String, Fault
 
 /// How the first period of a command that adds a pairing takes the times of one that records an actual.
 fn told(alloc: Global, adding: &Command, recording: &Command) -> Result<String, Fault> {
-    let (Instruction::AddPairing(pairing), Instruction::Actual(_, actual)) =
-        (adding.instruction(), recording.instruction())
-    else {
+    let (Instruction::AddPairing(pairing), Instruction::Actual(_, actual)) = (
+        adding.instruction(),
+        recording.instruction(),
+    ) else {
         return Err(Fault::Unmade);
     };
     match pairing.periods().first() {
