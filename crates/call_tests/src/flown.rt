@@ -4,20 +4,27 @@
 use crate::fault::Fault;
 use crate::requests::{LATE, P1, P2};
 use command::{Command, Instruction};
-use duty::{Actual, Fdp};
+use duty::{Actual, BlockTimes, Fdp, Segment};
 use std::alloc::Global;
 use std::test::Fail;
 use stored_json::read_canonical;
+
+/// Whether a segment has these times.
+fn has_times((segment, times): (&Segment, &BlockTimes)) -> bool {
+    segment.block_out == times.block_out && segment.block_in == times.block_in
+}
+
+/// Whether segments have these times, each its own, and there are as many of both.
+fn have_times(segments: &[Segment], times: &[BlockTimes]) -> bool {
+    segments.len() == times.len() && segments.iter().zip(times).all(has_times)
+}
 
 /// Whether a period has the times of an actual, and the planned report of another period.
 fn is_flown_so(flown: &Fdp, planned: &Fdp, actual: &Actual) -> bool {
     flown.planned_report == planned.report
         && flown.report == actual.report()
         && flown.release == actual.release()
-        && flown.segments.as_slice().iter().zip(actual.segments()).all(|(
-            segment,
-            times,
-        )| segment.block_out == times.block_out && segment.block_in == times.block_in)
+        && have_times(flown.segments.as_slice(), actual.segments())
 }
 
 /// How a period takes the times of an actual.

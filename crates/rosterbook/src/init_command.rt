@@ -21,7 +21,8 @@ pub(crate) fn answer_init<O: Write, E: Write>(
     out: &mut O,
     err: &mut E,
 ) -> io::Result<Status>
-    ensures answered { IfOk result (λ status. spec.Gives (spec.init_answer (is_zone_text zone.now)) status
+    ensures answered { IfOk result (λ status.
+        spec.Gives (spec.init_answer (is_zone_text zone.now)) status
         (O.contents out.old) (O.contents out.new) (E.contents err.old) (E.contents err.new)
         ⊎ ((status ≡ Status.Failed) × (out.new ≡ out.old))) }
     ensures unmade { IfOk result (λ status. status ≡ Status.Failed
