@@ -12,24 +12,31 @@ use Rattle.command.specs.contracts.instruction.InstructionPartialEq.TheImpl.{gho
 use Rattle.command.specs.declared.instruction.Instruction.{Instruction}
 use Rattle.command.specs.declared.instruction.Instruction.TheVariants.{AddCrew, AddPairing, CancelPairing, Assign, Release, Swap, AddGround, CancelGround, Actual}
 
--- a variant of which the value gives back the parts
-made_same : {A D : Type 0} (make : A → D) (a b : A) → (make a ≡ make b → a ≡ b) → (x : Bool) → (IsTrue x ↔ (a ≡ b)) →
-    IsTrue x ↔ (make a ≡ make b)
+-- two values of a variant are equal if and only if their parts are: the value gives its parts back
+made_same : {A D : Type 0} (make : A → D) (a b : A) → (make a ≡ make b → a ≡ b) →
+    (x : Bool) → (IsTrue x ↔ (a ≡ b)) → IsTrue x ↔ (make a ≡ make b)
 made_same make a b parts x same = (λ e. ap make (same.0 e), λ e. same.1 (parts e))
 
 -- `==` of instructions is equality
 pub instruction_same : (a b : Instruction) → IsTrue (ghosts.eq a b) ↔ (a ≡ b)
 instruction_same (AddCrew a m) (AddCrew b n) =
-    made_same (λ p. AddCrew p.0 p.1) (a, m) (b, n) (λ e. cc) _ (both_same _ _ (bytes_eq-Decides a b) (member_law m n))
-instruction_same (AddPairing p) (AddPairing q) = made_same AddPairing p q (λ e. cc) _ (pairing_law p q)
-instruction_same (CancelPairing p) (CancelPairing q) = made_same CancelPairing p q (λ e. cc) _ (bytes_eq-Decides p q)
+    made_same (λ p. AddCrew p.0 p.1) (a, m) (b, n) (λ e. cc) _
+    (both_same _ _ (bytes_eq-Decides a b) (member_law m n))
+instruction_same (AddPairing p) (AddPairing q) =
+    made_same AddPairing p q (λ e. cc) _ (pairing_law p q)
+instruction_same (CancelPairing p) (CancelPairing q) =
+    made_same CancelPairing p q (λ e. cc) _ (bytes_eq-Decides p q)
 instruction_same (Assign p a) (Assign q b) =
-    made_same (λ p. Assign p.0 p.1) (p, a) (q, b) (λ e. cc) _ (both_same _ _ (bytes_eq-Decides p q) (bytes_eq-Decides a b))
+    made_same (λ p. Assign p.0 p.1) (p, a) (q, b) (λ e. cc) _
+    (both_same _ _ (bytes_eq-Decides p q) (bytes_eq-Decides a b))
 instruction_same (Release p a) (Release q b) =
-    made_same (λ p. Release p.0 p.1) (p, a) (q, b) (λ e. cc) _ (both_same _ _ (bytes_eq-Decides p q) (bytes_eq-Decides a b))
+    made_same (λ p. Release p.0 p.1) (p, a) (q, b) (λ e. cc) _
+    (both_same _ _ (bytes_eq-Decides p q) (bytes_eq-Decides a b))
 instruction_same (Swap p) (Swap q) = made_same Swap p q (λ e. cc) _ (swap_law p q)
 instruction_same (AddGround g) (AddGround h) = made_same AddGround g h (λ e. cc) _ (ground_law g h)
-instruction_same (CancelGround p) (CancelGround q) = made_same CancelGround p q (λ e. cc) _ (bytes_eq-Decides p q)
+instruction_same (CancelGround p) (CancelGround q) =
+    made_same CancelGround p q (λ e. cc) _ (bytes_eq-Decides p q)
 instruction_same (Actual p a) (Actual q b) =
-    made_same (λ p. Actual p.0 p.1) (p, a) (q, b) (λ e. cc) _ (both_same _ _ (bytes_eq-Decides p q) (actual_law a b))
+    made_same (λ p. Actual p.0 p.1) (p, a) (q, b) (λ e. cc) _
+    (both_same _ _ (bytes_eq-Decides p q) (actual_law a b))
 instruction_same a b = (λ e. cc, λ e. cc)

@@ -1,5 +1,6 @@
--- Which instructions are refused before the book looks at them, and with which fault. Shapes of texts come first, in the order
--- of the fields; an actual's count and times come after the shape of its pairing's id.
+-- Which instructions are refused before the book looks at them, and with which fault. Shapes of
+-- texts come first, in the order of the fields; an actual's count and times come after the shape of
+-- its pairing's id.
 use Rattle.std.specs.Prelude.{◌≡◌, ◌≤◌, not, [], ◌∷◌, map, Option, None}
 use Rattle.std.specs.Str.{bytes_eq}
 use Rattle.duty.specs.Pairings.{pairing_fault, ground_fault, actual_fault}
@@ -13,7 +14,8 @@ use Rattle.command.specs.declared.instruction.Instruction.{Instruction}
 use Rattle.command.specs.declared.instruction.Instruction.TheVariants.{AddCrew, AddPairing, CancelPairing, Assign, Release, Swap, AddGround, CancelGround, Actual}
 use Rattle.command.specs.declared.instruction.Swap as swap
 
--- shapes of the four ids, then a pairing or a member swapped with itself
+-- why a swap is refused: one of its four ids hasn't the shape of an id, or it swaps a pairing or a
+-- member with itself
 unfoldable pub swap_fault : swap.Swap → Option DutyFault
 swap_fault w =
     first_fault (unless (is_id w.pairing) (BadField field.Pairing)
@@ -24,28 +26,36 @@ swap_fault w =
     ∷ unless (not (bytes_eq w.crew w.other_crew)) (BadField field.OtherCrew)
     ∷ [])
 
--- the fields of each instruction in turn; a pairing, a ground duty and an actual are refused as where they are made
+-- why an instruction is refused: the first of its fields that is bad; a pairing, a ground duty or
+-- an actual in it is refused as where it is made
 unfoldable pub instruction_fault : Instruction → Option DutyFault
 instruction_fault (AddCrew id member) =
-    first_fault (unless (is_id id) (BadField field.Crew) ∷ unless (is_plain_text member.name) (BadField field.Name) ∷ [])
+    first_fault (unless (is_id id) (BadField field.Crew)
+    ∷ unless (is_plain_text member.name) (BadField field.Name)
+    ∷ [])
 instruction_fault (AddPairing pairing) = pairing_fault pairing
 instruction_fault (CancelPairing pairing) = unless (is_id pairing) (BadField field.Pairing)
 instruction_fault (Assign pairing crew) =
-    first_fault (unless (is_id pairing) (BadField field.Pairing) ∷ unless (is_id crew) (BadField field.Crew) ∷ [])
+    first_fault (unless (is_id pairing) (BadField field.Pairing)
+    ∷ unless (is_id crew) (BadField field.Crew)
+    ∷ [])
 instruction_fault (Release pairing crew) =
-    first_fault (unless (is_id pairing) (BadField field.Pairing) ∷ unless (is_id crew) (BadField field.Crew) ∷ [])
+    first_fault (unless (is_id pairing) (BadField field.Pairing)
+    ∷ unless (is_id crew) (BadField field.Crew)
+    ∷ [])
 instruction_fault (Swap w) = swap_fault w
 instruction_fault (AddGround g) = ground_fault g
 instruction_fault (CancelGround id) = unless (is_id id) (BadField field.Ground)
 instruction_fault (Actual pairing actual) =
     first_fault (unless (is_id pairing) (BadField field.Pairing) ∷ actual_fault actual ∷ [])
 
--- what the types of its parts see to: a pairing is a plan, and a period has a number from 1 to 10
+-- what the types of an instruction's parts see to: each period of a pairing is as it was planned,
+-- and the period of an actual has a number from 1 to 10
 abbrev pub IsTyped : Instruction → Type 0
 IsTyped (AddPairing plan) = map as_planned plan.periods ≡ plan.periods
 IsTyped (Actual id a) = (1 ≤ a.period) × (a.period ≤ 10)
 IsTyped instruction = Unit {0}
 
--- an instruction that is a command
+-- the instruction is a command: it has no fault, and its parts are of their types
 abbrev pub IsMade : Instruction → Type 0
 IsMade instruction = (instruction_fault instruction ≡ None) × IsTyped instruction

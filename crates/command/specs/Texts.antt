@@ -49,7 +49,7 @@ refusal_name GroundExists = codes "GroundExists"
 refusal_name NoSuchGround = codes "NoSuchGround"
 refusal_name (SegmentCount _) = codes "SegmentCount"
 
--- number and name, and the period where there is one
+-- a refusal as it is printed: its number and name, and the period where it names one
 abbrev pub refusal_text : Refusal → List ℕ
 refusal_text (SegmentCount period) = codes "19 SegmentCount " ++ decimal period
 refusal_text refusal = decimal (refusal_number refusal) ++ codes " " ++ refusal_name refusal

@@ -1,5 +1,5 @@
 -- Which minutes a span covers.
-use Rattle.std.proofs.Common.{◌≡◌, ℕ, suc, ◌-◌, ◌<◌, ◌≤◌, Bool, true, false, List, [], ◌∷◌, Some, length, refl, ap, arith, inl, inr}
+use Rattle.std.proofs.Common.{◌≡◌, ℕ, suc, ◌-◌, ◌<◌, ◌≤◌, Bool, true, false, List, [], ◌∷◌, Some, length, map, refl, ap, arith, inl, inr}
 use Rattle.std.specs.Prelude.{pos, negsuc, slice_get}
 use Rattle.std.specs.List.{list_any}
 use Rattle.std.proofs.lemmas.Bool.{and_parts, and_from, and_left, and_right, or_cases, or_left, or_right, leb-true, ltb-true, le-leb, lt-ltb, lt-leb, le-ltb, false≢true}
@@ -30,14 +30,15 @@ pub covered_at : (spans : List Span) (k : ℕ) (s : Span) (minute : ℕ) → sli
     (i : ℕ) → minute ≤ i → i < s.to → at (minutes_of spans) i ≡ true
 covered_at spans k s minute is from i l h = some_at (covers (pos i)) spans k s is (covers-from i s (omega arith) h)
 
--- the end of a period that has a segment is the last block-in
-pub last_in-last : (report : ℕ) (segments : List Span) (s : Span) →
-    slice_get segments (length segments - 1) ≡ Some s → last_in report segments ≡ s.to
-last_in-last report [] s is = cc
-last_in-last report (x ∷ []) s is = let e : Some x ≡ Some s = is in let f : x ≡ s = cc in ap (λ t. t.to) f
-last_in-last report (x ∷ y ∷ rest) s is =
+-- the end of a period that has a segment is the end of the last segment's span
+pub last_in-mapped : {T : Type 0} (span : T → Span) (report : ℕ) (segments : List T) (s : T) →
+    slice_get segments (length segments - 1) ≡ Some s → last_in report (map span segments) ≡ (span s).to
+last_in-mapped span report [] s is = cc
+last_in-mapped span report (x ∷ []) s is =
+    let e : Some x ≡ Some s = is in let f : x ≡ s = cc in ap (λ t. (span t).to) f
+last_in-mapped span report (x ∷ y ∷ rest) s is =
     let e : length (x ∷ y ∷ rest) - 1 ≡ suc (length (y ∷ rest) - 1) = omega arith in
-    last_in-last x.to (y ∷ rest) s (rw e at is)
+    last_in-mapped span (span x).to (y ∷ rest) s (rw e at is)
 
 -- some span of the list passes, with the tests that it passes
 pub some_span : (P : Span → Bool) (spans : List Span) → list_any P spans ≡ true → (s : Span) × (P s ≡ true) ×

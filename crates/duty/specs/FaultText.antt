@@ -4,9 +4,9 @@ use Rattle.std.specs.Fmt.{decimal}
 use Rattle.duty.specs.declared.fault.DutyFault.{DutyFault}
 use Rattle.duty.specs.declared.fault.DutyFault.TheVariants.{BadTimes, BadChain, BadField, SegmentCount, Memory}
 use Rattle.duty.specs.declared.fault.Field.{Field}
-use Rattle.duty.specs.declared.fault.Field.TheVariants.{Crew, Name, Pairing, Periods, OtherPairing, OtherCrew, Ground, Task}
+use Rattle.duty.specs.declared.fault.Field.TheVariants.{Crew, Name, Pairing, Periods, OtherPairing, OtherCrew, Ground, Task, Outside}
 
--- a field as the commands name it
+-- a field is printed as the commands name it
 abbrev pub field_text : Field → List ℕ
 field_text Crew = codes "crew"
 field_text Name = codes "name"
@@ -16,8 +16,10 @@ field_text OtherPairing = codes "other_pairing"
 field_text OtherCrew = codes "other_crew"
 field_text Ground = codes "ground"
 field_text Task = codes "task"
+field_text Outside = codes "outside"
 
--- a fault as it is printed
+-- a refusal of a duty is printed as its number, its name, and the period or field where there is
+-- one
 abbrev pub duty_fault_text : DutyFault → List ℕ
 duty_fault_text (BadTimes period) = codes "16 BadTimes " ++ decimal period
 duty_fault_text (BadChain period) = codes "17 BadChain " ++ decimal period

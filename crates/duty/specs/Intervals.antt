@@ -4,11 +4,12 @@ use Rattle.std.specs.List.{sum_by}
 use Rattle.duty.specs.declared.span.Span.{Span}
 use Rattle.duty.specs.declared.intervals.Interval.{Interval}
 
--- each span has a minute, the first begins at `least` or later, and each later one after the end of the one before it,
--- so that none meets or touches another
+-- each span has a minute, the first begins at `least` or later, and each later one begins after the
+-- end of the one before it, so that none meets or touches another
 abbrev pub AreApart : ℕ → List Span → Type 0
 AreApart least [] = Unit {0}
-AreApart least (span ∷ rest) = (least ≤ span.from) × (span.from < span.to) × AreApart (span.to + 1) rest
+AreApart least (span ∷ rest) =
+    (least ≤ span.from) × (span.from < span.to) × AreApart (span.to + 1) rest
 
 -- the lengths of the spans, added up
 abbrev pub lengths : List Span → ℕ
@@ -18,7 +19,7 @@ lengths = sum_by (λ span. span.to - span.from)
 abbrev pub spans_in : List Interval → List Span
 spans_in = map (λ interval. interval.span)
 
--- the total of each of the first `n` is the length of those up to and with it
+-- each of the first `n` intervals has as its total the lengths of the intervals up to and with it
 abbrev pub AreSummed : ℕ → List Interval → Type 0
 AreSummed n intervals = (k : ℕ) (d : Interval) → k < n →
     (slice_index_or intervals k d).total ≡ lengths (take (k + 1) (spans_in intervals))
@@ -28,7 +29,7 @@ pub record IsIndex (intervals : List Interval) : Type 0 where
   pub apart : AreApart 0 (spans_in intervals)
   pub summed : AreSummed (length intervals) intervals
 
--- two spans as one, from the first begin to the last end
+-- two spans are joined to one from the first begin to the last end
 abbrev pub joined : Span → Span → Span
 joined a b = record { from = min a.from b.from; to = max a.to b.to }
 

@@ -1,5 +1,6 @@
--- The minutes that duties hold, as sets. A minute is a whole number: 2000-01-01T00:00Z is 0, and what was before it is
--- negative. A set of minutes is a test, so a minute counts once however many duties hold it.
+-- The minutes that duties hold, as sets. A minute is a whole number: 2000-01-01T00:00Z is 0, and
+-- what was before it is negative. A set of minutes is a test, so a minute counts once however many
+-- duties hold it.
 use Rattle.std.specs.Prelude.{◌≡◌, ℕ, zero, suc, ◌+◌, ◌-◌, Bool, ◌&&◌, List, [], ◌∷◌, if◌then◌else◌, ℤ, pos, ◌+ℤ◌, ◌≤ℤ◌, ◌<ℤ◌, int_lt, int_le, IsTrue}
 use Rattle.std.specs.List.{list_any, flat_map, sum_by}
 use Rattle.duty.specs.FdpTimes.{FdpTimes}
@@ -26,15 +27,17 @@ last_in report (segment ∷ rest) = last_in segment.to rest
 abbrev pub fdp_length : FdpTimes → ℕ
 fdp_length fdp = last_in fdp.report fdp.segments - fdp.report
 
--- the flight time in it, from block-out to block-in of each segment
+-- the flight time in a flight duty period, from block-out to block-in of each segment
 abbrev pub flight_time : FdpTimes → ℕ
 flight_time fdp = sum_by (λ segment. segment.to - segment.from) fdp.segments
 
--- flight time (14 CFR 1.1) is from block-out to block-in of each segment, a flight duty period (117.3) from report to
--- the last block-in, and duty (117.3) from report to release; a duty on the ground is all duty
+-- flight time (14 CFR 1.1) is from block-out to block-in of each segment, a flight duty period
+-- (117.3) from report to the last block-in, and duty (117.3) from report to release; a duty on the
+-- ground is all duty
 abbrev pub spans_of : Kind → DutyInForce → List Span
 spans_of Flight (Fdp fdp) = fdp.segments
-spans_of FlightDuty (Fdp fdp) = record { from = fdp.report; to = last_in fdp.report fdp.segments } ∷ []
+spans_of FlightDuty (Fdp fdp) =
+    record { from = fdp.report; to = last_in fdp.report fdp.segments } ∷ []
 spans_of Duty (Fdp fdp) = record { from = fdp.report; to = fdp.release } ∷ []
 spans_of Flight (Ground _) = []
 spans_of FlightDuty (Ground _) = []
@@ -56,7 +59,8 @@ pub record Meets (set : ℤ → Bool) (start : ℤ) (width : ℕ) : Type 0 where
   pub before_end : minute <ℤ (start +ℤ pos width)
   pub member : IsTrue (set minute)
 
--- some `length` minutes in a row, all of them among the `width` minutes from `from` on, hold none of the set
+-- some `length` minutes in a row, all of them among the `width` minutes from `from` on, hold none
+-- of the set
 pub record HasFreeRun (set : ℤ → Bool) (from : ℤ) (width length : ℕ) : Type 0 where
   pub start : ℤ
   pub from_start : from ≤ℤ start

@@ -1,4 +1,4 @@
--- Pairings, ground duties and actual times as values.
+-- Pairings, ground duties, outside periods and actual times as values.
 use Rattle.std.specs.Prelude.{ℕ, List, map}
 use Rattle.std.specs.List.{zip}
 use Rattle.duty.specs.declared.fdp.Fdp.{Fdp}
@@ -10,13 +10,21 @@ pub record Plan : Type 0 where
   pub id : List ℕ
   pub periods : List Fdp
 
--- a ground duty
+-- a ground duty: its id, its crew member, its begin and end, and its task
 pub record GroundPlan : Type 0 where
   pub id : List ℕ
   pub crew : List ℕ
   pub begin : ℕ
   pub end : ℕ
   pub task : List ℕ
+
+-- a period that is flown for another certificate holder: its id, report and release, and the times
+-- of its segments
+pub record OutsidePlan : Type 0 where
+  pub id : List ℕ
+  pub report : ℕ
+  pub release : ℕ
+  pub segments : List BlockTimes
 
 -- how a period, by its number, was really flown
 pub record ActualTimes : Type 0 where
@@ -29,7 +37,7 @@ pub record ActualTimes : Type 0 where
 abbrev pub as_planned : Fdp → Fdp
 as_planned f = record f { planned_report = f.report }
 
--- the plan of these periods
+-- the plan of a pairing with this id and these periods
 abbrev pub plan : List ℕ → List Fdp → Plan
 plan id periods = record { id = id; periods = map as_planned periods }
 

@@ -25,11 +25,11 @@ first_fault [] = None
 first_fault (Some fault ∷ rest) = Some fault
 first_fault (None ∷ rest) = first_fault rest
 
--- a fault, where the test failed
+-- the fault, unless the test passed
 abbrev pub unless : Bool → DutyFault → Option DutyFault
 unless passed fault = if passed then None else Some fault
 
--- x, if there is no fault
+-- the value, unless there is a fault
 abbrev pub checked : {A : Type 0} → Option DutyFault → A → Result A DutyFault
 checked None x = Ok x
 checked (Some fault) x = Err fault

@@ -7,19 +7,20 @@ use std::error::Error;
 use std::fmt;
 use values::MemoryFault;
 
-/// Why a pairing, a ground duty or an actual is refused. It is printed as the program prints a
-/// refusal: its number, its name, and the period or field where there is one. Periods count from 1.
+/// Why a pairing, a ground duty, an outside period or an actual is refused. It is printed as the
+/// program prints a refusal: its number, its name, and the period or field where there is one.
+/// Periods count from 1.
 #[derive(Clone, Copy, Debug, PartialEq, Eq)]
 pub enum DutyFault {
     /// An order of times is broken in this period, or between the one before it and this one; 0 for
-    /// a ground duty.
+    /// a ground duty or an outside period.
     BadTimes(u8),
     /// A segment of this period departs from elsewhere than where the one before it arrived.
     BadChain(u8),
     /// This field holds a text outside its shape.
     BadField(Field),
-    /// This period has a number of segments out of range, or not its plan's; 0 where the number of
-    /// periods is out of range.
+    /// This period has a number of segments out of range, or not its plan's; 0 for an outside
+    /// period, and where the number of periods is out of range.
     SegmentCount(u8),
     /// There was no memory.
     Memory,
@@ -36,6 +37,7 @@ pub enum Field {
     OtherCrew,
     Ground,
     Task,
+    Outside,
 }
 
 impl fmt::Display for DutyFault {
@@ -73,6 +75,7 @@ impl fmt::Display for Field {
             Field::OtherCrew => "other_crew",
             Field::Ground => "ground",
             Field::Task => "task",
+            Field::Outside => "outside",
         })
     }
 }

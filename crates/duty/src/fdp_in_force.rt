@@ -4,6 +4,7 @@
 ghost use Rattle.std.specs.Prelude.{◌≡◌};
 ghost use Rattle.duty.specs.Minutes.{last_in, fdp_length};
 
+use super::segment::last_block_in;
 use super::span::Span;
 use std::alloc::Global;
 use std::marker::Model;
@@ -12,10 +13,11 @@ use values::{MemoryFault, TryClone};
 
 /// A flight duty period (14 CFR 117.3) with its times in force: the actual ones where there are any, else the planned
 /// ones. It keeps the acclimated minute of the day of the planned report, by which Tables A and B are entered in
-/// either case. Any times in any order are possible, and any number of segments.
+/// either case; a period that is flown for another certificate holder has none, and enters no table. Any times in any
+/// order are possible, and any number of segments.
 #[derive(Drop)]
 pub struct FdpInForce {
-    start: u16,
+    start: Option<u16>,
     report: Minute,
     release: Minute,
     segments: Vec<Span>,
@@ -36,8 +38,8 @@ impl Model for FdpInForce {
 
 impl FdpInForce {
     /// Makes a period of these times: the segments from block-out to block-in, and as `start` the acclimated minute of
-    /// the day of the planned report.
-    pub fn new(start: u16, report: Minute, release: Minute, segments: Vec<Span>) -> Self
+    /// the day of the planned report, or none where Tables A and B are not entered.
+    pub fn new(start: Option<u16>, report: Minute, release: Minute, segments: Vec<Span>) -> Self
         ensures start { result.start ≡ start }
         ensures report { result.report ≡ report }
         ensures release { result.release ≡ release }
@@ -51,8 +53,8 @@ impl FdpInForce {
         }
     }
 
-    /// Returns the acclimated minute of the day of the planned report.
-    pub fn start(&self) -> u16
+    /// Returns the acclimated minute of the day of the planned report, or none where Tables A and B are not entered.
+    pub fn start(&self) -> Option<u16>
         ensures { result ≡ self.now.start }
     {
         self.start
@@ -83,10 +85,7 @@ impl FdpInForce {
     pub fn last_in(&self) -> Minute
         ensures { result ≡ last_in self.now.report self.now.segments }
     {
-        match self.segments.last() {
-            Some(segment) => segment.to,
-            None => self.report,
-        }
+        last_block_in(self.report, self.segments.as_slice())
     }
 
     /// Returns the length of the period in minutes, from report to the last block-in, or 0 where that is before the

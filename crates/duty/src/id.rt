@@ -1,5 +1,5 @@
-//! Ids of crew members, pairings and ground duties, flights and airports. A tag tells them apart, so that none is taken
-//! for another.
+//! Ids of crew members, pairings, ground duties and outside periods, flights and airports. A tag tells them apart, so
+//! that none is taken for another.
 //! Wrong bodies: `must-fail-more/`.
 ghost use Rattle.std.specs.Prelude.{◌≡◌};
 ghost use Rattle.std.specs.Ordering.{nat_cmp, as_partial_cmp};
@@ -24,6 +24,9 @@ pub type PairingId = Id<tag::Pairing>;
 
 /// The id of a ground duty.
 pub type GroundId = Id<tag::Ground>;
+
+/// The id of a period that is flown for another certificate holder.
+pub type OutsideId = Id<tag::Outside>;
 
 /// A flight, by its number with the airline's letters.
 pub type Flight = Id<tag::Flight>;

@@ -1,8 +1,8 @@
 //! Minutes as a sorted list of disjoint intervals with running sums, and what is asked of it.
 //! Against a slow count of minutes: `tests/judgement.py`. Wrong bodies: `must-fail/`.
-ghost use Rattle.std.specs.Prelude.{◌≡◌, ℕ, ◌<◌, ◌≤◌, ◌+◌, ◌^◌, [], length, slice_index_or, slice_range, OnOk, IfOk, ◌||◌, ℤ, nat_lt, IsTrue, IsFalse, IfSome, IfNone, pos, negsuc, ◌-ℤ◌, ◌≤ℤ◌, unsigned_abs, ◌↔◌, ◌⊎◌, ◌&&◌};
+ghost use Rattle.std.specs.Prelude.{◌≡◌, ℕ, ◌<◌, ◌≤◌, ◌+◌, ◌-◌, ◌^◌, [], length, slice_index_or, slice_range, OnOk, IfOk, ◌||◌, ℤ, nat_lt, IsTrue, IsFalse, IfSome, IfNone, pos, negsuc, ◌-ℤ◌, ◌≤ℤ◌, unsigned_abs, ◌↔◌, ◌⊎◌, ◌&&◌};
 ghost use Rattle.std.specs.List.{list_any};
-ghost use Rattle.duty.specs.Intervals.{AreApart, IsIndex, spans_in};
+ghost use Rattle.duty.specs.Intervals.{AreApart, IsIndex, lengths, spans_in};
 ghost use Rattle.duty.specs.Minutes.{minutes_of, count, Meets, HasFreeRun};
 ghost use Rattle.duty.specs.Overlaps.{meets_span};
 ghost use Rattle.duty.specs.Sweeps.{at, below, natural as natural_of, IsFull, IsClear, IsNext};
@@ -45,9 +45,10 @@ impl Model for Intervals {
 }
 
 impl Intervals {
-    /// Makes an empty set of minutes.
+    /// Makes an empty set of minutes. It takes no memory.
     pub fn empty(alloc: Global) -> Self
-        ensures { result.spans ≡ [] }
+        ensures spans { result.spans ≡ [] }
+        ensures room { result.room ≡ 0 }
     {
         Intervals {
             intervals: Vec::new(alloc),
@@ -79,6 +80,8 @@ impl Intervals {
         ensures some { IfSome result
             (λ span. (minute : ℕ) → IsTrue (at (minutes_of self.now.spans) minute)
             → (span.from ≤ minute) × (minute < span.to)) }
+        ensures ends { IfSome result (λ span. IsTrue (at (minutes_of self.now.spans) span.from)
+            × IsTrue (at (minutes_of self.now.spans) (span.to - 1))) }
         ensures none { IfNone result
             ((minute : ℕ) → IsFalse (at (minutes_of self.now.spans) minute)) }
     {
@@ -95,7 +98,9 @@ impl Intervals {
 
     /// Counts all minutes that are there: no window holds more.
     pub fn total(&self) -> u64
-        ensures { (start : ℤ) (width : ℕ) → count (minutes_of self.now.spans) start width ≤ result }
+        ensures sum { result ≡ lengths self.now.spans }
+        ensures most { (start : ℤ) (width : ℕ)
+            → count (minutes_of self.now.spans) start width ≤ result }
     {
         let intervals = self.intervals.as_slice();
         total_of(intervals, intervals.len()) as u64
@@ -300,6 +305,9 @@ fn hull_of(intervals: &[Interval]) -> Option<Span>
     ensures some { IfSome result
         (λ span. (minute : ℕ) → IsTrue (at (minutes_of (spans_in intervals.now)) minute)
         → (span.from ≤ minute) × (minute < span.to)) }
+    ensures ends { IfSome result
+        (λ span. IsTrue (at (minutes_of (spans_in intervals.now)) span.from)
+        × IsTrue (at (minutes_of (spans_in intervals.now)) (span.to - 1))) }
     ensures none { IfNone result
         ((minute : ℕ) → IsFalse (at (minutes_of (spans_in intervals.now)) minute)) }
 {

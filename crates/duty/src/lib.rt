@@ -1,5 +1,6 @@
-//! The duties of crew members: flight duty periods and their segments, pairings, ground duties and actual times; and a
-//! member's duties in force with the minutes that they hold (14 CFR 117.3 and 1.1).
+//! The duties of crew members: flight duty periods and their segments, pairings, ground duties, periods flown for
+//! another certificate holder, and actual times; and a member's duties in force with the minutes that they hold (14 CFR
+//! 117.3 and 1.1).
 #![tactic(auto)]
 
 mod actual;
@@ -14,6 +15,7 @@ mod id;
 mod intervals;
 mod kind;
 mod merging;
+mod outside;
 mod pairing;
 mod placed_duty;
 mod scan;
@@ -29,13 +31,14 @@ pub use fdp::Fdp;
 pub use fdp_in_force::FdpInForce;
 pub use ground_duty::Ground;
 pub use history::History;
-pub use id::{Airport, CrewId, Flight, GroundId, Id, PairingId};
+pub use id::{Airport, CrewId, Flight, GroundId, Id, OutsideId, PairingId};
 pub use intervals::{Interval, Intervals};
 pub use kind::Kind;
+pub use outside::Outside;
 pub use pairing::Pairing;
 pub use placed_duty::Duty;
 pub use scan::{DutyTest, SpanTest, any_duty, any_span};
-pub use segment::{BlockTimes, Segment};
+pub use segment::{BlockTimes, Segment, Timed, flight_minutes, last_block_in};
 pub use shape::is_plain_text;
 pub use span::Span;
 pub use tag::Shaped;

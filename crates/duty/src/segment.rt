@@ -1,10 +1,14 @@
 //! Segments: one flight each, from block-out to block-in (14 CFR 1.1), and the times at which it was flown.
 //! Wrong bodies: `must-fail-more/`.
-ghost use Rattle.std.specs.Prelude.{◌≡◌, IfOk};
+ghost use Rattle.std.specs.Prelude.{◌≡◌, ◌≤◌, ◌-◌, length, map, IfOk};
+ghost use Rattle.std.specs.List.{sum_by};
+ghost use Rattle.duty.specs.DutiesInForce.{span_between};
+ghost use Rattle.duty.specs.Minutes.{last_in};
 ghost use Rattle.duty.specs.Pairings.{has_shapes};
 ghost use Rattle.duty.specs.Plans.{retimed};
 
 use crate::id::{Airport, Flight};
+use crate::span::Span;
 use std::alloc::Global;
 use time117::Minute;
 use values::{LawfulEq, MemoryFault, TryClone};
@@ -97,11 +101,57 @@ impl Timed for BlockTimes {
     }
 }
 
+impl Timed for Span {
+    ghost times = { λ span. record { block_out = span.from; block_in = span.to } };
+
+    fn times(&self) -> BlockTimes {
+        BlockTimes {
+            block_out: self.from,
+            block_in: self.to,
+        }
+    }
+}
+
+/// Returns the last block-in, or the report where there is no segment.
+pub fn last_block_in<S: Timed>(report: Minute, segments: &[S]) -> Minute
+    ensures { result ≡ last_in report (map (λ s. span_between (S.times s)) segments.now) }
+{
+    match segments.last() {
+        Some(segment) => segment.times().block_in,
+        None => report,
+    }
+}
+
+/// Counts the minutes of the segments' flight time, from block-out to block-in of each (14 CFR 1.1).
+pub fn flight_minutes<S: Timed>(segments: &[S]) -> u32
+    requires { length segments.now ≤ 12 }
+    ensures { result
+        ≡ sum_by (λ s. (S.times s).block_in - (S.times s).block_out) segments.now }
+{
+    let mut minutes = 0;
+    for segment in segments {
+        minutes += segment.times().minutes();
+    }
+    minutes
+}
+
 /// Block-out and block-in of a segment (14 CFR 1.1, flight time), as planned or as flown.
 #[derive(Clone, Copy, Debug, PartialEq, Eq)]
 pub struct BlockTimes {
     pub block_out: Minute,
     pub block_in: Minute,
+}
+
+impl BlockTimes {
+    /// Counts the minutes from block-out to block-in, or 0 where that is before block-out.
+    fn minutes(self) -> u32
+        ensures value { result ≡ self.block_in - self.block_out }
+        ensures in_range { result ≤ 52_596_000 }
+    {
+        self.block_in
+            .number()
+            .saturating_sub(self.block_out.number())
+    }
 }
 
 impl TryClone for BlockTimes {

@@ -1,4 +1,5 @@
--- What the laws of the limits are proved by: nothing here has to be read to know what the limits say.
+-- What the laws of the limits are proved by: nothing here has to be read to know what the limits
+-- say.
 pub mod Broken
 pub mod Decisions
 pub mod Growth

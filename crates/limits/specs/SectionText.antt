@@ -14,7 +14,7 @@ section_text FlightDutyPeriods672Hours = codes "117.23(c)(2)"
 section_text ThirtyHourRest = codes "117.25(b)"
 section_text TenHourRest = codes "117.25(e)"
 
--- their numbers, in the order in which they are listed
+-- the number of a section, in the order in which sections are listed
 abbrev pub section_number : Section → ℕ
 section_number FlightTime = 1
 section_number FlightDutyPeriod = 2

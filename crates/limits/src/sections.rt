@@ -1,6 +1,6 @@
 //! The judgement: which of the eight limits new duties break. Its definition is `Broken` (`specs/Judgement.antt`).
 //! Worked rows: `tests/answers.py`; against a slow count: `tests/judgement.py`. Wrong bodies: `must-fail-more/`.
-ghost use Rattle.std.specs.Prelude.{◌≡◌, ◌↔◌, ◌++◌, ◌∷◌, [], IsTrue, IfOk, OnOk, Contains};
+ghost use Rattle.std.specs.Prelude.{◌≡◌, ◌↔◌, ◌++◌, ◌∷◌, [], IfOk, OnOk, Contains};
 ghost use Rattle.std.specs.List.{filter};
 ghost use Rattle.limits.specs.Judgement.{Broken};
 ghost use Rattle.limits.specs.Rules.{Rule};
@@ -49,36 +49,6 @@ impl Model for Sections {
 }
 
 impl Sections {
-    /// Returns whether the section is one of them.
-    pub fn has(&self, section: Section) -> bool
-        ensures { IsTrue result ↔ Contains self.now section }
-    {
-        match section {
-            Section::FlightTime => self.flight_time,
-            Section::FlightDutyPeriod => self.flight_duty_period,
-            Section::FlightTime672Hours => self.flight_time_672_hours,
-            Section::FlightTime365Days => self.flight_time_365_days,
-            Section::FlightDutyPeriods168Hours => self.flight_duty_periods_168_hours,
-            Section::FlightDutyPeriods672Hours => self.flight_duty_periods_672_hours,
-            Section::ThirtyHourRest => self.thirty_hour_rest,
-            Section::TenHourRest => self.ten_hour_rest,
-        }
-    }
-
-    /// Returns whether no section is one of them.
-    pub fn is_empty(&self) -> bool
-        ensures { IsTrue result ↔ (self.now ≡ []) }
-    {
-        !(self.flight_time
-            || self.flight_duty_period
-            || self.flight_time_672_hours
-            || self.flight_time_365_days
-            || self.flight_duty_periods_168_hours
-            || self.flight_duty_periods_672_hours
-            || self.thirty_hour_rest
-            || self.ten_hour_rest)
-    }
-
     /// Lists the sections, in the order of [`Section`].
     pub fn list(&self, alloc: Global) -> Result<Vec<Section>, MemoryFault>
         ensures { IfOk result (λ list. list.items ≡ self.now) }

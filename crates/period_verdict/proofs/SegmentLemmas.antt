@@ -1,12 +1,10 @@
 -- Segments and the times that they are made of.
-use Rattle.std.proofs.Common.{◌≡◌, ℕ, suc, ◌+◌, ◌-◌, ◌*◌, ◌<◌, ◌≤◌, List, [], ◌∷◌, ◌++◌, length, map, get_or, drop, refl, ap, sym, ◌∙◌, arith, append_assoc, append-nil, Some, true}
-use Rattle.std.specs.List.{slice_get}
+use Rattle.std.proofs.Common.{◌≡◌, ℕ, suc, ◌+◌, ◌-◌, ◌*◌, ◌<◌, ◌≤◌, List, [], ◌∷◌, ◌++◌, length, get_or, drop, refl, ap, sym, ◌∙◌, arith, append_assoc, append-nil, true}
 use Rattle.std.proofs.lemmas.Bool.Decides.{nat_tests}
 use Rattle.std.proofs.lemmas.List.{length-map}
 use Rattle.std.proofs.Math.Seq.{drop-cons}
 use Rattle.std.proofs.Common.{length-drop}
-use Rattle.duty.specs.DutiesInForce.{span_of, fdp_times}
-use Rattle.duty.specs.Minutes.{last_in}
+use Rattle.duty.specs.DutiesInForce.{fdp_times}
 use Rattle.duty.specs.declared.segment.Segment.{Segment}
 use Rattle.period_verdict.specs.FlightDuty.{segments_of, timed, fdp_of, is_block_time_count}
 
@@ -34,14 +32,6 @@ segments_of-next segments times i a b h ea eb e =
     let made : segments_of (drop (2 * i) times) ≡ timed a b ∷ segments_of (drop (2 * (i + 1)) times) = ap segments_of pair in
     let moved : (segments ++ timed a b ∷ []) ++ segments_of (drop (2 * (i + 1)) times) ≡ segments ++ (timed a b ∷ segments_of (drop (2 * (i + 1)) times)) = append_assoc segments _ _ in
     moved ∙ sym (ap (λ rest. segments ++ rest) made) ∙ e
-
--- the last segment ends last
-pub last_in-last : (report : ℕ) (segments : List Segment) (s : Segment) → slice_get segments (length segments - 1) ≡ Some s → last_in report (map span_of segments) ≡ s.block_in
-last_in-last report [] s e = cc
-last_in-last report (a ∷ []) s e = let same : a ≡ s = cc in ap (λ x. x.block_in) same
-last_in-last report (a ∷ b ∷ rest) s e =
-    let less : suc (suc (length rest)) - 1 ≡ suc (suc (length rest) - 1) = omega arith in
-    last_in-last a.block_in (b ∷ rest) s (rw less at e)
 
 -- half as many segments as times
 pub length-segments_of : (times : List ℕ) → 2 * length (segments_of times) ≤ length times

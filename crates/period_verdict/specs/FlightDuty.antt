@@ -5,7 +5,7 @@ use Rattle.duty.specs.Minutes.{last_in}
 use Rattle.duty.specs.declared.fdp.Fdp.{Fdp}
 use Rattle.duty.specs.declared.segment.Segment.{Segment}
 
--- so many times are block-out and block-in of 1 to 12 segments
+-- a number of times is that of block-out and block-in of 1 to 12 segments
 abbrev pub is_block_time_count : ℕ → Bool
 is_block_time_count times = times % 2 == 0 && nat_lt 0 times && nat_le times 24
 
@@ -14,13 +14,13 @@ abbrev pub timed : ℕ → ℕ → Segment
 timed block_out block_in =
     record { flight = []; from = []; block_out = block_out; to = []; block_in = block_in }
 
--- two times a segment
+-- the segments that times make, block-out and block-in of each in turn
 abbrev pub segments_of : List ℕ → List Segment
 segments_of [] = []
 segments_of (time ∷ []) = []
 segments_of (block_out ∷ block_in ∷ rest) = timed block_out block_in ∷ segments_of rest
 
--- the period, which is released at its last block-in
+-- the flight duty period of a report and times, released at its last block-in
 abbrev pub fdp_of : ℕ → List ℕ → Fdp
 fdp_of report times = record {
   planned_report = report;

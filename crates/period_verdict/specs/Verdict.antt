@@ -2,7 +2,7 @@
 use Rattle.std.specs.Prelude.{ℕ, Bool, true, false, List, [], ◌∷◌, ◌++◌, length, map, codes, nat_lt, not, ◌&&◌, if◌then◌else◌, Result, Ok, Err}
 use Rattle.std.specs.Fmt.{decimal}
 use Rattle.time117.specs.Instant.{read_instant}
-use Rattle.time117.specs.Local.{is_zone_text}
+use Rattle.time117.specs.Local.{is_zone_text, local_minute}
 use Rattle.time117.specs.declared.minute.TimeFault.{TimeFault}
 use Rattle.duty.specs.DutiesInForce.{fdp_times}
 use Rattle.duty.specs.FdpTimes.{FdpTimes}
@@ -20,34 +20,37 @@ use Rattle.period_verdict.specs.declared.verdict.Outcome.{Outcome}
 use Rattle.period_verdict.specs.declared.fault.LineFault.{LineFault}
 use Rattle.period_verdict.specs.declared.fault.LineFault.TheVariants.{Zone, Time, SegmentCount, BadTimes}
 
--- a flight duty period beside what the tables give
-abbrev pub verdict : FdpTimes → Verdict
-verdict fdp = record {
-  start = fdp.start;
+-- a flight duty period stands beside what Tables A and B give for the minute of the day of its
+-- report
+abbrev pub verdict : ℕ → FdpTimes → Verdict
+verdict start fdp = record {
+  start = start;
   segments = length fdp.segments;
-  length = record { minutes = fdp_length fdp; limit = table_b fdp.start (length fdp.segments) };
-  flight = record { minutes = flight_time fdp; limit = table_a fdp.start };
+  length = record { minutes = fdp_length fdp; limit = table_b start (length fdp.segments) };
+  flight = record { minutes = flight_time fdp; limit = table_a start };
 }
 
--- 117.11(a)(1): the flight time is above Table A. 117.13(a): the period is longer than Table B gives
+-- which tables a flight duty period exceeds. 117.11(a)(1): its flight time is above Table A.
+-- 117.13(a): it is longer than Table B gives
 abbrev pub outcome : Verdict → Outcome
 outcome v = record {
   is_over_flight_time = nat_lt v.flight.limit v.flight.minutes;
   is_over_length = nat_lt v.length.limit v.length.minutes;
 }
 
--- neither table is exceeded
+-- neither Table A nor Table B is exceeded
 abbrev pub exceeds_no_table : Outcome → Bool
 exceeds_no_table o = not o.is_over_flight_time && not o.is_over_length
 
--- the end of the line, by whether the flight time and whether the length is over
+-- the end of the line of a verdict, by whether the flight time and whether the length is over
 abbrev pub sections_text : Bool → Bool → List ℕ
 sections_text false false = codes " within"
 sections_text true false = codes " exceeds " ++ section_text FlightTime
 sections_text false true = codes " exceeds " ++ section_text FlightDutyPeriod
-sections_text true true = codes " exceeds " ++ section_text FlightTime ++ codes " " ++ section_text FlightDutyPeriod
+sections_text true true =
+    codes " exceeds " ++ section_text FlightTime ++ codes " " ++ section_text FlightDutyPeriod
 
--- the outcome as it is printed
+-- which tables are exceeded, as it is printed
 unfoldable pub outcome_text : Outcome → List ℕ
 outcome_text o = sections_text o.is_over_flight_time o.is_over_length
 
@@ -55,35 +58,37 @@ outcome_text o = sections_text o.is_over_flight_time o.is_over_length
 unfoldable pub against_text : Against → List ℕ
 against_text a = hours_text a.minutes ++ codes " of " ++ hours_text a.limit
 
--- the line of a verdict
+-- the text of the line of a verdict
 unfoldable pub verdict_text : Verdict → List ℕ
 verdict_text v =
     codes "report " ++ clock_text v.start ++ codes " segments " ++ decimal v.segments
     ++ codes " fdp " ++ against_text v.length ++ codes " flight " ++ against_text v.flight
     ++ outcome_text (outcome v)
 
--- the line, and whether it says `within`
+-- a line of a verdict is its text, and whether it says `within`
 abbrev pub Line : Type 0
 Line = List ℕ × Bool
 
--- the line, and whether the verdict is `within`
+-- the line of a verdict has its text, and says whether no table is exceeded
 abbrev pub line_of_verdict : Verdict → Line
 line_of_verdict v = (verdict_text v, exceeds_no_table (outcome v))
 
--- Faults are looked for in this order: the zone, the report, each time in turn, the number of times, their order.
+-- Faults are looked for in this order: the zone, the report, each time in turn, the number of
+-- times, their order.
 
--- the line of a period, if its times are in order
+-- the line of a flight duty period, if its times are in order
 abbrev pub line_of_fdp : List ℕ → Fdp → Result Line LineFault
 line_of_fdp zone fdp =
     if not (is_in_order fdp.report fdp.release (map block_times fdp.segments)) then Err BadTimes
-    else Ok (line_of_verdict (verdict (fdp_times zone fdp)))
+    else Ok (line_of_verdict (verdict (local_minute zone fdp.planned_report) (fdp_times zone fdp)))
 
 -- the line of a report and times, if they are block-out and block-in of 1 to 12 segments
 abbrev pub line_of_times : List ℕ → ℕ → List ℕ → Result Line LineFault
 line_of_times zone report times =
-    if not (is_block_time_count (length times)) then Err SegmentCount else line_of_fdp zone (fdp_of report times)
+    if not (is_block_time_count (length times)) then Err SegmentCount
+    else line_of_fdp zone (fdp_of report times)
 
--- an instant before those that follow it, or the first fault
+-- an instant is put before the instants that follow it, or the first fault is told
 abbrev pub then_instant : Result ℕ TimeFault → Result (List ℕ) TimeFault → Result (List ℕ) TimeFault
 then_instant (Err fault) rest = Err fault
 then_instant (Ok time) (Err fault) = Err fault
@@ -94,13 +99,14 @@ abbrev pub read_instants : List (List ℕ) → Result (List ℕ) TimeFault
 read_instants [] = Ok []
 read_instants (text ∷ texts) = then_instant (read_instant text) (read_instants texts)
 
--- the fault of a time as one of the line
+-- the fault of a time is a fault of the line
 abbrev pub as_line_fault : Result (List ℕ) TimeFault → Result (List ℕ) LineFault
 as_line_fault (Ok times) = Ok times
 as_line_fault (Err fault) = Err (Time fault)
 
 -- the line of a report and times that were read, if each was
-abbrev pub line_of_read : List ℕ → Result ℕ TimeFault → Result (List ℕ) TimeFault → Result Line LineFault
+abbrev pub line_of_read : List ℕ → Result ℕ TimeFault → Result (List ℕ) TimeFault →
+    Result Line LineFault
 line_of_read zone (Err fault) times = Err (Time fault)
 line_of_read zone (Ok report) (Err fault) = Err (Time fault)
 line_of_read zone (Ok report) (Ok times) = line_of_times zone report times
@@ -108,4 +114,5 @@ line_of_read zone (Ok report) (Ok times) = line_of_times zone report times
 -- the line of the texts of `rosterbook duty`: a zone, a report and times
 abbrev pub line_of : List ℕ → List ℕ → List (List ℕ) → Result Line LineFault
 line_of zone report times =
-    if is_zone_text zone then line_of_read zone (read_instant report) (read_instants times) else Err Zone
+    if is_zone_text zone then line_of_read zone (read_instant report) (read_instants times)
+    else Err Zone

@@ -1,13 +1,9 @@
 //! The flight duty period of a command line, which has times alone.
 //! Wrong bodies: `must-fail-more/`.
-ghost use Rattle.std.specs.Prelude.{◌≡◌, ◌≤◌, length, map, IfOk};
-ghost use Rattle.std.specs.List.{sum_by};
-ghost use Rattle.std.specs.Prelude.{◌-◌};
-ghost use Rattle.duty.specs.DutiesInForce.{span_of};
-ghost use Rattle.duty.specs.Minutes.{last_in};
+ghost use Rattle.std.specs.Prelude.{◌≡◌, IfOk};
 ghost use Rattle.period_verdict.specs.FlightDuty as spec;
 
-use duty::{Airport, Fdp, Flight, Segment, Span};
+use duty::{Airport, Fdp, Flight, Segment, last_block_in};
 use std::alloc::{AllocError, Global};
 use time117::Minute;
 use values::{Sequence, Text};
@@ -44,26 +40,4 @@ fn timed(alloc: Global, block_out: Minute, block_in: Minute) -> Segment
         to: Airport::new(Text::new(String::new(alloc))),
         block_in,
     }
-}
-
-/// Returns the last block-in, or the report where there is no segment.
-fn last_block_in(report: Minute, segments: &[Segment]) -> Minute
-    ensures { result ≡ last_in report (map span_of segments.now) }
-{
-    match segments.last() {
-        Some(segment) => segment.block_in,
-        None => report,
-    }
-}
-
-/// Counts the minutes of the segments' flight time, from block-out to block-in of each (14 CFR 1.1).
-pub fn flight_minutes(segments: &[Span]) -> u32
-    requires { length segments.now ≤ 12 }
-    ensures { result ≡ sum_by (λ segment. segment.to - segment.from) segments.now }
-{
-    let mut minutes = 0;
-    for segment in segments {
-        minutes += segment.to.number().saturating_sub(segment.from.number());
-    }
-    minutes
 }

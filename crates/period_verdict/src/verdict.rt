@@ -6,9 +6,9 @@ ghost use Rattle.period_verdict.specs.Verdict as spec;
 ghost use Rattle.period_verdict.specs.declared.fault.LineFault.TheVariants.{Memory, Time};
 
 use crate::fault::LineFault;
-use crate::flight_duty::{flight_minutes, read_fdp};
+use crate::flight_duty::read_fdp;
 use crate::texts::{Clock, Hours};
-use duty::FdpInForce;
+use duty::{FdpInForce, flight_minutes};
 use limits::{Section, table_a, table_b};
 use std::alloc::Global;
 use std::fmt;
@@ -70,7 +70,8 @@ fn line_of_times(
     if !fdp.is_in_order() {
         return Err(LineFault::BadTimes);
     }
-    let verdict = Verdict::of(&fdp.in_force(alloc, zone)?);
+    let start = zone.minute_of_day(fdp.planned_report)?;
+    let verdict = Verdict::of(start, &fdp.in_force(alloc, zone)?);
     Ok((
         format!(in alloc; "{verdict}")?,
         verdict.outcome().is_within(),
@@ -109,22 +110,22 @@ struct Outcome {
 }
 
 impl Verdict {
-    /// Judges a period of 1 to 12 segments.
-    fn of(fdp: &FdpInForce) -> Verdict
+    /// Judges a period of 1 to 12 segments by the minute of the day of its report.
+    fn of(start: u16, fdp: &FdpInForce) -> Verdict
         requires { length fdp.now.segments ≤ 12 }
-        ensures { result ≡ spec.verdict fdp.now }
+        ensures { result ≡ spec.verdict start fdp.now }
     {
         let segments = fdp.segments();
         Verdict {
-            start: fdp.start(),
+            start,
             segments: segments.len(),
             length: Against {
                 minutes: fdp.length(),
-                limit: table_b(fdp.start(), segments.len()),
+                limit: table_b(start, segments.len()),
             },
             flight: Against {
                 minutes: flight_minutes(segments),
-                limit: table_a(fdp.start()),
+                limit: table_a(start),
             },
         }
     }

@@ -1,4 +1,3 @@
-pub mod AsciiInstants
 pub mod ExceedanceRows
 pub mod FewSegments
 pub mod InOrder

@@ -1,15 +1,12 @@
 //! The periods of a pairing with their times in force.
 //! Worked texts: `tests/reports.py`. Wrong bodies: `must-fail/`.
-ghost use Rattle.std.specs.Prelude.{◌≡◌, ◌≤◌, IfOk, length, map};
+ghost use Rattle.std.specs.Prelude.{◌≡◌, ◌≤◌, IfOk, length};
 ghost use Rattle.std.specs.List.{All};
-ghost use Rattle.duty.specs.DutiesInForce.{span_of};
-ghost use Rattle.duty.specs.Minutes.{last_in};
 ghost use Rattle.report.specs.Periods as spec;
 
-use duty::{Fdp, Segment};
+use duty::{Fdp, flight_minutes, last_block_in};
 use roster::{PairingEntry, in_force};
 use std::alloc::Global;
-use time117::Minute;
 use values::MemoryFault;
 
 /// A flight duty period (14 CFR 117.3) with its times in force: those of its actual, if it has one, else the planned ones.
@@ -41,24 +38,7 @@ impl PeriodInForce {
         requires { length self.now.fdp.segments ≤ 12 }
         ensures { result ≡ spec.flight_time_of self.now.fdp }
     {
-        let mut minutes = 0;
-        for segment in self.fdp.segments.as_slice() {
-            minutes += segment
-                .block_in
-                .number()
-                .saturating_sub(segment.block_out.number());
-        }
-        minutes
-    }
-}
-
-/// Returns the last block-in, or the report where there is no segment.
-fn last_block_in(report: Minute, segments: &[Segment]) -> Minute
-    ensures { result ≡ last_in report (map span_of segments.now) }
-{
-    match segments.last() {
-        Some(segment) => segment.block_in,
-        None => report,
+        flight_minutes(self.fdp.segments.as_slice())
     }
 }
 

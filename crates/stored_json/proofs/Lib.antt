@@ -3,4 +3,3 @@ pub mod KeptBack
 pub mod InstructionsBack
 pub mod ReplyBack
 pub mod EachRead
-pub mod AsciiInstants

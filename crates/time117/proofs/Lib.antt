@@ -1,3 +1,4 @@
+pub mod AsciiInstants
 pub mod FormLemmas
 pub mod DateFacts
 pub mod WrittenLemmas

@@ -14,7 +14,7 @@ fits letter byte = if letter == 100 then is_ascii_digit byte else (letter == byt
 abbrev pub has_form : List ℕ → List ℕ → Bool
 has_form form text = (length form == length text) && list_all (λ p. fits p.0 p.1) (zip form text)
 
--- one of the two written forms
+-- the text has one of the two written forms of an instant, without seconds or with 00 seconds
 abbrev pub is_written : List ℕ → Bool
 is_written text =
     has_form (codes "dddd-dd-ddTdd:ddZ") text || has_form (codes "dddd-dd-ddTdd:dd:00Z") text
@@ -34,27 +34,28 @@ is_time year month day hour minute =
 abbrev pub day_number : ℕ → ℕ → ℕ → ℕ
 day_number year month day = day_count (pos year) month day - day_count (pos 2000) 1 1
 
--- the minute that a year, month, day, hour and minute name: first they have to exist, then to be in range
+-- the minute that a year, month, day, hour and minute name: first they have to exist, then to be in
+-- range
 abbrev pub instant : ℕ → ℕ → ℕ → ℕ → ℕ → Result ℕ TimeFault
 instant year month day hour minute =
     if not (is_time year month day hour minute) then Err NoSuchTime
     else (if not (nat_le 2000 year && nat_le year 2099) then Err OutOfRange
     else Ok (1_440 * day_number year month day + 60 * hour + minute))
 
--- what a text says as an instant
+-- the instant that a text says, or why it says none
 unfoldable pub read_instant : List ℕ → Result ℕ TimeFault
 read_instant text =
     if not (is_written text) then Err Malformed
     else instant (100 * pair_at text 0 + pair_at text 2)
     (pair_at text 5) (pair_at text 8) (pair_at text 11) (pair_at text 14)
 
--- a date
+-- a date on the calendar
 pub record CalendarDate : Type 0 where
   pub year : ℕ
   pub month : ℕ
   pub day : ℕ
 
--- the day after
+-- the date of the day after a date
 abbrev pub next_date : CalendarDate → CalendarDate
 next_date d =
     if nat_lt d.day (days_in_month (pos d.year) d.month) then record d { day = d.day + 1 }
@@ -70,13 +71,13 @@ date_of (suc n) = next_date (date_of n)
 abbrev pub two_digits : ℕ → List ℕ
 two_digits n = (48 + n / 10) ∷ (48 + n % 10) ∷ []
 
--- a date and a time of the day in the first written form
+-- a date and a time of the day as text, in the form without seconds
 abbrev pub written_at : CalendarDate → ℕ → ℕ → List ℕ
 written_at d hour minute =
     two_digits (d.year / 100) ++ two_digits (d.year % 100)
     ++ codes "-" ++ two_digits d.month ++ codes "-" ++ two_digits d.day
     ++ codes "T" ++ two_digits hour ++ codes ":" ++ two_digits minute ++ codes "Z"
 
--- a minute in the first written form
+-- a minute as text, in the form without seconds: `2000-01-01T00:00Z` for 0
 unfoldable pub written : ℕ → List ℕ
 written minute = written_at (date_of (minute / 1_440)) (minute % 1_440 / 60) (minute % 60)

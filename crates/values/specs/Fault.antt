@@ -1,6 +1,6 @@
--- The one fault of want of memory.
+-- The fault of a call that ran out of memory.
 use Rattle.values.specs.declared.memory_fault.MemoryFault.{MemoryFault}
 
--- its one value
+-- the one value of this fault
 abbrev pub memory_fault : MemoryFault
 memory_fault = record {}

@@ -6,11 +6,13 @@ use Rattle.std.specs.Cmp.Lexicographic.{slice_cmp}
 use Rattle.std.specs.FinMap.{FinMap, get, insert}
 use Rattle.std.specs.Option.{option_map, unwrap_or}
 
--- names in order: by their first numbers that differ, and a name before those that it begins
+-- the order of names: by their first numbers that differ, and a name before each longer one that
+-- it begins
 abbrev pub name_cmp : List ℕ → List ℕ → Ordering
 name_cmp = slice_cmp nat_cmp
 
--- a name that goes on after a text: the end of the text is 0, below each byte, and a byte is one more
+-- a name that goes on after a text: a byte of the text is one more than itself, and its end is 0,
+-- below each byte
 abbrev pub text_then : List ℕ → List ℕ → List ℕ
 text_then text rest = map (λ byte. byte + 1) text ++ 0 ∷ rest
 
@@ -18,6 +20,7 @@ text_then text rest = map (λ byte. byte + 1) text ++ 0 ∷ rest
 abbrev pub named_rows : {K V : Type 0} → (K → List ℕ) → List (K × V) → List (List ℕ × V)
 named_rows name rows = map (λ row. (name row.0, row.1)) rows
 
--- a map with the value under a name changed, if it has one there
+-- a map with the value under a name changed, or as it was if it has none there
 abbrev pub changed_at : {V : Type 0} → FinMap name_cmp V → List ℕ → (V → V) → FinMap name_cmp V
-changed_at m name change = unwrap_or (option_map (λ value. insert m name (change value)) (get m name)) m
+changed_at m name change =
+    unwrap_or (option_map (λ value. insert m name (change value)) (get m name)) m

@@ -94,16 +94,6 @@ impl<K: OrdKey + Drop, V: Drop> OrdMap<K, V> {
         Ok(())
     }
 
-    /// Gives a key this value, if the key is there; it takes no memory.
-    #[tactic(auto, using(crate::proofs::Rows::changed_row, crate::proofs::Rows::unchanged_row))]
-    pub fn replace(&mut self, key: &K, value: V)
-        ensures { self.new ≡ changed_at self.old (K.name key.now) (λ _. value) }
-    {
-        if let Some(before) = self.rows.get_mut(key) {
-            *before = value;
-        }
-    }
-
     /// Takes a key out, with its value.
     #[tactic(auto, using(crate::proofs::Rows::drop_row))]
     pub fn remove(&mut self, key: &K)

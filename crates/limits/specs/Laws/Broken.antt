@@ -17,7 +17,8 @@ contains_later : {X : Type 0} (y : X) (ys : List X) (x : X) → Contains ys x �
 contains_later y ys x c = let h = c.1 in (suc c.0, omega arith, c.2)
 
 -- an element that passes the test is in the filtered list
-contains_filter : {X : Type 0} (p : X → Bool) (xs : List X) (x : X) (k : ℕ) → k < length xs → get_or xs k x ≡ x →
+contains_filter : {X : Type 0} (p : X → Bool) (xs : List X) (x : X) (k : ℕ) → k < length xs →
+    get_or xs k x ≡ x →
     p x ≡ true → Contains (filter p xs) x
 contains_filter p [] x k l is pass = absurd (omega arith)
 contains_filter p (y ∷ ys) x zero l is pass =
@@ -41,16 +42,19 @@ in_all section.FlightDutyPeriods672Hours = (5, lit< tt, refl)
 in_all section.ThirtyHourRest = (6, lit< tt, refl)
 in_all section.TenHourRest = (7, lit< tt, refl)
 
--- the sections that pass a test are those that are listed by it
-pub listed_is : (test : Section → Bool) (s : Section) → Contains (filter test all_sections) s ↔ (test s ≡ true)
+-- a section is in the list made by a test exactly where it passes the test
+pub listed_is : (test : Section → Bool) (s : Section) →
+    Contains (filter test all_sections) s ↔ (test s ≡ true)
 listed_is test s = (
-  λ c. All-contains (λ t. test t ≡ true) (filter test all_sections) s (filter_passes test all_sections) c,
+  λ c. All-contains (λ t. test t ≡ true) (filter test all_sections) s
+      (filter_passes test all_sections) c,
   λ is. let c = in_all s in contains_filter test all_sections s c.0 c.1 c.2 is,
 )
 
 -- a section is in the list of the broken ones
 -- exactly where its rule is broken
-pub broken_is : (history new : List DutyInForce) (s : Section) → Contains (Broken history new) s ↔ Rule s history new
+pub broken_is : (history new : List DutyInForce) (s : Section) →
+    Contains (Broken history new) s ↔ Rule s history new
 unfolding Broken
 broken_is history new s =
     let listed = listed_is (λ t. breaks t history new) s in
@@ -61,7 +65,8 @@ broken_is history new s =
 
 -- what fewer duties break, more duties break:
 -- no duty mends what others have broken
-pub broken_grows : (fewer history some new : List DutyInForce) → IsWithin fewer history → IsWithin some new →
+pub broken_grows : (fewer history some new : List DutyInForce) → IsWithin fewer history →
+    IsWithin some new →
     (s : Section) → Contains (Broken fewer some) s → Contains (Broken history new) s
 broken_grows fewer history some new within within_new s broken =
     (broken_is history new s).1
@@ -70,7 +75,8 @@ broken_grows fewer history some new within within_new s broken =
 -- where duties are added to others, what all of them break
 -- was broken by the others, or the added ones break it
 pub broken_splits : (all others added : List DutyInForce) → IsJoined all others added →
-    (s : Section) → Contains (Broken all all) s → Contains (Broken others others) s ⊎ Contains (Broken all added) s
+    (s : Section) → Contains (Broken all all) s →
+    Contains (Broken others others) s ⊎ Contains (Broken all added) s
 broken_splits all others added joined s broken =
     elim (rule_splits s all others added joined ((broken_is all all s).0 broken)) [
       | inl old ↦ inl ((broken_is others others s).1 old)

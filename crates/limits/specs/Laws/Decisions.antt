@@ -22,17 +22,21 @@ breaks section.FlightTime history new = list_any is_over_table_a new
 breaks section.FlightDutyPeriod history new = list_any is_over_table_b new
 breaks section.FlightTime672Hours history new = some_is_over (flat_map (spans_of Flight) history)
     (flat_map (spans_of Flight) new) 40_320 6_000
-breaks section.FlightTime365Days history new = some_year_is_over (flat_map (spans_of Flight) history)
+breaks section.FlightTime365Days history new =
+    some_year_is_over (flat_map (spans_of Flight) history)
     (flat_map (spans_of Flight) new) 60_000
 breaks section.FlightDutyPeriods168Hours history new =
-    some_is_over (flat_map (spans_of FlightDuty) history) (flat_map (spans_of FlightDuty) new) 10_080 3_600
+    some_is_over (flat_map (spans_of FlightDuty) history) (flat_map (spans_of FlightDuty) new)
+    10_080 3_600
 breaks section.FlightDutyPeriods672Hours history new =
-    some_is_over (flat_map (spans_of FlightDuty) history) (flat_map (spans_of FlightDuty) new) 40_320 11_400
+    some_is_over (flat_map (spans_of FlightDuty) history) (flat_map (spans_of FlightDuty) new)
+    40_320 11_400
 breaks section.ThirtyHourRest history new = some_lacks_rest rest.ThirtyHours history new
 breaks section.TenHourRest history new = some_lacks_rest rest.TenHours history new
 
--- it is true exactly where the rule is broken
-pub breaks_is : (s : Section) (history new : List DutyInForce) → IsTrue (breaks s history new) ↔ Rule s history new
+-- the test of a section's rule is true exactly where the rule is broken
+pub breaks_is : (s : Section) (history new : List DutyInForce) →
+    IsTrue (breaks s history new) ↔ Rule s history new
 unfolding breaks
 breaks_is section.FlightTime history new = table_a_decides history new
 breaks_is section.FlightDutyPeriod history new = table_b_decides history new
@@ -41,8 +45,10 @@ breaks_is section.FlightTime672Hours history new = sum_rule (flat_map (spans_of 
 breaks_is section.FlightTime365Days history new = year_rule (flat_map (spans_of Flight) history)
     (flat_map (spans_of Flight) new) 60_000
 breaks_is section.FlightDutyPeriods168Hours history new =
-    sum_rule (flat_map (spans_of FlightDuty) history) (flat_map (spans_of FlightDuty) new) 10_080 3_600 (omega arith)
+    sum_rule (flat_map (spans_of FlightDuty) history) (flat_map (spans_of FlightDuty) new)
+    10_080 3_600 (omega arith)
 breaks_is section.FlightDutyPeriods672Hours history new =
-    sum_rule (flat_map (spans_of FlightDuty) history) (flat_map (spans_of FlightDuty) new) 40_320 11_400 (omega arith)
+    sum_rule (flat_map (spans_of FlightDuty) history) (flat_map (spans_of FlightDuty) new)
+    40_320 11_400 (omega arith)
 breaks_is section.ThirtyHourRest history new = thirty_hours_decides history new
 breaks_is section.TenHourRest history new = ten_hours_decides history new

@@ -13,26 +13,30 @@ use Rattle.limits.specs.Laws.Parts.{IsPart, part-minutes, count-part, meets-part
 
 -- a window rule that fewer minutes break, more minutes break
 over-part :
-    (width most : ℕ) (some all some_new all_new : ℤ → Bool) → IsPart some all → IsPart some_new all_new →
+    (width most : ℕ) (some all some_new all_new : ℤ → Bool) → IsPart some all →
+    IsPart some_new all_new →
     IsOver width most some some_new → IsOver width most all all_new
 over-part width most some all some_new all_new part part_new over = record {
   start = over.start;
   meets = meets-part some_new all_new over.start width part_new over.meets;
-  more = (let grown = count-part some all part over.start width in let more = over.more in omega arith);
+  more = (let grown = count-part some all part over.start width in
+      let more = over.more in omega arith);
 }
 
--- so it is with the rule of 365 days
+-- a rule of 365 days that fewer minutes break, more minutes break
 year-part :
     (most : ℕ) (some all some_new all_new : ℤ → Bool) → IsPart some all → IsPart some_new all_new →
     IsYearOver most some some_new → IsYearOver most all all_new
 year-part most some all some_new all_new part part_new over = record {
   day = over.day;
   meets = meets-part some_new all_new (over.day *ℤ pos 1_440) 525_600 part_new over.meets;
-  more = (let grown = count-part some all part (over.day *ℤ pos 1_440) 525_600 in let more = over.more in omega arith);
+  more = (let grown = count-part some all part (over.day *ℤ pos 1_440) 525_600 in
+      let more = over.more in omega arith);
 }
 
 -- a period that fewer duties touch, more duties touch
-touched-part : (fewer history some new : List DutyInForce) (fdp : FdpTimes) (width : ℕ) → IsWithin fewer history →
+touched-part : (fewer history some new : List DutyInForce) (fdp : FdpTimes) (width : ℕ) →
+    IsWithin fewer history →
     IsWithin some new → IsTouched fewer some fdp width → IsTouched history new fdp width
 touched-part fewer history some new fdp width within within_new touched =
     elim touched [
@@ -45,17 +49,20 @@ touched-part fewer history some new fdp width within within_new touched =
     ]
 
 -- a rest of ten hours that fewer duties break, more duties break
-ten_hours-part : (fewer history some new : List DutyInForce) → IsWithin fewer history → IsWithin some new →
+ten_hours-part : (fewer history some new : List DutyInForce) → IsWithin fewer history →
+    IsWithin some new →
     TenHourRest fewer some → TenHourRest history new
 ten_hours-part fewer history some new within within_new rule = record {
   fdp = rule.fdp;
   touched = touched-part fewer history some new rule.fdp 600 within within_new rule.touched;
-  worked = meets-part (minutes_in Duty fewer) (minutes_in Duty history) (pos rule.fdp.report -ℤ pos 600) 600
+  worked = meets-part (minutes_in Duty fewer) (minutes_in Duty history)
+      (pos rule.fdp.report -ℤ pos 600) 600
       (part-minutes Duty fewer history within) rule.worked;
 }
 
 -- a rest of thirty hours that fewer duties break, more duties break
-thirty_hours-part : (fewer history some new : List DutyInForce) → IsWithin fewer history → IsWithin some new →
+thirty_hours-part : (fewer history some new : List DutyInForce) → IsWithin fewer history →
+    IsWithin some new →
     ThirtyHourRest fewer some → ThirtyHourRest history new
 thirty_hours-part fewer history some new within within_new rule = record {
   fdp = rule.fdp;
@@ -65,14 +72,28 @@ thirty_hours-part fewer history some new within within_new rule = record {
 }
 
 -- a rule that fewer duties break, more duties break
-pub rule_grows : (s : Section) (fewer history some new : List DutyInForce) → IsWithin fewer history →
+pub rule_grows : (s : Section) (fewer history some new : List DutyInForce) →
+    IsWithin fewer history →
     IsWithin some new → Rule s fewer some → Rule s history new
 rule_grows section.FlightTime fewer history some new within within_new rule =
-    record { fdp = rule.fdp; is_new = within_new _ rule.is_new; over = rule.over }
+    record {
+      fdp = rule.fdp;
+      is_new = within_new _ rule.is_new;
+      start = rule.start;
+      entered = rule.entered;
+      over = rule.over;
+    }
 rule_grows section.FlightDutyPeriod fewer history some new within within_new rule =
-    record { fdp = rule.fdp; is_new = within_new _ rule.is_new; over = rule.over }
+    record {
+      fdp = rule.fdp;
+      is_new = within_new _ rule.is_new;
+      start = rule.start;
+      entered = rule.entered;
+      over = rule.over;
+    }
 rule_grows section.FlightTime672Hours fewer history some new within within_new rule =
-    over-part 40_320 6_000 (minutes_in Flight fewer) (minutes_in Flight history) (minutes_in Flight some)
+    over-part 40_320 6_000 (minutes_in Flight fewer) (minutes_in Flight history)
+    (minutes_in Flight some)
     (minutes_in Flight new) (part-minutes Flight fewer history within)
     (part-minutes Flight some new within_new) rule
 rule_grows section.FlightTime365Days fewer history some new within within_new rule =
@@ -80,11 +101,13 @@ rule_grows section.FlightTime365Days fewer history some new within within_new ru
     (minutes_in Flight new) (part-minutes Flight fewer history within)
     (part-minutes Flight some new within_new) rule
 rule_grows section.FlightDutyPeriods168Hours fewer history some new within within_new rule =
-    over-part 10_080 3_600 (minutes_in FlightDuty fewer) (minutes_in FlightDuty history) (minutes_in FlightDuty some)
+    over-part 10_080 3_600 (minutes_in FlightDuty fewer) (minutes_in FlightDuty history)
+    (minutes_in FlightDuty some)
     (minutes_in FlightDuty new) (part-minutes FlightDuty fewer history within)
     (part-minutes FlightDuty some new within_new) rule
 rule_grows section.FlightDutyPeriods672Hours fewer history some new within within_new rule =
-    over-part 40_320 11_400 (minutes_in FlightDuty fewer) (minutes_in FlightDuty history) (minutes_in FlightDuty some)
+    over-part 40_320 11_400 (minutes_in FlightDuty fewer) (minutes_in FlightDuty history)
+    (minutes_in FlightDuty some)
     (minutes_in FlightDuty new) (part-minutes FlightDuty fewer history within)
     (part-minutes FlightDuty some new within_new) rule
 rule_grows section.ThirtyHourRest fewer history some new within within_new rule =

@@ -24,10 +24,12 @@ pub record Lacks (r : Rest) (history new : List DutyInForce) : Type 0 where
   pub touched : IsTouched history new fdp (look_width r)
   pub lacks : lacks_rest r history fdp.report ≡ true
 
--- the test of duty before a report finds just a duty minute in those minutes
+-- the test of duty before a report passes exactly where the minutes before it meet a duty minute
 on_duty_decides : (history : List DutyInForce) (end width : ℕ) → 0 < width →
-    (is_on_duty_before history end width ≡ true) ↔ Meets (minutes_in Duty history) (pos end -ℤ pos width) width
-on_duty_decides history end width some = reach_decides (flat_map (spans_of Duty) history) end width some
+    (is_on_duty_before history end width ≡ true) ↔
+    Meets (minutes_in Duty history) (pos end -ℤ pos width) width
+on_duty_decides history end width some =
+    reach_decides (flat_map (spans_of Duty) history) end width some
 
 -- each look-back has a minute
 look_width-some : (r : Rest) → 0 < look_width r
@@ -40,8 +42,10 @@ lacks_new : (r : Rest) (history new : List DutyInForce) (duty : DutyInForce) →
 lacks_new r history new (Fdp fdp) in' is = record { fdp = fdp; touched = inl in'; lacks = is }
 lacks_new r history new (Ground span) in' is = absurd (false≢true is)
 
--- so is a duty of the history that passes it, and whose look-back meets a new duty
-lacks_old : (r : Rest) (history new : List DutyInForce) (duty : DutyInForce) → Contains history duty →
+-- a duty of the history that passes the test, and whose look-back meets a new duty, is a report
+-- that lacks the rest
+lacks_old : (r : Rest) (history new : List DutyInForce) (duty : DutyInForce) →
+    Contains history duty →
     by_report (is_spoilt r history new) duty ≡ true → Lacks r history new
 lacks_old r history new (Fdp fdp) in' is =
     let a = and_parts _ _ is in
@@ -57,26 +61,33 @@ lacks_old r history new (Fdp fdp) in' is =
 lacks_old r history new (Ground span) in' is = absurd (false≢true is)
 
 -- where the tests find a duty, some touched report lacks the rest
-lacks_found : (r : Rest) (history new : List DutyInForce) → some_lacks_rest r history new ≡ true → Lacks r history new
+lacks_found : (r : Rest) (history new : List DutyInForce) → some_lacks_rest r history new ≡ true →
+    Lacks r history new
 lacks_found r history new is =
     elim (or_cases (list_any (by_report (lacks_rest r history)) new)
     (list_any (by_report (is_spoilt r history new)) history) is) [
-      | inl a ↦ (let c = contained (by_report (lacks_rest r history)) new a in lacks_new r history new c.0 c.1 c.2)
+      | inl a ↦ (let c = contained (by_report (lacks_rest r history)) new a in
+          lacks_new r history new c.0 c.1 c.2)
       | inr b ↦ (let c = contained (by_report (is_spoilt r history new)) history b in
           lacks_old r history new c.0 c.1 c.2)
     ]
 
 -- where some touched report lacks the rest, the tests find a duty
-lacks_tested : (r : Rest) (history new : List DutyInForce) → Lacks r history new → some_lacks_rest r history new ≡ true
+lacks_tested : (r : Rest) (history new : List DutyInForce) → Lacks r history new →
+    some_lacks_rest r history new ≡ true
 lacks_tested r history new l =
     elim l.touched [
-      | inl is_new ↦ or_left _ _ (from_contained (by_report (lacks_rest r history)) new (Fdp l.fdp) is_new l.lacks)
-      | inr old ↦ or_right _ _ (from_contained (by_report (is_spoilt r history new)) history (Fdp l.fdp) old.0
-          (and_from _ _ ((on_duty_decides new l.fdp.report (look_width r) (look_width-some r)).1 old.1) l.lacks))
+      | inl is_new ↦ or_left _ _
+          (from_contained (by_report (lacks_rest r history)) new (Fdp l.fdp) is_new l.lacks)
+      | inr old ↦ or_right _ _
+          (from_contained (by_report (is_spoilt r history new)) history (Fdp l.fdp) old.0
+          (and_from _ _
+          ((on_duty_decides new l.fdp.report (look_width r) (look_width-some r)).1 old.1) l.lacks))
     ]
 
 -- the tests decide the rule of ten hours (117.25(e))
-pub ten_hours_decides : (history new : List DutyInForce) → (some_lacks_rest rest.TenHours history new ≡ true) ↔
+pub ten_hours_decides : (history new : List DutyInForce) →
+    (some_lacks_rest rest.TenHours history new ≡ true) ↔
     TenHourRest history new
 ten_hours_decides history new = (
   λ is. let l = lacks_found rest.TenHours history new is in
@@ -94,8 +105,10 @@ ten_hours_decides history new = (
 )
 
 -- each run meets the set, or some run is free
-worked_from : (set : ℤ → Bool) (end : ℤ) (width length : ℕ) → (HasFreeRun set (end -ℤ pos width) width length → ⊥) →
-    (start : ℤ) → (end -ℤ pos width) ≤ℤ start → (start +ℤ pos length) ≤ℤ end → Meets set start length
+worked_from : (set : ℤ → Bool) (end : ℤ) (width length : ℕ) →
+    (HasFreeRun set (end -ℤ pos width) width length → ⊥) →
+    (start : ℤ) → (end -ℤ pos width) ≤ℤ start → (start +ℤ pos length) ≤ℤ end →
+    Meets set start length
 worked_from set end width length none start from to =
     elim (meets_or_free set start length) [
       | inl m ↦ m
@@ -110,7 +123,8 @@ worked_from set end width length none start from to =
 
 -- where each run of that length meets the set, no run is free
 no_free_run : (set : ℤ → Bool) (end : ℤ) (width length : ℕ) →
-    ((start : ℤ) → (end -ℤ pos width) ≤ℤ start → (start +ℤ pos length) ≤ℤ end → Meets set start length) →
+    ((start : ℤ) → (end -ℤ pos width) ≤ℤ start → (start +ℤ pos length) ≤ℤ end →
+    Meets set start length) →
     HasFreeRun set (end -ℤ pos width) width length → ⊥
 no_free_run set end width length worked has =
     let from = has.from_start in
@@ -120,34 +134,42 @@ no_free_run set end width length worked has =
     omega arith
 
 -- the tests decide the rule of thirty hours (117.25(b))
-pub thirty_hours_decides : (history new : List DutyInForce) → (some_lacks_rest rest.ThirtyHours history new ≡ true) ↔
+pub thirty_hours_decides : (history new : List DutyInForce) →
+    (some_lacks_rest rest.ThirtyHours history new ≡ true) ↔
     ThirtyHourRest history new
 thirty_hours_decides history new = (thirty_found history new, thirty_tested history new)
   where
-    thirty_found : (history new : List DutyInForce) → some_lacks_rest rest.ThirtyHours history new ≡ true →
+    thirty_found : (history new : List DutyInForce) →
+        some_lacks_rest rest.ThirtyHours history new ≡ true →
         ThirtyHourRest history new
     thirty_found history new is =
         let l = lacks_found rest.ThirtyHours history new is in
         let report = l.fdp.report in
-        let d = free_run_decides (minutes_in Duty history) (pos report -ℤ pos 10_080) 10_080 1_800 in
-        let no = not-true (free_run_test (minutes_in Duty history) (pos report -ℤ pos 10_080) 10_080 1_800) l.lacks in
+        let d = free_run_decides (minutes_in Duty history)
+        (pos report -ℤ pos 10_080) 10_080 1_800 in
+        let no = not-true (free_run_test (minutes_in Duty history)
+        (pos report -ℤ pos 10_080) 10_080 1_800) l.lacks in
         record {
           fdp = l.fdp;
           touched = l.touched;
           worked =
-              worked_from (minutes_in Duty history) (pos report) 10_080 1_800 (λ has. false≢true (sym no ∙ d.1 has));
+              worked_from (minutes_in Duty history) (pos report) 10_080 1_800
+              (λ has. false≢true (sym no ∙ d.1 has));
         }
 
     thirty_tested : (history new : List DutyInForce) → ThirtyHourRest history new →
         some_lacks_rest rest.ThirtyHours history new ≡ true
     thirty_tested history new t =
         let report = t.fdp.report in
-        let d = free_run_decides (minutes_in Duty history) (pos report -ℤ pos 10_080) 10_080 1_800 in
+        let d = free_run_decides (minutes_in Duty history)
+        (pos report -ℤ pos 10_080) 10_080 1_800 in
         lacks_tested rest.ThirtyHours history new (record {
           fdp = t.fdp;
           touched = t.touched;
-          lacks = elim (cases_Bool (free_run_test (minutes_in Duty history) (pos report -ℤ pos 10_080) 10_080 1_800)) [
-            | inl is ↦ absurd (no_free_run (minutes_in Duty history) (pos report) 10_080 1_800 t.worked (d.0 is))
-            | inr is ↦ ap not is
-          ];
+          lacks = elim (cases_Bool
+              (free_run_test (minutes_in Duty history) (pos report -ℤ pos 10_080) 10_080 1_800)) [
+                | inl is ↦ absurd (no_free_run (minutes_in Duty history) (pos report) 10_080 1_800
+                    t.worked (d.0 is))
+                | inr is ↦ ap not is
+              ];
         })

@@ -23,11 +23,13 @@ holder : (kind : Kind) (history : List DutyInForce) (i : ℤ) → minutes_in kin
     (duty : DutyInForce) × Contains history duty × (list_any (covers i) (spans_of kind duty) ≡ true)
 holder kind history i is =
     let test : DutyInForce → Bool = λ d. list_any (covers i) (spans_of kind d) in
-    let a = Any-from_list_any test history (sym (list_any-flat_map (covers i) (spans_of kind) history) ∙ is) in
+    let a = Any-from_list_any test history
+    (sym (list_any-flat_map (covers i) (spans_of kind) history) ∙ is) in
     (a.1, (a.0, a.2, a.3), a.4)
 
 -- what a duty of the history holds is a minute of the history
-held : (kind : Kind) (history : List DutyInForce) (i : ℤ) (duty : DutyInForce) → Contains history duty →
+held : (kind : Kind) (history : List DutyInForce) (i : ℤ) (duty : DutyInForce) →
+    Contains history duty →
     list_any (covers i) (spans_of kind duty) ≡ true → minutes_in kind history i ≡ true
 held kind history i duty in' is =
     let test : DutyInForce → Bool = λ d. list_any (covers i) (spans_of kind d) in
@@ -42,7 +44,8 @@ part-minutes kind fewer duties within i is =
     held kind duties i h.0 (within h.0 h.1) h.2
 
 -- each minute of all duties is one of the others or of the added ones
-pub union-minutes : (kind : Kind) (all others added : List DutyInForce) → IsJoined all others added →
+pub union-minutes : (kind : Kind) (all others added : List DutyInForce) →
+    IsJoined all others added →
     IsUnion (minutes_in kind all) (minutes_in kind others) (minutes_in kind added)
 union-minutes kind all others added joined i is =
     let h = holder kind all i is in
@@ -68,12 +71,15 @@ count-part some all part start (suc width) =
     omega arith
 
 -- a truth that gives one of two others counts no more than both
-one_if-union : (a b c : Bool) → (a ≡ true → (b ≡ true) ⊎ (c ≡ true)) → one_if a ≤ one_if b + one_if c
+one_if-union : (a b c : Bool) → (a ≡ true → (b ≡ true) ⊎ (c ≡ true)) →
+    one_if a ≤ one_if b + one_if c
 one_if-union false b c h = omega arith
-one_if-union true b c h = elim (h refl) [ inl is ↦ rw is (omega arith) | inr is ↦ rw is (omega arith) ]
+one_if-union true b c h =
+    elim (h refl) [ inl is ↦ rw is (omega arith) | inr is ↦ rw is (omega arith) ]
 
 -- a union has no more minutes in a window than its two sets together
-pub count-union : (all others added : ℤ → Bool) → IsUnion all others added → (start : ℤ) (width : ℕ) →
+pub count-union : (all others added : ℤ → Bool) → IsUnion all others added →
+    (start : ℤ) (width : ℕ) →
     count all start width ≤ count others start width + count added start width
 count-union all others added union start zero = let a = count-none all start in omega arith
 count-union all others added union start (suc width) =
@@ -85,7 +91,8 @@ count-union all others added union start (suc width) =
     omega arith
 
 -- what meets a part of a set meets the set
-pub meets-part : (some all : ℤ → Bool) (start : ℤ) (width : ℕ) → IsPart some all → Meets some start width →
+pub meets-part : (some all : ℤ → Bool) (start : ℤ) (width : ℕ) → IsPart some all →
+    Meets some start width →
     Meets all start width
 meets-part some all start width part m = record {
   minute = m.minute;
@@ -100,8 +107,18 @@ pub meets-other : (all others added : ℤ → Bool) (start : ℤ) (width : ℕ) 
     count added start width ≡ 0 → Meets all start width → Meets others start width
 meets-other all others added start width union none m =
     elim (union m.minute m.member) [
-      | inl other ↦ record { minute = m.minute; from_start = m.from_start; before_end = m.before_end; member = other }
+      | inl other ↦ record {
+        minute = m.minute;
+        from_start = m.from_start;
+        before_end = m.before_end;
+        member = other;
+      }
       | inr new ↦ (let some = meets-count added start width
-          (record { minute = m.minute; from_start = m.from_start; before_end = m.before_end; member = new }) in
+          (record {
+            minute = m.minute;
+            from_start = m.from_start;
+            before_end = m.before_end;
+            member = new;
+          }) in
           absurd (omega arith))
     ]

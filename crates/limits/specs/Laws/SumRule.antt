@@ -1,5 +1,5 @@
--- A sum rule needs to be tried at finitely many windows: those that end where a span of the history ends, and those
--- that end just past the first minute, or begin at the last minute, of a new span.
+-- A sum rule needs to be tried at finitely many windows: those that end where a span of the history
+-- ends, and those that end just past the first minute, or begin at the last minute, of a new span.
 pub use Rattle.duty.proofs.SpanFacts.{some_span}
 use Rattle.std.proofs.Common.{◌≡◌, ℕ, zero, suc, ◌+◌, ◌-◌, ◌<◌, ◌≤◌, Bool, true, false, List, [], ◌∷◌, refl, sym, ap, ◌∙◌, subst, arith, inl, inr, ◌⊎◌, ◌↔◌}
 use Rattle.std.specs.Prelude.{ℤ, pos, negsuc, ◌+ℤ◌, ◌-ℤ◌, ◌≤ℤ◌, ◌<ℤ◌, IsTrue, nat_lt}
@@ -22,11 +22,13 @@ trimmed set least zero = let e : least + 0 ≡ least = omega arith in
     (least, omega arith, omega arith, ap (below set) (sym e), inl refl)
 trimmed set least (suc k) =
     elim (cases_Bool (set (least + k))) [
-      | inl is ↦ (let e : suc (least + k) - 1 ≡ least + k = omega arith in let f : least + suc k ≡ suc (least + k) =
-          omega arith in (suc (least + k), omega arith, omega arith, ap (below set) (sym f), inr (rw e is)))
+      | inl is ↦ (let e : suc (least + k) - 1 ≡ least + k = omega arith in
+          let f : least + suc k ≡ suc (least + k) = omega arith in
+          (suc (least + k), omega arith, omega arith, ap (below set) (sym f), inr (rw e is)))
       | inr is ↦ (let r = trimmed set least k in
           let f : least + suc k ≡ suc (least + k) = omega arith in
-          let same : below set (suc (least + k)) ≡ below set (least + k) = rw (below-suc, is) (omega arith) in
+          let same : below set (suc (least + k)) ≡ below set (least + k) =
+          rw (below-suc, is) (omega arith) in
           (r.0, r.1, omega arith, r.3 ∙ sym same ∙ ap (below set) (sym f), r.4))
     ]
 
@@ -42,8 +44,15 @@ slid set at (suc k) last =
           let r = slid set (at + 1) k (rw one is) in
           let e : at + (r.0 + 1) ≡ at + 1 + r.0 = omega arith in
           let all : (i : ℕ) → at ≤ i → i < at + (r.0 + 1) → set i ≡ true =
-          λ i l h. elim (cases_eq i at) [ inl same ↦ rw same is | inr other ↦ r.2 i (omega arith) (omega arith) ] in
-          (r.0 + 1, omega arith, all, elim r.3 [ inl done ↦ inl (omega arith) | inr done ↦ inr (rw e done) ]))
+          λ i l h. elim (cases_eq i at) [
+            | inl same ↦ rw same is
+            | inr other ↦ r.2 i (omega arith) (omega arith)
+          ] in (
+            r.0 + 1,
+            omega arith,
+            all,
+            elim r.3 [ inl done ↦ inl (omega arith) | inr done ↦ inr (rw e done) ],
+          ))
       | inr is ↦ (let e : at + 0 ≡ at = omega arith in
           (0, omega arith, λ i l h. absurd (omega arith), inr (rw e (is, last))))
     ]
@@ -53,7 +62,8 @@ abbrev pub members : List Span → ℕ → Bool
 members spans n = minutes_of spans (pos n)
 
 -- what a window holds, by the counts up to its two ends
-pub held-before : (spans : List Span) (end width : ℕ) → held spans end width ≡ before (members spans) end width
+pub held-before : (spans : List Span) (end width : ℕ) →
+    held spans end width ≡ before (members spans) end width
 held-before spans end width = count-before (minutes_of spans) (no_negative spans) end width
 
 -- a window that holds too much passes the test
@@ -62,32 +72,41 @@ pub over-test : (spans : List Span) (most end width : ℕ) → most < before (me
 over-test spans most end width more = rw held-before (lt-ltb _ _ more)
 
 -- a window that passes the test holds too much
-pub test-over : (spans : List Span) (most end width : ℕ) → nat_lt most (held spans end width) ≡ true →
+pub test-over : (spans : List Span) (most end width : ℕ) →
+    nat_lt most (held spans end width) ≡ true →
     most < before (members spans) end width
-test-over spans most end width is = let e = held-before spans end width in let l = ltb-true _ _ is in omega arith
+test-over spans most end width is =
+    let e = held-before spans end width in
+    let l = ltb-true _ _ is in
+    omega arith
 
 -- a span that reaches a window has a minute, begins before its end, and ends after its begin
-pub reaches-true : (end width : ℕ) (new : Span) → reaches end width new ≡ true → (new.from < new.to) ×
+pub reaches-true : (end width : ℕ) (new : Span) → reaches end width new ≡ true →
+    (new.from < new.to) ×
     (new.from < end) × (end < new.to + width)
 reaches-true end width new is =
     let a = and_parts _ _ is in
     let b = and_parts _ _ a.1 in
     (ltb-true _ _ a.0, ltb-true _ _ b.0, ltb-true _ _ b.1)
 
--- and a span that does so reaches it
-pub reaches-from : (end width : ℕ) (new : Span) → new.from < new.to → new.from < end → end < new.to + width →
+-- a span that has a minute, begins before a window's end, and ends after its begin reaches it
+pub reaches-from : (end width : ℕ) (new : Span) → new.from < new.to → new.from < end →
+    end < new.to + width →
     reaches end width new ≡ true
-reaches-from end width new a b c = and_from _ _ (lt-ltb _ _ a) (and_from _ _ (lt-ltb _ _ b) (lt-ltb _ _ c))
+reaches-from end width new a b c =
+    and_from _ _ (lt-ltb _ _ a) (and_from _ _ (lt-ltb _ _ b) (lt-ltb _ _ c))
 
 -- where members end, a span ends
-span_end : (spans : List Span) (n : ℕ) → members spans n ≡ true → members spans (n + 1) ≡ false → (P : Span → Bool) →
+span_end : (spans : List Span) (n : ℕ) → members spans n ≡ true → members spans (n + 1) ≡ false →
+    (P : Span → Bool) →
     ((s : Span) → s.to ≡ n + 1 → P s ≡ true) → list_any P spans ≡ true
 span_end [] n is ends P h = absurd (false≢true is)
 span_end (s ∷ spans) n is ends P h =
     elim (or_cases _ _ is) [
       | inl here ↦ (let a = covers-true n s here in
           let last : s.to ≤ n + 1 = elim (cases_lt (n + 1) s.to) [
-            | inl more ↦ absurd (false≢true (sym (or_parts _ _ ends).0 ∙ covers-from (n + 1) s (omega arith) more))
+            | inl more ↦ absurd (false≢true
+                (sym (or_parts _ _ ends).0 ∙ covers-from (n + 1) s (omega arith) more))
             | inr at_end ↦ at_end
           ] in
           or_left _ _ (h s (omega arith)))
@@ -98,7 +117,8 @@ span_end (s ∷ spans) n is ends P h =
 found_at :
     (all new : List Span) (width most at : ℕ) (span : Span) →
     span.from < span.to → ((P : Span → Bool) → P span ≡ true → list_any P new ≡ true) →
-    span.from < at → at ≤ span.to - 1 + width → members all (at - 1) ≡ true → most < before (members all) at width →
+    span.from < at → at ≤ span.to - 1 + width → members all (at - 1) ≡ true →
+    most < before (members all) at width →
     some_is_over all new width most ≡ true
 found_at all new width most at span some among after within last more =
     let set = members all in
@@ -109,14 +129,16 @@ found_at all new width most at span some among after within last more =
     let shift : (end - width) - (at - width) ≤ q.0 = omega arith in
     let front : below set (end - width) ≤ below set (at - width) + q.0 =
     (let e : at - width + ((end - width) - (at - width)) ≡ end - width = omega arith in
-    let f = rw e at (below-range set (at - width) ((end - width) - (at - width))).1 in omega arith) in
+    let f = rw e at (below-range set (at - width) ((end - width) - (at - width))).1 in
+    omega arith) in
     let more_end : most < before set end width = omega arith in
     elim q.3 [
       | inl edge ↦ (let e : end ≡ limit = omega arith in
           let P : ℕ → Type 0 = λ n. most < before set n width in
           let more_edge : most < before set limit width = subst P e more_end in
           or_right _ _ (among (edge_is_over all width most)
-          (and_from _ _ (lt-ltb _ _ some) (or_right _ _ (over-test all most limit width more_edge)))))
+          (and_from _ _ (lt-ltb _ _ some)
+          (or_right _ _ (over-test all most limit width more_edge)))))
       | inr ends ↦ (let e : end - 1 + 1 ≡ end = omega arith in
           let ended : members all (end - 1 + 1) ≡ false = rw e ends.0 in
           or_left _ _ (span_end all (end - 1) ends.1 ended (end_is_over all new width most) (λ s to.
@@ -148,7 +170,8 @@ found all new width most end minute span covered among from to more =
           or_right _ _ (among (edge_is_over all width most)
           (and_from _ _ (lt-ltb _ _ (omega arith))
           (or_left _ _ (over-test all most (span.from + 1) width (subst P least more_at))))))
-      | inr last ↦ found_at all new width most at span (omega arith) among (omega arith) (omega arith) last more_at
+      | inr last ↦ found_at all new width most at span (omega arith) among (omega arith)
+          (omega arith) last more_at
     ]
 
 -- a window that the tests find breaks the rule
@@ -169,7 +192,8 @@ broken_at all new width most end minute member from to more = record {
 }
 
 -- a window that ends there, reaches a new span and holds too much breaks the rule
-pub sound_end : (all new : List Span) (width most end : ℕ) → 0 < width → list_any (reaches end width) new ≡ true →
+pub sound_end : (all new : List Span) (width most end : ℕ) → 0 < width →
+    list_any (reaches end width) new ≡ true →
     most < before (members all) end width → IsOver width most (minutes_of all) (minutes_of new)
 sound_end all new width most end some reached more =
     let r = some_span (reaches end width) new reached in
@@ -177,10 +201,12 @@ sound_end all new width most end some reached more =
     let t = reaches-true end width s r.1 in
     elim (cases_lt (s.from + width) end) [
       | inl short ↦ (let m : ℕ = end - width in
-          broken_at all new width most end m (r.2 (covers (pos m)) (covers-from m s (omega arith) (omega arith)))
+          broken_at all new width most end m
+          (r.2 (covers (pos m)) (covers-from m s (omega arith) (omega arith)))
           (omega arith) (omega arith) more)
       | inr long ↦ broken_at all new width most end s.from
-          (r.2 (covers (pos s.from)) (covers-from s.from s (omega arith) (omega arith))) (omega arith)
+          (r.2 (covers (pos s.from)) (covers-from s.from s (omega arith) (omega arith)))
+          (omega arith)
           (omega arith) more
     ]
 
@@ -200,8 +226,9 @@ edge-parts all width most s is =
       ],
     )
 
--- so does a window at an edge of a new span that the test finds
-pub sound_edge : (all new : List Span) (width most : ℕ) → 0 < width → list_any (edge_is_over all width most) new ≡ true →
+-- a window that the test finds at an edge of a new span breaks the rule
+pub sound_edge : (all new : List Span) (width most : ℕ) → 0 < width →
+    list_any (edge_is_over all width most) new ≡ true →
     IsOver width most (minutes_of all) (minutes_of new)
 sound_edge all new width most some is =
     let r = some_span (edge_is_over all width most) new is in
@@ -210,15 +237,18 @@ sound_edge all new width most some is =
     let lt : s.from < s.to = t.0 in
     elim t.1 [
       | inl first ↦ broken_at all new width most (s.from + 1) s.from
-          (r.2 (covers (pos s.from)) (covers-from s.from s (omega arith) (omega arith))) (omega arith)
+          (r.2 (covers (pos s.from)) (covers-from s.from s (omega arith) (omega arith)))
+          (omega arith)
           (omega arith) first
       | inr last ↦ (let m : ℕ = s.to - 1 in
           broken_at all new width most (s.to - 1 + width) m
-          (r.2 (covers (pos m)) (covers-from m s (omega arith) (omega arith))) (omega arith) (omega arith) last)
+          (r.2 (covers (pos m)) (covers-from m s (omega arith) (omega arith))) (omega arith)
+          (omega arith) last)
     ]
 
 -- where the tests find a window, the rule is broken
-sound : (all new : List Span) (width most : ℕ) → 0 < width → some_is_over all new width most ≡ true →
+sound : (all new : List Span) (width most : ℕ) → 0 < width →
+    some_is_over all new width most ≡ true →
     IsOver width most (minutes_of all) (minutes_of new)
 sound all new width most some is =
     elim (or_cases _ _ is) [
@@ -230,19 +260,23 @@ sound all new width most some is =
 
 -- where a window that meets a new minute holds too much, the tests find a window
 complete_at :
-    (all new : List Span) (width most : ℕ) (start minute : ℤ) → start ≤ℤ minute → minute <ℤ (start +ℤ pos width) →
-    minutes_of new minute ≡ true → most < count (minutes_of all) start width → some_is_over all new width most ≡ true
+    (all new : List Span) (width most : ℕ) (start minute : ℤ) → start ≤ℤ minute →
+    minute <ℤ (start +ℤ pos width) →
+    minutes_of new minute ≡ true → most < count (minutes_of all) start width →
+    some_is_over all new width most ≡ true
 complete_at all new width most start (negsuc n) from to member more =
     absurd (false≢true (sym (no_negative new n) ∙ member))
 complete_at all new width most start (pos n) from to member more =
     let r = some_span (covers (pos n)) new member in
     let w = window_end start width n from to in
     let e : count (minutes_of all) start width ≡ before (members all) w.0 width =
-    ap (λ t. count (minutes_of all) t width) w.1 ∙ count-before (minutes_of all) (no_negative all) w.0 width in
+    ap (λ t. count (minutes_of all) t width) w.1 ∙
+    count-before (minutes_of all) (no_negative all) w.0 width in
     found all new width most w.0 n r.0 r.1 r.2 w.2 w.3 (omega arith)
 
 -- a sum rule is broken where the tests find a window
-pub sum_rule : (all new : List Span) (width most : ℕ) → 0 < width → IsTrue (some_is_over all new width most) ↔
+pub sum_rule : (all new : List Span) (width most : ℕ) → 0 < width →
+    IsTrue (some_is_over all new width most) ↔
     IsOver width most (minutes_of all) (minutes_of new)
 sum_rule all new width most some = (
   sound all new width most some,
@@ -251,14 +285,16 @@ sum_rule all new width most some = (
 )
 
 -- a span that reaches a window is one that the window meets
-pub reach_decides : (spans : List Span) (end width : ℕ) → 0 < width → (list_any (reaches end width) spans ≡ true) ↔
+pub reach_decides : (spans : List Span) (end width : ℕ) → 0 < width →
+    (list_any (reaches end width) spans ≡ true) ↔
     Meets (minutes_of spans) (pos end -ℤ pos width) width
 reach_decides spans end width some = (
   reach_meets spans end width some,
   λ m. meets_reach spans end width m.minute m.from_start m.before_end m.member,
 )
   where
-    reach_meets : (spans : List Span) (end width : ℕ) → 0 < width → list_any (reaches end width) spans ≡ true →
+    reach_meets : (spans : List Span) (end width : ℕ) → 0 < width →
+        list_any (reaches end width) spans ≡ true →
         Meets (minutes_of spans) (pos end -ℤ pos width) width
     reach_meets spans end width some reached =
         let r = some_span (reaches end width) spans reached in
@@ -283,13 +319,16 @@ reach_decides spans end width some = (
           }
         ]
 
-    meets_reach : (spans : List Span) (end width : ℕ) (minute : ℤ) → (pos end -ℤ pos width) ≤ℤ minute →
+    meets_reach : (spans : List Span) (end width : ℕ) (minute : ℤ) →
+        (pos end -ℤ pos width) ≤ℤ minute →
         minute <ℤ (pos end -ℤ pos width +ℤ pos width) → minutes_of spans minute ≡ true →
         list_any (reaches end width) spans ≡ true
-    meets_reach spans end width (negsuc n) from to member = absurd (false≢true (sym (no_negative spans n) ∙ member))
+    meets_reach spans end width (negsuc n) from to member =
+        absurd (false≢true (sym (no_negative spans n) ∙ member))
     meets_reach spans end width (pos n) from to member =
         let r = some_span (covers (pos n)) spans member in
         let c = covers-true n r.0 r.1 in
         let before : n < end = omega (arith, ints) in
         let after : end ≤ n + width = omega (arith, ints) in
-        r.2 (reaches end width) (reaches-from end width r.0 (omega arith) (omega arith) (omega arith))
+        r.2 (reaches end width)
+        (reaches-from end width r.0 (omega arith) (omega arith) (omega arith))

@@ -1,6 +1,7 @@
 -- The tests that the limits are computed by.
 use Rattle.std.specs.Prelude.{ℕ, ◌-◌, Bool, false, not, pos, ◌-ℤ◌, ◌&&◌, ◌||◌, nat_lt, List, length}
 use Rattle.std.specs.List.{list_any, flat_map, sum_by}
+use Rattle.std.specs.Option.{option_map_or}
 use Rattle.duty.specs.declared.duty_in_force.DutyInForce.{DutyInForce}
 use Rattle.duty.specs.declared.duty_in_force.DutyInForce.TheVariants.{Fdp, Ground}
 use Rattle.duty.specs.declared.kind.Kind.TheVariants.{Duty}
@@ -11,22 +12,26 @@ use Rattle.limits.specs.declared.rest_limits.Rest.TheVariants.{TenHours, ThirtyH
 use Rattle.limits.specs.Tables.{table_a, table_b}
 use Rattle.limits.specs.Laws.Windows.{reaches}
 
--- a flight duty period has more flight time than Table A gives
+-- a flight duty period that enters Table A has more flight time than the table gives
 abbrev pub is_over_table_a : DutyInForce → Bool
-is_over_table_a (Fdp fdp) = nat_lt (table_a fdp.start) (sum_by (λ segment. segment.to - segment.from) fdp.segments)
+is_over_table_a (Fdp fdp) =
+    option_map_or (λ start. nat_lt (table_a start)
+    (sum_by (λ segment. segment.to - segment.from) fdp.segments)) fdp.start false
 is_over_table_a (Ground _) = false
 
--- a flight duty period is longer than Table B gives
+-- a flight duty period that enters Table B is longer than the table gives
 abbrev pub is_over_table_b : DutyInForce → Bool
-is_over_table_b (Fdp fdp) = nat_lt (table_b fdp.start (length fdp.segments))
-    (last_in fdp.report fdp.segments - fdp.report)
+is_over_table_b (Fdp fdp) =
+    option_map_or (λ start. nat_lt (table_b start (length fdp.segments))
+    (last_in fdp.report fdp.segments - fdp.report)) fdp.start false
 is_over_table_b (Ground _) = false
 
 -- the `width` minutes before `end` meet a duty minute
 abbrev pub is_on_duty_before : List DutyInForce → ℕ → ℕ → Bool
-is_on_duty_before history end width = list_any (reaches end width) (flat_map (spans_of Duty) history)
+is_on_duty_before history end width =
+    list_any (reaches end width) (flat_map (spans_of Duty) history)
 
--- the minutes before a report that a rest is looked for in
+-- how many minutes before a report a rest is looked for in
 abbrev pub look_width : Rest → ℕ
 look_width TenHours = 600
 look_width ThirtyHours = 10_080
@@ -42,11 +47,12 @@ abbrev pub by_report : (ℕ → Bool) → DutyInForce → Bool
 by_report test (Fdp fdp) = test fdp.report
 by_report test (Ground _) = false
 
--- the report is one that the new duties touch by its look-back, and lacks the rest
+-- the minutes that are looked back at from a report meet a new duty, and lack the rest
 abbrev pub is_spoilt : Rest → List DutyInForce → List DutyInForce → ℕ → Bool
-is_spoilt rest history new report = is_on_duty_before new report (look_width rest) && lacks_rest rest history report
+is_spoilt rest history new report =
+    is_on_duty_before new report (look_width rest) && lacks_rest rest history report
 
--- a new report lacks the rest, or one that the new duties touch
+-- the report of a new duty lacks the rest, or a report that a new duty spoils does
 abbrev pub some_lacks_rest : Rest → List DutyInForce → List DutyInForce → Bool
 some_lacks_rest rest history new = list_any (by_report (lacks_rest rest history)) new ||
     list_any (by_report (is_spoilt rest history new)) history

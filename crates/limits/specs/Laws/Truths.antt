@@ -39,7 +39,7 @@ place section.TenHourRest = 7
 abbrev pub lists : List Section → Section → Bool
 lists sections s = list_any (λ t. nat_eq (place t) (place s)) sections
 
--- eight truth values, from the list of those that hold
+-- eight truth values, from the list of the sections that hold
 abbrev pub unlisted : List Section → Inside
 unlisted sections = record {
   flight_time = lists sections section.FlightTime;
@@ -88,7 +88,7 @@ and_true : (b c : Bool) → c ≡ true → (b && c) ≡ b
 and_true true c is = is
 and_true false c is = refl
 
--- the list of those that hold has a section if and only if its truth value is true
+-- the list of the sections that hold has a section if and only if its truth value is true
 kept : (a : Inside) (s : Section) → lists (listed a) s ≡ truth_of a s
 kept a s = any-filter_same (λ t. nat_eq (place t) (place s)) (truth_of a) (truth_of a s)
     (λ t is. ap (truth_of a) (same_place t s (eqb-true _ _ is))) all_sections ∙

@@ -1,5 +1,6 @@
--- The rule of 365 days needs to be tried at finitely many years: those whose last day is the day of a span's last minute
--- or the one before, and those that end with the first day, or begin with the last day, of a new span.
+-- The rule of 365 days needs to be tried at finitely many years: those whose last day is the day of
+-- a span's last minute or the one before, and those that end with the first day, or begin with the
+-- last day, of a new span.
 use Rattle.std.proofs.Common.{◌≡◌, ℕ, suc, ◌+◌, ◌-◌, ◌*◌, ◌/◌, ◌<◌, ◌≤◌, Bool, true, ltb, List, sym, ap, ◌∙◌, subst, arith, inl, inr, ◌⊎◌, ◌↔◌}
 use Rattle.std.specs.Prelude.{ℤ, pos, negsuc, ◌+ℤ◌, ◌-ℤ◌, ◌*ℤ◌, ◌≤ℤ◌, ◌<ℤ◌, IsTrue}
 use Rattle.std.specs.List.{list_any}
@@ -14,11 +15,13 @@ use Rattle.limits.specs.Laws.SumRule.{members, trimmed, over-test, test-over, so
 use Rattle.limits.specs.Laws.Windows.{held, reaches, year_is_over, year_end_is_over, year_edge_is_over, some_year_is_over}
 
 -- up to a later minute a set has no fewer members, and at most one more for each minute
-below-le : (set : ℕ → Bool) (m n : ℕ) → m ≤ n → (below set m ≤ below set n) × (below set n ≤ below set m + (n - m))
+below-le : (set : ℕ → Bool) (m n : ℕ) → m ≤ n →
+    (below set m ≤ below set n) × (below set n ≤ below set m + (n - m))
 below-le set m n l = let e : m + (n - m) ≡ n = omega arith in rw e at (below-range set m (n - m))
 
 -- a window that slides on over members holds no less
-grown : (set : ℕ → Bool) (from to width : ℕ) → from ≤ to → ((i : ℕ) → from ≤ i → i < to → set i ≡ true) →
+grown : (set : ℕ → Bool) (from to width : ℕ) → from ≤ to →
+    ((i : ℕ) → from ≤ i → i < to → set i ≡ true) →
     before set from width ≤ before set to width
 grown set from to width l full =
     let a = below-full set from to l full in
@@ -30,14 +33,17 @@ year_at :
     (all new : List Span) (most day : ℕ) (span s : Span) → span.from < span.to →
     ((P : Span → Bool) → P span ≡ true → list_any P new ≡ true) →
     ((P : Span → Bool) → P s ≡ true → list_any P all ≡ true) →
-    span.from < (day + 1) * 1_440 → (day + 1) * 1_440 ≤ span.to - 1 + 525_600 → s.from < (day + 1) * 1_440 →
+    span.from < (day + 1) * 1_440 → (day + 1) * 1_440 ≤ span.to - 1 + 525_600 →
+    s.from < (day + 1) * 1_440 →
     day ≤ (s.to - 1) / 1_440 → 0 < s.to →
     most < before (members all) ((day + 1) * 1_440) 525_600 → some_year_is_over all new most ≡ true
 year_at all new most day span s some among among_all after within starts lasts full more =
     let q : ℕ = (s.to - 1) / 1_440 in
     elim (cases_eq day q) [
-      | inl same ↦ (let P : ℕ → Type 0 = λ d. most < before (members all) ((d + 1) * 1_440) 525_600 in
-          let R : ℕ → Type 0 = λ d. (span.from < (d + 1) * 1_440) × ((d + 1) * 1_440 < span.to + 525_600) in
+      | inl same ↦ (let P : ℕ → Type 0 =
+          λ d. most < before (members all) ((d + 1) * 1_440) 525_600 in
+          let R : ℕ → Type 0 = λ d. (span.from < (d + 1) * 1_440) ×
+          ((d + 1) * 1_440 < span.to + 525_600) in
           let r : R q = subst R same (after, omega arith) in
           or_left _ _ (among_all (year_end_is_over all new most)
           (or_left _ _ (and_from _ _ (among (reaches ((q + 1) * 1_440) 525_600)
@@ -52,7 +58,8 @@ year_at all new most day span s some among among_all after within starts lasts f
             | inl cut ↦ (let to : ℕ = last * 1_440 in
                 let more_to = grown set from to 525_600 (omega arith) (full_to to (omega arith)) in
                 or_right _ _ (among (year_edge_is_over all most)
-                (and_from _ _ (lt-ltb _ _ some) (or_right _ _ (over-test all most to 525_600 (omega arith))))))
+                (and_from _ _ (lt-ltb _ _ some)
+                (or_right _ _ (over-test all most to 525_600 (omega arith))))))
             | inr whole ↦ (let to : ℕ = q * 1_440 in
                 let more_to = grown set from to 525_600 (omega arith) (full_to to (omega arith)) in
                 or_left _ _ (among_all (year_end_is_over all new most)
@@ -66,7 +73,8 @@ year_at all new most day span s some among among_all after within starts lasts f
 found_year :
     (all new : List Span) (most days minute : ℕ) (span : Span) →
     covers (pos minute) span ≡ true → ((P : Span → Bool) → P span ≡ true → list_any P new ≡ true) →
-    minute < days * 1_440 → days * 1_440 ≤ minute + 525_600 → most < before (members all) (days * 1_440) 525_600 →
+    minute < days * 1_440 → days * 1_440 ≤ minute + 525_600 →
+    most < before (members all) (days * 1_440) 525_600 →
     some_year_is_over all new most ≡ true
 found_year all new most days minute span covered among from to more =
     let set = members all in
@@ -85,7 +93,8 @@ found_year all new most days minute span covered among from to more =
     let front = below-le set (up - 525_600) (end - 525_600) (omega arith) in
     let more_up : most < before set up 525_600 = omega arith in
     elim r.4 [
-      | inl least ↦ (let P : ℕ → Type 0 = λ n. most < before set (((n - 1) / 1_440 + 1) * 1_440) 525_600 in
+      | inl least ↦ (let P : ℕ → Type 0 =
+          λ n. most < before set (((n - 1) / 1_440 + 1) * 1_440) 525_600 in
           let e : span.from + 1 - 1 ≡ span.from = omega arith in
           let Q : ℕ → Type 0 = λ n. most < before set ((n / 1_440 + 1) * 1_440) 525_600 in
           let more_first : Q span.from = subst Q e (subst P least more_up) in
@@ -94,25 +103,31 @@ found_year all new most days minute span covered among from to more =
           (or_left _ _ (over-test all most ((span.from / 1_440 + 1) * 1_440) 525_600 more_first)))))
       | inr last ↦ (let s = some_span (covers (pos (at - 1))) all last in
           let d = covers-true (at - 1) s.0 s.1 in
-          year_at all new most day span s.0 (omega arith) among s.2 (omega arith) (omega arith) (omega arith)
+          year_at all new most day span s.0 (omega arith) among s.2 (omega arith) (omega arith)
+          (omega arith)
           (omega arith) (omega arith) more_up)
     ]
 
 -- a year that reaches a natural minute ends with a natural number of days
-year_end : (day : ℤ) (minute : ℕ) → (day *ℤ pos 1_440) ≤ℤ pos minute → pos minute <ℤ (day *ℤ pos 1_440 +ℤ pos 525_600) →
+year_end : (day : ℤ) (minute : ℕ) → (day *ℤ pos 1_440) ≤ℤ pos minute →
+    pos minute <ℤ (day *ℤ pos 1_440 +ℤ pos 525_600) →
     (days : ℕ) × (day *ℤ pos 1_440 ≡ pos (days * 1_440) -ℤ pos 525_600) × (minute < days * 1_440) ×
     (days * 1_440 ≤ minute + 525_600)
-year_end (pos n) minute from to = (n + 365, omega (arith, ints), omega (arith, ints), omega (arith, ints))
-year_end (negsuc n) minute from to = (365 - suc n, omega (arith, ints), omega (arith, ints), omega (arith, ints))
+year_end (pos n) minute from to =
+    (n + 365, omega (arith, ints), omega (arith, ints), omega (arith, ints))
+year_end (negsuc n) minute from to =
+    (365 - suc n, omega (arith, ints), omega (arith, ints), omega (arith, ints))
 
 -- 365 days before a day are 525,600 minutes before its first
 year_back : (days : ℕ) → (pos days -ℤ pos 365) *ℤ pos 1_440 ≡ pos (days * 1_440) -ℤ pos 525_600
 year_back days = omega (arith, ints)
 
 -- 365 days that end with a whole day, meet a new minute and hold too much break the rule
-year_broken : (all new : List Span) (most days minute : ℕ) → members new minute ≡ true → minute < days * 1_440 →
+year_broken : (all new : List Span) (most days minute : ℕ) → members new minute ≡ true →
+    minute < days * 1_440 →
     days * 1_440 ≤ minute + 525_600 →
-    most < before (members all) (days * 1_440) 525_600 → IsYearOver most (minutes_of all) (minutes_of new)
+    most < before (members all) (days * 1_440) 525_600 →
+    IsYearOver most (minutes_of all) (minutes_of new)
 year_broken all new most days minute member from to more =
     let e = year_back days in
     record {
@@ -128,7 +143,8 @@ year_broken all new most days minute member from to more =
     }
 
 -- 365 days that the test finds at the end of a day break the rule
-year_sound_end : (all new : List Span) (most days : ℕ) → year_is_over all new most (days * 1_440) ≡ true →
+year_sound_end : (all new : List Span) (most days : ℕ) →
+    year_is_over all new most (days * 1_440) ≡ true →
     IsYearOver most (minutes_of all) (minutes_of new)
 year_sound_end all new most days is =
     let end : ℕ = days * 1_440 in
@@ -139,10 +155,12 @@ year_sound_end all new most days is =
     let more = test-over all most end 525_600 a.1 in
     elim (cases_lt (s.from + 525_600) end) [
       | inl short ↦ (let m : ℕ = end - 525_600 in
-          year_broken all new most days m (r.2 (covers (pos m)) (covers-from m s (omega arith) (omega arith)))
+          year_broken all new most days m
+          (r.2 (covers (pos m)) (covers-from m s (omega arith) (omega arith)))
           (omega arith) (omega arith) more)
       | inr long ↦ year_broken all new most days s.from
-          (r.2 (covers (pos s.from)) (covers-from s.from s (omega arith) (omega arith))) (omega arith)
+          (r.2 (covers (pos s.from)) (covers-from s.from s (omega arith) (omega arith)))
+          (omega arith)
           (omega arith) more
     ]
 
@@ -162,8 +180,9 @@ year_edge-parts all most s is =
       ],
     )
 
--- so do those at an edge of a new span
-year_sound_edge : (all new : List Span) (most : ℕ) → list_any (year_edge_is_over all most) new ≡ true →
+-- 365 days that the test finds at an edge of a new span break the rule
+year_sound_edge : (all new : List Span) (most : ℕ) →
+    list_any (year_edge_is_over all most) new ≡ true →
     IsYearOver most (minutes_of all) (minutes_of new)
 year_sound_edge all new most is =
     let r = some_span (year_edge_is_over all most) new is in
@@ -172,15 +191,18 @@ year_sound_edge all new most is =
     let lt : s.from < s.to = t.0 in
     elim t.1 [
       | inl first ↦ year_broken all new most (s.from / 1_440 + 1) s.from
-          (r.2 (covers (pos s.from)) (covers-from s.from s (omega arith) (omega arith))) (omega arith)
+          (r.2 (covers (pos s.from)) (covers-from s.from s (omega arith) (omega arith)))
+          (omega arith)
           (omega arith) first
       | inr last ↦ (let m : ℕ = s.to - 1 in
           year_broken all new most ((s.to - 1) / 1_440 + 365) m
-          (r.2 (covers (pos m)) (covers-from m s (omega arith) (omega arith))) (omega arith) (omega arith) last)
+          (r.2 (covers (pos m)) (covers-from m s (omega arith) (omega arith))) (omega arith)
+          (omega arith) last)
     ]
 
--- so do those that the test of a span of the history finds
-year_sound_span : (all new : List Span) (most : ℕ) (s : Span) → year_end_is_over all new most s ≡ true →
+-- 365 days that the test of a span of the history finds break the rule
+year_sound_span : (all new : List Span) (most : ℕ) (s : Span) →
+    year_end_is_over all new most s ≡ true →
     IsYearOver most (minutes_of all) (minutes_of new)
 year_sound_span all new most s is =
     elim (or_cases (year_is_over all new most (((s.to - 1) / 1_440 + 1) * 1_440))
@@ -193,7 +215,8 @@ year_sound_span all new most s is =
 year_sound : (all new : List Span) (most : ℕ) → some_year_is_over all new most ≡ true →
     IsYearOver most (minutes_of all) (minutes_of new)
 year_sound all new most is =
-    elim (or_cases (list_any (year_end_is_over all new most) all) (list_any (year_edge_is_over all most) new) is) [
+    elim (or_cases (list_any (year_end_is_over all new most) all)
+    (list_any (year_edge_is_over all most) new) is) [
       | inl at_end ↦ (let r = some_span (year_end_is_over all new most) all at_end in
           year_sound_span all new most r.0 r.1)
       | inr at_edge ↦ year_sound_edge all new most at_edge
@@ -205,11 +228,13 @@ year_complete :
     minute <ℤ (day *ℤ pos 1_440 +ℤ pos 525_600) →
     minutes_of new minute ≡ true → most < count (minutes_of all) (day *ℤ pos 1_440) 525_600 →
     some_year_is_over all new most ≡ true
-year_complete all new most day (negsuc n) from to member more = absurd (false≢true (sym (no_negative new n) ∙ member))
+year_complete all new most day (negsuc n) from to member more =
+    absurd (false≢true (sym (no_negative new n) ∙ member))
 year_complete all new most day (pos n) from to member more =
     let r = some_span (covers (pos n)) new member in
     let w = year_end day n from to in
-    let e : count (minutes_of all) (day *ℤ pos 1_440) 525_600 ≡ before (members all) (w.0 * 1_440) 525_600 =
+    let e : count (minutes_of all) (day *ℤ pos 1_440) 525_600 ≡
+    before (members all) (w.0 * 1_440) 525_600 =
     ap (λ t. count (minutes_of all) t 525_600) w.1 ∙
     count-before (minutes_of all) (no_negative all) (w.0 * 1_440) 525_600 in
     found_year all new most w.0 n r.0 r.1 r.2 w.2 w.3 (omega arith)

@@ -1,7 +1,7 @@
 use Rattle.std.proofs.Common.{◌≡◌, ◌<◌, ◌++◌, ap, ◌∙◌, arith, subst, sym}
 use Rattle.std.specs.Str.{IsUtf8}
 use Rattle.time117.specs.Instant.{written}
-use Rattle.report.proofs.AsciiInstants.{IsUtf8-written}
+use Rattle.time117.proofs.AsciiInstants.{IsUtf8-written}
 use Rattle.report.proofs.instant.instant.Goals as goal
 
 pub unwrap-requires : goal.unwrap-requires

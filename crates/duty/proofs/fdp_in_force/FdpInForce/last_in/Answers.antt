@@ -1,9 +1,9 @@
-use Rattle.std.proofs.Common.{sym}
-use Rattle.duty.proofs.SpanFacts.{last_in-last}
+use Rattle.std.proofs.Common.{◌∙◌, ap, map-id}
+use Rattle.duty.specs.Minutes.{last_in}
 use Rattle.duty.proofs.fdp_in_force.FdpInForce.last_in.Goals as goal
 
-pub returns-in-Some : goal.returns-in-Some
-returns-in-Some c =
-    let is = rw c.deref.ensures.value at c.in-Some.ensures.value in
-    rw (← c.self.view_is) (sym (last_in-last c.self.inside.report c.self.inside.segments.items c.in-Some.segment.now
-    (sym is)))
+pub returns : goal.returns
+returns c =
+    rw (← c.self.view_is) (c.last_block_in.ensures ∙
+    ap (last_in c.self.inside.report) (map-id c.as_slice.result.now) ∙
+    ap (last_in c.self.inside.report) c.as_slice.ensures.value)
