@@ -1,5 +1,5 @@
 -- CREATE TABLE.
-use Rattle.std.proofs.Common.{nat_le, ◌*◌, ◌≤◌, ◌≡◌, ◌⊎◌, zero, suc, codes, slice_get, option_and_then, ◌+◌, if◌then◌else◌, length, ◌^◌, ◌<◌, ◌==◌, ◌||◌, ◌&&◌, ℕ, Bool, List, [], ◌∷◌, ◌++◌, inl, inr, true, false, not, cond, find, slice_range, Option, None, Some, Ok, Err, Result, refl, sym, ap, subst, ◌∙◌, arith, is_some}
+use Rattle.std.proofs.Common.{nat_le, ◌*◌, ◌≤◌, ◌≡◌, ◌⊎◌, zero, suc, codes, slice_get, option_and_then, ◌+◌, if◌then◌else◌, length, ◌^◌, ◌<◌, ◌==◌, ◌||◌, ◌&&◌, ℕ, Bool, List, [], ◌∷◌, ◌++◌, inl, inr, true, false, not, cond, find, slice_range, Option, None, Some, IfSome, append-nil, Ok, Err, Result, refl, sym, ap, subst, ◌∙◌, arith, is_some}
 use Rattle.std.proofs.lemmas.Bool.Decides.{nat_tests}
 use Rattle.std.proofs.lemmas.Bool.{cases_Bool, not-true, not-false}
 use Rattle.std.specs.List.{AllByRecursion, list_any, position_from}
@@ -12,10 +12,11 @@ use Rattle.sqlite_schema.specs.declared.schema.Table.{Table}
 use Rattle.sqlite_schema.specs.declared.schema.Schema.{Schema}
 use Rattle.sqlite_schema.specs.declared.command.Command.{Command}
 use Rattle.sqlite_schema.specs.declared.command.Command.TheVariants.{CreateTable}
+use Rattle.sqlite_schema.specs.Rules.{guards}
 use Rattle.sqlite_schema.specs.Names.{same_name}
 use Rattle.sqlite_rules.specs.Lists.{Has}
 use Rattle.sqlite_rules.proofs.ListLemmas.{all_has, all_from, has_left, has_right, has_either}
-use Rattle.sqlite_catalog.specs.Change.{created, next_tree, is_used, KeepsRows}
+use Rattle.sqlite_catalog.specs.Change.{automatics, created, next_tree, is_used, KeepsRows}
 use Rattle.sqlite_catalog.specs.Listing.{IsTableRow}
 use Rattle.sqlite_catalog.proofs.LayoutLemmas.{zipped_left}
 use Rattle.sqlite_catalog.proofs.ListFacts.{none_placed}
@@ -34,10 +35,11 @@ use Rattle.sqlite.specs.Listing.{understood, reads_listing, listing_schema, if_s
 use Rattle.sqlite.specs.State.{State, Executes, ExecutesIn, IsNotRun, CommitsBy, text_of}
 use Rattle.sqlite.proofs.Callers.{IsPlain, command_of, statement_of}
 use Rattle.sqlite.proofs.StateLemmas.{survives_weaker}
-use Rattle.tables.specs.Schema.{BookTable, IsTable, IsUnreferenced, table_of}
+use Rattle.tables.specs.Schema.{BookTable, IsTable, IsUnreferenced, IsOfKey, OnlyKeysGuard, table_found, table_of}
 use Rattle.tables.specs.Rows.{Makes, stored}
 use Rattle.tables.specs.Texts.{RunsStatement}
 use Rattle.tables.proofs.Known.{listed, stored_is}
+use Rattle.tables.proofs.Guarding.{stays_guarded, still_on, new_guarded}
 use Rattle.tables.proofs.Compiling.{statement_in}
 use Rattle.tables.proofs.Inserting.{plain_mode, went, same_value}
 use Rattle.tables.proofs.Statements.{Writer, Stopper, writer, committed, failed}
@@ -51,7 +53,6 @@ use Rattle.sqlite.specs.declared.error.Error.{Error}
 use Rattle.tables.specs.Calls.{Ran}
 use Rattle.tables.specs.declared.table_fault.TableFault.{TableFault}
 use Rattle.sqlite_tied.specs.Compute.{everything}
-use Rattle.sqlite_schema.specs.declared.schema.Reference.{Reference}
 
 -- ---- what the text is read as, whatever the schema
 
@@ -191,11 +192,13 @@ module _ (old after : Database) (t : Table) (adds : Adds old after t) where
   rows_stay : (u : Table) → Has old.schema.tables u → after.trees u.tree ≡ old.trees u.tree
   rows_stay u h = all_has _ old.schema.tables u adds.others h
 
+  found_stays : (name : List ℕ) (u : Table) → table_found old.schema name ≡ Some u → table_found after.schema name ≡ Some u
+  found_stays name u found = subst (λ ts. find (λ v. same_name v.name name) ts ≡ Some u) (sym tables_are) (find_stays (λ (v : Table). same_name v.name name) old.schema.tables (in_next old.schema t ∷ []) u found)
+
   table_stays : (other : BookTable) → IsTable other old.schema → IsTable other after.schema
   table_stays other there = record {
     tree = there.tree;
-    found = subst (λ ts. find (λ u. same_name u.name other.name) ts ≡ Some (table_of other there.tree)) (sym tables_are)
-        (find_stays (λ (u : Table). same_name u.name other.name) old.schema.tables (in_next old.schema t ∷ []) (table_of other there.tree) there.found);
+    found = found_stays other.name (table_of other there.tree) there.found;
     low = there.low;
     alone = subst (AllByRecursion (λ u. u.tree ≡ there.tree → u.name ≡ other.name)) (sym tables_are)
         (all_from _ (old.schema.tables ++ in_next old.schema t ∷ []) (λ u h same. elim (has_either old.schema.tables (in_next old.schema t ∷ []) u h) [
@@ -233,11 +236,14 @@ module _ (old after : Database) (t : Table) (adds : Adds old after t) where
     name_free = all_from _ old.schema.tables (λ u h. none_placed (λ (v : Table). same_name v.name kept.name) old.schema.tables 0 u
         (no_table old.schema kept.name (subst (λ n. is_used old.schema n ≡ false) (ap (λ (v : Table). v.name) is) adds.free)) h)
 
+    new_found : table_found after.schema kept.name ≡ Some (table_of kept (next_tree old.schema))
+    new_found = subst (λ ts. find (λ u. same_name u.name kept.name) ts ≡ Some (table_of kept (next_tree old.schema))) (sym tables_end)
+        (find_end (λ (u : Table). same_name u.name kept.name) old.schema.tables (table_of kept (next_tree old.schema)) name_free (same_itself kept.name))
+
     table_there : IsTable kept after.schema
     table_there = record {
       tree = next_tree old.schema;
-      found = subst (λ ts. find (λ u. same_name u.name kept.name) ts ≡ Some (table_of kept (next_tree old.schema))) (sym tables_end)
-          (find_end (λ (u : Table). same_name u.name kept.name) old.schema.tables (table_of kept (next_tree old.schema)) name_free (same_itself kept.name));
+      found = new_found;
       low = low;
       alone = subst (AllByRecursion (λ u. u.tree ≡ next_tree old.schema → u.name ≡ kept.name)) (sym tables_end)
           (all_from _ (old.schema.tables ++ table_of kept (next_tree old.schema) ∷ []) (λ u h same. elim (has_either old.schema.tables (table_of kept (next_tree old.schema) ∷ []) u h) [
@@ -288,24 +294,39 @@ lacks_no_more schema t plain h = elim (cases_Bool (list_any (λ (u : Table). u.i
   | inr uncounted ↦ rw (any_end (λ (u : Table). u.is_counted) schema.tables (in_next schema t) plain, uncounted)
 ]
 
-references_in : Checked Table → List Reference
-references_in (Ok t) = t.references
-references_in (Err e) = []
+-- the table in which sqlite counts: it refers to none, and has no key
+pub record IsSequence (t : Table) : Type 0 where
+  pub name : t.name ≡ codes "sqlite_sequence"
+  pub references : t.references ≡ []
+  pub keys : t.uniques ≡ []
 
-sequence_plain : (t : Table) → table_defined_by sequence_text ≡ Ok t → t.references ≡ []
-unfolding references_in everything
-sequence_plain t h = ap references_in (sym h)
+told_of : {X : Type 0} → (Table → X) → X → Checked Table → X
+told_of f x (Ok t) = f t
+told_of f x (Err e) = x
+
+sequence_is : (t : Table) → table_defined_by sequence_text ≡ Ok t → IsSequence t
+unfolding told_of everything
+sequence_is t h = record {
+  name = ap (told_of (λ (u : Table). u.name) []) (sym h);
+  references = ap (told_of (λ (u : Table). u.references) []) (sym h);
+  keys = ap (told_of (λ (u : Table). u.uniques) []) (sym h);
+}
 
 -- ---- what CREATE TABLE makes of a database
 
--- nothing more, or one more table that refers to none
+-- nothing more, or the table in which sqlite counts
 pub Grows : Database → Database → Type 0
-Grows mid after = (after ≡ mid) ⊎ ((t : Table) × Adds mid after t × (t.references ≡ []) × (lacks_sequence mid.schema ≡ true))
+Grows mid after = (after ≡ mid) ⊎ ((t : Table) × Adds mid after t × IsSequence t × (lacks_sequence mid.schema ≡ true))
 
 grown_table : (mid after : Database) → Grows mid after → (other : BookTable) → IsTable other mid.schema → IsTable other after.schema
 unfolding Grows
 grown_table mid after (inl same) other there = subst (λ (d : Database). IsTable other d.schema) (sym same) there
 grown_table mid after (inr more) other there = table_stays mid after more.0 more.1 other there
+
+grown_found : (mid after : Database) → Grows mid after → (name : List ℕ) (u : Table) → table_found mid.schema name ≡ Some u → table_found after.schema name ≡ Some u
+unfolding Grows
+grown_found mid after (inl same) name u found = subst (λ (d : Database). table_found d.schema name ≡ Some u) (sym same) found
+grown_found mid after (inr more) name u found = found_stays mid after more.0 more.1 name u found
 
 grown_rows : (mid after : Database) → Grows mid after → (other : BookTable) → IsTable other mid.schema → stored other after ≡ stored other mid
 unfolding Grows
@@ -315,12 +336,32 @@ grown_rows mid after (inr more) other there = rows_of_table_stay mid after more.
 grown_unreferenced : (mid after : Database) → Grows mid after → (other : BookTable) → IsUnreferenced other mid.schema → IsUnreferenced other after.schema
 unfolding Grows
 grown_unreferenced mid after (inl same) other free = subst (λ (d : Database). IsUnreferenced other d.schema) (sym same) free
-grown_unreferenced mid after (inr more) other free = unreferenced_stays mid after more.0 more.1 more.2 other free
+grown_unreferenced mid after (inr more) other free = unreferenced_stays mid after more.0 more.1 more.2.references other free
 
 grown_has : (mid after : Database) → Grows mid after → (t : Table) → Has mid.schema.tables t → Has after.schema.tables t × (after.trees t.tree ≡ mid.trees t.tree)
 unfolding Grows
 grown_has mid after (inl same) t h = (subst (λ (d : Database). Has d.schema.tables t) (sym same) h, ap (λ (d : Database). d.trees t.tree) same)
 grown_has mid after (inr more) t h = (subst (λ ts. Has ts t) (sym (tables_are mid after more.0 more.1)) (has_left mid.schema.tables _ t h), rows_stay mid after more.0 more.1 t h)
+
+grown_indexes : (mid after : Database) → Grows mid after → after.schema.indexes ≡ mid.schema.indexes
+unfolding Grows
+grown_indexes mid after (inl same) = ap (λ (d : Database). d.schema.indexes) same
+grown_indexes mid after (inr more) =
+    let made = in_next mid.schema more.0 in
+    ap (λ (s : Schema). s.indexes) more.1.is ∙ ap (λ keys. mid.schema.indexes ++ automatics made 0 (made.tree + 1) keys) more.2.keys ∙ append-nil mid.schema.indexes
+
+grown_views : (mid after : Database) → Grows mid after → after.schema.views ≡ mid.schema.views
+unfolding Grows
+grown_views mid after (inl same) = ap (λ (d : Database). d.schema.views) same
+grown_views mid after (inr more) = ap (λ (s : Schema). s.views) more.1.is
+
+grown_only : (mid after : Database) → Grows mid after → (t : Table) → Has after.schema.tables t → Has mid.schema.tables t ⊎ (t.name ≡ codes "sqlite_sequence")
+unfolding Grows
+grown_only mid after (inl same) t h = inl (subst (λ (d : Database). Has d.schema.tables t) same h)
+grown_only mid after (inr more) t h = elim (has_either mid.schema.tables _ t (subst (λ ts. Has ts t) (tables_are mid after more.0 more.1) h)) [
+  | inl was ↦ inl was
+  | inr made ↦ elim made [ inl it ↦ inr (ap (λ (u : Table). u.name) it ∙ more.2.name) | inr none ↦ absurd none ]
+]
 
 grown_schema : (mid after : Database) → Grows mid after → lacks_sequence mid.schema ≡ false → after ≡ mid
 unfolding Grows
@@ -337,6 +378,38 @@ module _ (kept : BookTable) (old mid after : Database) (t : Table) (is : t ≡ t
   in_mid : IsTable kept mid.schema
   in_mid = table_there old mid t adds kept is low
 
+  in_after : (u : Table) → Has old.schema.tables u → Has after.schema.tables u
+  in_after u h = (grown_has mid after grows u (subst (λ ts. Has ts u) (sym (tables_are old mid t adds)) (has_left old.schema.tables _ u h))).0
+
+  new_after : Has after.schema.tables (table_of kept (next_tree old.schema))
+  new_after =
+      let there = subst (λ ts. Has ts (table_of kept (next_tree old.schema))) (sym (tables_end old mid t adds kept is low)) (has_right old.schema.tables _ _ (inl refl)) in
+      (grown_has mid after grows _ there).0
+
+  -- a table that was there, the new one, or the one in which sqlite counts
+  old_or_made : (u : Table) → Has after.schema.tables u → Has old.schema.tables u ⊎ ((u.name ≡ kept.name) ⊎ (u.name ≡ codes "sqlite_sequence"))
+  old_or_made u h = elim (grown_only mid after grows u h) [
+    | inl here ↦ elim (has_either old.schema.tables _ u (subst (λ ts. Has ts u) (tables_end old mid t adds kept is low) here)) [
+      | inl was ↦ inl was
+      | inr made ↦ elim made [ inl it ↦ inr (inl (ap (λ (v : Table). v.name) it)) | inr none ↦ absurd none ]
+    ]
+    | inr counts ↦ inr (inr counts)
+  ]
+
+  indexes_are : after.schema.indexes ≡ (created old.schema (table_of kept 0)).indexes
+  indexes_are = grown_indexes mid after grows ∙ ap (λ (s : Schema). s.indexes) adds.is ∙ ap (λ u. (created old.schema u).indexes) is
+
+  -- what guards a table that a name finds
+  guarded_as : (other : BookTable) (tree : ℕ) (schema : Schema) → table_found schema other.name ≡ Some (table_of other tree)
+      → AllByRecursion (λ i. guards i (table_of other tree) ≡ true → IsOfKey other.keys i) schema.indexes → OnlyKeysGuard other.name schema
+  guarded_as other tree schema found all = subst (λ o. IfSome o (λ u. AllByRecursion (λ i. guards i u ≡ true → IsOfKey u.uniques i) schema.indexes)) (sym found) all
+
+  stay_guarded : (other : BookTable) → IsTable other old.schema → OnlyKeysGuard other.name old.schema → OnlyKeysGuard other.name after.schema
+  stay_guarded other there guards_it =
+      let was = subst (λ o. IfSome o (λ u. AllByRecursion (λ i. guards i u ≡ true → IsOfKey u.uniques i) old.schema.indexes)) there.found guards_it in
+      guarded_as other there.tree after.schema (grown_found mid after grows other.name (table_of other there.tree) (found_stays old mid t adds other.name (table_of other there.tree) there.found))
+      (stays_guarded old.schema (table_of kept 0) after.schema.indexes indexes_are (table_of other there.tree) (listed other old.schema there) was)
+
   pub makes : Makes kept old after
   makes = record {
     free = subst (λ n. is_used old.schema n ≡ false) (ap (λ (u : Table). u.name) is) adds.free;
@@ -345,9 +418,18 @@ module _ (kept : BookTable) (old mid after : Database) (t : Table) (is : t ≡ t
         ap (λ (d : Database). d.schema) (grown_schema mid after grows lacks) ∙ adds.is ∙ ap (created old.schema) is;
     there = grown_table mid after grows kept in_mid;
     empty = grown_rows mid after grows kept in_mid ∙ no_row old mid t adds kept is low;
+    tables = all_from _ after.schema.tables old_or_made;
+    indexes = indexes_are;
+    views = grown_views mid after grows ∙ ap (λ (s : Schema). s.views) adds.is;
     others = all_from _ old.schema.tables (λ u h.
         let in_more = subst (λ ts. Has ts u) (sym (tables_are old mid t adds)) (has_left old.schema.tables _ u h) in
-        (grown_has mid after grows u in_more).1 ∙ rows_stay old mid t adds u h);
+        let there = grown_has mid after grows u in_more in
+        (there.0, there.1 ∙ rows_stay old mid t adds u h));
+    guarded = stay_guarded;
+    own_guards = λ on. (
+      guarded_as kept (next_tree old.schema) after.schema (grown_found mid after grows kept.name (table_of kept (next_tree old.schema)) (new_found old mid t adds kept is low)) (new_guarded kept old.schema after.schema.indexes indexes_are on),
+      still_on old.schema (table_of kept 0) after.schema.indexes indexes_are after.schema.tables in_after new_after on,
+    );
     keeps = λ other there.
         let stays = table_stays old mid t adds other there in
         (grown_table mid after grows other stays, grown_rows mid after grows other stays ∙ rows_of_table_stay old mid t adds other there);
@@ -358,7 +440,7 @@ module _ (kept : BookTable) (sql : List ℕ) (maker : IsMaker kept sql) (old : S
   with_sequence : (mid after : Database) → MakesSequence mid (Ok after) → Grows mid after
   unfolding Grows
   with_sequence mid after h = elim (cases_Bool (lacks_sequence mid.schema)) [
-    | inl lacks ↦ let it = rw lacks at h in inr (it.table, record { free = it.free; is = it.is; empty = it.empty; others = it.others }, sequence_plain it.table it.defined, lacks)
+    | inl lacks ↦ let it = rw lacks at h in inr (it.table, record { free = it.free; is = it.is; empty = it.empty; others = it.others }, sequence_is it.table it.defined, lacks)
     | inr whole ↦ inl (same_value (rw whole at h))
   ]
 
@@ -403,16 +485,8 @@ module _ (kept : BookTable) (sql : List ℕ) (maker : IsMaker kept sql) (old : S
 not_long : (a b : ℕ) → nat_le a b ≡ false → a ≤ b → ⊥
 not_long a b short long = grind (arith, nat_tests)
 
-name_in : Checked Table → List ℕ
-name_in (Ok t) = t.name
-name_in (Err e) = []
-
-sequence_name : (t : Table) → table_defined_by sequence_text ≡ Ok t → t.name ≡ codes "sqlite_sequence"
-unfolding name_in everything
-sequence_name t h = ap name_in (sym h)
-
 short_sequence : IsLongTable sequence_text → ⊥
-short_sequence h = not_long (10 ^ 9) (2 * length (codes "sqlite_sequence") + length sequence_text + 200) refl (subst (λ name. 10 ^ 9 ≤ 2 * length name + length sequence_text + 200) (sequence_name h.0 h.1) h.2)
+short_sequence h = not_long (10 ^ 9) (2 * length (codes "sqlite_sequence") + length sequence_text + 200) refl (subst (λ name. 10 ^ 9 ≤ 2 * length name + length sequence_text + 200) (sequence_is h.0 h.1).name h.2)
 
 module _ (kept : BookTable) (sql : List ℕ) (maker : IsMaker kept sql) (limit : Option ℕ) (old : Database) where
   short_table : IsLongTable sql → ⊥

@@ -1,14 +1,20 @@
 -- Tables that are declared alike.
-use Rattle.std.proofs.Common.{inl, inr, ◌≡◌, ◌<◌, ◌^◌, ◌==◌, ◌||◌, ◌↔◌, ◌∙◌, ℕ, Bool, List, [], ◌∷◌, true, false, not, None, Some, IsTrue, refl, sym, ap, subst, bytes_eq, eqb-true, eq-eqb}
+use Rattle.std.proofs.Common.{inl, inr, ◌≡◌, ◌<◌, ◌^◌, ◌==◌, ◌||◌, ◌↔◌, ◌∙◌, ℕ, Bool, List, [], ◌∷◌, true, false, not, None, Some, IfSome, IsTrue, refl, sym, ap, subst, bytes_eq, eqb-true, eq-eqb}
 use Rattle.std.proofs.lemmas.Bool.{cases_Bool, and_parts, and_from}
 use Rattle.std.proofs.lemmas.Slice.Eq.{bytes_eq-Decides}
-use Rattle.std.specs.List.{AllByRecursion, list_all}
+use Rattle.std.specs.List.{AllByRecursion, list_all, list_any}
+use Rattle.sqlite_value.specs.declared.keys.Order.{Order}
+use Rattle.sqlite_value.specs.Keys.{plain}
+use Rattle.sqlite_rules.specs.Lists.{Has}
+use Rattle.sqlite_rules.proofs.ListLemmas.{some_has, some_from}
+use Rattle.sqlite_schema.specs.Rules.{guards}
+use Rattle.sqlite_schema.specs.declared.schema.Index.{Index}
 use Rattle.sqlite_schema.specs.declared.schema.Table.{Table}
 use Rattle.sqlite_schema.specs.declared.schema.Schema.{Schema}
-use Rattle.tables.specs.Schema.{BookTable, IsTable, IsOfBook, IsBook, HasColumns, NoneRefersTo, table_of, table_found, book_table, crew_table, pairing_table, period_table, segment_table, seat_table, ground_table, exceedance_table, request_table}
+use Rattle.tables.specs.Schema.{BookTable, IsTable, IsOfBook, IsBook, IsOfKey, NoneRefersTo, OnlyKeysGuard, table_of, table_found, book_table, crew_table, pairing_table, period_table, segment_table, seat_table, ground_table, exceedance_table, request_table}
 use Rattle.sqlite_schema.specs.declared.schema.Reference.{Reference}
 use Rattle.sqlite_schema.specs.Names.{same_name}
-use Rattle.tables.specs.Declarations.{IsSimple, IsLike, HaveNoDefault, StandsAs, is_own_tree, is_not_parent}
+use Rattle.tables.specs.Declarations.{IsSimple, IsLike, HaveNoDefault, StandsAs, is_own_tree, is_not_parent, is_of_key, only_keys_guard}
 use Rattle.tables.proofs.Known.{some_same}
 
 pub alike : (a b : Table) → IsLike a b → IsSimple a → IsSimple b → a ≡ (let t : Table = record b { tree = a.tree } in t)
@@ -51,21 +57,12 @@ module _ (it : BookTable) (schema : Schema) (wanted : Table) (is : wanted ≡ ta
   no_default : HaveNoDefault wanted.columns
   no_default = subst HaveNoDefault (sym (ap (λ (w : Table). w.columns) is)) plain
 
-  pub none_has : None ≡ table_found schema wanted.name → IsTrue false ↔ HasColumns it schema
-  none_has none = (λ h. absurd (cc), λ h. absurd (let e = none ∙ named ∙ h.1 in cc))
-
   pub none_there : None ≡ table_found schema wanted.name → IsTrue false ↔ IsTable it schema
   none_there none = (λ h. absurd (cc), λ h. absurd (let e = none ∙ named ∙ h.found in cc))
 
   module _ (t : Table) (found : Some t ≡ table_found schema wanted.name) (result : Bool) where
     same_table : (u : Table) → table_found schema it.name ≡ Some u → t ≡ u
     same_table u h = some_same (found ∙ named ∙ h)
-
-    pub some_has : (IsTrue result → t.columns ≡ wanted.columns) → (t.columns ≡ wanted.columns → HaveNoDefault wanted.columns → IsTrue result) → IsTrue result ↔ HasColumns it schema
-    some_has same all = (
-      λ h. (t, sym (found ∙ named), same h ∙ ap (λ (w : Table). w.columns) is),
-      λ h. all (ap (λ (u : Table). u.columns) (same_table h.0 h.1) ∙ h.2 ∙ sym (ap (λ (w : Table). w.columns) is)) no_default,
-    )
 
     pub some_there : (IsTrue result → StandsAs schema.tables t wanted) → (StandsAs schema.tables t wanted → IsSimple wanted → HaveNoDefault wanted.columns → IsTrue result) → IsTrue result ↔ IsTable it schema
     some_there same all = (
@@ -107,6 +104,39 @@ none_refers schema name result is =
     let it = all_mean (λ (t : Table). list_all (λ ref. not (same_name name ref.parent)) t.references) (λ (t : Table). AllByRecursion (λ ref. same_name name ref.parent ≡ false) t.references)
     (λ t. all_mean (λ (ref : Reference). not (same_name name ref.parent)) (λ (ref : Reference). same_name name ref.parent ≡ false) (λ ref. test_not (same_name name ref.parent)) t.references) schema.tables in
     (λ h. it.0 (sym is ∙ h), λ h. is ∙ it.1 h)
+
+-- ---- UNIQUE indexes
+
+has_same : (keys : List (List ℕ)) (columns : List ℕ) → (list_any (λ key. bytes_eq key columns) keys ≡ true → Has keys columns) × (Has keys columns → list_any (λ key. bytes_eq key columns) keys ≡ true)
+has_same keys columns = (
+  λ h. let it = some_has (λ key. bytes_eq key columns) keys h in subst (Has keys) ((bytes_eq-Decides it.0 columns).0 it.2) it.1,
+  λ h. some_from (λ key. bytes_eq key columns) keys columns h ((bytes_eq-Decides columns columns).1 refl),
+)
+
+plain_order : (o : Order) → o.digits ≡ 0 → o ≡ plain
+plain_order o none = ap (λ n. let it : Order = record { digits = n } in it) none
+
+of_key : (keys : List (List ℕ)) (index : Index) → (is_of_key keys index ≡ true → IsOfKey keys index) × (IsOfKey keys index → is_of_key keys index ≡ true)
+of_key keys index = (
+  λ h. let parts = and_parts (index.order.digits == 0) _ h in ((has_same keys index.columns).0 parts.1, plain_order index.order (eqb-true _ _ parts.0)),
+  λ h. and_from (index.order.digits == 0) _ (eq-eqb _ _ (ap (λ (o : Order). o.digits) h.1)) ((has_same keys index.columns).1 h.0),
+)
+
+one_guard : (t : Table) (index : Index) → (not (guards index t) || is_of_key t.uniques index ≡ true → guards index t ≡ true → IsOfKey t.uniques index)
+    × ((guards index t ≡ true → IsOfKey t.uniques index) → (not (guards index t) || is_of_key t.uniques index) ≡ true)
+one_guard t index = elim (cases_Bool (guards index t)) [
+  | inl guarded ↦ (λ h _. (of_key t.uniques index).0 (rw guarded at h), λ h. rw guarded ((of_key t.uniques index).1 (h guarded)))
+  | inr free ↦ (λ h is. absurd (let e = sym free ∙ is in cc), λ h. rw free refl)
+]
+
+module _ (schema : Schema) (name : List ℕ) where
+  pub none_guards : None ≡ table_found schema name → IsTrue true ↔ OnlyKeysGuard name schema
+  none_guards none = subst (λ o. IsTrue true ↔ IfSome o (λ t. AllByRecursion (λ index. guards index t ≡ true → IsOfKey t.uniques index) schema.indexes)) none (λ _. tt, λ _. refl)
+
+  pub keys_guard : (t : Table) (result : Bool) → Some t ≡ table_found schema name → result ≡ only_keys_guard t schema.indexes → IsTrue result ↔ OnlyKeysGuard name schema
+  keys_guard t result found is =
+      let all = all_mean (λ (i : Index). not (guards i t) || is_of_key t.uniques i) (λ (i : Index). guards i t ≡ true → IsOfKey t.uniques i) (one_guard t) schema.indexes in
+      subst (λ o. IsTrue result ↔ IfSome o (λ u. AllByRecursion (λ index. guards index u ≡ true → IsOfKey u.uniques index) schema.indexes)) found (λ h. all.0 (sym is ∙ h), λ h. is ∙ all.1 h)
 
 -- ---- the nine tables of a book, by threes
 

@@ -8,6 +8,7 @@ pub mod Answering
 pub mod Refusing
 pub mod Deleting
 pub mod Updating
+pub mod Guarding
 pub mod Creating
 pub mod ReadingLemmas
 pub mod Selecting
@@ -25,4 +26,8 @@ pub mod SeatTexts
 pub mod GroundTexts
 pub mod ExceedanceTexts
 pub mod RequestTexts
+pub mod BaseTexts
+pub mod CrewBaseTexts
+pub mod OutsideTexts
+pub mod OutsideSegmentTexts
 pub mod Declaring

@@ -12,11 +12,11 @@ use Rattle.sqlite_resolve.specs.declared.error.CompileError.{CompileError}
 use Rattle.sqlite.specs.declared.error.Error.{Error}
 use Rattle.sqlite.specs.Calls.{IsWrite}
 use Rattle.sqlite.specs.Does.{Does}
-use Rattle.sqlite.specs.State.{State, HasCleanDisk, CommitsBy, MayCommit, Survives, IsRolledBack, text_of, Executes, ExecutesIn, IsNotRun, IsNoStatement, IsMisplaced, MayChange, shows_rows, mode_of}
+use Rattle.sqlite.specs.State.{State, HasCleanDisk, CommitsBy, MayCommit, Survives, text_of, Executes, ExecutesIn, IsNotRun, IsNoStatement, IsMisplaced, MayChange, shows_rows, mode_of}
 use Rattle.sqlite.proofs.StateLemmas.{survives_weaker}
 use Rattle.sqlite.proofs.Callers.{IsPlain, command_of, runs_as}
 use Rattle.tables.proofs.Stopping.{IsWhole, left, of_store, stopped}
-use Rattle.tables.specs.Calls.{Begun, Committed, Faults, Gave, Stops}
+use Rattle.tables.specs.Calls.{Begun, Committed, TakenBack, Faults, Gave, Stops}
 use Rattle.tables.specs.Faults.{table_fault_of}
 use Rattle.tables.specs.Texts.{RunsStatement}
 use Rattle.tables.specs.declared.table_fault.TableFault.{TableFault}
@@ -75,7 +75,7 @@ rolls_back_out old e (inr (_, name, inr back, _)) = absurd (cc)
 
 pub begin_ran : {A : Type 0} (old new : State) (result : Result A TableFault) → RunsStatement (codes "BEGIN") [] old new result → Gave (Begun old new) old new result
 begin_ran old new (Err f) h clean = let stops = refused_by _ Begin said_begin (λ c is none. rw (is, none) refl) (λ h. h) (λ old t h. cc) (λ s. IsTrue s.in_transaction) begins_in old new f h.0 h.1 h.2 in (left _ _ old new f stops, of_store _ _ old new f stops)
-begin_ran old new (Ok a) h clean = let r = runs_as _ [] old new old.now.schema refl Begin (said_begin.is _) (said_begin.plain _) h.0 h.1 in (r.1, r.4)
+begin_ran old new (Ok a) h clean = let r = runs_as _ [] old new old.now.schema refl Begin (said_begin.is _) (said_begin.plain _) h.0 h.1 in (r.1, r.4, r.0)
 
 pub begin_faults : {A : Type 0} (old new : State) (result : Result A TableFault) → (HasCleanDisk new → RunsStatement (codes "BEGIN") [] old new result) → Faults ⊥ (IsTrue old.in_transaction) old new result
 begin_faults old new (Err f) performs clean = let h = performs clean in refused_by _ Begin said_begin (λ c is none. rw (is, none) refl) (λ h. h) (λ old t h. cc) (λ s. IsTrue s.in_transaction) begins_in old new f h.0 h.1 h.2
@@ -89,9 +89,9 @@ pub commit_faults : {A : Type 0} (old new : State) (result : Result A TableFault
 commit_faults old new (Err f) performs clean = let h = performs clean in refused_by _ Commit said_commit (λ c is none. rw (is, none) refl) (λ h. h) (λ old t h. cc) (λ s. s.in_transaction ≡ false) commits_out old new f h.0 h.1 h.2
 commit_faults old new (Ok a) performs clean = tt
 
-pub rollback_ran : {A : Type 0} (old new : State) (result : Result A TableFault) → RunsStatement (codes "ROLLBACK") [] old new result → Gave (IsRolledBack old new) old new result
+pub rollback_ran : {A : Type 0} (old new : State) (result : Result A TableFault) → RunsStatement (codes "ROLLBACK") [] old new result → Gave (TakenBack old new) old new result
 rollback_ran old new (Err f) h clean = let stops = refused_by _ Rollback said_rollback (λ c is none. rw (is, none) refl) (λ h. h) (λ old t h. cc) (λ s. s.in_transaction ≡ false) rolls_back_out old new f h.0 h.1 h.2 in (left _ _ old new f stops, of_store _ _ old new f stops)
-rollback_ran old new (Ok a) h clean = let r = runs_as _ [] old new old.now.schema refl Rollback (said_rollback.is _) (said_rollback.plain _) h.0 h.1 in r.1
+rollback_ran old new (Ok a) h clean = let r = runs_as _ [] old new old.now.schema refl Rollback (said_rollback.is _) (said_rollback.plain _) h.0 h.1 in (r.0, r.1)
 
 pub rollback_faults : {A : Type 0} (old new : State) (result : Result A TableFault) → (HasCleanDisk new → RunsStatement (codes "ROLLBACK") [] old new result) → Faults ⊥ (old.in_transaction ≡ false) old new result
 rollback_faults old new (Err f) performs clean = let h = performs clean in refused_by _ Rollback said_rollback (λ c is none. rw (is, none) refl) (λ h. h) (λ old t h. cc) (λ s. s.in_transaction ≡ false) rolls_back_out old new f h.0 h.1 h.2

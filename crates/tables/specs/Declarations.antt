@@ -1,10 +1,13 @@
--- What the functions of this crate say to one another of how a table is declared. No public clause names these.
-use Rattle.std.specs.Prelude.{◌≡◌, ◌<◌, ◌^◌, Ok, ◌||◌, ◌==◌, [], None, true, false, not, All, Bool, List, ℕ, bytes_eq}
-use Rattle.std.specs.List.{list_all}
+-- What the functions of this crate say to one another of how a table is declared. No public
+-- clause names these definitions.
+use Rattle.std.specs.Prelude.{◌≡◌, ◌<◌, ◌^◌, Ok, ◌||◌, ◌&&◌, ◌==◌, [], None, true, false, not, All, Bool, List, ℕ, bytes_eq}
+use Rattle.std.specs.List.{list_all, list_any}
 use Rattle.sqlite_value.specs.declared.value.Value.TheVariants.{Null}
 use Rattle.sqlite_resolve.specs.Compile.{table_defined_by}
 use Rattle.sqlite_schema.specs.Names.{same_name}
 use Rattle.sqlite_schema.specs.declared.schema.Column.{Column}
+use Rattle.sqlite_schema.specs.Rules.{guards}
+use Rattle.sqlite_schema.specs.declared.schema.Index.{Index}
 use Rattle.sqlite_schema.specs.declared.schema.Table.{Table}
 use Rattle.tables.specs.Schema.{BookTable, table_of}
 
@@ -46,4 +49,15 @@ pub record DeclaresTable (it : BookTable) (text : List ℕ) : Type 0 where
 
 -- no table refers to one of this name
 abbrev pub is_not_parent : List Table → List ℕ → Bool
-is_not_parent tables name = list_all (λ t. list_all (λ ref. not (same_name name ref.parent)) t.references) tables
+is_not_parent tables name =
+    list_all (λ t. list_all (λ ref. not (same_name name ref.parent)) t.references) tables
+
+-- the index has the columns of one of these keys, and compares them as plain values
+abbrev pub is_of_key : List (List ℕ) → Index → Bool
+is_of_key keys index =
+    (index.order.digits == 0) && list_any (λ key. bytes_eq key index.columns) keys
+
+-- each UNIQUE index on the table is one that the table's own keys call for
+abbrev pub only_keys_guard : Table → List Index → Bool
+only_keys_guard t indexes =
+    list_all (λ index. not (guards index t) || is_of_key t.uniques index) indexes

@@ -6,7 +6,7 @@ use Rattle.sqlite.specs.declared.error.ErrorCode.TheVariants.{OutOfMemory}
 use Rattle.tables.specs.declared.table_fault.TableFault.{TableFault}
 use Rattle.tables.specs.declared.table_fault.TableFault.TheVariants.{Store, Memory, NotARecord}
 
--- want of memory is 91, and every other failure is 90
+-- out of memory is 91, and every other failure is 90
 abbrev pub table_fault_of : Error → TableFault
 table_fault_of (SqliteFailure OutOfMemory) = Memory
 table_fault_of _ = Store

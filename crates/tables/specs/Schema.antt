@@ -1,5 +1,5 @@
 -- The tables of the book, as `sqlite` sees them once they are created.
-use Rattle.std.specs.Prelude.{◌≡◌, ◌<◌, ◌^◌, Bool, true, false, [], ◌∷◌, Option, None, Some, codes, List, ℕ, map, find}
+use Rattle.std.specs.Prelude.{◌≡◌, ◌<◌, ◌^◌, Bool, true, false, [], ◌∷◌, Option, None, Some, IfSome, codes, List, ℕ, map, find}
 use Rattle.std.specs.List.{AllByRecursion}
 use Rattle.sqlite_value.specs.declared.keys.Collation.TheVariants.{Binary}
 use Rattle.sqlite_value.specs.declared.value.Value.TheVariants.{Null}
@@ -7,14 +7,24 @@ use Rattle.sqlite_value.specs.Keys.{plain}
 use Rattle.sqlite_schema.specs.declared.schema.Kind.{Kind}
 use Rattle.sqlite_schema.specs.declared.schema.Kind.TheVariants.{Integer, Text}
 use Rattle.sqlite_schema.specs.declared.schema.Column.{Column}
+use Rattle.sqlite_rules.specs.Lists.{Has}
+use Rattle.sqlite_schema.specs.declared.schema.Index.{Index}
 use Rattle.sqlite_schema.specs.declared.schema.Table.{Table}
 use Rattle.sqlite_schema.specs.declared.schema.Schema.{Schema}
 use Rattle.sqlite_schema.specs.Names.{same_name}
+use Rattle.sqlite_schema.specs.Rules.{guards}
 
 -- a STRICT column of a kind of values, NOT NULL where it is required
 abbrev pub strict_column : Bool → Kind → List ℕ → Column
 strict_column is_required kind name =
-    record { name = name; kind = kind; is_strict = true; not_null = is_required; default = Null; collation = Binary }
+    record {
+      name = name;
+      kind = kind;
+      is_strict = true;
+      not_null = is_required;
+      default = Null;
+      collation = Binary;
+    }
 
 -- a column of whole numbers
 abbrev pub number : List ℕ → Column
@@ -28,7 +38,8 @@ words = strict_column true Text
 abbrev pub number_if_any : List ℕ → Column
 number_if_any = strict_column false Integer
 
--- A table of the book. Columns count from 1 in a key; the first key is the primary one, but for `book`, which has none.
+-- A table of the book. Columns count from 1 in a key. The first key is the primary key, but for
+-- `book`, which has no primary key.
 pub record BookTable : Type 0 where
   pub name : List ℕ
   pub columns : List Column
@@ -67,8 +78,9 @@ abbrev pub period_table : BookTable
 period_table = record {
   name = codes "period";
   columns =
-      words (codes "pairing") ∷ number (codes "number") ∷ number (codes "report_at") ∷ number (codes "release_at")
-      ∷ number_if_any (codes "act_report") ∷ number_if_any (codes "act_release") ∷ [];
+      words (codes "pairing") ∷ number (codes "number") ∷ number (codes "report_at")
+      ∷ number (codes "release_at") ∷ number_if_any (codes "act_report")
+      ∷ number_if_any (codes "act_release") ∷ [];
   primary = 1 ∷ 2 ∷ [];
   keys = (1 ∷ 2 ∷ []) ∷ [];
 }
@@ -78,8 +90,9 @@ abbrev pub segment_table : BookTable
 segment_table = record {
   name = codes "segment";
   columns =
-      words (codes "pairing") ∷ number (codes "period") ∷ number (codes "number") ∷ words (codes "flight") ∷ words (codes "origin")
-      ∷ words (codes "destination") ∷ number (codes "out_at") ∷ number (codes "in_at") ∷ number_if_any (codes "act_out")
+      words (codes "pairing") ∷ number (codes "period") ∷ number (codes "number")
+      ∷ words (codes "flight") ∷ words (codes "origin") ∷ words (codes "destination")
+      ∷ number (codes "out_at") ∷ number (codes "in_at") ∷ number_if_any (codes "act_out")
       ∷ number_if_any (codes "act_in") ∷ [];
   primary = 1 ∷ 2 ∷ 3 ∷ [];
   keys = (1 ∷ 2 ∷ 3 ∷ []) ∷ [];
@@ -98,7 +111,9 @@ seat_table = record {
 abbrev pub ground_table : BookTable
 ground_table = record {
   name = codes "ground";
-  columns = words (codes "id") ∷ words (codes "crew") ∷ words (codes "task") ∷ number (codes "begin_at") ∷ number (codes "end_at") ∷ [];
+  columns =
+      words (codes "id") ∷ words (codes "crew") ∷ words (codes "task")
+      ∷ number (codes "begin_at") ∷ number (codes "end_at") ∷ [];
   primary = 1 ∷ [];
   keys = (1 ∷ []) ∷ (2 ∷ 1 ∷ []) ∷ [];
 }
@@ -108,8 +123,8 @@ abbrev pub exceedance_table : BookTable
 exceedance_table = record {
   name = codes "exceedance";
   columns =
-      number (codes "number") ∷ number (codes "part") ∷ words (codes "crew") ∷ number (codes "section") ∷ words (codes "pairing")
-      ∷ number (codes "period") ∷ [];
+      number (codes "number") ∷ number (codes "part") ∷ words (codes "crew")
+      ∷ number (codes "section") ∷ words (codes "pairing") ∷ number (codes "period") ∷ [];
   primary = 1 ∷ 2 ∷ 3 ∷ 4 ∷ [];
   keys = (1 ∷ 2 ∷ 3 ∷ 4 ∷ []) ∷ [];
 }
@@ -118,13 +133,55 @@ exceedance_table = record {
 abbrev pub request_table : BookTable
 request_table = record {
   name = codes "request";
-  columns = number (codes "number") ∷ number (codes "part") ∷ words (codes "command") ∷ words (codes "reply") ∷ [];
+  columns =
+      number (codes "number") ∷ number (codes "part") ∷ words (codes "command")
+      ∷ words (codes "reply") ∷ [];
   primary = 1 ∷ 2 ∷ [];
   keys = (1 ∷ 2 ∷ []) ∷ [];
 }
 
--- As its text declares it, kept in this tree: strict, with its keys alone, so no check, no reference, no computed default,
--- and no column that is the row's number.
+-- the bases, by id, each with the rule text of its zone
+abbrev pub base_table : BookTable
+base_table = record {
+  name = codes "base";
+  columns = words (codes "id") ∷ words (codes "zone") ∷ [];
+  primary = 1 ∷ [];
+  keys = (1 ∷ []) ∷ [];
+}
+
+-- the base of each member, by the member's id
+abbrev pub crew_base_table : BookTable
+crew_base_table = record {
+  name = codes "crew_base";
+  columns = words (codes "crew") ∷ words (codes "base") ∷ [];
+  primary = 1 ∷ [];
+  keys = (1 ∷ []) ∷ [];
+}
+
+-- the outside periods, by id, and by member
+abbrev pub outside_table : BookTable
+outside_table = record {
+  name = codes "outside";
+  columns =
+      words (codes "id") ∷ words (codes "crew") ∷ number (codes "report_at")
+      ∷ number (codes "release_at") ∷ [];
+  primary = 1 ∷ [];
+  keys = (1 ∷ []) ∷ (2 ∷ 1 ∷ []) ∷ [];
+}
+
+-- the segments of outside periods, by outside period and number
+abbrev pub outside_segment_table : BookTable
+outside_segment_table = record {
+  name = codes "outside_segment";
+  columns =
+      words (codes "outside") ∷ number (codes "number") ∷ number (codes "out_at")
+      ∷ number (codes "in_at") ∷ [];
+  primary = 1 ∷ 2 ∷ [];
+  keys = (1 ∷ 2 ∷ []) ∷ [];
+}
+
+-- The table as its text declares it, kept in this tree: strict, with its keys alone, so no check,
+-- no reference, no computed default, and no column that is the row's number.
 abbrev pub table_of : BookTable → ℕ → Table
 table_of it tree = record {
   name = it.name;
@@ -144,8 +201,8 @@ table_of it tree = record {
 -- the nine tables of a book, in the order in which they are made
 abbrev pub book_tables : List BookTable
 book_tables =
-    book_table ∷ crew_table ∷ pairing_table ∷ period_table ∷ segment_table ∷ seat_table ∷ ground_table ∷ exceedance_table
-    ∷ request_table ∷ []
+    book_table ∷ crew_table ∷ pairing_table ∷ period_table ∷ segment_table ∷ seat_table
+    ∷ ground_table ∷ exceedance_table ∷ request_table ∷ []
 
 -- ---- what a schema has
 
@@ -153,32 +210,53 @@ book_tables =
 abbrev pub table_found : Schema → List ℕ → Option Table
 table_found schema name = find (λ t. same_name t.name name) schema.tables
 
--- A table of the book is there as its text declares it, and no table with another name is kept in its tree. Where it
--- stands among the tables, and what the others are, is open. (`sqlite` keeps every table in a tree of its own, but no
--- clause of it says so.)
+-- A table of the book is there as its text declares it, and no table with another name is kept in
+-- its tree. Where it stands among the tables, and what the other tables are, is open. (`sqlite`
+-- keeps every table in a tree of its own, but no clause of `sqlite` says so.)
 pub record IsTable (it : BookTable) (schema : Schema) : Type 0 where
   pub tree : ℕ
   pub found : table_found schema it.name ≡ Some (table_of it tree)
   pub low : tree < 2 ^ 31
   pub alone : AllByRecursion (λ t. t.tree ≡ tree → t.name ≡ it.name) schema.tables
 
--- a table of this name has these columns: their names, types and NOT NULL, strict and with no default
-abbrev pub HasColumns : BookTable → Schema → Type 0
-HasColumns it schema = (t : Table) × (table_found schema it.name ≡ Some t) × (t.columns ≡ it.columns)
-
 -- no foreign key refers to a table of this name
 abbrev pub NoneRefersTo : List ℕ → Schema → Type 0
-NoneRefersTo name schema = AllByRecursion (λ t. AllByRecursion (λ ref. same_name name ref.parent ≡ false) t.references) schema.tables
+NoneRefersTo name schema =
+    AllByRecursion (λ t. AllByRecursion (λ ref. same_name name ref.parent ≡ false) t.references)
+    schema.tables
 
--- none refers to the table, so that nothing else changes where its rows do
+-- no foreign key refers to the table, so that a change of its rows changes no other table
 abbrev pub IsUnreferenced : BookTable → Schema → Type 0
 IsUnreferenced it = NoneRefersTo it.name
 
--- the table is there as it is declared, and no foreign key refers to it
-abbrev pub IsOfBook : BookTable → Schema → Type 0
-IsOfBook it schema = IsTable it schema × IsUnreferenced it schema
+-- the index has the columns of one of these keys, and compares them as plain values
+abbrev pub IsOfKey : List (List ℕ) → Index → Type 0
+IsOfKey keys index = Has keys index.columns × (index.order ≡ plain)
 
--- the nine tables are there, in any order and among any others, and no foreign key refers to them
+-- each UNIQUE index on the table of this name is one that the table's own keys call for
+abbrev pub OnlyKeysGuard : List ℕ → Schema → Type 0
+OnlyKeysGuard name schema =
+    IfSome (table_found schema name) (λ t.
+    AllByRecursion (λ index. guards index t ≡ true → IsOfKey t.uniques index) schema.indexes)
+
+-- each index is on a table that is there
+abbrev pub AreOnTables : Schema → Type 0
+AreOnTables schema =
+    AllByRecursion (λ index. (t : Table) × Has schema.tables t × (index.table ≡ t.tree))
+    schema.indexes
+
+-- Nothing of another hand stands between the table of this name and its rows: no foreign key
+-- refers to the table, and no UNIQUE index guards it but those of its own keys.
+abbrev pub IsSpared : List ℕ → Schema → Type 0
+IsSpared name schema = NoneRefersTo name schema × OnlyKeysGuard name schema
+
+-- the table is there as its text declares it, and no foreign key or UNIQUE index of another hand
+-- binds it
+abbrev pub IsOfBook : BookTable → Schema → Type 0
+IsOfBook it schema = IsTable it schema × IsSpared it.name schema
+
+-- the nine tables are there, in any order and among any others, and no foreign key or UNIQUE index
+-- of another hand binds them
 abbrev pub IsBook : Schema → Type 0
 IsBook schema = AllByRecursion (λ it. IsOfBook it schema) book_tables
 

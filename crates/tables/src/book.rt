@@ -1,15 +1,16 @@
 //! The table `book`: the one row that says what the file is.
 //! Its rows, right and damaged: `tests/tables.py`.
 
-ghost use Rattle.std.specs.Prelude.{⊤, [], map, IfErr, IfOk, IsTrue, ◌↔◌, ◌≡◌};
+ghost use Rattle.std.specs.Prelude.{⊤, [], ◌∷◌, map, pos, IfErr, IfOk, IsTrue, ◌↔◌, ◌≡◌};
+ghost use Rattle.sqlite_value.specs.declared.value.Value.TheVariants as value;
 ghost use Rattle.sqlite.specs.Held.{state};
-ghost use Rattle.tables.specs.Schema.{book_table, IsTable, HasColumns};
-ghost use Rattle.tables.specs.Rows.{Makes, Inserts, begins_with, IsTooBig};
-ghost use Rattle.tables.specs.Records.{book_row, IsBookRow};
-ghost use Rattle.tables.specs.Calls.{HoldsTable, HoldsWhileOpen, Ran, RefusesHeld, CrashMayLeave, Read, Loaded, CrashLeavesNoMore, Faults, RefusesRow};
+ghost use Rattle.tables.specs.Schema.{book_table, IsTable};
+ghost use Rattle.tables.specs.Rows.{Makes, Inserts, Updates, begins_with, IsTooBig, BecomesTooBig};
+ghost use Rattle.tables.specs.Records.{book_row, IsBookRow, with_version};
+ghost use Rattle.tables.specs.Calls.{HoldsTable, HoldsWhileOpen, HoldsUnreferenced, Ran, RefusesHeld, CrashMayLeave, Read, Loaded, CrashLeavesNoMore, Faults, RefusesRow};
 ghost use Rattle.tables.specs.declared.table_fault.TableFault.TheVariants as fault;
 
-use crate::declared::{has_columns, is_there};
+use crate::declared::is_there;
 use crate::loading::load;
 use crate::reading::{Record, column, has_width, read_all};
 use crate::statement::run;
@@ -60,15 +61,6 @@ impl Record for BookRecord {
 
 const CREATE: &str =
     "CREATE TABLE book (one INTEGER NOT NULL UNIQUE, version INTEGER NOT NULL, zone TEXT NOT NULL) STRICT";
-
-/// Returns whether there is a table `book` with these columns.
-pub fn has_book_columns<S: Alter>(alloc: Global, conn: &Connection<S>) -> Result<bool, TableFault>
-    ensures has { IfOk result
-        (λ yes. IsTrue yes ↔ HasColumns book_table (state S.Store conn.now).now.schema) }
-    ensures fault { IfErr result (λ e. e ≡ fault.Memory) }
-{
-    has_columns(alloc, conn, CREATE)
-}
 
 /// Returns whether the table is there as `create_book` declares it, in a tree of its own.
 pub fn is_book_there<S: Alter>(alloc: Global, conn: &Connection<S>) -> Result<bool, TableFault>
@@ -137,4 +129,23 @@ pub fn book_records<S: Alter>(
     ensures crash { CrashLeavesNoMore (state S.Store conn.old) (state S.Store conn.new) }
 {
     read_all(alloc, conn, "SELECT one, version, zone FROM book", &[])
+}
+
+/// Sets the version of the tables.
+pub fn update_book<S: Alter>(conn: &mut Connection<S>, version: i64) -> Result<(), TableFault>
+    requires there { HoldsTable book_table (state S.Store conn.old) }
+    requires free { HoldsUnreferenced book_table (state S.Store conn.old) }
+    ensures ran { Ran (Updates book_table (begins_with (value.Int (pos 1) ∷ []))
+        (with_version version)) (state S.Store conn.old) (state S.Store conn.new) result }
+    ensures fault { Faults (BecomesTooBig book_table (begins_with (value.Int (pos 1) ∷ []))
+        (with_version version) (state S.Store conn.old).now) ⊤
+        (state S.Store conn.old) (state S.Store conn.new) result }
+    ensures crash { CrashMayLeave (Updates book_table (begins_with (value.Int (pos 1) ∷ []))
+        (with_version version)) (state S.Store conn.old) (state S.Store conn.new) }
+{
+    run(
+        conn,
+        "UPDATE book SET version = ?1 WHERE one = 1",
+        params![version],
+    )
 }

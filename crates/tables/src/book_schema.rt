@@ -1,16 +1,17 @@
 //! Whether a database has the tables of a book, as their texts declare them.
 //! Files that lack a table, or have another: `tests/tables.py`. Wrong bodies: `must-fail-more/`.
 
-ghost use Rattle.std.specs.Prelude.{◌≡◌, ◌↔◌, IfErr, IfOk, IsTrue, IsSome, not};
-ghost use Rattle.std.specs.List.{list_all};
+ghost use Rattle.std.specs.Prelude.{◌≡◌, ◌↔◌, IfErr, IfOk, IsTrue, IsSome, bytes_eq, not};
+ghost use Rattle.std.specs.List.{list_all, list_any};
 ghost use Rattle.sqlite.specs.Held.{state};
 ghost use Rattle.sqlite_schema.specs.Names.{same_name};
-ghost use Rattle.tables.specs.Schema.{IsBook, IsOfBook, NoneRefersTo, table_found, empty_schema, book_table, crew_table, pairing_table, period_table, segment_table, seat_table, ground_table, exceedance_table, request_table};
-ghost use Rattle.tables.specs.Declarations.{is_not_parent};
+ghost use Rattle.tables.specs.Schema.{IsBook, IsOfBook, IsSpared, NoneRefersTo, OnlyKeysGuard, table_found, empty_schema, book_table, crew_table, pairing_table, period_table, segment_table, seat_table, ground_table, exceedance_table, request_table};
+ghost use Rattle.tables.specs.Declarations.{is_not_parent, is_of_key, only_keys_guard};
 ghost use Rattle.tables.specs.declared.table_fault.TableFault.TheVariants as fault;
 
 use crate::book::is_book_there;
 use crate::crew::is_crew_there;
+use crate::declared::table_named;
 use crate::exceedance::is_exceedance_there;
 use crate::ground::is_ground_there;
 use crate::pairing::is_pairing_there;
@@ -20,8 +21,9 @@ use crate::seat::is_seat_there;
 use crate::segment::is_segment_there;
 use crate::table_fault::TableFault;
 use sqlite::{Alter, Connection};
+use sqlite_items::Items;
 use sqlite_schema::names::same_name;
-use sqlite_schema::schema::{Reference, Table};
+use sqlite_schema::schema::{Index, Reference, Table};
 use std::alloc::Global;
 
 /// Returns whether there is a table of this name, whatever its columns are. Letters of ASCII match in either case.
@@ -62,6 +64,47 @@ pub fn is_unreferenced<S: Alter>(conn: &Connection<S>, name: &str) -> bool
     is_not_parent(conn.schema().tables.as_slice(), name.as_bytes())
 }
 
+fn is_key(keys: &[Items<usize>], columns: &[usize]) -> bool
+    ensures { result ≡ list_any (λ key. bytes_eq key columns.now) keys.now }
+{
+    keys.iter().any(|key| key.as_slice() == columns)
+}
+
+/// Returns whether the index has the columns of one of the keys, and compares them as plain values.
+fn is_of_key(keys: &[Items<usize>], index: &Index) -> bool
+    ensures { result ≡ is_of_key keys.now index.now }
+{
+    index.order.digits == 0 && is_key(keys, index.columns.as_slice())
+}
+
+/// Returns whether each UNIQUE index on the table is one that the table's own keys call for.
+fn only_keys_guard(table: &Table, indexes: &[Index]) -> bool
+    ensures { result ≡ only_keys_guard table.now indexes.now }
+{
+    indexes.iter().all(|index| {
+        !(index.is_unique && index.table == table.tree)
+            || is_of_key(table.uniques.as_slice(), index)
+    })
+}
+
+/// Returns whether each UNIQUE index on the table of this name is one that the table's own keys call for.
+fn is_guarded_by_keys<S: Alter>(conn: &Connection<S>, name: &str) -> bool
+    ensures { IsTrue result ↔ OnlyKeysGuard name.now (state S.Store conn.now).now.schema }
+{
+    match table_named(conn, name.as_bytes()) {
+        Some(table) => only_keys_guard(table, conn.schema().indexes.as_slice()),
+        None => true,
+    }
+}
+
+/// Returns whether nothing of another hand binds the table of this name: no foreign key refers to it, and each UNIQUE
+/// index on it is one that its own keys call for. Other indexes and views may be there.
+pub fn is_spared<S: Alter>(conn: &Connection<S>, name: &str) -> bool
+    ensures { IsTrue result ↔ IsSpared name.now (state S.Store conn.now).now.schema }
+{
+    is_unreferenced(conn, name) && is_guarded_by_keys(conn, name)
+}
+
 fn begins_as_book<S: Alter>(alloc: Global, conn: &Connection<S>) -> Result<bool, TableFault>
     ensures there { IfOk result
         (λ yes. IsTrue yes ↔ IsOfBook book_table (state S.Store conn.now).now.schema
@@ -71,11 +114,11 @@ fn begins_as_book<S: Alter>(alloc: Global, conn: &Connection<S>) -> Result<bool,
 {
     Ok(
         is_book_there(alloc, conn)?
-            && is_unreferenced(conn, "book")
+            && is_spared(conn, "book")
             && is_crew_there(alloc, conn)?
-            && is_unreferenced(conn, "crew")
+            && is_spared(conn, "crew")
             && is_pairing_there(alloc, conn)?
-            && is_unreferenced(conn, "pairing"),
+            && is_spared(conn, "pairing"),
     )
 }
 
@@ -88,11 +131,11 @@ fn goes_on_as_book<S: Alter>(alloc: Global, conn: &Connection<S>) -> Result<bool
 {
     Ok(
         is_period_there(alloc, conn)?
-            && is_unreferenced(conn, "period")
+            && is_spared(conn, "period")
             && is_segment_there(alloc, conn)?
-            && is_unreferenced(conn, "segment")
+            && is_spared(conn, "segment")
             && is_seat_there(alloc, conn)?
-            && is_unreferenced(conn, "seat"),
+            && is_spared(conn, "seat"),
     )
 }
 
@@ -105,15 +148,16 @@ fn ends_as_book<S: Alter>(alloc: Global, conn: &Connection<S>) -> Result<bool, T
 {
     Ok(
         is_ground_there(alloc, conn)?
-            && is_unreferenced(conn, "ground")
+            && is_spared(conn, "ground")
             && is_exceedance_there(alloc, conn)?
-            && is_unreferenced(conn, "exceedance")
+            && is_spared(conn, "exceedance")
             && is_request_there(alloc, conn)?
-            && is_unreferenced(conn, "request"),
+            && is_spared(conn, "request"),
     )
 }
 
-/// Returns whether the tables of a book are there, each in a tree of its own, and no foreign key refers to them.
+/// Returns whether the tables of a book are there, each in a tree of its own, and no foreign key or UNIQUE index of
+/// another hand binds them.
 pub fn is_book<S: Alter>(alloc: Global, conn: &Connection<S>) -> Result<bool, TableFault>
     ensures is { IfOk result (λ yes. IsTrue yes ↔ IsBook (state S.Store conn.now).now.schema) }
     ensures fault { IfErr result (λ e. e ≡ fault.Memory) }

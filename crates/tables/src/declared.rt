@@ -6,7 +6,7 @@ ghost use Rattle.sqlite.specs.Held.{state};
 ghost use Rattle.sqlite_resolve.specs.Compile.{table_defined_by};
 ghost use Rattle.sqlite_schema.specs.declared.schema.Table.{Table as SqlTable};
 ghost use Rattle.sqlite_value.specs.declared.value.Value.TheVariants as value;
-ghost use Rattle.tables.specs.Schema.{BookTable, IsTable, HasColumns, table_found, table_of};
+ghost use Rattle.tables.specs.Schema.{BookTable, IsTable, table_found, table_of};
 ghost use Rattle.tables.specs.Declarations.{IsSimple, IsLike, HaveNoDefault, StandsAs, DeclaresTable, is_own_tree};
 ghost use Rattle.tables.specs.declared.table_fault.TableFault.TheVariants as fault;
 
@@ -137,7 +137,7 @@ fn define(alloc: Global, text: &str) -> Result<Table, TableFault>
 }
 
 /// Finds the table of a name.
-fn table_named<'a, S: Alter>(conn: &'a Connection<S>, name: &[u8]) -> Option<&'a Table>
+pub(crate) fn table_named<'a, S: Alter>(conn: &'a Connection<S>, name: &[u8]) -> Option<&'a Table>
     ensures { option_map (λ table. table.now) result
         ≡ table_found (state S.Store conn.now).now.schema name.now }
 {
@@ -170,17 +170,6 @@ fn is_there_as<S: Alter>(conn: &Connection<S>, wanted: &Table) -> bool
     }
 }
 
-/// Returns whether a table of the wanted one's name has its columns.
-fn has_columns_of<S: Alter>(conn: &Connection<S>, wanted: &Table) -> bool
-    ensures { (it : BookTable) → wanted.now ≡ table_of it 0 → HaveNoDefault it.columns
-        → IsTrue result ↔ HasColumns it (state S.Store conn.now).now.schema }
-{
-    match table_named(conn, wanted.name.as_slice()) {
-        Some(found) => are_same_columns(found.columns.as_slice(), wanted.columns.as_slice()),
-        None => false,
-    }
-}
-
 /// Returns whether the table is there as its text declares it, in a tree of its own.
 pub(crate) fn is_there<S: Alter>(
     alloc: Global,
@@ -194,19 +183,4 @@ pub(crate) fn is_there<S: Alter>(
 {
     let wanted = define(alloc, text)?;
     Ok(is_there_as(conn, &wanted))
-}
-
-/// Returns whether a table of the name has the columns that the text declares.
-pub(crate) fn has_columns<S: Alter>(
-    alloc: Global,
-    conn: &Connection<S>,
-    text: &str,
-) -> Result<bool, TableFault>
-    ensures has { (it : BookTable) → DeclaresTable it text.now
-        → IfOk result (λ yes. IsTrue yes ↔ HasColumns it (state S.Store conn.now).now.schema) }
-    ensures fault { (it : BookTable) → DeclaresTable it text.now
-        → IfErr result (λ e. e ≡ fault.Memory) }
-{
-    let wanted = define(alloc, text)?;
-    Ok(has_columns_of(conn, &wanted))
 }

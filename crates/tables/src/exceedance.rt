@@ -3,13 +3,13 @@
 
 ghost use Rattle.std.specs.Prelude.{⊤, [], map, IfErr, IfOk, IsTrue, ◌↔◌, ◌≡◌};
 ghost use Rattle.sqlite.specs.Held.{state};
-ghost use Rattle.tables.specs.Schema.{exceedance_table, IsTable, HasColumns};
+ghost use Rattle.tables.specs.Schema.{exceedance_table, IsTable};
 ghost use Rattle.tables.specs.Rows.{Makes, Inserts, begins_with, FindsInOrder, HasNoRecord, IsTooBig};
 ghost use Rattle.tables.specs.Records.{exceedance_row, IsExceedanceRow};
 ghost use Rattle.tables.specs.Calls.{HoldsTable, Ran, RefusesHeld, CrashMayLeave, ReadAs, Loaded, CrashLeavesNoMore, Faults, RefusesRow, HasStepLimit};
 ghost use Rattle.tables.specs.declared.table_fault.TableFault.TheVariants as fault;
 
-use crate::declared::{has_columns, is_there};
+use crate::declared::is_there;
 use crate::loading::load;
 use crate::reading::{Record, column, has_width, read_all};
 use crate::statement::run;
@@ -72,18 +72,6 @@ impl Record for ExceedanceRecord {
 
 const CREATE: &str =
     "CREATE TABLE exceedance (number INTEGER NOT NULL, part INTEGER NOT NULL, crew TEXT NOT NULL, section INTEGER NOT NULL, pairing TEXT NOT NULL, period INTEGER NOT NULL, PRIMARY KEY (number, part, crew, section)) STRICT";
-
-/// Returns whether there is a table `exceedance` with these columns.
-pub fn has_exceedance_columns<S: Alter>(
-    alloc: Global,
-    conn: &Connection<S>,
-) -> Result<bool, TableFault>
-    ensures has { IfOk result
-        (λ yes. IsTrue yes ↔ HasColumns exceedance_table (state S.Store conn.now).now.schema) }
-    ensures fault { IfErr result (λ e. e ≡ fault.Memory) }
-{
-    has_columns(alloc, conn, CREATE)
-}
 
 /// Returns whether the table is there as `create_exceedance` declares it, in a tree of its own.
 pub fn is_exceedance_there<S: Alter>(

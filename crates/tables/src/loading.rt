@@ -1,14 +1,14 @@
-//! Whole tables, and that each of their rows is stored under a number of its own, which `sqlite` tells nowhere else.
+//! Whole tables, and that each of their rows is stored under a number of its own, which no clause of `sqlite` says.
 //! Rows that are damaged: `tests/tables.py`. Wrong bodies: `must-fail-more/`.
 
-ghost use Rattle.std.specs.Prelude.{◌≡◌, ◌≢◌, [], ◌∷◌, ⊤, map, drop, Err, IfOk, IfErr, OnOk, IsTrue};
+ghost use Rattle.std.specs.Prelude.{◌≡◌, [], ◌∷◌, map, drop, Err, IfOk, IfErr, OnOk};
 ghost use Rattle.sqlite_value.specs.declared.value.Value.TheVariants.{Int};
 ghost use Rattle.sqlite.specs.State.{HasCleanDisk, IsUnchanged};
 ghost use Rattle.sqlite.specs.Held.{state};
 ghost use Rattle.sqlite.specs.Given.{IsPlain};
 ghost use Rattle.sqlite.specs.Listing.{understood};
 ghost use Rattle.tables.specs.Calls.{CrashLeavesNoMore};
-ghost use Rattle.tables.specs.Texts.{HasInvalid, Unread, ShowsNumbered, rises, rises_from};
+ghost use Rattle.tables.specs.Texts.{HasInvalid, IsUnnumbered, ShowsNumbered, Unloaded, rises, rises_from};
 
 use crate::reading::{Record, read_all};
 use crate::table_fault::TableFault;
@@ -27,22 +27,22 @@ impl<R: Record> Record for Numbered<R> {
 
     ghost is_record = { λ values. R.Record.is_record (drop 1 values) };
 
-    ghost is_refused = { λ _. ⊤ };
+    ghost is_refused = { IsUnnumbered R.Record.is_refused };
 
     fn read(from: &Row, first: usize) -> Result<Numbered<R>, TableFault> {
-        let Some(second) = first.checked_add(1) else {
+        if from.column_count() <= first {
             return Err(TableFault::Store);
-        };
+        }
         Ok(Numbered {
             number: from.get(first)?,
-            entry: R::read(from, second)?,
+            entry: R::read(from, first + 1)?,
         })
     }
 }
 
 /// Returns whether each number is above the one before it.
 fn do_rise<R>(numbered: &[Numbered<R>]) -> bool
-    ensures { IsTrue result → IsTrue (rises (map (λ it. it.number) numbered.now)) }
+    ensures { result ≡ rises (map (λ it. it.number) numbered.now) }
 {
     let [first, more @ ..] = numbered else {
         return true;
@@ -60,7 +60,7 @@ fn do_rise<R>(numbered: &[Numbered<R>]) -> bool
 /// Keeps the records alone.
 fn records_of<R: Record>(alloc: Global, numbered: Vec<Numbered<R>>) -> Result<Vec<R>, TableFault>
     ensures ok { IfOk result (λ all. all.items ≡ map (λ it. it.entry) numbered.items) }
-    ensures err { result ≢ Err TableFault.NotARecord }
+    ensures err { IfErr result (λ fault. fault ≡ TableFault.Memory) }
 {
     let mut all = Vec::new(alloc);
     for it in numbered {
@@ -88,7 +88,7 @@ pub(crate) fn load<S: Alter, R: Record>(
 
     // A fault.
     ensures stops { HasCleanDisk (state S.Store conn.new) → IfErr result
-        (Unread (λ _. ⊤) sql.now [] (state S.Store conn.old) (state S.Store conn.new)) }
+        (Unloaded R.Record.is_refused sql.now (state S.Store conn.old) (state S.Store conn.new)) }
     ensures damaged { HasCleanDisk (state S.Store conn.new) → result ≡ Err TableFault.NotARecord
         → HasInvalid (λ values. R.Record.is_record (drop 1 values)) sql.now []
         (state S.Store conn.old) }

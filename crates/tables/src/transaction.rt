@@ -2,9 +2,9 @@
 //! Wrong bodies: `must-fail/`.
 
 ghost use Rattle.std.specs.Prelude.{◌≡◌, false, IsTrue};
-ghost use Rattle.sqlite.specs.State.{HasCleanDisk, IsRolledBack, Survives};
+ghost use Rattle.sqlite.specs.State.{HasCleanDisk, Survives};
 ghost use Rattle.sqlite.specs.Held.{state};
-ghost use Rattle.tables.specs.Calls.{Begun, Committed, Faults, Gave, CrashLeavesNoMore};
+ghost use Rattle.tables.specs.Calls.{Begun, Committed, TakenBack, Faults, Gave, CrashLeavesNoMore};
 
 use crate::statement::run;
 use crate::table_fault::TableFault;
@@ -35,7 +35,7 @@ pub fn commit<S: Alter>(conn: &mut Connection<S>) -> Result<(), TableFault>
 
 /// Takes back what the transaction changed; 90 where none is begun. After another fault it is undone too.
 pub fn rollback<S: Alter>(conn: &mut Connection<S>) -> Result<(), TableFault>
-    ensures gave { Gave (IsRolledBack (state S.Store conn.old) (state S.Store conn.new))
+    ensures gave { Gave (TakenBack (state S.Store conn.old) (state S.Store conn.new))
         (state S.Store conn.old) (state S.Store conn.new) result }
     ensures ended { HasCleanDisk (state S.Store conn.new)
         → (state S.Store conn.new).in_transaction ≡ false }
