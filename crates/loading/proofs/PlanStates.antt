@@ -22,7 +22,7 @@ use Rattle.loading.proofs.PlanKeys.{period_names_same, segment_names_same}
 use Rattle.loading.proofs.PlanLemmas.{there_within, same_plan, same_listed, times_once, block_pairs_same, Beside, beside, beside_once}
 use Rattle.loading.proofs.SamePairings.{planned_report}
 use Rattle.state_rows.proofs.Values.{numbers_same, text_is, number_is}
-use Rattle.loading.specs.Loading.{IsPlanned, actual_has_instants}
+use Rattle.loading.specs.Loading.{IsPlanned, HasInstantTimes}
 use Rattle.loading.specs.PlanRows.{Periods, Segments, period_name, segment_name, AreTimes, block_pair, actual_pair, IsSegment, HasRowOf, HasPeriodRow, IsReadPeriod, HasSegments, IsPairingOfRows}
 use Rattle.loading.specs.PlanRows.{PeriodRows, SegmentRows, ArePeriodsKeyed, AreSegmentsKeyed}
 use Rattle.state_rows.specs.Rows.{InPeriod, InSegment, At, PeriodOf, SegmentOf, row_of_period, row_of_segment, times_flown}
@@ -58,7 +58,7 @@ block_times_are (Some a) (Some b) (Some t) e f w =
     let parts = and_parts (is_instant t.block_out) (is_instant t.block_in) (w t refl) in
     ((λ i. (x i, y i)), ap is_instant (sym x) ∙ parts.0, ap is_instant (sym y) ∙ parts.1)
 
-actual_times_are : (a b : Option ℕ) (t : Option ActualTimes) → option_map (λ x. x.report) t ≡ a → option_map (λ x. x.release) t ≡ b → ((x : ActualTimes) → t ≡ Some x → actual_has_instants x) → AreTimes a b (option_map actual_pair t)
+actual_times_are : (a b : Option ℕ) (t : Option ActualTimes) → option_map (λ x. x.report) t ≡ a → option_map (λ x. x.release) t ≡ b → ((x : ActualTimes) → t ≡ Some x → HasInstantTimes x) → AreTimes a b (option_map actual_pair t)
 actual_times_are None None None e f w = tt
 actual_times_are None None (Some t) e f w = absurd (cc)
 actual_times_are None (Some b) None e f w = absurd (cc)
@@ -262,7 +262,7 @@ module _ (m : Periods) (n : Segments) (m_keyed : ArePeriodsKeyed m) (n_keyed : A
       let alike : row.0 ≡ it = one_value row.1 (ap (λ k. fin.get n (segment_name id (p.place + 1) k)) (sym at.1) ∙ e) in
       (g, ap segment_row (sym alike) ∙ sym (segment_same p.place g.place g.segment (times_flown p.actual g.place) row.0 row.1 row.2))
 
-  flown_all : (place : ℕ) (fdp : Fdp) (a : ActualTimes) (it : PeriodRecord) → IsReadPeriod n id (place + 1) it fdp (Some a) → actual_has_instants a
+  flown_all : (place : ℕ) (fdp : Fdp) (a : ActualTimes) (it : PeriodRecord) → IsReadPeriod n id (place + 1) it fdp (Some a) → HasInstantTimes a
   flown_all place fdp a it is =
       let count = (is.whole a refl).1 in
       let both = actual_instants it.act_report it.act_release a is.flown in (

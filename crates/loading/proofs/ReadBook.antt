@@ -112,7 +112,7 @@ of_book records it zone is version one same = subst (IsOnly records) (λ i. reco
 only_rows : (db : Database) (records : List BookRecord) (it : BookRecord) → HasRows book db (map book_row records) → IsOnly records it → (row : Row) → Has (rows_of (table book) db) row ↔ (row ≡ book_row it)
 only_rows db records it read only row = (λ h. (only.all row).0 ((read.all row).0 h), λ e. (read.all row).1 ((only.all row).1 e))
 
-not_unreadable : (db : Database) → IsUnreadable book IsBookRow db → AreRight book db → ⊥
+pub not_unreadable : (db : Database) → IsUnreadable book IsBookRow db → AreRight book db → ⊥
 not_unreadable db (inl none) right = none right.1.0.0
 not_unreadable db (inr x) right = x.3 (book_of right.0.zone, zone_utf8 right.0.zone right.1.1, (right.1.0.1 x.0).0 x.1)
 

@@ -98,7 +98,7 @@ number_fits Captain = omega arith
 number_fits FirstOfficer = omega arith
 
 -- where it is right, it is there, and each row is the record of a member
-not_unreadable : (db : Database) → IsUnreadable crew IsCrewRow db → AreRight crew db → ⊥
+pub not_unreadable : (db : Database) → IsUnreadable crew IsCrewRow db → AreRight crew db → ⊥
 not_unreadable db (inl none) right = none right.1.1.0
 not_unreadable db (inr x) right =
     let it = (right.1.1.1 x.0).0 x.1 in

@@ -183,7 +183,7 @@ known_here s t db a b id p is = record {
 }
 
 -- the number of a period with an actual has eight bits, since a pairing has few periods
-period_fits : (s : State) → ArePlanned s → (id : ExceedanceId) (p : PeriodId) → IsExceedance s.crew s.pairings id p → p.number < 256
+pub period_fits : (s : State) → ArePlanned s → (id : ExceedanceId) (p : PeriodId) → IsExceedance s.crew s.pairings id p → p.number < 256
 period_fits s planned id p is =
     let r = planned p.pairing is.rostered is.of_pairing in
     let few = few_periods is.rostered.plan r.plan in
@@ -193,7 +193,7 @@ period_fits s planned id p is =
 -- ---- The table
 
 -- where it is right, each row is that of an exceedance
-recorded_in : (s : State) (db : Database) → IsRight exceedance s db → (row : Row) → Has (rows_of exceedance_table db) row →
+pub recorded_in : (s : State) (db : Database) → IsRight exceedance s db → (row : Row) → Has (rows_of exceedance_table db) row →
     (id : ExceedanceId) × (p : PeriodId) × (row ≡ row_of_recorded id p) × IsExceedance s.crew s.pairings id p
 recorded_in s db right row here =
     let it = (right.1.1 row).0 here in
@@ -212,7 +212,7 @@ section_fits FlightDutyPeriods672Hours = omega arith
 section_fits ThirtyHourRest = omega arith
 section_fits TenHourRest = omega arith
 
-not_unreadable : (db : Database) → IsUnreadable exceedance IsExceedanceRow db → AreRight exceedance db → ⊥
+pub not_unreadable : (db : Database) → IsUnreadable exceedance IsExceedanceRow db → AreRight exceedance db → ⊥
 not_unreadable db (inl none) right = none right.1.1.0
 not_unreadable db (inr x) right =
     let it = recorded_in right.0 db right.1 x.0 x.1 in

@@ -168,7 +168,7 @@ ground_shapes g e = elim (cases_Bool (is_id g.id)) [
 ]
 
 -- where it is right, it is there, and each row is the record of a ground duty
-not_unreadable : (db : Database) → IsUnreadable ground_duty IsGroundRow db → AreRight ground_duty db → ⊥
+pub not_unreadable : (db : Database) → IsUnreadable ground_duty IsGroundRow db → AreRight ground_duty db → ⊥
 not_unreadable db (inl none) right = none right.1.1.0
 not_unreadable db (inr x) right =
     let it = (right.1.1.1 x.0).0 x.1 in

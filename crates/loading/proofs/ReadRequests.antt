@@ -132,7 +132,7 @@ module _ (records : List RequestRecord) (at : ℕ) (it : RequestRecord) (there :
 -- ---- The table
 
 -- where it is right, it is there, and each row is the record of a command and its reply
-not_unreadable : (db : Database) → IsUnreadable request IsRequestRow db → AreRight request db → ⊥
+pub not_unreadable : (db : Database) → IsUnreadable request IsRequestRow db → AreRight request db → ⊥
 not_unreadable db (inl none) right = none right.1.1.0
 not_unreadable db (inr x) right =
     let it = (right.1.1.1 x.0).0 x.1 in

@@ -145,7 +145,7 @@ module _ (s : State) (m : fin.FinMap name_cmp PairingEntry) (planned : (id : Lis
 -- ---- The table
 
 -- where it is right, it is there, and each row is the record of a seat
-not_unreadable : (db : Database) → IsUnreadable seat IsSeatRow db → AreRight seat db → ⊥
+pub not_unreadable : (db : Database) → IsUnreadable seat IsSeatRow db → AreRight seat db → ⊥
 not_unreadable db (inl none) right = none right.1.1.0
 not_unreadable db (inr x) right =
     let it = (right.1.1.1 x.0).0 x.1 in

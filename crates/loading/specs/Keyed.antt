@@ -1,4 +1,5 @@
--- What is read of the tables `pairing`, `period` and `segment`. No public clause names these.
+-- What is read of the tables `pairing`, `period` and `segment`. No public clause names a word of
+-- this file.
 use Rattle.std.specs.Prelude.{◌≡◌, ◌⊎◌, ◌+◌, ⊤, ℕ, true, List, map, take, Option, Some}
 use Rattle.std.specs.FinMap as fin
 use Rattle.values.specs.Name.{name_cmp}
@@ -22,41 +23,43 @@ use Rattle.state_rows.specs.Rows.{HasJust, row_of_pairing}
 use Rattle.loading.specs.declared.plan_rows.PeriodKey.{PeriodKey}
 use Rattle.loading.specs.declared.plan_rows.SegmentKey.{SegmentKey}
 
--- a number is 1, or that of something and one more
+-- a number is 1, or one more than a number that something has
 abbrev pub Follows : {V : Type 0} → (ℕ → Option V) → ℕ → Type 0
-Follows {V} get number = (number ≡ 1) ⊎ ((before : ℕ) × (other : V) × (before + 1 ≡ number) × (get before ≡ Some other))
+Follows {V} get number =
+    (number ≡ 1) ⊎ ((before : ℕ) × (other : V) × (before + 1 ≡ number) × (get before ≡ Some other))
 
 -- ---- The ids of pairings
 
--- ids alone
+-- the ids of pairings, as a map that has nothing under them
 abbrev pub Ids : Type 0
 Ids = fin.FinMap name_cmp ⊤
 
--- the row of `pairing` that an id has
+-- the row of `pairing` of an id
 abbrev pub row_of_id : List ℕ → ⊤ → Row
 row_of_id id _ = row_of_pairing id
 
--- an id that has its shape
+-- the id has the shape of an id
 abbrev pub IsId : List ℕ → ⊤ → Type 0
 IsId id _ = is_id id ≡ true
 
--- the ids of so many first records
+-- these are the ids of this many first records of `pairing`
 pub record IdsRead (records : List PairingRecord) (count : ℕ) (ids : Ids) : Type 0 where
   pub mapped : Mapped (λ id. id) row_of_id IsId (take count (map pairing_row records)) ids
 
--- the row of an id in its shape
+-- the row is of `pairing`, and its id has the shape of an id
 abbrev pub IsIdRow : Row → Type 0
 IsIdRow row = (id : List ℕ) × (row ≡ row_of_pairing id) × (is_id id ≡ true)
 
--- the table `pairing` is there, and has such rows alone
+-- the table `pairing` is there, and each of its rows has an id in the shape of an id
 abbrev pub AreIds : Database → Type 0
-AreIds db = IsOfBook pairing_table db.schema × ((row : Row) → Has (rows_of pairing_table db) row → IsIdRow row)
+AreIds db = IsOfBook pairing_table db.schema
+    × ((row : Row) → Has (rows_of pairing_table db) row → IsIdRow row)
 
--- the row of one of these ids
+-- the row of `pairing` is of one of the ids
 abbrev pub IdRows : Ids → Row → Type 0
 IdRows ids row = (id : List ℕ) × (fin.contains_key ids id ≡ true) × (row ≡ row_of_pairing id)
 
--- it is there with just the rows of these ids, each in its shape
+-- the table `pairing` is there with just the rows of the ids, each in the shape of an id
 pub record HasIds (db : Database) (ids : Ids) : Type 0 where
   pub stored : IsStored pairing_table db
   pub there : IsOfBook pairing_table db.schema
@@ -69,15 +72,16 @@ pub record HasIds (db : Database) (ids : Ids) : Type 0 where
 abbrev pub name_of_period : PeriodKey → List ℕ
 name_of_period key = period_name key.pairing key.number
 
--- the row of a record under a key
+-- the row of `period` of a record under a key
 abbrev pub row_of_keyed_period : PeriodKey → PeriodRecord → Row
 row_of_keyed_period key it = period_row (record it { pairing = key.pairing; number = key.number })
 
--- its times are instants
+-- the times of a record of `period` are instants
 abbrev pub AtInstants : PeriodRecord → Type 0
-AtInstants it = (is_instant it.report_at ≡ true) × (is_instant it.release_at ≡ true) × IsInstantIfAny it.act_report × IsInstantIfAny it.act_release
+AtInstants it = (is_instant it.report_at ≡ true) × (is_instant it.release_at ≡ true)
+    × IsInstantIfAny it.act_report × IsInstantIfAny it.act_release
 
--- the record of a period under its key, at instants and of one of these pairings
+-- the record of a period stands under its key, at instants, and is of one of the pairings
 pub record IsKeyedPeriod (ids : Ids) (key : PeriodKey) (it : PeriodRecord) : Type 0 where
   pub pairing : it.pairing ≡ key.pairing
   pub number : it.number ≡ key.number
@@ -85,25 +89,30 @@ pub record IsKeyedPeriod (ids : Ids) (key : PeriodKey) (it : PeriodRecord) : Typ
   pub instants : AtInstants it
   pub of_pairing : fin.contains_key ids it.pairing ≡ true
 
--- so many first records by their keys
-pub record PeriodsRead (ids : Ids) (records : List PeriodRecord) (count : ℕ) (periods : Periods) : Type 0 where
-  pub mapped : AreOnce row_of_keyed_period (map period_row records) → Mapped name_of_period row_of_keyed_period (IsKeyedPeriod ids) (take count (map period_row records)) periods
+-- these are this many first records of `period`, by their keys
+pub record PeriodsRead
+    (ids : Ids) (records : List PeriodRecord) (count : ℕ) (periods : Periods) : Type 0 where
+  pub mapped : AreOnce row_of_keyed_period (map period_row records) →
+      Mapped name_of_period row_of_keyed_period (IsKeyedPeriod ids)
+      (take count (map period_row records)) periods
 
--- all of them, numbered without a gap
+-- these are this many first records of `period`, by their keys, numbered without a gap
 abbrev pub ArePeriodsWhole : Ids → List PeriodRecord → ℕ → Periods → Type 0
-ArePeriodsWhole ids records count periods = PeriodsRead ids records count periods × AreUngapped periods
+ArePeriodsWhole ids records count periods =
+    PeriodsRead ids records count periods × AreUngapped periods
 
--- some record has no such key, or they leave a gap
+-- some record of `period` has no key of one of the pairings, or the records leave a gap
 abbrev pub ArePeriodsWanting : Ids → List PeriodRecord → ℕ → Type 0
 ArePeriodsWanting ids records count =
     HasStranger row_of_keyed_period (IsKeyedPeriod ids) (map period_row records)
     ⊎ ((periods : Periods) × PeriodsRead ids records count periods × (AreUngapped periods → ⊥))
 
--- the table `period` is there and fits the one above
+-- the table `period` is there, and fits the table `pairing`
 abbrev pub IsPeriodTable : Database → Type 0
 IsPeriodTable db = IsOfBook period_table db.schema × ArePeriods db
 
--- it is and does, with just the rows of these periods, each under its key
+-- the table `period` is there, fits the table `pairing`, and has just the rows of these periods,
+-- each under its key
 pub record HasPeriods (db : Database) (periods : Periods) : Type 0 where
   pub stored : IsStored period_table db
   pub right : IsPeriodTable db
@@ -119,48 +128,66 @@ name_of_segment key = segment_name key.pairing key.period key.number
 
 -- the row of `segment` of a record under a key
 abbrev pub row_of_keyed_segment : SegmentKey → SegmentRecord → Row
-row_of_keyed_segment key it = segment_row (record it { pairing = key.pairing; period = key.period; number = key.number })
+row_of_keyed_segment key it = segment_row (record it {
+  pairing = key.pairing;
+  period = key.period;
+  number = key.number;
+})
 
--- the record of a segment under its key, of one of these periods
+-- the record of a segment stands under its key, and is of one of the periods
 pub record IsKeyedSegment (periods : Periods) (key : SegmentKey) (it : SegmentRecord) : Type 0 where
   pub pairing : it.pairing ≡ key.pairing
   pub period : it.period ≡ key.period
   pub number : it.number ≡ key.number
   pub of_period : fin.contains_key periods (period_name it.pairing it.period) ≡ true
 
--- so many first records by their keys
-pub record SegmentsRead (periods : Periods) (records : List SegmentRecord) (count : ℕ) (segments : Segments) : Type 0 where
-  pub mapped : AreOnce row_of_keyed_segment (map segment_row records) → Mapped name_of_segment row_of_keyed_segment (IsKeyedSegment periods) (take count (map segment_row records)) segments
+-- these are this many first records of `segment`, by their keys
+pub record SegmentsRead
+    (periods : Periods) (records : List SegmentRecord) (count : ℕ) (segments : Segments)
+    : Type 0 where
+  pub mapped : AreOnce row_of_keyed_segment (map segment_row records) →
+      Mapped name_of_segment row_of_keyed_segment (IsKeyedSegment periods)
+      (take count (map segment_row records)) segments
 
--- all of them, numbered without a gap
+-- these are this many first records of `segment`, by their keys, numbered without a gap
 abbrev pub AreSegmentsWhole : Periods → List SegmentRecord → ℕ → Segments → Type 0
-AreSegmentsWhole periods records count segments = SegmentsRead periods records count segments × HasNoGaps segments
+AreSegmentsWhole periods records count segments =
+    SegmentsRead periods records count segments × HasNoGaps segments
 
--- some record has no such key, or they leave a gap
+-- some record of `segment` has no key of one of the periods, or the records leave a gap
 abbrev pub AreSegmentsWanting : Periods → List SegmentRecord → ℕ → Type 0
 AreSegmentsWanting periods records count =
     HasStranger row_of_keyed_segment (IsKeyedSegment periods) (map segment_row records)
-    ⊎ ((segments : Segments) × SegmentsRead periods records count segments × (HasNoGaps segments → ⊥))
+    ⊎ ((segments : Segments) × SegmentsRead periods records count segments
+    × (HasNoGaps segments → ⊥))
 
--- a segment is of a period that is there, and its number is 1 or that of another segment of the period and one more
+-- a segment is of a period that is there, and its number is 1 or one more than that of another
+-- segment of the period
 pub record IsSegmentOf (db : Database) (row : Row) : Type 0 where
   pub it : SegmentRecord
   pub is : row ≡ segment_row it
-  pub of_period : (period : PeriodRecord) × Has (rows_of period_table db) (period_row period) × (period.pairing ≡ it.pairing) × (period.number ≡ it.period)
-  pub no_gap : (it.number ≡ 1) ⊎ ((before : SegmentRecord) × Has (rows_of segment_table db) (segment_row before)
-      × (before.pairing ≡ it.pairing) × (before.period ≡ it.period) × (before.number + 1 ≡ it.number))
+  pub of_period : (period : PeriodRecord) × Has (rows_of period_table db) (period_row period)
+      × (period.pairing ≡ it.pairing) × (period.number ≡ it.period)
+  pub no_gap : (it.number ≡ 1)
+      ⊎ ((before : SegmentRecord) × Has (rows_of segment_table db) (segment_row before)
+      × (before.pairing ≡ it.pairing) × (before.period ≡ it.period)
+      × (before.number + 1 ≡ it.number))
 
--- the table `segment` is there, its rows are records, and it fits those above as far as rows alone tell
+-- the table `segment` is there, its rows are records, and it fits the tables above it as far as
+-- rows alone say
 abbrev pub IsSegmentTable : Database → Type 0
 IsSegmentTable db = IsOfBook segment_table db.schema
-    × ((row : Row) → Has (rows_of segment_table db) row → IsSegmentRow row) × ((row : Row) → Has (rows_of segment_table db) row → IsSegmentOf db row)
+    × ((row : Row) → Has (rows_of segment_table db) row → IsSegmentRow row)
+    × ((row : Row) → Has (rows_of segment_table db) row → IsSegmentOf db row)
 
--- each segment is of one of these periods
+-- each of the segments is of one of the periods
 abbrev pub AreOfPeriods : Periods → Segments → Type 0
 AreOfPeriods periods segments =
-    (key : List ℕ) (it : SegmentRecord) → fin.get segments key ≡ Some it → fin.contains_key periods (period_name it.pairing it.period) ≡ true
+    (key : List ℕ) (it : SegmentRecord) → fin.get segments key ≡ Some it →
+    fin.contains_key periods (period_name it.pairing it.period) ≡ true
 
--- it is and does, with just the rows of these segments, each under its key
+-- the table `segment` is there, and has just the rows of these segments, each under its key and of
+-- one of the periods, without a gap
 pub record HasSegmentsOf (db : Database) (periods : Periods) (segments : Segments) : Type 0 where
   pub stored : IsStored segment_table db
   pub there : IsOfBook segment_table db.schema
@@ -171,19 +198,24 @@ pub record HasSegmentsOf (db : Database) (periods : Periods) (segments : Segment
 
 -- ---- Pairings
 
--- the pairing of one of these ids, as the rows tell it
-pub record IsPairingOf (ids : Ids) (periods : Periods) (segments : Segments) (id : List ℕ) (r : PairingEntry) : Type 0 where
+-- the pairing of one of the ids, as the rows say, with both seats free
+pub record IsPairingOf
+    (ids : Ids) (periods : Periods) (segments : Segments) (id : List ℕ) (r : PairingEntry)
+    : Type 0 where
   pub of_id : fin.contains_key ids id ≡ true
   pub told : IsPairingOfRows periods segments id r
   pub free : HasNoHolder r
 
--- just the pairings of these ids are set in a roster
-pub record PairingsRead (ids : Ids) (periods : Periods) (segments : Segments) (old new : State) : Type 0 where
+-- just the pairings of the ids are set in a roster
+pub record PairingsRead
+    (ids : Ids) (periods : Periods) (segments : Segments) (old new : State) : Type 0 where
   pub same : new ≡ record old { pairings = new.pairings }
-  pub known : (id : List ℕ) (r : PairingEntry) → fin.get new.pairings id ≡ Some r → IsPairingOf ids periods segments id r
-  pub all : (id : List ℕ) → fin.contains_key ids id ≡ true → fin.contains_key new.pairings id ≡ true
+  pub known : (id : List ℕ) (r : PairingEntry) → fin.get new.pairings id ≡ Some r →
+      IsPairingOf ids periods segments id r
+  pub all : (id : List ℕ) → fin.contains_key ids id ≡ true →
+      fin.contains_key new.pairings id ≡ true
 
--- of one of the ids the rows tell no pairing
+-- the rows say no pairing of one of the ids
 pub record HasUntold (ids : Ids) (periods : Periods) (segments : Segments) : Type 0 where
   pub id : List ℕ
   pub here : fin.contains_key ids id ≡ true

@@ -1,4 +1,5 @@
--- Which databases are books. Each table has to be there, with rows of its type, and to fit the tables above it.
+-- Which databases are books. Each table has to be there, with rows of its type, and to fit the
+-- tables above it.
 use Rattle.std.specs.Prelude.{◌≡◌, ◌⊎◌, ◌+◌, ◌≤◌, ⊤, ℕ, pos, true, IsUtf8, List, map, length, Option, None, Some, slice_get}
 use Rattle.std.specs.FinMap as fin
 use Rattle.std.specs.List.{list_all}
@@ -43,20 +44,21 @@ pub record IsMember (id : List ℕ) (m : Member) : Type 0 where
   pub name_shape : is_plain_text m.name ≡ true
   pub utf8 : IsUtf8 m.name
 
--- each member is such
+-- the id and the name of each member have their shapes
 abbrev pub AreMembers : State → Type 0
 AreMembers s = (id : List ℕ) (m : Member) → fin.get s.crew id ≡ Some m → IsMember id m
 
--- so has the id of each pairing
+-- the id of each pairing has its shape
 abbrev pub AreNamed : State → Type 0
 AreNamed s = (id : List ℕ) (r : PairingEntry) → fin.get s.pairings id ≡ Some r → is_id id ≡ true
 
--- a number that is missing, or that of an instant
+-- a number is missing, or is that of an instant
 abbrev pub IsInstantIfAny : Option ℕ → Type 0
 IsInstantIfAny None = ⊤
 IsInstantIfAny (Some minute) = is_instant minute ≡ true
 
--- a period is of a pairing that is there, and its number is 1 or that of another period of the pairing and one more
+-- a period is of a pairing that is there, and its number is 1 or one more than that of another
+-- period of the pairing
 pub record IsPeriod (db : Database) (row : Row) : Type 0 where
   pub it : PeriodRecord
   pub is : row ≡ period_row it
@@ -66,15 +68,19 @@ pub record IsPeriod (db : Database) (row : Row) : Type 0 where
   pub act_report : IsInstantIfAny it.act_report
   pub act_release : IsInstantIfAny it.act_release
   pub of_pairing : Has (rows_of pairing_table db) (pairing_row (record { id = it.pairing }))
-  pub no_gap : (it.number ≡ 1) ⊎ ((before : PeriodRecord) × Has (rows_of period_table db) (period_row before) × (before.pairing ≡ it.pairing) × (before.number + 1 ≡ it.number))
+  pub no_gap : (it.number ≡ 1)
+      ⊎ ((before : PeriodRecord) × Has (rows_of period_table db) (period_row before)
+      × (before.pairing ≡ it.pairing) × (before.number + 1 ≡ it.number))
 
--- each row of `period` is such
+-- each row of `period` is of a pairing that is there, and the periods of a pairing are numbered
+-- from 1 without a gap
 abbrev pub ArePeriods : Database → Type 0
 ArePeriods db = (row : Row) → Has (rows_of period_table db) row → IsPeriod db row
 
--- what its type sees to: its times are instants
-abbrev pub actual_has_instants : ActualTimes → Type 0
-actual_has_instants a = (is_instant a.report ≡ true) × (is_instant a.release ≡ true) × (list_all times_have_instants a.segments ≡ true)
+-- the times of an actual are instants, as its type sees to
+abbrev pub HasInstantTimes : ActualTimes → Type 0
+HasInstantTimes a = (is_instant a.report ≡ true) × (is_instant a.release ≡ true)
+    × (list_all times_have_instants a.segments ≡ true)
 
 -- a pairing is one that `Pairing::new` makes, and each actual is of a period, whole and in order
 pub record IsPlanned (id : List ℕ) (r : PairingEntry) : Type 0 where
@@ -83,21 +89,24 @@ pub record IsPlanned (id : List ℕ) (r : PairingEntry) : Type 0 where
   pub planned : map as_planned r.plan.periods ≡ r.plan.periods
   pub instants : list_all period_has_instants r.plan.periods ≡ true
   pub places : length r.actuals ≡ length r.plan.periods
-  pub actuals : (i : ℕ) (a : ActualTimes) → slice_get r.actuals i ≡ Some (Some a) → IsActual r.plan i a × actual_has_instants a
+  pub actuals : (i : ℕ) (a : ActualTimes) → slice_get r.actuals i ≡ Some (Some a) →
+      IsActual r.plan i a × HasInstantTimes a
 
--- each pairing is such
+-- each pairing is one that `Pairing::new` makes, and each actual is of a period, whole and in order
 abbrev pub ArePlanned : State → Type 0
-ArePlanned s = (id : List ℕ) (r : PairingEntry) → fin.get s.pairings id ≡ Some r → IsPlanned id r
+ArePlanned s = (id : List ℕ) (r : PairingEntry) → fin.get s.pairings id ≡ Some r →
+    IsPlanned id r
 
--- a holder is a member of the seat's kind, and a flown pairing has both
+-- a holder is a member of the seat's kind, and both seats of a flown pairing are held
 pub record IsSeated (members : Crew) (r : PairingEntry) : Type 0 where
   pub captain : IsHolder members Captain r.captain
   pub first_officer : IsHolder members FirstOfficer r.first_officer
   pub crewed : is_flown r ≡ true → is_fully_crewed r ≡ true
 
--- each pairing is seated so
+-- each holder is a member of the seat's kind, and both seats of each flown pairing are held
 abbrev pub AreSeated : State → Type 0
-AreSeated s = (id : List ℕ) (r : PairingEntry) → fin.get s.pairings id ≡ Some r → IsSeated s.crew r
+AreSeated s = (id : List ℕ) (r : PairingEntry) → fin.get s.pairings id ≡ Some r →
+    IsSeated s.crew r
 
 -- a ground duty is one that `Ground::new` makes, of a member
 pub record IsGround (members : Crew) (id : List ℕ) (g : GroundPlan) : Type 0 where
@@ -109,16 +118,19 @@ pub record IsGround (members : Crew) (id : List ℕ) (g : GroundPlan) : Type 0 w
   pub member : Member
   pub of_member : fin.get members g.crew ≡ Some member
 
--- each ground duty is such
+-- each ground duty is one that `Ground::new` makes, of a member
 abbrev pub AreGrounds : State → Type 0
-AreGrounds s = (id : List ℕ) (g : GroundPlan) → fin.get s.grounds id ≡ Some g → IsGround s.crew id g
+AreGrounds s = (id : List ℕ) (g : GroundPlan) → fin.get s.grounds id ≡ Some g →
+    IsGround s.crew id g
 
 -- the numbers of a key are in their ranges
 abbrev pub IsKey : KeyParts → Type 0
 IsKey key = (1 ≤ key.number) × (key.number ≤ 9_223_372_036_854_775_807) × (key.part ≤ 10_000)
 
 -- an exceedance is of a member, and of a period with an actual
-pub record IsExceedance (members : Crew) (pairings : fin.FinMap name_cmp PairingEntry) (id : ExceedanceId) (p : PeriodId) : Type 0 where
+pub record IsExceedance
+    (members : Crew) (pairings : fin.FinMap name_cmp PairingEntry) (id : ExceedanceId)
+    (p : PeriodId) : Type 0 where
   pub is_key : IsKey id.key
   pub member : Member
   pub of_member : fin.get members id.crew ≡ Some member
@@ -133,9 +145,10 @@ pub record IsExceedance (members : Crew) (pairings : fin.FinMap name_cmp Pairing
 abbrev pub name_of : ExceedanceId → List ℕ
 name_of id = exceedance_name id.key id.crew id.section
 
--- each exceedance is such, and stands under its name
+-- each exceedance is of a member and of a period with an actual, and stands under its name
 abbrev pub AreExceedances : State → Type 0
-AreExceedances s = (name : List ℕ) (p : PeriodId) → fin.get s.exceedances name ≡ Some p → (id : ExceedanceId) × (name ≡ name_of id) × IsExceedance s.crew s.pairings id p
+AreExceedances s = (name : List ℕ) (p : PeriodId) → fin.get s.exceedances name ≡ Some p →
+    (id : ExceedanceId) × (name ≡ name_of id) × IsExceedance s.crew s.pairings id p
 
 -- what is kept is a command, and it and its reply are texts
 pub record IsRequest (key : KeyParts) (r : LoggedCommand) : Type 0 where
@@ -145,51 +158,60 @@ pub record IsRequest (key : KeyParts) (r : LoggedCommand) : Type 0 where
 
 -- each key that an exceedance names is held
 abbrev pub AreHeld : State → Type 0
-AreHeld s = (id : ExceedanceId) (p : PeriodId) → fin.get s.exceedances (name_of id) ≡ Some p → (r : LoggedCommand) × (fin.get s.requests (key_name id.key) ≡ Some r)
+AreHeld s = (id : ExceedanceId) (p : PeriodId) → fin.get s.exceedances (name_of id) ≡ Some p →
+    (r : LoggedCommand) × (fin.get s.requests (key_name id.key) ≡ Some r)
 
--- each kept command is such, and stands under its key's name; and each key that an exceedance names is held
+-- each kept command is a command, read back as its text, and stands under its key's name; and each
+-- key that an exceedance names is held
 abbrev pub AreRequests : State → Type 0
-AreRequests s = ((name : List ℕ) (r : LoggedCommand) → fin.get s.requests name ≡ Some r → (key : KeyParts) × (name ≡ key_name key) × IsRequest key r) × AreHeld s
+AreRequests s =
+    ((name : List ℕ) (r : LoggedCommand) → fin.get s.requests name ≡ Some r →
+    (key : KeyParts) × (name ≡ key_name key) × IsRequest key r)
+    × AreHeld s
 
 -- ---- The tables in turn
 
 -- the table is there as its text declares it, with just the rows of the state
 abbrev pub IsTableOfState : TableName → State → Database → Type 0
-IsTableOfState name s db = IsOfBook (table name) db.schema × HasJust (table name) db (InTable s name)
+IsTableOfState name s db =
+    IsOfBook (table name) db.schema × HasJust (table name) db (InTable s name)
 
--- Down to each table in turn: those above are right, and so is it, with the rows of this state.
+-- the table `book` is right, with the row of this state
 abbrev pub IsBookRight : State → Database → Type 0
 IsBookRight s db = IsTableOfState book s db × (is_zone_text s.zone ≡ true)
 
--- down to `crew`
+-- the tables from `book` to `crew` are right, with the rows of this state
 abbrev pub IsCrewRight : State → Database → Type 0
 IsCrewRight s db = IsBookRight s db × IsTableOfState crew s db × AreMembers s
 
--- down to `pairing`
+-- the tables from `book` to `pairing` are right, with the rows of this state
 abbrev pub IsPairingRight : State → Database → Type 0
 IsPairingRight s db = IsCrewRight s db × IsTableOfState pairing s db × AreNamed s
 
--- a period isn't yet compared with the state's: until the segments are there nothing tells whether its actual is whole
+-- the tables from `book` to `pairing` are right, with the rows of this state, and `period` fits
+-- them: its rows aren't compared with the state's yet, since without the segments nothing says
+-- whether the actual of a period is whole
 abbrev pub IsPeriodRight : State → Database → Type 0
 IsPeriodRight s db = IsPairingRight s db × IsOfBook period_table db.schema × ArePeriods db
 
--- down to `segment`: now periods are compared with the state's too
+-- the tables from `book` to `segment` are right, with the rows of this state, in `period` too
 abbrev pub IsSegmentRight : State → Database → Type 0
-IsSegmentRight s db = IsPeriodRight s db × HasJust period_table db (InPeriod s) × IsTableOfState segment s db × ArePlanned s
+IsSegmentRight s db = IsPeriodRight s db × HasJust period_table db (InPeriod s)
+    × IsTableOfState segment s db × ArePlanned s
 
--- down to `seat`
+-- the tables from `book` to `seat` are right, with the rows of this state
 abbrev pub IsSeatRight : State → Database → Type 0
 IsSeatRight s db = IsSegmentRight s db × IsTableOfState seat s db × AreSeated s
 
--- down to `ground`
+-- the tables from `book` to that of ground duties are right, with the rows of this state
 abbrev pub IsGroundRight : State → Database → Type 0
 IsGroundRight s db = IsSeatRight s db × IsTableOfState ground_duty s db × AreGrounds s
 
--- down to `exceedance`
+-- the tables from `book` to `exceedance` are right, with the rows of this state
 abbrev pub IsExceedanceRight : State → Database → Type 0
 IsExceedanceRight s db = IsGroundRight s db × IsTableOfState exceedance s db × AreExceedances s
 
--- down to `request`, the last
+-- the tables from `book` to `request`, the last, are right, with the rows of this state
 abbrev pub IsRequestRight : State → Database → Type 0
 IsRequestRight s db = IsExceedanceRight s db × IsTableOfState request s db × AreRequests s
 
@@ -209,7 +231,7 @@ IsRight request = IsRequestRight
 abbrev pub AreRight : TableName → Database → Type 0
 AreRight name db = (s : State) × IsRight name s db
 
--- the tables above one
+-- some state has the rows of the tables above this one
 abbrev pub AreRightAbove : TableName → Database → Type 0
 AreRightAbove book db = ⊤
 AreRightAbove crew db = AreRight book db
@@ -244,7 +266,7 @@ pub record IsDamaged (name : TableName) (db : Database) : Type 0 where
 
 -- ---- Refusals
 
--- the table of a name
+-- the table that a name of the fault means
 abbrev pub named : name.TableName → TableName
 named table_name.Book = book
 named table_name.Crew = crew
@@ -256,7 +278,8 @@ named table_name.Ground = ground_duty
 named table_name.Exceedance = exceedance
 named table_name.Request = request
 
--- what a refusal says of the database: a fault of the store (90) and want of memory (91) say nothing
+-- what a refusal says of the database: nothing, if it reports a fault of the store (90) or that the
+-- program is out of memory (91)
 abbrev pub Justifies : LoadFault → Database → Type 0
 Justifies NotABook db = IsNoBook db
 Justifies Version db = IsOfOtherVersion db

@@ -10,17 +10,26 @@ use Rattle.loading.specs.contracts.plan_rows.SegmentKeyOrd.TheImpl.{ghosts as se
 use Rattle.loading.specs.declared.plan_rows.PeriodKey.{PeriodKey}
 use Rattle.loading.specs.declared.plan_rows.SegmentKey.{SegmentKey}
 
--- two numbers in turn are in the order of the name that they make
-two_numbers : (a b c d : ℕ) → ordering_then (nat_cmp a c) (nat_cmp b d) ≡ name_cmp (a ∷ b ∷ []) (c ∷ d ∷ [])
+-- two numbers, compared in turn, compare as the names that they make
+two_numbers : (a b c d : ℕ) →
+    ordering_then (nat_cmp a c) (nat_cmp b d) ≡ name_cmp (a ∷ b ∷ []) (c ∷ d ∷ [])
 two_numbers a b c d = ap (ordering_then (nat_cmp a c)) (number_order b d)
 
 -- the keys of periods are in the order of their names
-pub periods_order : (a b : PeriodKey) → periods.cmp a b ≡ name_cmp (period_name a.pairing a.number) (period_name b.pairing b.number)
+pub periods_order : (a b : PeriodKey) →
+    periods.cmp a b
+    ≡ name_cmp (period_name a.pairing a.number) (period_name b.pairing b.number)
 periods_order a b =
-    ap (ordering_then (name_cmp a.pairing b.pairing)) (number_order a.number b.number) ∙ text_order a.pairing b.pairing (a.number ∷ []) (b.number ∷ [])
+    ap (ordering_then (name_cmp a.pairing b.pairing)) (number_order a.number b.number)
+    ∙ text_order a.pairing b.pairing (a.number ∷ []) (b.number ∷ [])
 
 -- the keys of segments are in the order of their names
-pub segments_order : (a b : SegmentKey) → segments.cmp a b ≡ name_cmp (segment_name a.pairing a.period a.number) (segment_name b.pairing b.period b.number)
+pub segments_order : (a b : SegmentKey) →
+    segments.cmp a b
+    ≡ name_cmp
+    (segment_name a.pairing a.period a.number)
+    (segment_name b.pairing b.period b.number)
 segments_order a b =
-    ap (ordering_then (name_cmp a.pairing b.pairing)) (two_numbers a.period a.number b.period b.number)
+    ap (ordering_then (name_cmp a.pairing b.pairing))
+    (two_numbers a.period a.number b.period b.number)
     ∙ text_order a.pairing b.pairing (a.period ∷ a.number ∷ []) (b.period ∷ b.number ∷ [])

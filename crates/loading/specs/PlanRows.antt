@@ -1,4 +1,5 @@
--- The rows of the tables `period` and `segment` by their keys, and what they tell of a pairing. No public clause names these.
+-- The rows of the tables `period` and `segment` by their keys, and what they say of a pairing. No
+-- public clause names a word of this file.
 use Rattle.std.specs.Prelude.{◌≡◌, ◌⊎◌, ◌+◌, ◌<◌, ◌≤◌, ⊤, ℕ, true, List, [], ◌∷◌, length, Option, None, Some, slice_get}
 use Rattle.std.specs.FinMap as fin
 use Rattle.std.specs.Option.{option_map}
@@ -16,11 +17,11 @@ use Rattle.tables.specs.declared.period.PeriodRecord.{PeriodRecord}
 use Rattle.tables.specs.declared.segment.SegmentRecord.{SegmentRecord}
 use Rattle.state_rows.specs.Rows.{times_flown}
 
--- the name of a period's key: so periods are in the order of pairing and number
+-- the name of a period's key: the order of names is that of pairing and number
 abbrev pub period_name : List ℕ → ℕ → List ℕ
 period_name pairing number = text_then pairing (number ∷ [])
 
--- the name of a segment's key: so segments are in the order of pairing, period and number
+-- the name of a segment's key: the order of names is that of pairing, period and number
 abbrev pub segment_name : List ℕ → ℕ → ℕ → List ℕ
 segment_name pairing period number = text_then pairing (period ∷ number ∷ [])
 
@@ -32,36 +33,40 @@ Periods = fin.FinMap name_cmp PeriodRecord
 abbrev pub Segments : Type 0
 Segments = fin.FinMap name_cmp SegmentRecord
 
--- what is numbered from 1, without a gap
+-- the numbers that have something run from 1 without a gap
 abbrev pub HasNoGap : {V : Type 0} → (ℕ → Option V) → Type 0
 HasNoGap {V} get = (number : ℕ) (it : V) → get number ≡ Some it →
     (number ≡ 1) ⊎ ((before : ℕ) × (other : V) × (before + 1 ≡ number) × (get before ≡ Some other))
 
--- the segments of each period are numbered so
+-- the segments of each period are numbered from 1 without a gap
 abbrev pub HasNoGaps : Segments → Type 0
-HasNoGaps segments = (pairing : List ℕ) (period : ℕ) → HasNoGap (λ number. fin.get segments (segment_name pairing period number))
+HasNoGaps segments = (pairing : List ℕ) (period : ℕ) →
+    HasNoGap (λ number. fin.get segments (segment_name pairing period number))
 
--- the periods of each pairing are numbered so
+-- the periods of each pairing are numbered from 1 without a gap
 abbrev pub AreUngapped : Periods → Type 0
-AreUngapped periods = (pairing : List ℕ) → HasNoGap (λ number. fin.get periods (period_name pairing number))
+AreUngapped periods = (pairing : List ℕ) →
+    HasNoGap (λ number. fin.get periods (period_name pairing number))
 
--- each two elements at one place of two lists
+-- a fact holds of the two elements at each place that two lists have
 abbrev pub EachBeside : {A B : Type 0} → (ℕ → A → B → Type 0) → List A → List B → Type 0
-EachBeside {A} {B} Is xs ys = (i : ℕ) (x : A) (y : B) → slice_get xs i ≡ Some x → slice_get ys i ≡ Some y → Is i x y
+EachBeside {A} {B} Is xs ys = (i : ℕ) (x : A) (y : B) →
+    slice_get xs i ≡ Some x → slice_get ys i ≡ Some y → Is i x y
 
 -- ---- Times
 
--- both times or none, and each an instant
+-- both numbers are there and are instants, these times; or none is, and there are no times
 abbrev pub AreTimes : Option ℕ → Option ℕ → Option (ℕ × ℕ) → Type 0
 AreTimes None None None = ⊤
-AreTimes (Some first) (Some second) (Some times) = (times ≡ (first, second)) × (is_instant first ≡ true) × (is_instant second ≡ true)
+AreTimes (Some first) (Some second) (Some times) =
+    (times ≡ (first, second)) × (is_instant first ≡ true) × (is_instant second ≡ true)
 AreTimes _ _ _ = ⊥
 
--- block-out and block-in
+-- the block-out and the block-in of a segment as it was flown
 abbrev pub block_pair : BlockTimes → ℕ × ℕ
 block_pair t = (t.block_out, t.block_in)
 
--- report and release as they were
+-- the report and the release of an actual
 abbrev pub actual_pair : ActualTimes → ℕ × ℕ
 actual_pair a = (a.report, a.release)
 
@@ -69,47 +74,71 @@ actual_pair a = (a.report, a.release)
 
 -- the segment of a row, as it is planned
 abbrev pub planned_segment : SegmentRecord → Segment
-planned_segment it = record { flight = it.flight; from = it.origin; block_out = it.out_at; to = it.destination; block_in = it.in_at }
+planned_segment it = record {
+  flight = it.flight;
+  from = it.origin;
+  block_out = it.out_at;
+  to = it.destination;
+  block_in = it.in_at;
+}
 
--- the segment that a row tells of, with its times where it is flown
-pub record IsSegment (it : SegmentRecord) (segment : Segment) (times : Option BlockTimes) : Type 0 where
+-- a row says this segment, with these times if it was flown
+pub record IsSegment
+    (it : SegmentRecord) (segment : Segment) (times : Option BlockTimes) : Type 0 where
   pub planned : segment ≡ planned_segment it
   pub instants : segment_has_instants segment ≡ true
   pub flown : AreTimes it.act_out it.act_in (option_map block_pair times)
 
--- the segment of this place has a row, which tells of it
+-- the segment at this place of a period has a row, which says it
 abbrev pub HasRowOf : Segments → List ℕ → ℕ → ℕ → Segment → Option BlockTimes → Type 0
 HasRowOf segments id period i segment times =
-    (it : SegmentRecord) × (fin.get segments (segment_name id period (i + 1)) ≡ Some it) × IsSegment it segment times
+    (it : SegmentRecord) × (fin.get segments (segment_name id period (i + 1)) ≡ Some it)
+    × IsSegment it segment times
 
--- these are the segments with a row under the period's number, in turn, with their times
-pub record AreSegments (segments : Segments) (id : List ℕ) (period : ℕ) (planned : List Segment) (flown : List (Option BlockTimes)) : Type 0 where
+-- these are the segments that have a row under the number of the period, in turn, with their times
+pub record AreSegments
+    (segments : Segments) (id : List ℕ) (period : ℕ) (planned : List Segment)
+    (flown : List (Option BlockTimes)) : Type 0 where
   pub count : length flown ≡ length planned
   pub few : length planned ≤ 12
   pub each : EachBeside (HasRowOf segments id period) planned flown
   pub none_after : fin.get segments (segment_name id period (length planned + 1)) ≡ None
 
--- some row of them tells of no segment, or has too high a number
+-- some row under the number of the period says no segment, or has too high a number
 abbrev pub HasNoSegments : Segments → List ℕ → ℕ → Type 0
-HasNoSegments segments id period = (number : ℕ) × (it : SegmentRecord) × (fin.get segments (segment_name id period number) ≡ Some it)
-    × ((12 < number) ⊎ ((segment : Segment) (times : Option BlockTimes) → IsSegment it segment times → ⊥))
+HasNoSegments segments id period =
+    (number : ℕ) × (it : SegmentRecord)
+    × (fin.get segments (segment_name id period number) ≡ Some it)
+    × ((12 < number)
+    ⊎ ((segment : Segment) (times : Option BlockTimes) → IsSegment it segment times → ⊥))
 
 -- ---- A period
 
--- the actual with these times, and those of its segments in turn, if the period has one
-pub record IsActualOf (number : ℕ) (times : Option (ℕ × ℕ)) (flown : List (Option BlockTimes)) (actual : Option ActualTimes) : Type 0 where
+-- the actual of a period has these times, and these of its segments in turn; where there are no
+-- times, there is no actual
+pub record IsActualOf
+    (number : ℕ) (times : Option (ℕ × ℕ)) (flown : List (Option BlockTimes))
+    (actual : Option ActualTimes) : Type 0 where
   pub times_are : option_map actual_pair actual ≡ times
   pub each : (i : ℕ) (t : Option BlockTimes) → slice_get flown i ≡ Some t → t ≡ times_flown actual i
-  pub whole : (a : ActualTimes) → actual ≡ Some a → (a.period ≡ number) × (length flown ≡ length a.segments) × (actual_fault a ≡ None)
+  pub whole : (a : ActualTimes) → actual ≡ Some a →
+      (a.period ≡ number) × (length flown ≡ length a.segments) × (actual_fault a ≡ None)
 
--- its segments are just those with a row under its number, each with its times in the actual
-pub record HasSegments (segments : Segments) (id : List ℕ) (period : ℕ) (fdp : Fdp) (actual : Option ActualTimes) : Type 0 where
-  pub each : (i : ℕ) (segment : Segment) → slice_get fdp.segments i ≡ Some segment → HasRowOf segments id period i segment (times_flown actual i)
-  pub all : (number : ℕ) (it : SegmentRecord) → fin.get segments (segment_name id period number) ≡ Some it →
+-- the segments of a period are just those that have a row under its number, each with its times in
+-- the actual
+pub record HasSegments
+    (segments : Segments) (id : List ℕ) (period : ℕ) (fdp : Fdp) (actual : Option ActualTimes)
+    : Type 0 where
+  pub each : (i : ℕ) (segment : Segment) → slice_get fdp.segments i ≡ Some segment →
+      HasRowOf segments id period i segment (times_flown actual i)
+  pub all : (number : ℕ) (it : SegmentRecord) →
+      fin.get segments (segment_name id period number) ≡ Some it →
       (i : ℕ) × (number ≡ i + 1) × (i < length fdp.segments)
 
--- the period that a row tells of, by its number, with its actual where it is flown
-pub record IsReadPeriod (segments : Segments) (id : List ℕ) (number : ℕ) (it : PeriodRecord) (fdp : Fdp) (actual : Option ActualTimes) : Type 0 where
+-- a row says this period of a pairing, by its number, with this actual if it was flown
+pub record IsReadPeriod
+    (segments : Segments) (id : List ℕ) (number : ℕ) (it : PeriodRecord) (fdp : Fdp)
+    (actual : Option ActualTimes) : Type 0 where
   pub planned : fdp.planned_report ≡ fdp.report
   pub report : fdp.report ≡ it.report_at
   pub release : fdp.release ≡ it.release_at
@@ -117,29 +146,37 @@ pub record IsReadPeriod (segments : Segments) (id : List ℕ) (number : ℕ) (it
   pub release_instant : is_instant fdp.release ≡ true
   pub few : length fdp.segments ≤ 12
   pub flown : AreTimes it.act_report it.act_release (option_map actual_pair actual)
-  pub whole : (a : ActualTimes) → actual ≡ Some a → (a.period ≡ number) × (length fdp.segments ≡ length a.segments) × (actual_fault a ≡ None)
+  pub whole : (a : ActualTimes) → actual ≡ Some a →
+      (a.period ≡ number) × (length fdp.segments ≡ length a.segments) × (actual_fault a ≡ None)
   pub has_segments : HasSegments segments id number fdp actual
 
--- the period of this place has a row, which tells of it
+-- the period at this place of a pairing has a row, which says it
 abbrev pub HasPeriodRow : Periods → Segments → List ℕ → ℕ → Fdp → Option ActualTimes → Type 0
 HasPeriodRow periods segments id i fdp actual =
-    (it : PeriodRecord) × (fin.get periods (period_name id (i + 1)) ≡ Some it) × IsReadPeriod segments id (i + 1) it fdp actual
+    (it : PeriodRecord) × (fin.get periods (period_name id (i + 1)) ≡ Some it)
+    × IsReadPeriod segments id (i + 1) it fdp actual
 
--- these are the periods with a row under the pairing, in turn, with their actuals
-pub record ArePeriodsRead (periods : Periods) (segments : Segments) (id : List ℕ) (planned : List Fdp) (actuals : List (Option ActualTimes)) : Type 0 where
+-- these are the periods that have a row under the pairing, in turn, with their actuals
+pub record ArePeriodsRead
+    (periods : Periods) (segments : Segments) (id : List ℕ) (planned : List Fdp)
+    (actuals : List (Option ActualTimes)) : Type 0 where
   pub count : length actuals ≡ length planned
   pub each : EachBeside (HasPeriodRow periods segments id) planned actuals
   pub none_after : fin.get periods (period_name id (length planned + 1)) ≡ None
 
--- some row of them tells of no period, or has too high a number
+-- some row under the pairing says no period, or has too high a number
 abbrev pub HasNoPeriods : Periods → Segments → List ℕ → Type 0
-HasNoPeriods periods segments id = (number : ℕ) × (it : PeriodRecord) × (fin.get periods (period_name id number) ≡ Some it)
-    × ((10 < number) ⊎ ((fdp : Fdp) (actual : Option ActualTimes) → IsReadPeriod segments id number it fdp actual → ⊥))
+HasNoPeriods periods segments id =
+    (number : ℕ) × (it : PeriodRecord) × (fin.get periods (period_name id number) ≡ Some it)
+    × ((10 < number)
+    ⊎ ((fdp : Fdp) (actual : Option ActualTimes) →
+    IsReadPeriod segments id number it fdp actual → ⊥))
 
 -- ---- A pairing
 
--- the pairing that the rows tell of: its periods are just those with a row
-pub record IsPairingOfRows (periods : Periods) (segments : Segments) (id : List ℕ) (r : PairingEntry) : Type 0 where
+-- the rows say this pairing: its periods are just those that have a row
+pub record IsPairingOfRows
+    (periods : Periods) (segments : Segments) (id : List ℕ) (r : PairingEntry) : Type 0 where
   pub named : r.plan.id ≡ id
   pub plan : pairing_fault r.plan ≡ None
   pub places : length r.actuals ≡ length r.plan.periods
@@ -149,18 +186,25 @@ pub record IsPairingOfRows (periods : Periods) (segments : Segments) (id : List 
 
 -- ---- The rows of the tables
 
--- each record stands under its key
+-- each row of `period` stands under its own key
 abbrev pub ArePeriodsKeyed : Periods → Type 0
-ArePeriodsKeyed periods = (key : List ℕ) (it : PeriodRecord) → fin.get periods key ≡ Some it → key ≡ period_name it.pairing it.number
+ArePeriodsKeyed periods = (key : List ℕ) (it : PeriodRecord) → fin.get periods key ≡ Some it →
+    key ≡ period_name it.pairing it.number
 
 -- each row of `segment` stands under its own key
 abbrev pub AreSegmentsKeyed : Segments → Type 0
-AreSegmentsKeyed segments = (key : List ℕ) (it : SegmentRecord) → fin.get segments key ≡ Some it → key ≡ segment_name it.pairing it.period it.number
+AreSegmentsKeyed segments = (key : List ℕ) (it : SegmentRecord) → fin.get segments key ≡ Some it →
+    key ≡ segment_name it.pairing it.period it.number
 
--- a row of a record that is there
+-- the rows of `period` that stand under their own keys
 abbrev pub PeriodRows : Periods → Row → Type 0
-PeriodRows periods row = (it : PeriodRecord) × (fin.get periods (period_name it.pairing it.number) ≡ Some it) × (row ≡ period_row it)
+PeriodRows periods row =
+    (it : PeriodRecord) × (fin.get periods (period_name it.pairing it.number) ≡ Some it)
+    × (row ≡ period_row it)
 
 -- the rows of `segment` that stand under their own keys
 abbrev pub SegmentRows : Segments → Row → Type 0
-SegmentRows segments row = (it : SegmentRecord) × (fin.get segments (segment_name it.pairing it.period it.number) ≡ Some it) × (row ≡ segment_row it)
+SegmentRows segments row =
+    (it : SegmentRecord)
+    × (fin.get segments (segment_name it.pairing it.period it.number) ≡ Some it)
+    × (row ≡ segment_row it)

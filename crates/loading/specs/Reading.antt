@@ -1,4 +1,5 @@
--- What the functions that load a book say to one another. Of these the public clause of `read_all` names `ReadsAs` and `AgreesThrough`.
+-- What the functions that load a book say to one another. The public clause of `read_all` names
+-- `ReadsAs` and `AgreesThrough`, and no public clause another word of this file.
 use Rattle.std.specs.Prelude.{◌≡◌, ◌⊎◌, ◌↔◌, ◌+◌, ◌<◌, ⊤, true, false, pos, IsUtf8, ℕ, zero, suc, List, [], ◌∷◌, map, take, length, Option, None, Some, Result, MatchResult, slice_get}
 use Rattle.std.specs.FinMap as fin
 use Rattle.std.specs.List.{AllByRecursion}
@@ -36,8 +37,10 @@ use Rattle.loading.specs.declared.fault.TableName as name
 use Rattle.loading.specs.declared.fault.TableName.TheVariants as its
 use Rattle.time117.specs.Local.{is_zone_text}
 
--- what a call comes to that reads the database: what its answer tells, or why it was refused
-pub record ReadsAs {A : Type 0} (Is : A → Type 0) (Refuses : LoadFault → Type 0) (old new : State) (result : Result A LoadFault) : Type 0 where
+-- what a call comes to that reads the database: what its answer says, or why it was refused
+pub record ReadsAs {A : Type 0}
+    (Is : A → Type 0) (Refuses : LoadFault → Type 0) (old new : State)
+    (result : Result A LoadFault) : Type 0 where
   pub told : HasCleanDisk new → MatchResult result (λ a. IsUnchanged old new × Is a) Refuses
   pub left : CrashLeavesNoMore old new
 
@@ -50,9 +53,10 @@ pub record HasRows (it : TableName) (db : Database) (rows : List Row) : Type 0 w
 
 -- the table isn't there, or some row of it is no record
 abbrev pub IsUnreadable : TableName → (Row → Type 0) → Database → Type 0
-IsUnreadable it IsRecord db = (¬ IsOfBook (table it) db.schema) ⊎ HasNoRecord (table it) (begins_with []) IsRecord db
+IsUnreadable it IsRecord db =
+    (¬ IsOfBook (table it) db.schema) ⊎ HasNoRecord (table it) (begins_with []) IsRecord db
 
--- a fault of this table alone, of which a fact holds, or one of the store
+-- the fault is a fault of this table, and a fact holds, or it is a fault of the store
 abbrev pub Blames : name.TableName → Type 0 → LoadFault → Type 0
 Blames it Why NotABook = ⊥
 Blames it Why Version = ⊥
@@ -69,9 +73,11 @@ down_to segment = segment ∷ period ∷ pairing ∷ crew ∷ book ∷ []
 down_to seat = seat ∷ segment ∷ period ∷ pairing ∷ crew ∷ book ∷ []
 down_to ground_duty = ground_duty ∷ seat ∷ segment ∷ period ∷ pairing ∷ crew ∷ book ∷ []
 down_to exceedance = exceedance ∷ ground_duty ∷ seat ∷ segment ∷ period ∷ pairing ∷ crew ∷ book ∷ []
-down_to request = request ∷ exceedance ∷ ground_duty ∷ seat ∷ segment ∷ period ∷ pairing ∷ crew ∷ book ∷ []
+down_to request =
+    request ∷ exceedance ∷ ground_duty ∷ seat ∷ segment ∷ period ∷ pairing ∷ crew ∷ book ∷ []
 
--- the book is of this version, and its tables down to one are right, with each row under a number of its own
+-- the book is of this version, and its tables down to this one are right, each row under a number
+-- of its own
 pub record AgreesThrough (it : TableName) (s : roster.State) (db : Database) : Type 0 where
   pub stored : AllByRecursion (λ name. IsStored (table name) db) (down_to it)
   pub book : ¬ IsNoBook db
@@ -80,34 +86,41 @@ pub record AgreesThrough (it : TableName) (s : roster.State) (db : Database) : T
 
 -- ---- A map read from rows
 
--- what a map has under an index, by the index's name
+-- an index under whose name a map has a value, and the value
 pub record Under {I V : Type 0} (name : I → List ℕ) (m : fin.FinMap name_cmp V) : Type 0 where
   pub index : I
   pub value : V
   pub there : fin.get m (name index) ≡ Some value
 
--- these are just the rows of what the map has, of each of which a fact holds
-pub record Mapped {I V : Type 0} (name : I → List ℕ) (row_of : I → V → Row) (Is : I → V → Type 0) (rows : List Row) (m : fin.FinMap name_cmp V) : Type 0 where
+-- the rows are just those of the values that the map has, and a fact holds of each value
+pub record Mapped {I V : Type 0}
+    (name : I → List ℕ) (row_of : I → V → Row) (Is : I → V → Type 0) (rows : List Row)
+    (m : fin.FinMap name_cmp V) : Type 0 where
   pub has : (row : Row) → Has rows row → (at : Under name m) × (row ≡ row_of at.index at.value)
   pub all : (at : Under name m) → Has rows (row_of at.index at.value)
   pub known : (key : List ℕ) (v : V) → fin.get m key ≡ Some v → (i : I) × (key ≡ name i) × Is i v
 
--- two rows of one index are the same
+-- any two rows of one index are equal
 abbrev pub AreOnce : {I V : Type 0} → (I → V → Row) → List Row → Type 0
-AreOnce {I} {V} row_of rows = (i : I) (v w : V) → Has rows (row_of i v) → Has rows (row_of i w) → row_of i v ≡ row_of i w
+AreOnce {I} {V} row_of rows = (i : I) (v w : V) →
+    Has rows (row_of i v) → Has rows (row_of i w) → row_of i v ≡ row_of i w
 
--- what a row tells: a value under an index, or that it is of none
-abbrev pub TellsOf : {I V X : Type 0} → (I → V → X → Type 0) → (I → V → Row) → (I → V → Type 0) → Row → Option X → Type 0
+-- what a row gives: a value under an index of which a fact holds, or nothing if it is the row of no
+-- value of which it holds
+abbrev pub TellsOf : {I V X : Type 0} → (I → V → X → Type 0) → (I → V → Row) →
+    (I → V → Type 0) → Row → Option X → Type 0
 TellsOf {I} {V} Gives row_of Is row None = (i : I) (v : V) → row ≡ row_of i v → Is i v → ⊥
-TellsOf {I} {V} Gives row_of Is row (Some x) = (i : I) × (v : V) × Gives i v x × (row ≡ row_of i v) × Is i v
+TellsOf {I} {V} Gives row_of Is row (Some x) =
+    (i : I) × (v : V) × Gives i v x × (row ≡ row_of i v) × Is i v
 
--- some row is of none
-pub record HasStranger {I V : Type 0} (row_of : I → V → Row) (Is : I → V → Type 0) (rows : List Row) : Type 0 where
+-- some row is the row of no index with a value of which the fact holds
+pub record HasStranger {I V : Type 0}
+    (row_of : I → V → Row) (Is : I → V → Type 0) (rows : List Row) : Type 0 where
   pub row : Row
   pub here : Has rows row
   pub strange : (i : I) (v : V) → row ≡ row_of i v → Is i v → ⊥
 
--- the seat of a number
+-- the seat that a number means in the tables, if it means one
 abbrev pub seat_of : ℕ → Option Seat
 seat_of zero = Some Captain
 seat_of (suc zero) = Some FirstOfficer
@@ -122,42 +135,58 @@ pub record IsFlown (pairings : fin.FinMap name_cmp PairingEntry) (p : PeriodId) 
   pub actual : ActualTimes
   pub flown : slice_get rostered.actuals place ≡ Some (Some actual)
 
--- an exceedance whose period has a number of eight bits, as each period of a pairing has
-pub record IsExceedanceInRange (members : Crew) (pairings : fin.FinMap name_cmp PairingEntry) (id : ExceedanceId) (p : PeriodId) : Type 0 where
+-- an exceedance is of a member and of a period with an actual, whose number has eight bits, as that
+-- of each period of a pairing has
+pub record IsExceedanceInRange
+    (members : Crew) (pairings : fin.FinMap name_cmp PairingEntry) (id : ExceedanceId)
+    (p : PeriodId) : Type 0 where
   pub is : IsExceedance members pairings id p
   pub fits : p.number < 256
 
--- its row
+-- the row of an exceedance of a period
 abbrev pub row_of_recorded : ExceedanceId → PeriodId → Row
 row_of_recorded id p = row_of_exceedance id.key id.crew id.section p
 
--- the members of so many first records are set in a roster
-pub record MembersRead (records : List CrewRecord) (count : ℕ) (old new : roster.State) : Type 0 where
+-- the members of this many first records were set in a roster
+pub record MembersRead
+    (records : List CrewRecord) (count : ℕ) (old new : roster.State) : Type 0 where
   pub same : new ≡ record old { crew = new.crew }
-  pub mapped : AreOnce row_of_member (map crew_row records) → Mapped (λ id. id) row_of_member IsMember (take count (map crew_row records)) new.crew
+  pub mapped : AreOnce row_of_member (map crew_row records) →
+      Mapped (λ id. id) row_of_member IsMember (take count (map crew_row records)) new.crew
 
--- so are the ground duties
-pub record GroundsRead (records : List GroundRecord) (count : ℕ) (old new : roster.State) : Type 0 where
+-- the ground duties of this many first records were set in a roster
+pub record GroundsRead
+    (records : List GroundRecord) (count : ℕ) (old new : roster.State) : Type 0 where
   pub same : new ≡ record old { grounds = new.grounds }
-  pub mapped : AreOnce row_of_ground (map ground_row records) → Mapped (λ id. id) row_of_ground (IsGround old.crew) (take count (map ground_row records)) new.grounds
+  pub mapped : AreOnce row_of_ground (map ground_row records) →
+      Mapped (λ id. id) row_of_ground (IsGround old.crew)
+      (take count (map ground_row records)) new.grounds
 
--- so are the exceedances
-pub record ExceedancesRead (records : List ExceedanceRecord) (count : ℕ) (old new : roster.State) : Type 0 where
+-- the exceedances of this many first records were set in a roster
+pub record ExceedancesRead
+    (records : List ExceedanceRecord) (count : ℕ) (old new : roster.State) : Type 0 where
   pub same : new ≡ record old { exceedances = new.exceedances }
-  pub mapped : AreOnce row_of_recorded (map exceedance_row records) → Mapped name_of row_of_recorded (IsExceedanceInRange old.crew old.pairings) (take count (map exceedance_row records)) new.exceedances
+  pub mapped : AreOnce row_of_recorded (map exceedance_row records) →
+      Mapped name_of row_of_recorded (IsExceedanceInRange old.crew old.pairings)
+      (take count (map exceedance_row records)) new.exceedances
 
--- so are the requests
-pub record RequestsRead (records : List RequestRecord) (count : ℕ) (old new : roster.State) : Type 0 where
+-- the kept commands of this many first records were set in a roster
+pub record RequestsRead
+    (records : List RequestRecord) (count : ℕ) (old new : roster.State) : Type 0 where
   pub same : new ≡ record old { requests = new.requests }
-  pub mapped : AreOnce row_of_request (map request_row records) → Mapped key_name row_of_request IsRequest (take count (map request_row records)) new.requests
+  pub mapped : AreOnce row_of_request (map request_row records) →
+      Mapped key_name row_of_request IsRequest
+      (take count (map request_row records)) new.requests
 
--- some row is no request's, or some exceedance has a key that isn't held
+-- some row is that of no request, or some exceedance has a key that isn't held
 abbrev pub AreWanting : List RequestRecord → roster.State → Type 0
-AreWanting records s = HasStranger row_of_request IsRequest (map request_row records) ⊎ ((r : roster.State) × RequestsRead records (length records) s r × (AreHeld r → ⊥))
+AreWanting records s =
+    HasStranger row_of_request IsRequest (map request_row records)
+    ⊎ ((r : roster.State) × RequestsRead records (length records) s r × (AreHeld r → ⊥))
 
 -- ---- The holders of seats
 
--- what a seat is known by
+-- what a seat is known by: its pairing and its kind
 pub record SeatIndex : Type 0 where
   pub pairing : List ℕ
   pub seat : Seat
@@ -166,32 +195,38 @@ pub record SeatIndex : Type 0 where
 abbrev pub row_of_held : SeatIndex → List ℕ → Row
 row_of_held at who = row_of_seat at.pairing at.seat who
 
--- the pairing is there, and the holder is a member of the seat's kind
-pub record IsSeatHeldBy (members : Crew) (pairings : fin.FinMap name_cmp PairingEntry) (at : SeatIndex) (who : List ℕ) : Type 0 where
+-- the pairing of a seat is there, and the holder is a member of the seat's kind
+pub record IsSeatHeldBy
+    (members : Crew) (pairings : fin.FinMap name_cmp PairingEntry) (at : SeatIndex)
+    (who : List ℕ) : Type 0 where
   pub rostered : PairingEntry
   pub of_pairing : fin.get pairings at.pairing ≡ Some rostered
   pub member : Member
   pub of_member : fin.get members who ≡ Some member
   pub of_kind : member.seat ≡ at.seat
 
--- two pairings alike, but for who holds their seats; or none
+-- two pairings are alike, but for who holds their seats; or neither is there
 abbrev pub IsSamePlan : Option PairingEntry → Option PairingEntry → Type 0
 IsSamePlan None None = ⊤
 IsSamePlan (Some r) (Some q) = (q.plan ≡ r.plan) × (q.actuals ≡ r.actuals)
 IsSamePlan _ _ = ⊥
 
--- the seats of so many first records are taken in a roster
-pub record SeatsRead (records : List SeatRecord) (count : ℕ) (old new : roster.State) : Type 0 where
+-- the seats of this many first records were taken in a roster
+pub record SeatsRead
+    (records : List SeatRecord) (count : ℕ) (old new : roster.State) : Type 0 where
   pub same : new ≡ record old { pairings = new.pairings }
   pub planned : (id : List ℕ) → IsSamePlan (fin.get old.pairings id) (fin.get new.pairings id)
-  pub rows : AreOnce row_of_held (map seat_row records) → (row : Row) → Has (take count (map seat_row records)) row ↔ InSeat new row
-  pub known : (id : List ℕ) (r : PairingEntry) (seat : Seat) → fin.get new.pairings id ≡ Some r → IsHolder old.crew seat (holder seat r)
+  pub rows : AreOnce row_of_held (map seat_row records) → (row : Row) →
+      Has (take count (map seat_row records)) row ↔ InSeat new row
+  pub known : (id : List ℕ) (r : PairingEntry) (seat : Seat) →
+      fin.get new.pairings id ≡ Some r → IsHolder old.crew seat (holder seat r)
 
 -- both seats of each flown pairing are held
 abbrev pub AreCrewed : roster.State → Type 0
-AreCrewed s = (id : List ℕ) (r : PairingEntry) → fin.get s.pairings id ≡ Some r → is_flown r ≡ true → is_fully_crewed r ≡ true
+AreCrewed s = (id : List ℕ) (r : PairingEntry) → fin.get s.pairings id ≡ Some r →
+    is_flown r ≡ true → is_fully_crewed r ≡ true
 
--- no seat is held
+-- no seat of the pairing is held
 abbrev pub HasNoHolder : PairingEntry → Type 0
 HasNoHolder r = (r.captain ≡ None) × (r.first_officer ≡ None)
 
@@ -199,14 +234,15 @@ HasNoHolder r = (r.captain ≡ None) × (r.first_officer ≡ None)
 abbrev pub AreFree : roster.State → Type 0
 AreFree s = (id : List ℕ) (r : PairingEntry) → fin.get s.pairings id ≡ Some r → HasNoHolder r
 
--- some row is of no seat, or some flown pairing has a free one
+-- some row is that of no seat that a member of its kind holds, or a flown pairing has a free seat
 abbrev pub AreUnseated : List SeatRecord → roster.State → Type 0
-AreUnseated records s = HasStranger row_of_held (IsSeatHeldBy s.crew s.pairings) (map seat_row records)
+AreUnseated records s =
+    HasStranger row_of_held (IsSeatHeldBy s.crew s.pairings) (map seat_row records)
     ⊎ ((r : roster.State) × SeatsRead records (length records) s r × (AreCrewed r → ⊥))
 
 -- ---- The book's own row
 
--- all rows are that of this record
+-- the rows of the records are just the row of this record
 pub record IsOnly (records : List BookRecord) (it : BookRecord) : Type 0 where
   pub all : (row : Row) → Has (map book_row records) row ↔ (row ≡ book_row it)
 
@@ -214,19 +250,22 @@ pub record IsOnly (records : List BookRecord) (it : BookRecord) : Type 0 where
 abbrev pub book_of : List ℕ → BookRecord
 book_of zone = record { one = pos 1; version = pos 1; zone = zone }
 
--- there are not just rows of one record, or that one is of this version and not of a book
+-- the records are not just one record, or the one is of this version, and not the row of a book
 abbrev pub IsNoBookRow : List BookRecord → Type 0
-IsNoBookRow records = (it : BookRecord) → IsOnly records it → (it.version ≡ pos 1) × (it.one ≡ pos 1 → is_zone_text it.zone ≡ false)
+IsNoBookRow records = (it : BookRecord) → IsOnly records it →
+    (it.version ≡ pos 1) × (it.one ≡ pos 1 → is_zone_text it.zone ≡ false)
 
--- why the records are refused: the one of them is of another version, or there is no row of a book
+-- why the records of `book` are refused: the one record is of another version, or there is no row
+-- of a book
 abbrev pub BlamesBook : List BookRecord → LoadFault → Type 0
 BlamesBook records NotABook = ⊥
-BlamesBook records Version = (it : BookRecord) × IsOnly records it × IsUtf8 it.zone × ¬ (it.version ≡ pos 1)
+BlamesBook records Version =
+    (it : BookRecord) × IsOnly records it × IsUtf8 it.zone × ¬ (it.version ≡ pos 1)
 BlamesBook records (Damaged other) = (other ≡ its.Book) × IsNoBookRow records
 BlamesBook records (Fault fault) = ⊤
 
 -- ---- A roster of plans
 
--- nothing but members and pairings is known
+-- the roster has nothing but members and pairings
 abbrev pub HasNoDuties : roster.State → Type 0
 HasNoDuties s = (s.grounds ≡ fin.empty) × (s.exceedances ≡ fin.empty) × (s.requests ≡ fin.empty)

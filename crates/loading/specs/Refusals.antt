@@ -7,17 +7,20 @@ use Rattle.loading.specs.declared.fault.LoadFault.{LoadFault}
 use Rattle.loading.specs.declared.fault.LoadFault.TheVariants.{NotABook, Damaged, Version, Fault}
 use Rattle.state_rows.specs.Rows.{request}
 
--- a refusal that tells of the database (40, 41 or 42); a fault of the store (90) and want of memory (91) don't
+-- the refusal says something of the database (40, 41 or 42), and reports neither a fault of the
+-- store (90) nor that the program is out of memory (91)
 abbrev pub tells : LoadFault → Bool
 tells NotABook = true
 tells (Damaged it) = true
 tells Version = true
 tells (Fault fault) = false
 
--- two of them that are true of one database are the same, of the same table
+-- two refusals that say something of the database, and are true of one, are equal and of one table
 abbrev pub IsOneRefusal : Type 0
-IsOneRefusal = (db : Database) (a b : LoadFault) → tells a ≡ true → tells b ≡ true → Justifies a db → Justifies b db → a ≡ b
+IsOneRefusal = (db : Database) (a b : LoadFault) → tells a ≡ true → tells b ≡ true →
+    Justifies a db → Justifies b db → a ≡ b
 
--- of a database in which each table is right none is true
+-- no refusal that says something of the database is true of a database in which each table is right
 abbrev pub IsNotRefused : Type 0
-IsNotRefused = (s : State) (db : Database) (fault : LoadFault) → tells fault ≡ true → IsRight request s db → ¬ (Justifies fault db)
+IsNotRefused = (s : State) (db : Database) (fault : LoadFault) → tells fault ≡ true →
+    IsRight request s db → ¬ (Justifies fault db)

@@ -11,7 +11,8 @@ use Rattle.state_rows.specs.Rows.{Rows, TableName, InTable}
 
 -- the instants of kept commands are of the years 2000 to 2099, as the type of an instant sees to
 abbrev pub HasInstants : State → Type 0
-HasInstants s = (name : List ℕ) (r : LoggedCommand) → fin.get s.requests name ≡ Some r → instruction_has_instants r.command ≡ true
+HasInstants s = (name : List ℕ) (r : LoggedCommand) → fin.get s.requests name ≡ Some r →
+    instruction_has_instants r.command ≡ true
 
 -- two states have the same rows in each table
 abbrev pub SameRows : State → State → Type 0
@@ -19,8 +20,10 @@ SameRows s t = (name : TableName) (row : Row) → InTable s name row ↔ InTable
 
 -- sound states with the same rows are equal
 abbrev pub RowsSayAll : Type 0
-RowsSayAll = (s t : State) → Sound s → Sound t → HasInstants s → HasInstants t → SameRows s t → s ≡ t
+RowsSayAll = (s t : State) → Sound s → Sound t → HasInstants s → HasInstants t →
+    SameRows s t → s ≡ t
 
 -- one database holds the rows of one sound state at most
 abbrev pub HoldsOneState : Type 0
-HoldsOneState = (s t : State) (db : Database) → Sound s → Sound t → HasInstants s → HasInstants t → Rows s db → Rows t db → s ≡ t
+HoldsOneState = (s t : State) (db : Database) → Sound s → Sound t → HasInstants s →
+    HasInstants t → Rows s db → Rows t db → s ≡ t

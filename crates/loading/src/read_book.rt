@@ -20,7 +20,7 @@ use state_rows::StoreFault;
 use std::alloc::Global;
 use tables::TableFault;
 use tables::book::{BookRecord, is_book_there, load_book};
-use tables::book_schema::{has_table, is_unreferenced};
+use tables::book_schema::{has_table, is_spared};
 use time117::{Zone, ZoneFault};
 
 /// The version of the tables that this program knows.
@@ -37,7 +37,7 @@ fn book_records<S: Alter>(
         (Blames table_name.Book (IsUnreadable book IsBookRow (state S.Store conn.old).now))
         (state S.Store conn.old) (state S.Store conn.new) result }
 {
-    if !is_book_there(alloc, conn)? || !is_unreferenced(conn, "book") {
+    if !is_book_there(alloc, conn)? || !is_spared(conn, "book") {
         return Err(LoadFault::Damaged(TableName::Book));
     }
     let loaded = load_book(alloc, conn);

@@ -19,7 +19,7 @@ use roster::{Entry, Roster};
 use sqlite::{Alter, Connection};
 use std::alloc::Global;
 use tables::TableFault;
-use tables::book_schema::is_unreferenced;
+use tables::book_schema::is_spared;
 use tables::crew::{CrewRecord, is_crew_there, load_crew};
 use values::{MemoryFault, Text, TryClone};
 
@@ -34,7 +34,7 @@ fn crew_records<S: Alter>(
         (Blames table_name.Crew (IsUnreadable crew IsCrewRow (state S.Store conn.old).now))
         (state S.Store conn.old) (state S.Store conn.new) result }
 {
-    if !is_crew_there(alloc, conn)? || !is_unreferenced(conn, "crew") {
+    if !is_crew_there(alloc, conn)? || !is_spared(conn, "crew") {
         return Err(LoadFault::Damaged(TableName::Crew));
     }
     let loaded = load_crew(alloc, conn);

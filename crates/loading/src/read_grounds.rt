@@ -17,7 +17,7 @@ use roster::{Entry, Roster};
 use sqlite::{Alter, Connection};
 use std::alloc::Global;
 use tables::TableFault;
-use tables::book_schema::is_unreferenced;
+use tables::book_schema::is_spared;
 use tables::ground::{GroundRecord, is_ground_there, load_grounds};
 use time117::Minute;
 use values::{MemoryFault, Text, TryClone};
@@ -34,7 +34,7 @@ fn ground_records<S: Alter>(
         (IsUnreadable ground_duty IsGroundRow (state S.Store conn.old).now))
         (state S.Store conn.old) (state S.Store conn.new) result }
 {
-    if !is_ground_there(alloc, conn)? || !is_unreferenced(conn, "ground") {
+    if !is_ground_there(alloc, conn)? || !is_spared(conn, "ground") {
         return Err(LoadFault::Damaged(TableName::Ground));
     }
     let loaded = load_grounds(alloc, conn);

@@ -23,7 +23,7 @@ use roster::{Entry, Roster};
 use sqlite::{Alter, Connection};
 use std::alloc::Global;
 use tables::TableFault;
-use tables::book_schema::is_unreferenced;
+use tables::book_schema::is_spared;
 use tables::pairing::{PairingRecord, is_pairing_there, load_pairings};
 use values::{OrdMap, TryClone};
 
@@ -38,7 +38,7 @@ fn pairing_records<S: Alter>(
         (Blames table_name.Pairing (IsUnreadable pairing IsPairingRow (state S.Store conn.old).now))
         (state S.Store conn.old) (state S.Store conn.new) result }
 {
-    if !is_pairing_there(alloc, conn)? || !is_unreferenced(conn, "pairing") {
+    if !is_pairing_there(alloc, conn)? || !is_spared(conn, "pairing") {
         return Err(LoadFault::Damaged(TableName::Pairing));
     }
     let loaded = load_pairings(alloc, conn);

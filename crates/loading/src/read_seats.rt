@@ -21,7 +21,7 @@ use roster::{PairingEntry, Roster};
 use sqlite::{Alter, Connection};
 use std::alloc::Global;
 use tables::TableFault;
-use tables::book_schema::is_unreferenced;
+use tables::book_schema::is_spared;
 use tables::seat::{SeatRecord, is_seat_there, load_seats};
 use values::{Edit, MemoryFault, TryClone};
 
@@ -64,7 +64,7 @@ fn seat_records<S: Alter>(
         (Blames table_name.Seat (IsUnreadable seat IsSeatRow (state S.Store conn.old).now))
         (state S.Store conn.old) (state S.Store conn.new) result }
 {
-    if !is_seat_there(alloc, conn)? || !is_unreferenced(conn, "seat") {
+    if !is_seat_there(alloc, conn)? || !is_spared(conn, "seat") {
         return Err(LoadFault::Damaged(TableName::Seat));
     }
     let loaded = load_seats(alloc, conn);

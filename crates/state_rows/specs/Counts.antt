@@ -4,4 +4,5 @@ use Rattle.duty.specs.declared.fdp.Fdp.{Fdp}
 
 -- each period has at most twelve segments
 abbrev pub HaveFewSegments : List Fdp → Type 0
-HaveFewSegments periods = (place : ℕ) (fdp : Fdp) → slice_get periods place ≡ Some fdp → length fdp.segments ≤ 12
+HaveFewSegments periods = (place : ℕ) (fdp : Fdp) → slice_get periods place ≡ Some fdp →
+    length fdp.segments ≤ 12

@@ -5,12 +5,12 @@ use Rattle.tables.specs.declared.table_fault.TableFault.TheVariants as table
 use Rattle.state_rows.specs.declared.fault.StoreFault.{StoreFault}
 use Rattle.state_rows.specs.declared.fault.StoreFault.TheVariants.{Store, Memory}
 
--- want of memory is 91, and every other fault is 90
+-- the fault of the store that a fault of a table is: out of memory is 91, every other fault 90
 abbrev pub store_fault_of : TableFault → StoreFault
 store_fault_of table.Memory = Memory
 store_fault_of _ = Store
 
--- a fault as it is printed
+-- a fault of the store as it is printed
 abbrev pub store_fault_text : StoreFault → List ℕ
 store_fault_text Store = codes "90 Store"
 store_fault_text Memory = codes "91 Memory"

@@ -32,7 +32,7 @@ abbrev pub seat_number : Seat → ℕ
 seat_number Captain = 0
 seat_number FirstOfficer = 1
 
--- what a map has under a name
+-- a name under which a map has a value, and the value
 pub record At {V : Type 0} (m : fin.FinMap name_cmp V) : Type 0 where
   pub name : List ℕ
   pub value : V
@@ -40,23 +40,23 @@ pub record At {V : Type 0} (m : fin.FinMap name_cmp V) : Type 0 where
 
 -- ---- The book, its members and its pairings
 
--- one row: the version of the tables, and the text of the zone
+-- the one row of `book`: the version of the tables, and the text of the zone
 abbrev pub InBook : State → Row → Type 0
 InBook s row = row ≡ book_row (record { one = pos 1; version = pos 1; zone = s.zone })
 
--- a row for each member: the id, the seat that the member takes, and the name
+-- the row of a member in `crew`: the id, the seat that the member takes, and the name
 abbrev pub row_of_member : List ℕ → Member → Row
 row_of_member id m = crew_row (record { id = id; seat = seat_number m.seat; name = m.name })
 
--- the rows of `crew`
+-- the rows of `crew`, one for each member of the state
 abbrev pub InCrew : State → Row → Type 0
 InCrew s row = (at : At s.crew) × (row ≡ row_of_member at.name at.value)
 
--- a row for each pairing: the id
+-- the row of a pairing in `pairing`: the id
 abbrev pub row_of_pairing : List ℕ → Row
 row_of_pairing id = pairing_row (record { id = id })
 
--- the rows of `pairing`
+-- the rows of `pairing`, one for each pairing of the state
 abbrev pub InPairing : State → Row → Type 0
 InPairing s row = (at : At s.pairings) × (row ≡ row_of_pairing at.name)
 
@@ -70,7 +70,8 @@ pub record PeriodOf (r : PairingEntry) : Type 0 where
   pub planned : slice_get r.plan.periods place ≡ Some fdp
   pub flown : slice_get r.actuals place ≡ Some actual
 
--- the pairing, the number of the period from 1, its report and release as planned, and as flown
+-- the row of a period: the pairing, the number of the period from 1, its report and release as
+-- planned, and as flown
 abbrev pub row_of_period : List ℕ → ℕ → Fdp → Option ActualTimes → Row
 row_of_period id place fdp actual = period_row (record {
   pairing = id;
@@ -83,7 +84,8 @@ row_of_period id place fdp actual = period_row (record {
 
 -- the rows of `period`, one for each period of each pairing
 abbrev pub InPeriod : State → Row → Type 0
-InPeriod s row = (at : At s.pairings) × (p : PeriodOf at.value) × (row ≡ row_of_period at.name p.place p.fdp p.actual)
+InPeriod s row = (at : At s.pairings) × (p : PeriodOf at.value)
+    × (row ≡ row_of_period at.name p.place p.fdp p.actual)
 
 -- ---- The segments of a period
 
@@ -93,11 +95,12 @@ pub record SegmentOf (fdp : Fdp) : Type 0 where
   pub segment : Segment
   pub planned : slice_get fdp.segments place ≡ Some segment
 
--- the times of the segment in its period's actual
+-- the times of a segment in the actual of its period, if the period has one
 abbrev pub times_flown : Option ActualTimes → ℕ → Option BlockTimes
 times_flown actual place = option_and_then (λ a. slice_get a.segments place) actual
 
--- the pairing, the numbers of period and segment from 1, flight and airports, block-out and block-in as planned, and as flown
+-- the row of a segment: the pairing, the numbers of period and segment from 1, flight and airports,
+-- block-out and block-in as planned, and as flown
 abbrev pub row_of_segment : List ℕ → ℕ → ℕ → Segment → Option BlockTimes → Row
 row_of_segment id period place segment times = segment_row (record {
   pairing = id;
@@ -129,17 +132,24 @@ pub record HeldSeat (r : PairingEntry) : Type 0 where
 abbrev pub row_of_seat : List ℕ → Seat → List ℕ → Row
 row_of_seat id seat crew = seat_row (record { pairing = id; seat = seat_number seat; crew = crew })
 
--- the rows of `seat`
+-- the rows of `seat`, one for each seat that is held
 abbrev pub InSeat : State → Row → Type 0
-InSeat s row = (at : At s.pairings) × (h : HeldSeat at.value) × (row ≡ row_of_seat at.name h.seat h.crew)
+InSeat s row = (at : At s.pairings) × (h : HeldSeat at.value)
+    × (row ≡ row_of_seat at.name h.seat h.crew)
 
 -- ---- Ground duties, exceedances and requests
 
--- a row for each ground duty: the id, whose duty it is, the task, begin and end
+-- the row of a ground duty: the id, whose duty it is, the task, begin and end
 abbrev pub row_of_ground : List ℕ → GroundPlan → Row
-row_of_ground id g = ground_row (record { id = id; crew = g.crew; task = g.task; begin_at = g.begin; end_at = g.end })
+row_of_ground id g = ground_row (record {
+  id = id;
+  crew = g.crew;
+  task = g.task;
+  begin_at = g.begin;
+  end_at = g.end;
+})
 
--- the rows of `ground`
+-- the rows of the table of ground duties, one for each ground duty of the state
 abbrev pub InGround : State → Row → Type 0
 InGround s row = (at : At s.grounds) × (row ≡ row_of_ground at.name at.value)
 
@@ -151,7 +161,7 @@ pub record ExceedanceAt (exceedances : fin.FinMap name_cmp PeriodId) : Type 0 wh
   pub period : PeriodId
   pub there : fin.get exceedances (exceedance_name key crew section) ≡ Some period
 
--- a row for each exceedance: the key that recorded it, the member, the section, and the period
+-- the row of an exceedance: the key that recorded it, the member, the section, and the period
 abbrev pub row_of_exceedance : KeyParts → List ℕ → Section → PeriodId → Row
 row_of_exceedance key crew section period = exceedance_row (record {
   number = pos key.number;
@@ -162,9 +172,10 @@ row_of_exceedance key crew section period = exceedance_row (record {
   period = period.number;
 })
 
--- the rows of `exceedance`
+-- the rows of `exceedance`, one for each exceedance of the state
 abbrev pub InExceedance : State → Row → Type 0
-InExceedance s row = (at : ExceedanceAt s.exceedances) × (row ≡ row_of_exceedance at.key at.crew at.section at.period)
+InExceedance s row = (at : ExceedanceAt s.exceedances)
+    × (row ≡ row_of_exceedance at.key at.crew at.section at.period)
 
 -- a key that is held, with its command and reply
 pub record RequestAt (requests : fin.FinMap name_cmp LoggedCommand) : Type 0 where
@@ -172,7 +183,7 @@ pub record RequestAt (requests : fin.FinMap name_cmp LoggedCommand) : Type 0 whe
   pub kept : LoggedCommand
   pub there : fin.get requests (key_name key) ≡ Some kept
 
--- a row for each key that is held: its command and its reply, as their kept texts
+-- the row of a key that is held: its command and its reply, as their kept texts
 abbrev pub row_of_request : KeyParts → LoggedCommand → Row
 row_of_request key kept = request_row (record {
   number = pos key.number;
@@ -181,13 +192,13 @@ row_of_request key kept = request_row (record {
   reply = reply_text kept.reply;
 })
 
--- the rows of `request`
+-- the rows of `request`, one for each key that is held
 abbrev pub InRequest : State → Row → Type 0
 InRequest s row = (at : RequestAt s.requests) × (row ≡ row_of_request at.key at.kept)
 
 -- ---- The nine tables
 
--- the nine tables
+-- the names of the nine tables of the book
 pub data TableName : Type 0 where
   book : TableName
   crew : TableName
@@ -199,7 +210,7 @@ pub data TableName : Type 0 where
   exceedance : TableName
   request : TableName
 
--- how a table is declared
+-- how the table of this name is declared
 abbrev pub table : TableName → BookTable
 table book = book_table
 table crew = crew_table

@@ -12,7 +12,7 @@ use Rattle.roster.specs.State as roster
 use Rattle.roster.specs.Steps.{after}
 use Rattle.roster.specs.declared.change.Change.{Change}
 use Rattle.tables.specs.Calls.{Begun, Committed, IsUnchangedOrUndone as NotMade}
-use Rattle.writing.specs.Calls.{IsFit, IsReady, Wrote}
+use Rattle.writing.specs.Calls.{Changed, IsFit, IsReady, Wrote}
 use Rattle.writing.specs.Kept.{IsBookOf}
 use Rattle.writing.specs.Next.{IsAcceptedChange}
 use Rattle.writing.specs.Outcomes.{CrashLeaves, IsOverBook, one, either, StillShows}
@@ -104,14 +104,14 @@ pub ended_fit : {A E : Type 0} {Is : Database → Database → Type 0} (begun la
 ended_fit begun last new (Err e) wrote is before ended clean opened = absurd (cc)
 ended_fit begun last new (Ok a) wrote is before ended clean opened = subst IsFit (sym (ended clean).1.now_is) (wrote.ready.fit (before clean))
 
-pub undone_shows : {A E : Type 0} {Is : Database → Database → Type 0} (old begun last new : State) (r : Result A E) → Wrote Is begun last r →
+pub undone_shows : {A E : Type 0} {Is : Database → Database → Type 0} (old begun last new : State) (r : Result A E) → Changed Is begun last r →
     (HasCleanDisk new → HasCleanDisk last) → (HasCleanDisk begun → HasCleanDisk old) → (HasCleanDisk old → IsTrue old.is_open → old.now ≡ old.committed) → (HasCleanDisk begun → Begun old begun) →
     (HasCleanDisk new → KeepsCommit last new) → (HasCleanDisk new → IsTrue new.is_open → new.now ≡ new.committed) → StillShows old new
-undone_shows old begun last new r wrote before earlier settled begins kept after_all clean opened =
+undone_shows old begun last new r changed before earlier settled begins kept after_all clean opened =
     let late = before clean in
-    let mid : HasCleanDisk begun = omega (arith, wrote.changed.left.clean) in
+    let mid : HasCleanDisk begun = omega (arith, changed.left.clean) in
     let is = (begins mid).0 in
-    let both = keeps_then begun last new (wrote.changed.kept late) (kept clean) in
+    let both = keeps_then begun last new (changed.kept late) (kept clean) in
     let was = is.was_open in
     (was, after_all clean opened ∙ both.committed opened ∙ is.committed_is ∙ sym (settled (earlier mid) was))
 
@@ -120,7 +120,7 @@ pub undone_fit : {A E : Type 0} {Is : Database → Database → Type 0} (old beg
     (HasCleanDisk new → KeepsCommit last new) → (HasCleanDisk new → IsTrue new.is_open → new.now ≡ new.committed) → IsOverBook new
 undone_fit old begun last new r wrote before earlier over settled begins kept after_all =
     still_fit old new (λ clean. let late = before clean in let mid : HasCleanDisk begun = omega (arith, wrote.changed.left.clean) in earlier mid) over
-    (undone_shows old begun last new r wrote before earlier settled begins kept after_all)
+    (undone_shows old begun last new r wrote.changed before earlier settled begins kept after_all)
 
 pub over_at_end : {A E D : Type 0} (new : State) {P Q R : Type 0} (r : Result A E) → OnOk r P → (D → OnOk r Q) → (D → OnErr r R) → (P → (D → Q) → IsOverBook new) → ((D → R) → IsOverBook new) → IsOverBook new
 over_at_end new (Ok a) p q e f g = f p q

@@ -12,7 +12,7 @@ use Rattle.tables.specs.Records.{book_row}
 use Rattle.tables.specs.Rows.{Inserts, rows_of}
 use Rattle.writing.specs.Calls.{Changed, Then}
 use Rattle.writing.specs.Kept.{IsBookOf, AreStored}
-use Rattle.writing.specs.Making.{HasEmpty, MakesTables, AreUnreferenced, all_tables}
+use Rattle.writing.specs.Making.{HasEmpty, MakesTables, all_tables}
 use Rattle.state_rows.specs.Rows.{TableName, book, crew, pairing, period, segment, seat, ground_duty, exceedance, request, table, HasJust, InTable, Rows}
 use Rattle.writing.proofs.Tables.{is_same, rows_stay, stored_stays, no_rows, none_stored, made_book}
 
@@ -62,12 +62,11 @@ module _ (zone : List ℕ) (mid new : Database) (made : HasEmpty all_tables mid)
   }
 
 -- the same of the calls that make it in a transaction
-pub made_holds : {A E : Type 0} (zone text : List ℕ) (begun last : State) (r : Result A E) → text ≡ zone → (HasCleanDisk begun → AreUnreferenced begun.now.schema) →
+pub made_holds : {A E : Type 0} (zone text : List ℕ) (begun last : State) (r : Result A E) → text ≡ zone → (HasCleanDisk begun → HasEmpty [] begun.now) →
     Changed (Then (MakesTables [] all_tables) (Inserts book_table (book_row (record { one = pos 1; version = pos 1; zone = text })))) begun last r →
     IsLive last → HasCleanDisk last → IsOk r → IsBookOf (empty zone) last.now
 made_holds zone text begun last (Err fault) same fresh changed live clean is = absurd (cc)
 made_holds zone text begun last (Ok a) same fresh changed live clean is =
     let it = changed.done clean in
-    let first : HasEmpty [] begun.now = record { there = tt; unreferenced = fresh (omega (arith, changed.left.clean)) } in
     let insert = subst (λ z. Inserts book_table (book_row (record { one = pos 1; version = pos 1; zone = z })) it.0.0 last.now) same it.0.2 in
-    empty_book zone it.0.0 last.now (it.0.1.0 first) insert (live it.1.is_open).0
+    empty_book zone it.0.0 last.now (it.0.1.0 (fresh (omega (arith, changed.left.clean)))) insert (live it.1.is_open).0

@@ -1,12 +1,16 @@
 -- Tables of a book, made one after the other.
 use Rattle.std.proofs.Common.{◌≡◌, ◌∙◌, List, [], ◌∷◌, Ok, None}
 use Rattle.std.specs.List.{AllByRecursion}
-use Rattle.sqlite.specs.Effect.{Database}
+use Rattle.sqlite.specs.Effect.{Database, IsDatabase}
 use Rattle.sqlite.specs.State.{State}
 use Rattle.tables.specs.Calls.{Ran, CrashMayLeave}
 use Rattle.tables.specs.Rows.{Makes, stored}
-use Rattle.tables.specs.Schema.{BookTable, IsTable, IsUnreferenced, table_found, book_tables}
+use Rattle.tables.specs.Schema.{BookTable, IsTable, IsUnreferenced, OnlyKeysGuard, AreOnTables, table_found, book_tables}
 use Rattle.sqlite_schema.specs.declared.schema.Schema.{Schema}
+use Rattle.sqlite_value.specs.Order.{column}
+use Rattle.sqlite_rules.proofs.ListLemmas.{all_from}
+use Rattle.sqlite_catalog.specs.Listing.{IsIndexRow}
+use Rattle.sqlite_catalog.proofs.LayoutLemmas.{zipped_left, index_owner}
 use Rattle.writing.specs.Calls.{IsInside, Changed, Then}
 use Rattle.writing.specs.Kept.{KeepsPlain}
 use Rattle.writing.specs.Making.{HasEmpty, MakesTables, IsFree, AreUnreferenced}
@@ -25,10 +29,17 @@ unreferenced_stay : (made : BookTable) (old new : Database) → Makes made old n
 unreferenced_stay made old new makes [] h = tt
 unreferenced_stay made old new makes (t ∷ ts) h = (makes.unreferenced t h.0, unreferenced_stay made old new makes ts h.1)
 
+guarded_stay : (made : BookTable) (old new : Database) → Makes made old new → (tables : List BookTable) → AllByRecursion (IsEmptyTable old) tables → AllByRecursion (λ t. OnlyKeysGuard t.name old.schema) tables
+    → AllByRecursion (λ t. OnlyKeysGuard t.name new.schema) tables
+guarded_stay made old new makes [] there h = tt
+guarded_stay made old new makes (t ∷ ts) there h = (makes.guarded t there.0.0 h.0, guarded_stay made old new makes ts there.1 h.1)
+
 pub grown : (made : BookTable) (tables : List BookTable) (old new : Database) → Makes made old new → HasEmpty tables old → HasEmpty (made ∷ tables) new
 grown made tables old new makes has = record {
   there = ((makes.there, makes.empty), all_stay made old new makes tables has.there);
+  guarded = ((makes.own_guards has.on_tables).0, guarded_stay made old new makes tables has.there has.guarded);
   unreferenced = unreferenced_stay made old new makes book_tables has.unreferenced;
+  on_tables = (makes.own_guards has.on_tables).1;
 }
 
 pub kept_then : (a b c : Database) → KeepsPlain a b → KeepsPlain b c → KeepsPlain a c
@@ -71,5 +82,14 @@ parts_of : (P Q : BookTable → Type 0) (tables : List BookTable) → AllByRecur
 parts_of P Q [] h = tt
 parts_of P Q (t ∷ ts) h = (h.0.1, parts_of P Q ts h.1)
 
-pub unreferenced : (schema : Schema) → IsFree schema → AreUnreferenced schema
+unreferenced : (schema : Schema) → IsFree schema → AreUnreferenced schema
 unreferenced schema free = parts_of (λ t. table_found schema t.name ≡ None) (λ t. IsUnreferenced t schema) book_tables free
+
+-- a database lists each index with the table that it is on
+on_tables : (db : Database) → IsDatabase db → AreOnTables db.schema
+on_tables db sound = all_from _ db.schema.indexes (λ index h.
+    let row = (zipped_left (IsIndexRow db.schema.tables) _ db.schema.indexes index sound.lists.listed.indexes h) in
+    (row.2.table, row.2.listed, index_owner row.2.table index (column row.0 4) row.2.defined))
+
+pub nothing_made : (db : Database) → IsDatabase db → IsFree db.schema → HasEmpty [] db
+nothing_made db sound free = record { there = tt; guarded = tt; unreferenced = unreferenced db.schema free; on_tables = on_tables db sound }

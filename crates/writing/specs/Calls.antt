@@ -1,4 +1,5 @@
--- What the functions of this crate say to one another of calls in a transaction. No public clause names these.
+-- What the functions of this crate say to one another of calls in a transaction. No public clause
+-- names a word of this file.
 use Rattle.std.specs.Prelude.{◌≡◌, ℕ, suc, true, IsTrue, List, [], ◌∷◌, take, Result, Ok, OnOk}
 use Rattle.sqlite.specs.Effect.{Database}
 use Rattle.sqlite.specs.State.{State, HasCleanDisk, Shows, KeepsCommit}
@@ -11,27 +12,33 @@ use Rattle.state_rows.specs.declared.fault.StoreFault.{StoreFault}
 abbrev pub IsInside : State → Type 0
 IsInside s = HasCleanDisk s → IsTrue s.in_transaction
 
--- What a call comes to that changes tables in a transaction, where `Is` says what it makes of the database. What was
--- committed stays, and so does what a crash may leave.
-pub record Changed {A E : Type 0} (Is : Database → Database → Type 0) (old new : State) (result : Result A E) : Type 0 where
-  pub done : HasCleanDisk new → OnOk result (Is old.now new.now × Shows old new new.now old.committed true)
+-- what a call comes to that changes tables in a transaction, where `Is` says what it makes of the
+-- database: what was committed stays, and a crash leaves no more than before
+pub record Changed {A E : Type 0}
+    (Is : Database → Database → Type 0) (old new : State) (result : Result A E) : Type 0 where
+  pub done : HasCleanDisk new →
+      OnOk result (Is old.now new.now × Shows old new new.now old.committed true)
   pub kept : HasCleanDisk new → KeepsCommit old new
   pub left : CrashLeavesNoMore old new
 
--- one change after the other
-abbrev pub Then : (Database → Database → Type 0) → (Database → Database → Type 0) → Database → Database → Type 0
+-- the database is changed by the first change, and then by the second
+abbrev pub Then :
+    (Database → Database → Type 0) → (Database → Database → Type 0) →
+    Database → Database → Type 0
 Then First Second old new = (mid : Database) × First old mid × Second mid new
 
--- a change for each value in turn, by its place
-abbrev pub Each : {V : Type 0} → (ℕ → V → Database → Database → Type 0) → ℕ → List V → Database → Database → Type 0
+-- the database is changed for each value of a list in turn, by the place of the value
+abbrev pub Each : {V : Type 0} → (ℕ → V → Database → Database → Type 0) → ℕ → List V →
+    Database → Database → Type 0
 Each Is place [] old new = new ≡ old
 Each Is place (v ∷ vs) old new = Then (Is place v) (Each Is (suc place) vs) old new
 
--- the tables of a book, and in each of them each row under a number of its own
+-- the database has the tables of a book, and in each of them each row stands under a number of its
+-- own
 abbrev pub IsFit : Database → Type 0
 IsFit db = IsBook db.schema × AreStored db
 
--- a change that leaves such a database
+-- the change leaves a database that has the tables of a book, each row under a number of its own
 abbrev pub Fitting : (Database → Database → Type 0) → Database → Database → Type 0
 Fitting Is old new = Is old new × IsFit new
 
@@ -41,11 +48,14 @@ pub record IsReady (s : State) : Type 0 where
   pub opened : HasCleanDisk s → IsTrue s.is_open
   pub fit : HasCleanDisk s → IsFit s.now
 
--- such a change, after which the transaction goes on
-pub record Wrote {A E : Type 0} (Is : Database → Database → Type 0) (old new : State) (result : Result A E) : Type 0 where
+-- what a call comes to that changes the tables of a book, after which the transaction goes on
+pub record Wrote {A E : Type 0}
+    (Is : Database → Database → Type 0) (old new : State) (result : Result A E) : Type 0 where
   pub changed : Changed Is old new result
   pub ready : OnOk result (IsReady new)
 
--- the changes for the first values are made
-abbrev pub WroteSome : {V : Type 0} → (ℕ → V → Database → Database → Type 0) → ℕ → List V → State → State → Type 0
-WroteSome Is count vs old now = Wrote {A = Unit {0}} {E = StoreFault} (Each Is 0 (take count vs)) old now (Ok tt)
+-- the changes for this many first values of a list are made
+abbrev pub WroteSome : {V : Type 0} → (ℕ → V → Database → Database → Type 0) → ℕ → List V →
+    State → State → Type 0
+WroteSome Is count vs old now =
+    Wrote {A = Unit {0}} {E = StoreFault} (Each Is 0 (take count vs)) old now (Ok tt)

@@ -1,4 +1,5 @@
--- What it comes to that a book is made, and that a change is committed. The layers above hand these on as they stand.
+-- What the call comes to that makes a book, and the call that commits a change. The layers above
+-- hand both promises on as they stand.
 use Rattle.std.specs.Prelude.{◌≡◌, ◌≤◌, OnErr, OnOk, Result, Err}
 use Rattle.sqlite_trees.specs.declared.store.Store.{Ghosts}
 use Rattle.sqlite.specs.Held.{Held, state}
@@ -16,7 +17,7 @@ use Rattle.writing.specs.Outcomes.{CrashAddsNothing, CrashAddsOnly, HoldsNow, Is
 use Rattle.writing.specs.declared.fault.CreateFault.{CreateFault}
 use Rattle.writing.specs.declared.fault.CreateFault.TheVariants.{Fault, NotEmpty}
 
--- the tables of a book in this state were made
+-- the call made the tables of a book in this state
 pub record AreTablesMade (old new : State) (s : roster.State) : Type 0 where
   -- the book: what a crash leaves, and what is shown
   pub crash : CrashLeaves new (one s)
@@ -28,8 +29,9 @@ pub record AreTablesMade (old new : State) (s : roster.State) : Type 0 where
   -- the limit of a statement's steps, if one is set
   pub limit : new.step_limit ≡ old.step_limit
 
--- no book was made, for this fault
-pub record IsNotMade {S : Type 0} (g : Ghosts S) (old new : Held S) (s : roster.State) (fault : CreateFault) : Type 0 where
+-- the call made no book, for this fault
+pub record IsNotMade {S : Type 0}
+    (g : Ghosts S) (old new : Held S) (s : roster.State) (fault : CreateFault) : Type 0 where
   -- the fault: 43 comes where a name is taken, and then nothing was done
   pub not_empty : fault ≡ NotEmpty → (IsFree (state g old).now.schema → ⊥) × (new ≡ old)
   -- a crash: after 91 it leaves nothing new, else the tables in this state at most
@@ -37,19 +39,27 @@ pub record IsNotMade {S : Type 0} (g : Ghosts S) (old new : Held S) (s : roster.
   pub crash : CrashMayAdd (state g old) (state g new) s
   pub some_left : CrashLeavesSome (state g new)
   pub others_crash : CrashAddsOnly (state g old) (state g new) (KeepPlain (state g old).now)
+  -- the database that was shown is still shown
+  pub still_shown : StillShows (state g old) (state g new)
   -- the connection, and the limit of a statement's steps, if one is set
   pub limit : (state g new).step_limit ≡ (state g old).step_limit
   pub still_open : StaysOpen (state g old) (state g new)
   pub outside : IsOutside (state g new)
 
--- this came of the commit of a change, which the step gave of the state that a crash leaves
-pub record IsCommitted {A : Type 0} (old new : State) (change : Change) (result : Result A StoreFault) : Type 0 where
+-- what the commit of a change comes to, where the step gave the change in the state that a crash
+-- leaves
+pub record IsCommitted {A : Type 0}
+    (old new : State) (change : Change) (result : Result A StoreFault) : Type 0 where
   -- the tables: the change is kept; after 91 nothing of it, after 90 all or nothing
-  pub crash : (s : roster.State) → IsAcceptedChange s change → CrashLeaves old (one s) → OnOk result (CrashLeaves new (one (after s change)))
-  pub memory : (s : roster.State) → CrashLeaves old (one s) → result ≡ Err Memory → CrashLeaves new (one s)
-  pub store : (s : roster.State) → IsAcceptedChange s change → CrashLeaves old (one s) → result ≡ Err Store → CrashLeaves new (either s (after s change))
+  pub crash : (s : roster.State) → IsAcceptedChange s change → CrashLeaves old (one s) →
+      OnOk result (CrashLeaves new (one (after s change)))
+  pub memory : (s : roster.State) → CrashLeaves old (one s) → result ≡ Err Memory →
+      CrashLeaves new (one s)
+  pub store : (s : roster.State) → IsAcceptedChange s change → CrashLeaves old (one s) →
+      result ≡ Err Store → CrashLeaves new (either s (after s change))
   pub some_left : CrashLeavesSome new
-  pub shown : (s : roster.State) → IsAcceptedChange s change → CrashLeaves old (one s) → OnOk result (HoldsNow new (after s change))
+  pub shown : (s : roster.State) → IsAcceptedChange s change → CrashLeaves old (one s) →
+      OnOk result (HoldsNow new (after s change))
   pub still_shown : OnErr result (StillShows old new)
   -- where the change is kept, or may be, its instants are of their type
   pub command : OnOk result (IsCommand change.command)

@@ -22,7 +22,7 @@ pub record IsBookOf (s : State) (db : Database) : Type 0 where
   pub stored : AreStored db
   pub rows : Rows s db
 
--- by the schema that the trees list
+-- the trees hold the tables of a book in this state, by the schema that they list
 abbrev pub HoldBookOf : Trees → State → Type 0
 HoldBookOf trees s = (schema : Schema) × IsBookOf s (record { schema = schema; trees = trees })
 
@@ -30,16 +30,21 @@ HoldBookOf trees s = (schema : Schema) × IsBookOf s (record { schema = schema; 
 abbrev pub IsOther : List ℕ → Type 0
 IsOther name = (it : TableName) → name ≢ (table it).name
 
--- the trees list the schema of this database, and each table that isn't of the book has the rows that it has there
+-- the trees list the schema of this database, and each table that isn't of the book has the rows
+-- that it has in the database
 pub record KeepOthers (db : Database) (trees : Trees) : Type 0 where
   pub database : IsDatabase (record { schema = db.schema; trees = trees })
-  pub others : (t : Table) → Has db.schema.tables t → IsOther t.name → trees t.tree ≡ db.trees t.tree
+  pub others : (t : Table) → Has db.schema.tables t → IsOther t.name →
+      trees t.tree ≡ db.trees t.tree
 
--- a table that is declared as those of the book are stays so, and has the rows that it had
+-- each table that is declared as the tables of a book are declared stays so, and has the rows that
+-- it had
 abbrev pub KeepsPlain : Database → Database → Type 0
-KeepsPlain old new = (t : BookTable) → IsTable t old.schema → IsTable t new.schema × (stored t new ≡ stored t old)
+KeepsPlain old new = (t : BookTable) → IsTable t old.schema →
+    IsTable t new.schema × (stored t new ≡ stored t old)
 
--- the trees have each such table of this database, by the schema that they list
+-- the trees, by the schema that they list, have each table of this database that is declared as the
+-- tables of a book are declared
 pub record KeepPlain (db : Database) (trees : Trees) : Type 0 where
   pub schema : Schema
   pub database : IsDatabase (record { schema = schema; trees = trees })

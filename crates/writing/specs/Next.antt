@@ -9,7 +9,7 @@ use Rattle.roster.specs.Steps.{step_of}
 use Rattle.roster.specs.declared.change.Change.{Change}
 use Rattle.roster.specs.declared.change.Verdict.TheVariants.{Accept}
 
--- the change is what the step accepted in a sound state, of some command under some key
+-- the change is what the step of some command under some key accepted in a sound state
 pub record IsAcceptedChange (s : State) (change : Change) : Type 0 where
   pub sound : Sound s
   pub key : KeyParts

@@ -9,19 +9,20 @@ use Rattle.writing.specs.Kept.{IsBookOf, HoldBookOf, AreStored}
 
 -- All of this is said as long as the disk has returned what was written.
 
--- this state alone
+-- the state is this one
 abbrev pub one : roster.State → roster.State → Type 0
 one s = λ t. t ≡ s
 
--- one of these two states
+-- the state is one of these two
 abbrev pub either : roster.State → roster.State → roster.State → Type 0
 either s t = λ r. (r ≡ s) ⊎ (r ≡ t)
 
 -- a crash leaves the tables of a book in a state of which P holds, and nothing else
 pub record CrashLeaves (now : State) (P : roster.State → Type 0) : Type 0 where
-  pub crash : HasCleanDisk now → (trees : Trees) → now.may_leave trees → (s : roster.State) × P s × HoldBookOf trees s
+  pub crash : HasCleanDisk now → (trees : Trees) → now.may_leave trees →
+      (s : roster.State) × P s × HoldBookOf trees s
 
--- and it leaves something
+-- a crash leaves something
 abbrev pub CrashLeavesSome : State → Type 0
 CrashLeavesSome now = HasCleanDisk now → ∥ ((trees : Trees) × now.may_leave trees) ∥₁
 
@@ -33,36 +34,40 @@ pub record CrashAddsNothing (old now : State) : Type 0 where
 -- a crash leaves what it could leave before, or the tables of a book in this state
 pub record CrashMayAdd (old now : State) (s : roster.State) : Type 0 where
   pub disk : HasCleanDisk now → HasCleanDisk old
-  pub crash : HasCleanDisk now → (trees : Trees) → now.may_leave trees → old.may_leave trees ⊎ HoldBookOf trees s
+  pub crash : HasCleanDisk now → (trees : Trees) → now.may_leave trees →
+      old.may_leave trees ⊎ HoldBookOf trees s
 
 -- a crash leaves only trees of which P holds
 pub record CrashLeavesOnly (now : State) (P : Trees → Type 0) : Type 0 where
   pub crash : HasCleanDisk now → (trees : Trees) → now.may_leave trees → P trees
 
--- or what it could leave before
+-- a crash leaves what it could leave before, or trees of which P holds
 pub record CrashAddsOnly (old now : State) (P : Trees → Type 0) : Type 0 where
-  pub crash : HasCleanDisk now → (trees : Trees) → now.may_leave trees → old.may_leave trees ⊎ P trees
+  pub crash : HasCleanDisk now → (trees : Trees) → now.may_leave trees →
+      old.may_leave trees ⊎ P trees
 
--- it shows trees of which P holds
+-- the connection shows trees of which P holds
 abbrev pub ShowsOnly : State → (Trees → Type 0) → Type 0
 ShowsOnly now P = HasCleanDisk now → P now.now.trees
 
--- no transaction is begun
+-- the connection is in no transaction
 abbrev pub IsOutside : State → Type 0
 IsOutside s = HasCleanDisk s → s.in_transaction ≡ false
 
--- while it is open, it has the tables of a book, and each row of them under a number of its own
+-- while the connection is open, it shows the tables of a book, each row under a number of its own
 abbrev pub IsOverBook : State → Type 0
 IsOverBook s = HasCleanDisk s → IsTrue s.is_open → IsBook s.now.schema × AreStored s.now
 
--- it is open, and has the tables of a book in this state
+-- the connection is open, and shows the tables of a book in this state
 abbrev pub HoldsNow : State → roster.State → Type 0
 HoldsNow now s = HasCleanDisk now → IsTrue now.is_open × IsBookOf s now.now
 
--- while it is open, it shows the database that it showed before
+-- while the connection is open, it shows the database that it showed before
 abbrev pub StillShows : State → State → Type 0
-StillShows old now = HasCleanDisk now → IsTrue now.is_open → IsTrue old.is_open × (now.now ≡ old.now)
+StillShows old now = HasCleanDisk now → IsTrue now.is_open →
+    IsTrue old.is_open × (now.now ≡ old.now)
 
 -- a connection that was open still is, unless the disk failed or refused a call meanwhile
 abbrev pub StaysOpen : State → State → Type 0
-StaysOpen old now = HasCleanDisk now → IsTrue old.is_open → IsTrue now.is_open ⊎ MoreFaults old.faults now.faults
+StaysOpen old now = HasCleanDisk now → IsTrue old.is_open →
+    IsTrue now.is_open ⊎ MoreFaults old.faults now.faults

@@ -20,42 +20,46 @@ use Rattle.state_rows.specs.Rows.{table, crew, pairing, period, segment, seat, g
 
 -- ---- A pairing
 
--- a row for each period of the pairing, in turn
+-- a row is added for each period of a pairing, in turn
 abbrev pub AddsPeriods : List ℕ → List Fdp → Database → Database → Type 0
 AddsPeriods id = Each (λ place fdp. Inserts (table period) (row_of_period id place fdp None)) 0
 
--- a row for a segment at its place in its period
+-- a row is added for a segment at its place in its period
 abbrev pub AddsSegmentOf : List ℕ → ℕ → ℕ → Segment → Database → Database → Type 0
 AddsSegmentOf id place at s = Inserts (table segment) (row_of_segment id place at s None)
 
--- a row for each segment of a period, in turn
+-- a row is added for each segment of a period, in turn
 abbrev pub AddsSegmentsOf : List ℕ → ℕ → List Segment → Database → Database → Type 0
 AddsSegmentsOf id place = Each (AddsSegmentOf id place) 0
 
--- a row for each segment of each period, in turn
+-- a row is added for each segment of each period, in turn
 abbrev pub AddsSegments : List ℕ → List Fdp → Database → Database → Type 0
 AddsSegments id = Each (λ place fdp. AddsSegmentsOf id place fdp.segments) 0
 
--- the row of a pairing, then those of its periods, then those of its segments
+-- the row of a pairing is added, then the rows of its periods, then the rows of its segments
 abbrev pub AddsPairing : Plan → Database → Database → Type 0
-AddsPairing plan = Then (Inserts (table pairing) (row_of_pairing plan.id)) (Then (AddsPeriods plan.id plan.periods) (AddsSegments plan.id plan.periods))
+AddsPairing plan = Then (Inserts (table pairing) (row_of_pairing plan.id))
+    (Then (AddsPeriods plan.id plan.periods) (AddsSegments plan.id plan.periods))
 
--- the rows of a pairing's segments go, then those of its periods, then its own
+-- the rows of the segments of a pairing are removed, then the rows of its periods, then its own
 abbrev pub RemovesPairing : List ℕ → Database → Database → Type 0
 RemovesPairing id = Then (Deletes (table segment) (begins_with (Text id ∷ [])))
-    (Then (Deletes (table period) (begins_with (Text id ∷ []))) (Deletes (table pairing) (begins_with (Text id ∷ []))))
+    (Then (Deletes (table period) (begins_with (Text id ∷ [])))
+    (Deletes (table pairing) (begins_with (Text id ∷ []))))
 
 -- ---- Seats
 
--- the row of a seat goes
+-- the row of a seat is removed
 abbrev pub FreesSeat : SeatChange → Database → Database → Type 0
-FreesSeat change = Deletes (table seat) (begins_with (Text change.pairing ∷ Int (pos (seat_number change.seat)) ∷ []))
+FreesSeat change =
+    Deletes (table seat)
+    (begins_with (Text change.pairing ∷ Int (pos (seat_number change.seat)) ∷ []))
 
--- a row for a seat and who takes it
+-- a row is added for a seat and the member who takes it
 abbrev pub TakesSeat : SeatChange → List ℕ → Database → Database → Type 0
 TakesSeat change who = Inserts (table seat) (row_of_seat change.pairing change.seat who)
 
--- a row for the new holder, if there is one
+-- a row is added for the new holder of a seat, if there is one
 abbrev pub Seats : SeatChange → Option (List ℕ) → Database → Database → Type 0
 Seats change None old new = new ≡ old
 Seats change (Some who) old new = TakesSeat change who old new
@@ -64,41 +68,45 @@ Seats change (Some who) old new = TakesSeat change who old new
 abbrev pub Reseats : SeatChange → Database → Database → Type 0
 Reseats change = Then (FreesSeat change) (Seats change change.holder)
 
--- the seats get their holders, in turn
+-- each seat of a list gets its new holder or is freed, in turn
 abbrev pub ReseatsAll : List SeatChange → Database → Database → Type 0
 ReseatsAll = Each (λ _ change. Reseats change) 0
 
 -- ---- Actual times
 
--- the times of a segment as it was flown
+-- the times of a segment as it was flown are set in its row
 abbrev pub FliesSegment : List ℕ → ℕ → ℕ → BlockTimes → Database → Database → Type 0
 FliesSegment id number at t =
-    Updates (table segment) (begins_with (Text id ∷ Int (pos number) ∷ Int (pos (at + 1)) ∷ [])) (with_segment_times t.block_out t.block_in)
+    Updates (table segment) (begins_with (Text id ∷ Int (pos number) ∷ Int (pos (at + 1)) ∷ []))
+    (with_segment_times t.block_out t.block_in)
 
--- those of the segments of a period, in turn
+-- the times of the segments of a period as it was flown are set in their rows, in turn
 abbrev pub FliesSegments : List ℕ → ℕ → List BlockTimes → Database → Database → Type 0
 FliesSegments id number = Each (FliesSegment id number) 0
 
--- the times of a period as it was flown
+-- the times of a period as it was flown are set in its row
 abbrev pub FliesPeriod : List ℕ → ActualTimes → Database → Database → Type 0
-FliesPeriod id a = Updates (table period) (begins_with (Text id ∷ Int (pos a.period) ∷ [])) (with_period_times a.report a.release)
+FliesPeriod id a =
+    Updates (table period) (begins_with (Text id ∷ Int (pos a.period) ∷ []))
+    (with_period_times a.report a.release)
 
--- a row for an exceedance of a period
+-- a row is added for an exceedance of a period
 abbrev pub Records : KeyParts → PeriodId → Exceedance → Database → Database → Type 0
 Records key p e = Inserts (table exceedance) (row_of_exceedance key e.crew e.section p)
 
--- a row for each exceedance, in turn
+-- a row is added for each exceedance of a list, in turn
 abbrev pub RecordsAll : KeyParts → PeriodId → List Exceedance → Database → Database → Type 0
 RecordsAll key p = Each (λ _ e. Records key p e) 0
 
--- the times of a period, then those of its segments, then the exceedances
+-- the times of a period as it was flown are set, then the times of its segments, and then the
+-- exceedances are added
 abbrev pub Flies : Change → List ℕ → ActualTimes → Database → Database → Type 0
 Flies change id a = Then (FliesPeriod id a) (Then (FliesSegments id a.period a.segments)
     (RecordsAll change.key (record { pairing = id; number = a.period }) change.reply.exceedances))
 
 -- ---- All commands
 
--- what each instruction writes, beside its request
+-- what an instruction writes, beside its request
 abbrev pub WritesInstruction : Change → Instruction → Database → Database → Type 0
 WritesInstruction change (AddCrew id m) = Inserts (table crew) (row_of_member id m)
 WritesInstruction change (AddPairing plan) = AddsPairing plan
@@ -107,10 +115,13 @@ WritesInstruction change (Assign id who) = ReseatsAll change.seats
 WritesInstruction change (Release id who) = ReseatsAll change.seats
 WritesInstruction change (Swap w) = ReseatsAll change.seats
 WritesInstruction change (AddGround g) = Inserts (table ground_duty) (row_of_ground g.id g)
-WritesInstruction change (CancelGround id) = Deletes (table ground_duty) (begins_with (Text id ∷ []))
+WritesInstruction change (CancelGround id) =
+    Deletes (table ground_duty) (begins_with (Text id ∷ []))
 WritesInstruction change (Actual id a) = Flies change id a
 
--- the effect, and then the command with its reply under its key
+-- what a change writes: the effect of its command, and then the command with its reply under its
+-- key
 abbrev pub Writes : Change → Database → Database → Type 0
 Writes change = Then (Fitting (WritesInstruction change change.command))
-    (Inserts (table request) (row_of_request change.key (record { command = change.command; reply = change.reply })))
+    (Inserts (table request)
+    (row_of_request change.key (record { command = change.command; reply = change.reply })))

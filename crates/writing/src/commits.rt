@@ -47,6 +47,9 @@ pub fn make_book<S: Alter>(
         version: 1,
         zone: Text::new(String::from_str(alloc, zone.text())?),
     };
+    // The clauses of these calls say that an open connection shows a database, and outside a transaction what is committed.
+    let _live = conn.schema();
+    let _settled = conn.is_autocommit();
     begin(conn)?;
     let done = make_tables(conn, &book);
     Ok(end(conn, done)?)

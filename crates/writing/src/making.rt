@@ -8,7 +8,7 @@ ghost use Rattle.tables.specs.Records.{book_row};
 ghost use Rattle.tables.specs.Rows.{Inserts};
 ghost use Rattle.tables.specs.Schema.{book_table, table_found, NoneRefersTo, crew_table, pairing_table, period_table, segment_table, seat_table, ground_table, exceedance_table, request_table};
 ghost use Rattle.writing.specs.Calls.{IsInside, Changed, Then};
-ghost use Rattle.writing.specs.Making.{AreUnreferenced, MakesTables, IsFree, first_tables, second_tables, all_tables};
+ghost use Rattle.writing.specs.Making.{HasEmpty, MakesTables, IsFree, first_tables, second_tables, all_tables};
 
 use sqlite::{Alter, Connection};
 use state_rows::StoreFault;
@@ -53,7 +53,7 @@ pub(crate) fn make_tables<S: Alter>(
     book: &BookRecord,
 ) -> Result<(), StoreFault>
     requires free { HasCleanDisk (state S.Store conn.old)
-        → AreUnreferenced (state S.Store conn.old).now.schema }
+        → HasEmpty [] (state S.Store conn.old).now }
     requires inside { IsInside (state S.Store conn.old) }
     ensures { Changed (Then (MakesTables [] all_tables) (Inserts book_table (book_row book.now)))
         (state S.Store conn.old) (state S.Store conn.new) result }

@@ -9,4 +9,4 @@ use Rattle.loading.proofs.read_seats.seat_records.Goals as goal
 
 pub returns-in-Ok : goal.returns-in-Ok
 returns-in-Ok g c = found seat table_name.Seat IsSeatRow (λ (v : Vec SeatRecord Global). map seat_row v.items) (state g.S.Store c.args.conn.now) (state g.S.Store c.load_seats-loaded.new.conn) c.in-Ok.records
-    (c.in_ok-is_seat_there.ensures.there.0 (search rules), c.is_unreferenced.ensures.0 (search rules)) c.in-Ok.ensures.loaded c.load_seats-loaded.ensures.crash c.schema-live.ensures.live
+    (c.in_ok-is_seat_there.ensures.there.0 (search rules), c.is_spared.ensures.0 (search rules)) c.in-Ok.ensures.loaded c.load_seats-loaded.ensures.crash c.schema-live.ensures.live

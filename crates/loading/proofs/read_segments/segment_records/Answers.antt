@@ -9,4 +9,4 @@ use Rattle.loading.proofs.read_segments.segment_records.Goals as goal
 
 pub returns-in-Ok : goal.returns-in-Ok
 returns-in-Ok g c = found segment table_name.Segment IsSegmentRow (λ (v : Vec SegmentRecord Global). map segment_row v.items) (state g.S.Store c.args.conn.now) (state g.S.Store c.load_segments-loaded.new.conn) c.in-Ok.records
-    (c.in_ok-is_segment_there.ensures.there.0 (search rules), c.is_unreferenced.ensures.0 (search rules)) c.in-Ok.ensures.loaded c.load_segments-loaded.ensures.crash c.schema-live.ensures.live
+    (c.in_ok-is_segment_there.ensures.there.0 (search rules), c.is_spared.ensures.0 (search rules)) c.in-Ok.ensures.loaded c.load_segments-loaded.ensures.crash c.schema-live.ensures.live

@@ -67,7 +67,7 @@ returns-clause-committed g c =
       shown = λ s next leaves.
           on_ok c.end.result ended.whole ended.ok (λ is ended. ended_now G last c.end.new.conn (after s c.args.change.now) ended (λ clean. holds s next leaves clean is));
       still_shown = on_err_of c.end.result ended.commit_stays
-          (λ kept. undone_shows old begun last new c.write_change-done.result c.write_change-done.ensures late before settled c.in_ok-begin.ensures.gave kept ended.settled);
+          (λ kept. undone_shows old begun last new c.write_change-done.result c.write_change-done.ensures.changed late before settled c.in_ok-begin.ensures.gave kept ended.settled);
       command = search rules;
       in_doubt = search rules;
       others_crash = on_ok c.end.result ended.whole ended.ok (λ is ended. leaves_only G last c.end.new.conn (KeepOthers old.now) ended (λ clean. keeps clean is) g.met.S.Store.settled);
