@@ -7,7 +7,7 @@ use Rattle.limits.specs.Judgement.{Broken, IsWithin, IsJoined}
 use Rattle.limits.specs.Laws.Broken.{broken_grows, broken_splits}
 use Rattle.limits.specs.declared.section.Section.{Section}
 use Rattle.roster.specs.Honest.{IsRecorded, AreDutiesOf, IsHonestOf}
-use Rattle.roster.specs.Places.{Place, period, Placed, duties}
+use Rattle.roster.specs.Places.{Place, Placed, place_of, duties}
 use Rattle.roster.specs.State.{State, exceedance_name}
 use Rattle.roster.specs.declared.state.PeriodId.{PeriodId}
 use Rattle.roster.proofs.Members.{none_in, is_first, is_later, first_or_later, in_filter, from_filter, in_map, from_map}
@@ -101,7 +101,7 @@ stays s t who section some more stay within r = record {
   named = r.named;
   recorded = stay (exceedance_name r.key who section) r.named r.recorded;
   duty = r.duty;
-  is_one = within (period r.named.pairing r.named.number, r.duty) r.is_one;
+  is_one = within (place_of r.named, r.duty) r.is_one;
 }
 
 -- each duty of the member after it was the member's before

@@ -1,4 +1,4 @@
--- An assignment that passes the book's own checks is accepted exactly where it breaks no limit.
+-- An assignment that passes the book's own checks is accepted if and only if it breaks no limit.
 use Rattle.std.proofs.Common.{◌≡◌, ℕ, Bool, true, false, cond, List, [], ◌∷◌, ◌++◌, map, Option, Some, None, ◌↔◌, inl, inr, refl, sym, ap, subst, ◌∙◌, arith, eqb, length, lt-ltb}
 use Rattle.std.specs.FinMap as fin
 use Rattle.std.specs.List.{Contains, filter, find}

@@ -11,5 +11,8 @@ put s (Member id member) = record s { crew = fin.insert s.crew id member }
 put s (Pairing r) = record s { pairings = fin.insert s.pairings r.plan.id r }
 put s (Ground g) = record s { grounds = fin.insert s.grounds g.id g }
 put s (Exceedance id period) =
-    record s { exceedances = fin.insert s.exceedances (exceedance_name id.key id.crew id.section) period }
-put s (LoggedCommand key request) = record s { requests = fin.insert s.requests (key_name key) request }
+    record s {
+      exceedances = fin.insert s.exceedances (exceedance_name id.key id.crew id.section) period;
+    }
+put s (LoggedCommand key request) =
+    record s { requests = fin.insert s.requests (key_name key) request }

@@ -13,8 +13,9 @@ use Rattle.roster.specs.contracts.state.ExceedanceIdOrd.TheImpl.{ghosts}
 use Rattle.roster.specs.declared.state.ExceedanceId.{ExceedanceId}
 
 -- what holds of each of the eight sections holds of every section
-each : (P : Section → Type 0) → P FlightTime → P FlightDutyPeriod → P FlightTime672Hours → P FlightTime365Days →
-    P FlightDutyPeriods168Hours → P FlightDutyPeriods672Hours → P ThirtyHourRest → P TenHourRest → (s : Section) → P s
+each : (P : Section → Type 0) → P FlightTime → P FlightDutyPeriod → P FlightTime672Hours →
+    P FlightTime365Days → P FlightDutyPeriods168Hours → P FlightDutyPeriods672Hours →
+    P ThirtyHourRest → P TenHourRest → (s : Section) → P s
 each P a b c d e f g h FlightTime = a
 each P a b c d e f g h FlightDutyPeriod = b
 each P a b c d e f g h FlightTime672Hours = c
@@ -28,7 +29,7 @@ each P a b c d e f g h TenHourRest = h
 abbrev In : Section → Section → Type 0
 In a b = sections.cmp a b ≡ nat_cmp (section_number a) (section_number b)
 
--- each two sections are in the order of their numbers
+-- any two sections are in the order of their numbers
 sections_order : (a b : Section) → In a b
 sections_order = each (λ a. (b : Section) → In a b)
     (each (In FlightTime) refl refl refl refl refl refl refl refl)
@@ -40,18 +41,24 @@ sections_order = each (λ a. (b : Section) → In a b)
     (each (In ThirtyHourRest) refl refl refl refl refl refl refl refl)
     (each (In TenHourRest) refl refl refl refl refl refl refl refl)
 
--- number, part, member and section in turn are in the order of the names that they make
+-- two exceedances, compared by number, part, member and section in turn, compare as their names
 in_order : (a b c d : ℕ) (x y : List ℕ) (r s : Section) →
-    ordering_then (ordering_then (nat_cmp a c) (nat_cmp b d)) (ordering_then (name_cmp x y) (sections.cmp r s))
-    ≡ name_cmp (a ∷ b ∷ text_then x (section_number r ∷ [])) (c ∷ d ∷ text_then y (section_number s ∷ []))
+    ordering_then
+    (ordering_then (nat_cmp a c) (nat_cmp b d))
+    (ordering_then (name_cmp x y) (sections.cmp r s))
+    ≡ name_cmp
+    (a ∷ b ∷ text_then x (section_number r ∷ []))
+    (c ∷ d ∷ text_then y (section_number s ∷ []))
 in_order a b c d x y r s =
     then_assoc (nat_cmp a c) (nat_cmp b d) _
     ∙ ap (λ o. ordering_then (nat_cmp a c) (ordering_then (nat_cmp b d) o))
-    (ap (ordering_then (name_cmp x y)) (sections_order r s ∙ number_order (section_number r) (section_number s))
+    (ap (ordering_then (name_cmp x y))
+    (sections_order r s ∙ number_order (section_number r) (section_number s))
     ∙ text_order x y _ _)
 
 -- exceedances are in the order of their names
 pub exceedances_order : (a b : ExceedanceId) →
-    ghosts.cmp a b ≡ name_cmp (exceedance_name a.key a.crew a.section) (exceedance_name b.key b.crew b.section)
+    ghosts.cmp a b
+    ≡ name_cmp (exceedance_name a.key a.crew a.section) (exceedance_name b.key b.crew b.section)
 exceedances_order a b =
     in_order a.key.number a.key.part b.key.number b.key.part a.crew b.crew a.section b.section

@@ -1,4 +1,5 @@
--- Lists of commands: what they leave and what they are answered; imports; and books that are stopped and opened again.
+-- Lists of commands: what they leave and what they are answered; imports; and books that are
+-- stopped and opened again.
 use Rattle.std.specs.Prelude.{◌≡◌, ℕ, ◌+◌, ◌≤◌, List, [], ◌∷◌, map, length, take, Result, Ok, Err, ◌⊎◌}
 use Rattle.std.specs.List.{fold, enumerate_from}
 use Rattle.duty.specs.Plans.{Plan}
@@ -12,7 +13,7 @@ use Rattle.roster.specs.Steps.{step_of, after}
 use Rattle.roster.specs.declared.change.Verdict.{Verdict}
 use Rattle.roster.specs.declared.change.Verdict.TheVariants.{Repeat, Accept, Refuse}
 
--- what a command is answered
+-- what a command is answered: its reply, or why it is refused
 abbrev pub ReplyOrRefusal : Type 0
 ReplyOrRefusal = Result Reply Refusal
 
@@ -20,38 +21,41 @@ ReplyOrRefusal = Result Reply Refusal
 abbrev pub Asked : Type 0
 Asked = KeyParts × Instruction
 
--- what a verdict answers: a repeat is answered with the kept reply
+-- the answer that a verdict gives: a repeat gives the kept reply
 abbrev pub answer_of : Verdict → ReplyOrRefusal
 answer_of (Repeat reply) = Ok reply
 answer_of (Accept change reply) = Ok reply
 answer_of (Refuse refusal) = Err refusal
 
--- the state that a verdict leaves: only what is accepted changes it
+-- the state that a verdict leaves: only an accepted command changes it
 abbrev pub left_by : State → Verdict → State
 left_by s (Repeat reply) = s
 left_by s (Accept change reply) = after s change
 left_by s (Refuse refusal) = s
 
--- the state after one command
+-- the state that one command leaves, be it accepted or not
 abbrev pub next : State → Asked → State
 next s (key, instruction) = left_by s (step_of s key instruction)
 
--- the state after each command of a list in turn
+-- the state that the commands of a list leave, asked one after the other
 abbrev pub Fold : State → List Asked → State
 Fold s asked = fold next s asked
 
--- their answers in turn
+-- the answers to the commands of a list, asked one after the other
 abbrev pub Replies : State → List Asked → List ReplyOrRefusal
 Replies s [] = []
-Replies s ((key, instruction) ∷ asked) = answer_of (step_of s key instruction) ∷ Replies (next s (key, instruction)) asked
+Replies s ((key, instruction) ∷ asked) =
+    answer_of (step_of s key instruction) ∷ Replies (next s (key, instruction)) asked
 
--- an import as its commands: pairing i is added under part i
+-- the commands of an import: pairing i, counted from 1, is added under part i of the number
 abbrev pub import : ℕ → List Plan → List Asked
-import number plans = map (λ p. (record { number = number; part = p.0 }, AddPairing p.1)) (enumerate_from 1 plans)
+import number plans =
+    map (λ p. (record { number = number; part = p.0 }, AddPairing p.1)) (enumerate_from 1 plans)
 
--- a session of a book: the commands that were asked, how many of them were answered, and how many it left done. All were
--- answered, save perhaps the last, and all that were answered are done: the last alone, unanswered, may be done or not.
--- A command that was answered with want of memory changed nothing, and is no part of a session.
+-- a session of a book: the commands that were asked, how many of them were answered, and how many
+-- it left done. All were answered, save perhaps the last, and all that were answered are done: the
+-- last alone, unanswered, may be done or not. A command whose answer reports that the program is
+-- out of memory changed nothing, and is no part of a session.
 pub record Session : Type 0 where
   pub asked : List Asked
   pub answered : ℕ
@@ -60,6 +64,7 @@ pub record Session : Type 0 where
   pub answered_done : answered ≤ done
   pub asked_first : done ≤ length asked
 
--- what is left of a state after sessions that were stopped, each opened on what the one before it left
+-- what is left of a state after sessions that were stopped, each opened on what the session before
+-- it left
 abbrev pub Stopped : State → List Session → State
 Stopped s sessions = fold (λ s session. Fold s (take session.done session.asked)) s sessions

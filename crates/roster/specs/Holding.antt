@@ -1,4 +1,4 @@
--- Whose a pairing and a ground duty of the state are.
+-- Who holds a pairing, and whose a ground duty is.
 use Rattle.std.specs.Prelude.{◌≡◌, ◌↔◌, true, List, ℕ, Some}
 use Rattle.std.specs.FinMap as fin
 use Rattle.std.specs.List.{Contains}
@@ -14,8 +14,9 @@ IsHeldBy s who id = (r : PairingEntry) × (fin.get s.pairings id ≡ Some r) × 
 
 -- the ground duty of this id is the member's
 abbrev pub IsGroundOf : State → List ℕ → List ℕ → Type 0
-IsGroundOf s who id = (g : GroundPlan) × (fin.get s.grounds id ≡ Some g) × (bytes_eq g.crew who ≡ true)
+IsGroundOf s who id =
+    (g : GroundPlan) × (fin.get s.grounds id ≡ Some g) × (bytes_eq g.crew who ≡ true)
 
--- just the ids of which a fact holds
+-- the list has an id if and only if the fact holds of it
 abbrev pub AreJust : (List ℕ → Type 0) → List (List ℕ) → Type 0
 AreJust Is ids = (id : List ℕ) → Contains ids id ↔ Is id

@@ -29,77 +29,99 @@ use Rattle.roster.specs.declared.state.LoggedCommand.{LoggedCommand}
 
 -- ---- The order of refusals
 
--- the number of a refusal in a list
+-- the number of the refusal in a row of the list
 abbrev pub number_of : Row → ℕ
 number_of row = refusal_number row.0
 
--- the refusals of an instruction stand in the order of their numbers: the first that applies is the lowest-numbered
+-- the refusals of an instruction stand in the order of their numbers, so that the first that
+-- applies has the lowest number
 abbrev pub IsAscending : Type 0
-IsAscending = (s : State) (instruction : Instruction) → each_next nat_lt (map number_of (refusals s instruction)) ≡ true
+IsAscending = (s : State) (instruction : Instruction) →
+    each_next nat_lt (map number_of (refusals s instruction)) ≡ true
 
 -- ---- Assignments and limits
 
--- what a member who gains duties has then: the others, and the new ones
+-- the duties of a member who gains some: the others, which the member keeps, and the new ones
 pub record Gain : Type 0 where
   pub others : List DutyInForce
   pub new : List DutyInForce
 
--- of each member who gains duties by an assignment
+-- for each member who gains duties by an instruction, the member's other duties and the new ones
 abbrev pub gains : State → Instruction → List Gain
 gains s (Assign id who) = record { others = others s who no_place; new = duties_of s who id } ∷ []
-gains s (Swap w) = record { others = others s w.crew (the_pairing w.pairing); new = duties_of s w.crew w.other_pairing }
-    ∷ record { others = others s w.other_crew (the_pairing w.other_pairing); new = duties_of s w.other_crew w.pairing }
+gains s (Swap w) =
+    record {
+      others = others s w.crew (the_pairing w.pairing);
+      new = duties_of s w.crew w.other_pairing;
+    }
+    ∷ record {
+      others = others s w.other_crew (the_pairing w.other_pairing);
+      new = duties_of s w.other_crew w.pairing;
+    }
     ∷ []
-gains s (AddGround g) = record { others = others s g.crew no_place; new = (ground_at (g.id, g)).1 ∷ [] } ∷ []
+gains s (AddGround g) =
+    record { others = others s g.crew no_place; new = (ground_at (g.id, g)).1 ∷ [] } ∷ []
 gains s instruction = []
 
--- a section's rule is broken by the new duties, in some window of minutes
+-- the new duties break a section's rule beside the others, in some window of minutes
 abbrev pub IsBroken : Gain → Section → Type 0
 IsBroken gain section = Rule section (gain.others ++ gain.new) gain.new
 
--- the key is free, and no refusal of the instruction but that for limits (12) applies
+-- the key is free, and no refusal of the instruction applies, but perhaps that for limits (12)
 pub record PassesChecks (s : State) (key : KeyParts) (instruction : Instruction) : Type 0 where
   pub free : fin.get s.requests (key_name key) ≡ None
-  pub passes : (row : Row) → Contains (refusals s instruction) row → (number_of row ≡ 12 → ⊥) → row.1 ≡ false
+  pub passes : (row : Row) → Contains (refusals s instruction) row → (number_of row ≡ 12 → ⊥) →
+      row.1 ≡ false
 
--- an instruction that gives members duties: an assign, a swap, or a new ground duty
+-- the instruction gives members duties: it is an assign, a swap, or a new ground duty
 abbrev pub is_assignment : Instruction → Bool
 is_assignment (Assign _ _) = true
 is_assignment (Swap _) = true
 is_assignment (AddGround _) = true
 is_assignment instruction = false
 
--- the step of the instruction under the key is an acceptance
+-- the book accepts the instruction under the key
 abbrev pub IsAccepted : State → KeyParts → Instruction → Type 0
-IsAccepted s key instruction = (change : Change) × (reply : Reply) × (step_of s key instruction ≡ Accept change reply)
+IsAccepted s key instruction =
+    (change : Change) × (reply : Reply) × (step_of s key instruction ≡ Accept change reply)
 
--- an assignment that passes the book's own checks is accepted exactly where it breaks no limit in any window of minutes
+-- an assignment that passes the book's own checks is accepted if and only if it breaks no limit in
+-- any window of minutes
 abbrev pub AcceptedWithinLimits : Type 0
-AcceptedWithinLimits = (s : State) (key : KeyParts) (instruction : Instruction) → is_assignment instruction ≡ true → PassesChecks s key instruction →
-    IsAccepted s key instruction ↔ ((gain : Gain) → Contains (gains s instruction) gain → (section : Section) → IsBroken gain section → ⊥)
+AcceptedWithinLimits = (s : State) (key : KeyParts) (instruction : Instruction) →
+    is_assignment instruction ≡ true → PassesChecks s key instruction →
+    IsAccepted s key instruction
+    ↔ ((gain : Gain) → Contains (gains s instruction) gain →
+    (section : Section) → IsBroken gain section → ⊥)
 
 -- ---- The limits that are listed
 
--- an exceedance is listed exactly where it is the member's and the new duties break its section's rule
+-- an exceedance is listed if and only if it is the member's and the new duties break the rule of
+-- its section
 abbrev pub ListsBroken : Type 0
 ListsBroken = (who : List ℕ) (gain : Gain) (e : Exceedance) →
     Contains (broken_by who gain.others gain.new) e ↔ ((e.crew ≡ who) × IsBroken gain e.section)
 
--- and the list is in the sections' order, each of them once at most
+-- the exceedances of a list stand in the order of their sections, each section at most once
 abbrev pub ListsInOrder : Type 0
-ListsInOrder = (who : List ℕ) (gain : Gain) → AreInOrder (map (λ e. e.section) (broken_by who gain.others gain.new))
+ListsInOrder = (who : List ℕ) (gain : Gain) →
+    AreInOrder (map (λ e. e.section) (broken_by who gain.others gain.new))
 
 -- ---- Sound and honest books
 
 -- an accepted command leaves a sound book sound
 abbrev pub KeepsSound : Type 0
-KeepsSound = (s : State) (key : KeyParts) (instruction : Instruction) (change : Change) (reply : Reply) → IsMade instruction → Sound s →
+KeepsSound =
+    (s : State) (key : KeyParts) (instruction : Instruction) (change : Change) (reply : Reply) →
+    IsMade instruction → Sound s →
     step_of s key instruction ≡ Accept change reply → Sound (after s change)
 
 -- an accepted command leaves an honest book honest
 abbrev pub KeepsHonest : Type 0
-KeepsHonest = (s : State) (key : KeyParts) (instruction : Instruction) (change : Change) (reply : Reply) → IsMade instruction → Sound s →
-    Honest s → step_of s key instruction ≡ Accept change reply → Honest (after s change)
+KeepsHonest =
+    (s : State) (key : KeyParts) (instruction : Instruction) (change : Change) (reply : Reply) →
+    IsMade instruction → Sound s → Honest s →
+    step_of s key instruction ≡ Accept change reply → Honest (after s change)
 
 -- each command of the list is one that `Command::new` makes
 abbrev pub AreMade : List Asked → Type 0
@@ -111,37 +133,41 @@ StaysSound = (s : State) (asked : List Asked) → AreMade asked → Sound s → 
 
 -- a list of commands leaves an honest book honest
 abbrev pub StaysHonest : Type 0
-StaysHonest = (s : State) (asked : List Asked) → AreMade asked → Sound s → Honest s → Honest (Fold s asked)
+StaysHonest = (s : State) (asked : List Asked) → AreMade asked → Sound s → Honest s →
+    Honest (Fold s asked)
 
 -- a book without anything is sound and honest
 abbrev pub StartsSound : Type 0
 StartsSound = (zone : List ℕ) → Sound (empty zone) × Honest (empty zone)
 
--- and so is every book that commands made of one
+-- a book that commands made of a book without anything is sound and honest
 abbrev pub MadeByCommands : Type 0
 MadeByCommands = (zone : List ℕ) (asked : List Asked) → AreMade asked →
     Sound (Fold (empty zone) asked) × Honest (Fold (empty zone) asked)
 
 -- an exceedance that was recorded stays for good
 abbrev pub KeepsRecords : Type 0
-KeepsRecords = (s : State) (asked : List Asked) → AreMade asked → Sound s → (name : List ℕ) (period : PeriodId) →
-    fin.get s.exceedances name ≡ Some period → fin.get (Fold s asked).exceedances name ≡ Some period
+KeepsRecords = (s : State) (asked : List Asked) → AreMade asked → Sound s →
+    (name : List ℕ) (period : PeriodId) → fin.get s.exceedances name ≡ Some period →
+    fin.get (Fold s asked).exceedances name ≡ Some period
 
 -- ---- Requests act once
 
 -- a key that is held stays held, with its command and reply, whatever is asked
 abbrev pub KeepsRequests : Type 0
 KeepsRequests = (s : State) (key : KeyParts) (request : LoggedCommand) (asked : List Asked) →
-    fin.get s.requests (key_name key) ≡ Some request → fin.get (Fold s asked).requests (key_name key) ≡ Some request
+    fin.get s.requests (key_name key) ≡ Some request →
+    fin.get (Fold s asked).requests (key_name key) ≡ Some request
 
--- a command is answered with a kept reply, and changes nothing, exactly where its key holds it with that reply
+-- a command is answered with a kept reply, and changes nothing, if and only if its key holds it
+-- with that reply
 abbrev pub Repeats : Type 0
 Repeats = (s : State) (key : KeyParts) (instruction : Instruction) (reply : Reply) →
     (step_of s key instruction ≡ Repeat reply)
     ↔ (fin.get s.requests (key_name key) ≡ Some (record { command = instruction; reply = reply }))
 
--- an import that was stopped after some of its commands, and begun again, any number of times, ends when it is handed in
--- once more as if it had never been stopped
+-- an import that was stopped after some of its commands, and begun again, any number of times, ends
+-- when it is handed in once more as if it had never been stopped
 abbrev pub Resumes : Type 0
 Resumes = (s : State) (number : ℕ) (plans : List Plan) (stops : List ℕ) →
     let commands = import number plans in

@@ -8,33 +8,38 @@ use Rattle.command.specs.declared.member.Seat.{Seat}
 use Rattle.command.specs.declared.member.Seat.TheVariants.{Captain, FirstOfficer}
 use Rattle.roster.specs.declared.state.PairingEntry.{PairingEntry}
 
--- a plan of which both seats are free and no period is flown
+-- the entry of a plan of which both seats are free and no period is flown
 abbrev pub unheld : Plan → PairingEntry
-unheld plan = record { plan = plan; actuals = map (λ _. None) plan.periods; captain = None; first_officer = None }
+unheld plan = record {
+  plan = plan;
+  actuals = map (λ _. None) plan.periods;
+  captain = None;
+  first_officer = None;
+}
 
--- some period has an actual
+-- some period of the pairing has an actual
 abbrev pub is_flown : PairingEntry → Bool
 is_flown r = list_any is_some r.actuals
 
--- who holds a seat
+-- who holds a seat of the pairing, if it is held
 abbrev pub holder : Seat → PairingEntry → Option (List ℕ)
 holder Captain r = r.captain
 holder FirstOfficer r = r.first_officer
 
--- the pairing with this holder of the seat, or none
+-- the pairing with this holder of a seat, or with the seat free
 abbrev pub with_holder : Seat → Option (List ℕ) → PairingEntry → PairingEntry
 with_holder Captain who r = record r { captain = who }
 with_holder FirstOfficer who r = record r { first_officer = who }
 
--- a seat is held
+-- a seat of the pairing is held
 abbrev pub is_crewed : PairingEntry → Bool
 is_crewed r = is_some r.captain || is_some r.first_officer
 
--- both seats are held
+-- both seats of the pairing are held
 abbrev pub is_fully_crewed : PairingEntry → Bool
 is_fully_crewed r = is_some r.captain && is_some r.first_officer
 
--- the holder is this member
+-- a seat is held, and its holder is this member
 abbrev pub is_held_by : List ℕ → Option (List ℕ) → Bool
 is_held_by who None = false
 is_held_by who (Some other) = bytes_eq other who
@@ -48,6 +53,6 @@ abbrev pub flown : Fdp × Option ActualTimes → Fdp
 flown (fdp, None) = fdp
 flown (fdp, Some actual) = flown_at fdp actual
 
--- the periods in turn, with their times in force
+-- the periods of a pairing in turn, with their times in force
 abbrev pub periods_in_force : PairingEntry → List Fdp
 periods_in_force r = map flown (zip r.plan.periods r.actuals)

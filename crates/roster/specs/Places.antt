@@ -12,31 +12,38 @@ use Rattle.duty.specs.declared.placed_duty.Duty.TheVariants as duty
 use Rattle.roster.specs.Pairings.{holds, periods_in_force}
 use Rattle.roster.specs.State.{State, zone_of}
 use Rattle.roster.specs.declared.state.PairingEntry.{PairingEntry}
+use Rattle.roster.specs.declared.state.PeriodId.{PeriodId}
 
--- a period of a pairing, counted from 1, or a ground duty
+-- the place of a duty: a period of a pairing, counted from 1, or a ground duty
 pub data Place : Type 0 where
   period : List ℕ → ℕ → Place
   on_ground : List ℕ → Place
+
+-- the place of the period that an exceedance names
+abbrev pub place_of : PeriodId → Place
+place_of p = period p.pairing p.number
 
 -- a duty in force at its place
 abbrev pub Placed : Type 0
 Placed = Place × DutyInForce
 
--- the periods of a pairing, the first of them number n
+-- these periods of a pairing in force, at their places, the first of them number n
 abbrev pub numbered : List ℕ → List ℕ → ℕ → List Fdp → List Placed
-numbered zone id n fdps = map (λ p. (period id p.0, in_force zone (duty.Fdp p.1))) (enumerate_from n fdps)
+numbered zone id n fdps =
+    map (λ p. (period id p.0, in_force zone (duty.Fdp p.1))) (enumerate_from n fdps)
 
 -- the periods of a pairing in force, at their places
 abbrev pub periods_at : List ℕ → List ℕ × PairingEntry → List Placed
 periods_at zone (id, r) = numbered zone id 1 (periods_in_force r)
 
--- a ground duty, from its begin to its end: it is the same in every zone
+-- a ground duty at its place, from its begin to its end: it is the same in every zone
 abbrev pub ground_at : List ℕ × GroundPlan → Placed
 ground_at (id, g) = (on_ground id, times.Ground (record { from = g.begin; to = g.end }))
 
 -- the periods of the pairings that a member holds, at their places
 abbrev pub periods_of : State → List ℕ → List Placed
-periods_of s who = flat_map (periods_at (zone_of s who)) (filter (λ row. holds who row.1) (fin.entries s.pairings))
+periods_of s who =
+    flat_map (periods_at (zone_of s who)) (filter (λ row. holds who row.1) (fin.entries s.pairings))
 
 -- the ground duties of a member, at their places
 abbrev pub grounds_of : State → List ℕ → List Placed
@@ -46,30 +53,30 @@ grounds_of s who = map ground_at (filter (λ row. bytes_eq row.1.crew who) (fin.
 abbrev pub history_of : State → List ℕ → List Placed
 history_of s who = periods_of s who ++ grounds_of s who
 
--- the duties at the places
+-- the duties of a list, without their places
 abbrev pub duties : List Placed → List DutyInForce
 duties placed = map (λ p. p.1) placed
 
--- ---- Which of them are left out where new duties are judged beside a member's others
+-- ---- The places that are left out of a member's duties where new duties are judged beside them
 
--- none of them
+-- no place is left out
 abbrev pub no_place : Place → Bool
 no_place place = false
 
--- the periods of a pairing
+-- the place is a period of this pairing
 abbrev pub the_pairing : List ℕ → Place → Bool
 the_pairing id (period pairing number) = bytes_eq id pairing
 the_pairing id (on_ground _) = false
 
--- one period
+-- the place is this period of this pairing
 abbrev pub the_period : List ℕ → ℕ → Place → Bool
 the_period id number (period pairing n) = bytes_eq id pairing && number == n
 the_period id number (on_ground _) = false
 
--- the duties at the places that are not left out
+-- the duties of a list, but for the places that are left out
 abbrev pub all_but : (Place → Bool) → List Placed → List DutyInForce
 all_but out placed = duties (filter (λ p. not (out p.0)) placed)
 
--- a member's other duties
+-- the duties of a member, but for the places that are left out
 abbrev pub others : State → List ℕ → (Place → Bool) → List DutyInForce
 others s who out = all_but out (history_of s who)

@@ -1,6 +1,7 @@
--- When the book refuses an instruction. For each instruction its refusals are listed in the order of their numbers, each beside the
--- fact that makes it apply; the first that applies is the answer. Each fact makes sense in any state: a pairing that
--- isn't there has no seat that is held and no periods, and a member who isn't there holds nothing.
+-- When the book refuses an instruction. For each instruction its refusals are listed in the order
+-- of their numbers, each beside the fact that makes it apply; the first that applies is the answer.
+-- Each fact makes sense in any state: a pairing that isn't there has no seat that is held and no
+-- periods, and a member who isn't there holds nothing.
 use Rattle.std.specs.Prelude.{ℕ, ◌-◌, ◌==◌, Bool, false, not, ◌&&◌, ◌||◌, nat_lt, List, [], ◌∷◌, ◌++◌, map, length, Option, is_some, is_none, slice_get}
 use Rattle.std.specs.FinMap as fin
 use Rattle.std.specs.List.{find}
@@ -35,16 +36,21 @@ is_pairing s id = fin.contains_key s.pairings id
 abbrev pub is_ground : State → List ℕ → Bool
 is_ground s id = fin.contains_key s.grounds id
 
--- the members are there, and of different kinds
+-- both members are there, and they take seats of different kinds
 abbrev pub are_of_two_kinds : State → List ℕ → List ℕ → Bool
 are_of_two_kinds s who other =
-    option_map_or (λ m. option_map_or (λ n. not (seats.eq m.seat n.seat)) (fin.get s.crew other) false) (fin.get s.crew who) false
+    option_map_or
+    (λ m. option_map_or (λ n. not (seats.eq m.seat n.seat)) (fin.get s.crew other) false)
+    (fin.get s.crew who) false
 
--- who holds the seat of the member's kind in the pairing
+-- who holds the seat of the pairing that is of the member's kind
 abbrev pub holder_of_own_seat : State → List ℕ → List ℕ → Option (List ℕ)
-holder_of_own_seat s id who = option_and_then (λ r. option_and_then (λ m. holder m.seat r) (fin.get s.crew who)) (fin.get s.pairings id)
+holder_of_own_seat s id who =
+    option_and_then (λ r. option_and_then (λ m. holder m.seat r) (fin.get s.crew who))
+    (fin.get s.pairings id)
 
--- the member holds the seat of the own kind: in a sound state, holds the pairing
+-- the member holds the seat of the pairing that is of the member's kind: in a sound state, the
+-- member holds the pairing
 abbrev pub is_assigned : State → List ℕ → List ℕ → Bool
 is_assigned s id who = is_held_by who (holder_of_own_seat s id who)
 
@@ -60,22 +66,28 @@ has_free_seat s id = option_map_or (λ r. not (is_fully_crewed r)) (fin.get s.pa
 abbrev pub has_flown : State → List ℕ → Bool
 has_flown s id = option_map_or is_flown (fin.get s.pairings id) false
 
--- a period as it is planned, by its number from 1
+-- a period of the pairing as it is planned, by its number from 1
 abbrev pub planned : State → List ℕ → ℕ → Option Fdp
-planned s id number = option_and_then (λ r. slice_get r.plan.periods (number - 1)) (fin.get s.pairings id)
+planned s id number =
+    option_and_then (λ r. slice_get r.plan.periods (number - 1)) (fin.get s.pairings id)
 
--- the actual has another number of segments than its period
+-- the actual has more or fewer segments than its period
 abbrev pub is_miscounted : State → List ℕ → ActualTimes → Bool
-is_miscounted s id a = option_map_or (λ fdp. not (length fdp.segments == length a.segments)) (planned s id a.period) false
+is_miscounted s id a =
+    option_map_or (λ fdp. not (length fdp.segments == length a.segments))
+    (planned s id a.period) false
 
 -- what a pairing gives a member: its duties in force, placed in the member's zone
 abbrev pub duties_of : State → List ℕ → List ℕ → List DutyInForce
-duties_of s who id = option_map_or (λ r. duties (periods_at (zone_of s who) (id, r))) (fin.get s.pairings id) []
+duties_of s who id =
+    option_map_or (λ r. duties (periods_at (zone_of s who) (id, r))) (fin.get s.pairings id) []
 
--- the limits that a member's new duties break, after the member's others: the sections whose rule they break, in order.
--- That is a law, `broken_by_is_rules`; of `Broken` itself it is `broken_is_rules` of `limits` (Meaning.antt there)
+-- the limits that a member's new duties break, after the member's others: the sections whose rule
+-- they break, in order. That is a law, `broken_by_is_rules`; of `Broken` itself it is
+-- `broken_is_rules` of `limits` (Meaning.antt there)
 unfoldable pub broken_by : List ℕ → List DutyInForce → List DutyInForce → List Exceedance
-broken_by who others new = map (λ section. record { crew = who; section = section }) (Broken (others ++ new) new)
+broken_by who others new =
+    map (λ section. record { crew = who; section = section }) (Broken (others ++ new) new)
 
 -- ---- The refusals of each instruction
 
@@ -83,12 +95,12 @@ broken_by who others new = map (λ section. record { crew = who; section = secti
 abbrev pub Row : Type 0
 Row = Refusal × Bool
 
--- the list of limits, where it isn't empty
+-- the refusal for limits (12), which applies if some limit is broken
 abbrev pub over_limits : List Exceedance → Row
 over_limits broken = (Limits broken, nat_lt 0 (length broken))
 
--- of a swap, by the duties that each pairing gives the member who takes it: each member loses the own pairing, and the
--- other's duties are new
+-- the refusals of a swap for overlap and limits, by the duties that each pairing gives the member
+-- who takes it: each member loses the own pairing, and the duties of the other's pairing are new
 abbrev pub trade_rows : State → swap.Swap → List DutyInForce → List DutyInForce → List Row
 trade_rows s w given taken =
     let rest = others s w.crew (the_pairing w.pairing) in
@@ -122,7 +134,10 @@ refusals s (Swap w) =
     (NoSuchCrew, not (is_member s w.crew && is_member s w.other_crew))
     ∷ (NoSuchPairing, not (is_pairing s w.pairing && is_pairing s w.other_pairing))
     ∷ (WrongSeat, are_of_two_kinds s w.crew w.other_crew)
-    ∷ (NotAssigned, not (is_assigned s w.pairing w.crew && is_assigned s w.other_pairing w.other_crew))
+    ∷ (
+      NotAssigned,
+      not (is_assigned s w.pairing w.crew && is_assigned s w.other_pairing w.other_crew),
+    )
     ∷ (Flown, has_flown s w.pairing || has_flown s w.other_pairing)
     ∷ trade_rows s w (duties_of s w.other_crew w.pairing) (duties_of s w.crew w.other_pairing)
 refusals s (AddGround g) =
@@ -140,7 +155,7 @@ refusals s (Actual id a) =
     ∷ (SegmentCount a.period, is_miscounted s id a)
     ∷ []
 
--- the first that applies
+-- the first refusal of a list that applies
 abbrev pub first_of : List Row → Option Refusal
 first_of rows = option_map (λ row. row.0) (find (λ row. row.1) rows)
 

@@ -1,5 +1,6 @@
--- A sound state: every name in it, save inside kept commands and replies, names something, and its pairings, actuals and
--- ground duties keep their orders. Exceedances and kept commands stand under what they are known by, and nothing else does.
+-- A sound state: every name in it, save inside kept commands and replies, names something, and its
+-- pairings, actuals and ground duties keep their orders. Exceedances and kept commands stand under
+-- what they are known by, and nothing else does.
 use Rattle.std.specs.Prelude.{◌≡◌, ℕ, ◌+◌, ◌<◌, true, List, map, length, Option, Some, None, slice_get}
 use Rattle.std.specs.FinMap as fin
 use Rattle.values.specs.Name.{name_cmp}
@@ -22,11 +23,13 @@ use Rattle.roster.specs.declared.state.PairingEntry.{PairingEntry}
 abbrev pub Crew : Type 0
 Crew = fin.FinMap name_cmp Member
 
--- a holder is a member of the seat's kind
+-- the holder of a seat, if there is one, is a member of the seat's kind
 abbrev pub IsHolder : Crew → Seat → Option (List ℕ) → Type 0
-IsHolder crew seat holder = (who : List ℕ) → holder ≡ Some who → (m : Member) × (fin.get crew who ≡ Some m) × (m.seat ≡ seat)
+IsHolder crew seat holder = (who : List ℕ) → holder ≡ Some who →
+    (m : Member) × (fin.get crew who ≡ Some m) × (m.seat ≡ seat)
 
--- an actual at place i, counted from 0, is of that period of the plan, with as many segments, in order
+-- an actual at place i, counted from 0, is of that period of the plan, has as many segments, and
+-- keeps the order of its times
 pub record IsActual (plan : Plan) (i : ℕ) (a : ActualTimes) : Type 0 where
   pub fdp : Fdp
   pub planned : slice_get plan.periods i ≡ Some fdp
@@ -34,7 +37,8 @@ pub record IsActual (plan : Plan) (i : ℕ) (a : ActualTimes) : Type 0 where
   pub count : length fdp.segments ≡ length a.segments
   pub in_order : actual_fault a ≡ None
 
--- a pairing keeps the order of its plan, its holders are members, and each actual is of one of its periods
+-- a pairing keeps the order of its plan, its holders are members, and each actual is of one of its
+-- periods
 pub record SoundPairing (crew : Crew) (id : List ℕ) (r : PairingEntry) : Type 0 where
   pub named : r.plan.id ≡ id
   -- a plan that `Pairing::new` makes
@@ -44,7 +48,8 @@ pub record SoundPairing (crew : Crew) (id : List ℕ) (r : PairingEntry) : Type 
   pub first_officer : IsHolder crew FirstOfficer r.first_officer
   -- a place for the actual of each period
   pub places : length r.actuals ≡ length r.plan.periods
-  pub actuals : (i : ℕ) (a : ActualTimes) → slice_get r.actuals i ≡ Some (Some a) → IsActual r.plan i a
+  pub actuals : (i : ℕ) (a : ActualTimes) → slice_get r.actuals i ≡ Some (Some a) →
+      IsActual r.plan i a
   -- both seats of a flown pairing are held
   pub crewed : is_flown r ≡ true → is_fully_crewed r ≡ true
 
@@ -55,7 +60,8 @@ pub record SoundGround (crew : Crew) (id : List ℕ) (g : GroundPlan) : Type 0 w
   pub of_member : fin.get crew g.crew ≡ Some member
   pub begins : g.begin < g.end
 
--- an exceedance is known by a key that is held, a member and a section, and is of a period with an actual
+-- an exceedance is known by a key that is held, a member and a section, and is of a period that has
+-- an actual
 pub record SoundExceedance (s : State) (name : List ℕ) (p : PeriodId) : Type 0 where
   pub key : KeyParts
   pub crew : List ℕ
@@ -80,7 +86,11 @@ pub record SoundRequest (name : List ℕ) (request : LoggedCommand) : Type 0 whe
 
 -- each pairing, ground duty, exceedance and kept command is sound
 pub record Sound (s : State) : Type 0 where
-  pub pairings : (id : List ℕ) (r : PairingEntry) → fin.get s.pairings id ≡ Some r → SoundPairing s.crew id r
-  pub grounds : (id : List ℕ) (g : GroundPlan) → fin.get s.grounds id ≡ Some g → SoundGround s.crew id g
-  pub exceedances : (name : List ℕ) (p : PeriodId) → fin.get s.exceedances name ≡ Some p → SoundExceedance s name p
-  pub requests : (name : List ℕ) (r : LoggedCommand) → fin.get s.requests name ≡ Some r → SoundRequest name r
+  pub pairings : (id : List ℕ) (r : PairingEntry) → fin.get s.pairings id ≡ Some r →
+      SoundPairing s.crew id r
+  pub grounds : (id : List ℕ) (g : GroundPlan) → fin.get s.grounds id ≡ Some g →
+      SoundGround s.crew id g
+  pub exceedances : (name : List ℕ) (p : PeriodId) → fin.get s.exceedances name ≡ Some p →
+      SoundExceedance s name p
+  pub requests : (name : List ℕ) (r : LoggedCommand) → fin.get s.requests name ≡ Some r →
+      SoundRequest name r

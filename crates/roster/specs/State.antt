@@ -7,16 +7,17 @@ use Rattle.limits.specs.SectionText.{section_number}
 use Rattle.command.specs.Keys.{KeyParts}
 use Rattle.roster.specs.declared.state.Roster.{Roster}
 
--- the acclimated zone by its rule text; members, pairings and ground duties under their ids; exceedances under key,
--- member and section; and under its key each accepted command with its reply
+-- what the book holds: the acclimated zone by its rule text; members, pairings and ground duties
+-- under their ids; exceedances under key, member and section; and under its key each accepted
+-- command with its reply
 abbrev pub State : Type 0
 State = Roster
 
--- the zone in which a member's duties are placed: the book's
+-- the zone in which a member's duties are placed is the zone of the book
 abbrev pub zone_of : State → List ℕ → List ℕ
 zone_of s who = s.zone
 
--- nothing but the zone
+-- the state that has this zone, and nothing else
 abbrev pub empty : List ℕ → State
 empty zone = record {
   zone = zone;
@@ -27,6 +28,7 @@ empty zone = record {
   requests = fin.empty;
 }
 
--- the name of an exceedance: so exceedances are in the order of number, part, member and section
+-- the name of an exceedance: the order of names is that of number, part, member and section
 abbrev pub exceedance_name : KeyParts → List ℕ → Section → List ℕ
-exceedance_name key crew section = key.number ∷ key.part ∷ text_then crew (section_number section ∷ [])
+exceedance_name key crew section =
+    key.number ∷ key.part ∷ text_then crew (section_number section ∷ [])

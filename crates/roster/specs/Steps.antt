@@ -29,35 +29,43 @@ use Rattle.roster.specs.declared.state.PairingEntry.{PairingEntry}
 
 -- ---- Seats
 
--- the seat of the member's kind in the pairing gets this holder, or none
+-- the change by which the seat of the member's kind in the pairing gets this holder, or is freed
 abbrev pub seat_change : State → List ℕ → List ℕ → Option (List ℕ) → List SeatChange
 seat_change s id who new =
-    option_map_or (λ m. record { pairing = id; seat = m.seat; holder = new } ∷ []) (fin.get s.crew who) []
+    option_map_or (λ m. record { pairing = id; seat = m.seat; holder = new } ∷ [])
+    (fin.get s.crew who) []
 
--- the seats that get or lose a holder
+-- the seats that get or lose a holder by an instruction
 abbrev pub seats_of : State → Instruction → List SeatChange
 seats_of s (Assign id who) = seat_change s id who (Some who)
 seats_of s (Release id who) = seat_change s id who None
 seats_of s (Swap w) =
-    seat_change s w.pairing w.crew (Some w.other_crew) ++ seat_change s w.other_pairing w.other_crew (Some w.crew)
+    seat_change s w.pairing w.crew (Some w.other_crew)
+    ++ seat_change s w.other_pairing w.other_crew (Some w.crew)
 seats_of s instruction = []
 
 -- ---- Exceedances
 
--- the period with its new times, as a member's new duty
+-- the period with the times of an actual, as a new duty of a member
 abbrev pub flown_duty : State → List ℕ → List ℕ → ActualTimes → List DutyInForce
 flown_duty s who id a =
-    option_map_or (λ fdp. in_force (zone_of s who) (duty.Fdp (flown_at fdp a)) ∷ []) (planned s id a.period) []
+    option_map_or (λ fdp. in_force (zone_of s who) (duty.Fdp (flown_at fdp a)) ∷ [])
+    (planned s id a.period) []
 
--- what a holder breaks by the new times: which limits are listed is the law `broken_by_is_rules`
+-- the exceedances of a holder of the pairing by the times of an actual: the law
+-- `broken_by_is_rules` says which limits are listed
 abbrev pub broken_by_holder : State → List ℕ → ActualTimes → Option (List ℕ) → List Exceedance
 broken_by_holder s id a holder =
-    option_map_or (λ who. broken_by who (others s who (the_period id a.period)) (flown_duty s who id a)) holder []
+    option_map_or
+    (λ who. broken_by who (others s who (the_period id a.period)) (flown_duty s who id a))
+    holder []
 
--- the exceedances that an instruction records: an actual's, the captain's first
+-- the exceedances that an instruction records: only an actual records some, the captain's first
 unfoldable pub recorded_by : State → Instruction → List Exceedance
-recorded_by s (Actual id a) = option_map_or
-    (λ r. broken_by_holder s id a r.captain ++ broken_by_holder s id a r.first_officer) (fin.get s.pairings id) []
+recorded_by s (Actual id a) =
+    option_map_or
+    (λ r. broken_by_holder s id a r.captain ++ broken_by_holder s id a r.first_officer)
+    (fin.get s.pairings id) []
 recorded_by s instruction = []
 
 -- ---- The answer
@@ -71,43 +79,49 @@ change_of s key instruction = record {
   seats = seats_of s instruction;
 }
 
--- under a free key: refused, or accepted
+-- the verdict under a free key: the instruction is refused if a refusal applies, else accepted
 abbrev pub judged : State → KeyParts → Instruction → Option Refusal → Verdict
 judged s key instruction (Some refusal) = Refuse refusal
-judged s key instruction None = Accept (change_of s key instruction) (record { exceedances = recorded_by s instruction })
+judged s key instruction None =
+    Accept (change_of s key instruction) (record { exceedances = recorded_by s instruction })
 
--- a kept command is repeated, and no other takes its key
+-- the verdict by what the key holds: the command that it holds is repeated, and no other command
+-- takes a key that is held
 abbrev pub answered : State → KeyParts → Instruction → Option LoggedCommand → Verdict
-answered s key instruction (Some kept) = if commands.eq kept.command instruction then Repeat kept.reply else Refuse NumberUsed
+answered s key instruction (Some kept) =
+    if commands.eq kept.command instruction then Repeat kept.reply else Refuse NumberUsed
 answered s key instruction None = judged s key instruction (refusal_of s instruction)
 
--- what a command is answered under a key, by what the key holds
+-- the verdict on an instruction that is asked under a key
 unfoldable pub step_of : State → KeyParts → Instruction → Verdict
 step_of s key instruction = answered s key instruction (fin.get s.requests (key_name key))
 
--- a command is accepted only under a free key
+-- the verdict accepts no command under a key that is held
 abbrev pub IsUnderFreeKey : State → Verdict → Type 0
 IsUnderFreeKey s (Accept change reply) = fin.get s.requests (key_name change.key) ≡ None
 IsUnderFreeKey s verdict = Unit {0}
 
 -- ---- The next state
 
--- the seats get their holders
-abbrev pub reseated : fin.FinMap name_cmp PairingEntry → SeatChange → fin.FinMap name_cmp PairingEntry
+-- the pairings after one seat got its new holder, or was freed
+abbrev pub reseated :
+    fin.FinMap name_cmp PairingEntry → SeatChange → fin.FinMap name_cmp PairingEntry
 reseated pairings seat = changed_at pairings seat.pairing (with_holder seat.seat seat.holder)
 
--- the times of a period replace the plan's or an earlier actual's
+-- the pairing with this actual of a period, in the place of any earlier one
 abbrev pub with_actual : ActualTimes → PairingEntry → PairingEntry
 with_actual a r = record r { actuals = slice_set r.actuals (a.period - 1) (Some a) }
 
--- the exceedances with one more of the period
-abbrev pub recorded : KeyParts → PeriodId → fin.FinMap name_cmp PeriodId → Exceedance → fin.FinMap name_cmp PeriodId
+-- the exceedances with one more, which names this period
+abbrev pub recorded :
+    KeyParts → PeriodId → fin.FinMap name_cmp PeriodId → Exceedance → fin.FinMap name_cmp PeriodId
 recorded key period records e = fin.insert records (exceedance_name key e.crew e.section) period
 
--- what an accepted instruction leaves
+-- the state that an accepted instruction leaves, before its key holds it
 abbrev pub effect : State → Change → Instruction → State
 effect s change (AddCrew who member) = record s { crew = fin.insert s.crew who member }
-effect s change (AddPairing plan) = record s { pairings = fin.insert s.pairings plan.id (unheld plan) }
+effect s change (AddPairing plan) =
+    record s { pairings = fin.insert s.pairings plan.id (unheld plan) }
 effect s change (CancelPairing id) = record s { pairings = fin.remove s.pairings id }
 effect s change (Assign id who) = record s { pairings = fold reseated s.pairings change.seats }
 effect s change (Release id who) = record s { pairings = fold reseated s.pairings change.seats }
@@ -116,15 +130,19 @@ effect s change (AddGround g) = record s { grounds = fin.insert s.grounds g.id g
 effect s change (CancelGround id) = record s { grounds = fin.remove s.grounds id }
 effect s change (Actual id a) = record s {
   pairings = changed_at s.pairings id (with_actual a);
-  exceedances = fold (recorded change.key (record { pairing = id; number = a.period })) s.exceedances change.reply.exceedances;
+  exceedances =
+      fold (recorded change.key (record { pairing = id; number = a.period }))
+      s.exceedances change.reply.exceedances;
 }
 
--- and its key holds it with its reply
+-- the state in which the key of a change holds its command with its reply
 abbrev pub kept : State → Change → State
 kept s change = record s {
-  requests = fin.insert s.requests (key_name change.key) (record { command = change.command; reply = change.reply });
+  requests =
+      fin.insert s.requests (key_name change.key)
+      (record { command = change.command; reply = change.reply });
 }
 
--- the state that an accepted command leaves: its effect, and its key holds it
+-- the state that an accepted command leaves: with its effect, and with its key holding it
 unfoldable pub after : State → Change → State
 after s change = kept (effect s change change.command) change

@@ -6,7 +6,7 @@ pub fn refusals_ascend()
     ensures { IsAscending }
 {}
 
-/// An assign, a swap or a ground duty that passes the book's own checks is accepted exactly where it breaks no limit in
+/// An assign, a swap or a ground duty that passes the book's own checks is accepted if and only if it breaks no limit in
 /// any window of minutes.
 pub fn accepted_within_limits()
     ensures { AcceptedWithinLimits }
@@ -58,7 +58,7 @@ pub fn keeps_requests()
     ensures { KeepsRequests }
 {}
 
-/// A command is answered with a kept reply exactly where its key holds it with that reply.
+/// A command is answered with a kept reply if and only if its key holds it with that reply.
 pub fn repeats()
     ensures { Repeats }
 {}
