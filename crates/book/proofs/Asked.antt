@@ -1,20 +1,22 @@
 -- From what one command did to what is told of it.
-use Rattle.std.proofs.Common.{◌≡◌, ◌≤◌, arith, inl, inr, refl, sym, ap, subst, ◌∙◌, false, IsTrue, Result, Ok, Err, OnOk, OnErr, IfOk}
+use Rattle.std.proofs.Common.{◌≡◌, ◌≤◌, arith, inl, inr, refl, sym, ap, subst, ◌∙◌, true, false, IsTrue, Result, Ok, Err, OnOk, OnErr, IfErr, IfOk}
 use Rattle.sqlite_trees.specs.Tree.{Trees}
 use Rattle.sqlite.specs.State as conn
 use Rattle.sqlite.specs.State.{HasCleanDisk}
 use Rattle.sqlite.specs.Effect.{Database}
 use Rattle.stored_json.specs.Laws.{IsCommand}
+use Rattle.roster.specs.Folds.{Asked}
 use Rattle.roster.specs.State.{State}
 use Rattle.roster.specs.Steps.{after}
 use Rattle.roster.specs.declared.change.Change.{Change}
 use Rattle.state_rows.specs.declared.fault.StoreFault.{StoreFault}
 use Rattle.state_rows.specs.declared.fault.StoreFault.TheVariants.{Store, Memory}
-use Rattle.lookup.specs.Reads.{ChangesNothing, IsOpen, Shows}
+use Rattle.lookup.specs.Reads.{ChangesNothing, IsCaused, IsOpen, IsReadFault, Shows}
 use Rattle.writing.specs.Kept.{HoldBookOf, IsBookOf, KeepOthers}
 use Rattle.writing.specs.Next.{IsAcceptedChange}
 use Rattle.writing.specs.Outcomes.{CrashAddsNothing, CrashAddsOnly, HoldsNow, CrashLeaves, CrashLeavesSome, StaysOpen, StillShows, either, one}
 use Rattle.book.specs.Asking.{StepOutcome, Done}
+use Rattle.book.specs.Headline.{MakesNoChange}
 use Rattle.book.specs.Kept.{HasOne, IsKept, Keeps, StillHolds, either_kept, is_store_fault}
 use Rattle.book.proofs.States.{both_kept, kept_after, shows_still, shown_before, keeps_as, shows_as, either_as, still_as, same_state, one_of_either, still_keeps}
 
@@ -58,35 +60,53 @@ adds_none now P = record { crash = λ clean trees may. inl may }
 pub adds_nothing_more : (old new : conn.State) (P : Trees → Type 0) → CrashAddsNothing old new → CrashAddsOnly old new P
 adds_nothing_more old new P left = record { crash = λ clean trees may. inl (left.crash clean trees may) }
 
+-- a fault of the reads of a book in a state has a cause
+pub read_fault : {A : Type 0} (old new : conn.State) (s : State) (result : Result A StoreFault) → (HasCleanDisk new → HasCleanDisk old) → Keeps old s → StillHolds old s →
+    IfErr result (IsReadFault old new) → IfErr result (IsCaused old new)
+read_fault old new s (Ok a) disk keeps shown fault = tt
+read_fault old new s (Err fault) disk keeps shown is = λ clean. is s (shows_it old s keeps shown (disk clean)) clean
+
+-- what is answered where nothing is changed is no fault of the store
+pub no_fault : {A : Type 0} (old new : conn.State) (result : Result A StoreFault) → (HasCleanDisk new → is_store_fault result ≡ false) → IfErr result (IsCaused old new)
+no_fault old new (Ok a) none = tt
+no_fault old new (Err Store) none = λ clean is. absurd (let no = none clean in cc)
+no_fault old new (Err Memory) none = λ clean is. absurd (cc)
+
+-- a book means one state, whichever name that has
+pub of_same : {A : Type 0} (old new : conn.State) (it s : State) (asked : Asked) (result : Result A StoreFault) → (HasCleanDisk new → HasCleanDisk old) → (HasCleanDisk old → it ≡ s) →
+    MakesNoChange s asked → (MakesNoChange it asked → IfErr result (IsCaused old new)) → IfErr result (IsCaused old new)
+of_same old new it s asked (Ok a) disk same change caused = tt
+of_same old new it s asked (Err fault) disk same change caused = λ clean. caused (subst (λ (x : State). MakesNoChange x asked) (sym (same (disk clean))) change) clean
+
 -- nothing could be read
 pub did_not_read : {A : Type 0} (old new : conn.State) (was wanted : State) (fault : StoreFault) → ChangesNothing old new → CrashLeavesSome new →
     Keeps old was → StillHolds old was → StepOutcome {A = A} old new was wanted (Err fault)
 did_not_read old new was wanted Memory read some keeps shown = record {
-  disk = read.left.disk;
+  disk = read.nothing_new.disk;
   some_left = some;
-  others_left = adds_nothing_more old new _ read.left;
-  faults = read.counts;
+  others_left = adds_nothing_more old new _ read.nothing_new;
+  faults = read.faults;
   limit = read.limit;
   still_open = λ _. read.still_open;
-  done = (still_keeps old new was read.left some keeps, shown_on old new was read.left.disk read.shown shown);
+  done = (still_keeps old new was read.nothing_new some keeps, shown_on old new was read.nothing_new.disk read.still_shown shown);
 }
 did_not_read old new was wanted Store read some keeps shown = record {
-  disk = read.left.disk;
+  disk = read.nothing_new.disk;
   some_left = some;
-  others_left = adds_nothing_more old new _ read.left;
-  faults = read.counts;
+  others_left = adds_nothing_more old new _ read.nothing_new;
+  faults = read.faults;
   limit = read.limit;
   still_open = λ no. absurd (cc);
-  done = (one_of_either new was wanted (still_keeps old new was read.left some keeps), shown_on old new was read.left.disk read.shown shown);
+  done = (one_of_either new was wanted (still_keeps old new was read.nothing_new some keeps), shown_on old new was read.nothing_new.disk read.still_shown shown);
 }
 
 -- what was done after a read is done from before it
 module _ (old mid new : conn.State) (was wanted : State) (read : ChangesNothing old mid) (opened : IsOpen mid) where
   pub shows_same : HasCleanDisk mid → IsTrue old.is_open × (mid.now ≡ old.now)
-  shows_same clean = read.shown clean (opened clean)
+  shows_same clean = read.still_shown clean (opened clean)
 
   held_before : HoldsNow old was → HoldsNow mid was
-  held_before shown clean = (opened clean, subst (λ (db : Database). IsBookOf was db) (sym (shows_same clean).1) (shown (read.left.disk clean)).1)
+  held_before shown clean = (opened clean, subst (λ (db : Database). IsBookOf was db) (sym (shows_same clean).1) (shown (read.nothing_new.disk clean)).1)
 
   after_read : {A : Type 0} (r : Result A StoreFault) → Done mid new was wanted r → Done old new was wanted r
   after_read (Ok a) done = (done.0, done.1, λ shown. done.2 (held_before shown))
@@ -96,7 +116,7 @@ module _ (old mid new : conn.State) (was wanted : State) (read : ChangesNothing 
   others_after : (HasCleanDisk new → HasCleanDisk mid) → CrashAddsOnly mid new (KeepOthers mid.now) → CrashAddsOnly old new (KeepOthers old.now)
   others_after clean adds = record {
     crash = λ c trees may. elim (adds.crash c trees may) [
-      | inl was ↦ inl (read.left.crash (clean c) trees was)
+      | inl was ↦ inl (read.nothing_new.crash (clean c) trees was)
       | inr keeps ↦ inr (subst (λ (db : Database). KeepOthers db trees) (shows_same (clean c)).1 keeps)
     ];
   }
@@ -104,15 +124,15 @@ module _ (old mid new : conn.State) (was wanted : State) (read : ChangesNothing 
   still_after : (HasCleanDisk new → HasCleanDisk mid) → StaysOpen mid new → StaysOpen old new
   still_after clean stays c was = elim (stays c (opened (clean c))) [
     | inl is ↦ inl is
-    | inr more ↦ inr (omega (arith, more, read.counts))
+    | inr more ↦ inr (omega (arith, more, read.faults))
   ]
 
   pub did_after : {A : Type 0} (result : Result A StoreFault) → StepOutcome mid new was wanted result → StepOutcome old new was wanted result
   did_after result did = record {
-    disk = λ clean. read.left.disk (did.disk clean);
+    disk = λ clean. read.nothing_new.disk (did.disk clean);
     some_left = did.some_left;
     others_left = others_after did.disk did.others_left;
-    faults = omega (arith, read.counts, did.faults);
+    faults = omega (arith, read.faults, did.faults);
     limit = did.limit ∙ read.limit;
     still_open = λ is. still_after did.disk (did.still_open is);
     done = after_read result did.done;

@@ -78,6 +78,7 @@ module _ {S : Type 0} (g : Ghosts S) (book : Kept S) (asked : Asked) (some : Cra
     shown = λ s at has. tt;
     memory = λ s at is. absurd (cc);
     store = λ s at _. one_of_either (state g book.held) s (next s asked) at;
+    caused = λ s at change unfailed. absurd (let no : true ≡ false = sym is ∙ unfailed in cc);
     sessions = λ s before at. adds_one {A = Answer} (state g book.held) s before asked (Err Store) tt (λ is. absurd (cc)) (λ _. one_of_either (state g book.held) _ _ at);
     still_shown = λ s at has. shows_still (state g book.held) s has;
     honest = λ s at honest. one_honest (state g book.held) s at.leaves honest;
@@ -106,6 +107,7 @@ module _ {S : Type 0} (g : Ghosts S) (book : Kept S) (asked : Asked) (some : Cra
     shown = λ s at has. tt;
     memory = λ s at _. at;
     store = λ s at is. absurd (cc);
+    caused = λ s at change unfailed clean none. absurd (cc);
     sessions = λ s before at. adds_one {A = Answer} (state g book.held) s before asked (Err Memory) tt (λ _. at) (λ is. absurd (cc));
     still_shown = λ s at has. shows_still (state g book.held) s has;
     honest = λ s at honest. one_honest (state g book.held) s at.leaves honest;

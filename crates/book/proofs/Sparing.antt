@@ -49,10 +49,10 @@ module _ (old mid new : conn.State) (clean : HasCleanDisk new → HasCleanDisk m
     -- and nothing after it
     spares_still : Untouched mid new → SparesOthers old new
     spares_still second =
-        let same = λ (c : HasCleanDisk new). (second.changes.shown c (second.is_open c)).1 in
+        let same = λ (c : HasCleanDisk new). (second.changes.still_shown c (second.is_open c)).1 in
         record {
           was_open = λ c. first.was_open (clean c);
-          leaves = record { crash = λ c trees may. first.leaves.crash (clean c) trees (second.changes.left.crash c trees may) };
+          leaves = record { crash = λ c trees may. first.leaves.crash (clean c) trees (second.changes.nothing_new.crash c trees may) };
           shows = λ c. subst (λ (db : Database). KeepOthers old.now db.trees) (sym (same c)) (first.shows (clean c));
           schema = λ c. ap (λ (db : Database). db.schema) (same c) ∙ first.schema (clean c);
           is_open = second.is_open;
@@ -69,7 +69,7 @@ module _ (old mid new : conn.State) (clean : HasCleanDisk new → HasCleanDisk m
   -- the same after a read
   module _ (read : ChangesNothing old mid) (opened : IsOpen mid) where
     seen : HasCleanDisk new → IsTrue old.is_open × (mid.now ≡ old.now)
-    seen c = read.shown (clean c) (opened (clean c))
+    seen c = read.still_shown (clean c) (opened (clean c))
 
     pub spares_after : SparesOthers mid new → SparesOthers old new
     spares_after second = record {
@@ -83,7 +83,7 @@ module _ (old mid new : conn.State) (clean : HasCleanDisk new → HasCleanDisk m
     adds_after : CrashAddsOnly mid new (KeepOthers mid.now) → CrashAddsOnly old new (KeepOthers old.now)
     adds_after second = record {
       crash = λ c trees may. elim (second.crash c trees may) [
-        | inl was ↦ inl (read.left.crash (clean c) trees was)
+        | inl was ↦ inl (read.nothing_new.crash (clean c) trees was)
         | inr keeps ↦ inr (subst (λ (db : Database). KeepOthers db trees) (seen c).1 keeps)
       ];
     }
@@ -114,7 +114,7 @@ module _ {S : Type 0} (g : Ghosts S) where
 
   pub spared_adds : (old new : Kept S) → SameOrSpares old new → CrashAddsOnly (state g old.held) (state g new.held) (KeepOthers (state g old.held).now)
   spared_adds old new (inl same) = subst (λ (k : Kept S). CrashAddsOnly (state g old.held) (state g k.held) (KeepOthers (state g old.held).now)) (sym same) (adds_none (state g old.held) _)
-  spared_adds old new (inr (inl read)) = adds_nothing_more (state g old.held) (state g new.held) _ read.changes.left
+  spared_adds old new (inr (inl read)) = adds_nothing_more (state g old.held) (state g new.held) _ read.changes.nothing_new
   spared_adds old new (inr (inr spares)) = record { crash = λ c trees may. inr (spares.leaves.crash c trees may) }
 
   -- it is open where it was, and where it isn't at last, it has met a fault

@@ -10,13 +10,18 @@ use Rattle.writing.specs.Outcomes.{CrashAddsOnly, CrashLeaves, CrashLeavesSome, 
 use Rattle.book.specs.Kept.{Keeps, StillHolds, either_kept}
 
 -- the tables became those of the state that was wanted, they stayed, or they are of one of the two
-abbrev pub Done : {A : Type 0} → conn.State → conn.State → State → State → Result A StoreFault → Type 0
-Done old new was wanted (Ok a) = Keeps new wanted × StillHolds new wanted × (HoldsNow old was → HoldsNow new wanted)
+abbrev pub Done : {A : Type 0} →
+    conn.State → conn.State → State → State → Result A StoreFault → Type 0
+Done old new was wanted (Ok a) =
+    Keeps new wanted × StillHolds new wanted × (HoldsNow old was → HoldsNow new wanted)
 Done old new was wanted (Err Memory) = Keeps new was × StillHolds new was
-Done old new was wanted (Err Store) = CrashLeaves new (either_kept was wanted) × StillHolds new was
+Done old new was wanted (Err Store) =
+    CrashLeaves new (either_kept was wanted) × StillHolds new was
 
--- what one command did, from the state that was to the one that was wanted, and what it was answered
-pub record StepOutcome {A : Type 0} (old new : conn.State) (was wanted : State) (result : Result A StoreFault) : Type 0 where
+-- what one command did, from the state that was to the one that was wanted, and what it was
+-- answered
+pub record StepOutcome {A : Type 0} (old new : conn.State) (was wanted : State)
+    (result : Result A StoreFault) : Type 0 where
   pub disk : HasCleanDisk new → HasCleanDisk old
   pub some_left : CrashLeavesSome new
   pub others_left : CrashAddsOnly old new (KeepOthers old.now)

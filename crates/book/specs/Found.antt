@@ -8,7 +8,8 @@ use Rattle.store.specs.Found.{IsFoundIn}
 use Rattle.writing.specs.Outcomes.{HoldsNow}
 use Rattle.book.specs.Kept.{Keeps}
 
--- a book in some state is found in the files; it is what is shown, and a crash leaves that state and nothing else
+-- a book in some state is found in the files; it is what is shown, and a crash leaves that state
+-- and nothing else
 pub record MeansWhatIsIn (image : Image) (now : conn.State) : Type 0 where
   pub it : State
   pub trees : Trees

@@ -1,5 +1,6 @@
 -- What contracts see of a book, and what a crash leaves of it.
-use Rattle.std.specs.Prelude.{ℕ, ◌+◌, take, Bool, true, false, List, Result, Ok, Err, Option, Some, None, refl, IsTrue}
+use Rattle.std.specs.Prelude.{ℕ, ◌+◌, take, Bool, true, false, List, refl, IsTrue}
+use Rattle.std.specs.Prelude.{Result, Ok, Err, Option, Some, None}
 use Rattle.std.specs.Coded.{Coded, code_by, coded×, coded_bool}
 use Rattle.sqlite_trees.specs.declared.store.Store.{Ghosts}
 use Rattle.sqlite.specs.State as conn
@@ -24,14 +25,16 @@ pub record Kept (S : Type 0) : Type 0 where
 
 -- a code for books, from one for what their connections hold
 abbrev pub kept_code : {S : Type 0} → Coded S → Coded (Kept S)
-kept_code {S} store = code_by (Held S × Bool) (coded× (held_code store) coded_bool) (λ k. (k.held, k.failed)) (λ p. record { held = p.0; failed = p.1 }) (λ _. refl)
+kept_code {S} store =
+    code_by (Held S × Bool) (coded× (held_code store) coded_bool)
+    (λ k. (k.held, k.failed)) (λ p. record { held = p.0; failed = p.1 }) (λ _. refl)
 
 module _ {S : Type 0} (g : Ghosts S) (book : Kept S) where
-  -- the disk has returned what was written
+  -- the disk of a book has returned what was written
   abbrev pub IsClean : Type 0
   IsClean = HasCleanDisk (state g book.held)
 
-  -- its tables are there, and mean this state
+  -- the tables of a book are there, and mean this state
   abbrev pub HasTables : State → Type 0
   HasTables s = HoldsNow (state g book.held) s
 
@@ -40,11 +43,11 @@ pub record IsKept (s : State) : Type 0 where
   pub sound : Sound s
   pub instants : HasInstants s
 
--- one of these two, as a state that tables may mean
+-- one of two states, as one that tables may mean
 abbrev pub either_kept : State → State → State → Type 0
 either_kept s t = λ r. either s t r × IsKept r
 
--- while it is open, it has the tables of a book in this state
+-- a connection, while it is open, has the tables of a book in this state
 abbrev pub StillHolds : conn.State → State → Type 0
 StillHolds now s = HasCleanDisk now → IsTrue now.is_open → IsBookOf s now.now
 
@@ -54,22 +57,23 @@ pub record Keeps (now : conn.State) (s : State) : Type 0 where
   pub leaves : CrashLeaves now (one s)
   pub some : CrashLeavesSome now
 
--- a crash leaves some state, which tables may mean, and nothing else; and its tables mean it, as long as it is open
+-- a crash leaves some state, which tables may mean, and nothing else; and the tables of the
+-- connection mean it, as long as it is open
 pub record HasOne (now : conn.State) : Type 0 where
   pub it : State
   pub keeps : Keeps now it
   pub shown : StillHolds now it
 
 module _ {S : Type 0} (g : Ghosts S) (book : Kept S) where
-  -- a crash leaves this state
+  -- a crash of a book leaves this state
   abbrev pub IsDurablyAt : State → Type 0
   IsDurablyAt s = Keeps (state g book.held) s
 
-  -- or one of these two, which tables may mean
+  -- a crash of a book leaves one of these two states, which tables may mean
   abbrev pub IsInDoubt : State → State → Type 0
   IsInDoubt s t = CrashLeaves (state g book.held) (either_kept s t)
 
-  -- as long as it is open, its tables mean this state
+  -- the tables of a book mean this state, as long as its connection is open
   abbrev pub StillHasTables : State → Type 0
   StillHasTables s = StillHolds (state g book.held) s
 
@@ -92,7 +96,7 @@ abbrev pub is_store_fault : {A : Type 0} → Result A StoreFault → Bool
 is_store_fault (Err Store) = true
 is_store_fault _ = false
 
--- there is a fault, and it is one of the store (90)
+-- a call had a fault, and it is one of the store (90)
 abbrev pub is_some_store_fault : Option StoreFault → Bool
 is_some_store_fault (Some Store) = true
 is_some_store_fault _ = false
@@ -101,4 +105,5 @@ is_some_store_fault _ = false
 abbrev pub Ends : conn.State → State → List Asked → ℕ → Option StoreFault → Type 0
 Ends now s l n None = Keeps now (Fold s l)
 Ends now s l n (Some Memory) = Keeps now (Fold s (take n l))
-Ends now s l n (Some Store) = CrashLeaves now (either_kept (Fold s (take n l)) (Fold s (take (n + 1) l)))
+Ends now s l n (Some Store) =
+    CrashLeaves now (either_kept (Fold s (take n l)) (Fold s (take (n + 1) l)))

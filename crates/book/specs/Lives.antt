@@ -1,5 +1,7 @@
--- Whole lives of a book: it is made or found, asked, stopped anywhere, taken up again over what a crash left, and asked again.
-use Rattle.std.specs.Prelude.{◌≡◌, ℕ, Bool, true, false, if◌then◌else◌, ◌||◌, IsTrue, ◌⊎◌, ◌↔◌, List, [], ◌∷◌, ◌++◌, drop, length, map, take, Option, Result, Ok, Err}
+-- Whole lives of a book: it is made or found, asked, stopped anywhere, taken up again over what a
+-- crash left, and asked again.
+use Rattle.std.specs.Prelude.{◌≡◌, ℕ, Bool, true, false, if◌then◌else◌, ◌||◌, IsTrue, ◌⊎◌, ◌↔◌}
+use Rattle.std.specs.Prelude.{List, [], ◌∷◌, ◌++◌, drop, length, map, take, Option, Result, Ok, Err}
 use Rattle.std.specs.List.{flat_map}
 use Rattle.sqlite_trees.specs.declared.store.Store.{Ghosts}
 use Rattle.sqlite.specs.Effect.{Database}
@@ -17,14 +19,16 @@ use Rattle.store.specs.Found.{IsFound}
 use Rattle.writing.specs.Outcomes.{CrashLeaves, CrashLeavesSome}
 use Rattle.book.specs.Answered.{IsAnswered}
 use Rattle.book.specs.Headline.{BreaksNoLimit, IsHeld}
-use Rattle.book.specs.Kept.{IsClean, IsDurablyAt, Kept, is_some_store_fault, is_store_fault, result_of}
+use Rattle.book.specs.Kept.{IsClean, IsDurablyAt, Kept}
+use Rattle.book.specs.Kept.{is_some_store_fault, is_store_fault, result_of}
 use Rattle.book.specs.Ran.{HasRun}
 use Rattle.book.specs.declared.answer.Answer.{Answer}
 use Rattle.book.specs.declared.answer.Run.{Run}
 
 -- ---- Calls
 
--- what a book is called for, and what came of it: one command, or the next part of an import; a list of commands; a report
+-- what a book is called for, and what came of it: one command, or the next part of an import; a
+-- list of commands; a report
 pub data Call : Type 0 where
   for_one : Asked → Result Answer StoreFault → Call
   for_many : List Asked → Run → Call
@@ -78,7 +82,8 @@ module _ {S : Type 0} (g : Ghosts S) where
     pub kept : (s : State) → IsDurablyAt g old s → IsDurablyAt g new s
     pub some_left : CrashLeavesSome (state g new.held)
 
-  -- a book was called so, and is the new one then: as the contracts of `Book::ask`, `Import::next`, `Book::run` and `Book::show` say
+  -- a book was called so, and is the new one then: as the contracts of `Book::ask`, `Import::next`,
+  -- `Book::run` and `Book::show` say
   abbrev pub IsCall : Kept S → Call → Kept S → Type 0
   IsCall old (for_one asked result) new = IsMade asked.1 × IsAnswered g old new asked result
   IsCall old (for_many commands run) new = AreMade commands × HasRun g old new commands run
@@ -92,7 +97,8 @@ module _ {S : Type 0} (g : Ghosts S) where
 -- ---- Lives
 
 module _ {S : Type 0} (g : Ghosts S) where
-  -- a book was stopped, and `Book::adopt` took it up again over what a crash left of it: as its clauses `fresh` and `means` say
+  -- a book was stopped, and `Book::adopt` took it up again over what a crash left of it: as its
+  -- clauses `fresh` and `means` say
   pub record IsTakenUp (stopped again : Kept S) : Type 0 where
     -- what the new connection showed, and the state that was found in it
     pub shown : Database
@@ -108,11 +114,13 @@ module _ {S : Type 0} (g : Ghosts S) where
   abbrev pub GoesOn : Kept S → List (List Call) → Kept S → Type 0
   GoesOn stopped [] last = last ≡ stopped
   GoesOn stopped (calls ∷ later) last =
-      (again : Kept S) × (left : Kept S) × IsTakenUp stopped again × AreCalls g again calls left × GoesOn left later last
+      (again : Kept S) × (left : Kept S)
+      × IsTakenUp stopped again × AreCalls g again calls left × GoesOn left later last
 
-  -- a life: a book was durably at this state, as `Book::create` and `Book::adopt` make one; it was called so in its first session, and
-  -- so in later ones; it is the last one now
-  pub record Life (begin : State) (calls : List Call) (later : List (List Call)) (last : Kept S) : Type 0 where
+  -- a life: a book was durably at this state, as `Book::create` and `Book::adopt` make one; it was
+  -- called so in its first session, and so in later ones; it is the last one now
+  pub record Life (begin : State) (calls : List Call) (later : List (List Call))
+      (last : Kept S) : Type 0 where
     pub made : Kept S
     pub fresh : made.failed ≡ false
     pub kept : IsDurablyAt g made begin
@@ -122,8 +130,8 @@ module _ {S : Type 0} (g : Ghosts S) where
 
 -- ---- What comes of them
 
--- the commands that these calls of a book in state s left done: all that they acknowledged, with the answers of the state machine; and
--- what was in work when the store failed, or not
+-- the commands that these calls of a book in state s left done: all that they acknowledged, with
+-- the answers of the state machine; and what was in work when the store failed, or not
 pub record AreDone (s : State) (calls : List Call) (done : List Asked) : Type 0 where
   pub all : (done ≡ acknowledged calls) ⊎ (done ≡ acknowledged calls ++ in_doubt calls)
   pub replies : map result_of (answers calls) ≡ Replies s (acknowledged calls)
@@ -133,21 +141,26 @@ abbrev pub AreDoneInTurn : State → List (List Call) → List (List Asked) → 
 AreDoneInTurn s [] [] = Unit {0}
 AreDoneInTurn s [] (done ∷ more) = ⊥
 AreDoneInTurn s (calls ∷ later) [] = ⊥
-AreDoneInTurn s (calls ∷ later) (done ∷ more) = AreDone s calls done × AreDoneInTurn (Fold s done) later more
+AreDoneInTurn s (calls ∷ later) (done ∷ more) =
+    AreDone s calls done × AreDoneInTurn (Fold s done) later more
 
 -- the commands of all sessions in turn
 abbrev pub in_turn : List (List Asked) → List Asked
 in_turn sessions = flat_map (λ done. done) sessions
 
--- each assignment among commands that are done in turn was accepted exactly where it passed the book's own checks and broke no limit
+-- each assignment among commands that are done in turn was accepted exactly where it passed the
+-- book's own checks and broke no limit
 abbrev pub AreWithinLimits : State → List Asked → Type 0
-AreWithinLimits begin done = (before after : List Asked) (asked : Asked) → done ≡ before ++ asked ∷ after → is_assignment asked.1 ≡ true →
+AreWithinLimits begin done = (before after : List Asked) (asked : Asked) →
+    done ≡ before ++ asked ∷ after → is_assignment asked.1 ≡ true →
     let s = Fold begin before in
     IsAccepted s asked.0 asked.1 ↔ (PassesChecks s asked.0 asked.1 × BreaksNoLimit s asked.1)
 
--- each of them that was accepted acts once: asked again, it is answered as it was, and changes nothing
+-- each of the commands done in turn that was accepted acts once: asked again, it is answered as it
+-- was, and changes nothing
 abbrev pub ActOnce : State → List Asked → Type 0
-ActOnce begin done = (before between after : List Asked) (asked : Asked) (reply : Reply) → done ≡ before ++ asked ∷ between ++ asked ∷ after →
+ActOnce begin done = (before between after : List Asked) (asked : Asked) (reply : Reply) →
+    done ≡ before ++ asked ∷ between ++ asked ∷ after →
     answer_of (step_of (Fold begin before) asked.0 asked.1) ≡ Ok reply →
     step_of (Fold begin (before ++ asked ∷ between)) asked.0 asked.1 ≡ Repeat reply
 
@@ -162,7 +175,11 @@ pub record IsLeftOf (begin : State) (life : List (List Call)) (s : State) : Type
   pub held : (asked : Asked) (reply : Reply) → IsHeld begin asked reply → IsHeld s asked reply
   pub honest : Honest begin → Honest s
 
--- whatever a book is asked, and wherever it is stopped: a crash leaves something, and nothing but a state that is left of its life
+-- whatever a book is asked, and wherever it is stopped: a crash leaves something, and nothing but a
+-- state that is left of its life
 abbrev pub EachLifeHolds : {S : Type 0} → Ghosts S → Type 0
-EachLifeHolds {S} g = (begin : State) (calls : List Call) (later : List (List Call)) (last : Kept S) → Life g begin calls later last →
-    CrashLeaves (state g last.held) (IsLeftOf begin (calls ∷ later)) × CrashLeavesSome (state g last.held)
+EachLifeHolds {S} g =
+    (begin : State) (calls : List Call) (later : List (List Call)) (last : Kept S) →
+    Life g begin calls later last →
+    CrashLeaves (state g last.held) (IsLeftOf begin (calls ∷ later))
+    × CrashLeavesSome (state g last.held)

@@ -1,19 +1,22 @@
 -- The session that a call adds to those before it, wherever it is stopped.
-use Rattle.std.specs.Prelude.{◌≡◌, ℕ, ◌+◌, List, [], ◌∷◌, ◌++◌, take, Result, Ok, Err, Option, Some, None}
+use Rattle.std.specs.Prelude.{◌≡◌, ℕ, ◌+◌, List, [], ◌∷◌, ◌++◌, take}
+use Rattle.std.specs.Prelude.{Result, Ok, Err, Option, Some, None}
 use Rattle.roster.specs.Folds.{Asked, Session, Stopped}
 use Rattle.roster.specs.State.{State}
 use Rattle.state_rows.specs.declared.fault.StoreFault.{StoreFault}
 use Rattle.state_rows.specs.declared.fault.StoreFault.TheVariants.{Store, Memory}
 use Rattle.book.specs.Kept.{IsKept}
 
--- the commands that a call took up, of which it answered so many: the one that met want of memory changed nothing
+-- the commands that a call took up, of which it answered so many: the one that met want of memory
+-- changed nothing
 abbrev pub taken_up : List Asked → ℕ → Option StoreFault → List Asked
 taken_up l n None = l
 taken_up l n (Some Memory) = take n l
 taken_up l n (Some Store) = take (n + 1) l
 
 -- the state after these sessions and one of this call, which tables may mean
-pub record IsAfter (s : State) (before : List Session) (l : List Asked) (n : ℕ) (fault : Option StoreFault) (t : State) : Type 0 where
+pub record IsAfter (s : State) (before : List Session) (l : List Asked) (n : ℕ)
+    (fault : Option StoreFault) (t : State) : Type 0 where
   pub session : Session
   pub asked : session.asked ≡ taken_up l n fault
   pub answered : session.answered ≡ n

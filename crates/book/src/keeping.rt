@@ -11,14 +11,14 @@ ghost use Rattle.command.specs.declared.refusal.Refusal.{Refusal};
 ghost use Rattle.roster.specs.Folds.{answer_of, next};
 ghost use Rattle.roster.specs.State.{State, empty};
 ghost use Rattle.roster.specs.Steps.{step_of};
-ghost use Rattle.lookup.specs.Reads.{ChangesNothing, IsOpen};
+ghost use Rattle.lookup.specs.Reads.{ChangesNothing, IsCaused, IsOpen};
 ghost use Rattle.writing.specs.Commits.{AreTablesMade, IsNotMade};
 ghost use Rattle.writing.specs.Making.{IsFree};
 ghost use Rattle.writing.specs.Outcomes.{CrashAddsNothing, IsOutside, CrashLeavesSome, StaysOpen, StillShows};
 ghost use Rattle.book.specs.Answered.{IsAnswered};
 ghost use Rattle.book.specs.Ran.{HasRun};
 ghost use Rattle.book.specs.Asking.{StepOutcome};
-ghost use Rattle.book.specs.Headline.{IsRefusal, SparesOthers, Untouched};
+ghost use Rattle.book.specs.Headline.{IsRefusal, MakesNoChange, SparesOthers, Untouched};
 ghost use Rattle.store.specs.Loaded.{IsNotLoaded};
 ghost use Rattle.store.specs.Shown.{IsShown};
 ghost use Rattle.book.specs.Kept.{HasOne, HasTables, IsDurablyAt, IsClean, Keeps, HasFoundBook, StillHolds, is_store_fault, result_of};
@@ -74,11 +74,16 @@ impl<S: Alter> Book<S> {
         conn: Connection<S>,
         zone: Zone,
     ) -> Result<Book<S>, (CreateFault, Connection<S>)>
+        // No transaction is begun.
         requires { IsOutside (state S.Store conn) }
+
+        // The book: it has not failed, its tables are made, and a crash leaves it empty.
         ensures fresh { IfOk result (λ b. b.failed ≡ false) }
         ensures made { IfOk result
             (λ b. AreTablesMade (state S.Store conn) (state S.Store b.held) (empty zone)) }
         ensures kept { IfOk result (λ b. IsDurablyAt S.Store b (empty zone)) }
+
+        // A refusal: what is left after it, and that a database with such a table is refused.
         ensures not_made { IfErr result (λ e. IsNotMade S.Store conn e.1 (empty zone) e.0) }
         ensures refused { (¬ IsFree (state S.Store conn).now.schema)
             → IsErrAnd result (λ e. e.0 ≡ CreateFault.NotEmpty) }
@@ -92,8 +97,10 @@ impl<S: Alter> Book<S> {
     /// Takes up the book that a crash or anybody left, and changes nothing. Refused is what [`Store::load`] refuses (40, 41,
     /// 42, 90, 91); then the connection is handed back.
     pub fn adopt(alloc: Global, conn: Connection<S>) -> Result<Book<S>, (LoadFault, Connection<S>)>
+        // No transaction is begun.
         requires { IsOutside (state S.Store conn) }
-        // the book
+
+        // The book: it has not failed, and is the one that was found, with nothing changed.
         ensures fresh { IfOk result (λ b. b.failed ≡ false) }
         ensures means { IfOk result (λ b. HasFoundBook (state S.Store conn)
             (state S.Store b.held)) }
@@ -105,7 +112,8 @@ impl<S: Alter> Book<S> {
             (λ b. IsClean S.Store b → IsUnchanged (state S.Store conn) (state S.Store b.held)) }
         ensures limit { IfOk result
             (λ b. (state S.Store b.held).step_limit ≡ (state S.Store conn).step_limit) }
-        // a refusal
+
+        // A refusal: why, with nothing changed.
         ensures not_loaded { IfErr result
             (λ e. IsNotLoaded (state S.Store conn) (state S.Store e.1) e.0) }
         ensures again { (s : State) → Keeps (state S.Store conn) s
@@ -148,6 +156,10 @@ impl<S: Alter> Book<S> {
         // The disk, and that a crash leaves something.
         ensures disk { IsClean S.Store self.new → IsClean S.Store self.old }
         ensures some_left { CrashLeavesSome (state S.Store self.new.held) }
+
+        // A fault of the store has a cause.
+        ensures caused { self.old.failed ≡ false → IfErr result
+            (IsCaused (state S.Store self.old.held) (state S.Store self.new.held)) }
 
         // The text, by the state that the tables mean.
         ensures text { (s : State) → IsDurablyAt S.Store self.old s → IsClean S.Store self.new
@@ -223,12 +235,19 @@ impl<S: Alter> Book<S> {
         answer
     }
 
-    /// Answers commands in turn, up to the first fault. Room for all answers is made before the first.
+    /// Answers commands in turn, up to the first fault. Room for all answers is made before the first; for none there is
+    /// no need of memory.
     pub fn run(&mut self, alloc: Global, commands: &[(Key, Command)]) -> Run
         ensures { HasRun S.Store self.old self.new commands.now result }
     {
         if self.failed {
             return stopped(Vec::new(alloc), StoreFault::Store);
+        }
+        if commands.is_empty() {
+            return Run {
+                answers: Vec::new(alloc),
+                fault: None,
+            };
         }
         let Ok(mut answers) = Vec::with_capacity(alloc, commands.len()) else {
             return stopped(Vec::new(alloc), StoreFault::Memory);
@@ -309,6 +328,11 @@ fn decide<S: Alter>(
         × IfOk result (λ a. a ≡ Answer.Refused refusal) }
     ensures refused { IfOk result
         (λ a. IsRefusal a → Untouched (state S.Store store.old) (state S.Store store.new)) }
+
+    // Where it makes no change, a fault of the store has a cause.
+    ensures caused { (s : State) → Keeps (state S.Store store.old) s
+        → StillHolds (state S.Store store.old) s → MakesNoChange s (key, command.now)
+        → IfErr result (IsCaused (state S.Store store.old) (state S.Store store.new)) }
 
     // What stands beside the book in the database.
     ensures others_spared { (s : State) → Keeps (state S.Store store.old) s

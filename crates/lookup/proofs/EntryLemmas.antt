@@ -120,7 +120,7 @@ module _ (s : roster.State) (sound : Sound s) (db : Database) (is_book : IsBookO
         let end : row.end_at ≡ at.0.value.end = number_is (at_column 4) in
         let known : row.id ≡ at.0.value.id = text_is (at_column 0) ∙ sym named in
         let same : ground_told row ≡ at.0.value = λ i. record { id = known i; crew = crew i; begin = begin i; end = end i; task = task i } in
-        first ∙ ap Some same ∙ sym (ap (fin.get s.grounds) same_id ∙ at.0.there)
+        first.0 ∙ ap Some same ∙ sym (ap (fin.get s.grounds) same_id ∙ at.0.there)
 
   has_row : (records : List GroundRecord) (id : List ℕ) → Contains (grounds_in records) id → (it : GroundRecord) × Has (map ground_row records) (ground_row it) × (it.id ≡ id)
   has_row [] id c = absurd (none_in id c)
@@ -159,4 +159,4 @@ module _ (s : roster.State) (sound : Sound s) (db : Database) (is_book : IsBookO
   zone_is [] finds zone first = absurd first
   zone_is (row ∷ rows) finds zone first =
       let there = of_found book (begins_with []) db (map book_row (row ∷ rows)) finds (book_row row) (inl refl) in
-      first ∙ text_is (ap (λ (x : Row). column x 2) ((is_book.rows book (book_row row)).0 there.0))
+      first.0 ∙ text_is (ap (λ (x : Row). column x 2) ((is_book.rows book (book_row row)).0 there.0))

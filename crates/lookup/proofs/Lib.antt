@@ -1,8 +1,12 @@
+pub mod Causes
+pub mod RightRows
+pub mod RightEntries
 pub mod ReadLemmas
 pub mod OnePairing
 pub mod HeldLemmas
 pub mod PlanLemmas
 pub mod PlanReads
+pub mod Untold
 pub mod EntryLemmas
 pub mod RecordedLemmas
 pub mod Changes

@@ -63,13 +63,13 @@ module _ (ids : Ids) (records : List PeriodRecord) (once : AreOnce row_of_keyed_
   mapped : Mapped name_of_period row_of_keyed_period (IsKeyedPeriod ids) (map period_row records) m
   mapped = subst (λ l. Mapped name_of_period row_of_keyed_period (IsKeyedPeriod ids) l m) (all_taken period_row records) (read.mapped once)
 
-  periods_keyed : ArePeriodsKeyed m
+  pub periods_keyed : ArePeriodsKeyed m
   periods_keyed key it e = let known = mapped.known key it e in known.1 ∙ (λ i. period_name (sym known.2.pairing i) (sym known.2.number i))
 
   under_period : (at : Under name_of_period m) → IsKeyedPeriod ids at.index at.value
   under_period at = let known = mapped.known (name_of_period at.index) at.value at.there in subst (λ k. IsKeyedPeriod ids k at.value) (sym (period_keys_same at.index known.0 known.1)) known.2
 
-  periods_just : (row : Row) → PeriodRows m row ↔ Has (map period_row records) row
+  pub periods_just : (row : Row) → PeriodRows m row ↔ Has (map period_row records) row
   periods_just row = (
     λ it.
         let known = mapped.known (period_name it.0.pairing it.0.number) it.0 it.1 in
@@ -87,7 +87,7 @@ module _ (periods : Periods) (records : List SegmentRecord) (once : AreOnce row_
   mapped_segments : Mapped name_of_segment row_of_keyed_segment (IsKeyedSegment periods) (map segment_row records) n
   mapped_segments = subst (λ l. Mapped name_of_segment row_of_keyed_segment (IsKeyedSegment periods) l n) (all_taken segment_row records) (read.mapped once)
 
-  segments_keyed : AreSegmentsKeyed n
+  pub segments_keyed : AreSegmentsKeyed n
   segments_keyed key it e = let known = mapped_segments.known key it e in known.1 ∙ (λ i. segment_name (sym known.2.pairing i) (sym known.2.period i) (sym known.2.number i))
 
   under_segment : (at : Under name_of_segment n) → IsKeyedSegment periods at.index at.value
@@ -96,7 +96,7 @@ module _ (periods : Periods) (records : List SegmentRecord) (once : AreOnce row_
   of_periods : (it : SegmentRecord) → fin.get n (segment_name it.pairing it.period it.number) ≡ Some it → (p : PeriodRecord) × (fin.get periods (period_name it.pairing it.period) ≡ Some p)
   of_periods it e = some_there _ (mapped_segments.known (segment_name it.pairing it.period it.number) it e).2.of_period
 
-  segments_just : (row : Row) → SegmentRows n row ↔ Has (map segment_row records) row
+  pub segments_just : (row : Row) → SegmentRows n row ↔ Has (map segment_row records) row
   segments_just row = (
     λ it.
         let known = mapped_segments.known (segment_name it.0.pairing it.0.period it.0.number) it.0 it.1 in
@@ -191,19 +191,19 @@ module _ (s : roster.State) (sound : Sound s) (db : Database) (book : IsBookOf s
     holder_is x (Some who) it = ap Some it.4 ∙ sym (held_by x it.1 (record_has records it.0 it.1 it.2) it.3)
 
   module _ (periods : List PeriodRecord) (segments : List SegmentRecord) (finds : Finds (table period) by_id db (map period_row periods)) (also : Finds (table segment) by_id db (map segment_row segments)) where
-    abbrev in_periods : (row : Row) → Has (map period_row periods) row → Has (rows_of period_table db) row × (by_id row ≡ true)
+    abbrev pub in_periods : (row : Row) → Has (map period_row periods) row → Has (rows_of period_table db) row × (by_id row ≡ true)
     in_periods = of_found period by_id db (map period_row periods) finds
 
-    abbrev in_segments : (row : Row) → Has (map segment_row segments) row → Has (rows_of segment_table db) row × (by_id row ≡ true)
+    abbrev pub in_segments : (row : Row) → Has (map segment_row segments) row → Has (rows_of segment_table db) row × (by_id row ≡ true)
     in_segments = of_found segment by_id db (map segment_row segments) also
 
-    once_period : AreOnce row_of_keyed_period (map period_row periods)
+    pub once_period : AreOnce row_of_keyed_period (map period_row periods)
     once_period key v w first second =
         let itself = λ (x : PeriodRecord). passes (Text key.pairing ∷ Int (pos key.number) ∷ []) (row_of_keyed_period key x) (refl, (refl, tt)) in
         period_once db book.database (is_there db.schema book.tables period) (book.stored period) key.pairing (pos key.number) (row_of_keyed_period key v) (row_of_keyed_period key w)
         (in_periods (row_of_keyed_period key v) first).0 (in_periods (row_of_keyed_period key w) second).0 (itself v) (itself w)
 
-    once_segment : AreOnce row_of_keyed_segment (map segment_row segments)
+    pub once_segment : AreOnce row_of_keyed_segment (map segment_row segments)
     once_segment key v w first second =
         let itself = λ (x : SegmentRecord). passes (Text key.pairing ∷ Int (pos key.period) ∷ Int (pos key.number) ∷ []) (row_of_keyed_segment key x) (refl, (refl, (refl, tt))) in
         segment_once db book.database (is_there db.schema book.tables segment) (book.stored segment) key.pairing (pos key.period) (pos key.number) (row_of_keyed_segment key v) (row_of_keyed_segment key w)

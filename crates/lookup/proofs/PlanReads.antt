@@ -9,15 +9,16 @@ use Rattle.tables.specs.Records.{period_row, seat_row, segment_row}
 use Rattle.tables.specs.Rows.{Finds, begins_with}
 use Rattle.state_rows.specs.Rows.{TableName, table, period, seat, segment}
 use Rattle.state_rows.specs.declared.fault.StoreFault.{StoreFault}
-use Rattle.lookup.specs.Reads.{ReadsRows, Stays}
+use Rattle.lookup.specs.Reads.{IsCaused, Stays}
 use Rattle.lookup.specs.Plans.{FindsPlan, IfSome, ReadsPlan}
+use Rattle.lookup.proofs.Causes.{cause_then}
 use Rattle.lookup.proofs.Changes.{changes_then, of_stays}
 use Rattle.lookup.specs.declared.pairing.PlanRecords.{PlanRecords}
 
 pub stays_on : (a b c : State) → Stays a b → Stays b c → Stays a c
 stays_on a b c p q =
     let it = changes_then a b c (of_stays a b p) (of_stays b c q) in
-    record { left = it.left; shown = it.shown; outside = q.outside; counts = it.counts; still_open = it.still_open; limit = it.limit }
+    record { nothing_new = it.nothing_new; still_shown = it.still_shown; outside = q.outside; faults = it.faults; still_open = it.still_open; limit = it.limit }
 
 if_some : {A : Type 0} (xs : List A) (P : Type 0) → P → IfSome xs P
 if_some [] P is = tt
@@ -43,14 +44,22 @@ module _ (id : List ℕ) where
   abbrev test : Row → Bool
   test = begins_with (Text id ∷ [])
 
-  pub not_first : (a b : State) (fault : StoreFault) → Stays a b → ReadsPlan id a b (Err fault)
-  not_first a b fault stays = record { stays = stays; told = λ clean. tt }
+  pub not_first : (a b : State) (fault : StoreFault) → Stays a b → IsCaused a b fault → ReadsPlan id a b (Err fault)
+  not_first a b fault stays caused = record { stays = stays; told = λ clean. tt; caused = caused }
 
-  pub not_second : (a b c : State) (fault : StoreFault) → Stays a b → Stays b c → ReadsPlan id a c (Err fault)
-  not_second a b c fault p q = record { stays = stays_on a b c p q; told = λ clean. tt }
+  pub not_second : (a b c : State) (fault : StoreFault) → Stays a b → Stays b c → IsCaused b c fault → ReadsPlan id a c (Err fault)
+  not_second a b c fault p q caused = record {
+    stays = stays_on a b c p q;
+    told = λ clean. tt;
+    caused = λ clean is. cause_then a b c (of_stays a b p) (of_stays b c q) clean (caused clean is);
+  }
 
-  pub not_third : (a b c d : State) (fault : StoreFault) → Stays a b → Stays b c → Stays c d → ReadsPlan id a d (Err fault)
-  not_third a b c d fault p q r = record { stays = stays_on a c d (stays_on a b c p q) r; told = λ clean. tt }
+  pub not_third : (a b c d : State) (fault : StoreFault) → Stays a b → Stays b c → Stays c d → IsCaused c d fault → ReadsPlan id a d (Err fault)
+  not_third a b c d fault p q r caused = record {
+    stays = stays_on a c d (stays_on a b c p q) r;
+    told = λ clean. tt;
+    caused = λ clean is. cause_then a c d (of_stays a c (stays_on a b c p q)) (of_stays c d r) clean (caused clean is);
+  }
 
   pub all_read : (a b c d : State) (rows : PlanRecords) → Stays a b → Stays b c → Stays c d →
       (HasCleanDisk b → IsUnchanged a b × Finds (table period) test a.now (map period_row rows.periods.items)) →
@@ -60,8 +69,8 @@ module _ (id : List ℕ) where
     stays = stays_on a c d (stays_on a b c p q) r;
     told = λ clean.
         let third = three clean in
-        let second = two (r.left.disk clean) in
-        let first = one (q.left.disk (r.left.disk clean)) in
+        let second = two (r.nothing_new.disk clean) in
+        let first = one (q.nothing_new.disk (r.nothing_new.disk clean)) in
         let same_b = first.0.0.now_is in
         let same_c = second.0.0.now_is ∙ same_b in (
           unchanged_on a c d (unchanged_on a b c first.0 second.0) third.0,
@@ -71,6 +80,7 @@ module _ (id : List ℕ) where
             seats = if_some rows.periods.items _ (subst (λ (db : Database). Finds (table seat) test db (map seat_row rows.seats.items)) same_c third.1);
           },
         );
+    caused = tt;
   }
 
   -- where there is no period
@@ -81,4 +91,5 @@ module _ (id : List ℕ) where
     told = λ clean.
         let first = one clean in
         (first.0, record { periods = first.1; segments = of_none rows.periods.items _ none; seats = of_none rows.periods.items _ none });
+    caused = tt;
   }

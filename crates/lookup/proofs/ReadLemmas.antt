@@ -10,13 +10,13 @@ use Rattle.sqlite.specs.State.{State, HasCleanDisk, IsUnchanged}
 use Rattle.command.specs.declared.member.Member.{Member}
 use Rattle.roster.specs.State as roster
 use Rattle.tables.proofs.Answering.{has_permuted}
-use Rattle.tables.specs.Calls.{HasStepLimit, HoldsWhileOpen, CrashLeavesNoMore, Loaded, Read, ReadAs, IsUnchangedOrUndone as NotMade}
+use Rattle.tables.specs.Calls.{HasStepLimit, HoldsWhileOpen, CrashLeavesNoMore, Read, ReadAs, IsUnchangedOrUndone as NotMade}
 use Rattle.tables.specs.Records.{crew_row}
-use Rattle.tables.specs.Rows.{Finds, HasNoRecord, IsStored, begins_with, rows_of}
-use Rattle.std.specs.Bool.{⊤}
+use Rattle.tables.specs.Rows.{Finds, HasNoRecord, begins_with, rows_of}
 use Rattle.tables.specs.declared.crew.CrewRecord.{CrewRecord}
 use Rattle.tables.specs.declared.table_fault.TableFault.{TableFault}
 use Rattle.state_rows.specs.Rows.{TableName, table, crew, row_of_member, seat_number}
+use Rattle.state_rows.specs.Faults.{store_fault_of}
 use Rattle.state_rows.specs.declared.fault.StoreFault.{StoreFault}
 use Rattle.state_rows.proofs.Tests.{found, passes}
 use Rattle.state_rows.proofs.Values.{text_is, number_is, members_same}
@@ -26,6 +26,8 @@ use Rattle.tables.specs.Schema.{IsBook}
 use Rattle.writing.specs.Outcomes.{CrashAddsNothing, IsOutside, IsOverBook}
 use Rattle.writing.proofs.Committing.{unbegun_shows}
 use Rattle.loading.proofs.Telling.{clean_before}
+use Rattle.lookup.proofs.Causes.{read_cause}
+use Rattle.lookup.proofs.RightRows.{RecordOf, records_of}
 use Rattle.lookup.specs.Reads.{HasFirst, ReadsRows, Shows, Stays, IsOpen}
 
 -- ---- Nothing is changed
@@ -38,10 +40,10 @@ adds_nothing old new left = record {
 
 pub at_rest : (s : State) → IsOutside s → Stays s s
 at_rest s outside = record {
-  left = record { disk = λ clean. clean; crash = λ clean trees may. may };
-  shown = λ clean opened. (opened, refl);
+  nothing_new = record { disk = λ clean. clean; crash = λ clean trees may. may };
+  still_shown = λ clean opened. (opened, refl);
   outside = outside;
-  counts = omega (arith);
+  faults = omega (arith);
   still_open = λ clean opened. inl opened;
   limit = refl;
 }
@@ -63,48 +65,33 @@ module _ {A : Type 0} (Is : Database → A → Type 0) (IsDamaged : Database →
 
   pub stays : (result : Result A TableFault) → ReadAs Is IsDamaged why old new result → Stays old new
   stays result read = record {
-    left = adds_nothing old new left;
-    shown = unbegun_shows old new (clean_before old new left) same (not_made result read);
+    nothing_new = adds_nothing old new left;
+    still_shown = unbegun_shows old new (clean_before old new left) same (not_made result read);
     outside = still_outside result read;
-    counts = left.counts;
+    faults = left.counts;
     still_open = left.closes;
     limit = left.limit;
   }
 
-module _ {A : Type 0} (it : TableName) (test : Row → Bool) (IsRecord : Row → Type 0) (rows : A → List Row) (old new : State)
+module _ {A : Type 0} (it : TableName) (test : Row → Bool) (rows : A → List Row) (old new : State)
     (left : CrashLeavesNoMore old new) (outside : IsOutside old) (same : HasCleanDisk old → IsTrue old.is_open → old.now ≡ old.committed) where
   abbrev FindsThem : Database → A → Type 0
   FindsThem db found = Finds (table it) test db (rows found)
 
-  abbrev LoadsAll : Database → A → Type 0
-  LoadsAll db found = Finds (table it) (begins_with []) db (rows found) × IsStored (table it) db
-
-  pub was_read : (a : A) → Read (table it) test IsRecord rows old new (Ok a) → ReadsRows it test rows old new (Ok a)
+  pub was_read : (a : A) → Read (table it) test (RecordOf it) rows old new (Ok a) → ReadsRows it test rows old new (Ok a)
   was_read a read = record {
-    stays = stays FindsThem (HasNoRecord (table it) test IsRecord) (HasStepLimit old) old new left outside same (Ok a) read;
+    stays = stays FindsThem (HasNoRecord (table it) test (RecordOf it)) (HasStepLimit old) old new left outside same (Ok a) read;
     told = λ clean. ((read clean).1, (read clean).0);
+    caused = tt;
   }
 
-  pub not_read : (fault : TableFault) (told : StoreFault) → Read (table it) test IsRecord rows old new (Err fault) → ReadsRows it test rows old new (Err told)
-  not_read fault told read = record {
-    stays = stays FindsThem (HasNoRecord (table it) test IsRecord) (HasStepLimit old) old new left outside same (Err fault) read;
+  pub not_read : (fault : TableFault) (told : StoreFault) → Read (table it) test (RecordOf it) rows old new (Err fault) → told ≡ store_fault_of fault →
+      ReadsRows it test rows old new (Err told)
+  not_read fault told read of_fault = record {
+    stays = stays FindsThem (HasNoRecord (table it) test (RecordOf it)) (HasStepLimit old) old new left outside same (Err fault) read;
     told = λ clean. tt;
+    caused = λ clean is. read_cause FindsThem (HasNoRecord (table it) test (RecordOf it)) old new fault (records_of it old.now test) read clean (sym of_fault ∙ is);
   }
-
-  pub was_loaded : (a : A) → Loaded (table it) IsRecord rows old new (Ok a) → ReadsRows it (begins_with []) rows old new (Ok a)
-  was_loaded a read = record {
-    stays = stays LoadsAll (HasNoRecord (table it) (begins_with []) IsRecord) ⊤ old new left outside same (Ok a) read;
-    told = λ clean. ((read clean).1, (read clean).0.0);
-  }
-
-  pub not_loaded : (fault : TableFault) (told : StoreFault) → Loaded (table it) IsRecord rows old new (Err fault) → ReadsRows it (begins_with []) rows old new (Err told)
-  not_loaded fault told read = record {
-    stays = stays LoadsAll (HasNoRecord (table it) (begins_with []) IsRecord) ⊤ old new left outside same (Err fault) read;
-    told = λ clean. tt;
-  }
-
-pub not_tried : {A : Type 0} (it : TableName) (test : Row → Bool) (rows : A → List Row) (s : State) (fault : StoreFault) → IsOutside s → ReadsRows it test rows s s (Err fault)
-not_tried it test rows s fault outside = record { stays = at_rest s outside; told = λ clean. tt }
 
 -- ---- The tables are there
 
@@ -115,7 +102,7 @@ abbrev IsFit : Database → Type 0
 IsFit db = IsBook db.schema × AreStored db
 
 pub over_on : (old new : State) → Stays old new → IsOverBook old → IsOverBook new
-over_on old new stays over clean opened = let it = stays.shown clean opened in subst IsFit (sym it.1) (over (stays.left.disk clean) it.0)
+over_on old new stays over clean opened = let it = stays.still_shown clean opened in subst IsFit (sym it.1) (over (stays.nothing_new.disk clean) it.0)
 
 -- ---- Rows that pass a test
 

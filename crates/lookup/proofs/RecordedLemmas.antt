@@ -1,5 +1,5 @@
 -- The exceedances that are read are the state's.
-use Rattle.std.proofs.Common.{◌≡◌, inl, inr, refl, sym, ap, subst, ◌∙◌, ℕ, ℤ, pos, ◌+◌, List, [], ◌∷◌, map, take, length, Result, Ok, Err, Option, Some, None, IfOk, IsTrue, slice_get, true}
+use Rattle.std.proofs.Common.{◌≡◌, inl, inr, refl, sym, ap, subst, ◌∙◌, ℕ, ℤ, pos, ◌+◌, ◌<◌, List, [], ◌∷◌, map, take, length, Result, Ok, Err, Option, Some, None, IfOk, IsTrue, slice_get, true}
 use Rattle.std.specs.Bool.{⊤}
 use Rattle.std.specs.FinMap as fin
 use Rattle.values.specs.Name.{name_cmp}
@@ -18,47 +18,72 @@ use Rattle.roster.specs.declared.state.ExceedanceId.{ExceedanceId}
 use Rattle.roster.specs.declared.state.PeriodId.{PeriodId}
 use Rattle.tables.proofs.KeyLemmas.{exceedance_once}
 use Rattle.tables.specs.Calls.{HasStepLimit, CrashLeavesNoMore, ReadAs}
-use Rattle.tables.specs.Records.{exceedance_row}
+use Rattle.tables.specs.Records.{IsExceedanceRow, exceedance_row}
 use Rattle.tables.specs.Rows.{Finds, FindsInOrder, HasNoRecord, begins_with}
-use Rattle.tables.specs.Schema.{exceedance_table}
+use Rattle.tables.specs.Schema.{IsTable, exceedance_table}
 use Rattle.tables.specs.declared.exceedance.ExceedanceRecord.{ExceedanceRecord}
 use Rattle.tables.specs.declared.table_fault.TableFault.{TableFault}
-use Rattle.state_rows.specs.Rows.{table, exceedance, row_of_exceedance, ExceedanceAt}
+use Rattle.state_rows.specs.Rows.{table, exceedance, request, row_of_exceedance, ExceedanceAt}
+use Rattle.state_rows.specs.Faults.{store_fault_of}
 use Rattle.state_rows.specs.declared.fault.StoreFault.{StoreFault}
+use Rattle.state_rows.specs.declared.fault.StoreFault.TheVariants.{Memory, Store}
 use Rattle.state_rows.proofs.Lists.{same_map}
 use Rattle.state_rows.proofs.Tests.{passes}
-use Rattle.state_rows.proofs.Values.{ids_same, sections_same, number_is, text_is}
+use Rattle.state_rows.proofs.Values.{ids_same, int_is, sections_same, number_is, text_is}
 use Rattle.writing.specs.Kept.{IsBookOf}
 use Rattle.writing.proofs.Tables.{is_there}
 use Rattle.writing.specs.Outcomes.{IsOutside}
-use Rattle.loading.proofs.Mapping.{all_taken, nothing_mapped, next_mapped, mapped_place}
-use Rattle.loading.specs.Loading.{name_of}
-use Rattle.loading.specs.Reading.{AreOnce, Mapped, row_of_recorded}
+use Rattle.loading.proofs.Mapping.{all_taken, nothing_mapped, next_mapped, mapped_at, mapped_place}
+use Rattle.loading.proofs.ReadExceedances.{period_fits, recorded_in}
+use Rattle.loading.specs.Loading.{AreRight, IsKey, name_of}
+use Rattle.loading.specs.Reading.{AreOnce, HasStranger, Mapped, row_of_recorded}
 use Rattle.lookup.specs.Reads.{ReadsRows}
-use Rattle.lookup.specs.Recorded.{AreRead}
-use Rattle.lookup.proofs.ReadLemmas.{in_found, of_found, stays}
+use Rattle.lookup.specs.Recorded.{AreRead, IsNumbered, IsStrange}
+use Rattle.lookup.proofs.Causes.{read_cause, wrong_there}
+use Rattle.lookup.proofs.RightRows.{exceedance_records, exceedances_right, segments_right}
+use Rattle.lookup.proofs.ReadLemmas.{at_rest, in_found, of_found, stays}
 
 -- ---- The call
 
-module _ {A : Type 0} (IsRecord : Row → Type 0) (rows : A → List Row) (old new : State)
+module _ {A : Type 0} (rows : A → List Row) (old new : State)
     (left : CrashLeavesNoMore old new) (outside : IsOutside old) (same : HasCleanDisk old → IsTrue old.is_open → old.now ≡ old.committed) where
   abbrev InOrder : Database → A → Type 0
   InOrder db found = FindsInOrder 4 exceedance_table db (rows found)
 
   abbrev Ordered : Result A TableFault → Type 0
-  Ordered = ReadAs InOrder (HasNoRecord exceedance_table (begins_with []) IsRecord) (HasStepLimit old) old new
+  Ordered = ReadAs InOrder (HasNoRecord exceedance_table (begins_with []) IsExceedanceRow) (HasStepLimit old) old new
 
   pub was_ordered : (a : A) → Ordered (Ok a) → ReadsRows exceedance (begins_with []) rows old new (Ok a)
   was_ordered a read = record {
-    stays = stays InOrder (HasNoRecord exceedance_table (begins_with []) IsRecord) (HasStepLimit old) old new left outside same (Ok a) read;
+    stays = stays InOrder (HasNoRecord exceedance_table (begins_with []) IsExceedanceRow) (HasStepLimit old) old new left outside same (Ok a) read;
     told = λ clean. ((read clean).1, (read clean).0.0);
+    caused = tt;
   }
 
-  pub not_ordered : (fault : TableFault) (told : StoreFault) → Ordered (Err fault) → ReadsRows exceedance (begins_with []) rows old new (Err told)
-  not_ordered fault told read = record {
-    stays = stays InOrder (HasNoRecord exceedance_table (begins_with []) IsRecord) (HasStepLimit old) old new left outside same (Err fault) read;
+  pub not_ordered : (fault : TableFault) (told : StoreFault) → Ordered (Err fault) → told ≡ store_fault_of fault →
+      ReadsRows exceedance (begins_with []) rows old new (Err told)
+  not_ordered fault told read of_fault = record {
+    stays = stays InOrder (HasNoRecord exceedance_table (begins_with []) IsExceedanceRow) (HasStepLimit old) old new left outside same (Err fault) read;
     told = λ clean. tt;
+    caused = λ clean is.
+        read_cause InOrder (HasNoRecord exceedance_table (begins_with []) IsExceedanceRow) old new fault (exceedance_records old.now (begins_with [])) read clean (sym of_fault ∙ is);
   }
+
+-- there was no memory to look for the table
+pub not_tried : {A : Type 0} (rows : A → List Row) (s : State) (fault : StoreFault) → IsOutside s → fault ≡ Memory → ReadsRows exceedance (begins_with []) rows s s (Err fault)
+not_tried rows s fault outside memory = record {
+  stays = at_rest s outside;
+  told = λ clean. tt;
+  caused = λ clean is. absurd (let no : Memory ≡ Store = sym memory ∙ is in cc);
+}
+
+-- the table isn't there
+pub not_there : {A : Type 0} (rows : A → List Row) (s : State) → IsOutside s → (IsTable exceedance_table s.now.schema → ⊥) → ReadsRows exceedance (begins_with []) rows s s (Err Store)
+not_there rows s outside none = record {
+  stays = at_rest s outside;
+  told = λ clean. tt;
+  caused = λ clean is. wrong_there s s (λ right. none (exceedances_right s.now right).1.1.0.0);
+}
 
 -- ---- One record
 
@@ -66,7 +91,33 @@ pub row_is : (it : ExceedanceRecord) (key : KeyParts) (section : Section) → it
     exceedance_row it ≡ row_of_recorded (record { key = key; crew = it.crew; section = section }) (record { pairing = it.pairing; number = it.period })
 row_is it key section number part section_is = λ i. exceedance_row (record it { number = number i; part = part i; section = section_is i })
 
+module _ (it : ExceedanceRecord) (id : ExceedanceId) (period : PeriodId) (same : exceedance_row it ≡ row_of_recorded id period) (is : IsNumbered id period) where
+  column_of : (k : ℕ) → column (exceedance_row it) k ≡ column (row_of_recorded id period) k
+  column_of k = ap (λ (row : Row). column row k) same
+
+  key_there : (key : KeyParts) × IsKey key × (it.number ≡ pos key.number) × (it.part ≡ key.part)
+  key_there = (id.key, is.0, int_is (column_of 0), number_is (column_of 1))
+
+  section_there : (section : Section) × (it.section ≡ section_number section)
+  section_there = (id.section, number_is (column_of 3))
+
+  period_there : it.period < 256
+  period_there = subst (λ n. n < 256) (sym (number_is (column_of 5))) is.1
+
+pub no_key : (it : ExceedanceRecord) → ((key : KeyParts) → IsKey key → it.number ≡ pos key.number → it.part ≡ key.part → ⊥) → IsStrange it
+no_key it none id period same is = let key = key_there it id period same is in none key.0 key.1 key.2 key.3
+
+pub no_section : (it : ExceedanceRecord) → ((section : Section) → it.section ≡ section_number section → ⊥) → IsStrange it
+no_section it none id period same is = let section = section_there it id period same is in none section.0 section.1
+
+pub no_period : (it : ExceedanceRecord) → (it.period < 256 → ⊥) → IsStrange it
+no_period it high id period same is = high (period_there it id period same is)
+
 -- ---- Records in turn
+
+pub stranger_at : (records : List ExceedanceRecord) (at : ℕ) (it : ExceedanceRecord) → slice_get records at ≡ Some it → IsStrange it →
+    HasStranger row_of_recorded IsNumbered (map exceedance_row records)
+stranger_at records at it there strange = record { row = exceedance_row it; here = mapped_at exceedance_row records at it there; strange = strange }
 
 abbrev Is : ExceedanceId → PeriodId → Type 0
 Is id period = ⊤
@@ -128,3 +179,11 @@ module _ (s : roster.State) (sound : Sound s) (db : Database) (is_book : IsBookO
       let here = mapped.has row (in_found exceedance (begins_with []) db (map exceedance_row records) finds row ((is_book.rows exceedance row).1 (at, refl)) refl) in
       let same = same_at id here.0.index p here.0.value here.1 in
       ap (fin.get m) (x.known_by ∙ same.0) ∙ here.0.there ∙ ap Some (sym same.1))
+
+pub no_stranger : (db : Database) → AreRight request db → (records : List ExceedanceRecord) → Finds (table exceedance) (begins_with []) db (map exceedance_row records) →
+    HasStranger row_of_recorded IsNumbered (map exceedance_row records) → ⊥
+no_stranger db right records finds x =
+    let r = exceedances_right db right in
+    let there = of_found exceedance (begins_with []) db (map exceedance_row records) finds x.row x.here in
+    let it = recorded_in r.0 db r.1 x.row there.0 in
+    x.strange it.0 it.1 it.2 (it.3.is_key, period_fits r.0 (segments_right db right).1.3 it.0 it.1 it.3)

@@ -1,5 +1,6 @@
 -- What is read of one pairing, and what its records tell.
-use Rattle.std.specs.Prelude.{◌≡◌, ⊤, ℕ, List, [], ◌∷◌, map, Option, None, Some, Result, IfOk, slice_get}
+use Rattle.std.specs.Prelude.{◌≡◌, ⊤, ℕ, List, [], ◌∷◌, map, Option, None, Some}
+use Rattle.std.specs.Prelude.{Result, IfErr, IfOk, slice_get}
 use Rattle.sqlite_value.specs.declared.value.Value.TheVariants.{Text}
 use Rattle.sqlite.specs.Effect.{Database}
 use Rattle.sqlite.specs.State as conn
@@ -12,8 +13,11 @@ use Rattle.tables.specs.declared.seat.SeatRecord.{SeatRecord}
 use Rattle.tables.specs.declared.segment.SegmentRecord.{SegmentRecord}
 use Rattle.state_rows.specs.Rows.{table, period, seat, segment}
 use Rattle.state_rows.specs.declared.fault.StoreFault.{StoreFault}
+use Rattle.state_rows.specs.declared.fault.StoreFault.TheVariants.{Memory, Store}
 use Rattle.loading.specs.OnePairing.{IsToldBy}
-use Rattle.lookup.specs.Reads.{Stays}
+use Rattle.loading.specs.declared.fault.LoadFault.{LoadFault}
+use Rattle.loading.specs.declared.fault.LoadFault.TheVariants.{Fault}
+use Rattle.lookup.specs.Reads.{IsCaused, Stays}
 use Rattle.lookup.specs.declared.pairing.PlanRecords.{PlanRecords}
 
 -- a fact that matters only where a list has an element
@@ -21,24 +25,36 @@ abbrev pub IfSome : {A : Type 0} → List A → Type 0 → Type 0
 IfSome [] P = ⊤
 IfSome (x ∷ xs) P = P
 
--- the records of the periods of one pairing, and if it has any, those of its segments and held seats
+-- the records of the periods of one pairing, and if it has any, those of its segments and of its
+-- held seats
 pub record FindsPlan (id : List ℕ) (db : Database) (rows : PlanRecords) : Type 0 where
-  pub periods : Finds (table period) (begins_with (Text id ∷ [])) db (map period_row rows.periods.items)
-  pub segments : IfSome rows.periods.items (Finds (table segment) (begins_with (Text id ∷ [])) db (map segment_row rows.segments.items))
-  pub seats : IfSome rows.periods.items (Finds (table seat) (begins_with (Text id ∷ [])) db (map seat_row rows.seats.items))
+  pub periods : Finds (table period) (begins_with (Text id ∷ [])) db
+      (map period_row rows.periods.items)
+  pub segments : IfSome rows.periods.items
+      (Finds (table segment) (begins_with (Text id ∷ [])) db (map segment_row rows.segments.items))
+  pub seats : IfSome rows.periods.items
+      (Finds (table seat) (begins_with (Text id ∷ [])) db (map seat_row rows.seats.items))
 
--- what the reads of them tell: nothing is changed, and the records are those
-pub record ReadsPlan (id : List ℕ) (old new : conn.State) (result : Result PlanRecords StoreFault) : Type 0 where
+-- what the reads of the records of one pairing tell: nothing is changed, the records are just those
+-- of the tables, and a fault of the store has a cause
+pub record ReadsPlan (id : List ℕ) (old new : conn.State)
+    (result : Result PlanRecords StoreFault) : Type 0 where
   pub stays : Stays old new
-  pub told : HasCleanDisk new → IfOk result (λ rows. IsUnchanged old new × FindsPlan id old.now rows)
+  pub told : HasCleanDisk new →
+      IfOk result (λ rows. IsUnchanged old new × FindsPlan id old.now rows)
+  pub caused : IfErr result (IsCaused old new)
 
 -- who holds the seat of a number by some records, if anybody does
 abbrev pub HoldsSeat : ℕ → List SeatRecord → Option (List ℕ) → Type 0
-HoldsSeat number seats None = (i : ℕ) (row : SeatRecord) → slice_get seats i ≡ Some row → row.seat ≡ number → ⊥
-HoldsSeat number seats (Some who) = (i : ℕ) × (row : SeatRecord) × (slice_get seats i ≡ Some row) × (row.seat ≡ number) × (who ≡ row.crew)
+HoldsSeat number seats None =
+    (i : ℕ) (row : SeatRecord) → slice_get seats i ≡ Some row → row.seat ≡ number → ⊥
+HoldsSeat number seats (Some who) =
+    (i : ℕ) × (row : SeatRecord)
+    × (slice_get seats i ≡ Some row) × (row.seat ≡ number) × (who ≡ row.crew)
 
 -- the pairing that some records tell of, with who holds its seats
-pub record IsPairingOfRecords (id : List ℕ) (periods : List PeriodRecord) (segments : List SegmentRecord) (seats : List SeatRecord) (r : PairingEntry) : Type 0 where
+pub record IsPairingOfRecords (id : List ℕ) (periods : List PeriodRecord)
+    (segments : List SegmentRecord) (seats : List SeatRecord) (r : PairingEntry) : Type 0 where
   pub free : PairingEntry
   pub told : IsToldBy id periods segments free
   pub plan : r.plan ≡ free.plan
@@ -46,7 +62,14 @@ pub record IsPairingOfRecords (id : List ℕ) (periods : List PeriodRecord) (seg
   pub captain : HoldsSeat 0 seats r.captain
   pub first_officer : HoldsSeat 1 seats r.first_officer
 
--- there is none where there is no period
-abbrev pub TellsPairing : List ℕ → List PeriodRecord → List SegmentRecord → List SeatRecord → Option PairingEntry → Type 0
+-- the pairing that the records of one id tell of: there is none where there is no period
+abbrev pub TellsPairing : List ℕ → List PeriodRecord → List SegmentRecord → List SeatRecord
+    → Option PairingEntry → Type 0
 TellsPairing id [] segments seats found = found ≡ None
-TellsPairing id (p ∷ ps) segments seats found = (r : PairingEntry) × (found ≡ Some r) × IsPairingOfRecords id (p ∷ ps) segments seats r
+TellsPairing id (p ∷ ps) segments seats found =
+    (r : PairingEntry) × (found ≡ Some r) × IsPairingOfRecords id (p ∷ ps) segments seats r
+
+-- the fault of a pairing of which its records don't tell: 91 where there was no memory, and else 90
+abbrev pub untold_as : LoadFault → StoreFault
+untold_as (Fault fault) = Memory
+untold_as _ = Store

@@ -1,55 +1,92 @@
 -- What a read by key tells of the state whose tables are read.
-use Rattle.std.specs.Prelude.{◌≡◌, ◌≤◌, ℕ, map, Bool, OnOk, IsTrue, List, [], ◌∷◌, Option, None, Some, Result, IfOk}
+use Rattle.std.specs.Prelude.{◌≡◌, ◌⊎◌, ◌≤◌, ℕ, map, Bool, false, OnOk, IsTrue}
+use Rattle.std.specs.Prelude.{List, [], ◌∷◌, Option, None, Some, Result, IfErr, IfOk}
+use Rattle.sqlite_disk.specs.Disk.{MoreFaults}
 use Rattle.sqlite_value.specs.Order.{Row}
 use Rattle.sqlite.specs.State as conn
 use Rattle.sqlite.specs.State.{HasCleanDisk, IsUnchanged}
 use Rattle.command.specs.declared.member.Member.{Member}
 use Rattle.roster.specs.Sound.{Sound}
 use Rattle.roster.specs.State.{State}
+use Rattle.loading.specs.Loading.{AreRight}
 use Rattle.loading.specs.SameRows.{HasInstants}
+use Rattle.tables.specs.Calls.{HasStepLimit}
 use Rattle.tables.specs.Rows.{Finds}
 use Rattle.tables.specs.declared.crew.CrewRecord.{CrewRecord}
 use Rattle.tables.specs.declared.seat.SeatRecord.{SeatRecord}
-use Rattle.state_rows.specs.Rows.{TableName, table, seat_number}
+use Rattle.state_rows.specs.Rows.{TableName, table, request, seat_number}
 use Rattle.state_rows.specs.declared.fault.StoreFault.{StoreFault}
+use Rattle.state_rows.specs.declared.fault.StoreFault.TheVariants.{Store}
 use Rattle.writing.specs.Kept.{IsBookOf}
 use Rattle.writing.specs.Outcomes.{CrashAddsNothing, IsOutside, StaysOpen, StillShows}
 
--- it shows the tables of a book in this state, which is sound, while it is open
+-- a connection shows the tables of a book in this state, which is sound, while it is open
 pub record Shows (now : conn.State) (s : State) : Type 0 where
   pub sound : Sound s
   pub instants : HasInstants s
   pub book : HasCleanDisk now → IsTrue now.is_open → IsBookOf s now.now
 
--- Nothing is changed: a crash leaves nothing that it could not leave before, and what was shown is shown. No fault of the disk is
--- forgotten, only one shuts the connection, and no limit is set on later statements.
+-- Nothing is changed: a crash leaves nothing that it could not leave before, and what was shown is
+-- shown. No fault of the disk is forgotten, only one shuts the connection, and no limit is set on
+-- later statements.
 pub record Stays (old new : conn.State) : Type 0 where
-  pub left : CrashAddsNothing old new
-  pub shown : StillShows old new
+  pub nothing_new : CrashAddsNothing old new
+  pub still_shown : StillShows old new
   pub outside : IsOutside new
-  pub counts : old.faults ≤ new.faults
+  pub faults : old.faults ≤ new.faults
   pub still_open : StaysOpen old new
   pub limit : new.step_limit ≡ old.step_limit
 
--- it is open: only an open one answers
+-- the connection is open: only an open one answers
 abbrev pub IsOpen : conn.State → Type 0
 IsOpen now = HasCleanDisk now → IsTrue now.is_open
 
--- what a read of a table tells: nothing is changed, and the rows are just those that pass the test
-pub record ReadsRows {A : Type 0} (it : TableName) (test : Row → Bool) (rows : A → List Row) (old new : conn.State) (result : Result A StoreFault) : Type 0 where
-  pub stays : Stays old new
-  pub told : HasCleanDisk new → IfOk result (λ a. IsUnchanged old new × Finds (table it) test old.now (rows a))
+-- Why a read answers a fault of the store (90): the disk failed or refused a call meanwhile, an
+-- earlier failure had shut the connection, a limit is set on the steps of a statement, or the
+-- tables are not those of a right book, which opening them would refuse.
+abbrev pub HasStoreCause : conn.State → conn.State → Type 0
+HasStoreCause old new =
+    MoreFaults old.faults new.faults
+    ⊎ ((old.is_open ≡ false)
+    ⊎ (HasStepLimit old
+    ⊎ (AreRight request old.now → ⊥)))
 
--- what a read by key tells: nothing is changed, and the answer is what the state has that is shown
-pub record ReadsByKey {A : Type 0} (Is : State → A → Type 0) (old new : conn.State) (result : Result A StoreFault) : Type 0 where
+-- what a fault of a read says: one of the store (90) has a cause
+abbrev pub IsCaused : conn.State → conn.State → StoreFault → Type 0
+IsCaused old new fault = HasCleanDisk new → fault ≡ Store → HasStoreCause old new
+
+-- what a fault of a read by key says: where a sound state was shown, one of the store has a cause
+abbrev pub IsReadFault : conn.State → conn.State → StoreFault → Type 0
+IsReadFault old new fault = (s : State) → Shows old s → IsCaused old new fault
+
+-- what a read of a table tells: nothing is changed, the rows are just those that pass the test, and
+-- a fault of the store has a cause
+pub record ReadsRows {A : Type 0} (it : TableName) (test : Row → Bool) (rows : A → List Row)
+    (old new : conn.State) (result : Result A StoreFault) : Type 0 where
+  pub stays : Stays old new
+  pub told : HasCleanDisk new →
+      IfOk result (λ a. IsUnchanged old new × Finds (table it) test old.now (rows a))
+  pub caused : IfErr result (IsCaused old new)
+
+-- what a read by key tells: nothing is changed, the answer is what the state has that is shown, and
+-- a fault of the store has a cause
+pub record ReadsByKey {A : Type 0} (Is : State → A → Type 0)
+    (old new : conn.State) (result : Result A StoreFault) : Type 0 where
   pub stays : Stays old new
   pub opened : OnOk result (IsOpen new)
-  pub told : HasCleanDisk new → (s : State) → Shows old s → IfOk result (λ a. Shows new s × Is s a)
+  pub told : HasCleanDisk new → (s : State) → Shows old s →
+      IfOk result (λ a. Shows new s × Is s a)
+  pub caused : IfErr result (IsReadFault old new)
+
+-- some records tell of no entry: no answer is what they tell
+abbrev pub TellOfNone : {A : Type 0} → (A → Type 0) → Type 0
+TellOfNone {A} Told = (found : A) → Told found → ⊥
 
 -- the member of the first record, if there is one
 abbrev pub HasFirst : List CrewRecord → Option Member → Type 0
 HasFirst [] found = found ≡ None
-HasFirst (row ∷ rows) found = (m : Member) × (found ≡ Some m) × (seat_number m.seat ≡ row.seat) × (m.name ≡ row.name)
+HasFirst (row ∷ rows) found =
+    (m : Member) × (found ≡ Some m) × (seat_number m.seat ≡ row.seat) × (m.name ≡ row.name)
 
 -- the pairings that some records of seats name
 abbrev pub ids_in : List SeatRecord → List (List ℕ)
@@ -59,8 +96,8 @@ ids_in records = map (λ row. row.pairing) records
 
 -- what some reads, one after the other, leave of a connection
 pub record ChangesNothing (old new : conn.State) : Type 0 where
-  pub left : CrashAddsNothing old new
-  pub shown : StillShows old new
-  pub counts : old.faults ≤ new.faults
+  pub nothing_new : CrashAddsNothing old new
+  pub still_shown : StillShows old new
+  pub faults : old.faults ≤ new.faults
   pub still_open : StaysOpen old new
   pub limit : new.step_limit ≡ old.step_limit

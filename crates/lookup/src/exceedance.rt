@@ -1,15 +1,15 @@
 //! The exceedances of the book.
 //! Through the program: `tests/reports.py`. Wrong bodies: `must-fail-more/`.
 
-ghost use Rattle.std.specs.Prelude.{◌≡◌, [], length, map, IfOk};
+ghost use Rattle.std.specs.Prelude.{◌≡◌, [], length, map, IfErr, IfOk};
 ghost use Rattle.sqlite.specs.Held.{state};
 ghost use Rattle.tables.specs.Records.{exceedance_row};
 ghost use Rattle.tables.specs.Rows.{begins_with};
-ghost use Rattle.loading.specs.Reading.{row_of_recorded};
+ghost use Rattle.loading.specs.Reading.{HasStranger, row_of_recorded};
 ghost use Rattle.writing.specs.Outcomes.{IsOutside};
 ghost use Rattle.state_rows.specs.Rows.{exceedance};
 ghost use Rattle.lookup.specs.Reads.{ReadsByKey, ReadsRows};
-ghost use Rattle.lookup.specs.Recorded.{AreRead};
+ghost use Rattle.lookup.specs.Recorded.{AreRead, IsNumbered, IsStrange};
 
 use duty::{CrewId, PairingId};
 use loading::{key_of, section_of};
@@ -28,7 +28,7 @@ struct Told {
 }
 
 /// Reads the records of the table.
-#[tactic(auto, using(crate::proofs::RecordedLemmas::was_ordered, crate::proofs::RecordedLemmas::not_ordered, crate::proofs::ReadLemmas::not_tried))]
+#[tactic(auto, using(crate::proofs::RecordedLemmas::was_ordered, crate::proofs::RecordedLemmas::not_ordered, crate::proofs::RecordedLemmas::not_tried, crate::proofs::RecordedLemmas::not_there))]
 fn exceedance_rows<S: Alter>(
     alloc: Global,
     conn: &mut Connection<S>,
@@ -49,9 +49,10 @@ fn exceedance_rows<S: Alter>(
 }
 
 /// Returns the exceedance that a record tells of.
-#[tactic(auto, using(crate::proofs::RecordedLemmas::row_is))]
+#[tactic(auto, using(crate::proofs::RecordedLemmas::row_is, crate::proofs::RecordedLemmas::no_key, crate::proofs::RecordedLemmas::no_section, crate::proofs::RecordedLemmas::no_period))]
 fn exceedance_told(alloc: Global, row: &ExceedanceRecord) -> Result<Told, StoreFault>
-    ensures { IfOk result (λ it. exceedance_row row.now ≡ row_of_recorded it.id it.period) }
+    ensures told { IfOk result (λ it. exceedance_row row.now ≡ row_of_recorded it.id it.period) }
+    ensures untold { IfErr result (λ fault. fault ≡ StoreFault.Store → IsStrange row.now) }
 {
     let Some(key) = key_of(row.number, row.part) else {
         return Err(StoreFault::Store);
@@ -71,11 +72,14 @@ fn exceedance_told(alloc: Global, row: &ExceedanceRecord) -> Result<Told, StoreF
 }
 
 /// Returns the exceedances that the records tell of.
+#[tactic(auto, using(crate::proofs::RecordedLemmas::stranger_at))]
 fn exceedances_told(
     alloc: Global,
     records: &[ExceedanceRecord],
 ) -> Result<OrdMap<ExceedanceId, PeriodId>, StoreFault>
-    ensures { IfOk result (AreRead records.now (length records.now)) }
+    ensures told { IfOk result (AreRead records.now (length records.now)) }
+    ensures untold { IfErr result (λ fault. fault ≡ StoreFault.Store
+        → HasStranger row_of_recorded IsNumbered (map exceedance_row records.now)) }
 {
     let mut all = OrdMap::new(alloc);
     for row in records {
@@ -86,6 +90,7 @@ fn exceedances_told(
 }
 
 /// Reads all exceedances.
+#[tactic(auto, using(crate::proofs::Causes::not_told))]
 pub fn exceedances_at<S: Alter>(
     alloc: Global,
     conn: &mut Connection<S>,

@@ -1,7 +1,7 @@
 //! Ground duties, read by id and by member.
 //! Through the program: `tests/answers.py`. Wrong bodies: `must-fail/`.
 
-ghost use Rattle.std.specs.Prelude.{◌≡◌, IfOk, [], ◌∷◌, map};
+ghost use Rattle.std.specs.Prelude.{◌≡◌, IfErr, IfOk, [], ◌∷◌, map};
 ghost use Rattle.std.specs.FinMap as fin;
 ghost use Rattle.sqlite.specs.Held.{state};
 ghost use Rattle.sqlite_value.specs.declared.value.Value.TheVariants as value;
@@ -10,7 +10,7 @@ ghost use Rattle.tables.specs.Rows.{begins_with, equals_at};
 ghost use Rattle.writing.specs.Outcomes.{IsOutside, IsOverBook};
 ghost use Rattle.state_rows.specs.Rows.{ground_duty};
 ghost use Rattle.roster.specs.Holding.{AreJust, IsGroundOf};
-ghost use Rattle.lookup.specs.Reads.{ReadsByKey, ReadsRows};
+ghost use Rattle.lookup.specs.Reads.{ReadsByKey, ReadsRows, TellOfNone};
 ghost use Rattle.lookup.specs.Entries.{HasFirstGround, grounds_in};
 
 use duty::{CrewId, Ground, GroundId};
@@ -64,8 +64,11 @@ fn crew_ground_rows<S: Alter>(
 }
 
 /// Returns the ground duty that the first of some records tells of.
+#[tactic(auto, using(crate::proofs::RightEntries::no_begin, crate::proofs::RightEntries::no_end, crate::proofs::RightEntries::no_ground))]
 fn first_ground(alloc: Global, records: &[GroundRecord]) -> Result<Option<Ground>, StoreFault>
-    ensures { IfOk result (HasFirstGround records.now) }
+    ensures told { IfOk result (HasFirstGround records.now) }
+    ensures untold { IfErr result
+        (λ fault. fault ≡ StoreFault.Store → TellOfNone (HasFirstGround records.now)) }
 {
     let Some(row) = records.first() else {
         return Ok(None);
@@ -97,6 +100,7 @@ fn ids_in(alloc: Global, records: &[GroundRecord]) -> Result<Vec<GroundId>, Memo
 }
 
 /// Reads the ground duty of an id.
+#[tactic(auto, using(crate::proofs::Causes::not_told))]
 pub fn ground_at<S: Alter>(
     alloc: Global,
     conn: &mut Connection<S>,
@@ -112,6 +116,7 @@ pub fn ground_at<S: Alter>(
 }
 
 /// Reads the ids of a member's ground duties.
+#[tactic(auto, using(crate::proofs::Causes::not_told, crate::proofs::Causes::no_memory))]
 pub fn grounds_held_at<S: Alter>(
     alloc: Global,
     conn: &mut Connection<S>,

@@ -50,6 +50,7 @@ fn ids_in(alloc: Global, records: &[SeatRecord]) -> Result<Vec<PairingId>, Memor
 }
 
 /// Reads the ids of the pairings that a member holds.
+#[tactic(auto, using(crate::proofs::Causes::not_told, crate::proofs::Causes::no_memory))]
 pub fn pairings_held_at<S: Alter>(
     alloc: Global,
     conn: &mut Connection<S>,

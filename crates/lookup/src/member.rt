@@ -1,7 +1,7 @@
 //! A member, read by id.
 //! Through the program: `tests/answers.py`. Wrong bodies: `must-fail-more/`.
 
-ghost use Rattle.std.specs.Prelude.{◌≡◌, IfOk, [], ◌∷◌, map};
+ghost use Rattle.std.specs.Prelude.{◌≡◌, IfErr, IfOk, [], ◌∷◌, map};
 ghost use Rattle.std.specs.FinMap as fin;
 ghost use Rattle.sqlite.specs.Held.{state};
 ghost use Rattle.sqlite_value.specs.declared.value.Value.TheVariants as value;
@@ -9,7 +9,7 @@ ghost use Rattle.tables.specs.Records.{crew_row};
 ghost use Rattle.tables.specs.Rows.{begins_with};
 ghost use Rattle.writing.specs.Outcomes.{IsOutside, IsOverBook};
 ghost use Rattle.state_rows.specs.Rows.{crew};
-ghost use Rattle.lookup.specs.Reads.{HasFirst, ReadsByKey, ReadsRows};
+ghost use Rattle.lookup.specs.Reads.{HasFirst, ReadsByKey, ReadsRows, TellOfNone};
 
 use command::{Member, Seat};
 use duty::CrewId;
@@ -41,8 +41,11 @@ fn crew_rows<S: Alter>(
 }
 
 /// Returns the member that the first of some records tells of.
+#[tactic(auto, using(crate::proofs::RightEntries::no_seat))]
 fn first_member(alloc: Global, records: &[CrewRecord]) -> Result<Option<Member>, StoreFault>
-    ensures { IfOk result (HasFirst records.now) }
+    ensures told { IfOk result (HasFirst records.now) }
+    ensures untold { IfErr result
+        (λ fault. fault ≡ StoreFault.Store → TellOfNone (HasFirst records.now)) }
 {
     let Some(row) = records.first() else {
         return Ok(None);
@@ -59,6 +62,7 @@ fn first_member(alloc: Global, records: &[CrewRecord]) -> Result<Option<Member>,
 }
 
 /// Reads the member of an id.
+#[tactic(auto, using(crate::proofs::Causes::not_told))]
 pub fn member_at<S: Alter>(
     alloc: Global,
     conn: &mut Connection<S>,

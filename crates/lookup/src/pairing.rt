@@ -1,7 +1,7 @@
 //! A pairing with its actuals and holders, read by id.
 //! Through the program: `tests/answers.py`. Wrong bodies: `must-fail/`.
 
-ghost use Rattle.std.specs.Prelude.{◌≡◌, IfOk, [], ◌∷◌, map};
+ghost use Rattle.std.specs.Prelude.{◌≡◌, IfErr, IfOk, IsSome, [], ◌∷◌, map, slice_get};
 ghost use Rattle.std.specs.FinMap as fin;
 ghost use Rattle.sqlite.specs.Held.{state};
 ghost use Rattle.sqlite_value.specs.declared.value.Value.TheVariants as value;
@@ -9,8 +9,9 @@ ghost use Rattle.tables.specs.Records.{period_row, seat_row, segment_row};
 ghost use Rattle.tables.specs.Rows.{begins_with};
 ghost use Rattle.writing.specs.Outcomes.{IsOutside, IsOverBook};
 ghost use Rattle.state_rows.specs.Rows.{period, seat, segment};
+ghost use Rattle.loading.specs.OnePairing.{IsUntold};
 ghost use Rattle.lookup.specs.Reads.{ReadsByKey, ReadsRows};
-ghost use Rattle.lookup.specs.Plans.{HoldsSeat, ReadsPlan, TellsPairing};
+ghost use Rattle.lookup.specs.Plans.{HoldsSeat, ReadsPlan, TellsPairing, untold_as};
 
 use duty::{CrewId, PairingId};
 use loading::{LoadFault, pairing_of_records};
@@ -138,22 +139,34 @@ fn holder_in(
     Ok(None)
 }
 
+/// Names why records tell of no pairing. No table was read of, so a fault is want of memory.
+fn untold(fault: LoadFault) -> StoreFault
+    ensures { result ≡ untold_as fault }
+{
+    match fault {
+        LoadFault::Fault(_) => StoreFault::Memory,
+        LoadFault::NotABook | LoadFault::Version | LoadFault::Damaged(_) => StoreFault::Store,
+    }
+}
+
 /// Returns the pairing that the records tell of.
 fn pairing_told(
     alloc: Global,
     id: &PairingId,
     rows: &PlanRecords,
 ) -> Result<Option<PairingEntry>, StoreFault>
-    ensures { IfOk result
+    ensures told { IfOk result
         (TellsPairing id.now rows.now.periods.items rows.now.segments.items rows.now.seats.items) }
+    ensures untold { IfErr result (λ fault. fault ≡ StoreFault.Store
+        → IsSome (slice_get rows.now.periods.items 0)
+        × IsUntold id.now rows.now.periods.items rows.now.segments.items) }
 {
     let Some(_) = rows.periods.first() else {
         return Ok(None);
     };
     let free = match pairing_of_records(alloc, id, &rows.periods, &rows.segments) {
         Ok(free) => free,
-        Err(LoadFault::Fault(fault)) => return Err(fault),
-        Err(_) => return Err(StoreFault::Store),
+        Err(fault) => return Err(untold(fault)),
     };
     let captain = holder_in(alloc, 0, &rows.seats)?;
     let first_officer = holder_in(alloc, 1, &rows.seats)?;
@@ -166,6 +179,7 @@ fn pairing_told(
 }
 
 /// Reads the pairing of an id.
+#[tactic(auto, using(crate::proofs::Causes::not_told))]
 pub fn pairing_at<S: Alter>(
     alloc: Global,
     conn: &mut Connection<S>,

@@ -1,7 +1,7 @@
 //! What a key holds, read by key.
 //! Through the program: `tests/answers.py`. Wrong bodies: `must-fail/`.
 
-ghost use Rattle.std.specs.Prelude.{◌≡◌, IfOk, [], ◌∷◌, map, pos};
+ghost use Rattle.std.specs.Prelude.{◌≡◌, IfErr, IfOk, [], ◌∷◌, map, pos};
 ghost use Rattle.std.specs.FinMap as fin;
 ghost use Rattle.sqlite.specs.Held.{state};
 ghost use Rattle.sqlite_value.specs.declared.value.Value.TheVariants as value;
@@ -10,7 +10,7 @@ ghost use Rattle.tables.specs.Records.{request_row};
 ghost use Rattle.tables.specs.Rows.{begins_with};
 ghost use Rattle.writing.specs.Outcomes.{IsOutside, IsOverBook};
 ghost use Rattle.state_rows.specs.Rows.{request};
-ghost use Rattle.lookup.specs.Reads.{ReadsByKey, ReadsRows};
+ghost use Rattle.lookup.specs.Reads.{ReadsByKey, ReadsRows, TellOfNone};
 ghost use Rattle.lookup.specs.Entries.{HasFirstRequest};
 
 use command::Key;
@@ -44,11 +44,14 @@ fn request_rows<S: Alter>(
 }
 
 /// Returns the command and reply that the first of some records tells of.
+#[tactic(auto, using(crate::proofs::RightEntries::no_command, crate::proofs::RightEntries::no_reply))]
 fn first_request(
     alloc: Global,
     records: &[RequestRecord],
 ) -> Result<Option<LoggedCommand>, StoreFault>
-    ensures { IfOk result (HasFirstRequest records.now) }
+    ensures told { IfOk result (HasFirstRequest records.now) }
+    ensures untold { IfErr result
+        (λ fault. fault ≡ StoreFault.Store → TellOfNone (HasFirstRequest records.now)) }
 {
     let Some(row) = records.first() else {
         return Ok(None);
@@ -63,6 +66,7 @@ fn first_request(
 }
 
 /// Reads what a key holds.
+#[tactic(auto, using(crate::proofs::Causes::not_told))]
 pub fn request_at<S: Alter>(
     alloc: Global,
     conn: &mut Connection<S>,

@@ -1,13 +1,13 @@
 //! The zone of the book.
 //! Through the program: `tests/answers.py`. Wrong bodies: `must-fail-more/`.
 
-ghost use Rattle.std.specs.Prelude.{◌≡◌, IfOk, [], map};
+ghost use Rattle.std.specs.Prelude.{◌≡◌, IfErr, IfOk, [], map};
 ghost use Rattle.sqlite.specs.Held.{state};
 ghost use Rattle.tables.specs.Records.{book_row};
 ghost use Rattle.tables.specs.Rows.{begins_with};
 ghost use Rattle.writing.specs.Outcomes.{IsOutside, IsOverBook};
 ghost use Rattle.state_rows.specs.Rows.{book};
-ghost use Rattle.lookup.specs.Reads.{ReadsByKey, ReadsRows};
+ghost use Rattle.lookup.specs.Reads.{ReadsByKey, ReadsRows, TellOfNone};
 ghost use Rattle.lookup.specs.Entries.{HasFirstZone};
 
 use sqlite::{Alter, Connection};
@@ -36,8 +36,11 @@ fn book_rows<S: Alter>(
 }
 
 /// Returns the zone that the first of some records names.
+#[tactic(auto, using(crate::proofs::RightEntries::no_book, crate::proofs::RightEntries::no_zone))]
 fn first_zone(alloc: Global, records: &[BookRecord]) -> Result<Zone, StoreFault>
-    ensures { IfOk result (HasFirstZone records.now) }
+    ensures told { IfOk result (HasFirstZone records.now) }
+    ensures untold { IfErr result
+        (λ fault. fault ≡ StoreFault.Store → TellOfNone (HasFirstZone records.now)) }
 {
     let Some(row) = records.first() else {
         return Err(StoreFault::Store);
@@ -50,6 +53,7 @@ fn first_zone(alloc: Global, records: &[BookRecord]) -> Result<Zone, StoreFault>
 }
 
 /// Reads the zone.
+#[tactic(auto, using(crate::proofs::Causes::not_told))]
 pub fn zone_at<S: Alter>(alloc: Global, conn: &mut Connection<S>) -> Result<Zone, StoreFault>
     requires outside { IsOutside (state S.Store conn.old) }
     requires over { IsOverBook (state S.Store conn.old) }

@@ -1,5 +1,6 @@
 pub mod Retained
 pub mod Alike
+pub mod Causes
 pub mod Answers
 pub mod SoundParts
 pub mod Picked

@@ -1,5 +1,5 @@
 -- What a source that is read by key tells of the state that it shows.
-use Rattle.std.specs.Prelude.{◌≡◌, ◌++◌, List, map, ℕ, Result, IfOk, Some}
+use Rattle.std.specs.Prelude.{◌≡◌, ◌⊎◌, ◌++◌, List, map, ℕ, Result, IfOk, Some}
 use Rattle.std.specs.FinMap as fin
 use Rattle.std.specs.List.{Contains, fold, flat_map}
 use Rattle.std.specs.Option.{option_map_or}
@@ -15,6 +15,11 @@ use Rattle.roster.specs.declared.state.PairingEntry.{PairingEntry}
 abbrev pub TellsOfState : {X A E : Type 0} → (X → Type 0) → (X → State → Type 0) → (State → A → Type 0) → X → X → Result A E → Type 0
 TellsOfState IsClean Shows Is old new result =
     (IsClean new → IsClean old) × (IsClean new → (s : State) → Shows old s → IfOk result (λ a. Shows new s × Is s a))
+
+-- why a gathering answers a fault: a call of the source failed, of which it says why, or it found no
+-- memory beside the calls
+abbrev pub IsCaused : {X F M : Type 0} → (X → X → F → Type 0) → (M → F → Type 0) → X → X → F → Type 0
+IsCaused {X} {F} {M} fails made old new fault = fails old new fault ⊎ ((none : M) × made none fault)
 
 -- a map with what another has under an id, if it has anything there; and so for each of some ids
 abbrev pub pick : {V : Type 0} → fin.FinMap name_cmp V → fin.FinMap name_cmp V → List ℕ → fin.FinMap name_cmp V

@@ -1,13 +1,13 @@
 //! The part of a state, gathered from a source. Its definition is `Part` (`specs/Part.antt`).
 //! Through the program: `tests/answers.py`. Wrong bodies: `must-fail/`.
 
-ghost use Rattle.std.specs.Prelude.{◌≡◌, ◌++◌, OnOk};
+ghost use Rattle.std.specs.Prelude.{◌≡◌, ◌++◌, IfErr, OnOk};
 ghost use Rattle.std.specs.FinMap as fin;
 ghost use Rattle.std.specs.Str.{bytes_eq};
 ghost use Rattle.command.specs.Keys.{key_name};
 ghost use Rattle.part.specs.Part.{Part, pairings_needed, grounds_needed, judged_by, needs_member};
 ghost use Rattle.roster.specs.Holding.{AreJust};
-ghost use Rattle.part.specs.Sources.{IsGroundOfOne, IsHeldByOne, TellsOfState};
+ghost use Rattle.part.specs.Sources.{IsCaused, IsGroundOfOne, IsHeldByOne, TellsOfState};
 
 use crate::named::{grounds_named, judged_in, members_wanted, pairings_named};
 use crate::pick::{pick_grounds, pick_members, pick_pairings, pick_request};
@@ -36,6 +36,8 @@ fn held_by_one<S: Source>(
     ensures told { TellsOfState S.is_clean S.shows
         (λ s found. AreJust (IsHeldByOne s judged.now) found.items) source.old source.new result }
     ensures left { S.stays source.old source.new }
+    ensures caused { IfErr result
+        (IsCaused S.fails S.Fault.from_gives source.old source.new) }
     ensures serves { OnOk result (S.serves source.old source.new) }
 {
     let mut all = Vec::new(alloc);
@@ -55,6 +57,8 @@ fn grounds_of_one<S: Source>(
     ensures told { TellsOfState S.is_clean S.shows
         (λ s found. AreJust (IsGroundOfOne s judged.now) found.items) source.old source.new result }
     ensures left { S.stays source.old source.new }
+    ensures caused { IfErr result
+        (IsCaused S.fails S.Fault.from_gives source.old source.new) }
     ensures serves { OnOk result (S.serves source.old source.new) }
 {
     let mut all = Vec::new(alloc);
@@ -82,6 +86,8 @@ fn gather_plans<S: Source>(
         (λ s it. (it.pairings ≡ pairings_needed s instruction.now)
         × (it.judged.items ≡ judged_by s instruction.now)) source.old source.new result }
     ensures left { S.stays source.old source.new }
+    ensures caused { IfErr result
+        (IsCaused S.fails S.Fault.from_gives source.old source.new) }
     ensures serves { OnOk result (S.serves source.old source.new) }
 {
     let mut pairings = OrdMap::new(alloc);
@@ -104,6 +110,8 @@ fn gather_grounds<S: Source>(
     ensures told { TellsOfState S.is_clean S.shows (λ s it. judged.now ≡ judged_by s instruction.now
         → it ≡ grounds_needed s instruction.now) source.old source.new result }
     ensures left { S.stays source.old source.new }
+    ensures caused { IfErr result
+        (IsCaused S.fails S.Fault.from_gives source.old source.new) }
     ensures serves { OnOk result (S.serves source.old source.new) }
 {
     let mut grounds = OrdMap::new(alloc);
@@ -128,6 +136,8 @@ fn gather_members<S: Source>(
         → it ≡ fin.retain_keys s.crew (needs_member s instruction.now))
         source.old source.new result }
     ensures left { S.stays source.old source.new }
+    ensures caused { IfErr result
+        (IsCaused S.fails S.Fault.from_gives source.old source.new) }
     ensures serves { OnOk result (S.serves source.old source.new) }
 {
     let mut crew = OrdMap::new(alloc);
@@ -147,6 +157,8 @@ fn gather_requests<S: Source>(
         (λ s it. it ≡ fin.retain_keys s.requests (bytes_eq (key_name key)))
         source.old source.new result }
     ensures left { S.stays source.old source.new }
+    ensures caused { IfErr result
+        (IsCaused S.fails S.Fault.from_gives source.old source.new) }
     ensures serves { OnOk result (S.serves source.old source.new) }
 {
     let mut requests = OrdMap::new(alloc);
@@ -164,6 +176,8 @@ pub fn gather<S: Source>(
     ensures told { TellsOfState S.is_clean S.shows
         (λ s it. it ≡ Part s key command.now) source.old source.new result }
     ensures left { S.stays source.old source.new }
+    ensures caused { IfErr result
+        (IsCaused S.fails S.Fault.from_gives source.old source.new) }
     ensures serves { OnOk result (S.serves source.old source.new) }
     ensures there { OnOk result (S.is_there source.new) }
 {

@@ -1,8 +1,8 @@
 //! Entries of a source under some ids.
 
-ghost use Rattle.std.specs.Prelude.{◌≡◌, OnOk};
+ghost use Rattle.std.specs.Prelude.{◌≡◌, IfErr, OnOk};
 ghost use Rattle.command.specs.Keys.{key_name};
-ghost use Rattle.part.specs.Sources.{IsPartOf, TellsOfState, picked, pick};
+ghost use Rattle.part.specs.Sources.{IsCaused, IsPartOf, TellsOfState, picked, pick};
 
 use crate::source::Source;
 use command::{Key, Member};
@@ -22,6 +22,8 @@ pub(crate) fn pick_request<S: Source>(
         (λ s _. requests.new ≡ pick s.requests requests.old (key_name key))
         source.old source.new result }
     ensures left { S.stays source.old source.new }
+    ensures caused { IfErr result
+        (IsCaused S.fails S.Fault.from_gives source.old source.new) }
     ensures serves { OnOk result (S.serves source.old source.new) }
 {
     if let Some(request) = source.request(alloc, key)? {
@@ -40,6 +42,8 @@ pub(crate) fn pick_pairing<S: Source>(
     ensures told { TellsOfState S.is_clean S.shows
         (λ s _. pairings.new ≡ pick s.pairings pairings.old id.now) source.old source.new result }
     ensures left { S.stays source.old source.new }
+    ensures caused { IfErr result
+        (IsCaused S.fails S.Fault.from_gives source.old source.new) }
     ensures serves { OnOk result (S.serves source.old source.new) }
 {
     if let Some(rostered) = source.pairing(alloc, id)? {
@@ -59,6 +63,8 @@ pub(crate) fn pick_pairings<S: Source>(
         (λ s _. pairings.new ≡ picked s.pairings pairings.old ids.now)
         source.old source.new result }
     ensures left { S.stays source.old source.new }
+    ensures caused { IfErr result
+        (IsCaused S.fails S.Fault.from_gives source.old source.new) }
     ensures serves { OnOk result (S.serves source.old source.new) }
 {
     for id in ids {
@@ -77,6 +83,8 @@ fn pick_ground<S: Source>(
     ensures told { TellsOfState S.is_clean S.shows
         (λ s _. grounds.new ≡ pick s.grounds grounds.old id.now) source.old source.new result }
     ensures left { S.stays source.old source.new }
+    ensures caused { IfErr result
+        (IsCaused S.fails S.Fault.from_gives source.old source.new) }
     ensures serves { OnOk result (S.serves source.old source.new) }
 {
     if let Some(ground) = source.ground(alloc, id)? {
@@ -95,6 +103,8 @@ pub(crate) fn pick_grounds<S: Source>(
     ensures told { TellsOfState S.is_clean S.shows
         (λ s _. grounds.new ≡ picked s.grounds grounds.old ids.now) source.old source.new result }
     ensures left { S.stays source.old source.new }
+    ensures caused { IfErr result
+        (IsCaused S.fails S.Fault.from_gives source.old source.new) }
     ensures serves { OnOk result (S.serves source.old source.new) }
 {
     for id in ids {
@@ -114,6 +124,8 @@ pub(crate) fn pick_member<S: Source>(
     ensures told { TellsOfState S.is_clean S.shows (λ s _. IsPartOf crew.old s.crew
         → crew.new ≡ pick s.crew crew.old id.now) source.old source.new result }
     ensures left { S.stays source.old source.new }
+    ensures caused { IfErr result
+        (IsCaused S.fails S.Fault.from_gives source.old source.new) }
     ensures serves { OnOk result (S.serves source.old source.new) }
 {
     if crew.contains(id) {
@@ -135,6 +147,8 @@ pub(crate) fn pick_members<S: Source>(
     ensures told { TellsOfState S.is_clean S.shows (λ s _. IsPartOf crew.old s.crew
         → crew.new ≡ picked s.crew crew.old ids.now) source.old source.new result }
     ensures left { S.stays source.old source.new }
+    ensures caused { IfErr result
+        (IsCaused S.fails S.Fault.from_gives source.old source.new) }
     ensures serves { OnOk result (S.serves source.old source.new) }
 {
     for id in ids {

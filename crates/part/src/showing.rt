@@ -1,11 +1,11 @@
 //! What is shown of a member, of a pairing or of the exceedances, gathered from a source.
 //! Through the program: `tests/reports.py`. Wrong bodies: `must-fail/`.
 
-ghost use Rattle.std.specs.Prelude.{◌≡◌, OnOk};
+ghost use Rattle.std.specs.Prelude.{◌≡◌, IfErr, OnOk};
 ghost use Rattle.std.specs.FinMap as fin;
 ghost use Rattle.std.specs.Str.{bytes_eq};
 ghost use Rattle.part.specs.Shown.{exceedances_part, is_ground_of, is_held_of, member_part, pairing_part};
-ghost use Rattle.part.specs.Sources.{TellsOfState};
+ghost use Rattle.part.specs.Sources.{IsCaused, TellsOfState};
 
 use crate::pick::{pick_grounds, pick_member, pick_pairing, pick_pairings};
 use crate::source::Source;
@@ -25,6 +25,8 @@ fn held_pairings<S: Source>(
         (λ s it. it ≡ fin.retain_keys s.pairings (is_held_of s who.now))
         source.old source.new result }
     ensures left { S.stays source.old source.new }
+    ensures caused { IfErr result
+        (IsCaused S.fails S.Fault.from_gives source.old source.new) }
     ensures serves { OnOk result (S.serves source.old source.new) }
 {
     let mut pairings = OrdMap::new(alloc);
@@ -43,6 +45,8 @@ fn grounds_held<S: Source>(
         (λ s it. it ≡ fin.retain_keys s.grounds (is_ground_of s who.now))
         source.old source.new result }
     ensures left { S.stays source.old source.new }
+    ensures caused { IfErr result
+        (IsCaused S.fails S.Fault.from_gives source.old source.new) }
     ensures serves { OnOk result (S.serves source.old source.new) }
 {
     let mut grounds = OrdMap::new(alloc);
@@ -60,6 +64,8 @@ fn one_member<S: Source>(
     ensures told { TellsOfState S.is_clean S.shows
         (λ s it. it ≡ fin.retain_keys s.crew (bytes_eq who.now)) source.old source.new result }
     ensures left { S.stays source.old source.new }
+    ensures caused { IfErr result
+        (IsCaused S.fails S.Fault.from_gives source.old source.new) }
     ensures serves { OnOk result (S.serves source.old source.new) }
 {
     let mut crew = OrdMap::new(alloc);
@@ -77,6 +83,8 @@ fn one_pairing<S: Source>(
     ensures told { TellsOfState S.is_clean S.shows
         (λ s it. it ≡ fin.retain_keys s.pairings (bytes_eq id.now)) source.old source.new result }
     ensures left { S.stays source.old source.new }
+    ensures caused { IfErr result
+        (IsCaused S.fails S.Fault.from_gives source.old source.new) }
     ensures serves { OnOk result (S.serves source.old source.new) }
 {
     let mut pairings = OrdMap::new(alloc);
@@ -93,6 +101,8 @@ pub fn gather_member<S: Source>(
     ensures told { TellsOfState S.is_clean S.shows
         (λ s it. it ≡ member_part s who.now) source.old source.new result }
     ensures left { S.stays source.old source.new }
+    ensures caused { IfErr result
+        (IsCaused S.fails S.Fault.from_gives source.old source.new) }
     ensures serves { OnOk result (S.serves source.old source.new) }
     ensures there { OnOk result (S.is_there source.new) }
 {
@@ -119,6 +129,8 @@ pub fn gather_pairing<S: Source>(
     ensures told { TellsOfState S.is_clean S.shows
         (λ s it. it ≡ pairing_part s id.now) source.old source.new result }
     ensures left { S.stays source.old source.new }
+    ensures caused { IfErr result
+        (IsCaused S.fails S.Fault.from_gives source.old source.new) }
     ensures serves { OnOk result (S.serves source.old source.new) }
     ensures there { OnOk result (S.is_there source.new) }
 {
@@ -139,6 +151,8 @@ pub fn gather_exceedances<S: Source>(alloc: Global, source: &mut S) -> Result<Ro
     ensures told { TellsOfState S.is_clean S.shows
         (λ s it. it ≡ exceedances_part s) source.old source.new result }
     ensures left { S.stays source.old source.new }
+    ensures caused { IfErr result
+        (IsCaused S.fails S.Fault.from_gives source.old source.new) }
     ensures serves { OnOk result (S.serves source.old source.new) }
     ensures there { OnOk result (S.is_there source.new) }
 {

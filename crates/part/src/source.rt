@@ -1,6 +1,6 @@
 //! What a part is read from.
 
-ghost use Rattle.std.specs.Prelude.{◌≡◌, OnOk};
+ghost use Rattle.std.specs.Prelude.{◌≡◌, IfErr, OnOk};
 ghost use Rattle.std.specs.FinMap as fin;
 ghost use Rattle.command.specs.Keys.{key_name};
 ghost use Rattle.roster.specs.State.{State};
@@ -32,6 +32,12 @@ pub trait Source {
 
     ghost and_then: { (x y z : Self) → stays x y → stays y z → stays x z };
 
+    // what a fault of a call says: why it came
+    ghost fails: { Self → Self → Self.Fault → Type 0 };
+
+    ghost fails_then: { (x y z : Self) (fault : Self.Fault) → stays x y → stays y z
+        → fails y z fault → fails x z fault };
+
     // what a call leaves of it that gives an answer: it can still be asked
     ghost serves: { Self → Self → Type 0 };
 
@@ -49,6 +55,7 @@ pub trait Source {
         ensures told { TellsOfState is_clean shows (λ s zone. zone ≡ s.zone)
             self.old self.new result }
         ensures left { stays self.old self.new }
+        ensures caused { IfErr result (fails self.old self.new) }
         ensures serves { OnOk result (serves self.old self.new) }
         ensures there { OnOk result (is_there self.new) };
 
@@ -57,6 +64,7 @@ pub trait Source {
         ensures told { TellsOfState is_clean shows
             (λ s found. found ≡ fin.get s.requests (key_name key)) self.old self.new result }
         ensures left { stays self.old self.new }
+        ensures caused { IfErr result (fails self.old self.new) }
         ensures serves { OnOk result (serves self.old self.new) };
 
     /// Reads the member of an id.
@@ -64,6 +72,7 @@ pub trait Source {
         ensures told { TellsOfState is_clean shows
             (λ s found. found ≡ fin.get s.crew id.now) self.old self.new result }
         ensures left { stays self.old self.new }
+        ensures caused { IfErr result (fails self.old self.new) }
         ensures serves { OnOk result (serves self.old self.new) };
 
     /// Reads the pairing of an id, with its actuals and holders.
@@ -75,6 +84,7 @@ pub trait Source {
         ensures told { TellsOfState is_clean shows
             (λ s found. found ≡ fin.get s.pairings id.now) self.old self.new result }
         ensures left { stays self.old self.new }
+        ensures caused { IfErr result (fails self.old self.new) }
         ensures serves { OnOk result (serves self.old self.new) };
 
     /// Reads the ground duty of an id.
@@ -82,6 +92,7 @@ pub trait Source {
         ensures told { TellsOfState is_clean shows
             (λ s found. found ≡ fin.get s.grounds id.now) self.old self.new result }
         ensures left { stays self.old self.new }
+        ensures caused { IfErr result (fails self.old self.new) }
         ensures serves { OnOk result (serves self.old self.new) };
 
     /// Reads the ids of the pairings that a member holds, in any order.
@@ -89,6 +100,7 @@ pub trait Source {
         ensures told { TellsOfState is_clean shows
             (λ s found. AreJust (IsHeldBy s who.now) found.items) self.old self.new result }
         ensures left { stays self.old self.new }
+        ensures caused { IfErr result (fails self.old self.new) }
         ensures serves { OnOk result (serves self.old self.new) };
 
     /// Reads the ids of the member's ground duties, in any order.
@@ -96,6 +108,7 @@ pub trait Source {
         ensures told { TellsOfState is_clean shows
             (λ s found. AreJust (IsGroundOf s who.now) found.items) self.old self.new result }
         ensures left { stays self.old self.new }
+        ensures caused { IfErr result (fails self.old self.new) }
         ensures serves { OnOk result (serves self.old self.new) };
 
     /// Reads all exceedances.
@@ -103,5 +116,6 @@ pub trait Source {
         ensures told { TellsOfState is_clean shows
             (λ s found. found ≡ s.exceedances) self.old self.new result }
         ensures left { stays self.old self.new }
+        ensures caused { IfErr result (fails self.old self.new) }
         ensures serves { OnOk result (serves self.old self.new) };
 }

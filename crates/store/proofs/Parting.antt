@@ -1,5 +1,5 @@
 -- What a part that was gathered tells.
-use Rattle.std.proofs.Common.{◌≡◌, sym, ap, subst, ◌∙◌, Result, Ok, Err, IfOk}
+use Rattle.std.proofs.Common.{◌≡◌, ◌⊎◌, inl, inr, sym, ap, subst, ◌∙◌, Result, Ok, Err, IfErr, IfOk}
 use Rattle.sqlite.specs.State.{State, HasCleanDisk}
 use Rattle.command.specs.Keys.{KeyParts}
 use Rattle.command.specs.declared.instruction.Instruction.{Instruction}
@@ -7,10 +7,12 @@ use Rattle.roster.specs.Sound.{Sound}
 use Rattle.roster.specs.State as roster
 use Rattle.roster.specs.Steps.{step_of}
 use Rattle.state_rows.specs.declared.fault.StoreFault.{StoreFault}
+use Rattle.state_rows.specs.declared.fault.StoreFault.TheVariants.{Memory}
 use Rattle.part.specs.Part.{Part}
 use Rattle.part.proofs.Answers.{answers_as_whole}
 use Rattle.part.proofs.SoundParts.{part_is_sound}
-use Rattle.lookup.specs.Reads.{Shows}
+use Rattle.lookup.proofs.Causes.{memory_fault}
+use Rattle.lookup.specs.Reads.{IsReadFault, Shows}
 
 pub on_ok : {A E : Type 0} {P Q : A → Type 0} (result : Result A E) → IfOk result P → ((a : A) → P a → Q a) → IfOk result Q
 on_ok (Ok a) p f = f a p
@@ -33,3 +35,9 @@ module _ {A : Type 0} (Is : roster.State → A → Type 0) (old new : State) (re
     (s : roster.State) (shows : Shows old s) (clean : HasCleanDisk new) where
   pub is_told : IfOk result (Is s)
   is_told = on_ok result (told clean s shows) (λ a it. it.1)
+
+-- a fault of a gathering is one of a read, or want of memory
+pub read_fault : {A : Type 0} (M : Type 0) (old new : State) (result : Result A StoreFault) → IfErr result (λ fault. IsReadFault old new fault ⊎ ((none : M) × (fault ≡ Memory))) → IfErr result (IsReadFault old new)
+read_fault M old new (Ok a) fault = tt
+read_fault M old new (Err fault) (inl failed) = failed
+read_fault M old new (Err fault) (inr none) = memory_fault old new fault none.1

@@ -5,7 +5,8 @@ use Rattle.sqlite.specs.State.{HasCleanDisk, IsUnchanged}
 use Rattle.roster.specs.State.{State}
 use Rattle.loading.specs.Loading.{Justifies}
 use Rattle.loading.specs.declared.fault.LoadFault.{LoadFault}
-use Rattle.writing.specs.Outcomes.{CrashAddsNothing, HoldsNow, IsOutside, CrashLeaves, CrashLeavesSome, StaysOpen, one}
+use Rattle.writing.specs.Outcomes.{CrashAddsNothing, HoldsNow, IsOutside, CrashLeaves}
+use Rattle.writing.specs.Outcomes.{CrashLeavesSome, StaysOpen, one}
 use Rattle.store.specs.Found.{IsFound}
 
 -- a book was found in this state, and nothing was changed

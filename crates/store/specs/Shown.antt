@@ -1,4 +1,5 @@
--- What a book shows: which text of a state it is, or that there is none; and the part of the state that is handed out for it.
+-- What a book shows: which text of a state it is, or that there is none; and the part of the state
+-- that is handed out for it.
 use Rattle.std.specs.Prelude.{◌≡◌, ℕ, List, Option, Some, None}
 use Rattle.std.specs.FinMap as fin
 use Rattle.part.specs.Shown.{exceedances_part, member_part, pairing_part}

@@ -1,8 +1,8 @@
 //! What a book shows: a roster with what one text needs.
 //! Through the program: `tests/reports.py`. Wrong bodies: `must-fail/`.
 
-ghost use Rattle.std.specs.Prelude.{◌≡◌, OnOk};
-ghost use Rattle.part.specs.Sources.{TellsOfState};
+ghost use Rattle.std.specs.Prelude.{◌≡◌, IfErr, OnOk};
+ghost use Rattle.part.specs.Sources.{IsCaused, TellsOfState};
 ghost use Rattle.store.specs.Shown.{shown_part};
 
 use duty::{CrewId, PairingId};
@@ -30,6 +30,8 @@ pub(crate) fn gather_shown<T: Source>(
     ensures told { TellsOfState T.is_clean T.shows
         (λ s it. it ≡ shown_part s what.now) source.old source.new result }
     ensures left { T.stays source.old source.new }
+    ensures caused { IfErr result
+        (IsCaused T.fails T.Fault.from_gives source.old source.new) }
     ensures serves { OnOk result (T.serves source.old source.new) }
     ensures there { OnOk result (T.is_there source.new) }
 {

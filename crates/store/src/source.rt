@@ -19,8 +19,9 @@ impl<S: Alter> Source for Store<S> {
     ghost use Rattle.std.specs.Prelude.{IsTrue};
     ghost use Rattle.sqlite.specs.Held.{state};
     ghost use Rattle.sqlite.specs.State.{HasCleanDisk};
+    ghost use Rattle.lookup.proofs.Causes.{fault_then};
     ghost use Rattle.lookup.proofs.Changes.{changes_then, nothing_changes};
-    ghost use Rattle.lookup.specs.Reads.{ChangesNothing, IsOpen, Shows};
+    ghost use Rattle.lookup.specs.Reads.{ChangesNothing, IsOpen, IsReadFault, Shows};
 
     type Fault = StoreFault;
 
@@ -34,6 +35,11 @@ impl<S: Alter> Source for Store<S> {
 
     ghost and_then = { λ a b c p q.
         changes_then (state S.Store a) (state S.Store b) (state S.Store c) p q };
+
+    ghost fails = { λ a b fault. IsReadFault (state S.Store a) (state S.Store b) fault };
+
+    ghost fails_then = { λ a b c fault p q caused.
+        fault_then (state S.Store a) (state S.Store b) (state S.Store c) fault p q caused };
 
     ghost serves = { λ a b. (HasCleanDisk (state S.Store b) → HasCleanDisk (state S.Store a))
         × (HasCleanDisk (state S.Store b) → IsTrue (state S.Store a).is_open

@@ -8,7 +8,7 @@ ghost use Rattle.roster.specs.Sound.{Sound};
 ghost use Rattle.roster.specs.State.{State, empty};
 ghost use Rattle.roster.specs.Steps.{after, step_of};
 ghost use Rattle.part.specs.Part.{Part};
-ghost use Rattle.lookup.specs.Reads.{ChangesNothing, IsOpen, Shows};
+ghost use Rattle.lookup.specs.Reads.{ChangesNothing, IsOpen, IsReadFault, Shows};
 ghost use Rattle.writing.specs.Commits.{IsCommitted, AreTablesMade, IsNotMade};
 ghost use Rattle.loading.specs.Loading.{Justifies};
 ghost use Rattle.writing.specs.Making.{IsFree};
@@ -109,8 +109,10 @@ impl<S: Alter> Store<S> {
             → HasCleanDisk (state S.Store self.new)
             → IfOk result (λ r. step_of r key command.now ≡ step_of s key command.now) }
 
-        // Nothing is changed, and a crash leaves something.
+        // Nothing is changed, a fault of the store has a cause, and a crash leaves something.
         ensures unchanged { ChangesNothing (state S.Store self.old) (state S.Store self.new) }
+        ensures caused { IfErr result
+            (IsReadFault (state S.Store self.old) (state S.Store self.new)) }
         ensures opened { OnOk result (IsOpen (state S.Store self.new)) }
         ensures some_left { CrashLeavesSome (state S.Store self.new) }
     {
@@ -129,6 +131,8 @@ impl<S: Alter> Store<S> {
             → HasCleanDisk (state S.Store self.new) → IfOk result (λ roster.
             (text : Option (List ℕ)) → IsShown roster what.now text ↔ IsShown s what.now text) }
         ensures unchanged { ChangesNothing (state S.Store self.old) (state S.Store self.new) }
+        ensures caused { IfErr result
+            (IsReadFault (state S.Store self.old) (state S.Store self.new)) }
         ensures opened { OnOk result (IsOpen (state S.Store self.new)) }
         ensures some_left { CrashLeavesSome (state S.Store self.new) }
     {

@@ -1,8 +1,9 @@
-use Rattle.std.proofs.Common.{ap, inl, inr, ◌⊎◌, ◌∙◌}
+use Rattle.std.proofs.Common.{◌≡◌, false, ap, inl, inr, ◌⊎◌, ◌∙◌}
 use Rattle.sqlite.specs.Held.{state}
 use Rattle.roster.specs.Folds.{answer_of, next}
 use Rattle.book.specs.Headline.{SparesOthers, Untouched}
-use Rattle.book.proofs.Asked.{did_not_read, did_after, reply_as, shown_on, shows_it}
+use Rattle.book.specs.Kept.{is_store_fault}
+use Rattle.book.proofs.Asked.{did_not_read, did_after, no_fault, read_fault, reply_as, shown_on, shows_it}
 use Rattle.book.proofs.Sparing.{spares_after}
 use Rattle.book.proofs.States.{still_keeps}
 use Rattle.book.proofs.Untouched.{if_ok, on_ok, read_only, untouched}
@@ -22,29 +23,29 @@ pub returns-in-Ok-clause-did : goal.returns-in-Ok-clause-did
 returns-in-Ok-clause-did g c s keeps shown =
     let read = c.part.ensures.unchanged in
     did_after (state g.S.Store c.args.store.now) (state g.S.Store c.part.new.self) _ s (next s (c.args.key, c.args.command.now)) read c.in-Ok.ensures.opened _
-    (c.decide_by.ensures.did s (still_keeps _ _ s read.left c.part.ensures.some_left keeps)
-    (shown_on (state g.S.Store c.args.store.now) (state g.S.Store c.part.new.self) s read.left.disk read.shown shown)
-    (λ clean. c.in-Ok.ensures.answers s (shows_it (state g.S.Store c.args.store.now) s keeps shown (read.left.disk clean)) clean))
+    (c.decide_by.ensures.did s (still_keeps _ _ s read.nothing_new c.part.ensures.some_left keeps)
+    (shown_on (state g.S.Store c.args.store.now) (state g.S.Store c.part.new.self) s read.nothing_new.disk read.still_shown shown)
+    (λ clean. c.in-Ok.ensures.answers s (shows_it (state g.S.Store c.args.store.now) s keeps shown (read.nothing_new.disk clean)) clean))
 
 pub returns-in-Ok-clause-reply : goal.returns-in-Ok-clause-reply
 returns-in-Ok-clause-reply g c s keeps shown clean =
     let read = c.part.ensures.unchanged in
     let before = c.decide_by.ensures.disk clean in
     reply_as _ _ _ _ c.decide_by.ensures.reply
-    (ap answer_of (c.in-Ok.ensures.answers s (shows_it (state g.S.Store c.args.store.now) s keeps shown (read.left.disk before)) before))
+    (ap answer_of (c.in-Ok.ensures.answers s (shows_it (state g.S.Store c.args.store.now) s keeps shown (read.nothing_new.disk before)) before))
 
 pub returns-in-Ok-clause-repeated : goal.returns-in-Ok-clause-repeated
 returns-in-Ok-clause-repeated g c s reply keeps shown clean is =
     let read = c.part.ensures.unchanged in
     let before = c.decide_by.ensures.disk clean in
-    let it = c.decide_by.ensures.repeated reply (c.in-Ok.ensures.answers s (shows_it (state g.S.Store c.args.store.now) s keeps shown (read.left.disk before)) before ∙ is) in
+    let it = c.decide_by.ensures.repeated reply (c.in-Ok.ensures.answers s (shows_it (state g.S.Store c.args.store.now) s keeps shown (read.nothing_new.disk before)) before ∙ is) in
     (read_only g.S.Store c.args.store.now c.part.new.self c.decide_by.new.store read it.0, it.2)
 
 pub returns-in-Ok-clause-turned_down : goal.returns-in-Ok-clause-turned_down
 returns-in-Ok-clause-turned_down g c s refusal keeps shown clean is =
     let read = c.part.ensures.unchanged in
     let before = c.decide_by.ensures.disk clean in
-    let it = c.decide_by.ensures.turned_down refusal (c.in-Ok.ensures.answers s (shows_it (state g.S.Store c.args.store.now) s keeps shown (read.left.disk before)) before ∙ is) in
+    let it = c.decide_by.ensures.turned_down refusal (c.in-Ok.ensures.answers s (shows_it (state g.S.Store c.args.store.now) s keeps shown (read.nothing_new.disk before)) before ∙ is) in
     (read_only g.S.Store c.args.store.now c.part.new.self c.decide_by.new.store read it.0, it.2)
 
 pub returns-in-Ok-clause-refused : goal.returns-in-Ok-clause-refused
@@ -56,9 +57,22 @@ returns-in-Ok-clause-others_spared g c s keeps shown =
     let read = c.part.ensures.unchanged in
     let opened = c.in-Ok.ensures.opened in
     on_ok c.decide_by.result
-    (c.decide_by.ensures.others_spared s (still_keeps _ _ s read.left c.part.ensures.some_left keeps)
-    (λ clean. c.in-Ok.ensures.answers s (shows_it (state g.S.Store c.args.store.now) s keeps shown (read.left.disk clean)) clean))
+    (c.decide_by.ensures.others_spared s (still_keeps _ _ s read.nothing_new c.part.ensures.some_left keeps)
+    (λ clean. c.in-Ok.ensures.answers s (shows_it (state g.S.Store c.args.store.now) s keeps shown (read.nothing_new.disk clean)) clean))
     (elim [
       | inl same ↦ inl (untouched g.S.Store c.args.store.now c.part.new.self c.decide_by.new.store read opened same)
       | inr spares ↦ inr (spares_after (state g.S.Store c.args.store.now) (state g.S.Store c.part.new.self) (state g.S.Store c.decide_by.new.store) c.decide_by.ensures.disk read opened spares)
+    ])
+
+pub returns-in-Err-clause-caused : goal.returns-in-Err-clause-caused
+returns-in-Err-clause-caused g c s keeps shown change clean =
+    c.in-Err.ensures.caused s (shows_it (state g.S.Store c.args.store.now) s keeps shown (c.part.ensures.unchanged.nothing_new.disk clean)) clean
+
+pub returns-in-Ok-clause-caused : goal.returns-in-Ok-clause-caused
+returns-in-Ok-clause-caused g c s keeps shown change = no_fault (state g.S.Store c.args.store.now) (state g.S.Store c.decide_by.new.store) c.decide_by.result (λ clean.
+    let before = c.decide_by.ensures.disk clean in
+    let same = c.in-Ok.ensures.answers s (shows_it (state g.S.Store c.args.store.now) s keeps shown (c.part.ensures.unchanged.nothing_new.disk before)) before in
+    elim change [
+      | inl repeat ↦ (c.decide_by.ensures.repeated repeat.0 (same ∙ repeat.1)).1
+      | inr refuse ↦ (c.decide_by.ensures.turned_down refuse.0 (same ∙ refuse.1)).1
     ])

@@ -12,7 +12,8 @@ returns-in-Ok g c = record {
       let read = c.in_ok-records.ensures.told clean in
       let finds = rw c.as_str.ensures at read.1 in
       let ids = rw c.deref.ensures.value at c.in-Ok.ensures in (
-        shown_still _ _ s read.0 c.crew_ground_rows.ensures.stays.left shows,
-        grounds_are s shows.sound _ (shows.book (c.crew_ground_rows.ensures.stays.left.disk clean) read.0.0.was_open) c.args.who.now c.in_ok-records.records.items finds c.in-Ok.ids.items ids,
+        shown_still _ _ s read.0 c.crew_ground_rows.ensures.stays.nothing_new shows,
+        grounds_are s shows.sound _ (shows.book (c.crew_ground_rows.ensures.stays.nothing_new.disk clean) read.0.0.was_open) c.args.who.now c.in_ok-records.records.items finds c.in-Ok.ids.items ids,
       );
+  caused = tt;
 }

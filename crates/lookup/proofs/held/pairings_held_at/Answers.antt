@@ -9,5 +9,6 @@ returns-in-Ok g c = record {
       let read = c.in_ok-records.ensures.told clean in
       let finds = rw c.as_str.ensures at read.1 in
       let ids = rw c.deref.ensures.value at c.in-Ok.ensures in
-      held_told _ _ s _ _ _ clean read.0 finds c.seat_rows.ensures.stays.left shows ids;
+      held_told _ _ s _ _ _ clean read.0 finds c.seat_rows.ensures.stays.nothing_new shows ids;
+  caused = tt;
 }

@@ -10,7 +10,7 @@ use Rattle.book.specs.Kept.{Keeps, either_kept, result_of}
 use Rattle.book.proofs.Runs.{honest_left}
 use Rattle.book.proofs.States.{honest_next, same_state}
 use Rattle.book.proofs.Holding.{accepts_within, now_holds, one_held_still, step_repeats}
-use Rattle.book.proofs.Asked.{closes, told_ok, told_tables, told_memory, told_store, told_shown, told_reply}
+use Rattle.book.proofs.Asked.{closes, of_same, told_ok, told_tables, told_memory, told_store, told_shown, told_reply}
 use Rattle.book.proofs.Parts.{was_shut}
 use Rattle.book.proofs.SessionLemmas.{adds_one}
 use Rattle.book.proofs.keeping.Book.ask.Goals as goal
@@ -66,6 +66,8 @@ returns g c =
       turned_down = rw (← c.self.view_is) (λ s refusal at clean refused.
           let same = same_state old one.it s one.keeps at (did.disk clean) in
           c.decide-answer.ensures.turned_down one.it refusal one.keeps one.shown clean (ap (λ (x : State). step_of x c.args.key c.args.command.now) same ∙ refused));
+      caused = rw (← c.self.view_is) (λ s at change _.
+          of_same old new one.it s asked result did.disk (same_state old one.it s one.keeps at) change (c.decide-answer.ensures.caused one.it one.keeps one.shown));
       holds = λ s kept at. now_holds _ s asked kept result (reply s at) (answered s at);
       held = λ s at. one_held_still _ s asked result (answered s at) (memory s at) (store s at);
       refused = rw (← c.self.view_is) c.decide-answer.ensures.refused;

@@ -1,5 +1,6 @@
 use Rattle.std.proofs.Common.{◌≡◌, refl, ◌++◌, ◌∷◌, ◌||◌, ◌+◌, [], true, false, Err, None, Some, sym, ap, ◌∙◌, length, map, take, inl, inr, arith, rules, is_ok, length-append, subst, List}
-use Rattle.std.proofs.lemmas.List.{map-append, take_all}
+use Rattle.std.proofs.lemmas.Bool.{eqb-true}
+use Rattle.std.proofs.lemmas.List.{map-append, nil_from_length, take_all}
 use Rattle.sqlite.specs.Held.{state}
 use Rattle.roster.specs.Folds.{Asked, Fold, Replies, Stopped, next}
 use Rattle.roster.specs.Honest.{Honest}
@@ -68,6 +69,7 @@ returns-then-self g c =
       count = search rules;
       whole = search rules;
       stopped = search rules;
+      nothing = search rules;
       replies = search rules;
       outcome = outcome;
       sessions = λ s before at. adds_session now s before _ _ (search rules) _ (search rules) (outcome (Stopped s before) at);
@@ -77,6 +79,36 @@ returns-then-self g c =
       shown = search rules;
       still_shown = λ s at has _. rw none (shows_still now s has);
       others_spared = search rules;
+      others_left = adds_none now _;
+      failed = search rules;
+      shut = search rules;
+      disk = search rules;
+      limit = refl;
+      still_open = search rules;
+    }
+
+-- there are no commands
+pub returns-then-is_empty : goal.returns-then-is_empty
+returns-then-is_empty g c =
+    let now = state g.S.Store c.args.self.now.held in
+    let nobody : c.args.commands.now ≡ [] = nil_from_length c.args.commands.now (eqb-true (length c.args.commands.now) 0 (sym c.is_empty.ensures ∙ c.if-is_empty.true)) in
+    let none : c.new-then-is_empty.result.items ≡ [] = c.new-then-is_empty.ensures.items in
+    let outcome : (s : State) → IsDurablyAt g.S.Store c.args.self.now s → Ends now s c.args.commands.now (length c.new-then-is_empty.result.items) None = λ s at.
+    subst (λ (l : List Asked). Keeps now (Fold s l)) (sym nobody) at in
+    record {
+      count = rw none (omega arith);
+      whole = λ _. rw (none, nobody) refl;
+      stopped = search rules;
+      nothing = λ _ _. refl;
+      replies = λ s at clean. rw none refl;
+      outcome = outcome;
+      sessions = λ s before at. adds_session now s before _ _ (search rules) _ (search rules) (outcome (Stopped s before) at);
+      held = λ s at. ends_held now s c.args.commands.now (length c.new-then-is_empty.result.items) None (outcome s at);
+      honest = λ s at honest. one_honest now s at.leaves honest;
+      some_left = search rules;
+      shown = λ s at has _. subst (λ (l : List Asked). HoldsNow now (Fold s l)) (sym nobody) has;
+      still_shown = search rules;
+      others_spared = λ _. inl refl;
       others_left = adds_none now _;
       failed = search rules;
       shut = search rules;
@@ -96,6 +128,7 @@ returns-in_default g c =
       count = search rules;
       whole = search rules;
       stopped = search rules;
+      nothing = search rules;
       replies = search rules;
       outcome = outcome;
       sessions = λ s before at. adds_session now s before _ _ (search rules) _ (search rules) (outcome (Stopped s before) at);
@@ -150,6 +183,7 @@ returns-in-Err g c =
       count = search rules;
       whole = search rules;
       stopped = λ _. inr (rw count c.loop-key-test.true);
+      nothing = search rules;
       replies = search rules;
       outcome = outcome;
       sessions = λ s before at. adds_session now s before _ _ (search rules) _ (search rules) (outcome (Stopped s before) at);
@@ -181,6 +215,7 @@ returns g c =
       count = search rules;
       whole = search rules;
       stopped = search rules;
+      nothing = search rules;
       replies = search rules;
       outcome = outcome;
       sessions = λ s before at. adds_session now s before _ _ (search rules) _ (search rules) (outcome (Stopped s before) at);

@@ -3,7 +3,7 @@ use Rattle.std.specs.Prelude.{◌↔◌}
 use Rattle.sqlite.specs.Held.{state}
 use Rattle.roster.specs.State.{State}
 use Rattle.store.specs.Shown.{IsShown}
-use Rattle.book.proofs.Asked.{shown_on, shows_it}
+use Rattle.book.proofs.Asked.{read_fault, shown_on, shows_it}
 use Rattle.book.proofs.States.{same_state, still_keeps}
 use Rattle.book.proofs.keeping.Book.show.Goals as goal
 
@@ -14,18 +14,23 @@ invariant_of-self g c =
       c.shown-shown.ensures.some_left,
       λ _. record {
         it = one.it;
-        keeps = still_keeps _ _ one.it read.left c.shown-shown.ensures.some_left one.keeps;
-        shown = shown_on (state g.S.Store c.self.inside.store) (state g.S.Store c.shown-shown.new.self) one.it read.left.disk read.shown one.shown;
+        keeps = still_keeps _ _ one.it read.nothing_new c.shown-shown.ensures.some_left one.keeps;
+        shown = shown_on (state g.S.Store c.self.inside.store) (state g.S.Store c.shown-shown.new.self) one.it read.nothing_new.disk read.still_shown one.shown;
       },
     )
 
 pub returns-clause-text : goal.returns-clause-text
 returns-clause-text g c = rw (← c.self.view_is) (λ s at clean.
     let one = c.self.invariant.1 c.if-self.false in
-    let before = c.shown-shown.ensures.unchanged.left.disk clean in
+    let before = c.shown-shown.ensures.unchanged.nothing_new.disk clean in
     let same = same_state (state g.S.Store c.self.inside.store) one.it s one.keeps at before in
     subst (λ (x : State). IfOk c.shown-shown.result (λ roster. (shown : Option (List ℕ)) → IsShown roster c.args.what.now shown ↔ IsShown x c.args.what.now shown)) same
     (c.shown-shown.ensures.text one.it (shows_it (state g.S.Store c.self.inside.store) one.it one.keeps one.shown before) clean))
 
 pub returns-clause-kept : goal.returns-clause-kept
-returns-clause-kept g c = rw (← c.self.view_is) (λ s at. still_keeps _ _ s c.shown-shown.ensures.unchanged.left c.shown-shown.ensures.some_left at)
+returns-clause-kept g c = rw (← c.self.view_is) (λ s at. still_keeps _ _ s c.shown-shown.ensures.unchanged.nothing_new c.shown-shown.ensures.some_left at)
+
+pub returns-clause-caused : goal.returns-clause-caused
+returns-clause-caused g c = rw (← c.self.view_is) (λ _.
+    let one = c.self.invariant.1 c.if-self.false in
+    read_fault (state g.S.Store c.self.inside.store) (state g.S.Store c.shown-shown.new.self) one.it c.shown-shown.result c.shown-shown.ensures.unchanged.nothing_new.disk one.keeps one.shown c.shown-shown.ensures.caused)

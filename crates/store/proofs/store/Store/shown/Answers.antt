@@ -1,6 +1,7 @@
 use Rattle.std.proofs.Common.{◌≡◌}
 use Rattle.store.specs.Shown.{shown_part}
-use Rattle.store.proofs.Parting.{is_told}
+use Rattle.sqlite.specs.Held.{state}
+use Rattle.store.proofs.Parting.{is_told, read_fault}
 use Rattle.store.proofs.ShownLemmas.{texts_shown}
 use Rattle.store.proofs.store.Store.shown.Goals as goal
 
@@ -9,3 +10,6 @@ returns-clause-part g c = is_told (λ s roster. roster ≡ shown_part s c.args.w
 
 pub returns-clause-text : goal.returns-clause-text
 returns-clause-text g c s shows clean = texts_shown c.args.what.now s c.gather_shown-shown.result (returns-clause-part g c s shows clean)
+
+pub returns-clause-caused : goal.returns-clause-caused
+returns-clause-caused g c = read_fault _ (state g.S.Store c.args.self.now) (state g.S.Store c.gather_shown-shown.new.source) c.gather_shown-shown.result c.gather_shown-shown.ensures.caused

@@ -1,0 +1,127 @@
+-- Where the tables are right, what is read of them tells of an entry, if it is there.
+use Rattle.std.proofs.Common.{◌≡◌, ◌⊎◌, inl, inr, refl, sym, ap, subst, ◌∙◌, ℕ, pos, true, false, List, [], ◌∷◌, map, Bool, Option, Some, None, slice_get}
+use Rattle.sqlite_value.specs.Order.{Row, column}
+use Rattle.sqlite.specs.Effect.{Database}
+use Rattle.time117.specs.Local.{is_zone_text}
+use Rattle.duty.specs.Pairings.{ground_fault}
+use Rattle.stored_json.specs.Instants.{is_instant}
+use Rattle.stored_json.specs.KeptText.{kept_text}
+use Rattle.stored_json.specs.Laws.{IsCommand}
+use Rattle.stored_json.specs.ReplyText.{reply_text}
+use Rattle.command.specs.Keys.{key_name}
+use Rattle.command.specs.declared.exceedance.Reply.{Reply}
+use Rattle.command.specs.declared.instruction.Instruction.{Instruction}
+use Rattle.command.specs.declared.member.Member.{Member}
+use Rattle.command.specs.declared.member.Seat.{Seat}
+use Rattle.command.specs.declared.member.Seat.TheVariants.{Captain, FirstOfficer}
+use Rattle.duty.specs.Plans.{GroundPlan}
+use Rattle.roster.specs.declared.state.LoggedCommand.{LoggedCommand}
+use Rattle.tables.specs.Records.{book_row, crew_row, ground_row, request_row}
+use Rattle.tables.specs.Rows.{Finds, begins_with}
+use Rattle.tables.specs.declared.book.BookRecord.{BookRecord}
+use Rattle.tables.specs.declared.crew.CrewRecord.{CrewRecord}
+use Rattle.tables.specs.declared.ground.GroundRecord.{GroundRecord}
+use Rattle.tables.specs.declared.request.RequestRecord.{RequestRecord}
+use Rattle.state_rows.specs.Rows.{table, book, crew, ground_duty, request, seat_number}
+use Rattle.state_rows.proofs.Lists.{some_same}
+use Rattle.state_rows.proofs.Values.{number_is, text_is}
+use Rattle.loading.specs.Loading.{AreRight}
+use Rattle.lookup.specs.Entries.{HasFirstGround, HasFirstRequest, HasFirstZone, HasTexts, TellsGround, ground_told}
+use Rattle.lookup.specs.Reads.{HasFirst, TellOfNone}
+use Rattle.lookup.proofs.ReadLemmas.{in_found, of_found}
+use Rattle.lookup.proofs.RightRows.{book_right, crew_right, grounds_right}
+
+module _ (db : Database) (right : AreRight request db) (test : Row → Bool) where
+  pub member_there : (records : List CrewRecord) → Finds (table crew) test db (map crew_row records) → (found : Option Member) × HasFirst records found
+  member_there [] finds = (None, refl)
+  member_there (row ∷ rows) finds =
+      let r = crew_right db right in
+      let there = of_found crew test db (map crew_row (row ∷ rows)) finds (crew_row row) (inl refl) in
+      let at = (r.1.1.1 (crew_row row)).0 there.0 in
+      let at_column = λ (k : ℕ). ap (λ (x : Row). column x k) at.1 in
+      (Some at.0.value, (at.0.value, refl, sym (number_is (at_column 1)), sym (text_is (at_column 2))))
+
+  pub ground_there : (records : List GroundRecord) → Finds (table ground_duty) test db (map ground_row records) → (found : Option GroundPlan) × HasFirstGround records found
+  ground_there [] finds = (None, refl)
+  ground_there (row ∷ rows) finds =
+      let r = grounds_right db right in
+      let there = of_found ground_duty test db (map ground_row (row ∷ rows)) finds (ground_row row) (inl refl) in
+      let at = (r.1.1.1 (ground_row row)).0 there.0 in
+      let is = r.1.2 at.0.name at.0.value at.0.there in
+      let at_column = λ (k : ℕ). ap (λ (x : Row). column x k) at.1 in
+      let id : row.id ≡ at.0.value.id = text_is (at_column 0) ∙ sym is.named in
+      let crew_is : row.crew ≡ at.0.value.crew = text_is (at_column 1) in
+      let task : row.task ≡ at.0.value.task = text_is (at_column 2) in
+      let begin : row.begin_at ≡ at.0.value.begin = number_is (at_column 3) in
+      let end : row.end_at ≡ at.0.value.end = number_is (at_column 4) in
+      let same : ground_told row ≡ at.0.value = λ i. record { id = id i; crew = crew_is i; begin = begin i; end = end i; task = task i } in
+      (Some (ground_told row), (refl, record { begin = ap is_instant begin ∙ is.begin; end = ap is_instant end ∙ is.end; made = ap ground_fault same ∙ is.made }))
+
+  pub request_there : (records : List RequestRecord) → Finds (table request) test db (map request_row records) → (found : Option LoggedCommand) × HasFirstRequest records found
+  request_there [] finds = (None, refl)
+  request_there (row ∷ rows) finds =
+      let there = of_found request test db (map request_row (row ∷ rows)) finds (request_row row) (inl refl) in
+      let at = (right.1.1.1 (request_row row)).0 there.0 in
+      let known = right.1.2.0 (key_name at.0.key) at.0.kept at.0.there in
+      let at_column = λ (k : ℕ). ap (λ (x : Row). column x k) at.1 in
+      (Some at.0.kept, (at.0.kept, refl, record { command = known.2.command; command_text = sym (text_is (at_column 2)); reply_text = sym (text_is (at_column 3)) }))
+
+pub zone_there : (db : Database) → AreRight request db → (records : List BookRecord) → Finds (table book) (begins_with []) db (map book_row records) → (zone : List ℕ) × HasFirstZone records zone
+zone_there db right [] finds =
+    let r = book_right db right in
+    let row = book_row (record { one = pos 1; version = pos 1; zone = r.0.zone }) in
+    absurd (in_found book (begins_with []) db [] finds row ((r.1.0.1 row).1 refl) refl)
+zone_there db right (row ∷ rows) finds =
+    let r = book_right db right in
+    let there = of_found book (begins_with []) db (map book_row (row ∷ rows)) finds (book_row row) (inl refl) in
+    let is = (r.1.0.1 (book_row row)).0 there.0 in
+    (row.zone, (refl, ap is_zone_text (text_is (ap (λ (x : Row). column x 2) is)) ∙ r.1.1))
+
+-- ---- What a first record is that tells of none
+
+of_seat : (seat : Seat) {n : ℕ} → seat_number seat ≡ n → (n ≡ 0) ⊎ (n ≡ 1)
+of_seat Captain is = inl (sym is)
+of_seat FirstOfficer is = inr (sym is)
+
+seat_in : (records : List CrewRecord) (row : CrewRecord) → slice_get records 0 ≡ Some row → (found : Option Member) → HasFirst records found → (row.seat ≡ 0) ⊎ (row.seat ≡ 1)
+seat_in [] row here found first = absurd (cc)
+seat_in (x ∷ xs) row here found first = let same : x.seat ≡ row.seat = ap (λ (r : CrewRecord). r.seat) (some_same here) in of_seat first.0.seat (first.2 ∙ same)
+
+pub no_seat : (records : List CrewRecord) (row : CrewRecord) → slice_get records 0 ≡ Some row → (row.seat ≡ 0 → ⊥) → (row.seat ≡ 1 → ⊥) → TellOfNone (HasFirst records)
+no_seat records row here first second found told = elim (seat_in records row here found told) [ inl is ↦ first is | inr is ↦ second is ]
+
+ground_in : (records : List GroundRecord) (row : GroundRecord) → slice_get records 0 ≡ Some row → (found : Option GroundPlan) → HasFirstGround records found → TellsGround row
+ground_in [] row here found first = absurd (cc)
+ground_in (x ∷ xs) row here found first = subst TellsGround (some_same here) first.1
+
+pub no_begin : (records : List GroundRecord) (row : GroundRecord) → slice_get records 0 ≡ Some row → (is_instant row.begin_at ≡ true → ⊥) → TellOfNone (HasFirstGround records)
+no_begin records row here none found told = none (ground_in records row here found told).begin
+
+pub no_end : (records : List GroundRecord) (row : GroundRecord) → slice_get records 0 ≡ Some row → (is_instant row.end_at ≡ true → ⊥) → TellOfNone (HasFirstGround records)
+no_end records row here none found told = none (ground_in records row here found told).end
+
+pub no_ground : (records : List GroundRecord) (row : GroundRecord) → slice_get records 0 ≡ Some row → (ground_fault (ground_told row) ≡ None → ⊥) → TellOfNone (HasFirstGround records)
+no_ground records row here none found told = none (ground_in records row here found told).made
+
+request_in : (records : List RequestRecord) (row : RequestRecord) → slice_get records 0 ≡ Some row → (found : Option LoggedCommand) → HasFirstRequest records found → (r : LoggedCommand) × HasTexts row r
+request_in [] row here found first = absurd (cc)
+request_in (x ∷ xs) row here found first = (first.0, subst (λ (y : RequestRecord). HasTexts y first.0) (some_same here) first.2)
+
+pub no_command : (records : List RequestRecord) (row : RequestRecord) → slice_get records 0 ≡ Some row →
+    ((instruction : Instruction) → IsCommand instruction → kept_text instruction ≡ row.command → ⊥) → TellOfNone (HasFirstRequest records)
+no_command records row here none found told = let it = request_in records row here found told in none it.0.command it.1.command it.1.command_text
+
+pub no_reply : (records : List RequestRecord) (row : RequestRecord) → slice_get records 0 ≡ Some row →
+    ((reply : Reply) → reply_text reply ≡ row.reply → ⊥) → TellOfNone (HasFirstRequest records)
+no_reply records row here none found told = let it = request_in records row here found told in none it.0.reply it.1.reply_text
+
+zone_in : (records : List BookRecord) (row : BookRecord) → slice_get records 0 ≡ Some row → (zone : List ℕ) → HasFirstZone records zone → is_zone_text row.zone ≡ true
+zone_in [] row here zone first = absurd first
+zone_in (x ∷ xs) row here zone first = ap (λ (r : BookRecord). is_zone_text r.zone) (sym (some_same here)) ∙ first.1
+
+pub no_book : (records : List BookRecord) → slice_get records 0 ≡ None → TellOfNone (HasFirstZone records)
+no_book [] none found told = absurd told
+no_book (x ∷ xs) none found told = absurd (cc)
+
+pub no_zone : (records : List BookRecord) (row : BookRecord) → slice_get records 0 ≡ Some row → is_zone_text row.zone ≡ false → TellOfNone (HasFirstZone records)
+no_zone records row here bad found told = absurd (let no : true ≡ false = sym (zone_in records row here found told) ∙ bad in cc)

@@ -1,0 +1,126 @@
+-- Where the tables are right, each row is a record of its table.
+use Rattle.std.proofs.Common.{◌≡◌, inr, refl, ap, ◌∙◌, ℕ, Bool, true, Option, Some, None}
+use Rattle.sqlite_value.specs.Order.{Row, column}
+use Rattle.sqlite.specs.Effect.{Database}
+use Rattle.duty.specs.Shape.{is_id}
+use Rattle.tables.specs.Records.{IsBookRow, IsCrewRow, IsExceedanceRow, IsGroundRow, IsPairingRow, IsPeriodRow, IsRequestRow, IsSeatRow, IsSegmentRow, IsNumberIfAny, pairing_row}
+use Rattle.tables.specs.Rows.{HasNoRecord}
+use Rattle.state_rows.specs.Rows.{TableName, table, book, crew, pairing, period, segment, seat, ground_duty, exceedance, request}
+use Rattle.state_rows.proofs.Values.{text_is}
+use Rattle.loading.specs.Loading.{AreRight, IsInstantIfAny}
+use Rattle.loading.proofs.Ascii.{id_utf8}
+use Rattle.loading.proofs.ReadBook.{not_unreadable as no_book}
+use Rattle.loading.proofs.ReadCrew.{not_unreadable as no_member}
+use Rattle.loading.proofs.ReadExceedances.{not_unreadable as no_exceedance}
+use Rattle.loading.proofs.ReadGrounds.{not_unreadable as no_ground}
+use Rattle.loading.proofs.ReadPairings.{segments_fit}
+use Rattle.loading.proofs.ReadPeriods.{number_fits}
+use Rattle.loading.proofs.ReadRequests.{not_unreadable as no_request}
+use Rattle.loading.proofs.ReadSegments.{not_unreadable as no_segment}
+use Rattle.loading.proofs.SeatTable.{not_unreadable as no_seat}
+
+-- ---- The tables down to each
+
+module _ (db : Database) (right : AreRight request db) where
+  abbrev pub exceedances_right : AreRight exceedance db
+  exceedances_right = (right.0, right.1.0)
+
+  abbrev pub grounds_right : AreRight ground_duty db
+  grounds_right = (right.0, right.1.0.0)
+
+  abbrev pub seats_right : AreRight seat db
+  seats_right = (right.0, right.1.0.0.0)
+
+  abbrev pub segments_right : AreRight segment db
+  segments_right = (right.0, right.1.0.0.0.0)
+
+  abbrev pub periods_right : AreRight period db
+  periods_right = (right.0, right.1.0.0.0.0.0)
+
+  abbrev pub pairings_right : AreRight pairing db
+  pairings_right = (right.0, right.1.0.0.0.0.0.0)
+
+  abbrev pub crew_right : AreRight crew db
+  crew_right = (right.0, right.1.0.0.0.0.0.0.0)
+
+  abbrev pub book_right : AreRight book db
+  book_right = (right.0, right.1.0.0.0.0.0.0.0.0)
+
+-- ---- Their rows
+
+-- each row that passes a test is one of a record
+abbrev pub AreRecords : TableName → (Row → Type 0) → Type 0
+AreRecords it IsRecord = (db : Database) (test : Row → Bool) → HasNoRecord (table it) test IsRecord db → AreRight request db → ⊥
+
+book_records : AreRecords book IsBookRow
+book_records db test x right = no_book db (inr (x.0, x.1, refl, x.3)) (book_right db right)
+
+crew_records : AreRecords crew IsCrewRow
+crew_records db test x right = no_member db (inr (x.0, x.1, refl, x.3)) (crew_right db right)
+
+pairing_records : AreRecords pairing IsPairingRow
+pairing_records db test x right =
+    let r = pairings_right db right in
+    let at = (r.1.1.1 x.0).0 x.1 in
+    x.3 (record { id = at.0.name }, id_utf8 at.0.name (r.1.2 at.0.name at.0.value at.0.there), at.1)
+
+number_fits_if_any : (o : Option ℕ) → IsInstantIfAny o → IsNumberIfAny o
+number_fits_if_any None is = tt
+number_fits_if_any (Some n) is = number_fits n is
+
+period_records : AreRecords period IsPeriodRow
+period_records db test x right =
+    let r = periods_right db right in
+    let is = r.1.2 x.0 x.1 in
+    let at = (r.1.0.1.1 (pairing_row (record { id = is.it.pairing }))).0 is.of_pairing in
+    let same : is.it.pairing ≡ at.0.name = text_is (ap (λ (row : Row). column row 0) at.1) in
+    x.3 (
+      is.it,
+      id_utf8 is.it.pairing (ap is_id same ∙ r.1.0.2 at.0.name at.0.value at.0.there),
+      is.fits,
+      number_fits is.it.report_at is.report,
+      number_fits is.it.release_at is.release,
+      number_fits_if_any is.it.act_report is.act_report,
+      number_fits_if_any is.it.act_release is.act_release,
+      is.is,
+    )
+
+segment_records : AreRecords segment IsSegmentRow
+segment_records db test x right =
+    let r = segments_right db right in
+    no_segment db (inr (x.0, x.1, refl, x.3)) (segments_fit r.0 db r.1)
+
+seat_records : AreRecords seat IsSeatRow
+seat_records db test x right = no_seat db (inr (x.0, x.1, refl, x.3)) (seats_right db right)
+
+ground_records : AreRecords ground_duty IsGroundRow
+ground_records db test x right = no_ground db (inr (x.0, x.1, refl, x.3)) (grounds_right db right)
+
+pub exceedance_records : AreRecords exceedance IsExceedanceRow
+exceedance_records db test x right = no_exceedance db (inr (x.0, x.1, refl, x.3)) (exceedances_right db right)
+
+request_records : AreRecords request IsRequestRow
+request_records db test x right = no_request db (inr (x.0, x.1, refl, x.3)) right
+
+-- the rows that are records of each table
+abbrev pub RecordOf : TableName → Row → Type 0
+RecordOf book = IsBookRow
+RecordOf crew = IsCrewRow
+RecordOf pairing = IsPairingRow
+RecordOf period = IsPeriodRow
+RecordOf segment = IsSegmentRow
+RecordOf seat = IsSeatRow
+RecordOf ground_duty = IsGroundRow
+RecordOf exceedance = IsExceedanceRow
+RecordOf request = IsRequestRow
+
+pub records_of : (it : TableName) → AreRecords it (RecordOf it)
+records_of book = book_records
+records_of crew = crew_records
+records_of pairing = pairing_records
+records_of period = period_records
+records_of segment = segment_records
+records_of seat = seat_records
+records_of ground_duty = ground_records
+records_of exceedance = exceedance_records
+records_of request = request_records
