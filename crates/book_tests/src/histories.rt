@@ -25,7 +25,7 @@ fn period(
             to: minute(*into),
         })?;
     }
-    Ok(DutyInForce::Fdp(FdpInForce::new(0, minute(report), minute(release), segments)))
+    Ok(DutyInForce::Fdp(FdpInForce::new(Some(0), minute(report), minute(release), segments)))
 }
 
 /// A flight duty period in minutes: report, flights and release.
@@ -78,6 +78,26 @@ fn told_of_all(alloc: Global, history: &History) -> Result<String, Untold> {
     Ok(format!(in alloc; "{flight} {flight_duty} {duty}")?)
 }
 
+/// Where the runs of minutes of their flight duty periods begin and end. The last run is that of two periods, from
+/// 2025-06-10T11:00Z to 2025-06-11T10:30Z.
+const RUNS: [(u64, u64); 4] = [
+    (13_375_440, 13_376_160),
+    (13_376_880, 13_377_600),
+    (13_378_320, 13_379_070),
+    (13_381_140, 13_382_550),
+];
+
+/// How many minutes of flight duty there are before each run, and up to its end.
+fn told_of_runs(alloc: Global, history: &History) -> Result<String, Untold> {
+    let mut told = String::new(alloc);
+    for (from, to) in RUNS {
+        let before = history.minutes_before(Kind::FlightDuty, from, from);
+        let up_to_end = history.minutes_before(Kind::FlightDuty, to, to);
+        told.push_str(&format!(in alloc; " {before}-{up_to_end}")?)?;
+    }
+    Ok(told)
+}
+
 #[test]
 fn counts_its_minutes_once(rt: HostRuntime) -> Result<(), Fail> {
     let history = june(rt.alloc())?;
@@ -85,6 +105,10 @@ fn counts_its_minutes_once(rt: HostRuntime) -> Result<(), Fail> {
     assert_eq!(rt;
         told_of_all(rt.alloc(), &history)?.as_str(),
         "1590 3600 3630"
+    );
+    assert_eq!(rt;
+        told_of_runs(rt.alloc(), &history)?.as_str(),
+        " 0-720 720-1440 1440-2190 2190-3600"
     );
     Ok(())
 }

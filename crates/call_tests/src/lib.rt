@@ -1,5 +1,5 @@
 //! Tests of single calls over values: calls of the crates from `values` to `codec` that find no memory, copies of values,
-//! and periods as they are flown.
+//! periods as they are flown, and periods that are flown for another certificate holder.
 #![tactic(auto)]
 
 #[cfg(test)]
@@ -10,6 +10,8 @@ mod copies;
 mod fault;
 #[cfg(test)]
 mod flown;
+#[cfg(test)]
+mod outside;
 #[cfg(test)]
 mod requests;
 #[cfg(test)]
