@@ -33,6 +33,7 @@ from exchanges import (
     refused, request_of, response, wire,
 )  # fmt: skip
 from office import PROGRAM, TOP, Book, Ran, build, order, schedule, told
+from refusing import folder
 from server import LOOPBACK, OTHER_ADDRESS, free_port, receive, reset, run, serving
 
 FAILED = "refused 92 Channel\n"  # what is told of a connection
@@ -479,8 +480,10 @@ def try_kill(desk):
             desk.expect("the answer", server.exchange(HIRE), response(200, ACCEPTED))
             server.process.send_signal(stop)
             desk.expect("the end", server.end(), Ran(-stop, f"listening {server.port}\n", ""))
-        desk.expect("it again", told(book.do(1, order("hire C1 captain: Ada Ray"))), "accepted")
-        desk.expect("another", told(book.do(2, order("hire C1 captain: Ada Ray"))), "3 CrewExists")
+        # (the command itself would be accepted whether it was kept or lost)
+        desk.expect("another under its number", told(book.do(1, order("hire C2 captain: Bo Lind"))), "1 NumberUsed")
+        desk.expect("the members", book.rows("SELECT id FROM crew"), [("C1",)])
+        desk.expect("what is kept", [row[:2] for row in book.requests()], [(1, 0)])
 
 
 def on_a_full_disk(book):
@@ -506,9 +509,14 @@ def try_full_disk(desk):
         desk.expect("the last answer", answer, response(503, STORE))
         desk.expect("the end", server.end(), Ran(3, f"listening {server.port}\n", "refused 90 Store\n"))
     desk.expect("that the first was accepted", count > 1, True)
-    for number in range(1, count + 1):
-        desk.expect(f"{number} again", told(book.do(number, order(f"hire C{number} captain: Ada Ray"))), "accepted")
-    desk.expect("the members", book.rows("SELECT count(*) FROM crew"), [(count,)])
+    for number in range(1, count):
+        other = order(f"hire D{number} captain: Bo Lind")
+        desk.expect(f"another under {number}", told(book.do(number, other)), "1 NumberUsed")
+    # (nobody knows whether the last one was kept)
+    desk.expect("the last one again", told(book.do(count, order(f"hire C{count} captain: Ada Ray"))), "accepted")
+    members = sorted(f"C{number}" for number in range(1, count + 1))
+    desk.expect("the members", book.rows("SELECT id FROM crew ORDER BY id"), [(crew,) for crew in members])
+    desk.expect("what is kept", [row[:2] for row in book.requests()], [(number, 0) for number in range(1, count + 1)])
 
 
 def try_full_disk_in_an_import(desk):
@@ -567,6 +575,35 @@ def ask_in_turn(server, samples, count):
         given, wanted = samples[turn % len(samples)]
         wrong += server.exchange(given) != wanted
     return server.memory(), wrong
+
+
+def try_log(desk):
+    """20,000 commands of one server are kept, each over a connection of its own. Its log is copied into the file and begun anew, so
+    that it stays short, and each socket is given back."""
+    with folder("serve-log-") as room:
+        serve_many(desk, Book.made(room), 20_000)
+
+
+def serve_many(desk, book, count):
+    """So many commands of one server, whose log and whose open files are looked at now and then."""
+    log = book.file.with_name(f"{book.file.name}-wal")
+    longest, most, wrong = 0, 0, 0
+    with serving(book, count) as server:
+        for number in range(1, count + 1):
+            given = request_of(f"{number} hire C{number} captain: Ada Ray")
+            wrong += server.exchange(given) != response(200, ACCEPTED)
+            if number % 100 == 0 and number < count:
+                longest = max(longest, log.stat().st_size)
+                most = max(most, server.open_files() or 0)
+        desk.expect("the end", server.end(), server.served())
+    desk.expect("wrong answers", wrong, 0)
+    desk.expect("the members and requests", book.rows("SELECT (SELECT count(*) FROM crew), count(*) FROM request"), [(count, count)])
+    # (a commit puts three pages or more into the log, so 20,000 put more than 200 MB into one that only grows)
+    desk.expect(f"a log of {longest} bytes at most, under 16 MiB", 0 < longest < 16 * 2**20, True)
+    if most:
+        desk.expect(f"{most} open files at most, under 16", most < 16, True)
+    else:
+        desk.skip("the system doesn't tell which files a process has open")
 
 
 # ---- What an office has beside it, in examples/.
@@ -636,7 +673,7 @@ def try_back_up(desk):
 TRIED = (
     try_exchanges, try_answers, try_hour, try_pieces, try_cuts, try_one_exchange, try_expectation, try_large_bodies, try_curl,
     try_misbehaving, try_lost_answer, try_many_at_once, try_life, try_refused_books, try_words, try_other_addresses, try_full_output,
-    try_full_errors, try_kill, try_full_disk, try_full_disk_in_an_import, try_service, try_back_up, try_memory, try_silence,
+    try_full_errors, try_kill, try_full_disk, try_full_disk_in_an_import, try_service, try_back_up, try_memory, try_log, try_silence,
 )  # fmt: skip
 
 

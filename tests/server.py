@@ -6,6 +6,7 @@
         server.end()                            how it ended after that
 """
 
+import os
 import select
 import socket
 import struct
@@ -103,6 +104,13 @@ class Server:
         try:
             with open(f"/proc/{self.process.pid}/status") as status:
                 return next((int(line.split()[1]) for line in status if line.startswith("VmRSS:")), None)
+        except OSError:
+            return None
+
+    def open_files(self):
+        """How many files and sockets it has open, or None where the system doesn't tell."""
+        try:
+            return len(os.listdir(f"/proc/{self.process.pid}/fd"))
         except OSError:
             return None
 

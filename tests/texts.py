@@ -442,6 +442,7 @@ def try_kept_texts(desk):
         desk.expect(body, told(book.send(body)), "accepted")
         desk.expect(f"what is kept of {body}", book.requests(), rows)
         desk.expect(f"again {body}", told(book.send(body)), "accepted")
+        desk.expect(f"what is kept then of {body}", book.requests(), rows)
 
 
 def try_schedules(desk):
