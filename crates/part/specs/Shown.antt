@@ -9,15 +9,16 @@ use Rattle.report.specs.RosterText.{IsRosterText}
 use Rattle.roster.specs.Pairings.{holds}
 use Rattle.roster.specs.State.{State}
 
--- the member holds a seat of this pairing
+-- the member holds a seat of the pairing with this id
 abbrev pub is_held_of : State → List ℕ → List ℕ → Bool
 is_held_of s who id = option_map_or (holds who) (fin.get s.pairings id) false
 
--- this ground duty is the member's
+-- the ground duty with this id is the member's
 abbrev pub is_ground_of : State → List ℕ → List ℕ → Bool
 is_ground_of s who id = option_map_or (λ g. bytes_eq g.crew who) (fin.get s.grounds id) false
 
--- a member, with the pairings that the member holds and the member's ground duties; other holders of these aren't in it
+-- the part of a state with one member, the pairings that the member holds and the member's ground
+-- duties; who else holds these pairings isn't in it
 abbrev pub member_part : State → List ℕ → State
 member_part s who = record {
   zone = s.zone;
@@ -28,7 +29,7 @@ member_part s who = record {
   requests = fin.empty;
 }
 
--- a pairing alone
+-- the part of a state with one pairing alone
 abbrev pub pairing_part : State → List ℕ → State
 pairing_part s id = record {
   zone = s.zone;
@@ -39,7 +40,7 @@ pairing_part s id = record {
   requests = fin.empty;
 }
 
--- the exceedances alone
+-- the part of a state with its exceedances alone
 abbrev pub exceedances_part : State → State
 exceedances_part s = record {
   zone = s.zone;
@@ -52,15 +53,19 @@ exceedances_part s = record {
 
 -- ---- Laws
 
--- the text of a member is that of the member's part; where the state has no such member, neither has the part
+-- the roster text of a member is that of the member's part, and where the state has no such member
+-- the part has none
 abbrev pub HasMemberText : Type 0
 HasMemberText = (s : State) (who : List ℕ) →
-    (fin.get (member_part s who).crew who ≡ fin.get s.crew who) × ((text : List ℕ) → IsRosterText (member_part s who) who text ↔ IsRosterText s who text)
+    (fin.get (member_part s who).crew who ≡ fin.get s.crew who)
+    × ((text : List ℕ) → IsRosterText (member_part s who) who text ↔ IsRosterText s who text)
 
--- so is the text of a pairing
+-- the text of a pairing is that of the part with the pairing alone
 abbrev pub HasPairingText : Type 0
-HasPairingText = (s : State) (id : List ℕ) → pairing_text (pairing_part s id) id ≡ pairing_text s id
+HasPairingText = (s : State) (id : List ℕ) →
+    pairing_text (pairing_part s id) id ≡ pairing_text s id
 
--- and that of the exceedances
+-- the text of the exceedances is that of the part with the exceedances alone
 abbrev pub HasExceedanceText : Type 0
-HasExceedanceText = (s : State) (text : List ℕ) → IsExceedanceText (exceedances_part s) text ↔ IsExceedanceText s text
+HasExceedanceText = (s : State) (text : List ℕ) →
+    IsExceedanceText (exceedances_part s) text ↔ IsExceedanceText s text

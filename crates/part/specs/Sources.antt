@@ -1,4 +1,4 @@
--- What a source that is read by key tells of the state that it shows.
+-- What a source that is read by key says of the state that it shows.
 use Rattle.std.specs.Prelude.{◌≡◌, ◌⊎◌, ◌++◌, List, map, ℕ, Result, IfOk, Some}
 use Rattle.std.specs.FinMap as fin
 use Rattle.std.specs.List.{Contains, fold, flat_map}
@@ -11,37 +11,50 @@ use Rattle.roster.specs.Holding.{IsGroundOf, IsHeldBy}
 use Rattle.roster.specs.State.{State}
 use Rattle.roster.specs.declared.state.PairingEntry.{PairingEntry}
 
--- what a call tells: while the source may be believed it shows the state that it showed, and the answer is the state's
-abbrev pub TellsOfState : {X A E : Type 0} → (X → Type 0) → (X → State → Type 0) → (State → A → Type 0) → X → X → Result A E → Type 0
+-- what a call says of the state: while the source may be believed it shows the state that it
+-- showed, and the answer is the state's
+abbrev pub TellsOfState :
+    {X A E : Type 0} → (X → Type 0) → (X → State → Type 0) → (State → A → Type 0) → X → X
+    → Result A E → Type 0
 TellsOfState IsClean Shows Is old new result =
-    (IsClean new → IsClean old) × (IsClean new → (s : State) → Shows old s → IfOk result (λ a. Shows new s × Is s a))
+    (IsClean new → IsClean old)
+    × (IsClean new → (s : State) → Shows old s → IfOk result (λ a. Shows new s × Is s a))
 
--- why a gathering answers a fault: a call of the source failed, of which it says why, or it found no
--- memory beside the calls
-abbrev pub IsCaused : {X F M : Type 0} → (X → X → F → Type 0) → (M → F → Type 0) → X → X → F → Type 0
-IsCaused {X} {F} {M} fails made old new fault = fails old new fault ⊎ ((none : M) × made none fault)
+-- why a gathering answers a fault: a call of the source failed, of which it says why, or it found
+-- no memory beside the calls
+abbrev pub IsCaused :
+    {X F M : Type 0} → (X → X → F → Type 0) → (M → F → Type 0) → X → X → F → Type 0
+IsCaused {X} {F} {M} fails made old new fault =
+    fails old new fault ⊎ ((none : M) × made none fault)
 
--- a map with what another has under an id, if it has anything there; and so for each of some ids
-abbrev pub pick : {V : Type 0} → fin.FinMap name_cmp V → fin.FinMap name_cmp V → List ℕ → fin.FinMap name_cmp V
+-- a map with what another has under an id, if it has anything there
+abbrev pub pick :
+    {V : Type 0} → fin.FinMap name_cmp V → fin.FinMap name_cmp V → List ℕ → fin.FinMap name_cmp V
 pick from to id = option_map_or (λ value. fin.insert to id value) (fin.get from id) to
 
--- the entries of these ids, put into a map in turn
-abbrev pub picked : {V : Type 0} → fin.FinMap name_cmp V → fin.FinMap name_cmp V → List (List ℕ) → fin.FinMap name_cmp V
+-- a map with what another has under these ids, put in one after the other
+abbrev pub picked :
+    {V : Type 0} → fin.FinMap name_cmp V → fin.FinMap name_cmp V → List (List ℕ)
+    → fin.FinMap name_cmp V
 picked from to ids = fold (pick from) to ids
 
--- what a map has under an id, another has there too
+-- what the first map has under an id, the second has there too
 abbrev pub IsPartOf : {V : Type 0} → fin.FinMap name_cmp V → fin.FinMap name_cmp V → Type 0
-IsPartOf {V} part whole = (id : List ℕ) (value : V) → fin.get part id ≡ Some value → fin.get whole id ≡ Some value
+IsPartOf {V} part whole =
+    (id : List ℕ) (value : V) → fin.get part id ≡ Some value → fin.get whole id ≡ Some value
 
--- what some of these members hold, and whose ground duties are theirs
+-- one of these members holds a seat of the pairing with this id
 abbrev pub IsHeldByOne : State → List (List ℕ) → List ℕ → Type 0
 IsHeldByOne s names id = (who : List ℕ) × Contains names who × IsHeldBy s who id
 
--- the ground duty is of one of these members
+-- the ground duty with this id is of one of these members
 abbrev pub IsGroundOfOne : State → List (List ℕ) → List ℕ → Type 0
 IsGroundOfOne s names id = (who : List ℕ) × Contains names who × IsGroundOf s who id
 
 -- the members whom an instruction names, and whom these pairings and ground duties name
-abbrev pub members_wanted : Instruction → fin.FinMap name_cmp PairingEntry → fin.FinMap name_cmp GroundPlan → List (List ℕ)
+abbrev pub members_wanted :
+    Instruction → fin.FinMap name_cmp PairingEntry → fin.FinMap name_cmp GroundPlan
+    → List (List ℕ)
 members_wanted instruction pairings grounds =
-    (members_named instruction ++ flat_map (λ row. holders row.1) (fin.entries pairings)) ++ map (λ row. row.1.crew) (fin.entries grounds)
+    (members_named instruction ++ flat_map (λ row. holders row.1) (fin.entries pairings))
+    ++ map (λ row. row.1.crew) (fin.entries grounds)

@@ -9,15 +9,16 @@ use Rattle.roster.specs.State.{State, exceedance_name}
 use Rattle.roster.specs.declared.state.ExceedanceId.{ExceedanceId}
 use Rattle.roster.specs.declared.state.PeriodId.{PeriodId}
 
--- an exceedance, and the period that it is of
+-- an exceedance, and the period in which a limit was exceeded
 abbrev pub ExceedanceEntry : Type 0
 ExceedanceEntry = ExceedanceId × PeriodId
 
--- the first line, with how many there are
+-- the first line, with the number of exceedances
 abbrev pub exceedances_header : ℕ → List ℕ
 exceedances_header count = codes "EXCEEDANCES " ++ decimal count ++ codes "\n"
 
--- the number of the command, the member, the section, and the period of the pairing
+-- the line of an exceedance: the number of the command, the member, the section, and the period of
+-- the pairing
 abbrev pub line : ExceedanceEntry → List ℕ
 line (id, period) =
     (decimal id.key.number ++ codes " " ++ id.crew)
@@ -26,9 +27,10 @@ line (id, period) =
 
 -- the rows are those of the state, in the order of their names: number, part, member, section
 abbrev pub AreExceedanceRows : State → List ExceedanceEntry → Type 0
-AreExceedanceRows s rows = named_rows (λ id. exceedance_name id.key id.crew id.section) rows ≡ fin.entries s.exceedances
+AreExceedanceRows s rows =
+    named_rows (λ id. exceedance_name id.key id.crew id.section) rows ≡ fin.entries s.exceedances
 
--- how many there are, and the line of each in turn
+-- the text of a state's exceedances: their number, and the line of each in turn
 pub record IsExceedanceText (s : State) (text : List ℕ) : Type 0 where
   pub rows : List ExceedanceEntry
   pub are : AreExceedanceRows s rows

@@ -6,7 +6,8 @@ use Rattle.report.specs.declared.line.Line.{Line}
 use Rattle.report.specs.declared.line.Place.{Place}
 use Rattle.report.specs.declared.line.Place.TheVariants.{Period, Ground}
 
--- a place as a list of numbers: periods before ground duties, then the id, then the period
+-- the place of a line as a list of numbers: periods before ground duties, then the id, then the
+-- period
 abbrev pub key_of_place : Place → List ℕ
 key_of_place (Period id number) = 0 ∷ text_then id (number ∷ [])
 key_of_place (Ground id) = 1 ∷ text_then id []

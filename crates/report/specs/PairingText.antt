@@ -24,7 +24,8 @@ seat_line seat holder = seat ++ codes " " ++ holder_text holder ++ codes "\n"
 abbrev pub pairing_period_line : ℕ → PeriodInForce → List ℕ
 pairing_period_line number p =
     (decimal number ++ codes " " ++ word p)
-    ++ codes " report " ++ written p.fdp.report ++ codes " release " ++ written p.fdp.release ++ codes "\n"
+    ++ codes " report " ++ written p.fdp.report ++ codes " release " ++ written p.fdp.release
+    ++ codes "\n"
 
 -- the line of a segment: period and number, flight, airports and times
 abbrev pub segment_line : ℕ → ℕ × Segment → List ℕ
@@ -33,9 +34,11 @@ segment_line period (number, s) =
     ++ (codes " " ++ s.from ++ codes " " ++ written s.block_out)
     ++ codes " " ++ s.to ++ codes " " ++ written s.block_in ++ codes "\n"
 
--- a period, and its segments in turn
+-- the lines of a period: its own, and those of its segments in turn
 abbrev pub pairing_period_lines : ℕ × PeriodInForce → List ℕ
-pairing_period_lines (number, p) = pairing_period_line number p ++ flat_map (segment_line number) (enumerate_from 1 p.fdp.segments)
+pairing_period_lines (number, p) =
+    pairing_period_line number p
+    ++ flat_map (segment_line number) (enumerate_from 1 p.fdp.segments)
 
 -- the lines of the periods in turn, each with its segments
 abbrev pub lines_of_periods : PairingEntry → List ℕ
@@ -49,6 +52,6 @@ pairing_lines id r =
     ++ seat_line (codes "first officer") r.first_officer
     ++ lines_of_periods r
 
--- of a pairing that is there
+-- the text of the pairing with this id, if there is one
 abbrev pub pairing_text : State → List ℕ → Option (List ℕ)
 pairing_text s id = option_map (pairing_lines id) (fin.get s.pairings id)

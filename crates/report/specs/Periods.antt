@@ -1,4 +1,5 @@
--- The periods of a pairing with their times in force, and their lengths. These are of the period itself, in whichever zone.
+-- The periods of a pairing with their times in force, and the lengths of these periods, which are
+-- the same in each zone.
 use Rattle.std.specs.Prelude.{ℕ, ◌-◌, List, map, is_some, codes, Bool, true, false, Option}
 use Rattle.std.specs.List.{sum_by, zip}
 use Rattle.duty.specs.DutiesInForce.{span_of}
@@ -17,12 +18,12 @@ period_of planned = record { fdp = flown planned; is_flown = is_some planned.1 }
 abbrev pub pairing_periods : PairingEntry → List PeriodInForce
 pairing_periods r = map period_of (zip r.plan.periods r.actuals)
 
--- where its times come from
+-- the word for times as flown, and the word for times as planned
 abbrev pub source : Bool → List ℕ
 source true = codes "actual"
 source false = codes "plan"
 
--- where the times of a period come from
+-- the word for where the times of a period come from
 abbrev pub word : PeriodInForce → List ℕ
 word p = source p.is_flown
 
@@ -30,6 +31,6 @@ word p = source p.is_flown
 abbrev pub length_to_last_block_in : Fdp → ℕ
 length_to_last_block_in f = last_in f.report (map span_of f.segments) - f.report
 
--- the flight time in it (1.1), from block-out to block-in of each segment
+-- the flight time in a period (1.1), from block-out to block-in of each segment
 abbrev pub flight_time_of : Fdp → ℕ
 flight_time_of f = sum_by (λ segment. segment.block_in - segment.block_out) f.segments

@@ -21,22 +21,25 @@ use Rattle.report.specs.declared.periods.PeriodInForce.{PeriodInForce}
 
 -- ---- The lines
 
--- from when to when
+-- the two times between which a duty lies
 abbrev pub span_text : ℕ → ℕ → List ℕ
 span_text begin end = written begin ++ codes " " ++ written end
 
--- the length of a period, and the flight time in it
+-- the length of a period and the flight time in it, as they end its line
 abbrev pub lengths_text : Fdp → List ℕ
-lengths_text f = codes " fdp " ++ hours_text (length_to_last_block_in f) ++ codes " flight " ++ hours_text (flight_time_of f) ++ codes "\n"
+lengths_text f =
+    codes " fdp " ++ hours_text (length_to_last_block_in f)
+    ++ codes " flight " ++ hours_text (flight_time_of f) ++ codes "\n"
 
--- a period of a pairing runs to its release
+-- the line of a period of a pairing, which runs from its report to its release
 abbrev pub roster_period_line : List ℕ → ℕ × PeriodInForce → Line
 roster_period_line id (number, p) = record {
   begin = p.fdp.report;
   end = p.fdp.release;
   place = Period id number;
   text = span_text p.fdp.report p.fdp.release
-      ++ (codes " pairing " ++ id ++ codes "/" ++ decimal number ++ codes " " ++ word p) ++ lengths_text p.fdp;
+      ++ (codes " pairing " ++ id ++ codes "/" ++ decimal number ++ codes " " ++ word p)
+      ++ lengths_text p.fdp;
 }
 
 -- the line of a ground duty
@@ -56,25 +59,31 @@ roster_period_lines (id, r) = map (roster_period_line id) (enumerate_from 1 (pai
 
 -- the lines of a member's ground duties
 abbrev pub ground_lines : State → List ℕ → List Line
-ground_lines s who = map ground_line (filter (λ row. bytes_eq row.1.crew who) (fin.entries s.grounds))
+ground_lines s who =
+    map ground_line (filter (λ row. bytes_eq row.1.crew who) (fin.entries s.grounds))
 
--- the periods of the pairings that the member holds, and the member's ground duties
+-- the lines of a member: the periods of the pairings that the member holds, and the member's ground
+-- duties
 abbrev pub lines_of : State → List ℕ → List Line
-lines_of s who = flat_map roster_period_lines (filter (λ row. holds who row.1) (fin.entries s.pairings)) ++ ground_lines s who
+lines_of s who =
+    flat_map roster_period_lines (filter (λ row. holds who row.1) (fin.entries s.pairings))
+    ++ ground_lines s who
 
 -- ---- The text
 
 -- the first line: the member's id, seat and name
 abbrev pub roster_header : List ℕ → Member → List ℕ
-roster_header who member = codes "ROSTER " ++ who ++ codes " " ++ seat_text member.seat ++ codes " " ++ member.name ++ codes "\n"
+roster_header who member =
+    codes "ROSTER " ++ who ++ codes " " ++ seat_text member.seat ++ codes " " ++ member.name
+    ++ codes "\n"
 
--- the member, and then the lines in their order
+-- the roster text of this member: the first line, and then the member's lines in their order
 pub record IsMemberText (s : State) (who : List ℕ) (member : Member) (text : List ℕ) : Type 0 where
   pub lines : List Line
   pub in_order : IsInOrder (lines_of s who) lines
   pub is : text ≡ roster_header who member ++ flat_map (λ line. line.text) lines
 
--- the same, of a member who is there
+-- the roster text of the member with this id, who is in the state
 pub record IsRosterText (s : State) (who text : List ℕ) : Type 0 where
   pub member : Member
   pub is_there : fin.get s.crew who ≡ Some member

@@ -1,6 +1,6 @@
--- What the members of a command are read as, and which of them are refused. Members are looked for in the order in which
--- they stand here; the first that is missing or isn't read is refused by its name, and after them what the whole is refused
--- for.
+-- What the members of a command are read as, and which of them are refused. Members are looked for
+-- in the order in which they stand here. The first that is missing or isn't read is refused by its
+-- name, and after them what the whole is refused for.
 use Rattle.std.specs.Prelude.{ℕ, List, Option, Some, None, is_some, ok_or, option_and_then, Result, Ok, Err, if◌then◌else◌}
 use Rattle.serde_json.specs.Data.{Data}
 use Rattle.serde_json.specs.Find.{as_str, as_object}
@@ -19,25 +19,29 @@ use Rattle.stored_json.specs.declared.field.JsonField.TheVariants.{Body, Do, Cre
 use Rattle.stored_json.specs.declared.verb.Verb.{Verb}
 use Rattle.stored_json.specs.declared.verb.Verb.TheVariants as verb
 
--- what follows from what isn't refused
-abbrev pub and_then : {A B : Type 0} → Result A CodecFault → (A → Result B CodecFault) → Result B CodecFault
+-- the next step, with what the step before it gave, unless that was refused
+abbrev pub and_then :
+    {A B : Type 0} → Result A CodecFault → (A → Result B CodecFault) → Result B CodecFault
 and_then (Ok x) next = next x
 and_then (Err fault) next = Err fault
 
--- a member of a command
+-- what a member of a command is read as, refused by its name if it is missing or isn't read
 abbrev pub field_of : {A : Type 0} → (Data → Option A) → JsonField → Data → Result A CodecFault
 field_of reads field d = ok_or (read_named_part reads (field_name field) d) (BadJson field)
 
--- the members after `do`
+-- the instruction of this verb, by the members after `do`
 abbrev pub read_members : Verb → Data → Result Instruction CodecFault
 read_members verb.AddCrew d =
     and_then (field_of as_str Crew d) (λ crew.
     and_then (field_of read_seat Seat d) (λ seat.
-    and_then (field_of as_str Name d) (λ name. Ok (instruction.AddCrew crew (record { seat = seat; name = name })))))
+    and_then (field_of as_str Name d) (λ name.
+    Ok (instruction.AddCrew crew (record { seat = seat; name = name })))))
 read_members verb.AddPairing d =
     and_then (field_of as_str Pairing d) (λ pairing.
-    and_then (field_of (read_list read_period) Periods d) (λ periods. Ok (instruction.AddPairing (plan pairing periods))))
-read_members verb.CancelPairing d = and_then (field_of as_str Pairing d) (λ pairing. Ok (instruction.CancelPairing pairing))
+    and_then (field_of (read_list read_period) Periods d) (λ periods.
+    Ok (instruction.AddPairing (plan pairing periods))))
+read_members verb.CancelPairing d =
+    and_then (field_of as_str Pairing d) (λ pairing. Ok (instruction.CancelPairing pairing))
 read_members verb.Assign d =
     and_then (field_of as_str Pairing d) (λ pairing.
     and_then (field_of as_str Crew d) (λ crew. Ok (instruction.Assign pairing crew)))
@@ -49,22 +53,39 @@ read_members verb.Swap d =
     and_then (field_of as_str Crew d) (λ crew.
     and_then (field_of as_str OtherPairing d) (λ other_pairing.
     and_then (field_of as_str OtherCrew d) (λ other_crew.
-    Ok (instruction.Swap (record { pairing = pairing; crew = crew; other_pairing = other_pairing; other_crew = other_crew }))))))
+    Ok (instruction.Swap (record {
+      pairing = pairing;
+      crew = crew;
+      other_pairing = other_pairing;
+      other_crew = other_crew;
+    }))))))
 read_members verb.AddGround d =
     and_then (field_of as_str Ground d) (λ id.
     and_then (field_of as_str Crew d) (λ crew.
     and_then (field_of read_time Begin d) (λ begin.
     and_then (field_of read_time End d) (λ end.
     and_then (field_of as_str Task d) (λ task.
-    Ok (instruction.AddGround (record { id = id; crew = crew; begin = begin; end = end; task = task })))))))
-read_members verb.CancelGround d = and_then (field_of as_str Ground d) (λ id. Ok (instruction.CancelGround id))
+    Ok (instruction.AddGround (record {
+      id = id;
+      crew = crew;
+      begin = begin;
+      end = end;
+      task = task;
+    })))))))
+read_members verb.CancelGround d =
+    and_then (field_of as_str Ground d) (λ id. Ok (instruction.CancelGround id))
 read_members verb.Actual d =
     and_then (field_of as_str Pairing d) (λ pairing.
     and_then (field_of read_period_number Period d) (λ period.
     and_then (field_of read_time Report d) (λ report.
     and_then (field_of read_time Release d) (λ release.
     and_then (field_of (read_list read_times) Segments d) (λ segments.
-    Ok (instruction.Actual pairing (record { period = period; report = report; release = release; segments = segments })))))))
+    Ok (instruction.Actual pairing (record {
+      period = period;
+      report = report;
+      release = release;
+      segments = segments;
+    })))))))
 
 -- the instruction, if it has no fault
 abbrev pub unless_fault : Option DutyFault → Instruction → Result Instruction CodecFault
@@ -77,11 +98,14 @@ made_command asked = unless_fault (instruction_fault asked) asked
 
 -- the command of an object's members
 unfoldable pub read_instruction : Data → Result Instruction CodecFault
-read_instruction d = and_then (and_then (field_of read_verb Do d) (λ verb. read_members verb d)) made_command
+read_instruction d =
+    and_then (and_then (field_of read_verb Do d) (λ verb. read_members verb d)) made_command
 
--- an object, of one JSON text
+-- the object that a JSON text is, refused as a whole if it is none
 abbrev pub read_object : List ℕ → Result Data CodecFault
-read_object text = ok_or (option_and_then (λ d. if is_some (as_object d) then Some d else None) (read text)) (BadJson Body)
+read_object text =
+    ok_or (option_and_then (λ d. if is_some (as_object d) then Some d else None) (read text))
+    (BadJson Body)
 
 -- the command of a kept text
 abbrev pub read_kept : List ℕ → Result Instruction CodecFault

@@ -41,9 +41,10 @@ verb_text verb.Actual = codes "actual"
 
 -- the nine verbs
 abbrev pub all_verbs : List Verb
-all_verbs = verb.AddCrew ∷ verb.AddPairing ∷ verb.CancelPairing ∷ verb.Assign ∷ verb.Release ∷ verb.Swap ∷ verb.AddGround ∷
-    verb.CancelGround ∷ verb.Actual ∷ []
+all_verbs =
+    verb.AddCrew ∷ verb.AddPairing ∷ verb.CancelPairing ∷ verb.Assign ∷ verb.Release ∷ verb.Swap
+    ∷ verb.AddGround ∷ verb.CancelGround ∷ verb.Actual ∷ []
 
--- the one of these whose word the text is
+-- the one of these values whose word the text is, if there is one
 abbrev pub worded : {A : Type 0} → (A → List ℕ) → List A → List ℕ → Option A
 worded word all text = find (λ a. bytes_eq text (word a)) all

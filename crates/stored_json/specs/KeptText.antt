@@ -1,4 +1,5 @@
--- The kept text of a command: the compact JSON text of its members, those of each object in byte order of their names.
+-- The kept text of a command: the compact JSON text of its members, those of each object in byte
+-- order of their names.
 use Rattle.std.specs.Prelude.{ℕ, List, [], ◌∷◌, map, codes}
 use Rattle.serde_json.specs.Data.{Data, number, unsigned, string}
 use Rattle.serde_json.specs.Written.{compact_text}
@@ -10,42 +11,55 @@ use Rattle.command.specs.declared.instruction.Instruction.{Instruction}
 use Rattle.command.specs.declared.instruction.Instruction.TheVariants.{AddCrew, AddPairing, CancelPairing, Assign, Release, Swap, AddGround, CancelGround, Actual}
 use Rattle.stored_json.specs.Values.{object_of, array_of, instant_json}
 
--- a segment as it is planned
+-- the object of a segment as it is planned
 abbrev pub segment_json : Segment → Data
 segment_json s = object_of ((codes "flight", string s.flight) ∷ (codes "from", string s.from)
-    ∷ (codes "in", instant_json s.block_in) ∷ (codes "out", instant_json s.block_out) ∷ (codes "to", string s.to) ∷ [])
+    ∷ (codes "in", instant_json s.block_in) ∷ (codes "out", instant_json s.block_out)
+    ∷ (codes "to", string s.to) ∷ [])
 
--- the times of a segment as it was flown
+-- the object of the times of a segment as it was flown
 abbrev pub times_json : BlockTimes → Data
-times_json t = object_of ((codes "in", instant_json t.block_in) ∷ (codes "out", instant_json t.block_out) ∷ [])
+times_json t =
+    object_of ((codes "in", instant_json t.block_in) ∷ (codes "out", instant_json t.block_out) ∷ [])
 
--- a period with its segments
+-- the object of a period with its segments
 abbrev pub period_json : Fdp → Data
-period_json f = object_of ((codes "release", instant_json f.release) ∷ (codes "report", instant_json f.report)
+period_json f =
+    object_of ((codes "release", instant_json f.release) ∷ (codes "report", instant_json f.report)
     ∷ (codes "segments", array_of (map segment_json f.segments)) ∷ [])
 
--- an instruction: what it asks under `do`, and its own members
+-- the object of an instruction: what it asks under `do`, and the members of its kind
 abbrev pub instruction_json : Instruction → Data
-instruction_json (AddCrew id m) = object_of ((codes "crew", string id) ∷ (codes "do", string (codes "add-crew"))
+instruction_json (AddCrew id m) =
+    object_of ((codes "crew", string id) ∷ (codes "do", string (codes "add-crew"))
     ∷ (codes "name", string m.name) ∷ (codes "seat", string (seat_text m.seat)) ∷ [])
-instruction_json (AddPairing p) = object_of ((codes "do", string (codes "add-pairing")) ∷ (codes "pairing", string p.id)
+instruction_json (AddPairing p) =
+    object_of ((codes "do", string (codes "add-pairing")) ∷ (codes "pairing", string p.id)
     ∷ (codes "periods", array_of (map period_json p.periods)) ∷ [])
-instruction_json (CancelPairing id) = object_of ((codes "do", string (codes "cancel-pairing")) ∷ (codes "pairing", string id) ∷ [])
-instruction_json (Assign id who) = object_of ((codes "crew", string who) ∷ (codes "do", string (codes "assign"))
+instruction_json (CancelPairing id) =
+    object_of ((codes "do", string (codes "cancel-pairing")) ∷ (codes "pairing", string id) ∷ [])
+instruction_json (Assign id who) =
+    object_of ((codes "crew", string who) ∷ (codes "do", string (codes "assign"))
     ∷ (codes "pairing", string id) ∷ [])
-instruction_json (Release id who) = object_of ((codes "crew", string who) ∷ (codes "do", string (codes "release"))
+instruction_json (Release id who) =
+    object_of ((codes "crew", string who) ∷ (codes "do", string (codes "release"))
     ∷ (codes "pairing", string id) ∷ [])
-instruction_json (Swap w) = object_of ((codes "crew", string w.crew) ∷ (codes "do", string (codes "swap"))
+instruction_json (Swap w) =
+    object_of ((codes "crew", string w.crew) ∷ (codes "do", string (codes "swap"))
     ∷ (codes "other_crew", string w.other_crew) ∷ (codes "other_pairing", string w.other_pairing)
     ∷ (codes "pairing", string w.pairing) ∷ [])
-instruction_json (AddGround g) = object_of ((codes "begin", instant_json g.begin) ∷ (codes "crew", string g.crew)
-    ∷ (codes "do", string (codes "add-ground")) ∷ (codes "end", instant_json g.end) ∷ (codes "ground", string g.id)
-    ∷ (codes "task", string g.task) ∷ [])
-instruction_json (CancelGround id) = object_of ((codes "do", string (codes "cancel-ground")) ∷ (codes "ground", string id) ∷ [])
-instruction_json (Actual id a) = object_of ((codes "do", string (codes "actual")) ∷ (codes "pairing", string id)
+instruction_json (AddGround g) =
+    object_of ((codes "begin", instant_json g.begin) ∷ (codes "crew", string g.crew)
+    ∷ (codes "do", string (codes "add-ground")) ∷ (codes "end", instant_json g.end)
+    ∷ (codes "ground", string g.id) ∷ (codes "task", string g.task) ∷ [])
+instruction_json (CancelGround id) =
+    object_of ((codes "do", string (codes "cancel-ground")) ∷ (codes "ground", string id) ∷ [])
+instruction_json (Actual id a) =
+    object_of ((codes "do", string (codes "actual")) ∷ (codes "pairing", string id)
     ∷ (codes "period", number (unsigned a.period)) ∷ (codes "release", instant_json a.release)
-    ∷ (codes "report", instant_json a.report) ∷ (codes "segments", array_of (map times_json a.segments)) ∷ [])
+    ∷ (codes "report", instant_json a.report)
+    ∷ (codes "segments", array_of (map times_json a.segments)) ∷ [])
 
--- the compact text of an instruction
+-- the kept text of an instruction: the compact text of its object
 unfoldable pub kept_text : Instruction → List ℕ
 kept_text instruction = compact_text (instruction_json instruction)

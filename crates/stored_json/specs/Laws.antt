@@ -12,14 +12,16 @@ use Rattle.stored_json.specs.ReplyText.{reply_text, read_reply}
 abbrev pub IsCommand : Instruction → Type 0
 IsCommand instruction = IsMade instruction × (instruction_has_instants instruction ≡ true)
 
--- the kept text of a command is read as it
+-- the kept text of a command is read as that command
 abbrev pub KeptTextsAreRead : Type 0
-KeptTextsAreRead = (instruction : Instruction) → IsCommand instruction → read_kept (kept_text instruction) ≡ Ok instruction
+KeptTextsAreRead = (instruction : Instruction) → IsCommand instruction →
+    read_kept (kept_text instruction) ≡ Ok instruction
 
--- commands with one kept text are the same
+-- two commands with the same kept text are the same command
 abbrev pub KeptTextsDiffer : Type 0
-KeptTextsDiffer = (a b : Instruction) → IsCommand a → IsCommand b → kept_text a ≡ kept_text b → a ≡ b
+KeptTextsDiffer = (a b : Instruction) → IsCommand a → IsCommand b →
+    kept_text a ≡ kept_text b → a ≡ b
 
--- the text of a reply is read as it
+-- the text of a reply is read as that reply
 abbrev pub ReplyTextsAreRead : Type 0
 ReplyTextsAreRead = (reply : Reply) → read_reply (reply_text reply) ≡ Ok reply

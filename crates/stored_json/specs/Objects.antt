@@ -1,4 +1,4 @@
--- Objects by lists of their members, which a list has in any order.
+-- Objects by lists of their members, which may stand in a list in any order.
 use Rattle.std.specs.Prelude.{ℕ, List, [], ◌∷◌}
 use Rattle.std.specs.Borrow.{Bor}
 use Rattle.serde_json.specs.Data.{Data, number, unsigned, string, object, Members, no_members, put}
@@ -8,7 +8,7 @@ use Rattle.stored_json.specs.Values.{instant_json}
 use Rattle.stored_json.specs.declared.objects.Scalar.{Scalar}
 use Rattle.stored_json.specs.declared.objects.Scalar.TheVariants as scalar
 
--- the value of a member that is no list
+-- the JSON value of a member that is no list
 abbrev pub scalar_json : Scalar → Data
 scalar_json (scalar.Text text) = string text.now
 scalar_json (scalar.Number n) = number (unsigned n)
@@ -16,15 +16,16 @@ scalar_json (scalar.Instant minute) = instant_json minute
 scalar_json (scalar.Seat seat) = string (seat_text seat)
 scalar_json (scalar.Section section) = string (section_text section)
 
--- the members with these, each in its place in byte order of the names
+-- an object's members with these added, each in its place in byte order of the names
 abbrev pub with_members : List (Bor (List ℕ) × Scalar) → Members → Members
 with_members [] members = members
 with_members (m ∷ ms) members = with_members ms (put m.0.now (scalar_json m.1) members)
 
--- an object of these members
+-- the object with these members
 abbrev pub object_json : List (Bor (List ℕ) × Scalar) → Data
 object_json members = object (with_members members no_members)
 
--- an object of these members, and of a list
+-- the object with these members, and with a list under this name
 abbrev pub object_with_list_json : List (Bor (List ℕ) × Scalar) → List ℕ → Data → Data
-object_with_list_json members name list = object (put name list (with_members members no_members))
+object_with_list_json members name list =
+    object (put name list (with_members members no_members))

@@ -1,5 +1,6 @@
--- What the parts of a command are read as: nothing, where a part is of the wrong kind, out of its range or not one of its
--- words, or lacks or holds a part that isn't read. Members that aren't named are ignored.
+-- What the parts of a command are read as: nothing, where a part is of the wrong kind, out of its
+-- range or not one of its words, or lacks or holds a part that isn't read. Members that aren't
+-- named are ignored.
 use Rattle.std.specs.Prelude.{ℕ, List, [], ◌∷◌, Option, Some, None, option_and_then, option_map, codes, if◌then◌else◌}
 use Rattle.std.specs.Result.{result_ok}
 use Rattle.serde_json.specs.Data.{Data, Items, no_items, item}
@@ -15,21 +16,22 @@ use Rattle.command.specs.declared.member.Seat.TheVariants.{Captain, FirstOfficer
 use Rattle.stored_json.specs.Fields.{all_verbs, verb_text, worded}
 use Rattle.stored_json.specs.declared.verb.Verb.{Verb}
 
--- what follows from a part that is read
+-- the next step, with the part that was read, if it was
 abbrev pub with_part : {A B : Type 0} → Option A → (A → Option B) → Option B
 with_part None next = None
 with_part (Some part) next = next part
 
--- a member of an object, by name
+-- what the member with this name is read as, if there is one
 abbrev pub read_named_part : {A : Type 0} → (Data → Option A) → List ℕ → Data → Option A
 read_named_part reads name d = option_and_then reads (get name d)
 
--- each item of a list
+-- what the items of a list are read as, if each is read
 abbrev pub read_each : {A : Type 0} → (Data → Option A) → Items → Option (List A)
 read_each reads no_items = Some []
-read_each reads (item d ds) = with_part (reads d) (λ part. option_map (λ parts. part ∷ parts) (read_each reads ds))
+read_each reads (item d ds) =
+    with_part (reads d) (λ part. option_map (λ parts. part ∷ parts) (read_each reads ds))
 
--- a list of parts
+-- what a JSON array is read as, item by item
 abbrev pub read_list : {A : Type 0} → (Data → Option A) → Data → Option (List A)
 read_list reads d = option_and_then (read_each reads) (as_array d)
 
@@ -40,7 +42,8 @@ read_time d = option_and_then (λ text. result_ok (read_instant text)) (as_str d
 -- the number of a period, from 1 to 10
 abbrev pub read_period_number : Data → Option ℕ
 read_period_number d =
-    with_part (option_and_then as_u64 (as_number d)) (λ number. if is_within 1 10 number then Some number else None)
+    with_part (option_and_then as_u64 (as_number d)) (λ number.
+    if is_within 1 10 number then Some number else None)
 
 -- a seat, by its word
 abbrev pub read_seat : Data → Option Seat
@@ -65,7 +68,13 @@ read_segment d =
     with_part (read_named_part read_time (codes "out") d) (λ block_out.
     with_part (read_named_part as_str (codes "to") d) (λ destination.
     with_part (read_named_part read_time (codes "in") d) (λ block_in.
-    Some (record { flight = flight; from = origin; block_out = block_out; to = destination; block_in = block_in }))))))
+    Some (record {
+      flight = flight;
+      from = origin;
+      block_out = block_out;
+      to = destination;
+      block_in = block_in;
+    }))))))
 
 -- a period, as it is planned
 abbrev pub read_period : Data → Option Fdp
@@ -73,4 +82,9 @@ read_period d =
     with_part (read_named_part read_time (codes "report") d) (λ report.
     with_part (read_named_part read_time (codes "release") d) (λ release.
     with_part (read_named_part (read_list read_segment) (codes "segments") d) (λ segments.
-    Some (record { planned_report = report; report = report; release = release; segments = segments }))))
+    Some (record {
+      planned_report = report;
+      report = report;
+      release = release;
+      segments = segments;
+    }))))

@@ -1,4 +1,5 @@
--- The reply to an accepted command as JSON, its members in byte order of their names, and what such a text is read as.
+-- The reply to an accepted command as JSON, its members in byte order of their names, and what such
+-- a text is read as.
 use Rattle.std.specs.Prelude.{ℕ, List, [], ◌∷◌, map, codes, Option, Some, None, ok_or, option_and_then, Result, if◌then◌else◌}
 use Rattle.std.specs.Str.{bytes_eq}
 use Rattle.serde_json.specs.Data.{Data, string}
@@ -17,11 +18,13 @@ use Rattle.stored_json.specs.declared.fault.CodecFault.{CodecFault}
 use Rattle.stored_json.specs.declared.fault.CodecFault.TheVariants.{BadJson}
 use Rattle.stored_json.specs.declared.field.JsonField.TheVariants.{Body}
 
--- an exceedance: the member and the section
+-- the object of an exceedance: the member and the section
 abbrev pub exceedance_json : Exceedance → Data
-exceedance_json e = object_of ((codes "crew", string e.crew) ∷ (codes "section", string (section_text e.section)) ∷ [])
+exceedance_json e =
+    object_of ((codes "crew", string e.crew) ∷ (codes "section", string (section_text e.section))
+    ∷ [])
 
--- a reply: its exceedances, and the word `accepted`
+-- the object of a reply: its exceedances, and the word `accepted`
 abbrev pub reply_json : Reply → Data
 reply_json r = object_of ((codes "exceedances", array_of (map exceedance_json r.exceedances))
     ∷ (codes "result", string (codes "accepted")) ∷ [])
@@ -34,19 +37,22 @@ reply_text reply = compact_text (reply_json reply)
 abbrev pub read_section : Data → Option Section
 read_section d = option_and_then (worded section_text all_sections) (as_str d)
 
--- an exceedance: the member and the section
+-- what the object of an exceedance is read as
 abbrev pub read_exceedance : Data → Option Exceedance
 read_exceedance d =
     with_part (read_named_part as_str (codes "crew") d) (λ crew.
-    with_part (read_named_part read_section (codes "section") d) (λ section. Some (record { crew = crew; section = section })))
+    with_part (read_named_part read_section (codes "section") d) (λ section.
+    Some (record { crew = crew; section = section })))
 
--- a reply that says `accepted`
+-- what the object of a reply is read as, if it says `accepted`
 abbrev pub read_accepted : Data → Option Reply
 read_accepted d =
     with_part (read_named_part as_str (codes "result") d) (λ result.
     with_part (read_named_part (read_list read_exceedance) (codes "exceedances") d) (λ exceedances.
-    if bytes_eq result (codes "accepted") then Some (record { exceedances = exceedances }) else None))
+    if bytes_eq result (codes "accepted")
+    then Some (record { exceedances = exceedances })
+    else None))
 
--- anything else is refused as a whole
+-- the reply of a kept text, refused as a whole if it is none
 unfoldable pub read_reply : List ℕ → Result Reply CodecFault
 read_reply text = ok_or (option_and_then read_accepted (read text)) (BadJson Body)

@@ -6,7 +6,7 @@ use Rattle.stored_json.specs.Fields.{field_name}
 use Rattle.stored_json.specs.declared.fault.CodecFault.{CodecFault}
 use Rattle.stored_json.specs.declared.fault.CodecFault.TheVariants.{BadJson, BadCsv, Duty, Memory}
 
--- a fault as it is printed
+-- a fault of a command's text as it is printed
 abbrev pub codec_fault_text : CodecFault → List ℕ
 codec_fault_text (BadJson field) = codes "31 BadJson " ++ field_name field
 codec_fault_text (BadCsv line) = codes "30 BadCsv " ++ decimal line
