@@ -1,5 +1,5 @@
 -- What the tables of the book mean: the rows that a state has in each of them.
-use Rattle.std.specs.Prelude.{◌≡◌, ◌↔◌, ◌+◌, ℕ, pos, List, slice_get, Option, Some}
+use Rattle.std.specs.Prelude.{◌≡◌, ◌↔◌, ◌+◌, ℕ, pos, Bool, true, false, List, slice_get, Option, Some}
 use Rattle.std.specs.FinMap as fin
 use Rattle.std.specs.Option.{option_map, option_and_then}
 use Rattle.values.specs.Name.{name_cmp}
@@ -21,10 +21,14 @@ use Rattle.roster.specs.State.{State, exceedance_name}
 use Rattle.roster.specs.declared.state.PeriodId.{PeriodId}
 use Rattle.roster.specs.declared.state.LoggedCommand.{LoggedCommand}
 use Rattle.roster.specs.declared.state.PairingEntry.{PairingEntry}
+use Rattle.state_rows.specs.Bases.{bases_of, base_of}
+use Rattle.state_rows.specs.Editions.{edition_number}
+use Rattle.state_rows.specs.declared.edition.Edition.{Edition}
+use Rattle.state_rows.specs.declared.edition.Edition.TheVariants.{First, Second}
 use Rattle.stored_json.specs.KeptText.{kept_text}
 use Rattle.stored_json.specs.ReplyText.{reply_text}
-use Rattle.tables.specs.Schema.{BookTable, book_table, crew_table, pairing_table, period_table, segment_table, seat_table, ground_table, exceedance_table, request_table}
-use Rattle.tables.specs.Records.{book_row, crew_row, pairing_row, period_row, segment_row, seat_row, ground_row, exceedance_row, request_row}
+use Rattle.tables.specs.Schema.{BookTable, book_table, crew_table, pairing_table, period_table, segment_table, seat_table, ground_table, exceedance_table, request_table, base_table, crew_base_table, outside_table, outside_segment_table}
+use Rattle.tables.specs.Records.{base_row, crew_base_row, book_row, crew_row, pairing_row, period_row, segment_row, seat_row, ground_row, exceedance_row, request_row}
 use Rattle.tables.specs.Rows.{rows_of}
 
 -- the number of a seat in the tables
@@ -40,9 +44,18 @@ pub record At {V : Type 0} (m : fin.FinMap name_cmp V) : Type 0 where
 
 -- ---- The book, its members and its pairings
 
--- the one row of `book`: the version of the tables, and the text of the zone
+-- the row of `book`: the version of the tables, and the text of a zone
+abbrev pub row_of_book : Edition → List ℕ → Row
+row_of_book edition zone =
+    book_row (record { one = pos 1; version = pos (edition_number edition); zone = zone })
+
+-- the one row of `book`, in tables of this version
+abbrev pub InBookOf : Edition → State → Row → Type 0
+InBookOf edition s row = row ≡ row_of_book edition s.zone
+
+-- the one row of `book`, in tables of version 2
 abbrev pub InBook : State → Row → Type 0
-InBook s row = row ≡ book_row (record { one = pos 1; version = pos 1; zone = s.zone })
+InBook = InBookOf Second
 
 -- the row of a member in `crew`: the id, the seat that the member takes, and the name
 abbrev pub row_of_member : List ℕ → Member → Row
@@ -196,9 +209,27 @@ row_of_request key kept = request_row (record {
 abbrev pub InRequest : State → Row → Type 0
 InRequest s row = (at : RequestAt s.requests) × (row ≡ row_of_request at.key at.kept)
 
--- ---- The nine tables
+-- ---- Bases
 
--- the names of the nine tables of the book
+-- the row of a base in `base`: the id, and the text of the zone
+abbrev pub row_of_base : List ℕ → List ℕ → Row
+row_of_base id zone = base_row (record { id = id; zone = zone })
+
+-- the rows of `base`, one for each base of the state
+abbrev pub InBase : State → Row → Type 0
+InBase s row = (at : At (bases_of s)) × (row ≡ row_of_base at.name at.value)
+
+-- the row of a member in `crew_base`: the member's id, and the id of the member's base
+abbrev pub row_of_post : List ℕ → List ℕ → Row
+row_of_post crew base = crew_base_row (record { crew = crew; base = base })
+
+-- the rows of `crew_base`, one for each member of the state
+abbrev pub InCrewBase : State → Row → Type 0
+InCrewBase s row = (at : At s.crew) × (row ≡ row_of_post at.name (base_of s at.name))
+
+-- ---- The thirteen tables
+
+-- the names of the thirteen tables of the book
 pub data TableName : Type 0 where
   book : TableName
   crew : TableName
@@ -209,6 +240,10 @@ pub data TableName : Type 0 where
   ground_duty : TableName
   exceedance : TableName
   request : TableName
+  base : TableName
+  crew_base : TableName
+  outside : TableName
+  outside_segment : TableName
 
 -- how the table of this name is declared
 abbrev pub table : TableName → BookTable
@@ -221,8 +256,20 @@ table seat = seat_table
 table ground_duty = ground_table
 table exceedance = exceedance_table
 table request = request_table
+table base = base_table
+table crew_base = crew_base_table
+table outside = outside_table
+table outside_segment = outside_segment_table
 
--- the rows of a state in a table
+-- whether version 2 of the tables has the table of this name, and version 1 has not
+abbrev pub is_later : TableName → Bool
+is_later base = true
+is_later crew_base = true
+is_later outside = true
+is_later outside_segment = true
+is_later name = false
+
+-- the rows of a state in a table of version 2
 abbrev pub InTable : State → TableName → Row → Type 0
 InTable s book = InBook s
 InTable s crew = InCrew s
@@ -233,11 +280,25 @@ InTable s seat = InSeat s
 InTable s ground_duty = InGround s
 InTable s exceedance = InExceedance s
 InTable s request = InRequest s
+InTable s base = InBase s
+InTable s crew_base = InCrewBase s
+InTable s outside = λ row. ⊥
+InTable s outside_segment = λ row. ⊥
+
+-- the rows of a state in a table of version 1
+abbrev pub InFirst : State → TableName → Row → Type 0
+InFirst s book = InBookOf First s
+InFirst s name = InTable s name
 
 -- the database has just these rows in a table
 abbrev pub HasJust : BookTable → Database → (Row → Type 0) → Type 0
 HasJust kept db Is = (row : Row) → Has (rows_of kept db) row ↔ Is row
 
--- each table has just the rows of the state
+-- each table of version 2 has just the rows of the state
 abbrev pub Rows : State → Database → Type 0
 Rows s db = (name : TableName) → HasJust (table name) db (InTable s name)
+
+-- each table of version 1 has just the rows of the state in that version
+abbrev pub FirstRows : State → Database → Type 0
+FirstRows s db = (name : TableName) → is_later name ≡ false →
+    HasJust (table name) db (InFirst s name)

@@ -286,7 +286,7 @@ sequence_stays tables ys name h = elim (known_or (position_from (λ (t : Table).
   | inr none ↦ absurd (let e = rw none at h in cc)
 ]
 
-lacks_no_more : (schema : Schema) (t : Table) → t.is_counted ≡ false → lacks_sequence schema ≡ false → lacks_sequence (created schema t) ≡ false
+pub lacks_no_more : (schema : Schema) (t : Table) → t.is_counted ≡ false → lacks_sequence schema ≡ false → lacks_sequence (created schema t) ≡ false
 lacks_no_more schema t plain h = elim (cases_Bool (list_any (λ (u : Table). u.is_counted) schema.tables)) [
   | inl counted ↦
       let has = sequence_stays schema.tables (in_next schema t ∷ []) (codes "sqlite_sequence") (not-false _ (rw counted at h)) in

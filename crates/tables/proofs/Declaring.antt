@@ -11,7 +11,7 @@ use Rattle.sqlite_schema.specs.Rules.{guards}
 use Rattle.sqlite_schema.specs.declared.schema.Index.{Index}
 use Rattle.sqlite_schema.specs.declared.schema.Table.{Table}
 use Rattle.sqlite_schema.specs.declared.schema.Schema.{Schema}
-use Rattle.tables.specs.Schema.{BookTable, IsTable, IsOfBook, IsBook, IsOfKey, NoneRefersTo, OnlyKeysGuard, table_of, table_found, book_table, crew_table, pairing_table, period_table, segment_table, seat_table, ground_table, exceedance_table, request_table}
+use Rattle.tables.specs.Schema.{BookTable, IsTable, IsOfBook, IsBook, IsOfKey, HasTables, NoneRefersTo, OnlyKeysGuard, table_of, table_found, first_tables, later_tables, book_table, crew_table, pairing_table, period_table, segment_table, seat_table, ground_table, exceedance_table, request_table, base_table, crew_base_table, outside_table, outside_segment_table}
 use Rattle.sqlite_schema.specs.declared.schema.Reference.{Reference}
 use Rattle.sqlite_schema.specs.Names.{same_name}
 use Rattle.tables.specs.Declarations.{IsSimple, IsLike, HaveNoDefault, StandsAs, is_own_tree, is_not_parent, is_of_key, only_keys_guard}
@@ -138,15 +138,15 @@ module _ (schema : Schema) (name : List ℕ) where
       let all = all_mean (λ (i : Index). not (guards i t) || is_of_key t.uniques i) (λ (i : Index). guards i t ≡ true → IsOfKey t.uniques i) (one_guard t) schema.indexes in
       subst (λ o. IsTrue result ↔ IfSome o (λ u. AllByRecursion (λ index. guards index u ≡ true → IsOfKey u.uniques index) schema.indexes)) found (λ h. all.0 (sym is ∙ h), λ h. is ∙ all.1 h)
 
--- ---- the nine tables of a book, by threes
+-- ---- the nine tables of version 1, by threes
 
 abbrev pub Three : BookTable → BookTable → BookTable → Schema → Type 0
 Three a b c schema = IsOfBook a schema × IsOfBook b schema × IsOfBook c schema
 
 -- each three is there
-pub whole_book : (schema : Schema) (first second third : Bool) → IsTrue first ↔ Three book_table crew_table pairing_table schema → IsTrue second ↔ Three period_table segment_table seat_table schema
-    → IsTrue third ↔ Three ground_table exceedance_table request_table schema → first ≡ true → second ≡ true → IsTrue third ↔ IsBook schema
-whole_book schema first second third begins goes_on ends f s = (
+pub nine_there : (schema : Schema) (first second third : Bool) → IsTrue first ↔ Three book_table crew_table pairing_table schema → IsTrue second ↔ Three period_table segment_table seat_table schema
+    → IsTrue third ↔ Three ground_table exceedance_table request_table schema → first ≡ true → second ≡ true → IsTrue third ↔ HasTables first_tables schema
+nine_there schema first second third begins goes_on ends f s = (
   λ t.
       let a = begins.0 f in
       let b = goes_on.0 s in
@@ -159,8 +159,31 @@ whole_book schema first second third begins goes_on ends f s = (
 part_lacks : {Part Whole : Type 0} (part value : Bool) → IsTrue part ↔ Part → (Whole → Part) → value ≡ part → value ≡ false → IsTrue value ↔ Whole
 part_lacks part value is of same off = (λ yes. absurd (let e = sym yes ∙ off in cc), λ all. absurd (let e = sym (is.1 (of all)) ∙ sym same ∙ off in cc))
 
-pub lacks_first : (schema : Schema) (first value : Bool) → IsTrue first ↔ Three book_table crew_table pairing_table schema → value ≡ first → value ≡ false → IsTrue value ↔ IsBook schema
+pub lacks_first : (schema : Schema) (first value : Bool) → IsTrue first ↔ Three book_table crew_table pairing_table schema → value ≡ first → value ≡ false → IsTrue value ↔ HasTables first_tables schema
 lacks_first schema first value begins = part_lacks first value begins (λ all. (all.0, all.1.0, all.1.1.0))
 
-pub lacks_second : (schema : Schema) (second value : Bool) → IsTrue second ↔ Three period_table segment_table seat_table schema → value ≡ second → value ≡ false → IsTrue value ↔ IsBook schema
+pub lacks_second : (schema : Schema) (second value : Bool) → IsTrue second ↔ Three period_table segment_table seat_table schema → value ≡ second → value ≡ false → IsTrue value ↔ HasTables first_tables schema
 lacks_second schema second value goes_on = part_lacks second value goes_on (λ all. let h = all.1.1.1 in (h.0, h.1.0, h.1.1.0))
+
+-- ---- the four that version 2 has besides, by twos
+
+abbrev pub Two : BookTable → BookTable → Schema → Type 0
+Two a b schema = IsOfBook a schema × IsOfBook b schema
+
+pub four_there : (schema : Schema) (first second : Bool) → IsTrue first ↔ Two base_table crew_base_table schema → IsTrue second ↔ Two outside_table outside_segment_table schema
+    → first ≡ true → IsTrue second ↔ HasTables later_tables schema
+four_there schema first second begins ends f = (
+  λ s. let a = begins.0 f in let b = ends.0 s in (a.0, (a.1, (b.0, (b.1, tt)))),
+  λ all. let h = all.1.1 in ends.1 (h.0, h.1.0),
+)
+
+pub lacks_bases : (schema : Schema) (first value : Bool) → IsTrue first ↔ Two base_table crew_base_table schema → value ≡ first → value ≡ false → IsTrue value ↔ HasTables later_tables schema
+lacks_bases schema first value begins = part_lacks first value begins (λ all. (all.0, all.1.0))
+
+-- ---- all thirteen
+
+pub whole_book : (schema : Schema) (first later : Bool) → IsTrue first ↔ HasTables first_tables schema → IsTrue later ↔ HasTables later_tables schema → first ≡ true → IsTrue later ↔ IsBook schema
+whole_book schema first later early late f = (λ t. (early.0 f, late.0 t), λ all. late.1 all.1)
+
+pub lacks_early : (schema : Schema) (first value : Bool) → IsTrue first ↔ HasTables first_tables schema → value ≡ first → value ≡ false → IsTrue value ↔ IsBook schema
+lacks_early schema first value early = part_lacks first value early (λ all. all.0)

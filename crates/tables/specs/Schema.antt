@@ -1,5 +1,5 @@
 -- The tables of the book, as `sqlite` sees them once they are created.
-use Rattle.std.specs.Prelude.{◌≡◌, ◌<◌, ◌^◌, Bool, true, false, [], ◌∷◌, Option, None, Some, IfSome, codes, List, ℕ, map, find}
+use Rattle.std.specs.Prelude.{◌≡◌, ◌<◌, ◌^◌, Bool, true, false, [], ◌∷◌, ◌++◌, Option, None, Some, IfSome, codes, List, ℕ, map, find}
 use Rattle.std.specs.List.{AllByRecursion}
 use Rattle.sqlite_value.specs.declared.keys.Collation.TheVariants.{Binary}
 use Rattle.sqlite_value.specs.declared.value.Value.TheVariants.{Null}
@@ -198,11 +198,19 @@ table_of it tree = record {
   is_counted = false;
 }
 
--- the nine tables of a book, in the order in which they are made
-abbrev pub book_tables : List BookTable
-book_tables =
+-- the nine tables that a book has had since version 1, in the order in which they are made
+abbrev pub first_tables : List BookTable
+first_tables =
     book_table ∷ crew_table ∷ pairing_table ∷ period_table ∷ segment_table ∷ seat_table
     ∷ ground_table ∷ exceedance_table ∷ request_table ∷ []
+
+-- the four tables that version 2 has besides those nine, in the order in which they are made
+abbrev pub later_tables : List BookTable
+later_tables = base_table ∷ crew_base_table ∷ outside_table ∷ outside_segment_table ∷ []
+
+-- the thirteen tables of a book of version 2, in the order in which they are made
+abbrev pub book_tables : List BookTable
+book_tables = first_tables ++ later_tables
 
 -- ---- what a schema has
 
@@ -255,10 +263,22 @@ IsSpared name schema = NoneRefersTo name schema × OnlyKeysGuard name schema
 abbrev pub IsOfBook : BookTable → Schema → Type 0
 IsOfBook it schema = IsTable it schema × IsSpared it.name schema
 
--- the nine tables are there, in any order and among any others, and no foreign key or UNIQUE index
--- of another hand binds them
+-- these tables are there, in any order and among any others, and no foreign key or UNIQUE index of
+-- another hand binds them
+abbrev pub HasTables : List BookTable → Schema → Type 0
+HasTables tables schema = AllByRecursion (λ it. IsOfBook it schema) tables
+
+-- no table has the name of this one, and no foreign key refers to it
+abbrev pub IsNameFree : BookTable → Schema → Type 0
+IsNameFree it schema = (table_found schema it.name ≡ None) × IsUnreferenced it schema
+
+-- the name of each of these tables is free
+abbrev pub AreFree : List BookTable → Schema → Type 0
+AreFree tables schema = AllByRecursion (λ it. IsNameFree it schema) tables
+
+-- a schema has the thirteen tables of a book
 abbrev pub IsBook : Schema → Type 0
-IsBook schema = AllByRecursion (λ it. IsOfBook it schema) book_tables
+IsBook schema = HasTables first_tables schema × HasTables later_tables schema
 
 -- the schema of an empty database
 abbrev pub empty_schema : Schema

@@ -5,15 +5,19 @@ ghost use Rattle.std.specs.Prelude.{◌≡◌, ◌↔◌, IfErr, IfOk, IsTrue, I
 ghost use Rattle.std.specs.List.{list_all, list_any};
 ghost use Rattle.sqlite.specs.Held.{state};
 ghost use Rattle.sqlite_schema.specs.Names.{same_name};
-ghost use Rattle.tables.specs.Schema.{IsBook, IsOfBook, IsSpared, NoneRefersTo, OnlyKeysGuard, table_found, empty_schema, book_table, crew_table, pairing_table, period_table, segment_table, seat_table, ground_table, exceedance_table, request_table};
+ghost use Rattle.tables.specs.Schema.{IsBook, IsOfBook, IsSpared, HasTables, NoneRefersTo, OnlyKeysGuard, table_found, empty_schema, first_tables, later_tables, book_table, crew_table, pairing_table, period_table, segment_table, seat_table, ground_table, exceedance_table, request_table, base_table, crew_base_table, outside_table, outside_segment_table};
 ghost use Rattle.tables.specs.Declarations.{is_not_parent, is_of_key, only_keys_guard};
 ghost use Rattle.tables.specs.declared.table_fault.TableFault.TheVariants as fault;
 
+use crate::base::is_base_there;
 use crate::book::is_book_there;
 use crate::crew::is_crew_there;
+use crate::crew_base::is_crew_base_there;
 use crate::declared::table_named;
 use crate::exceedance::is_exceedance_there;
 use crate::ground::is_ground_there;
+use crate::outside::is_outside_there;
+use crate::outside_segment::is_outside_segment_there;
 use crate::pairing::is_pairing_there;
 use crate::period::is_period_there;
 use crate::request::is_request_there;
@@ -156,11 +160,55 @@ fn ends_as_book<S: Alter>(alloc: Global, conn: &Connection<S>) -> Result<bool, T
     )
 }
 
-/// Returns whether the tables of a book are there, each in a tree of its own, and no foreign key or UNIQUE index of
-/// another hand binds them.
+fn has_bases<S: Alter>(alloc: Global, conn: &Connection<S>) -> Result<bool, TableFault>
+    ensures there { IfOk result
+        (λ yes. IsTrue yes ↔ IsOfBook base_table (state S.Store conn.now).now.schema
+        × IsOfBook crew_base_table (state S.Store conn.now).now.schema) }
+    ensures fault { IfErr result (λ e. e ≡ fault.Memory) }
+{
+    Ok(
+        is_base_there(alloc, conn)?
+            && is_spared(conn, "base")
+            && is_crew_base_there(alloc, conn)?
+            && is_spared(conn, "crew_base"),
+    )
+}
+
+fn has_outside_tables<S: Alter>(alloc: Global, conn: &Connection<S>) -> Result<bool, TableFault>
+    ensures there { IfOk result
+        (λ yes. IsTrue yes ↔ IsOfBook outside_table (state S.Store conn.now).now.schema
+        × IsOfBook outside_segment_table (state S.Store conn.now).now.schema) }
+    ensures fault { IfErr result (λ e. e ≡ fault.Memory) }
+{
+    Ok(
+        is_outside_there(alloc, conn)?
+            && is_spared(conn, "outside")
+            && is_outside_segment_there(alloc, conn)?
+            && is_spared(conn, "outside_segment"),
+    )
+}
+
+fn has_first_tables<S: Alter>(alloc: Global, conn: &Connection<S>) -> Result<bool, TableFault>
+    ensures there { IfOk result
+        (λ yes. IsTrue yes ↔ HasTables first_tables (state S.Store conn.now).now.schema) }
+    ensures fault { IfErr result (λ e. e ≡ fault.Memory) }
+{
+    Ok(begins_as_book(alloc, conn)? && goes_on_as_book(alloc, conn)? && ends_as_book(alloc, conn)?)
+}
+
+fn has_later_tables<S: Alter>(alloc: Global, conn: &Connection<S>) -> Result<bool, TableFault>
+    ensures there { IfOk result
+        (λ yes. IsTrue yes ↔ HasTables later_tables (state S.Store conn.now).now.schema) }
+    ensures fault { IfErr result (λ e. e ≡ fault.Memory) }
+{
+    Ok(has_bases(alloc, conn)? && has_outside_tables(alloc, conn)?)
+}
+
+/// Returns whether the thirteen tables of a book are there, each in a tree of its own, and no foreign key or UNIQUE index
+/// of another hand binds them.
 pub fn is_book<S: Alter>(alloc: Global, conn: &Connection<S>) -> Result<bool, TableFault>
     ensures is { IfOk result (λ yes. IsTrue yes ↔ IsBook (state S.Store conn.now).now.schema) }
     ensures fault { IfErr result (λ e. e ≡ fault.Memory) }
 {
-    Ok(begins_as_book(alloc, conn)? && goes_on_as_book(alloc, conn)? && ends_as_book(alloc, conn)?)
+    Ok(has_first_tables(alloc, conn)? && has_later_tables(alloc, conn)?)
 }

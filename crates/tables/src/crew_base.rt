@@ -84,10 +84,10 @@ pub fn insert_crew_base<S: Alter>(
     crew_base: &CrewBaseRecord,
 ) -> Result<(), TableFault>
     requires { HoldsTable crew_base_table (state S.Store conn.old) }
-    ensures ran { Ran (Inserts crew_base_table (crew_base_row crew_base.now)) (state S.Store conn.old)
-        (state S.Store conn.new) result }
-    ensures held { RefusesHeld crew_base_table (crew_base_row crew_base.now) (state S.Store conn.old)
-        (state S.Store conn.new) result }
+    ensures ran { Ran (Inserts crew_base_table (crew_base_row crew_base.now))
+        (state S.Store conn.old) (state S.Store conn.new) result }
+    ensures held { RefusesHeld crew_base_table (crew_base_row crew_base.now)
+        (state S.Store conn.old) (state S.Store conn.new) result }
     ensures fault { Faults
         (IsTooBig crew_base_table (crew_base_row crew_base.now) (state S.Store conn.old).now)
         (RefusesRow crew_base_table (crew_base_row crew_base.now) (state S.Store conn.old))

@@ -95,13 +95,15 @@ pub fn insert_outside_segment<S: Alter>(
     segment: &OutsideSegmentRecord,
 ) -> Result<(), TableFault>
     requires { HoldsTable outside_segment_table (state S.Store conn.old) }
-    ensures ran { Ran (Inserts outside_segment_table (outside_segment_row segment.now)) (state S.Store conn.old)
-        (state S.Store conn.new) result }
-    ensures held { RefusesHeld outside_segment_table (outside_segment_row segment.now) (state S.Store conn.old)
-        (state S.Store conn.new) result }
+    ensures ran { Ran (Inserts outside_segment_table (outside_segment_row segment.now))
+        (state S.Store conn.old) (state S.Store conn.new) result }
+    ensures held { RefusesHeld outside_segment_table (outside_segment_row segment.now)
+        (state S.Store conn.old) (state S.Store conn.new) result }
     ensures fault { Faults
-        (IsTooBig outside_segment_table (outside_segment_row segment.now) (state S.Store conn.old).now)
-        (RefusesRow outside_segment_table (outside_segment_row segment.now) (state S.Store conn.old))
+        (IsTooBig outside_segment_table (outside_segment_row segment.now)
+        (state S.Store conn.old).now)
+        (RefusesRow outside_segment_table (outside_segment_row segment.now)
+        (state S.Store conn.old))
         (state S.Store conn.old) (state S.Store conn.new) result }
     ensures crash { CrashMayLeave (Inserts outside_segment_table (outside_segment_row segment.now))
         (state S.Store conn.old) (state S.Store conn.new) }
@@ -124,8 +126,9 @@ pub fn load_outside_segments<S: Alter>(
     conn: &mut Connection<S>,
 ) -> Result<Vec<OutsideSegmentRecord>, TableFault>
     requires { HoldsTable outside_segment_table (state S.Store conn.old) }
-    ensures loaded { Loaded outside_segment_table IsOutsideSegmentRow (λ found. map outside_segment_row found.items)
-        (state S.Store conn.old) (state S.Store conn.new) result }
+    ensures loaded { Loaded outside_segment_table IsOutsideSegmentRow
+        (λ found. map outside_segment_row found.items) (state S.Store conn.old)
+        (state S.Store conn.new) result }
     ensures crash { CrashLeavesNoMore (state S.Store conn.old) (state S.Store conn.new) }
 {
     load(
@@ -142,9 +145,9 @@ pub fn outside_segments_of<S: Alter>(
     outside: &str,
 ) -> Result<Vec<OutsideSegmentRecord>, TableFault>
     requires { HoldsWhileOpen outside_segment_table (state S.Store conn.old) }
-    ensures read { Read outside_segment_table (begins_with (value.Text outside.now ∷ [])) IsOutsideSegmentRow
-        (λ found. map outside_segment_row found.items) (state S.Store conn.old)
-        (state S.Store conn.new) result }
+    ensures read { Read outside_segment_table (begins_with (value.Text outside.now ∷ []))
+        IsOutsideSegmentRow (λ found. map outside_segment_row found.items)
+        (state S.Store conn.old) (state S.Store conn.new) result }
     ensures crash { CrashLeavesNoMore (state S.Store conn.old) (state S.Store conn.new) }
 {
     read_all(
@@ -166,7 +169,8 @@ pub fn delete_outside_segments<S: Alter>(
         (state S.Store conn.old) (state S.Store conn.new) result }
     ensures fault { Faults ⊥ (HasStepLimit (state S.Store conn.old)) (state S.Store conn.old)
         (state S.Store conn.new) result }
-    ensures crash { CrashMayLeave (Deletes outside_segment_table (begins_with (value.Text outside.now ∷ [])))
+    ensures crash { CrashMayLeave
+        (Deletes outside_segment_table (begins_with (value.Text outside.now ∷ [])))
         (state S.Store conn.old) (state S.Store conn.new) }
 {
     run(
