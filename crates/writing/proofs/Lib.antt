@@ -1,6 +1,8 @@
 pub mod Chaining
 pub mod Committing
 pub mod EmptyBook
+pub mod Migrated
+pub mod Leaving
 pub mod Ending
 pub mod FewPeriods
 pub mod Retiming

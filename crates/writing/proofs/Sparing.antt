@@ -1,7 +1,8 @@
 -- Tables that aren't of the book keep their rows.
-use Rattle.std.proofs.Common.{◌≡◌, ◌≢◌, refl, sym, ap, subst, ◌∙◌, inl, inr, arith, ℕ, ◌+◌, pos, suc, Bool, List, [], ◌∷◌, Option, None, Some, IsTrue, Result, Ok, Err, IsOk}
-use Rattle.std.specs.List.{AllByRecursion}
+use Rattle.std.proofs.Common.{◌≡◌, refl, sym, ap, subst, ◌∙◌, inl, inr, arith, ℕ, ◌+◌, pos, suc, Bool, List, [], ◌∷◌, Option, None, Some, IsTrue, Result, Ok, Err, IsOk}
+use Rattle.std.specs.FinMap as fin
 use Rattle.sqlite_rules.specs.Lists.{Has}
+use Rattle.sqlite_rules.proofs.ListLemmas.{all_has, has_found}
 use Rattle.sqlite_schema.specs.declared.schema.Schema.{Schema}
 use Rattle.sqlite_schema.specs.declared.schema.Table.{Table}
 use Rattle.sqlite_trees.specs.Tree.{Trees}
@@ -14,19 +15,24 @@ use Rattle.sqlite.specs.State.{State, HasCleanDisk, IsLive, Survives}
 use Rattle.duty.specs.Plans.{Plan, ActualTimes}
 use Rattle.roster.specs.declared.state.PeriodId.{PeriodId}
 use Rattle.command.specs.declared.instruction.Instruction.{Instruction}
+use Rattle.command.specs.declared.member.Member.{Member}
 use Rattle.command.specs.declared.instruction.Instruction.TheVariants.{AddCrew, AddPairing, CancelPairing, Assign, Release, Swap, AddGround, CancelGround, Actual}
+use Rattle.roster.specs.State as roster
 use Rattle.roster.specs.declared.change.Change.{Change}
+use Rattle.state_rows.specs.Bases.{home}
 use Rattle.roster.specs.declared.change.SeatChange.{SeatChange}
 use Rattle.tables.specs.Calls.{Begun, Committed}
-use Rattle.tables.specs.Records.{with_period_times, with_segment_times}
-use Rattle.tables.specs.Rows.{Changes, Inserts, Deletes, Updates, begins_with, stored}
-use Rattle.tables.specs.Schema.{BookTable, IsTable, book_table, table_found, table_of}
+use Rattle.tables.specs.Records.{with_period_times, with_segment_times, with_version}
+use Rattle.tables.specs.Rows.{Changes, Inserts, Deletes, Updates, begins_with, kept_in, stored}
+use Rattle.tables.specs.Schema.{BookTable, IsTable, base_table, book_table, book_tables, later_tables, table_found, table_of}
 use Rattle.writing.specs.Calls.{Changed, Each, IsFit, IsReady, Then, Wrote}
-use Rattle.writing.specs.Kept.{IsOther, KeepOthers, KeepPlain}
-use Rattle.writing.specs.Making.{MakesTables, IsFree, all_tables}
+use Rattle.writing.specs.Kept.{Adds, IsFirstBookOf, IsOther, KeepBeside, KeepOthers}
+use Rattle.writing.specs.Migration.{AddsHome, AddsPost, AddsPosts, Fills, Migrates, SetsVersion}
+use Rattle.writing.specs.Making.{MakesTables}
 use Rattle.writing.specs.Outcomes.{CrashLeavesOnly, CrashAddsOnly, ShowsOnly}
-use Rattle.state_rows.specs.Rows.{TableName, table, crew, pairing, period, segment, seat, ground_duty, exceedance, request, row_of_member, row_of_pairing, row_of_period, row_of_segment, row_of_seat, row_of_ground, row_of_exceedance, row_of_request, seat_number}
+use Rattle.state_rows.specs.Rows.{TableName, table, crew, pairing, period, segment, seat, ground_duty, exceedance, request, base, book, crew_base, row_of_base, row_of_post, row_of_member, row_of_pairing, row_of_period, row_of_segment, row_of_seat, row_of_ground, row_of_exceedance, row_of_request, seat_number}
 use Rattle.writing.specs.Writing.{AddsPeriods, AddsSegmentOf, AddsSegmentsOf, AddsSegments, FreesSeat, Seats, Reseats, FliesPeriod, FliesSegment, FliesSegments, Records, RecordsAll, Writes, WritesInstruction}
+use Rattle.writing.proofs.Migrated.{made_fit}
 use Rattle.writing.proofs.Tables.{fit_after}
 
 -- the schema is as it was, and each table that isn't of the book has its rows
@@ -43,15 +49,10 @@ spares_then a b c one two = record {
   others = λ t there other. two.others t (subst (λ (s : Schema). Has s.tables t) (sym one.schema) there) other ∙ one.others t there other;
 }
 
-holds_of : (P : Table → Type 0) (ts : List Table) (t : Table) → AllByRecursion P ts → Has ts t → P t
-holds_of P [] t all none = absurd none
-holds_of P (x ∷ xs) t all (inl same) = subst P (sym same) all.0
-holds_of P (x ∷ xs) t all (inr more) = holds_of P xs t all.1 more
-
 spares_by : (old new : Database) (a : TableName) (Is : Row → Type 0) → Changes (table a) old new Is → Spares old new
 spares_by old new a Is changes = record {
   schema = changes.schema;
-  others = λ t there other. holds_of _ old.schema.tables t changes.others there (other a);
+  others = λ t there other. all_has _ old.schema.tables t changes.others there (other a);
 }
 
 -- ---- One change after the other
@@ -112,7 +113,7 @@ safe_flight change id a =
     (safe_each (λ _ e. Records change.key p e) (λ _ e. safe_insert exceedance (row_of_exceedance change.key e.crew e.section p)) 0 change.reply.exceedances))
 
 safe_instruction : (change : Change) (instruction : Instruction) → Safe (WritesInstruction change instruction)
-safe_instruction change (AddCrew id m) = safe_insert crew (row_of_member id m)
+safe_instruction change (AddCrew id m) = safe_then (Inserts (table crew) (row_of_member id m)) (Inserts (table crew_base) (row_of_post id home)) (safe_insert crew (row_of_member id m)) (safe_insert crew_base (row_of_post id home))
 safe_instruction change (AddPairing plan) = safe_plan plan
 safe_instruction change (CancelPairing id) =
     safe_then (Deletes (table segment) (begins_with (Text id ∷ []))) (Then (Deletes (table period) (begins_with (Text id ∷ []))) (Deletes (table pairing) (begins_with (Text id ∷ []))))
@@ -145,29 +146,55 @@ written_keeps change old begun last (Ok a) wrote ready begins live clean is =
     } in
     subst (λ (db : Database). KeepOthers db last.now.trees) (begins before).0.now_is kept
 
--- ---- What the making of a book leaves of other tables
+-- ---- What stays beside tables that are made
 
-free_name : (schema : Schema) → IsFree schema → (t : BookTable) → IsTable t schema → t.name ≢ book_table.name
-free_name schema free t there same =
-    let none : table_found schema t.name ≡ None = ap (table_found schema) same ∙ free.0.0 in
-    let no : None ≡ Some (table_of t there.tree) = sym none ∙ there.found in
-    absurd (cc)
+-- a table that is declared as those of the book are
+plain_stays : (old new : Database) → Spares old new → (t : BookTable) → IsTable t old.schema → IsOther t.name → stored t new ≡ stored t old
+plain_stays old new spares t there other =
+    let found = there.found in
+    let has = has_found _ old.schema.tables (table_of t there.tree) found in
+    ap (λ (s : Schema). kept_in new.trees (table_found s t.name)) spares.schema ∙ ap (kept_in new.trees) found
+    ∙ spares.others (table_of t there.tree) has.0 other ∙ sym (ap (kept_in old.trees) found)
 
-pub made_keeps : {A E : Type 0} (row : Row) (old begun last : State) (r : Result A E) → IsFree old.now.schema → (HasCleanDisk begun → Begun old begun) →
-    Changed (Then (MakesTables [] all_tables) (Inserts book_table row)) begun last r → IsLive last → HasCleanDisk last → IsOk r → KeepPlain old.now last.now.trees
-made_keeps row old begun last (Err fault) free begins changed live clean is = absurd (cc)
-made_keeps row old begun last (Ok a) free begins changed live clean is =
+-- tables are made, and then rows of the book are changed
+beside : (tables : List BookTable) (old mid new : Database) → MakesTables tables old mid → Spares mid new → IsDatabase new → KeepBeside tables old new.trees
+beside tables old mid new makes spares sound = record {
+  schema = new.schema;
+  database = sound;
+  adds = subst (Adds tables old.schema) (sym spares.schema) makes.extends.adds;
+  others = λ t h other. spares.others t (makes.extends.adds.kept t h) other ∙ makes.extends.rows t h;
+  plain = λ t there other.
+      let stays = makes.keeps t there in
+      (subst (IsTable t) (sym spares.schema) stays.0, plain_stays mid new spares t stays.0 other ∙ stays.1);
+}
+
+pub made_keeps : {A E : Type 0} (row homes : Row) (old begun last : State) (r : Result A E) → (HasCleanDisk begun → Begun old begun) →
+    Changed (Then (MakesTables book_tables) (Then (Inserts book_table row) (Inserts base_table homes))) begun last r → IsLive last → HasCleanDisk last → IsOk r → KeepBeside book_tables old.now last.now.trees
+made_keeps row homes old begun last (Err fault) begins changed live clean is = absurd (cc)
+made_keeps row homes old begun last (Ok a) begins changed live clean is =
     let it = changed.done clean in
-    let same = (begins (omega (arith, changed.left.clean))).0.now_is in
-    record {
-      schema = last.now.schema;
-      database = (live it.1.is_open).0;
-      others = λ t there.
-          let kept = it.0.1.1 t (subst (λ (db : Database). IsTable t db.schema) (sym same) there) in (
-            subst (IsTable t) (sym it.0.2.schema) kept.0,
-            it.0.2.keeps t kept.0 (free_name old.now.schema free t there) ∙ kept.1 ∙ ap (stored t) same,
-          );
-    }
+    let filled = it.0.2 in
+    let spares = spares_then it.0.0 filled.0 last.now (spares_by it.0.0 filled.0 book _ filled.1) (spares_by filled.0 last.now base _ filled.2) in
+    subst (λ (db : Database). KeepBeside book_tables db last.now.trees) (begins (omega (arith, changed.left.clean))).0.now_is
+    (beside book_tables begun.now it.0.0 last.now it.0.1 spares (live it.1.is_open).0)
+
+safe_fills : (s : roster.State) → Safe (Fills s)
+safe_fills s =
+    safe_then (AddsHome s.zone) (Then (AddsPosts (fin.entries s.crew)) SetsVersion) (safe_insert base (row_of_base home s.zone))
+    (safe_then (AddsPosts (fin.entries s.crew)) SetsVersion
+    (safe_each (λ _ (member : List ℕ × Member). AddsPost member.0) (λ _ member. safe_insert crew_base (row_of_post member.0 home)) 0 (fin.entries s.crew))
+    (safe_update book (begins_with (Int (pos 1) ∷ [])) (with_version (pos 2))))
+
+pub migrated_keeps : {A E : Type 0} (s : roster.State) (old begun last : State) (r : Result A E) → (HasCleanDisk begun → IsFirstBookOf s begun.now) → (HasCleanDisk begun → Begun old begun) →
+    Changed (Migrates s) begun last r → IsLive last → HasCleanDisk last → IsOk r → KeepBeside later_tables old.now last.now.trees
+migrated_keeps s old begun last (Err fault) found begins changed live clean is = absurd (cc)
+migrated_keeps s old begun last (Ok a) found begins changed live clean is =
+    let it = changed.done clean in
+    let before : HasCleanDisk begun = omega (arith, changed.left.clean) in
+    let mid = it.0.0 in
+    let spares = (safe_fills s mid last.now (made_fit s begun.now mid (found before) it.0.1) it.0.2).1 in
+    subst (λ (db : Database). KeepBeside later_tables db last.now.trees) (begins before).0.now_is
+    (beside later_tables begun.now mid last.now it.0.1 spares (live it.1.is_open).0)
 
 -- ---- What a crash leaves
 

@@ -1,16 +1,16 @@
--- The tables of the book are nine, each with rows of its own. Nothing else of this crate looks at how they are declared.
-use Rattle.std.proofs.Common.{◌≡◌, ◌≢◌, refl, sym, ap, subst, ◌∙◌, ℕ, Bool, true, false, List, [], ◌∷◌, map, nat_eq, eq-eqb, bytes_eq}
+-- The tables of the book are thirteen, each with rows of its own. Nothing else of this crate looks at how they are declared.
+use Rattle.std.proofs.Common.{◌≡◌, ◌≢◌, refl, sym, ap, subst, ◌∙◌, ℕ, Bool, true, false, List, [], ◌∷◌, ◌++◌, map, nat_eq, eq-eqb, bytes_eq}
 use Rattle.std.specs.Prelude.{slice_index_or, unwrap_or}
-use Rattle.std.specs.List.{position_from}
+use Rattle.std.specs.List.{AllByRecursion, position_from}
 use Rattle.std.proofs.lemmas.Bool.{true≢false, eqb-true}
 use Rattle.sqlite_value.specs.Order.{Row}
 use Rattle.sqlite_schema.specs.declared.schema.Schema.{Schema}
 use Rattle.sqlite.specs.Effect.{Database}
-use Rattle.tables.specs.Schema.{BookTable, IsBook, IsTable, book_tables}
+use Rattle.tables.specs.Schema.{BookTable, IsBook, IsOfBook, IsTable, IsUnreferenced, OnlyKeysGuard, book_tables, first_tables, later_tables}
 use Rattle.tables.specs.Rows.{AreNumbered, IsStored, Changes, Inserts, Deletes, Updates, cells, rows_of, stored}
 use Rattle.writing.specs.Calls.{IsFit}
-use Rattle.writing.specs.Making.{HasEmpty, all_tables}
-use Rattle.state_rows.specs.Rows.{TableName, book, crew, pairing, period, segment, seat, ground_duty, exceedance, request, table}
+use Rattle.writing.specs.Making.{HasEmpty}
+use Rattle.state_rows.specs.Rows.{TableName, book, crew, pairing, period, segment, seat, ground_duty, exceedance, request, base, crew_base, outside, outside_segment, is_later, table}
 use Rattle.writing.proofs.Chaining.{Keeps}
 
 -- ---- Names
@@ -25,12 +25,16 @@ place seat = 5
 place ground_duty = 6
 place exceedance = 7
 place request = 8
+place base = 9
+place crew_base = 10
+place outside = 11
+place outside_segment = 12
 
 abbrev pub is_same : TableName → TableName → Bool
 is_same a b = nat_eq (place a) (place b)
 
 name_at : ℕ → TableName
-name_at n = slice_index_or (book ∷ crew ∷ pairing ∷ period ∷ segment ∷ seat ∷ ground_duty ∷ exceedance ∷ request ∷ []) n book
+name_at n = slice_index_or (book ∷ crew ∷ pairing ∷ period ∷ segment ∷ seat ∷ ground_duty ∷ exceedance ∷ request ∷ base ∷ crew_base ∷ outside ∷ outside_segment ∷ []) n book
 
 named : (a : TableName) → name_at (place a) ≡ a
 unfolding name_at
@@ -43,6 +47,10 @@ named seat = refl
 named ground_duty = refl
 named exceedance = refl
 named request = refl
+named base = refl
+named crew_base = refl
+named outside = refl
+named outside_segment = refl
 
 pub same_name : (a b : TableName) → is_same a b ≡ true → a ≡ b
 same_name a b same = sym (named a) ∙ ap name_at (eqb-true (place a) (place b) same) ∙ named b
@@ -61,21 +69,83 @@ at_place seat = refl
 at_place ground_duty = refl
 at_place exceedance = refl
 at_place request = refl
+at_place base = refl
+at_place crew_base = refl
+at_place outside = refl
+at_place outside_segment = refl
 
 -- two tables have two names
 apart : (a b : TableName) → is_same a b ≡ false → (table b).name ≢ (table a).name
 apart a b differ e = true≢false (sym (eq-eqb _ _ (sym (at_place a) ∙ ap place_of (sym e) ∙ at_place b)) ∙ differ)
 
+-- ---- A fact of each table
+
+-- of a fact of all, that of one
+pub of_first : (P : BookTable → Type 0) → AllByRecursion P first_tables → (a : TableName) → is_later a ≡ false → P (table a)
+of_first P it book early = it.0
+of_first P it crew early = it.1.0
+of_first P it pairing early = it.1.1.0
+of_first P it period early = it.1.1.1.0
+of_first P it segment early = it.1.1.1.1.0
+of_first P it seat early = it.1.1.1.1.1.0
+of_first P it ground_duty early = it.1.1.1.1.1.1.0
+of_first P it exceedance early = it.1.1.1.1.1.1.1.0
+of_first P it request early = it.1.1.1.1.1.1.1.1.0
+of_first P it base early = absurd (cc)
+of_first P it crew_base early = absurd (cc)
+of_first P it outside early = absurd (cc)
+of_first P it outside_segment early = absurd (cc)
+
+pub of_later : (P : BookTable → Type 0) → AllByRecursion P later_tables → (a : TableName) → is_later a ≡ true → P (table a)
+of_later P it base late = it.0
+of_later P it crew_base late = it.1.0
+of_later P it outside late = it.1.1.0
+of_later P it outside_segment late = it.1.1.1.0
+of_later P it book late = absurd (cc)
+of_later P it crew late = absurd (cc)
+of_later P it pairing late = absurd (cc)
+of_later P it period late = absurd (cc)
+of_later P it segment late = absurd (cc)
+of_later P it seat late = absurd (cc)
+of_later P it ground_duty late = absurd (cc)
+of_later P it exceedance late = absurd (cc)
+of_later P it request late = absurd (cc)
+
+-- of a fact of each, that of all
+pub all_first : (P : BookTable → Type 0) → ((a : TableName) → is_later a ≡ false → P (table a)) → AllByRecursion P first_tables
+all_first P each =
+    (each book refl, (each crew refl, (each pairing refl, (each period refl, (each segment refl, (each seat refl, (each ground_duty refl, (each exceedance refl, (each request refl, tt)))))))))
+
+pub all_later : (P : BookTable → Type 0) → ((a : TableName) → is_later a ≡ true → P (table a)) → AllByRecursion P later_tables
+all_later P each = (each base refl, (each crew_base refl, (each outside refl, (each outside_segment refl, tt))))
+
+-- the tables of version 1, and the later ones
+pub by_edition : (P : TableName → Type 0) → ((a : TableName) → is_later a ≡ false → P a) → ((a : TableName) → is_later a ≡ true → P a) → (a : TableName) → P a
+by_edition P early late a = elim (is_later a) as (λ b. is_later a ≡ b → P a) [ false ↦ λ e. early a e | true ↦ λ e. late a e ] refl
+
+pub all_parts : (P : BookTable → Type 0) → (xs ys : List BookTable) → AllByRecursion P (xs ++ ys) → AllByRecursion P xs × AllByRecursion P ys
+all_parts P [] ys it = (tt, it)
+all_parts P (x ∷ xs) ys it = let more = all_parts P xs ys it.1 in ((it.0, more.0), more.1)
+
+pub all_joined : (P : BookTable → Type 0) → (xs ys : List BookTable) → AllByRecursion P xs → AllByRecursion P ys → AllByRecursion P (xs ++ ys)
+all_joined P [] ys one two = two
+all_joined P (x ∷ xs) ys one two = (one.0, all_joined P xs ys one.1 two)
+
+-- of a fact of all thirteen, that of one
+pub of_all : (P : BookTable → Type 0) → AllByRecursion P book_tables → (a : TableName) → P (table a)
+of_all P it = let parts = all_parts P first_tables later_tables it in by_edition (λ a. P (table a)) (of_first P parts.0) (of_later P parts.1)
+
+pub all_of : (P : BookTable → Type 0) → ((a : TableName) → P (table a)) → AllByRecursion P book_tables
+all_of P each = all_joined P first_tables later_tables (all_first P (λ a _. each a)) (all_later P (λ a _. each a))
+
+pub is_of_book : (schema : Schema) → IsBook schema → (a : TableName) → IsOfBook (table a) schema
+is_of_book schema it = by_edition (λ a. IsOfBook (table a) schema) (of_first (λ t. IsOfBook t schema) it.0) (of_later (λ t. IsOfBook t schema) it.1)
+
 pub is_there : (schema : Schema) → IsBook schema → (a : TableName) → IsTable (table a) schema
-is_there schema it book = it.0.0
-is_there schema it crew = it.1.0.0
-is_there schema it pairing = it.1.1.0.0
-is_there schema it period = it.1.1.1.0.0
-is_there schema it segment = it.1.1.1.1.0.0
-is_there schema it seat = it.1.1.1.1.1.0.0
-is_there schema it ground_duty = it.1.1.1.1.1.1.0.0
-is_there schema it exceedance = it.1.1.1.1.1.1.1.0.0
-is_there schema it request = it.1.1.1.1.1.1.1.1.0.0
+is_there schema it a = (is_of_book schema it a).0
+
+pub is_book : (schema : Schema) → ((a : TableName) → IsOfBook (table a) schema) → IsBook schema
+is_book schema each = (all_first (λ t. IsOfBook t schema) (λ a _. each a), all_later (λ t. IsOfBook t schema) (λ a _. each a))
 
 module _ (old new : Database) (tables : IsBook old.schema) (a : TableName) (Is : Row → Type 0) (changes : Changes (table a) old new Is) (b : TableName) (differ : is_same a b ≡ false) where
   tree_stays : stored (table b) new ≡ stored (table b) old
@@ -109,55 +179,18 @@ updates_keep a test change old new fit updates = fit_after old new fit a _ (upda
 
 -- ---- Tables that were just made
 
-listed_empty : (db : Database) → HasEmpty all_tables db → (a : TableName) → stored (table a) db ≡ []
-listed_empty db it request = it.there.0.1
-listed_empty db it exceedance = it.there.1.0.1
-listed_empty db it ground_duty = it.there.1.1.0.1
-listed_empty db it seat = it.there.1.1.1.0.1
-listed_empty db it segment = it.there.1.1.1.1.0.1
-listed_empty db it period = it.there.1.1.1.1.1.0.1
-listed_empty db it pairing = it.there.1.1.1.1.1.1.0.1
-listed_empty db it crew = it.there.1.1.1.1.1.1.1.0.1
-listed_empty db it book = it.there.1.1.1.1.1.1.1.1.0.1
+module _ (db : Database) (made : List BookTable) (it : HasEmpty made db) (a : TableName) (of : (P : BookTable → Type 0) → AllByRecursion P made → P (table a)) where
+  is_empty : IsTable (table a) db.schema × (stored (table a) db ≡ [])
+  is_empty = of (λ t. IsTable t db.schema × (stored t db ≡ [])) it.there
 
-pub no_rows : (db : Database) → HasEmpty all_tables db → (a : TableName) → rows_of (table a) db ≡ []
-no_rows db it a = ap (map (cells (table a))) (listed_empty db it a)
+  pub just_made : IsOfBook (table a) db.schema
+  just_made = (is_empty.0, (of_all (λ t. IsUnreferenced t db.schema) it.unreferenced a, of (λ t. OnlyKeysGuard t.name db.schema) it.guarded))
 
-none_numbered : AreNumbered []
-none_numbered = record { numbered = λ r h. absurd h; apart = λ r q h k. absurd h }
+  pub no_rows : rows_of (table a) db ≡ []
+  no_rows = ap (map (cells (table a))) is_empty.1
 
-pub none_stored : (db : Database) → HasEmpty all_tables db → (a : TableName) → IsStored (table a) db
-none_stored db it a = subst AreNumbered (sym (listed_empty db it a)) none_numbered
+  none_numbered : AreNumbered []
+  none_numbered = record { numbered = λ r h. absurd h; apart = λ r q h k. absurd h }
 
-pub made_book : (db : Database) → HasEmpty all_tables db → IsBook db.schema
-made_book db it =
-    let t = it.there in
-    let u = it.unreferenced in
-    let k = it.guarded in (
-      (t.1.1.1.1.1.1.1.1.0.0, (u.0, k.1.1.1.1.1.1.1.1.0)),
-      (
-        (t.1.1.1.1.1.1.1.0.0, (u.1.0, k.1.1.1.1.1.1.1.0)),
-        (
-          (t.1.1.1.1.1.1.0.0, (u.1.1.0, k.1.1.1.1.1.1.0)),
-          (
-            (t.1.1.1.1.1.0.0, (u.1.1.1.0, k.1.1.1.1.1.0)),
-            (
-              (t.1.1.1.1.0.0, (u.1.1.1.1.0, k.1.1.1.1.0)),
-              (
-                (t.1.1.1.0.0, (u.1.1.1.1.1.0, k.1.1.1.0)),
-                (
-                  (t.1.1.0.0, (u.1.1.1.1.1.1.0, k.1.1.0)),
-                  (
-                    (t.1.0.0, (u.1.1.1.1.1.1.1.0, k.1.0)),
-                    (
-                      (t.0.0, (u.1.1.1.1.1.1.1.1.0, k.0)),
-                      tt,
-                    ),
-                  ),
-                ),
-              ),
-            ),
-          ),
-        ),
-      ),
-    )
+  pub none_stored : IsStored (table a) db
+  none_stored = subst AreNumbered (sym is_empty.1) none_numbered

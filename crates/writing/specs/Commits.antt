@@ -1,5 +1,5 @@
--- What the call comes to that makes a book, and the call that commits a change. The layers above
--- hand both promises on as they stand.
+-- What the call comes to that makes a book, the call that commits a change, and the call that makes
+-- a book of version 1 one of version 2. The layers above hand these promises on as they stand.
 use Rattle.std.specs.Prelude.{◌≡◌, ◌≤◌, OnErr, OnOk, Result, Err}
 use Rattle.sqlite_trees.specs.declared.store.Store.{Ghosts}
 use Rattle.sqlite.specs.Held.{Held, state}
@@ -10,10 +10,11 @@ use Rattle.roster.specs.Steps.{after}
 use Rattle.roster.specs.declared.change.Change.{Change}
 use Rattle.state_rows.specs.declared.fault.StoreFault.{StoreFault}
 use Rattle.state_rows.specs.declared.fault.StoreFault.TheVariants.{Memory, Store}
-use Rattle.writing.specs.Kept.{KeepOthers, KeepPlain}
+use Rattle.tables.specs.Schema.{book_tables, later_tables}
+use Rattle.writing.specs.Kept.{KeepBeside, KeepOthers}
 use Rattle.writing.specs.Making.{IsFree}
 use Rattle.writing.specs.Next.{IsAcceptedChange}
-use Rattle.writing.specs.Outcomes.{CrashAddsNothing, CrashAddsOnly, HoldsNow, IsOutside, CrashLeaves, CrashLeavesOnly, CrashLeavesSome, CrashMayAdd, ShowsOnly, StaysOpen, StillShows, either, one}
+use Rattle.writing.specs.Outcomes.{CrashAddsNothing, CrashAddsOnly, HoldsNow, IsOutside, CrashLeaves, CrashLeavesEither, CrashLeavesFirst, CrashLeavesOnly, CrashLeavesSome, CrashMayAdd, ShowsOnly, StaysOpen, StillShows, either, one}
 use Rattle.writing.specs.declared.fault.CreateFault.{CreateFault}
 use Rattle.writing.specs.declared.fault.CreateFault.TheVariants.{Fault, NotEmpty}
 
@@ -23,9 +24,9 @@ pub record AreTablesMade (old new : State) (s : roster.State) : Type 0 where
   pub crash : CrashLeaves new (one s)
   pub some_left : CrashLeavesSome new
   pub shown : HoldsNow new s
-  -- each other table that was there: what a crash leaves of it, and what is shown
-  pub others_crash : CrashLeavesOnly new (KeepPlain old.now)
-  pub others_shown : ShowsOnly new (KeepPlain old.now)
+  -- all that was there, and that nothing else is made: what a crash leaves, and what is shown
+  pub others_crash : CrashLeavesOnly new (KeepBeside book_tables old.now)
+  pub others_shown : ShowsOnly new (KeepBeside book_tables old.now)
   -- the limit of a statement's steps, if one is set
   pub limit : new.step_limit ≡ old.step_limit
 
@@ -38,7 +39,8 @@ pub record IsNotMade {S : Type 0}
   pub memory : fault ≡ Fault Memory → CrashAddsNothing (state g old) (state g new)
   pub crash : CrashMayAdd (state g old) (state g new) s
   pub some_left : CrashLeavesSome (state g new)
-  pub others_crash : CrashAddsOnly (state g old) (state g new) (KeepPlain (state g old).now)
+  pub others_crash :
+      CrashAddsOnly (state g old) (state g new) (KeepBeside book_tables (state g old).now)
   -- the database that was shown is still shown
   pub still_shown : StillShows (state g old) (state g new)
   -- the connection, and the limit of a statement's steps, if one is set
@@ -73,3 +75,28 @@ pub record IsCommitted {A : Type 0}
   pub faults : old.faults ≤ new.faults
   pub limit : new.step_limit ≡ old.step_limit
   pub still_open : result ≡ Err Memory → StaysOpen old new
+
+-- what it comes to that a book of version 1 in this state is made one of version 2, in one
+-- transaction
+pub record IsMigrated {A : Type 0}
+    (old new : State) (s : roster.State) (result : Result A StoreFault) : Type 0 where
+  -- the tables: they are of version 2; after 91 a crash leaves nothing new, and after 90 what it
+  -- could leave before, or version 2
+  pub crash : OnOk result (CrashLeaves new (one s))
+  pub memory : result ≡ Err Memory → CrashAddsNothing old new
+  pub store : CrashMayAdd old new s
+  pub some_left : CrashLeavesSome new
+  pub shown : OnOk result (HoldsNow new s)
+  pub still_shown : OnErr result (StillShows old new)
+  -- the tables, if a crash could leave version 1 in this state before, and nothing else
+  pub still_first : CrashLeavesFirst old s → result ≡ Err Memory → CrashLeavesFirst new s
+  pub either_left : CrashLeavesFirst old s → CrashLeavesEither new s
+  -- all else that was there, and that nothing else is made: what a crash leaves, and what is shown
+  pub others_crash : OnOk result (CrashLeavesOnly new (KeepBeside later_tables old.now))
+  pub others_left : CrashAddsOnly old new (KeepBeside later_tables old.now)
+  pub others_shown : OnOk result (ShowsOnly new (KeepBeside later_tables old.now))
+  -- the disk and the connection, and the limit of a statement's steps, if one is set
+  pub disk : HasCleanDisk new → HasCleanDisk old
+  pub faults : old.faults ≤ new.faults
+  pub limit : new.step_limit ≡ old.step_limit
+  pub still_open : StaysOpen old new

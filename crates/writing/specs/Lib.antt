@@ -6,3 +6,4 @@ pub mod Making
 pub mod Next
 pub mod Commits
 pub mod Writing
+pub mod Migration

@@ -1,17 +1,19 @@
 -- How the tables of a book are made.
-use Rattle.std.specs.Prelude.{◌≡◌, List, [], ◌∷◌, None}
+use Rattle.std.specs.Prelude.{◌≡◌, ◌++◌, false, List, [], ◌∷◌}
 use Rattle.std.specs.List.{AllByRecursion}
+use Rattle.sqlite_rules.specs.Lists.{Has}
 use Rattle.sqlite_schema.specs.declared.schema.Schema.{Schema}
+use Rattle.sqlite_schema.specs.declared.schema.Table.{Table}
+use Rattle.sqlite.specs.Does.{lacks_sequence}
 use Rattle.sqlite.specs.Effect.{Database}
-use Rattle.tables.specs.Schema.{BookTable, IsTable, IsUnreferenced, OnlyKeysGuard, AreOnTables, table_found, book_tables, book_table, crew_table, pairing_table, period_table, segment_table, seat_table, ground_table, exceedance_table, request_table}
+use Rattle.tables.specs.Schema.{BookTable, AreFree, IsTable, IsUnreferenced, OnlyKeysGuard, AreOnTables, book_tables, book_table, crew_table, pairing_table, period_table, segment_table, seat_table, ground_table, exceedance_table, request_table}
 use Rattle.tables.specs.Rows.{stored}
-use Rattle.writing.specs.Kept.{KeepsPlain}
+use Rattle.writing.specs.Kept.{Adds}
 
 -- the schema has no table with the name of a table of the book, and no foreign key that refers to
 -- one
 abbrev pub IsFree : Schema → Type 0
-IsFree schema =
-    AllByRecursion (λ t. (table_found schema t.name ≡ None) × IsUnreferenced t schema) book_tables
+IsFree = AreFree book_tables
 
 -- ---- What the functions say to one another of the tables that they make. No public clause names
 -- these definitions.
@@ -28,20 +30,36 @@ pub record HasEmpty (tables : List BookTable) (db : Database) : Type 0 where
   pub unreferenced : AreUnreferenced db.schema
   pub on_tables : AreOnTables db.schema
 
--- if the first tables were there without a row, the second are now, and each table that is declared
--- as the tables of a book are declared keeps its rows
-abbrev pub MakesTables : List BookTable → List BookTable → Database → Database → Type 0
-MakesTables first second old new =
-    (HasEmpty first old → HasEmpty second new) × KeepsPlain old new
+-- each table that is declared as the tables of a book are declared stays so, and has the rows that
+-- it had
+abbrev pub KeepsPlain : Database → Database → Type 0
+KeepsPlain old new = (t : BookTable) → IsTable t old.schema →
+    IsTable t new.schema × (stored t new ≡ stored t old)
 
--- the first three tables of a book, the last made first
-abbrev pub first_tables : List BookTable
-first_tables = pairing_table ∷ crew_table ∷ book_table ∷ []
+-- the tables that were there are as they were declared, with the rows that they had, and just these
+-- tables are made beside them
+pub record Extends (tables : List BookTable) (old new : Database) : Type 0 where
+  pub adds : Adds tables old.schema new.schema
+  pub rows : (t : Table) → Has old.schema.tables t → new.trees t.tree ≡ old.trees t.tree
+  pub sequence : lacks_sequence old.schema ≡ false → lacks_sequence new.schema ≡ false
 
--- the first six tables of a book, the last made first
-abbrev pub second_tables : List BookTable
-second_tables = seat_table ∷ segment_table ∷ period_table ∷ first_tables
+-- These tables are made, one after the other, and have no row. Each table that is declared as the
+-- tables of a book are declared keeps its rows, and only its own keys guard it, if only they did.
+pub record MakesTables (tables : List BookTable) (old new : Database) : Type 0 where
+  pub empty : (before : List BookTable) → HasEmpty before old → HasEmpty (before ++ tables) new
+  pub keeps : KeepsPlain old new
+  pub guarded : (t : BookTable) → IsTable t old.schema → OnlyKeysGuard t.name old.schema →
+      OnlyKeysGuard t.name new.schema
+  pub extends : Extends tables old new
 
--- all nine tables of a book, the last made first
-abbrev pub all_tables : List BookTable
-all_tables = request_table ∷ exceedance_table ∷ ground_table ∷ second_tables
+-- the first three tables of a book, in the order in which they are made
+abbrev pub made_first : List BookTable
+made_first = book_table ∷ crew_table ∷ pairing_table ∷ []
+
+-- the three tables of a book that are made next, from `period` to `seat`
+abbrev pub made_second : List BookTable
+made_second = period_table ∷ segment_table ∷ seat_table ∷ []
+
+-- the last three tables that a book of version 1 has too, from `ground` to `request`
+abbrev pub made_third : List BookTable
+made_third = ground_table ∷ exceedance_table ∷ request_table ∷ []

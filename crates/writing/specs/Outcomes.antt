@@ -5,7 +5,7 @@ use Rattle.sqlite_trees.specs.Tree.{Trees}
 use Rattle.sqlite.specs.State.{State, HasCleanDisk}
 use Rattle.roster.specs.State as roster
 use Rattle.tables.specs.Schema.{IsBook}
-use Rattle.writing.specs.Kept.{IsBookOf, HoldBookOf, AreStored}
+use Rattle.writing.specs.Kept.{IsBookOf, IsFirstBookOf, HoldBookOf, HoldFirstBookOf, AreStored}
 
 -- All of this is said as long as the disk has returned what was written.
 
@@ -46,6 +46,16 @@ pub record CrashAddsOnly (old now : State) (P : Trees → Type 0) : Type 0 where
   pub crash : HasCleanDisk now → (trees : Trees) → now.may_leave trees →
       old.may_leave trees ⊎ P trees
 
+-- a crash leaves the tables of version 1 in this state, and nothing else
+abbrev pub CrashLeavesFirst : State → roster.State → Type 0
+CrashLeavesFirst now s = CrashLeavesOnly now (λ trees. HoldFirstBookOf trees s)
+
+-- a crash leaves the tables of a book in this state, all of version 1 or all of version 2, and
+-- nothing else
+pub record CrashLeavesEither (now : State) (s : roster.State) : Type 0 where
+  pub crash : HasCleanDisk now → (trees : Trees) → now.may_leave trees →
+      HoldFirstBookOf trees s ⊎ HoldBookOf trees s
+
 -- the connection shows trees of which P holds
 abbrev pub ShowsOnly : State → (Trees → Type 0) → Type 0
 ShowsOnly now P = HasCleanDisk now → P now.now.trees
@@ -61,6 +71,10 @@ IsOverBook s = HasCleanDisk s → IsTrue s.is_open → IsBook s.now.schema × Ar
 -- the connection is open, and shows the tables of a book in this state
 abbrev pub HoldsNow : State → roster.State → Type 0
 HoldsNow now s = HasCleanDisk now → IsTrue now.is_open × IsBookOf s now.now
+
+-- while the connection is open, it shows the tables of version 1 in this state
+abbrev pub ShowsFirst : State → roster.State → Type 0
+ShowsFirst now s = HasCleanDisk now → IsTrue now.is_open → IsFirstBookOf s now.now
 
 -- while the connection is open, it shows the database that it showed before
 abbrev pub StillShows : State → State → Type 0

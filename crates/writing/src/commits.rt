@@ -10,7 +10,7 @@ ghost use Rattle.writing.specs.Outcomes.{IsOutside, IsOverBook};
 
 use crate::fault::CreateFault;
 use crate::making::{is_free, make_tables};
-use crate::records::request_record;
+use crate::records::{home_record, request_record};
 use crate::transaction::end;
 use crate::writing::write_change;
 use roster::Change;
@@ -22,8 +22,8 @@ use tables::transaction::begin;
 use time117::Zone;
 use values::Text;
 
-/// Makes the tables, and the row of the book, in one transaction. Nothing is made beside a table with the name of one of
-/// them, or a foreign key that refers to one (43).
+/// Makes the tables, the row of the book, and that of its base, in one transaction, beside all that is there already. Nothing
+/// is made beside a table with the name of one of them, or a foreign key that refers to one (43).
 pub fn make_book<S: Alter>(
     alloc: Global,
     conn: &mut Connection<S>,
@@ -44,14 +44,15 @@ pub fn make_book<S: Alter>(
     }
     let book = BookRecord {
         one: 1,
-        version: 1,
+        version: 2,
         zone: Text::new(String::from_str(alloc, zone.text())?),
     };
+    let home = home_record(alloc, zone)?;
     // The clauses of these calls say that an open connection shows a database, and outside a transaction what is committed.
     let _live = conn.schema();
     let _settled = conn.is_autocommit();
     begin(conn)?;
-    let done = make_tables(conn, &book);
+    let done = make_tables(conn, &book, &home);
     Ok(end(conn, done)?)
 }
 

@@ -10,8 +10,9 @@ ghost use Rattle.tables.specs.Rows.{Inserts, Deletes, begins_with};
 ghost use Rattle.writing.specs.Calls.{IsReady, Wrote};
 ghost use Rattle.state_rows.specs.Rows.{table, crew, pairing, period, segment, ground_duty, request, row_of_member, row_of_pairing, row_of_period, row_of_segment, row_of_ground, row_of_request};
 ghost use Rattle.state_rows.specs.Counts.{HaveFewSegments};
-ghost use Rattle.writing.specs.Writing.{AddsPeriods, AddsSegmentsOf, AddsSegments, AddsPairing, RemovesPairing, FreesSeat, TakesSeat, Reseats, ReseatsAll, FliesSegment, FliesSegments, FliesPeriod, Records, RecordsAll, Flies, WritesInstruction, Writes};
+ghost use Rattle.writing.specs.Writing.{AddsMember, AddsPeriods, AddsSegmentsOf, AddsSegments, AddsPairing, RemovesPairing, FreesSeat, TakesSeat, Reseats, ReseatsAll, FliesSegment, FliesSegments, FliesPeriod, Records, RecordsAll, Flies, WritesInstruction, Writes};
 
+use crate::migrating::add_post;
 use crate::records::{
     crew_record, exceedance_record, ground_record, number_of_seat, pairing_record, period_record,
     seat_record, segment_record,
@@ -31,9 +32,9 @@ use tables::request::{RequestRecord, insert_request};
 use tables::seat::{delete_seat, insert_seat};
 use tables::segment::{delete_segments, insert_segment, update_segment};
 
-/// Writes a new member.
+/// Writes the row of a new member.
 #[tactic(auto, using(crate::proofs::Chaining::one_write, crate::proofs::Tables::inserts_keep))]
-fn add_member<S: Alter>(
+fn add_crew<S: Alter>(
     alloc: Global,
     conn: &mut Connection<S>,
     id: &CrewId,
@@ -45,6 +46,22 @@ fn add_member<S: Alter>(
 {
     let record = crew_record(alloc, id, member)?;
     Ok(insert_crew(conn, &record)?)
+}
+
+/// Writes a new member, with the member's base.
+#[tactic(auto, using(crate::proofs::Chaining::then_write, crate::proofs::Chaining::write_stopped))]
+fn add_member<S: Alter>(
+    alloc: Global,
+    conn: &mut Connection<S>,
+    id: &CrewId,
+    member: &Member,
+) -> Result<(), StoreFault>
+    requires { IsReady (state S.Store conn.old) }
+    ensures { Wrote (AddsMember id.now member.now) (state S.Store conn.old)
+        (state S.Store conn.new) result }
+{
+    add_crew(alloc, conn, id, member)?;
+    add_post(alloc, conn, id)
 }
 
 /// Writes a new ground duty.

@@ -23,7 +23,7 @@ returns-in_err-begin-clause-committed g c =
       crash = search rules;
       memory = λ s leaves _. kept s leaves;
       store = λ s next leaves _. weaker new s (after s c.args.change.now) (kept s leaves);
-      some_left = search rules;
+      some_left = g.met.S.Store.survives c.begin.new.conn.store;
       shown = search rules;
       still_shown = on_err _ (unbegun_shows old new before settled (λ clean. (c.in_err-begin.ensures.gave clean).0));
       command = search rules;
@@ -63,7 +63,7 @@ returns-clause-committed g c =
           let ending = survives_weaker last new _ _ (λ _ _ reached. none_done c.write_change-done.result _ (ended.memory e) reached.0) ended.crash in
           kept_leaves old new (one s) (survives_then old last new _ _ _ (λ _ _ none. none) (λ _ _ none. none) first ending) leaves;
       store = λ s next leaves _. either_leaves old last new s (after s c.args.change.now) (IsOk c.write_change-done.result) whole (holds s next leaves) leaves;
-      some_left = search rules;
+      some_left = g.met.S.Store.survives c.end.new.conn.store;
       shown = λ s next leaves.
           on_ok c.end.result ended.whole ended.ok (λ is ended. ended_now G last c.end.new.conn (after s c.args.change.now) ended (λ clean. holds s next leaves clean is));
       still_shown = on_err_of c.end.result ended.commit_stays
