@@ -1,5 +1,5 @@
 -- The table `book`: what its one row tells, and when it is right.
-use Rattle.std.proofs.Common.{◌≡◌, ◌⊎◌, ◌↔◌, inl, inr, refl, sym, ap, subst, ◌∙◌, arith, ℕ, zero, suc, pos, ◌<◌, true, false, List, [], ◌∷◌, map, slice_get, ◌+◌, length, Some, None, Result, Ok, Err, MatchResult, IsUtf8}
+use Rattle.std.proofs.Common.{◌≡◌, ◌⊎◌, ◌↔◌, inl, inr, refl, sym, ap, subst, ◌∙◌, arith, ℕ, ℤ, zero, suc, pos, ◌<◌, true, false, List, [], ◌∷◌, map, slice_get, ◌+◌, length, Some, None, Result, Ok, Err, MatchResult, IsUtf8}
 use Rattle.std.proofs.lemmas.Option.{slice_get_within}
 use Rattle.sqlite_value.specs.declared.value.Value.TheVariants.{Int}
 use Rattle.sqlite_value.specs.Order.{Row, column}
@@ -17,9 +17,13 @@ use Rattle.loading.proofs.Ascii.{zone_utf8}
 use Rattle.loading.proofs.Mapping.{mapped_at}
 use Rattle.loading.proofs.Telling.{nothing_left, unread}
 use Rattle.state_rows.proofs.Values.{text_is}
-use Rattle.loading.specs.Loading.{IsNoBook, IsOfOtherVersion, AreRight, IsDamaged, Justifies, named}
-use Rattle.loading.specs.Reading.{ReadsAs, Blames, BlamesBook, HasRows, IsNoBookRow, IsOnly, AgreesThrough, IsUnreadable, book_of}
+use Rattle.loading.specs.Loading.{IsCaused, IsNoBook, IsOfOtherVersion, AreRight, IsDamaged, Justifies, named}
+use Rattle.loading.specs.Reading.{AgreesIn, ReadsAs, BlamesBook, BlamesOrFails, HasRows, IsEditionNumber, IsNoBookRow, IsOnly, IsUnreadable, book_of}
+use Rattle.state_rows.specs.Editions.{edition_number}
 use Rattle.state_rows.specs.Rows.{book, table}
+use Rattle.state_rows.specs.declared.fault.StoreFault.TheVariants.{Memory, Store}
+use Rattle.state_rows.specs.declared.edition.Edition.{Edition}
+use Rattle.state_rows.specs.declared.edition.Edition.TheVariants.{First, Second}
 use Rattle.loading.specs.declared.fault.LoadFault.{LoadFault}
 use Rattle.loading.specs.declared.fault.LoadFault.TheVariants.{NotABook, Version, Damaged, Fault}
 use Rattle.loading.specs.declared.fault.TableName.TheVariants as table_name
@@ -93,18 +97,22 @@ only_one records a b x y = one_record a b ((y.all (book_row a)).0 ((x.all (book_
 pub no_row : (records : List BookRecord) → ((it : BookRecord) → IsOnly records it → ⊥) → IsNoBookRow records
 no_row records none it only = absurd (none it only)
 
-pub other_number : (records : List BookRecord) (it : BookRecord) → IsOnly records it → it.version ≡ pos 1 → (it.one ≡ pos 1 → ⊥) → IsNoBookRow records
-other_number records it is version none other only =
-    let same = only_one records it other is only in
-    (ap (λ (r : BookRecord). r.version) (sym same) ∙ version, λ e. absurd (none (ap (λ (r : BookRecord). r.one) same ∙ e)))
+pub no_edition : (number : ℤ) → (number ≡ pos 1 → ⊥) → (number ≡ pos 2 → ⊥) → IsEditionNumber number → ⊥
+no_edition number one two (First, e) = one e
+no_edition number one two (Second, e) = two e
 
-pub no_zone : (records : List BookRecord) (it : BookRecord) → IsOnly records it → it.version ≡ pos 1 → is_zone_text it.zone ≡ false → IsNoBookRow records
-no_zone records it is version none other only =
+pub other_number : (records : List BookRecord) (it : BookRecord) (edition : Edition) → IsOnly records it → it.version ≡ pos (edition_number edition) → (it.one ≡ pos 1 → ⊥) → IsNoBookRow records
+other_number records it edition is version none other only =
     let same = only_one records it other is only in
-    (ap (λ (r : BookRecord). r.version) (sym same) ∙ version, λ e. ap (λ (r : BookRecord). is_zone_text r.zone) (sym same) ∙ none)
+    ((edition, ap (λ (r : BookRecord). r.version) (sym same) ∙ version), λ e. absurd (none (ap (λ (r : BookRecord). r.one) same ∙ e)))
 
-pub of_book : (records : List BookRecord) (it : BookRecord) (zone : List ℕ) → IsOnly records it → it.version ≡ pos 1 → it.one ≡ pos 1 → zone ≡ it.zone → IsOnly records (book_of zone)
-of_book records it zone is version one same = subst (IsOnly records) (λ i. record { one = one i; version = version i; zone = sym same i }) is
+pub no_zone : (records : List BookRecord) (it : BookRecord) (edition : Edition) → IsOnly records it → it.version ≡ pos (edition_number edition) → is_zone_text it.zone ≡ false → IsNoBookRow records
+no_zone records it edition is version none other only =
+    let same = only_one records it other is only in
+    ((edition, ap (λ (r : BookRecord). r.version) (sym same) ∙ version), λ e. ap (λ (r : BookRecord). is_zone_text r.zone) (sym same) ∙ none)
+
+pub of_book : (records : List BookRecord) (it : BookRecord) (edition : Edition) (zone : List ℕ) → IsOnly records it → it.version ≡ pos (edition_number edition) → it.one ≡ pos 1 → zone ≡ it.zone → IsOnly records (book_of edition zone)
+of_book records it edition zone is version one same = subst (IsOnly records) (λ i. record { one = one i; version = version i; zone = sym same i }) is
 
 -- ---- The table
 
@@ -114,7 +122,7 @@ only_rows db records it read only row = (λ h. (only.all row).0 ((read.all row).
 
 pub not_unreadable : (db : Database) → IsUnreadable book IsBookRow db → AreRight book db → ⊥
 not_unreadable db (inl none) right = none right.1.0.0
-not_unreadable db (inr x) right = x.3 (book_of right.0.zone, zone_utf8 right.0.zone right.1.1, (right.1.0.1 x.0).0 x.1)
+not_unreadable db (inr x) right = x.3 (book_of right.1.0.1.0 right.0.zone, zone_utf8 right.0.zone right.1.1, (right.1.0.1.1 x.0).0 x.1)
 
 not_other : (db : Database) → IsUnreadable book IsBookRow db → IsOfOtherVersion db → ⊥
 not_other db (inl none) other = none other.there
@@ -132,31 +140,45 @@ module _ (db : Database) (there : IsNoBook db → ⊥) where
     pub no_book_row : IsNoBookRow records → IsDamaged book db
     no_book_row none = record {
       book = there;
-      version = λ other. other.other (none other.it (told_only other.it other.one_row)).0;
+      version = λ other. let known = (none other.it (told_only other.it other.one_row)).0 in other.other known.0 known.1;
       above = tt;
-      damaged = λ right. absurd (let f = sym ((none (book_of right.0.zone) (told_only (book_of right.0.zone) right.1.0.1)).1 refl) ∙ right.1.1 in cc);
+      damaged = λ right.
+          let it = book_of right.1.0.1.0 right.0.zone in
+          absurd (let f = sym ((none it (told_only it right.1.0.1.1)).1 refl) ∙ right.1.1 in cc);
     }
 
-    pub other_version : (it : BookRecord) → IsOnly records it → IsUtf8 it.zone → (it.version ≡ pos 1 → ⊥) → IsOfOtherVersion db
-    other_version it only utf8 other = record { there = read.there; it = it; utf8 = utf8; one_row = only_rows db records it read only; other = other }
+    pub other_version : (it : BookRecord) → IsOnly records it → IsUtf8 it.zone → (IsEditionNumber it.version → ⊥) → IsOfOtherVersion db
+    other_version it only utf8 other = record { there = read.there; it = it; utf8 = utf8; one_row = only_rows db records it read only; other = λ edition e. other (edition, e) }
 
-    pub right : (r : State) → r ≡ empty r.zone → IsOnly records (book_of r.zone) → is_zone_text r.zone ≡ true → AgreesThrough book r db
-    right r is only zone = record {
-      stored = (read.stored, tt);
-      book = there;
-      version = λ other. other.other (ap (λ (x : BookRecord). x.version) (only_one records other.it (book_of r.zone) (told_only other.it other.one_row) only));
-      right = ((read.there, only_rows db records (book_of r.zone) read only), zone);
-    }
+    pub right : (r : State) (edition : Edition) → IsOnly records (book_of edition r.zone) → is_zone_text r.zone ≡ true → AgreesIn edition book r db
+    right r edition only zone =
+        let just = only_rows db records (book_of edition r.zone) read only in
+        record {
+          through = record {
+            stored = (read.stored, tt);
+            book = there;
+            version = λ other. other.other edition (ap (λ (x : BookRecord). x.version) (only_one records other.it (book_of edition r.zone) (told_only other.it other.one_row) only));
+            right = ((read.there, (edition, just)), zone);
+          };
+          of = (r, just);
+        }
 
 -- ---- The call
 
-abbrev pub Now : Database → State → Type 0
-Now db r = AgreesThrough book r db × (r ≡ empty r.zone)
+abbrev pub Now : Database → State × Edition → Type 0
+Now db r = AgreesIn r.1 book r.0 db
+
+-- a refusal of the records of the table is no fault of the store
+no_store : (records : List BookRecord) (fault : LoadFault) → BlamesBook records fault → fault ≡ Fault Store → ⊥
+no_store records NotABook blame is = blame
+no_store records Version blame is = cc
+no_store records (Damaged other) blame is = cc
+no_store records (Fault fault) memory is = let no : Fault Memory ≡ Fault Store = ap Fault (sym memory) ∙ is in cc
 
 module _ (old new : conn.State) (there : IsNoBook old.now → ⊥) where
-  pub not_read : (fault : LoadFault) → (HasCleanDisk new → Blames table_name.Book (IsUnreadable book IsBookRow old.now) fault) → CrashLeavesNoMore old new →
+  pub not_read : (fault : LoadFault) → (HasCleanDisk new → BlamesOrFails table_name.Book (IsUnreadable book IsBookRow old.now) fault) → (HasCleanDisk new → IsCaused old new fault) → CrashLeavesNoMore old new →
       ReadsAs (Now old.now) (λ f. Justifies f old.now) old new (Err fault)
-  not_read fault told left = unread table_name.Book _ (Now old.now) old new fault (λ clean. unreadable old.now there) told left
+  not_read fault told caused left = unread table_name.Book _ (Now old.now) old new fault (λ clean. unreadable old.now there) told caused left
 
   said : (records : List BookRecord) → HasRows book old.now (map book_row records) → (fault : LoadFault) → BlamesBook records fault → Justifies fault old.now
   said records read NotABook blame = absurd blame
@@ -164,18 +186,20 @@ module _ (old new : conn.State) (there : IsNoBook old.now → ⊥) where
   said records read (Damaged other) blame = subst (λ t. IsDamaged (named t) old.now) (sym blame.0) (no_book_row old.now there records read blame.1)
   said records read (Fault fault) blame = tt
 
-  pub is_read : (records seen : List BookRecord) (result : Result State LoadFault) → seen ≡ records →
+  pub is_read : (records seen : List BookRecord) (result : Result (State × Edition) LoadFault) → seen ≡ records →
       (HasCleanDisk new → IsUnchanged old new × HasRows book old.now (map book_row records)) → CrashLeavesNoMore old new →
-      MatchResult result (λ r. (r ≡ empty r.zone) × IsOnly seen (book_of r.zone) × (is_zone_text r.zone ≡ true)) (BlamesBook seen) →
+      MatchResult result (λ r. (r.0 ≡ empty r.0.zone) × IsOnly seen (book_of r.1 r.0.zone) × (is_zone_text r.0.zone ≡ true)) (BlamesBook seen) →
       ReadsAs (Now old.now) (λ f. Justifies f old.now) old new result
   is_read records seen (Ok r) same saw left done = record {
-    told = λ clean. let it = saw clean in (it.0, (right old.now there records it.1 r done.0 (subst (λ l. IsOnly l (book_of r.zone)) same done.1) done.2, done.0));
+    told = λ clean. let it = saw clean in (it.0, right old.now there records it.1 r.0 r.1 (subst (λ l. IsOnly l (book_of r.1 r.0.zone)) same done.1) done.2);
+    caused = λ clean. tt;
     left = left;
   }
   is_read records seen (Err fault) same saw left blame = record {
     told = λ clean. said records (saw clean).1 fault (subst (λ l. BlamesBook l fault) same blame);
+    caused = λ clean is. absurd (no_store seen fault blame is);
     left = left;
   }
 
 pub no_book : (s : conn.State) → IsNoBook s.now → ReadsAs (Now s.now) (λ f. Justifies f s.now) s s (Err NotABook)
-no_book s none = record { told = λ clean. none; left = nothing_left s }
+no_book s none = record { told = λ clean. none; caused = λ clean is. absurd (cc); left = nothing_left s }

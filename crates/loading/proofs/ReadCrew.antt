@@ -24,9 +24,9 @@ use Rattle.loading.proofs.Ascii.{id_utf8}
 use Rattle.loading.proofs.Mapping.{all_taken, nothing_mapped, next_mapped, mapped_at, mapped_place}
 use Rattle.state_rows.proofs.Tests.{passes}
 use Rattle.state_rows.proofs.Values.{text_is, number_is}
-use Rattle.loading.proofs.Telling.{unread, of_blame, clean_before}
-use Rattle.loading.specs.Loading.{IsMember, IsRight, AreRight, IsDamaged, Justifies}
-use Rattle.loading.specs.Reading.{seat_of, MembersRead, ReadsAs, Blames, HasRows, IsUnreadable, AgreesThrough, Mapped, AreOnce, TellsOf, HasStranger}
+use Rattle.loading.proofs.Telling.{unread, of_blame, clean_before, or_fails, uncaused}
+use Rattle.loading.specs.Loading.{IsCaused, IsMember, IsRight, AreRight, IsDamaged, Justifies}
+use Rattle.loading.specs.Reading.{seat_of, MembersRead, ReadsAs, Blames, BlamesOrFails, HasRows, IsUnreadable, AgreesThrough, Mapped, AreOnce, TellsOf, HasStranger}
 use Rattle.loading.specs.declared.fault.LoadFault.{LoadFault}
 use Rattle.loading.specs.declared.fault.TableName.TheVariants as table_name
 use Rattle.state_rows.specs.Rows.{seat_number, row_of_member, crew, book}
@@ -157,9 +157,9 @@ module _ (s : State) (old new : conn.State) (above : HasCleanDisk old → Agrees
   abbrev pub Now : State → Type 0
   Now r = AgreesThrough crew r old.now × (r ≡ record s { crew = r.crew })
 
-  pub not_read : (fault : LoadFault) → (HasCleanDisk new → Blames table_name.Crew (IsUnreadable crew IsCrewRow old.now) fault) → CrashLeavesNoMore old new →
+  pub not_read : (fault : LoadFault) → (HasCleanDisk new → BlamesOrFails table_name.Crew (IsUnreadable crew IsCrewRow old.now) fault) → (HasCleanDisk new → IsCaused old new fault) → CrashLeavesNoMore old new →
       ReadsAs Now (λ f. Justifies f old.now) old new (Err fault)
-  not_read fault told left = unread table_name.Crew _ Now old new fault (λ clean. unreadable s old.now (above clean)) told left
+  not_read fault told caused left = unread table_name.Crew _ Now old new fault (λ clean. unreadable s old.now (above clean)) told caused left
 
   pub is_read : (records seen : List CrewRecord) (result : Result State LoadFault) → seen ≡ records →
       (HasCleanDisk new → IsUnchanged old new × HasRows crew old.now (map crew_row records)) → CrashLeavesNoMore old new →
@@ -171,11 +171,13 @@ module _ (s : State) (old new : conn.State) (above : HasCleanDisk old → Agrees
         let read = subst (λ l. MembersRead l (length l) s r) same done in
         let mapped = λ (once : AreOnce row_of_member (map crew_row records)). subst (λ l. Mapped (λ id. id) row_of_member IsMember l r.crew) (all_taken crew_row records) (read.mapped once) in
         (it.0, (right s old.now (above (clean_before old new left clean)) (map crew_row records) r it.1 read.same mapped, read.same));
+    caused = λ clean. tt;
     left = left;
   }
   is_read records seen (Err fault) same saw left blame = record {
     told = λ clean.
         let why = subst (λ l. Blames table_name.Crew (HasStranger row_of_member IsMember (map crew_row l)) fault) same blame in
-        of_blame table_name.Crew _ old.now (strange s old.now (above (clean_before old new left clean)) (map crew_row records) (saw clean).1) fault why;
+        of_blame table_name.Crew _ old.now (strange s old.now (above (clean_before old new left clean)) (map crew_row records) (saw clean).1) fault (or_fails table_name.Crew _ fault why);
+    caused = λ clean. uncaused old new table_name.Crew (HasStranger row_of_member IsMember (map crew_row seen)) fault blame;
     left = left;
   }

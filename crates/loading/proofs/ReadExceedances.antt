@@ -36,9 +36,9 @@ use Rattle.loading.proofs.ReadGrounds.{crew_part, members_same}
 use Rattle.loading.proofs.SamePairings.{same_pairing}
 use Rattle.state_rows.proofs.Tests.{passes}
 use Rattle.state_rows.proofs.Values.{ids_same, int_is, text_is, number_is}
-use Rattle.loading.proofs.Telling.{unread, of_blame, clean_before}
-use Rattle.loading.specs.Loading.{IsKey, IsExceedance, ArePlanned, AreSeated, name_of, IsRight, IsSeatRight, AreRight, IsDamaged, Justifies}
-use Rattle.loading.specs.Reading.{ExceedancesRead, IsFlown, IsExceedanceInRange, row_of_recorded, ReadsAs, Blames, HasRows, IsUnreadable, AgreesThrough, Mapped, AreOnce, TellsOf, HasStranger}
+use Rattle.loading.proofs.Telling.{unread, of_blame, clean_before, or_fails, uncaused}
+use Rattle.loading.specs.Loading.{IsCaused, IsKey, IsExceedance, ArePlanned, AreSeated, name_of, IsRight, IsSeatRight, AreRight, IsDamaged, Justifies}
+use Rattle.loading.specs.Reading.{ExceedancesRead, IsFlown, IsExceedanceInRange, row_of_recorded, ReadsAs, Blames, BlamesOrFails, HasRows, IsUnreadable, AgreesThrough, Mapped, AreOnce, TellsOf, HasStranger}
 use Rattle.loading.specs.declared.fault.LoadFault.{LoadFault}
 use Rattle.loading.specs.declared.fault.TableName.TheVariants as table_name
 use Rattle.state_rows.specs.Rows.{HasJust, row_of_pairing, exceedance, ground_duty}
@@ -284,9 +284,9 @@ module _ (s : State) (old new : conn.State) (above : HasCleanDisk old → Agrees
   abbrev pub Now : State → Type 0
   Now r = AgreesThrough exceedance r old.now × (r ≡ record s { exceedances = r.exceedances })
 
-  pub not_read : (fault : LoadFault) → (HasCleanDisk new → Blames table_name.Exceedance (IsUnreadable exceedance IsExceedanceRow old.now) fault) → CrashLeavesNoMore old new →
+  pub not_read : (fault : LoadFault) → (HasCleanDisk new → BlamesOrFails table_name.Exceedance (IsUnreadable exceedance IsExceedanceRow old.now) fault) → (HasCleanDisk new → IsCaused old new fault) → CrashLeavesNoMore old new →
       ReadsAs Now (λ f. Justifies f old.now) old new (Err fault)
-  not_read fault told left = unread table_name.Exceedance _ Now old new fault (λ clean. unreadable s old.now (above clean)) told left
+  not_read fault told caused left = unread table_name.Exceedance _ Now old new fault (λ clean. unreadable s old.now (above clean)) told caused left
 
   pub is_read : (records seen : List ExceedanceRecord) (result : Result State LoadFault) → seen ≡ records →
       (HasCleanDisk new → IsUnchanged old new × HasRows exceedance old.now (map exceedance_row records)) → CrashLeavesNoMore old new →
@@ -299,11 +299,13 @@ module _ (s : State) (old new : conn.State) (above : HasCleanDisk old → Agrees
         let mapped = λ (once : AreOnce row_of_recorded (map exceedance_row records)).
         subst (λ l. Mapped name_of row_of_recorded (IsExceedanceInRange s.crew s.pairings) l r.exceedances) (all_taken exceedance_row records) (read.mapped once) in
         (it.0, (right s old.now (above (clean_before old new left clean)) (map exceedance_row records) r it.1 read.same mapped, read.same));
+    caused = λ clean. tt;
     left = left;
   }
   is_read records seen (Err fault) same saw left blame = record {
     told = λ clean.
         let why = subst (λ l. Blames table_name.Exceedance (HasStranger row_of_recorded (IsExceedanceInRange s.crew s.pairings) (map exceedance_row l)) fault) same blame in
-        of_blame table_name.Exceedance _ old.now (strange s old.now (above (clean_before old new left clean)) (map exceedance_row records) (saw clean).1) fault why;
+        of_blame table_name.Exceedance _ old.now (strange s old.now (above (clean_before old new left clean)) (map exceedance_row records) (saw clean).1) fault (or_fails table_name.Exceedance _ fault why);
+    caused = λ clean. uncaused old new table_name.Exceedance (HasStranger row_of_recorded (IsExceedanceInRange s.crew s.pairings) (map exceedance_row seen)) fault blame;
     left = left;
   }

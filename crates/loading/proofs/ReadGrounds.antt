@@ -32,9 +32,9 @@ use Rattle.loading.proofs.Mapping.{all_taken, nothing_mapped, next_mapped, mappe
 use Rattle.loading.proofs.SameStates.{crew_told}
 use Rattle.state_rows.proofs.Tests.{passes}
 use Rattle.state_rows.proofs.Values.{text_is, number_is}
-use Rattle.loading.proofs.Telling.{unread, of_blame, clean_before}
-use Rattle.loading.specs.Loading.{IsGround, IsRight, IsCrewRight, IsSeatRight, AreRight, IsDamaged, Justifies}
-use Rattle.loading.specs.Reading.{GroundsRead, ReadsAs, Blames, HasRows, IsUnreadable, AgreesThrough, Mapped, AreOnce, TellsOf, HasStranger}
+use Rattle.loading.proofs.Telling.{unread, of_blame, clean_before, or_fails, uncaused}
+use Rattle.loading.specs.Loading.{IsCaused, IsGround, IsRight, IsCrewRight, IsSeatRight, AreRight, IsDamaged, Justifies}
+use Rattle.loading.specs.Reading.{GroundsRead, ReadsAs, Blames, BlamesOrFails, HasRows, IsUnreadable, AgreesThrough, Mapped, AreOnce, TellsOf, HasStranger}
 use Rattle.loading.specs.declared.fault.LoadFault.{LoadFault}
 use Rattle.loading.specs.declared.fault.TableName.TheVariants as table_name
 use Rattle.state_rows.specs.Rows.{row_of_ground, ground_duty, seat}
@@ -238,9 +238,9 @@ module _ (s : State) (old new : conn.State) (above : HasCleanDisk old → Agrees
   abbrev pub Now : State → Type 0
   Now r = AgreesThrough ground_duty r old.now × (r ≡ record s { grounds = r.grounds })
 
-  pub not_read : (fault : LoadFault) → (HasCleanDisk new → Blames table_name.Ground (IsUnreadable ground_duty IsGroundRow old.now) fault) → CrashLeavesNoMore old new →
+  pub not_read : (fault : LoadFault) → (HasCleanDisk new → BlamesOrFails table_name.Ground (IsUnreadable ground_duty IsGroundRow old.now) fault) → (HasCleanDisk new → IsCaused old new fault) → CrashLeavesNoMore old new →
       ReadsAs Now (λ f. Justifies f old.now) old new (Err fault)
-  not_read fault told left = unread table_name.Ground _ Now old new fault (λ clean. unreadable s old.now (above clean)) told left
+  not_read fault told caused left = unread table_name.Ground _ Now old new fault (λ clean. unreadable s old.now (above clean)) told caused left
 
   pub is_read : (records seen : List GroundRecord) (result : Result State LoadFault) → seen ≡ records →
       (HasCleanDisk new → IsUnchanged old new × HasRows ground_duty old.now (map ground_row records)) → CrashLeavesNoMore old new →
@@ -252,11 +252,13 @@ module _ (s : State) (old new : conn.State) (above : HasCleanDisk old → Agrees
         let read = subst (λ l. GroundsRead l (length l) s r) same done in
         let mapped = λ (once : AreOnce row_of_ground (map ground_row records)). subst (λ l. Mapped (λ id. id) row_of_ground (IsGround s.crew) l r.grounds) (all_taken ground_row records) (read.mapped once) in
         (it.0, (right s old.now (above (clean_before old new left clean)) (map ground_row records) r it.1 read.same mapped, read.same));
+    caused = λ clean. tt;
     left = left;
   }
   is_read records seen (Err fault) same saw left blame = record {
     told = λ clean.
         let why = subst (λ l. Blames table_name.Ground (HasStranger row_of_ground (IsGround s.crew) (map ground_row l)) fault) same blame in
-        of_blame table_name.Ground _ old.now (strange s old.now (above (clean_before old new left clean)) (map ground_row records) (saw clean).1) fault why;
+        of_blame table_name.Ground _ old.now (strange s old.now (above (clean_before old new left clean)) (map ground_row records) (saw clean).1) fault (or_fails table_name.Ground _ fault why);
+    caused = λ clean. uncaused old new table_name.Ground (HasStranger row_of_ground (IsGround s.crew) (map ground_row seen)) fault blame;
     left = left;
   }

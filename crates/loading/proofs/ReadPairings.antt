@@ -37,12 +37,12 @@ use Rattle.loading.proofs.PlanLemmas.{there_within}
 use Rattle.loading.proofs.PlanStates.{all_at, state_told, told_planned, periods_are, segments_are}
 use Rattle.loading.proofs.ReadPeriods.{number_fits, of_row}
 use Rattle.loading.proofs.ReadTables.{then_saw}
-use Rattle.loading.proofs.Telling.{clean_before, of_blame}
+use Rattle.loading.proofs.Telling.{clean_before, of_blame, or_fails, uncaused}
 use Rattle.state_rows.proofs.Values.{text_is}
 use Rattle.loading.specs.Keyed.{Ids, AreIds, HasIds, HasPeriods, HasSegmentsOf, HasUntold, IsPairingOf, IsPeriodTable, IsSegmentOf, IsSegmentTable, PairingsRead}
 use Rattle.loading.specs.Loading.{AreRight, IsCrewRight, IsDamaged, IsPairingRight, IsPlanned, IsSegmentRight, Justifies, named}
 use Rattle.loading.specs.PlanRows.{IsPairingOfRows, PeriodRows, Periods, SegmentRows, Segments, period_name, segment_name}
-use Rattle.loading.specs.Reading.{AreFree, Blames, HasNoHolder, AgreesThrough, ReadsAs}
+use Rattle.loading.specs.Reading.{AreFree, Blames, BlamesOrFails, HasNoHolder, AgreesThrough, ReadsAs}
 use Rattle.state_rows.specs.Rows.{At, InPeriod, InSegment, PeriodOf, SegmentOf, crew, pairing, period, segment, row_of_pairing, row_of_period, row_of_segment, times_flown}
 use Rattle.loading.specs.declared.fault.LoadFault.{LoadFault}
 use Rattle.loading.specs.declared.fault.TableName as name
@@ -353,21 +353,22 @@ module _ (s : State) (db : Database) (above : AgreesThrough crew s db) where
 
 -- ---- The call
 
-refuses : {A B : Type 0} (Is : A → Type 0) (Tells : B → Type 0) (its : name.TableName) (Why : Type 0) (old new : conn.State) (fault : LoadFault) → ReadsAs Is (Blames its Why) old new (Err fault) →
+refuses : {A B : Type 0} (Is : A → Type 0) (Tells : B → Type 0) (its : name.TableName) (Why : Type 0) (old new : conn.State) (fault : LoadFault) → ReadsAs Is (BlamesOrFails its Why) old new (Err fault) →
     (HasCleanDisk new → Why → IsDamaged (named its) old.now) → ReadsAs Tells (λ f. Justifies f old.now) old new (Err fault)
 refuses Is Tells its Why old new fault saw damaged = record {
   told = λ clean. of_blame its Why old.now (damaged clean) fault (saw.told clean);
+  caused = saw.caused;
   left = saw.left;
 }
 
 abbrev pub SawIds : conn.State → conn.State → Result Ids LoadFault → Type 0
-SawIds old new = ReadsAs (HasIds old.now) (Blames table_name.Pairing (AreIds old.now → ⊥)) old new
+SawIds old new = ReadsAs (HasIds old.now) (BlamesOrFails table_name.Pairing (AreIds old.now → ⊥)) old new
 
 abbrev pub SawPeriods : conn.State → conn.State → Result Periods LoadFault → Type 0
-SawPeriods old new = ReadsAs (HasPeriods old.now) (Blames table_name.Period (IsPeriodTable old.now → ⊥)) old new
+SawPeriods old new = ReadsAs (HasPeriods old.now) (BlamesOrFails table_name.Period (IsPeriodTable old.now → ⊥)) old new
 
 abbrev pub SawSegments : Periods → conn.State → conn.State → Result Segments LoadFault → Type 0
-SawSegments m old new = ReadsAs (HasSegmentsOf old.now m) (Blames table_name.Segment (IsSegmentTable old.now → ⊥)) old new
+SawSegments m old new = ReadsAs (HasSegmentsOf old.now m) (BlamesOrFails table_name.Segment (IsSegmentTable old.now → ⊥)) old new
 
 module _ (s : State) (old : conn.State) (above : HasCleanDisk old → AgreesThrough crew s old.now) where
   abbrev pub Now : State → Type 0
@@ -385,18 +386,18 @@ module _ (s : State) (old : conn.State) (above : HasCleanDisk old → AgreesThro
 
     pub no_periods : (new : conn.State) (fault : LoadFault) → SawPeriods one new (Err fault) → Reads new (Err fault)
     no_periods new fault second =
-        let saw = then_saw (HasIds old.now) (Blames table_name.Pairing (AreIds old.now → ⊥)) HasPeriods (λ db. Blames table_name.Period (IsPeriodTable db → ⊥)) ids old one new (Err fault) first second in
+        let saw = then_saw (HasIds old.now) (BlamesOrFails table_name.Pairing (AreIds old.now → ⊥)) HasPeriods (λ db. BlamesOrFails table_name.Period (IsPeriodTable db → ⊥)) ids old one new (Err fault) first second in
         refuses (HasPeriods old.now) Now table_name.Period (IsPeriodTable old.now → ⊥) old new fault saw (λ clean.
         let before = clean_before one new second.left clean in
         periods_wrong s old.now (up before) ids (first.told before).1)
 
     module _ (m : Periods) (two : conn.State) (second : SawPeriods one two (Ok m)) where
       both : SawPeriods old two (Ok m)
-      both = then_saw (HasIds old.now) (Blames table_name.Pairing (AreIds old.now → ⊥)) HasPeriods (λ db. Blames table_name.Period (IsPeriodTable db → ⊥)) ids old one two (Ok m) first second
+      both = then_saw (HasIds old.now) (BlamesOrFails table_name.Pairing (AreIds old.now → ⊥)) HasPeriods (λ db. BlamesOrFails table_name.Period (IsPeriodTable db → ⊥)) ids old one two (Ok m) first second
 
       pub no_segments : (new : conn.State) (fault : LoadFault) → SawSegments m two new (Err fault) → Reads new (Err fault)
       no_segments new fault third =
-          let saw = then_saw (HasPeriods old.now) (Blames table_name.Period (IsPeriodTable old.now → ⊥)) (λ db. HasSegmentsOf db m) (λ db. Blames table_name.Segment (IsSegmentTable db → ⊥)) m old two new (Err fault) both third in
+          let saw = then_saw (HasPeriods old.now) (BlamesOrFails table_name.Period (IsPeriodTable old.now → ⊥)) (λ db. HasSegmentsOf db m) (λ db. BlamesOrFails table_name.Segment (IsSegmentTable db → ⊥)) m old two new (Err fault) both third in
           refuses (HasSegmentsOf old.now m) Now table_name.Segment (IsSegmentTable old.now → ⊥) old new fault saw (λ clean.
           let later = clean_before two new third.left clean in
           let before = clean_before one two second.left later in
@@ -404,7 +405,7 @@ module _ (s : State) (old : conn.State) (above : HasCleanDisk old → AgreesThro
 
       module _ (n : Segments) (new : conn.State) (third : SawSegments m two new (Ok n)) where
         all : SawSegments m old new (Ok n)
-        all = then_saw (HasPeriods old.now) (Blames table_name.Period (IsPeriodTable old.now → ⊥)) (λ db. HasSegmentsOf db m) (λ db. Blames table_name.Segment (IsSegmentTable db → ⊥)) m old two new (Ok n) both third
+        all = then_saw (HasPeriods old.now) (BlamesOrFails table_name.Period (IsPeriodTable old.now → ⊥)) (λ db. HasSegmentsOf db m) (λ db. BlamesOrFails table_name.Segment (IsSegmentTable db → ⊥)) m old two new (Ok n) both third
 
         pub are_read : (result : Result State LoadFault) → MatchResult result (PairingsRead ids m n s) (Blames table_name.Segment (HasUntold ids m n)) → Reads new result
         are_read (Ok r) read = record {
@@ -415,13 +416,15 @@ module _ (s : State) (old : conn.State) (above : HasCleanDisk old → AgreesThro
                 it.0,
                 (all_right s old.now (up before) ids (first.told before).1 m (both.told later).1 n it.1 r read, read.same, λ id x e. (read.known id x e).free),
               );
+          caused = λ clean. tt;
           left = all.left;
         }
         are_read (Err fault) blame = record {
           told = λ clean.
               let later = clean_before two new third.left clean in
               let before = clean_before one two second.left later in
-              of_blame table_name.Segment (HasUntold ids m n) old.now (untold_wrong s old.now (up before) ids (first.told before).1 m (both.told later).1 n (all.told clean).1) fault blame;
+              of_blame table_name.Segment (HasUntold ids m n) old.now (untold_wrong s old.now (up before) ids (first.told before).1 m (both.told later).1 n (all.told clean).1) fault (or_fails table_name.Segment (HasUntold ids m n) fault blame);
+          caused = λ clean. uncaused old new table_name.Segment (HasUntold ids m n) fault blame;
           left = all.left;
         }
 

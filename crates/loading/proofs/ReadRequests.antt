@@ -40,9 +40,9 @@ use Rattle.tables.specs.declared.request.RequestRecord.{RequestRecord}
 use Rattle.loading.proofs.Mapping.{all_taken, nothing_mapped, next_mapped, mapped_at, mapped_place}
 use Rattle.state_rows.proofs.Tests.{passes}
 use Rattle.state_rows.proofs.Values.{ids_same, int_is, text_is, number_is}
-use Rattle.loading.proofs.Telling.{unread, of_blame, clean_before}
-use Rattle.loading.specs.Loading.{IsKey, IsRequest, name_of, IsRight, AreRight, AreHeld, IsDamaged, Justifies}
-use Rattle.loading.specs.Reading.{AreWanting, RequestsRead, ReadsAs, Blames, HasRows, IsUnreadable, AgreesThrough, Mapped, AreOnce, TellsOf, HasStranger}
+use Rattle.loading.proofs.Telling.{unread, of_blame, clean_before, or_fails, uncaused}
+use Rattle.loading.specs.Loading.{IsCaused, IsKey, IsRequest, name_of, IsRight, AreRight, AreHeld, IsDamaged, Justifies}
+use Rattle.loading.specs.Reading.{AreWanting, RequestsRead, ReadsAs, Blames, BlamesOrFails, HasRows, IsUnreadable, AgreesThrough, Mapped, AreOnce, TellsOf, HasStranger}
 use Rattle.loading.specs.declared.fault.LoadFault.{LoadFault}
 use Rattle.loading.specs.declared.fault.LoadFault.TheVariants.{NotABook, Damaged, Version, Fault}
 use Rattle.loading.specs.declared.fault.TableName.TheVariants as table_name
@@ -302,7 +302,7 @@ pub read_stranger : (records : List RequestRecord) (s : State) (fault : LoadFaul
 read_stranger records s NotABook blame = blame
 read_stranger records s Version blame = blame
 read_stranger records s (Damaged other) blame = (blame.0, inl blame.1)
-read_stranger records s (Fault fault) blame = tt
+read_stranger records s (Fault fault) blame = blame
 
 pub not_all_held : (records : List RequestRecord) (s r : State) → RequestsRead records (length records) s r → (AreHeld r → ⊥) → AreWanting records s
 not_all_held records s r read none = inr (r, read, none)
@@ -311,9 +311,9 @@ module _ (s : State) (old new : conn.State) (above : HasCleanDisk old → Agrees
   abbrev pub Now : State → Type 0
   Now r = AgreesThrough request r old.now
 
-  pub not_read : (fault : LoadFault) → (HasCleanDisk new → Blames table_name.Request (IsUnreadable request IsRequestRow old.now) fault) → CrashLeavesNoMore old new →
+  pub not_read : (fault : LoadFault) → (HasCleanDisk new → BlamesOrFails table_name.Request (IsUnreadable request IsRequestRow old.now) fault) → (HasCleanDisk new → IsCaused old new fault) → CrashLeavesNoMore old new →
       ReadsAs Now (λ f. Justifies f old.now) old new (Err fault)
-  not_read fault told left = unread table_name.Request _ Now old new fault (λ clean. unreadable s old.now (above clean)) told left
+  not_read fault told caused left = unread table_name.Request _ Now old new fault (λ clean. unreadable s old.now (above clean)) told caused left
 
   all_mapped : (records : List RequestRecord) (r : State) → RequestsRead records (length records) s r → AreOnce row_of_request (map request_row records) →
       Mapped key_name row_of_request IsRequest (map request_row records) r.requests
@@ -335,11 +335,13 @@ module _ (s : State) (old new : conn.State) (above : HasCleanDisk old → Agrees
         let it = saw clean in
         let read = subst (λ l. RequestsRead l (length l) s r) same done.0 in
         (it.0, kept_requests s old.now (above (clean_before old new left clean)) (map request_row records) r it.1 read.same (all_mapped records r read) done.1);
+    caused = λ clean. tt;
     left = left;
   }
   is_read records seen (Err fault) same saw left blame = record {
     told = λ clean.
         let why = subst (λ l. Blames table_name.Request (AreWanting l s) fault) same blame in
-        of_blame table_name.Request _ old.now (wanting records (above (clean_before old new left clean)) (saw clean).1) fault why;
+        of_blame table_name.Request _ old.now (wanting records (above (clean_before old new left clean)) (saw clean).1) fault (or_fails table_name.Request _ fault why);
+    caused = λ clean. uncaused old new table_name.Request (AreWanting seen s) fault blame;
     left = left;
   }

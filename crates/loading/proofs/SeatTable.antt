@@ -29,10 +29,10 @@ use Rattle.loading.proofs.ReadCrew.{number_fits}
 use Rattle.loading.proofs.SamePairings.{holder_told}
 use Rattle.loading.proofs.SamePlans.{beside, told}
 use Rattle.loading.proofs.SameStates.{crew_told}
-use Rattle.loading.proofs.Telling.{unread, of_blame, clean_before}
+use Rattle.loading.proofs.Telling.{unread, of_blame, clean_before, or_fails, uncaused}
 use Rattle.state_rows.proofs.Tests.{passes}
-use Rattle.loading.specs.Loading.{IsPlanned, IsSegmentRight, AreRight, IsDamaged, Justifies}
-use Rattle.loading.specs.Reading.{AreOnce, SeatIndex, SeatsRead, IsSeatHeldBy, IsSamePlan, AreCrewed, AreUnseated, row_of_held, ReadsAs, Blames, HasRows, IsUnreadable, AgreesThrough, HasStranger}
+use Rattle.loading.specs.Loading.{IsCaused, IsPlanned, IsSegmentRight, AreRight, IsDamaged, Justifies}
+use Rattle.loading.specs.Reading.{AreOnce, SeatIndex, SeatsRead, IsSeatHeldBy, IsSamePlan, AreCrewed, AreUnseated, row_of_held, ReadsAs, Blames, BlamesOrFails, HasRows, IsUnreadable, AgreesThrough, HasStranger}
 use Rattle.state_rows.specs.Rows.{table, crew, InPairing, InPeriod, InSegment, InSeat, seat_number, seat, segment}
 use Rattle.loading.specs.declared.fault.LoadFault.{LoadFault}
 use Rattle.loading.specs.declared.fault.TableName.TheVariants as table_name
@@ -242,9 +242,9 @@ module _ (s : State) (old new : conn.State) (above : HasCleanDisk old → Agrees
   abbrev pub Now : State → Type 0
   Now r = AgreesThrough seat r old.now × (r ≡ record s { pairings = r.pairings })
 
-  pub not_read : (fault : LoadFault) → (HasCleanDisk new → Blames table_name.Seat (IsUnreadable seat IsSeatRow old.now) fault) → CrashLeavesNoMore old new →
+  pub not_read : (fault : LoadFault) → (HasCleanDisk new → BlamesOrFails table_name.Seat (IsUnreadable seat IsSeatRow old.now) fault) → (HasCleanDisk new → IsCaused old new fault) → CrashLeavesNoMore old new →
       ReadsAs Now (λ f. Justifies f old.now) old new (Err fault)
-  not_read fault told left = unread table_name.Seat _ Now old new fault (λ clean. unreadable s old.now (above clean)) told left
+  not_read fault told caused left = unread table_name.Seat _ Now old new fault (λ clean. unreadable s old.now (above clean)) told caused left
 
   pub is_read : (records seen : List SeatRecord) (result : Result State LoadFault) → seen ≡ records →
       (HasCleanDisk new → IsUnchanged old new × HasRows seat old.now (map seat_row records)) → CrashLeavesNoMore old new →
@@ -255,11 +255,13 @@ module _ (s : State) (old new : conn.State) (above : HasCleanDisk old → Agrees
         let it = saw clean in
         let read = subst (λ l. SeatsRead l (length l) s r) same done.0 in
         (it.0, (right s old.now (above (clean_before old new left clean)) records r it.1 read done.1, read.same));
+    caused = λ clean. tt;
     left = left;
   }
   is_read records seen (Err fault) same saw left blame = record {
     told = λ clean.
         let why = subst (λ l. Blames table_name.Seat (AreUnseated l s) fault) same blame in
-        of_blame table_name.Seat _ old.now (unseated s old.now (above (clean_before old new left clean)) records (saw clean).1) fault why;
+        of_blame table_name.Seat _ old.now (unseated s old.now (above (clean_before old new left clean)) records (saw clean).1) fault (or_fails table_name.Seat _ fault why);
+    caused = λ clean. uncaused old new table_name.Seat (AreUnseated seen s) fault blame;
     left = left;
   }

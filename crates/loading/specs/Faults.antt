@@ -1,10 +1,19 @@
--- How the refusal to load a book is printed.
+-- The refusals to load a book: which a fault of a table is, and how each is printed.
 use Rattle.std.specs.Prelude.{ℕ, List, ◌++◌, codes}
+use Rattle.tables.specs.declared.table_fault.TableFault.{TableFault}
+use Rattle.tables.specs.declared.table_fault.TableFault.TheVariants as table
 use Rattle.state_rows.specs.Faults.{store_fault_text}
+use Rattle.state_rows.specs.declared.fault.StoreFault.TheVariants.{Store, Memory}
 use Rattle.loading.specs.declared.fault.LoadFault.{LoadFault}
 use Rattle.loading.specs.declared.fault.LoadFault.TheVariants as load
 use Rattle.loading.specs.declared.fault.TableName.{TableName}
 use Rattle.loading.specs.declared.fault.TableName.TheVariants as name
+
+-- the refusal for a fault that a read of this table met: a row that is no record damages the table
+abbrev pub load_fault_of : TableName → TableFault → LoadFault
+load_fault_of it table.NotARecord = load.Damaged it
+load_fault_of it table.Store = load.Fault Store
+load_fault_of it table.Memory = load.Fault Memory
 
 -- the name of a table as it is printed
 abbrev pub name_text : TableName → List ℕ
@@ -17,6 +26,10 @@ name_text name.Seat = codes "seat"
 name_text name.Ground = codes "ground"
 name_text name.Exceedance = codes "exceedance"
 name_text name.Request = codes "request"
+name_text name.Base = codes "base"
+name_text name.CrewBase = codes "crew_base"
+name_text name.Outside = codes "outside"
+name_text name.OutsideSegment = codes "outside_segment"
 
 -- a refusal to load as it is printed
 abbrev pub load_text : LoadFault → List ℕ

@@ -1,8 +1,8 @@
-pub mod SameRows
 pub mod PlanOrder
 pub mod PlanRows
 pub mod Faults
 pub mod Loading
+pub mod SameRows
 pub mod Reading
 pub mod Keyed
 pub mod OnePairing

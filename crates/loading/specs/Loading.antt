@@ -1,12 +1,14 @@
 -- Which databases are books. Each table has to be there, with rows of its type, and to fit the
 -- tables above it.
-use Rattle.std.specs.Prelude.{◌≡◌, ◌⊎◌, ◌+◌, ◌≤◌, ⊤, ℕ, pos, true, IsUtf8, List, map, length, Option, None, Some, slice_get}
+use Rattle.std.specs.Prelude.{◌≡◌, ◌⊎◌, ◌+◌, ◌≤◌, ⊤, ℕ, pos, true, false, IsUtf8, List, map, length, Option, None, Some, slice_get}
 use Rattle.std.specs.FinMap as fin
 use Rattle.std.specs.List.{list_all}
 use Rattle.values.specs.Name.{name_cmp}
 use Rattle.sqlite_value.specs.Order.{Row}
 use Rattle.sqlite_rules.specs.Lists.{Has}
+use Rattle.sqlite_disk.specs.Disk.{MoreFaults}
 use Rattle.sqlite.specs.Effect.{Database}
+use Rattle.sqlite.specs.State as conn
 use Rattle.time117.specs.Local.{is_zone_text}
 use Rattle.duty.specs.Pairings.{pairing_fault, ground_fault}
 use Rattle.duty.specs.Plans.{ActualTimes, GroundPlan, as_planned}
@@ -25,8 +27,9 @@ use Rattle.roster.specs.declared.state.ExceedanceId.{ExceedanceId}
 use Rattle.roster.specs.declared.state.PeriodId.{PeriodId}
 use Rattle.roster.specs.declared.state.LoggedCommand.{LoggedCommand}
 use Rattle.roster.specs.declared.state.PairingEntry.{PairingEntry}
+use Rattle.tables.specs.Calls.{HasStepLimit, IsInOrder}
 use Rattle.tables.specs.Records.{IsNumber, book_row, period_row, pairing_row}
-use Rattle.tables.specs.Schema.{IsOfBook, book_table, pairing_table, period_table, table_found}
+use Rattle.tables.specs.Schema.{IsOfBook, book_table, pairing_table, period_table, table_found, IsNameFree}
 use Rattle.tables.specs.Rows.{rows_of}
 use Rattle.tables.specs.declared.book.BookRecord.{BookRecord}
 use Rattle.tables.specs.declared.period.PeriodRecord.{PeriodRecord}
@@ -34,7 +37,11 @@ use Rattle.loading.specs.declared.fault.LoadFault.{LoadFault}
 use Rattle.loading.specs.declared.fault.LoadFault.TheVariants.{NotABook, Damaged, Version, Fault}
 use Rattle.loading.specs.declared.fault.TableName as name
 use Rattle.loading.specs.declared.fault.TableName.TheVariants as table_name
-use Rattle.state_rows.specs.Rows.{TableName, book, crew, pairing, period, segment, seat, ground_duty, exceedance, request, table, InTable, InPeriod, HasJust}
+use Rattle.state_rows.specs.Editions.{edition_number}
+use Rattle.state_rows.specs.Rows.{TableName, book, crew, pairing, period, segment, seat, ground_duty, exceedance, request, base, crew_base, outside, outside_segment, table, InBookOf, InTable, InPeriod, HasJust}
+use Rattle.state_rows.specs.declared.edition.Edition.{Edition}
+use Rattle.state_rows.specs.declared.edition.Edition.TheVariants.{First, Second}
+use Rattle.state_rows.specs.declared.fault.StoreFault.TheVariants.{Store}
 
 -- ---- What the values of a table are
 
@@ -176,9 +183,27 @@ abbrev pub IsTableOfState : TableName → State → Database → Type 0
 IsTableOfState name s db =
     IsOfBook (table name) db.schema × HasJust (table name) db (InTable s name)
 
--- the table `book` is right, with the row of this state
+-- the one row of `book` is that of this version
+abbrev pub IsOfEdition : Edition → Database → Type 0
+IsOfEdition edition db = (s : State) × HasJust book_table db (InBookOf edition s)
+
+-- the table `book` is there as its text declares it, with just the row of the state, in version 1
+-- or 2
+abbrev pub IsBookOfState : State → Database → Type 0
+IsBookOfState s db =
+    IsOfBook book_table db.schema
+    × ((edition : Edition) × HasJust book_table db (InBookOf edition s))
+
+-- One of the tables that version 2 added. In a file of version 2 it is there, with just the rows of
+-- the state; in a file of version 1 its name is free.
+abbrev pub IsLaterOfState : TableName → State → Database → Type 0
+IsLaterOfState name s db =
+    (IsOfEdition Second db × IsTableOfState name s db)
+    ⊎ (IsOfEdition First db × IsNameFree (table name) db.schema)
+
+-- the table `book` is right, in version 1 or 2, with the row of this state
 abbrev pub IsBookRight : State → Database → Type 0
-IsBookRight s db = IsTableOfState book s db × (is_zone_text s.zone ≡ true)
+IsBookRight s db = IsBookOfState s db × (is_zone_text s.zone ≡ true)
 
 -- the tables from `book` to `crew` are right, with the rows of this state
 abbrev pub IsCrewRight : State → Database → Type 0
@@ -211,9 +236,28 @@ IsGroundRight s db = IsSeatRight s db × IsTableOfState ground_duty s db × AreG
 abbrev pub IsExceedanceRight : State → Database → Type 0
 IsExceedanceRight s db = IsGroundRight s db × IsTableOfState exceedance s db × AreExceedances s
 
--- the tables from `book` to `request`, the last, are right, with the rows of this state
+-- the tables from `book` to `request`, the last of version 1, are right, with the rows of this
+-- state
 abbrev pub IsRequestRight : State → Database → Type 0
 IsRequestRight s db = IsExceedanceRight s db × IsTableOfState request s db × AreRequests s
+
+-- the tables from `book` to `base`, the first that version 2 added, are right, with the rows of
+-- this state
+abbrev pub IsBaseRight : State → Database → Type 0
+IsBaseRight s db = IsRequestRight s db × IsLaterOfState base s db
+
+-- the tables from `book` to `crew_base` are right, with the rows of this state
+abbrev pub IsCrewBaseRight : State → Database → Type 0
+IsCrewBaseRight s db = IsBaseRight s db × IsLaterOfState crew_base s db
+
+-- the tables from `book` to `outside` are right, with the rows of this state
+abbrev pub IsOutsideRight : State → Database → Type 0
+IsOutsideRight s db = IsCrewBaseRight s db × IsLaterOfState outside s db
+
+-- the tables from `book` to `outside_segment`, the last of version 2, are right, with the rows of
+-- this state
+abbrev pub IsOutsideSegmentRight : State → Database → Type 0
+IsOutsideSegmentRight s db = IsOutsideRight s db × IsLaterOfState outside_segment s db
 
 -- the tables down to the one of this name are right, with the rows of this state
 abbrev pub IsRight : TableName → State → Database → Type 0
@@ -226,6 +270,14 @@ IsRight seat = IsSeatRight
 IsRight ground_duty = IsGroundRight
 IsRight exceedance = IsExceedanceRight
 IsRight request = IsRequestRight
+IsRight base = IsBaseRight
+IsRight crew_base = IsCrewBaseRight
+IsRight outside = IsOutsideRight
+IsRight outside_segment = IsOutsideSegmentRight
+
+-- all tables of the book are right, in a file of version 1 or 2, with the rows of this state
+abbrev pub IsRightBook : State → Database → Type 0
+IsRightBook = IsRight outside_segment
 
 -- some state has the rows of the tables down to this one
 abbrev pub AreRight : TableName → Database → Type 0
@@ -242,6 +294,10 @@ AreRightAbove seat db = AreRight segment db
 AreRightAbove ground_duty db = AreRight seat db
 AreRightAbove exceedance db = AreRight ground_duty db
 AreRightAbove request db = AreRight exceedance db
+AreRightAbove base db = AreRight request db
+AreRightAbove crew_base db = AreRight base db
+AreRightAbove outside db = AreRight crew_base db
+AreRightAbove outside_segment db = AreRight outside db
 
 -- ---- What is refused
 
@@ -249,13 +305,13 @@ AreRightAbove request db = AreRight exceedance db
 abbrev pub IsNoBook : Database → Type 0
 IsNoBook db = table_found db.schema book_table.name ≡ None
 
--- the book's one row has another version (42)
+-- the book's one row has a version that is neither 1 nor 2 (42)
 pub record IsOfOtherVersion (db : Database) : Type 0 where
   pub there : IsOfBook book_table db.schema
   pub it : BookRecord
   pub utf8 : IsUtf8 it.zone
   pub one_row : HasJust book_table db (λ row. row ≡ book_row it)
-  pub other : ¬ (it.version ≡ pos 1)
+  pub other : (edition : Edition) → ¬ (it.version ≡ pos (edition_number edition))
 
 -- this table is the first that isn't right (41)
 pub record IsDamaged (name : TableName) (db : Database) : Type 0 where
@@ -277,6 +333,10 @@ named table_name.Seat = seat
 named table_name.Ground = ground_duty
 named table_name.Exceedance = exceedance
 named table_name.Request = request
+named table_name.Base = base
+named table_name.CrewBase = crew_base
+named table_name.Outside = outside
+named table_name.OutsideSegment = outside_segment
 
 -- what a refusal says of the database: nothing, if it reports a fault of the store (90) or that the
 -- program is out of memory (91)
@@ -285,3 +345,19 @@ Justifies NotABook db = IsNoBook db
 Justifies Version db = IsOfOtherVersion db
 Justifies (Damaged it) db = IsDamaged (named it) db
 Justifies (Fault fault) db = ⊤
+
+-- Why a read of the tables answers a fault of the store (90): the disk failed or refused a call
+-- meanwhile, an earlier failure had shut the connection, a limit is set on the steps of a
+-- statement, or the rows of some table don't stand in the order of the numbers that they are stored
+-- under.
+abbrev pub HasReadCause : conn.State → conn.State → Type 0
+HasReadCause old new =
+    MoreFaults old.faults new.faults
+    ⊎ ((old.is_open ≡ false)
+    ⊎ (HasStepLimit old
+    ⊎ ((name : TableName) × ¬ IsInOrder (table name) old.now)))
+
+-- what a refusal says of the store, where the calls were from one state of the connection to
+-- another: if it reports a fault of the store (90), there was a cause
+abbrev pub IsCaused : conn.State → conn.State → LoadFault → Type 0
+IsCaused old new fault = fault ≡ Fault Store → HasReadCause old new

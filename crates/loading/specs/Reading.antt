@@ -1,11 +1,12 @@
--- What the functions that load a book say to one another. The public clause of `read_all` names
--- `ReadsAs` and `AgreesThrough`, and no public clause another word of this file.
-use Rattle.std.specs.Prelude.{◌≡◌, ◌⊎◌, ◌↔◌, ◌+◌, ◌<◌, ⊤, true, false, pos, IsUtf8, ℕ, zero, suc, List, [], ◌∷◌, map, take, length, Option, None, Some, Result, MatchResult, slice_get}
+-- What the functions that load a book say to one another. Of these the public clause of `read_all`
+-- names `ReadsAs` and `AgreesIn`.
+use Rattle.std.specs.Prelude.{◌≡◌, ◌⊎◌, ◌↔◌, ◌+◌, ◌<◌, ⊤, true, false, pos, IsUtf8, ℕ, ℤ, zero, suc, List, [], ◌∷◌, map, take, length, Option, None, Some, Result, IfErr, MatchResult, slice_get}
 use Rattle.std.specs.FinMap as fin
 use Rattle.std.specs.List.{AllByRecursion}
 use Rattle.values.specs.Name.{name_cmp}
 use Rattle.sqlite_value.specs.Order.{Row}
 use Rattle.sqlite_rules.specs.Lists.{Has}
+use Rattle.sqlite_schema.specs.declared.schema.Schema.{Schema}
 use Rattle.sqlite.specs.Effect.{Database, IsDatabase}
 use Rattle.sqlite.specs.State.{State, HasCleanDisk, IsUnchanged}
 use Rattle.duty.specs.Plans.{ActualTimes}
@@ -21,27 +22,36 @@ use Rattle.roster.specs.declared.state.PeriodId.{PeriodId}
 use Rattle.roster.specs.declared.state.PairingEntry.{PairingEntry}
 use Rattle.tables.specs.Calls.{CrashLeavesNoMore}
 use Rattle.tables.specs.Rows.{IsStored, rows_of, HasNoRecord, begins_with}
-use Rattle.tables.specs.Schema.{IsOfBook}
-use Rattle.tables.specs.Records.{book_row, crew_row, ground_row, exceedance_row, request_row, seat_row}
+use Rattle.tables.specs.Schema.{IsOfBook, IsNameFree}
+use Rattle.tables.specs.Records.{base_row, book_row, crew_row, crew_base_row, ground_row, exceedance_row, request_row, seat_row}
+use Rattle.tables.specs.declared.base.BaseRecord.{BaseRecord}
 use Rattle.tables.specs.declared.book.BookRecord.{BookRecord}
 use Rattle.tables.specs.declared.crew.CrewRecord.{CrewRecord}
+use Rattle.tables.specs.declared.crew_base.CrewBaseRecord.{CrewBaseRecord}
 use Rattle.tables.specs.declared.exceedance.ExceedanceRecord.{ExceedanceRecord}
 use Rattle.tables.specs.declared.ground.GroundRecord.{GroundRecord}
 use Rattle.tables.specs.declared.request.RequestRecord.{RequestRecord}
 use Rattle.tables.specs.declared.seat.SeatRecord.{SeatRecord}
-use Rattle.loading.specs.Loading.{IsMember, IsGround, IsExceedance, IsRequest, AreHeld, name_of, IsRight, IsNoBook, IsOfOtherVersion}
-use Rattle.state_rows.specs.Rows.{TableName, book, crew, pairing, period, segment, seat, ground_duty, exceedance, request, table, row_of_member, row_of_seat, row_of_ground, row_of_exceedance, row_of_request, InSeat}
+use Rattle.loading.specs.Loading.{IsCaused, IsMember, IsGround, IsExceedance, IsRequest, AreHeld, name_of, IsRight, IsNoBook, IsOfEdition, IsOfOtherVersion, IsTableOfState}
+use Rattle.state_rows.specs.Bases.{home}
+use Rattle.state_rows.specs.Editions.{edition_number}
+use Rattle.state_rows.specs.Rows.{TableName, book, crew, pairing, period, segment, seat, ground_duty, exceedance, request, base, crew_base, outside, outside_segment, table, row_of_member, row_of_seat, row_of_ground, row_of_exceedance, row_of_request, row_of_base, row_of_post, InSeat}
+use Rattle.state_rows.specs.declared.edition.Edition.{Edition}
+use Rattle.state_rows.specs.declared.fault.StoreFault.TheVariants.{Memory}
 use Rattle.loading.specs.declared.fault.LoadFault.{LoadFault}
 use Rattle.loading.specs.declared.fault.LoadFault.TheVariants.{NotABook, Damaged, Version, Fault}
 use Rattle.loading.specs.declared.fault.TableName as name
 use Rattle.loading.specs.declared.fault.TableName.TheVariants as its
 use Rattle.time117.specs.Local.{is_zone_text}
 
--- what a call comes to that reads the database: what its answer says, or why it was refused
+-- What a call comes to that reads the database: nothing is changed, and what its answer says is so,
+-- or it was refused for a reason. A fault of the store has a cause, and a crash leaves nothing that
+-- it could not leave before.
 pub record ReadsAs {A : Type 0}
     (Is : A → Type 0) (Refuses : LoadFault → Type 0) (old new : State)
     (result : Result A LoadFault) : Type 0 where
   pub told : HasCleanDisk new → MatchResult result (λ a. IsUnchanged old new × Is a) Refuses
+  pub caused : HasCleanDisk new → IfErr result (IsCaused old new)
   pub left : CrashLeavesNoMore old new
 
 -- the table is there, each row of it under a number of its own, and these are its rows
@@ -56,14 +66,28 @@ abbrev pub IsUnreadable : TableName → (Row → Type 0) → Database → Type 0
 IsUnreadable it IsRecord db =
     (¬ IsOfBook (table it) db.schema) ⊎ HasNoRecord (table it) (begins_with []) IsRecord db
 
--- the fault is a fault of this table, and a fact holds, or it is a fault of the store
+-- why records are refused: their table is damaged, and a fact holds, or the program is out of
+-- memory
 abbrev pub Blames : name.TableName → Type 0 → LoadFault → Type 0
 Blames it Why NotABook = ⊥
 Blames it Why Version = ⊥
 Blames it Why (Damaged other) = (other ≡ it) × Why
-Blames it Why (Fault fault) = ⊤
+Blames it Why (Fault fault) = fault ≡ Memory
 
--- the tables down to one, the last first
+-- why a table is refused: it is damaged, and a fact holds, or the store failed, or the program is
+-- out of memory
+abbrev pub BlamesOrFails : name.TableName → Type 0 → LoadFault → Type 0
+BlamesOrFails it Why NotABook = ⊥
+BlamesOrFails it Why Version = ⊥
+BlamesOrFails it Why (Damaged other) = (other ≡ it) × Why
+BlamesOrFails it Why (Fault fault) = ⊤
+
+-- the tables of version 1, the last first
+abbrev pub down_to_nine : List TableName
+down_to_nine =
+    request ∷ exceedance ∷ ground_duty ∷ seat ∷ segment ∷ period ∷ pairing ∷ crew ∷ book ∷ []
+
+-- the tables down to this one, the last first
 abbrev pub down_to : TableName → List TableName
 down_to book = book ∷ []
 down_to crew = crew ∷ book ∷ []
@@ -73,10 +97,13 @@ down_to segment = segment ∷ period ∷ pairing ∷ crew ∷ book ∷ []
 down_to seat = seat ∷ segment ∷ period ∷ pairing ∷ crew ∷ book ∷ []
 down_to ground_duty = ground_duty ∷ seat ∷ segment ∷ period ∷ pairing ∷ crew ∷ book ∷ []
 down_to exceedance = exceedance ∷ ground_duty ∷ seat ∷ segment ∷ period ∷ pairing ∷ crew ∷ book ∷ []
-down_to request =
-    request ∷ exceedance ∷ ground_duty ∷ seat ∷ segment ∷ period ∷ pairing ∷ crew ∷ book ∷ []
+down_to request = down_to_nine
+down_to base = base ∷ down_to_nine
+down_to crew_base = crew_base ∷ base ∷ down_to_nine
+down_to outside = outside ∷ crew_base ∷ base ∷ down_to_nine
+down_to outside_segment = outside_segment ∷ outside ∷ crew_base ∷ base ∷ down_to_nine
 
--- the book is of this version, and its tables down to this one are right, each row under a number
+-- the book is of version 1 or 2, and its tables down to this one are right, each row under a number
 -- of its own
 pub record AgreesThrough (it : TableName) (s : roster.State) (db : Database) : Type 0 where
   pub stored : AllByRecursion (λ name. IsStored (table name) db) (down_to it)
@@ -246,26 +273,98 @@ AreUnseated records s =
 pub record IsOnly (records : List BookRecord) (it : BookRecord) : Type 0 where
   pub all : (row : Row) → Has (map book_row records) row ↔ (row ≡ book_row it)
 
--- the row of a book with this zone, as this version writes it
-abbrev pub book_of : List ℕ → BookRecord
-book_of zone = record { one = pos 1; version = pos 1; zone = zone }
+-- the record of a book of this version with this zone
+abbrev pub book_of : Edition → List ℕ → BookRecord
+book_of edition zone = record { one = pos 1; version = pos (edition_number edition); zone = zone }
 
--- the records are not just one record, or the one is of this version, and not the row of a book
+-- the number is that of version 1 or 2
+abbrev pub IsEditionNumber : ℤ → Type 0
+IsEditionNumber number = (edition : Edition) × (number ≡ pos (edition_number edition))
+
+-- the records are not just one record, or the one is of version 1 or 2, and not the row of a book
 abbrev pub IsNoBookRow : List BookRecord → Type 0
 IsNoBookRow records = (it : BookRecord) → IsOnly records it →
-    (it.version ≡ pos 1) × (it.one ≡ pos 1 → is_zone_text it.zone ≡ false)
+    IsEditionNumber it.version × (it.one ≡ pos 1 → is_zone_text it.zone ≡ false)
 
--- why the records of `book` are refused: the one record is of another version, or there is no row
--- of a book
+-- why the records of `book` are refused: the one record is neither of version 1 nor of version 2,
+-- or there is no row of a book, or the program is out of memory
 abbrev pub BlamesBook : List BookRecord → LoadFault → Type 0
 BlamesBook records NotABook = ⊥
 BlamesBook records Version =
-    (it : BookRecord) × IsOnly records it × IsUtf8 it.zone × ¬ (it.version ≡ pos 1)
+    (it : BookRecord) × IsOnly records it × IsUtf8 it.zone × ¬ IsEditionNumber it.version
 BlamesBook records (Damaged other) = (other ≡ its.Book) × IsNoBookRow records
-BlamesBook records (Fault fault) = ⊤
+BlamesBook records (Fault fault) = fault ≡ Memory
 
 -- ---- A roster of plans
 
 -- the roster has nothing but members and pairings
 abbrev pub HasNoDuties : roster.State → Type 0
 HasNoDuties s = (s.grounds ≡ fin.empty) × (s.exceedances ≡ fin.empty) × (s.requests ≡ fin.empty)
+
+-- ---- The tables that version 2 added
+
+-- the book is of this version, and its tables down to this one are right
+pub record AgreesIn
+    (edition : Edition) (it : TableName) (s : roster.State) (db : Database) : Type 0 where
+  pub through : AgreesThrough it s db
+  pub of : IsOfEdition edition db
+
+-- a file of version 1 is refused for the first of the four names of added tables that isn't free
+abbrev pub BlamesName : Schema → LoadFault → Type 0
+BlamesName schema (Damaged its.Base) = ¬ IsNameFree (table base) schema
+BlamesName schema (Damaged its.CrewBase) =
+    IsNameFree (table base) schema × ¬ IsNameFree (table crew_base) schema
+BlamesName schema (Damaged its.Outside) =
+    IsNameFree (table base) schema × IsNameFree (table crew_base) schema
+    × ¬ IsNameFree (table outside) schema
+BlamesName schema (Damaged its.OutsideSegment) =
+    IsNameFree (table base) schema × IsNameFree (table crew_base) schema
+    × IsNameFree (table outside) schema × ¬ IsNameFree (table outside_segment) schema
+BlamesName schema fault = ⊥
+
+-- one of the tables that version 2 added is there, with just the rows of a state, each under a
+-- number of its own
+abbrev pub IsReadAs : TableName → roster.State → Database → Type 0
+IsReadAs it s db = IsTableOfState it s db × IsStored (table it) db
+
+-- the rows of these records of `base` are just the row of the base HOME with this zone
+abbrev pub IsHomeAlone : List BaseRecord → List ℕ → Type 0
+IsHomeAlone records zone =
+    (row : Row) → Has (map base_row records) row ↔ (row ≡ row_of_base home zone)
+
+-- the ids of members whose base was read, as a map that has nothing under them
+abbrev pub Posted : Type 0
+Posted = fin.FinMap name_cmp ⊤
+
+-- the row of `crew_base` that a member at HOME has
+abbrev pub row_at_home : List ℕ → ⊤ → Row
+row_at_home who _ = row_of_post who home
+
+-- there is a member of this id
+abbrev pub IsPost : Crew → List ℕ → ⊤ → Type 0
+IsPost members who _ = fin.contains_key members who ≡ true
+
+-- the members of this many first records of `crew_base` are those of the map, each at HOME
+pub record PostsRead
+    (members : Crew) (records : List CrewBaseRecord) (count : ℕ) (posted : Posted) : Type 0 where
+  pub mapped :
+      Mapped (λ who. who) row_at_home (IsPost members)
+      (take count (map crew_base_row records)) posted
+
+-- the base of each member was read
+abbrev pub AreAllPosted : Crew → Posted → Type 0
+AreAllPosted members posted = (who : List ℕ) →
+    fin.contains_key members who ≡ true → fin.contains_key posted who ≡ true
+
+-- each record of `crew_base` is of a member at HOME, and each member has one
+abbrev pub ArePosted : Crew → List CrewBaseRecord → Type 0
+ArePosted members records =
+    (posted : Posted) × PostsRead members records (length records) posted
+    × AreAllPosted members posted
+
+-- some row of `crew_base` is of no member at HOME, or some member has none
+abbrev pub AreUnposted : Crew → List CrewBaseRecord → Type 0
+AreUnposted members records =
+    HasStranger row_at_home (IsPost members) (map crew_base_row records)
+    ⊎ ((posted : Posted) × PostsRead members records (length records) posted
+    × (AreAllPosted members posted → ⊥))

@@ -2,10 +2,9 @@
 use Rattle.std.specs.Prelude.{◌≡◌, Bool, true, false}
 use Rattle.sqlite.specs.Effect.{Database}
 use Rattle.roster.specs.State.{State}
-use Rattle.loading.specs.Loading.{IsRight, Justifies}
+use Rattle.loading.specs.Loading.{IsRightBook, Justifies}
 use Rattle.loading.specs.declared.fault.LoadFault.{LoadFault}
 use Rattle.loading.specs.declared.fault.LoadFault.TheVariants.{NotABook, Damaged, Version, Fault}
-use Rattle.state_rows.specs.Rows.{request}
 
 -- the refusal says something of the database (40, 41 or 42), and reports neither a fault of the
 -- store (90) nor that the program is out of memory (91)
@@ -23,4 +22,4 @@ IsOneRefusal = (db : Database) (a b : LoadFault) → tells a ≡ true → tells 
 -- no refusal that says something of the database is true of a database in which each table is right
 abbrev pub IsNotRefused : Type 0
 IsNotRefused = (s : State) (db : Database) (fault : LoadFault) → tells fault ≡ true →
-    IsRight request s db → ¬ (Justifies fault db)
+    IsRightBook s db → ¬ (Justifies fault db)

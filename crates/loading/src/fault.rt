@@ -1,5 +1,5 @@
 //! The refusals 40, 41 and 42 of a file that is no book, is damaged, or is of another version. What each says of the
-//! database is `Justifies` (`specs/Loading.antt`).
+//! database is `Justifies` (`specs/Loading.antt`), and why a read answers 90 is `HasReadCause`.
 //! Files with one damage and with two: `tests/tables.py`.
 use state_rows::StoreFault;
 use std::alloc::{AllocError, AllocFailed};
@@ -19,6 +19,10 @@ pub enum TableName {
     Ground,
     Exceedance,
     Request,
+    Base,
+    CrewBase,
+    Outside,
+    OutsideSegment,
 }
 
 /// Why a database was not loaded.
@@ -33,6 +37,22 @@ pub enum LoadFault {
     Version,
     /// A fault of the store (90) or want of memory (91).
     Fault(StoreFault),
+}
+
+impl LoadFault {
+    ghost use Rattle.std.specs.Prelude.{◌≡◌};
+    ghost use Rattle.loading.specs.Faults.{load_fault_of};
+
+    /// Returns the refusal for a fault that a read of this table met.
+    pub(crate) fn of_table(fault: TableFault, table: TableName) -> LoadFault
+        ensures { result ≡ load_fault_of table fault }
+    {
+        match fault {
+            TableFault::NotARecord => LoadFault::Damaged(table),
+            TableFault::Store => LoadFault::Fault(StoreFault::Store),
+            TableFault::Memory => LoadFault::Fault(StoreFault::Memory),
+        }
+    }
 }
 
 impl fmt::Display for TableName {
@@ -53,6 +73,10 @@ impl fmt::Display for TableName {
             TableName::Ground => "ground",
             TableName::Exceedance => "exceedance",
             TableName::Request => "request",
+            TableName::Base => "base",
+            TableName::CrewBase => "crew_base",
+            TableName::Outside => "outside",
+            TableName::OutsideSegment => "outside_segment",
         })
     }
 }

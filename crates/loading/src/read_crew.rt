@@ -8,7 +8,7 @@ ghost use Rattle.sqlite.specs.State.{HasCleanDisk};
 ghost use Rattle.sqlite_rules.specs.Lists.{Has};
 ghost use Rattle.tables.specs.Records.{crew_row, IsCrewRow};
 ghost use Rattle.loading.specs.Loading.{IsMember, Justifies};
-ghost use Rattle.loading.specs.Reading.{seat_of, MembersRead, ReadsAs, HasRows, IsUnreadable, Blames, AgreesThrough, TellsOf, HasStranger};
+ghost use Rattle.loading.specs.Reading.{seat_of, MembersRead, ReadsAs, HasRows, IsUnreadable, Blames, BlamesOrFails, AgreesThrough, TellsOf, HasStranger};
 ghost use Rattle.state_rows.specs.Rows.{row_of_member, crew, book};
 ghost use Rattle.loading.specs.declared.fault.TableName.TheVariants as table_name;
 
@@ -18,20 +18,19 @@ use duty::{CrewId, is_plain_text};
 use roster::{Entry, Roster};
 use sqlite::{Alter, Connection};
 use std::alloc::Global;
-use tables::TableFault;
 use tables::book_schema::is_spared;
 use tables::crew::{CrewRecord, is_crew_there, load_crew};
 use values::{MemoryFault, Text, TryClone};
 
 /// Reads the records of the table.
-#[tactic(auto, using(crate::proofs::Telling::found, crate::proofs::Telling::not_there, crate::proofs::Telling::no_record, crate::proofs::Telling::failed))]
+#[tactic(auto, using(crate::proofs::Telling::not_there, crate::proofs::Telling::no_memory))]
 fn crew_records<S: Alter>(
     alloc: Global,
     conn: &mut Connection<S>,
 ) -> Result<Vec<CrewRecord>, LoadFault>
     ensures { ReadsAs (λ found. HasRows crew (state S.Store conn.old).now
         (map crew_row found.items))
-        (Blames table_name.Crew (IsUnreadable crew IsCrewRow (state S.Store conn.old).now))
+        (BlamesOrFails table_name.Crew (IsUnreadable crew IsCrewRow (state S.Store conn.old).now))
         (state S.Store conn.old) (state S.Store conn.new) result }
 {
     if !is_crew_there(alloc, conn)? || !is_spared(conn, "crew") {
@@ -42,8 +41,7 @@ fn crew_records<S: Alter>(
     let _live = conn.schema();
     match loaded {
         Ok(records) => Ok(records),
-        Err(TableFault::NotARecord) => Err(LoadFault::Damaged(TableName::Crew)),
-        Err(fault) => Err(LoadFault::from(fault)),
+        Err(fault) => Err(LoadFault::of_table(fault, TableName::Crew)),
     }
 }
 

@@ -7,7 +7,7 @@ ghost use Rattle.sqlite.specs.Held.{state};
 ghost use Rattle.sqlite.specs.State.{HasCleanDisk};
 ghost use Rattle.tables.specs.Records.{ground_row, IsGroundRow};
 ghost use Rattle.loading.specs.Loading.{IsGround, Justifies};
-ghost use Rattle.loading.specs.Reading.{GroundsRead, ReadsAs, HasRows, IsUnreadable, Blames, AgreesThrough, TellsOf, HasStranger};
+ghost use Rattle.loading.specs.Reading.{GroundsRead, ReadsAs, HasRows, IsUnreadable, Blames, BlamesOrFails, AgreesThrough, TellsOf, HasStranger};
 ghost use Rattle.state_rows.specs.Rows.{row_of_ground, ground_duty, seat};
 ghost use Rattle.loading.specs.declared.fault.TableName.TheVariants as table_name;
 
@@ -16,21 +16,20 @@ use duty::{CrewId, Ground, GroundId};
 use roster::{Entry, Roster};
 use sqlite::{Alter, Connection};
 use std::alloc::Global;
-use tables::TableFault;
 use tables::book_schema::is_spared;
 use tables::ground::{GroundRecord, is_ground_there, load_grounds};
 use time117::Minute;
 use values::{MemoryFault, Text, TryClone};
 
 /// Reads the records of the table.
-#[tactic(auto, using(crate::proofs::Telling::found, crate::proofs::Telling::not_there, crate::proofs::Telling::no_record, crate::proofs::Telling::failed))]
+#[tactic(auto, using(crate::proofs::Telling::not_there, crate::proofs::Telling::no_memory))]
 fn ground_records<S: Alter>(
     alloc: Global,
     conn: &mut Connection<S>,
 ) -> Result<Vec<GroundRecord>, LoadFault>
     ensures { ReadsAs
         (λ found. HasRows ground_duty (state S.Store conn.old).now (map ground_row found.items))
-        (Blames table_name.Ground
+        (BlamesOrFails table_name.Ground
         (IsUnreadable ground_duty IsGroundRow (state S.Store conn.old).now))
         (state S.Store conn.old) (state S.Store conn.new) result }
 {
@@ -42,8 +41,7 @@ fn ground_records<S: Alter>(
     let _live = conn.schema();
     match loaded {
         Ok(records) => Ok(records),
-        Err(TableFault::NotARecord) => Err(LoadFault::Damaged(TableName::Ground)),
-        Err(fault) => Err(LoadFault::from(fault)),
+        Err(fault) => Err(LoadFault::of_table(fault, TableName::Ground)),
     }
 }
 

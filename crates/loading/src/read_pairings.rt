@@ -9,7 +9,7 @@ ghost use Rattle.tables.specs.Records.{pairing_row, IsPairingRow};
 ghost use Rattle.loading.specs.Keyed.{AreIds, HasIds, HasUntold, IdsRead, IsId, PairingsRead, row_of_id};
 ghost use Rattle.loading.specs.Loading.{Justifies};
 ghost use Rattle.loading.specs.PlanRows.{AreUngapped, HasNoGaps};
-ghost use Rattle.loading.specs.Reading.{AreFree, ReadsAs, HasRows, IsUnreadable, Blames, HasStranger, AgreesThrough};
+ghost use Rattle.loading.specs.Reading.{AreFree, ReadsAs, HasRows, IsUnreadable, Blames, BlamesOrFails, HasStranger, AgreesThrough};
 ghost use Rattle.state_rows.specs.Rows.{crew, pairing, segment};
 ghost use Rattle.loading.specs.declared.fault.TableName.TheVariants as table_name;
 
@@ -22,20 +22,19 @@ use duty::PairingId;
 use roster::{Entry, Roster};
 use sqlite::{Alter, Connection};
 use std::alloc::Global;
-use tables::TableFault;
 use tables::book_schema::is_spared;
 use tables::pairing::{PairingRecord, is_pairing_there, load_pairings};
 use values::{OrdMap, TryClone};
 
 /// Reads the records of the table.
-#[tactic(auto, using(crate::proofs::Telling::found, crate::proofs::Telling::not_there, crate::proofs::Telling::no_record, crate::proofs::Telling::failed))]
+#[tactic(auto, using(crate::proofs::Telling::not_there, crate::proofs::Telling::no_memory))]
 fn pairing_records<S: Alter>(
     alloc: Global,
     conn: &mut Connection<S>,
 ) -> Result<Vec<PairingRecord>, LoadFault>
     ensures { ReadsAs
         (λ found. HasRows pairing (state S.Store conn.old).now (map pairing_row found.items))
-        (Blames table_name.Pairing (IsUnreadable pairing IsPairingRow (state S.Store conn.old).now))
+        (BlamesOrFails table_name.Pairing (IsUnreadable pairing IsPairingRow (state S.Store conn.old).now))
         (state S.Store conn.old) (state S.Store conn.new) result }
 {
     if !is_pairing_there(alloc, conn)? || !is_spared(conn, "pairing") {
@@ -46,8 +45,7 @@ fn pairing_records<S: Alter>(
     let _live = conn.schema();
     match loaded {
         Ok(records) => Ok(records),
-        Err(TableFault::NotARecord) => Err(LoadFault::Damaged(TableName::Pairing)),
-        Err(fault) => Err(LoadFault::from(fault)),
+        Err(fault) => Err(LoadFault::of_table(fault, TableName::Pairing)),
     }
 }
 
@@ -73,7 +71,7 @@ fn read_ids<S: Alter>(
     conn: &mut Connection<S>,
 ) -> Result<OrdMap<PairingId, ()>, LoadFault>
     ensures { ReadsAs (HasIds (state S.Store conn.old).now)
-        (Blames table_name.Pairing (AreIds (state S.Store conn.old).now → ⊥))
+        (BlamesOrFails table_name.Pairing (AreIds (state S.Store conn.old).now → ⊥))
         (state S.Store conn.old) (state S.Store conn.new) result }
 {
     let records = pairing_records(alloc, conn)?;

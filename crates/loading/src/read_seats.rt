@@ -9,7 +9,7 @@ ghost use Rattle.command.specs.declared.member.Member.{Member as MemberOf};
 ghost use Rattle.roster.specs.Pairings.{is_flown, is_fully_crewed};
 ghost use Rattle.tables.specs.Records.{seat_row, IsSeatRow};
 ghost use Rattle.loading.specs.Loading.{Justifies};
-ghost use Rattle.loading.specs.Reading.{AreCrewed, AreFree, AreUnseated, IsSeatHeldBy, SeatsRead, row_of_held, ReadsAs, HasRows, IsUnreadable, Blames, AgreesThrough, TellsOf, HasStranger};
+ghost use Rattle.loading.specs.Reading.{AreCrewed, AreFree, AreUnseated, IsSeatHeldBy, SeatsRead, row_of_held, ReadsAs, HasRows, IsUnreadable, Blames, BlamesOrFails, AgreesThrough, TellsOf, HasStranger};
 ghost use Rattle.state_rows.specs.Rows.{seat, segment};
 ghost use Rattle.loading.specs.declared.fault.TableName.TheVariants as table_name;
 
@@ -20,7 +20,6 @@ use duty::{CrewId, PairingId};
 use roster::{PairingEntry, Roster};
 use sqlite::{Alter, Connection};
 use std::alloc::Global;
-use tables::TableFault;
 use tables::book_schema::is_spared;
 use tables::seat::{SeatRecord, is_seat_there, load_seats};
 use values::{Edit, MemoryFault, TryClone};
@@ -54,14 +53,14 @@ struct HeldSeat {
 }
 
 /// Reads the records of the table.
-#[tactic(auto, using(crate::proofs::Telling::found, crate::proofs::Telling::not_there, crate::proofs::Telling::no_record, crate::proofs::Telling::failed))]
+#[tactic(auto, using(crate::proofs::Telling::not_there, crate::proofs::Telling::no_memory))]
 fn seat_records<S: Alter>(
     alloc: Global,
     conn: &mut Connection<S>,
 ) -> Result<Vec<SeatRecord>, LoadFault>
     ensures { ReadsAs (λ found. HasRows seat (state S.Store conn.old).now
         (map seat_row found.items))
-        (Blames table_name.Seat (IsUnreadable seat IsSeatRow (state S.Store conn.old).now))
+        (BlamesOrFails table_name.Seat (IsUnreadable seat IsSeatRow (state S.Store conn.old).now))
         (state S.Store conn.old) (state S.Store conn.new) result }
 {
     if !is_seat_there(alloc, conn)? || !is_spared(conn, "seat") {
@@ -72,8 +71,7 @@ fn seat_records<S: Alter>(
     let _live = conn.schema();
     match loaded {
         Ok(records) => Ok(records),
-        Err(TableFault::NotARecord) => Err(LoadFault::Damaged(TableName::Seat)),
-        Err(fault) => Err(LoadFault::from(fault)),
+        Err(fault) => Err(LoadFault::of_table(fault, TableName::Seat)),
     }
 }
 

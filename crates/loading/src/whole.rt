@@ -7,10 +7,12 @@ ghost use Rattle.std.specs.FinMap as fin;
 ghost use Rattle.sqlite.specs.Held.{state};
 ghost use Rattle.sqlite.specs.State.{HasCleanDisk};
 ghost use Rattle.loading.specs.Loading.{Justifies};
-ghost use Rattle.loading.specs.Reading.{AreFree, HasNoDuties, AgreesThrough, ReadsAs};
-ghost use Rattle.state_rows.specs.Rows.{ground_duty, request, segment};
+ghost use Rattle.loading.specs.Reading.{AgreesIn, AreFree, HasNoDuties, AgreesThrough, ReadsAs};
+ghost use Rattle.roster.specs.State.{empty};
+ghost use Rattle.state_rows.specs.Rows.{book, ground_duty, outside_segment, request, segment};
 
 use crate::fault::LoadFault;
+use crate::later::read_later;
 use crate::read_book::read_book;
 use crate::read_crew::read_crew;
 use crate::read_exceedances::read_exceedances;
@@ -20,17 +22,24 @@ use crate::read_requests::read_requests;
 use crate::read_seats::read_seats;
 use roster::Roster;
 use sqlite::{Alter, Connection};
+use state_rows::Edition;
 use std::alloc::Global;
 
-/// Reads the book's row, the members, and the pairings with their periods and segments.
-fn read_plans<S: Alter>(alloc: Global, conn: &mut Connection<S>) -> Result<Roster, LoadFault>
+/// Reads the members, and the pairings with their periods and segments, into a roster of nothing but the zone.
+fn read_plans<S: Alter>(
+    alloc: Global,
+    conn: &mut Connection<S>,
+    roster: Roster,
+) -> Result<Roster, LoadFault>
+    requires none { roster ≡ empty roster.zone }
+    requires above { HasCleanDisk (state S.Store conn.old)
+        → AgreesThrough book roster (state S.Store conn.old).now }
     ensures read { ReadsAs (λ r. AgreesThrough segment r (state S.Store conn.old).now)
         (λ fault. Justifies fault (state S.Store conn.old).now) (state S.Store conn.old)
         (state S.Store conn.new) result }
     ensures free { IfOk result AreFree }
     ensures rest { IfOk result HasNoDuties }
 {
-    let roster = read_book(alloc, conn)?;
     let roster = read_crew(alloc, conn, roster)?;
     read_pairings(alloc, conn, roster)
 }
@@ -71,14 +80,37 @@ fn read_records<S: Alter>(
     read_requests(alloc, conn, roster)
 }
 
-/// Reads a whole book, table by table, and changes nothing. Refused is a database without a table `book` (40), tables of
-/// another version (42), the first table that is at fault (41), a store's fault (90), and want of memory (91).
-pub fn read_all<S: Alter>(alloc: Global, conn: &mut Connection<S>) -> Result<Roster, LoadFault>
+/// Reads the tables of version 1 after `book`, into a roster of nothing but the zone.
+fn read_first<S: Alter>(
+    alloc: Global,
+    conn: &mut Connection<S>,
+    roster: Roster,
+) -> Result<Roster, LoadFault>
+    requires none { roster ≡ empty roster.zone }
+    requires above { HasCleanDisk (state S.Store conn.old)
+        → AgreesThrough book roster (state S.Store conn.old).now }
     ensures read { ReadsAs (λ r. AgreesThrough request r (state S.Store conn.old).now)
         (λ fault. Justifies fault (state S.Store conn.old).now) (state S.Store conn.old)
         (state S.Store conn.new) result }
 {
-    let roster = read_plans(alloc, conn)?;
+    let roster = read_plans(alloc, conn, roster)?;
     let roster = read_duties(alloc, conn, roster)?;
     read_records(alloc, conn, roster)
+}
+
+/// Reads a whole book of version 1 or 2, table by table, with the version that it is of, and changes nothing. Refused
+/// are a database without a table `book` (40), tables of another version (42), and one in which a table is damaged (41,
+/// with the first). A fault of the store is 90, and want of memory 91.
+pub fn read_all<S: Alter>(
+    alloc: Global,
+    conn: &mut Connection<S>,
+) -> Result<(Roster, Edition), LoadFault>
+    ensures read { ReadsAs (λ r. AgreesIn r.1 outside_segment r.0 (state S.Store conn.old).now)
+        (λ fault. Justifies fault (state S.Store conn.old).now) (state S.Store conn.old)
+        (state S.Store conn.new) result }
+{
+    let (roster, edition) = read_book(alloc, conn)?;
+    let roster = read_first(alloc, conn, roster)?;
+    read_later(alloc, conn, &roster, edition)?;
+    Ok((roster, edition))
 }

@@ -4,9 +4,14 @@ use Rattle.tables.specs.Records.{book_row, IsBookRow}
 use Rattle.tables.specs.declared.book.BookRecord.{BookRecord}
 use Rattle.state_rows.specs.Rows.{book}
 use Rattle.loading.specs.declared.fault.TableName.TheVariants as table_name
-use Rattle.loading.proofs.Telling.{found}
+use Rattle.loading.proofs.Telling.{found, stopped}
 use Rattle.loading.proofs.read_book.book_records.Goals as goal
 
 pub returns-in-Ok : goal.returns-in-Ok
 returns-in-Ok g c = found book table_name.Book IsBookRow (λ (v : Vec BookRecord Global). map book_row v.items) (state g.S.Store c.args.conn.now) (state g.S.Store c.load_book-loaded.new.conn) c.in-Ok.records
     (c.in_ok-is_book_there.ensures.there.0 (search rules), c.is_spared.ensures.0 (search rules)) c.in-Ok.ensures.loaded c.load_book-loaded.ensures.crash c.schema-live.ensures.live
+
+pub returns-in-Err : goal.returns-in-Err
+returns-in-Err g c =
+    stopped book table_name.Book IsBookRow (λ (v : Vec BookRecord Global). map book_row v.items) (state g.S.Store c.args.conn.now) (state g.S.Store c.load_book-loaded.new.conn) c.in-Err.fault c.of_table.result
+    c.of_table.ensures c.in-Err.ensures.loaded c.load_book-loaded.ensures.crash

@@ -4,9 +4,14 @@ use Rattle.tables.specs.Records.{crew_row, IsCrewRow}
 use Rattle.tables.specs.declared.crew.CrewRecord.{CrewRecord}
 use Rattle.state_rows.specs.Rows.{crew}
 use Rattle.loading.specs.declared.fault.TableName.TheVariants as table_name
-use Rattle.loading.proofs.Telling.{found}
+use Rattle.loading.proofs.Telling.{found, stopped}
 use Rattle.loading.proofs.read_crew.crew_records.Goals as goal
 
 pub returns-in-Ok : goal.returns-in-Ok
 returns-in-Ok g c = found crew table_name.Crew IsCrewRow (λ (v : Vec CrewRecord Global). map crew_row v.items) (state g.S.Store c.args.conn.now) (state g.S.Store c.load_crew-loaded.new.conn) c.in-Ok.records
     (c.in_ok-is_crew_there.ensures.there.0 (search rules), c.is_spared.ensures.0 (search rules)) c.in-Ok.ensures.loaded c.load_crew-loaded.ensures.crash c.schema-live.ensures.live
+
+pub returns-in-Err : goal.returns-in-Err
+returns-in-Err g c =
+    stopped crew table_name.Crew IsCrewRow (λ (v : Vec CrewRecord Global). map crew_row v.items) (state g.S.Store c.args.conn.now) (state g.S.Store c.load_crew-loaded.new.conn) c.in-Err.fault c.of_table.result
+    c.of_table.ensures c.in-Err.ensures.loaded c.load_crew-loaded.ensures.crash

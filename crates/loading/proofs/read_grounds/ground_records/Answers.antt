@@ -4,9 +4,14 @@ use Rattle.tables.specs.Records.{ground_row, IsGroundRow}
 use Rattle.tables.specs.declared.ground.GroundRecord.{GroundRecord}
 use Rattle.state_rows.specs.Rows.{ground_duty}
 use Rattle.loading.specs.declared.fault.TableName.TheVariants as table_name
-use Rattle.loading.proofs.Telling.{found}
+use Rattle.loading.proofs.Telling.{found, stopped}
 use Rattle.loading.proofs.read_grounds.ground_records.Goals as goal
 
 pub returns-in-Ok : goal.returns-in-Ok
 returns-in-Ok g c = found ground_duty table_name.Ground IsGroundRow (λ (v : Vec GroundRecord Global). map ground_row v.items) (state g.S.Store c.args.conn.now) (state g.S.Store c.load_grounds-loaded.new.conn) c.in-Ok.records
     (c.in_ok-is_ground_there.ensures.there.0 (search rules), c.is_spared.ensures.0 (search rules)) c.in-Ok.ensures.loaded c.load_grounds-loaded.ensures.crash c.schema-live.ensures.live
+
+pub returns-in-Err : goal.returns-in-Err
+returns-in-Err g c =
+    stopped ground_duty table_name.Ground IsGroundRow (λ (v : Vec GroundRecord Global). map ground_row v.items) (state g.S.Store c.args.conn.now) (state g.S.Store c.load_grounds-loaded.new.conn) c.in-Err.fault c.of_table.result
+    c.of_table.ensures c.in-Err.ensures.loaded c.load_grounds-loaded.ensures.crash

@@ -7,7 +7,7 @@ use Rattle.loading.specs.Reading.{Blames}
 use Rattle.loading.specs.declared.fault.LoadFault.{LoadFault}
 use Rattle.loading.specs.declared.fault.TableName.TheVariants as table_name
 use Rattle.loading.proofs.ReadPairings.{Adding, none_added, one_added, untold, all_added}
-use Rattle.loading.proofs.ReadTables.{blames_for}
+use Rattle.loading.proofs.PlanLemmas.{blamed}
 use Rattle.loading.proofs.read_pairings.add_pairings.Goals as goal
 
 pub loop-id-init : goal.loop-id-init
@@ -27,7 +27,7 @@ returns-in_err-pairing c =
     let left : c.loop-id.id-iterator ≡ (id, c.in-Some.field-0-1.now) ∷ c.next.new.self = search rules in
     let none = untold ids periods segments c.args.roster c.loop-id.roster (id, c.in-Some.field-0-1.now) c.next.new.self (subst (Adding ids periods segments c.args.roster c.loop-id.roster) left c.loop-id.invariant) in
     subst (λ (r : Result State LoadFault). MatchResult r (PairingsRead ids periods segments c.args.roster) (Blames table_name.Segment (HasUntold ids periods segments))) (sym is)
-    (blames_for table_name.Segment ((r : PairingEntry) → IsPairingOfRows periods segments id r → ⊥) (HasUntold ids periods segments) none fault c.in_err-pairing.ensures.told)
+    (blamed table_name.Segment ((r : PairingEntry) → IsPairingOfRows periods segments id r → ⊥) (HasUntold ids periods segments) none fault c.in_err-pairing.ensures.told)
 
 pub loop-id-preserved : goal.loop-id-preserved
 loop-id-preserved c =

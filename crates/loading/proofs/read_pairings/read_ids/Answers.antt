@@ -3,7 +3,7 @@ use Rattle.sqlite.specs.Held.{state}
 use Rattle.tables.specs.Records.{IsPairingRow, pairing_row}
 use Rattle.tables.specs.declared.pairing.PairingRecord.{PairingRecord}
 use Rattle.loading.specs.Keyed.{AreIds, HasIds, Ids, IdsRead, IsId, row_of_id}
-use Rattle.loading.specs.Reading.{ReadsAs, Blames, HasStranger}
+use Rattle.loading.specs.Reading.{ReadsAs, HasStranger, BlamesOrFails}
 use Rattle.state_rows.specs.Rows.{pairing}
 use Rattle.loading.specs.declared.fault.LoadFault.{LoadFault}
 use Rattle.loading.specs.declared.fault.TableName.TheVariants as table_name
@@ -17,9 +17,9 @@ returns-in_err-records g c =
     let new = state g.S.Store c.pairing_records.new.conn in
     let fault = c.in_err-records.field-0.0 in
     let is : c.from_residual.result ≡ Err fault = search rules in
-    subst (λ (r : Result Ids LoadFault). ReadsAs (HasIds old.now) (Blames table_name.Pairing (AreIds old.now → ⊥)) old new r) (sym is)
+    subst (λ (r : Result Ids LoadFault). ReadsAs (HasIds old.now) (BlamesOrFails table_name.Pairing (AreIds old.now → ⊥)) old new r) (sym is)
     (not_read pairing table_name.Pairing IsPairingRow pairing_row (AreIds old.now) (HasIds old.now) old new c.pairing_records.ensures.left fault
-    (λ clean. not_unreadable old.now) c.in_err-records.ensures.told)
+    (λ clean. not_unreadable old.now) c.in_err-records.ensures.told c.in_err-records.ensures.caused)
 
 pub returns : goal.returns
 returns g c =

@@ -4,7 +4,7 @@ use Rattle.tables.specs.Records.{IsPeriodRow, period_row}
 use Rattle.tables.specs.declared.period.PeriodRecord.{PeriodRecord}
 use Rattle.loading.specs.Keyed.{ArePeriodsWanting, ArePeriodsWhole, HasPeriods, IsPeriodTable}
 use Rattle.loading.specs.PlanRows.{AreUngapped, Periods}
-use Rattle.loading.specs.Reading.{ReadsAs, Blames}
+use Rattle.loading.specs.Reading.{ReadsAs, Blames, BlamesOrFails}
 use Rattle.state_rows.specs.Rows.{period}
 use Rattle.loading.specs.declared.fault.LoadFault.{LoadFault}
 use Rattle.loading.specs.declared.fault.TableName.TheVariants as table_name
@@ -18,9 +18,9 @@ returns-in_err-records-clause-told g c =
     let new = state g.S.Store c.period_records.new.conn in
     let fault = c.in_err-records.field-0.0 in
     let is : c.from_residual.result ≡ Err fault = search rules in
-    subst (λ (r : Result Periods LoadFault). ReadsAs (HasPeriods old.now) (Blames table_name.Period (IsPeriodTable old.now → ⊥)) old new r) (sym is)
+    subst (λ (r : Result Periods LoadFault). ReadsAs (HasPeriods old.now) (BlamesOrFails table_name.Period (IsPeriodTable old.now → ⊥)) old new r) (sym is)
     (not_read period table_name.Period IsPeriodRow period_row (IsPeriodTable old.now) (HasPeriods old.now) old new c.period_records.ensures.left fault
-    (λ clean. not_unreadable old.now c.args.ids.now (c.requires.above clean)) c.in_err-records.ensures.told)
+    (λ clean. not_unreadable old.now c.args.ids.now (c.requires.above clean)) c.in_err-records.ensures.told c.in_err-records.ensures.caused)
 
 pub returns-clause-told : goal.returns-clause-told
 returns-clause-told g c =

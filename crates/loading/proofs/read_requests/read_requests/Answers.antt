@@ -14,7 +14,7 @@ returns-in_err-records g c =
     let fault = c.in_err-records.field-0.0 in
     let is : c.from_residual.result ≡ Err fault = search rules in
     subst (λ (r : Result State LoadFault). ReadsAs (Now c.args.roster old new c.requires.above) (λ f. Justifies f old.now) old new r) (sym is)
-    (not_read c.args.roster old new c.requires.above fault c.in_err-records.ensures.told c.request_records.ensures.left)
+    (not_read c.args.roster old new c.requires.above fault c.in_err-records.ensures.told c.in_err-records.ensures.caused c.request_records.ensures.left)
 
 pub returns : goal.returns
 returns g c =

@@ -4,9 +4,14 @@ use Rattle.tables.specs.Records.{request_row, IsRequestRow}
 use Rattle.tables.specs.declared.request.RequestRecord.{RequestRecord}
 use Rattle.state_rows.specs.Rows.{request}
 use Rattle.loading.specs.declared.fault.TableName.TheVariants as table_name
-use Rattle.loading.proofs.Telling.{found}
+use Rattle.loading.proofs.Telling.{found, stopped}
 use Rattle.loading.proofs.read_requests.request_records.Goals as goal
 
 pub returns-in-Ok : goal.returns-in-Ok
 returns-in-Ok g c = found request table_name.Request IsRequestRow (λ (v : Vec RequestRecord Global). map request_row v.items) (state g.S.Store c.args.conn.now) (state g.S.Store c.load_requests-loaded.new.conn) c.in-Ok.records
     (c.in_ok-is_request_there.ensures.there.0 (search rules), c.is_spared.ensures.0 (search rules)) c.in-Ok.ensures.loaded c.load_requests-loaded.ensures.crash c.schema-live.ensures.live
+
+pub returns-in-Err : goal.returns-in-Err
+returns-in-Err g c =
+    stopped request table_name.Request IsRequestRow (λ (v : Vec RequestRecord Global). map request_row v.items) (state g.S.Store c.args.conn.now) (state g.S.Store c.load_requests-loaded.new.conn) c.in-Err.fault c.of_table.result
+    c.of_table.ensures c.in-Err.ensures.loaded c.load_requests-loaded.ensures.crash

@@ -4,7 +4,7 @@ use Rattle.tables.specs.Records.{IsSegmentRow, segment_row}
 use Rattle.tables.specs.declared.segment.SegmentRecord.{SegmentRecord}
 use Rattle.loading.specs.Keyed.{AreSegmentsWanting, AreSegmentsWhole, HasSegmentsOf, IsSegmentTable}
 use Rattle.loading.specs.PlanRows.{HasNoGaps, Segments}
-use Rattle.loading.specs.Reading.{ReadsAs, Blames}
+use Rattle.loading.specs.Reading.{ReadsAs, Blames, BlamesOrFails}
 use Rattle.state_rows.specs.Rows.{segment}
 use Rattle.loading.specs.declared.fault.LoadFault.{LoadFault}
 use Rattle.loading.specs.declared.fault.TableName.TheVariants as table_name
@@ -19,9 +19,9 @@ returns-in_err-records-clause-told g c =
     let periods = c.args.periods.now in
     let fault = c.in_err-records.field-0.0 in
     let is : c.from_residual.result ≡ Err fault = search rules in
-    subst (λ (r : Result Segments LoadFault). ReadsAs (HasSegmentsOf old.now periods) (Blames table_name.Segment (IsSegmentTable old.now → ⊥)) old new r) (sym is)
+    subst (λ (r : Result Segments LoadFault). ReadsAs (HasSegmentsOf old.now periods) (BlamesOrFails table_name.Segment (IsSegmentTable old.now → ⊥)) old new r) (sym is)
     (not_read segment table_name.Segment IsSegmentRow segment_row (IsSegmentTable old.now) (HasSegmentsOf old.now periods) old new c.segment_records.ensures.left fault
-    (λ clean. not_unreadable old.now) c.in_err-records.ensures.told)
+    (λ clean. not_unreadable old.now) c.in_err-records.ensures.told c.in_err-records.ensures.caused)
 
 pub returns-clause-told : goal.returns-clause-told
 returns-clause-told g c =

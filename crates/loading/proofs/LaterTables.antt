@@ -1,0 +1,233 @@
+-- The tables that version 2 added: when they are right, and what a refusal of one says.
+use Rattle.std.proofs.Common.{◌≡◌, inl, inr, refl, sym, ap, subst, ◌∙◌, arith, IsTrue, [], Result, Ok, Err, MatchResult, None}
+use Rattle.std.specs.List.{AllByRecursion}
+use Rattle.sqlite_value.specs.Order.{Row, column}
+use Rattle.sqlite_schema.specs.declared.schema.Schema.{Schema}
+use Rattle.sqlite.specs.Effect.{Database}
+use Rattle.sqlite.specs.State.{HasCleanDisk, IsUnchanged}
+use Rattle.sqlite.specs.State as conn
+use Rattle.roster.specs.State.{State}
+use Rattle.tables.specs.Rows.{AreNumbered, IsStored, kept_in}
+use Rattle.tables.specs.Schema.{AreFree, BookTable, later_tables, table_found, IsNameFree}
+use Rattle.loading.proofs.Telling.{clean_before, nothing_left, of_blame}
+use Rattle.loading.specs.Loading.{AreRight, AreRightAbove, IsBookRight, IsDamaged, IsLaterOfState, IsOfEdition, IsRight, IsTableOfState, Justifies, named}
+use Rattle.loading.specs.Reading.{AgreesIn, AgreesThrough, BlamesName, BlamesOrFails, IsReadAs, ReadsAs, down_to}
+use Rattle.loading.specs.declared.fault.LoadFault.{LoadFault}
+use Rattle.loading.specs.declared.fault.LoadFault.TheVariants.{NotABook, Version, Damaged, Fault}
+use Rattle.loading.specs.declared.fault.TableName as name
+use Rattle.loading.specs.declared.fault.TableName.TheVariants as its
+use Rattle.state_rows.proofs.Values.{number_is, text_is}
+use Rattle.state_rows.specs.Bases.{home}
+use Rattle.state_rows.specs.Rows.{TableName, request, base, crew_base, outside, outside_segment, table, InBase, InCrewBase, InTable, row_of_book, row_of_member, row_of_post}
+use Rattle.state_rows.specs.declared.fault.StoreFault.TheVariants.{Store}
+use Rattle.state_rows.specs.declared.edition.Edition.TheVariants.{First, Second}
+
+-- a database is of one version
+pub one_edition : (db : Database) → IsOfEdition First db → IsOfEdition Second db → ⊥
+one_edition db first second =
+    let row = row_of_book First first.0.zone in
+    let is = (second.1 row).0 ((first.1 row).1 refl) in
+    let same : 1 ≡ 2 = number_is (ap (λ (r : Row). column r 1) is) in
+    omega (arith, same)
+
+-- ---- One table after another
+
+-- of two tables that are looked at in turn: what the second is beside the first, and that its rows are told by the tables above
+pub record IsNext (above it : TableName) : Type 0 where
+  pub split : (s : State) (db : Database) → IsRight it s db → IsRight above s db × IsLaterOfState it s db
+  pub join : (s : State) (db : Database) → IsRight above s db → IsLaterOfState it s db → IsRight it s db
+  pub over : (db : Database) → AreRight above db → AreRightAbove it db
+  pub stored : (db : Database) → IsStored (table it) db → AllByRecursion (λ n. IsStored (table n) db) (down_to above) → AllByRecursion (λ n. IsStored (table n) db) (down_to it)
+  pub same : (s t : State) (db : Database) → IsRight above s db → IsRight above t db → (row : Row) → InTable s it row → InTable t it row
+
+module _ (s t : State) (db : Database) (one : IsRight request s db) (other : IsRight request t db) where
+  book_of_one : IsBookRight s db
+  book_of_one = one.0.0.0.0.0.0.0.0
+
+  book_of_other : IsBookRight t db
+  book_of_other = other.0.0.0.0.0.0.0.0
+
+  same_zone : s.zone ≡ t.zone
+  same_zone =
+      let row = row_of_book book_of_one.0.1.0 s.zone in
+      let is = (book_of_other.0.1.1 row).0 ((book_of_one.0.1.1 row).1 refl) in
+      text_is (ap (λ (r : Row). column r 2) is)
+
+  same_base : (row : Row) → InBase s row → InBase t row
+  same_base row is = subst (λ zone. InBase (record s { zone = zone }) row) same_zone is
+
+  same_crew_base : (row : Row) → InCrewBase s row → InCrewBase t row
+  same_crew_base row is =
+      let at = is.0 in
+      let here = (one.0.0.0.0.0.0.0.1.1 (row_of_member at.name at.value)).1 (at, refl) in
+      let there = (other.0.0.0.0.0.0.0.1.1 (row_of_member at.name at.value)).0 here in
+      let name : at.name ≡ there.0.name = text_is (ap (λ (r : Row). column r 0) there.1) in
+      (there.0, is.1 ∙ ap (λ who. row_of_post who home) name)
+
+pub next_base : IsNext request base
+next_base = record {
+  split = λ s db right. right;
+  join = λ s db right later. (right, later);
+  over = λ db right. right;
+  stored = λ db now above. (now, above);
+  same = λ s t db one other row is. same_base s t db one other row is;
+}
+
+pub next_crew_base : IsNext base crew_base
+next_crew_base = record {
+  split = λ s db right. right;
+  join = λ s db right later. (right, later);
+  over = λ db right. right;
+  stored = λ db now above. (now, above);
+  same = λ s t db one other row is. same_crew_base s t db one.0 other.0 row is;
+}
+
+pub next_outside : IsNext crew_base outside
+next_outside = record {
+  split = λ s db right. right;
+  join = λ s db right later. (right, later);
+  over = λ db right. right;
+  stored = λ db now above. (now, above);
+  same = λ s t db one other row is. is;
+}
+
+pub next_outside_segment : IsNext outside outside_segment
+next_outside_segment = record {
+  split = λ s db right. right;
+  join = λ s db right later. (right, later);
+  over = λ db right. right;
+  stored = λ db now above. (now, above);
+  same = λ s t db one other row is. is;
+}
+
+-- ---- In a file of version 2
+
+module _ (above it : TableName) (next : IsNext above it) (s : State) (db : Database) (up : AgreesThrough above s db) (second : IsOfEdition Second db) where
+  damaged : (IsTableOfState it s db → ⊥) → IsDamaged it db
+  damaged wrong = record {
+    book = up.book;
+    version = up.version;
+    above = next.over db (s, up.right);
+    damaged = λ right.
+        let both = next.split right.0 db right.1 in
+        elim both.1 [
+          | inl is ↦ wrong (
+            is.1.0,
+            λ row. (
+              λ h. next.same right.0 s db both.0 up.right row ((is.1.1 row).0 h),
+              λ here. (is.1.1 row).1 (next.same s right.0 db up.right both.0 row here),
+            ),
+          )
+          | inr is ↦ one_edition db is.0 second
+        ];
+  }
+
+  kept : IsReadAs it s db → AgreesThrough it s db
+  kept read = record {
+    stored = next.stored db read.1 up.stored;
+    book = up.book;
+    version = up.version;
+    right = next.join s db up.right (inl (second, read.0));
+  }
+
+-- what was read of a table, or why it was refused, as it says of the database
+module _ {A : Type 0} (above it : TableName) (next : IsNext above it) (its_name : name.TableName) (is_named : named its_name ≡ it) (s : State) (old new : conn.State)
+    (up : HasCleanDisk old → AgreesIn Second above s old.now) where
+  pub later_told : (result : Result A LoadFault) → ReadsAs (λ _. IsReadAs it s old.now) (BlamesOrFails its_name (IsTableOfState it s old.now → ⊥)) old new result →
+      ReadsAs (λ _. AgreesIn Second it s old.now) (λ f. Justifies f old.now) old new result
+  later_told (Ok a) read = record {
+    told = λ clean.
+        let x = read.told clean in
+        let u = up (clean_before old new read.left clean) in
+        (x.0, record { through = kept above it next s old.now u.through u.of x.1; of = u.of });
+    caused = read.caused;
+    left = read.left;
+  }
+  later_told (Err fault) read = record {
+    told = λ clean.
+        let u = up (clean_before old new read.left clean) in
+        of_blame its_name _ old.now (λ wrong. subst (λ t. IsDamaged t old.now) (sym is_named) (damaged above it next s old.now u.through u.of wrong)) fault (read.told clean);
+    caused = read.caused;
+    left = read.left;
+  }
+
+-- ---- In a file of version 1
+
+no_rows : AreNumbered []
+no_rows = record { numbered = λ r h. absurd h; apart = λ a b h. absurd h }
+
+-- of a table that isn't there no row is stored
+not_stored : (it : BookTable) (db : Database) → table_found db.schema it.name ≡ None → IsStored it db
+not_stored it db none = subst (λ found. AreNumbered (kept_in db.trees found)) (sym none) no_rows
+
+module _ (s : State) (db : Database) (up : AgreesThrough request s db) (first : IsOfEdition First db) where
+  taken : (above it : TableName) → IsNext above it → AreRight above db → (IsNameFree (table it) db.schema → ⊥) → IsDamaged it db
+  taken above it next right bad = record {
+    book = up.book;
+    version = up.version;
+    above = next.over db right;
+    damaged = λ found. elim (next.split found.0 db found.1).1 [
+      | inl is ↦ one_edition db first is.0
+      | inr is ↦ bad is.1
+    ];
+  }
+
+  to_base : IsNameFree (table base) db.schema → IsRight base s db
+  to_base free = (up.right, inr (first, free))
+
+  to_crew_base : IsNameFree (table base) db.schema → IsNameFree (table crew_base) db.schema → IsRight crew_base s db
+  to_crew_base b c = (to_base b, inr (first, c))
+
+  to_outside : IsNameFree (table base) db.schema → IsNameFree (table crew_base) db.schema → IsNameFree (table outside) db.schema → IsRight outside s db
+  to_outside b c o = (to_crew_base b c, inr (first, o))
+
+  names_taken : (fault : LoadFault) → BlamesName db.schema fault → Justifies fault db
+  names_taken (Damaged its.Base) bad = taken request base next_base (s, up.right) bad
+  names_taken (Damaged its.CrewBase) bad = taken base crew_base next_crew_base (s, to_base bad.0) bad.1
+  names_taken (Damaged its.Outside) bad = taken crew_base outside next_outside (s, to_crew_base bad.0 bad.1) bad.2
+  names_taken (Damaged its.OutsideSegment) bad = taken outside outside_segment next_outside_segment (s, to_outside bad.0 bad.1 bad.2) bad.3
+  names_taken (Damaged its.Book) bad = absurd bad
+  names_taken (Damaged its.Crew) bad = absurd bad
+  names_taken (Damaged its.Pairing) bad = absurd bad
+  names_taken (Damaged its.Period) bad = absurd bad
+  names_taken (Damaged its.Segment) bad = absurd bad
+  names_taken (Damaged its.Seat) bad = absurd bad
+  names_taken (Damaged its.Ground) bad = absurd bad
+  names_taken (Damaged its.Exceedance) bad = absurd bad
+  names_taken (Damaged its.Request) bad = absurd bad
+  names_taken NotABook bad = absurd bad
+  names_taken Version bad = absurd bad
+  names_taken (Fault fault) bad = absurd bad
+
+  all_free : AreFree later_tables db.schema → AgreesThrough outside_segment s db
+  all_free free = record {
+    stored = (not_stored (table outside_segment) db free.1.1.1.0.0, (not_stored (table outside) db free.1.1.0.0, (not_stored (table crew_base) db free.1.0.0, (not_stored (table base) db free.0.0, up.stored))));
+    book = up.book;
+    version = up.version;
+    right = (to_outside free.0 free.1.0 free.1.1.0, inr (first, free.1.1.1.0));
+  }
+
+-- a refusal of a name is no fault of the store
+no_fault : (schema : Schema) (fault : LoadFault) → BlamesName schema fault → fault ≡ Fault Store → ⊥
+no_fault schema NotABook bad is = bad
+no_fault schema Version bad is = bad
+no_fault schema (Damaged it) bad is = cc
+no_fault schema (Fault fault) bad is = bad
+
+unchanged : (s : conn.State) → IsTrue s.is_open → IsUnchanged s s
+unchanged s opened = (record { was_open = opened; is_open = opened; now_is = refl; committed_is = refl; mode = refl }, record { changes = refl; last_rowid = refl }, refl)
+
+-- what looking at the names tells
+module _ (s : State) (now : conn.State) (opened : HasCleanDisk now → IsTrue now.is_open) (up : HasCleanDisk now → AgreesIn First request s now.now) where
+  pub names_told : {A : Type 0} (result : Result A LoadFault) → MatchResult result (λ _. AreFree later_tables now.now.schema) (BlamesName now.now.schema) →
+      ReadsAs (λ _. AgreesIn First outside_segment s now.now) (λ f. Justifies f now.now) now now result
+  names_told (Ok a) free = record {
+    told = λ clean. let u = up clean in (unchanged now (opened clean), record { through = all_free s now.now u.through u.of free; of = u.of });
+    caused = λ clean. tt;
+    left = nothing_left now;
+  }
+  names_told (Err fault) bad = record {
+    told = λ clean. let u = up clean in names_taken s now.now u.through u.of fault bad;
+    caused = λ clean is. absurd (no_fault now.now.schema fault bad is);
+    left = nothing_left now;
+  }

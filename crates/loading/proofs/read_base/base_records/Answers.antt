@@ -1,0 +1,17 @@
+use Rattle.std.proofs.Common.{rules, map, Vec, Global}
+use Rattle.sqlite.specs.Held.{state}
+use Rattle.tables.specs.Records.{base_row, IsBaseRow}
+use Rattle.tables.specs.declared.base.BaseRecord.{BaseRecord}
+use Rattle.state_rows.specs.Rows.{base}
+use Rattle.loading.specs.declared.fault.TableName.TheVariants as table_name
+use Rattle.loading.proofs.Telling.{found, stopped}
+use Rattle.loading.proofs.read_base.base_records.Goals as goal
+
+pub returns-in-Ok : goal.returns-in-Ok
+returns-in-Ok g c = found base table_name.Base IsBaseRow (λ (v : Vec BaseRecord Global). map base_row v.items) (state g.S.Store c.args.conn.now) (state g.S.Store c.load_bases-loaded.new.conn) c.in-Ok.records
+    (c.in_ok-is_base_there.ensures.there.0 (search rules), c.is_spared.ensures.0 (search rules)) c.in-Ok.ensures.loaded c.load_bases-loaded.ensures.crash c.schema-live.ensures.live
+
+pub returns-in-Err : goal.returns-in-Err
+returns-in-Err g c =
+    stopped base table_name.Base IsBaseRow (λ (v : Vec BaseRecord Global). map base_row v.items) (state g.S.Store c.args.conn.now) (state g.S.Store c.load_bases-loaded.new.conn) c.in-Err.fault c.of_table.result
+    c.of_table.ensures c.in-Err.ensures.loaded c.load_bases-loaded.ensures.crash

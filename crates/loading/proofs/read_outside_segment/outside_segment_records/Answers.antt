@@ -1,0 +1,17 @@
+use Rattle.std.proofs.Common.{rules, map, Vec, Global}
+use Rattle.sqlite.specs.Held.{state}
+use Rattle.tables.specs.Records.{outside_segment_row, IsOutsideSegmentRow}
+use Rattle.tables.specs.declared.outside_segment.OutsideSegmentRecord.{OutsideSegmentRecord}
+use Rattle.state_rows.specs.Rows.{outside_segment}
+use Rattle.loading.specs.declared.fault.TableName.TheVariants as table_name
+use Rattle.loading.proofs.Telling.{found, stopped}
+use Rattle.loading.proofs.read_outside_segment.outside_segment_records.Goals as goal
+
+pub returns-in-Ok : goal.returns-in-Ok
+returns-in-Ok g c = found outside_segment table_name.OutsideSegment IsOutsideSegmentRow (λ (v : Vec OutsideSegmentRecord Global). map outside_segment_row v.items) (state g.S.Store c.args.conn.now) (state g.S.Store c.load_outside_segments-loaded.new.conn) c.in-Ok.records
+    (c.in_ok-is_outside_segment_there.ensures.there.0 (search rules), c.is_spared.ensures.0 (search rules)) c.in-Ok.ensures.loaded c.load_outside_segments-loaded.ensures.crash c.schema-live.ensures.live
+
+pub returns-in-Err : goal.returns-in-Err
+returns-in-Err g c =
+    stopped outside_segment table_name.OutsideSegment IsOutsideSegmentRow (λ (v : Vec OutsideSegmentRecord Global). map outside_segment_row v.items) (state g.S.Store c.args.conn.now) (state g.S.Store c.load_outside_segments-loaded.new.conn) c.in-Err.fault c.of_table.result
+    c.of_table.ensures c.in-Err.ensures.loaded c.load_outside_segments-loaded.ensures.crash

@@ -1,0 +1,110 @@
+//! The tables that version 2 added: in a file of version 1 their names are free, in one of version 2 they are read.
+//! Files with such a damage: `tests/tables.py`. Wrong bodies: `must-fail/`.
+
+ghost use Rattle.std.specs.Prelude.{◌≡◌, ◌↔◌, [], IsTrue, None, MatchResult};
+ghost use Rattle.sqlite.specs.Held.{state};
+ghost use Rattle.sqlite.specs.State.{HasCleanDisk};
+ghost use Rattle.tables.specs.Schema.{AreFree, NoneRefersTo, later_tables, table_found};
+ghost use Rattle.loading.specs.Loading.{Justifies};
+ghost use Rattle.loading.specs.Reading.{AgreesIn, Blames, BlamesName, ReadsAs};
+ghost use Rattle.state_rows.specs.Rows.{request, outside_segment};
+ghost use Rattle.state_rows.specs.declared.edition.Edition.TheVariants.{Second};
+
+use crate::fault::{LoadFault, TableName};
+use crate::read_base::read_base;
+use crate::read_crew_base::read_crew_base;
+use crate::read_outside::read_outside;
+use crate::read_outside_segment::read_outside_segment;
+use roster::Roster;
+use sqlite::{Alter, Connection};
+use state_rows::Edition;
+use std::alloc::Global;
+use tables::book_schema::{has_table, is_unreferenced};
+
+/// Returns whether there is no record.
+pub(crate) fn is_none<T>(records: &[T]) -> bool
+    ensures { IsTrue result ↔ (records.now ≡ []) }
+{
+    records.is_empty()
+}
+
+/// Looks whether there is no record of this table.
+pub(crate) fn check_empty<T>(records: &[T], table: TableName) -> Result<(), LoadFault>
+    ensures { MatchResult result (λ _. records.now ≡ [])
+        (Blames table (records.now ≡ [] → ⊥)) }
+{
+    if is_none(records) {
+        Ok(())
+    } else {
+        Err(LoadFault::Damaged(table))
+    }
+}
+
+/// Returns whether no table has this name, and no foreign key refers to one of this name.
+fn is_name_free<S: Alter>(conn: &Connection<S>, name: &str) -> bool
+    ensures { IsTrue result ↔ (table_found (state S.Store conn.now).now.schema name.now ≡ None)
+        × NoneRefersTo name.now (state S.Store conn.now).now.schema }
+{
+    !has_table(conn, name) && is_unreferenced(conn, name)
+}
+
+/// Looks whether the names of the tables that version 2 added are free, in turn.
+fn check_names<S: Alter>(conn: &Connection<S>) -> Result<(), LoadFault>
+    ensures { MatchResult result
+        (λ _. AreFree later_tables (state S.Store conn.now).now.schema)
+        (BlamesName (state S.Store conn.now).now.schema) }
+{
+    if !is_name_free(conn, "base") {
+        return Err(LoadFault::Damaged(TableName::Base));
+    }
+    if !is_name_free(conn, "crew_base") {
+        return Err(LoadFault::Damaged(TableName::CrewBase));
+    }
+    if !is_name_free(conn, "outside") {
+        return Err(LoadFault::Damaged(TableName::Outside));
+    }
+    if !is_name_free(conn, "outside_segment") {
+        return Err(LoadFault::Damaged(TableName::OutsideSegment));
+    }
+    Ok(())
+}
+
+/// Reads the tables that version 2 added, after a roster was read of the others.
+fn read_later_tables<S: Alter>(
+    alloc: Global,
+    conn: &mut Connection<S>,
+    roster: &Roster,
+) -> Result<(), LoadFault>
+    requires { HasCleanDisk (state S.Store conn.old)
+        → AgreesIn Second request roster.now (state S.Store conn.old).now }
+    ensures { ReadsAs
+        (λ _. AgreesIn Second outside_segment roster.now (state S.Store conn.old).now)
+        (λ fault. Justifies fault (state S.Store conn.old).now) (state S.Store conn.old)
+        (state S.Store conn.new) result }
+{
+    read_base(alloc, conn, roster)?;
+    read_crew_base(alloc, conn, roster)?;
+    read_outside(alloc, conn, roster)?;
+    read_outside_segment(alloc, conn, roster)
+}
+
+/// Looks at the tables that version 2 added, after a roster was read of the others.
+pub(crate) fn read_later<S: Alter>(
+    alloc: Global,
+    conn: &mut Connection<S>,
+    roster: &Roster,
+    edition: Edition,
+) -> Result<(), LoadFault>
+    requires opened { HasCleanDisk (state S.Store conn.old) → IsTrue (state S.Store conn.old).is_open }
+    requires above { HasCleanDisk (state S.Store conn.old)
+        → AgreesIn edition request roster.now (state S.Store conn.old).now }
+    ensures { ReadsAs
+        (λ _. AgreesIn edition outside_segment roster.now (state S.Store conn.old).now)
+        (λ fault. Justifies fault (state S.Store conn.old).now) (state S.Store conn.old)
+        (state S.Store conn.new) result }
+{
+    match edition {
+        Edition::First => check_names(conn),
+        Edition::Second => read_later_tables(alloc, conn, roster),
+    }
+}
