@@ -1,5 +1,5 @@
 -- From what one command did to what is told of it.
-use Rattle.std.proofs.Common.{◌≡◌, ◌≤◌, arith, inl, inr, refl, sym, ap, subst, ◌∙◌, true, false, IsTrue, Result, Ok, Err, OnOk, OnErr, IfErr, IfOk}
+use Rattle.std.proofs.Common.{◌≡◌, ◌≤◌, arith, inl, inr, refl, sym, ap, subst, ◌∙◌, false, IsTrue, Result, Ok, Err, OnOk, OnErr, IfErr, IfOk}
 use Rattle.sqlite_trees.specs.Tree.{Trees}
 use Rattle.sqlite.specs.State as conn
 use Rattle.sqlite.specs.State.{HasCleanDisk}
@@ -11,7 +11,7 @@ use Rattle.roster.specs.Steps.{after}
 use Rattle.roster.specs.declared.change.Change.{Change}
 use Rattle.state_rows.specs.declared.fault.StoreFault.{StoreFault}
 use Rattle.state_rows.specs.declared.fault.StoreFault.TheVariants.{Store, Memory}
-use Rattle.lookup.specs.Reads.{ChangesNothing, IsCaused, IsOpen, IsReadFault, Shows}
+use Rattle.lookup.specs.Reads.{ChangesNothing, IsCausedIfStore, IsOpen, IsReadFault, Shows}
 use Rattle.writing.specs.Kept.{HoldBookOf, IsBookOf, KeepOthers}
 use Rattle.writing.specs.Next.{IsAcceptedChange}
 use Rattle.writing.specs.Outcomes.{CrashAddsNothing, CrashAddsOnly, HoldsNow, CrashLeaves, CrashLeavesSome, StaysOpen, StillShows, either, one}
@@ -62,19 +62,19 @@ adds_nothing_more old new P left = record { crash = λ clean trees may. inl (lef
 
 -- a fault of the reads of a book in a state has a cause
 pub read_fault : {A : Type 0} (old new : conn.State) (s : State) (result : Result A StoreFault) → (HasCleanDisk new → HasCleanDisk old) → Keeps old s → StillHolds old s →
-    IfErr result (IsReadFault old new) → IfErr result (IsCaused old new)
+    IfErr result (IsReadFault old new) → IfErr result (IsCausedIfStore old new)
 read_fault old new s (Ok a) disk keeps shown fault = tt
 read_fault old new s (Err fault) disk keeps shown is = λ clean. is s (shows_it old s keeps shown (disk clean)) clean
 
 -- what is answered where nothing is changed is no fault of the store
-pub no_fault : {A : Type 0} (old new : conn.State) (result : Result A StoreFault) → (HasCleanDisk new → is_store_fault result ≡ false) → IfErr result (IsCaused old new)
+pub no_fault : {A : Type 0} (old new : conn.State) (result : Result A StoreFault) → (HasCleanDisk new → is_store_fault result ≡ false) → IfErr result (IsCausedIfStore old new)
 no_fault old new (Ok a) none = tt
 no_fault old new (Err Store) none = λ clean is. absurd (let no = none clean in cc)
 no_fault old new (Err Memory) none = λ clean is. absurd (cc)
 
 -- a book means one state, whichever name that has
 pub of_same : {A : Type 0} (old new : conn.State) (it s : State) (asked : Asked) (result : Result A StoreFault) → (HasCleanDisk new → HasCleanDisk old) → (HasCleanDisk old → it ≡ s) →
-    MakesNoChange s asked → (MakesNoChange it asked → IfErr result (IsCaused old new)) → IfErr result (IsCaused old new)
+    MakesNoChange s asked → (MakesNoChange it asked → IfErr result (IsCausedIfStore old new)) → IfErr result (IsCausedIfStore old new)
 of_same old new it s asked (Ok a) disk same change caused = tt
 of_same old new it s asked (Err fault) disk same change caused = λ clean. caused (subst (λ (x : State). MakesNoChange x asked) (sym (same (disk clean))) change) clean
 

@@ -1,12 +1,12 @@
 -- What comes of whole lives of a book.
-use Rattle.std.proofs.Common.{◌≡◌, ◌≤◌, ◌⊎◌, inl, inr, refl, sym, ap, subst, ◌∙◌, arith, ℕ, zero, suc, ◌+◌, Bool, true, false, ◌||◌, cond, IsTrue, List, [], ◌∷◌, ◌++◌, drop, length, map, take, Option, Some, None, Result, Ok, Err}
+use Rattle.std.proofs.Common.{◌≡◌, ◌≤◌, ◌⊎◌, inl, inr, refl, sym, ap, subst, ◌∙◌, arith, ℕ, zero, suc, ◌+◌, Bool, true, false, ◌||◌, cond, IsTrue, List, [], ◌∷◌, ◌++◌, drop, length, map, take, Option, Some, None, Ok, Err}
 use Rattle.std.proofs.lemmas.List.{map-append}
-use Rattle.std.specs.List.{Contains}
 use Rattle.sqlite_trees.specs.Tree.{Trees}
 use Rattle.sqlite_trees.specs.declared.store.Store.{Ghosts}
 use Rattle.sqlite.specs.State as conn
 use Rattle.sqlite.specs.State.{HasCleanDisk}
-use Rattle.sqlite.specs.Held.{state}
+use Rattle.sqlite.specs.Effect.{Database}
+use Rattle.sqlite.specs.Held.{Held, state}
 use Rattle.command.specs.Instructions.{IsMade}
 use Rattle.roster.proofs.Accepted.{accepted, passed_each}
 use Rattle.roster.proofs.KeepsHonest.{keeps_honest}
@@ -27,12 +27,11 @@ use Rattle.writing.specs.Kept.{HoldBookOf}
 use Rattle.writing.specs.Outcomes.{CrashLeaves, CrashLeavesSome, either}
 use Rattle.book.specs.Kept.{Ends, IsClean, IsDurablyAt, IsKept, Keeps, Kept, either_kept, is_some_store_fault, result_of}
 use Rattle.book.specs.Headline.{IsHeld}
-use Rattle.book.specs.Lives.{ActOnce, AreCalls, AreDone, AreDoneInTurn, AreWithinLimits, Call, EachLifeHolds, GoesOn, IsCall, IsLeftOf, IsTakenUp, Life, in_turn, for_many, for_one, for_report, acknowledged, acknowledged_by, answers, answers_by, doubted_by, in_doubt, is_stopped}
+use Rattle.book.specs.Lives.{ActOnce, AreCalls, AreDone, AreDoneInTurn, AreRefused, AreWithinLimits, Call, EachLifeHolds, GoesOn, IsCall, IsFoundAt, IsMadeAt, IsRefusedOver, IsReopened, IsTakenUp, in_turn, for_many, for_one, for_report, acknowledged, acknowledged_by, answers, answers_by, doubted_by, in_doubt, is_stopped}
 use Rattle.book.specs.declared.answer.Answer.{Answer}
-use Rattle.book.specs.declared.answer.Run.{Run}
 use Rattle.book.proofs.Holding.{held_next, step_repeats}
 use Rattle.book.proofs.SessionLemmas.{take_whole}
-use Rattle.book.proofs.States.{one_held, one_of_either}
+use Rattle.book.proofs.States.{HoldEither, one_found, one_of_either}
 
 -- ---- Lists
 
@@ -339,10 +338,63 @@ one_of : (s t : State) (first second : List Asked) → either (Fold s first) (Fo
 one_of s t first second (inl is) = record { done = first; which = inl refl; fold = is }
 one_of s t first second (inr is) = record { done = second; which = inr refl; fold = is }
 
-module _ {S : Type 0} (g : Ghosts S) where
+-- An open connection leaves what it has committed, and nothing else: as stores promise.
+abbrev pub Settled : {S : Type 0} → Ghosts S → Type 0
+Settled {S} g = (it : S) (trees : Trees) → IsTrue (g.view it).is_open → g.recovers it trees → trees ≡ (g.view it).committed
+
+-- what a book was taken up over, at once or after openings that were refused: trees that a crash of the first connection left. It is in the
+-- state that they hold.
+pub record IsOver {S : Type 0} (g : Ghosts S) (stopped : Held S) (again : Kept S) : Type 0 where
+  pub clean : HasCleanDisk (state g stopped)
+  pub trees : Trees
+  pub left : (state g stopped).may_leave trees
+  pub fresh : again.failed ≡ false
+  pub some : CrashLeavesSome (state g again.held)
+  pub at : IsClean g again → (t : State) → HoldEither trees t → IsKept t → IsDurablyAt g again t
+
+module _ {S : Type 0} (g : Ghosts S) (settled : Settled g) where
+  taken_up_over : (stopped : Held S) (again : Kept S) → IsTakenUp g stopped again → IsOver g stopped again
+  taken_up_over stopped again up = record {
+    clean = up.clean;
+    trees = up.shown.trees;
+    left = up.left;
+    fresh = up.fresh;
+    some = up.kept.some;
+    at = λ clean t holds kept. subst (λ (x : State). IsDurablyAt g again x) (one_found up.shown up.it t (up.found clean) holds kept) up.kept;
+  }
+
+  -- an opening that was refused leaves of the trees that it was over the state that they hold
+  refused_holds : (before after : Held S) (it : IsRefusedOver g before after) → HasCleanDisk (state g after) → (trees : Trees) → (state g after).may_leave trees →
+      (t : State) → HoldEither (state g it.opened).now.trees t → IsKept t → HoldEither trees t
+  refused_holds before after it clean trees may t holds kept =
+      let raise = it.not_loaded.crash in
+      elim (raise.crash clean trees may) [
+        | inl was ↦
+            let opens = it.over.opens (raise.disk clean) in
+            let same : trees ≡ (state g it.opened).now.trees = settled it.opened.store trees opens.is_open was ∙ ap (λ (db : Database). db.trees) (sym opens.clean) in
+            subst (λ (x : Trees). HoldEither x t) (sym same) holds
+        | inr is ↦ inr (subst (HoldBookOf trees) (one_found (state g it.opened).now is.it t is.found holds kept) is.is)
+      ]
+
+  refused_over : (refusals : ℕ) (stopped last : Held S) (again : Kept S) → AreRefused g refusals stopped last → IsTakenUp g last again → IsOver g stopped again
+  refused_over zero stopped last again same up = taken_up_over stopped again (subst (λ (x : Held S). IsTakenUp g x again) same up)
+  refused_over (suc n) stopped last again (next, first, rest) up =
+      let more = refused_over n next last again rest up in
+      record {
+        clean = first.over.clean;
+        trees = (state g first.opened).now.trees;
+        left = first.over.left;
+        fresh = more.fresh;
+        some = more.some;
+        at = λ clean t holds kept. more.at clean t (refused_holds stopped next first more.clean more.trees more.left t holds kept) kept;
+      }
+
+  over : {stopped : Held S} {again : Kept S} → IsReopened g stopped again → IsOver g stopped again
+  over {stopped} {again} it = refused_over it.refusals stopped it.last again it.refused it.up
+
   clean_stopped : (later : List (List Call)) (stopped last : Kept S) → GoesOn g stopped later last → IsClean g last → IsClean g stopped
   clean_stopped [] stopped last on clean = subst (λ (b : Kept S). IsClean g b) on clean
-  clean_stopped (calls ∷ later) stopped last on clean = on.2.clean
+  clean_stopped (calls ∷ later) stopped last on clean = (over on.2).clean
 
   -- of one session, where a crash left this state
   module _ (calls : List Call) (old new : Kept S) (s t : State) (are : AreCalls g old calls new)
@@ -358,14 +410,6 @@ module _ {S : Type 0} (g : Ghosts S) where
       | inl is ↦ subst All (sym is) first_made
       | inr is ↦ subst All (sym is) (all_append (acknowledged calls) (in_doubt calls) first_made (all_in_doubt g calls old new are))
     ]
-
-  -- the state that a book was taken up with is the one that a crash left
-  taken_up_at : (stopped again : Kept S) (t : State) (up : IsTakenUp g stopped again) → IsClean g again → IsKept t → HoldBookOf up.shown.trees t → IsDurablyAt g again t
-  taken_up_at stopped again t up clean kept holds =
-      let found = up.found clean in
-      let same = one_held up.shown.trees up.it t (up.shown.schema, found.book) holds
-      (record { sound = found.sound; instants = found.instants }) kept in
-      subst (λ (x : State). IsDurablyAt g again x) same up.kept
 
   lived : (later : List (List Call)) (calls : List Call) (old stopped last : Kept S) (s : State) → old.failed ≡ false → IsDurablyAt g old s → AreCalls g old calls stopped →
       GoesOn g stopped later last → HasCleanDisk (state g last.held) → (trees : Trees) → (state g last.held).may_leave trees → IsLived trees s (calls ∷ later)
@@ -384,12 +428,12 @@ module _ {S : Type 0} (g : Ghosts S) where
       }
   lived (more ∷ later) calls old stopped last s fresh at are on clean trees may =
       let again = on.0 in
-      let up = on.2 in
-      let it = (reaches g calls old stopped s fresh at are).crash up.clean up.shown.trees up.left in
+      let up = over on.2 in
+      let it = (reaches g calls old stopped s fresh at are).crash up.clean up.trees up.left in
       let x = one_of s it.0 (acknowledged calls) (acknowledged calls ++ in_doubt calls) it.1.0 in
       let again_clean = clean_before g more again on.1 on.3 (clean_stopped later on.1 last on.4 clean) in
       let begun : IsDurablyAt g again (Fold s x.done) = subst (λ (y : State). IsDurablyAt g again y) x.fold
-      (taken_up_at stopped again it.0 up again_clean it.1.1 it.2) in
+      (up.at again_clean it.0 (inr it.2) it.1.1) in
       let rest = lived later more again on.1 last (Fold s x.done) up.fresh begun on.3 on.4 clean trees may in
       record {
         left = rest.left;
@@ -427,7 +471,7 @@ call_leaves g (for_one asked result) old new is = is.1.some_left
 call_leaves g (for_many commands run) old new is = is.1.some_left
 call_leaves g (for_report fault) old new is = is.some_left
 
-module _ {S : Type 0} (g : Ghosts S) where
+module _ {S : Type 0} (g : Ghosts S) (settled : Settled g) where
   calls_leave : (calls : List Call) (old new : Kept S) → CrashLeavesSome (state g old.held) → AreCalls g old calls new → CrashLeavesSome (state g new.held)
   calls_leave [] old new some are = subst (λ (b : Kept S). CrashLeavesSome (state g b.held)) (sym are) some
   calls_leave (call ∷ calls) old new some are = calls_leave calls are.0 new (call_leaves g call old are.0 are.1) are.2
@@ -435,31 +479,46 @@ module _ {S : Type 0} (g : Ghosts S) where
   sessions_leave : (later : List (List Call)) (stopped last : Kept S) → CrashLeavesSome (state g stopped.held) → GoesOn g stopped later last → CrashLeavesSome (state g last.held)
   sessions_leave [] stopped last some on = subst (λ (b : Kept S). CrashLeavesSome (state g b.held)) (sym on) some
   sessions_leave (calls ∷ later) stopped last some on =
-      sessions_leave later on.1 last (calls_leave calls on.0 on.1 on.2.kept.some on.3) on.4
+      sessions_leave later on.1 last (calls_leave calls on.0 on.1 (over g settled on.2).some on.3) on.4
+
+  -- a book begins as one that was made, or taken up from a file
+  begins : (begin : State) (made : Kept S) → IsMadeAt g begin made ⊎ IsFoundAt g begin made → IsMadeAt g begin made
+  begins begin made (inl is) = is
+  begins begin made (inr (file, keeps, up)) =
+      let it = over g settled up in
+      let at = λ (clean : IsClean g made). it.at clean begin (keeps.leaves.crash it.clean it.trees it.left) (keeps.kept it.clean) in (
+        it.fresh,
+        record {
+          kept = λ clean. (at clean).kept clean;
+          leaves = record { crash = λ clean. (at clean).leaves.crash clean };
+          some = it.some;
+        },
+      )
 
 -- ---- Whole lives
 
-pub each_life_holds : {S : Type 0} (g : Ghosts S) → EachLifeHolds g
-each_life_holds g begin calls later last life = (
-  record {
-    crash = λ clean trees may.
-        let it = lived g later calls life.made life.left last begin life.fresh life.kept life.first life.more clean trees may in
-        let done = in_turn it.done in
-        let was_clean = clean_before g calls life.made life.left life.first (clean_stopped g later life.left last life.more clean) in (
-          it.left,
-          record {
-            done = it.done;
-            are = it.are;
-            fold = it.fold;
-            within_limits = are_within_limits begin done;
-            once = acts_once begin done;
-            held = λ asked reply held. subst (λ (t : State). IsHeld t asked reply) (sym it.fold)
-                (keeps_requests begin asked.0 (record { command = asked.1; reply = reply }) done held);
-            honest = λ honest. subst Honest (sym it.fold)
-                (stays_honest keeps_sound keeps_honest begin done (each_of done it.made) (life.kept.kept was_clean).sound honest);
-          },
-          it.holds,
-        );
-  },
-  sessions_leave g later life.left last (calls_leave g calls life.made life.left life.kept.some life.first) life.more,
-)
+pub each_life_holds : {S : Type 0} (g : Ghosts S) → Settled g → EachLifeHolds g
+each_life_holds g settled begin calls later last life =
+    let begun = begins g settled begin life.made life.begun in (
+      record {
+        crash = λ clean trees may.
+            let it = lived g settled later calls life.made life.left last begin begun.0 begun.1 life.first life.more clean trees may in
+            let done = in_turn it.done in
+            let was_clean = clean_before g calls life.made life.left life.first (clean_stopped g settled later life.left last life.more clean) in (
+              it.left,
+              record {
+                done = it.done;
+                are = it.are;
+                fold = it.fold;
+                within_limits = are_within_limits begin done;
+                once = acts_once begin done;
+                held = λ asked reply held. subst (λ (t : State). IsHeld t asked reply) (sym it.fold)
+                    (keeps_requests begin asked.0 (record { command = asked.1; reply = reply }) done held);
+                honest = λ honest. subst Honest (sym it.fold)
+                    (stays_honest keeps_sound keeps_honest begin done (each_of done it.made) (begun.1.kept was_clean).sound honest);
+              },
+              it.holds,
+            );
+      },
+      sessions_leave g settled later life.left last (calls_leave g settled calls life.made life.left begun.1.some life.first) life.more,
+    )

@@ -1,7 +1,6 @@
 -- Commands in turn, up to one more.
 use Rattle.std.proofs.Common.{◌≡◌, ◌<◌, ℕ, zero, suc, ◌+◌, List, [], ◌∷◌, ◌++◌, Result, length, take, get_or, refl, ap, subst, sym, add-one, arith, inl, inr, Ok, Err, OnOk}
 use Rattle.sqlite.specs.State as conn
-use Rattle.sqlite.specs.State.{HasCleanDisk}
 use Rattle.roster.specs.Folds.{Asked, Fold, Replies, ReplyOrRefusal, answer_of, next}
 use Rattle.roster.specs.Honest.{Honest}
 use Rattle.roster.specs.State.{State}

@@ -1,5 +1,5 @@
 -- A state that tables may mean stays one after each command, and is the only one that they mean.
-use Rattle.std.proofs.Common.{◌≡◌, inl, inr, refl, sym, ap, subst, ◌∙◌, ℕ, true, cond, List, Some, None}
+use Rattle.std.proofs.Common.{◌≡◌, ◌⊎◌, inl, inr, refl, sym, ap, subst, ◌∙◌, ℕ, true, cond, List, Some, None}
 use Rattle.std.specs.FinMap as fin
 use Rattle.std.specs.Ordering.{eq_by_cmp}
 use Rattle.std.proofs.Math.Logic.{∥∥₁_elim}
@@ -12,7 +12,7 @@ use Rattle.sqlite_trees.specs.Tree.{Trees}
 use Rattle.sqlite_catalog.proofs.ReadLemmas.{lists_once}
 use Rattle.sqlite.specs.State as conn
 use Rattle.sqlite.specs.State.{HasCleanDisk}
-use Rattle.sqlite.specs.Effect.{Database}
+use Rattle.sqlite.specs.Effect.{Database, IsDatabase}
 use Rattle.command.specs.Keys.{KeyParts, key_name}
 use Rattle.command.specs.Instructions.{IsMade}
 use Rattle.command.specs.declared.exceedance.Reply.{Reply}
@@ -35,12 +35,15 @@ use Rattle.roster.specs.contracts.state.Roster as roster_type
 use Rattle.roster.specs.declared.change.Verdict.{Verdict}
 use Rattle.roster.specs.declared.change.Verdict.TheVariants.{Accept, Refuse, Repeat}
 use Rattle.roster.specs.declared.state.LoggedCommand.{LoggedCommand}
-use Rattle.loading.specs.SameRows.{HasInstants}
+use Rattle.loading.specs.SameRows.{EitherRows, HasInstants}
+use Rattle.loading.proofs.SameEditions.{database_holds_one_of_either}
 use Rattle.loading.proofs.SameStates.{database_holds_one_state}
+use Rattle.state_rows.specs.Rows.{FirstRows, Rows}
 use Rattle.store.specs.Found.{IsFound}
-use Rattle.writing.specs.Kept.{IsBookOf, HoldBookOf}
-use Rattle.writing.specs.Outcomes.{CrashAddsNothing, HoldsNow, CrashLeaves, CrashLeavesSome, StillShows, either, one}
-use Rattle.book.specs.Kept.{IsKept, Keeps, StillHolds, either_kept}
+use Rattle.store.specs.Loaded.{CrashMayMigrate, IsLoaded}
+use Rattle.writing.specs.Kept.{IsBookOf, IsFirstBookOf, HoldBookOf, HoldFirstBookOf}
+use Rattle.writing.specs.Outcomes.{CrashAddsNothing, HoldsNow, CrashLeaves, CrashLeavesSome, either, one}
+use Rattle.book.specs.Kept.{IsKept, Keeps, KeepsEither, StillHolds, either_kept}
 
 some_same : {A : Type 0} {a b : A} → Some a ≡ Some b → a ≡ b
 some_same e = cc
@@ -68,6 +71,32 @@ one_held trees s t p q a b =
     let first : IsBookOf s (record { schema = q.0; trees = trees }) = subst (λ (schema : Schema). IsBookOf s (record { schema = schema; trees = trees })) same p.1 in
     database_holds_one_state s t (record { schema = q.0; trees = trees }) a.sound b.sound a.instants b.instants first.rows q.1.rows
 
+-- trees hold this state, in version 1 or 2
+abbrev pub HoldEither : Trees → State → Type 0
+HoldEither trees t = HoldFirstBookOf trees t ⊎ HoldBookOf trees t
+
+rows_here : (schema : Schema) (trees : Trees) (t : State) → IsDatabase (record { schema = schema; trees = trees }) → HoldEither trees t → EitherRows t (record { schema = schema; trees = trees })
+rows_here schema trees t database (inl p) =
+    let same : p.0 ≡ schema = lists_once (trees catalog_tree) p.0 schema p.1.database.lists database.lists in
+    inl (subst (λ (it : Schema). FirstRows t (record { schema = it; trees = trees })) same p.1.rows)
+rows_here schema trees t database (inr p) =
+    let same : p.0 ≡ schema = lists_once (trees catalog_tree) p.0 schema p.1.database.lists database.lists in
+    inr (subst (λ (it : Schema). Rows t (record { schema = it; trees = trees })) same p.1.rows)
+
+found_rows : (s : State) (db : Database) → IsFirstBookOf s db ⊎ IsBookOf s db → EitherRows s db
+found_rows s db (inl is) = inl is.rows
+found_rows s db (inr is) = inr is.rows
+
+found_database : (s : State) (db : Database) → IsFirstBookOf s db ⊎ IsBookOf s db → IsDatabase db
+found_database s db (inl is) = is.database
+found_database s db (inr is) = is.database
+
+-- what is found in trees is the state that they hold
+pub one_found : (db : Database) (s t : State) → IsFound s db → HoldEither db.trees t → IsKept t → s ≡ t
+one_found db s t found holds kept =
+    database_holds_one_of_either s t db found.sound kept.sound found.instants kept.instants (found_rows s db found.book)
+    (rows_here db.schema db.trees t (found_database s db found.book) holds)
+
 pub one_state : (s t : State) → IsProp (s ≡ t)
 one_state s t = Coded-set (roster_type.the_row).coded s t
 
@@ -94,6 +123,50 @@ pub loaded : (now : conn.State) (s : State) {db : Database} → (HasCleanDisk no
 loaded now s found leaves some = record {
   kept = λ clean. record { sound = (found clean).sound; instants = (found clean).instants };
   leaves = leaves;
+  some = some;
+}
+
+-- a book that was loaded is in the state that a crash could have left, in version 1 or 2
+pub loaded_keeps : (old new : conn.State) (s r : State) → IsLoaded old new r → KeepsEither old s → Keeps new s
+loaded_keeps old new s r it keeps = record {
+  kept = λ clean. keeps.kept (it.disk clean);
+  leaves = record {
+    crash = λ clean trees may.
+        let one = it.crash.crash clean trees may in
+        (one.0, one.1 ∙ one_found old.now r s (it.found clean) (keeps.leaves.crash (it.disk clean) old.now.trees (it.left clean)) (keeps.kept (it.disk clean)), one.2);
+  };
+  some = it.some_left;
+}
+
+-- where it was refused, a crash leaves that state still, in version 1 or 2
+pub refused_keeps : (old new : conn.State) (s : State) (some : CrashLeavesSome new) → CrashMayMigrate old new → KeepsEither old s → KeepsEither new s
+refused_keeps old new s some raise keeps = record {
+  kept = λ clean. keeps.kept (raise.disk clean);
+  leaves = record {
+    crash = λ clean trees may. elim (raise.crash clean trees may) [
+      | inl was ↦ keeps.leaves.crash (raise.disk clean) trees was
+      | inr is ↦
+          let before = raise.disk clean in
+          inr (subst (HoldBookOf trees) (one_found old.now is.it s is.found (keeps.leaves.crash before old.now.trees is.left) (keeps.kept before)) is.is)
+    ];
+  };
+  some = some;
+}
+
+-- and where it left that state in version 2 alone, it does so still
+pub refused_still : (old new : conn.State) (s : State) (some : CrashLeavesSome new) → CrashMayMigrate old new → Keeps old s → Keeps new s
+refused_still old new s some raise keeps = record {
+  kept = λ clean. keeps.kept (raise.disk clean);
+  leaves = record {
+    crash = λ clean trees may. elim (raise.crash clean trees may) [
+      | inl was ↦ keeps.leaves.crash (raise.disk clean) trees was
+      | inr is ↦
+          let before = raise.disk clean in
+          let at = keeps.leaves.crash before old.now.trees is.left in
+          let holds = subst (HoldBookOf old.now.trees) at.1 at.2 in
+          (s, refl, subst (HoldBookOf trees) (one_found old.now is.it s is.found (inr holds) (keeps.kept before)) is.is)
+    ];
+  };
   some = some;
 }
 

@@ -13,7 +13,7 @@ use Rattle.roster.specs.Steps.{step_of}
 use Rattle.roster.specs.declared.change.Verdict.TheVariants.{Refuse}
 use Rattle.state_rows.specs.declared.fault.StoreFault.{StoreFault}
 use Rattle.state_rows.specs.declared.fault.StoreFault.TheVariants.{Store, Memory}
-use Rattle.lookup.specs.Reads.{ChangesNothing, IsCaused}
+use Rattle.lookup.specs.Reads.{ChangesNothing, IsCausedIfStore}
 use Rattle.writing.specs.Kept.{KeepOthers}
 use Rattle.writing.specs.Outcomes.{CrashAddsOnly, CrashLeaves, CrashLeavesSome, StaysOpen}
 use Rattle.book.specs.Headline.{BreaksNoLimit, IsAcceptance, IsHeld, IsRefusal, KeepsHeld}
@@ -47,7 +47,7 @@ pub record IsAnswered {S : Type 0} (g : Ghosts S) (old new : Kept S) (asked : As
   -- Where the command makes no change, the tables are only read: then a fault of the store (90)
   -- has a cause. Where it makes one, no cause of a fault of the commit is told.
   pub caused : (s : State) → IsDurablyAt g old s → MakesNoChange s asked → old.failed ≡ false →
-      IfErr result (IsCaused (state g old.held) (state g new.held))
+      IfErr result (IsCausedIfStore (state g old.held) (state g new.held))
   -- a crash in any session, and what is still shown after a fault
   pub sessions : (s : State) (before : List Session) → IsDurablyAt g old (Stopped s before) →
       CrashLeaves (state g new.held)

@@ -9,7 +9,8 @@ use Rattle.writing.specs.Kept.{KeepOthers}
 use Rattle.writing.specs.Outcomes.{CrashAddsOnly, CrashLeaves, CrashLeavesSome, HoldsNow, StaysOpen}
 use Rattle.book.specs.Kept.{Keeps, StillHolds, either_kept}
 
--- the tables became those of the state that was wanted, they stayed, or they are of one of the two
+-- What the result of a command leaves: the tables of the state that was wanted; after want of
+-- memory (91) those of the state that was; after a fault of the store (90) those of one of the two.
 abbrev pub Done : {A : Type 0} →
     conn.State → conn.State → State → State → Result A StoreFault → Type 0
 Done old new was wanted (Ok a) =

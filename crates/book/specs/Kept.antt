@@ -14,7 +14,8 @@ use Rattle.state_rows.specs.declared.fault.StoreFault.{StoreFault}
 use Rattle.state_rows.specs.declared.fault.StoreFault.TheVariants.{Store, Memory}
 use Rattle.store.specs.Found.{IsFound}
 use Rattle.writing.specs.Kept.{IsBookOf}
-use Rattle.writing.specs.Outcomes.{CrashLeaves, CrashLeavesSome, HoldsNow, one, either}
+use Rattle.writing.specs.Outcomes.{CrashLeaves, CrashLeavesEither, CrashLeavesSome}
+use Rattle.writing.specs.Outcomes.{HoldsNow, one, either}
 use Rattle.book.specs.declared.answer.Answer.{Answer}
 use Rattle.book.specs.declared.answer.Answer.TheVariants.{Accepted, Refused}
 
@@ -57,6 +58,13 @@ pub record Keeps (now : conn.State) (s : State) : Type 0 where
   pub leaves : CrashLeaves now (one s)
   pub some : CrashLeavesSome now
 
+-- a crash leaves the book in this state, which tables may mean, in version 1 or in version 2, and
+-- nothing else
+pub record KeepsEither (now : conn.State) (s : State) : Type 0 where
+  pub kept : HasCleanDisk now → IsKept s
+  pub leaves : CrashLeavesEither now s
+  pub some : CrashLeavesSome now
+
 -- a crash leaves some state, which tables may mean, and nothing else; and the tables of the
 -- connection mean it, as long as it is open
 pub record HasOne (now : conn.State) : Type 0 where
@@ -77,7 +85,8 @@ module _ {S : Type 0} (g : Ghosts S) (book : Kept S) where
   abbrev pub StillHasTables : State → Type 0
   StillHasTables s = StillHolds (state g book.held) s
 
--- a book in some state was found; it is shown still, and a crash leaves that state and nothing else
+-- a book in some state was found, in version 1 or 2; it is shown now in version 2, and a crash
+-- leaves that state and nothing else
 pub record HasFoundBook (old now : conn.State) : Type 0 where
   pub it : State
   pub found : HasCleanDisk now → IsFound it old.now

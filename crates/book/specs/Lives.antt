@@ -1,11 +1,13 @@
--- Whole lives of a book: it is made or found, asked, stopped anywhere, taken up again over what a
--- crash left, and asked again.
-use Rattle.std.specs.Prelude.{◌≡◌, ℕ, Bool, true, false, if◌then◌else◌, ◌||◌, IsTrue, ◌⊎◌, ◌↔◌}
-use Rattle.std.specs.Prelude.{List, [], ◌∷◌, ◌++◌, drop, length, map, take, Option, Result, Ok, Err}
+-- Whole lives of a book: it is made, or found in version 1 or 2; asked; stopped anywhere; taken up
+-- again over what a crash left, where an opening may be stopped too; and asked again.
+use Rattle.std.specs.Prelude.{◌≡◌, ℕ, zero, suc, Bool, true, false, if◌then◌else◌, ◌||◌, IsTrue}
+use Rattle.std.specs.Prelude.{◌⊎◌, ◌↔◌, List, [], ◌∷◌, ◌++◌, drop, length, map, take}
+use Rattle.std.specs.Prelude.{Option, Result, Ok, Err}
 use Rattle.std.specs.List.{flat_map}
 use Rattle.sqlite_trees.specs.declared.store.Store.{Ghosts}
 use Rattle.sqlite.specs.Effect.{Database}
-use Rattle.sqlite.specs.Held.{state}
+use Rattle.sqlite.specs.Held.{Held, state}
+use Rattle.sqlite.specs.State.{HasCleanDisk, Opens}
 use Rattle.command.specs.Instructions.{IsMade}
 use Rattle.command.specs.declared.exceedance.Reply.{Reply}
 use Rattle.roster.specs.Folds.{Asked, Fold, Replies, answer_of}
@@ -15,11 +17,13 @@ use Rattle.roster.specs.State.{State}
 use Rattle.roster.specs.Steps.{step_of}
 use Rattle.roster.specs.declared.change.Verdict.TheVariants.{Repeat}
 use Rattle.state_rows.specs.declared.fault.StoreFault.{StoreFault}
+use Rattle.loading.specs.declared.fault.LoadFault.{LoadFault}
 use Rattle.store.specs.Found.{IsFound}
+use Rattle.store.specs.Loaded.{IsNotLoaded}
 use Rattle.writing.specs.Outcomes.{CrashLeaves, CrashLeavesSome}
 use Rattle.book.specs.Answered.{IsAnswered}
 use Rattle.book.specs.Headline.{BreaksNoLimit, IsHeld}
-use Rattle.book.specs.Kept.{IsClean, IsDurablyAt, Kept}
+use Rattle.book.specs.Kept.{IsClean, IsDurablyAt, Kept, KeepsEither}
 use Rattle.book.specs.Kept.{is_some_store_fault, is_store_fault, result_of}
 use Rattle.book.specs.Ran.{HasRun}
 use Rattle.book.specs.declared.answer.Answer.{Answer}
@@ -41,20 +45,21 @@ acknowledged_by (for_one asked (Err fault)) = []
 acknowledged_by (for_many commands run) = take (length run.answers.items) commands
 acknowledged_by (for_report fault) = []
 
--- its answers to them
+-- the answers of the call to the commands that it acknowledged
 abbrev pub answers_by : Call → List Answer
 answers_by (for_one asked (Ok answer)) = answer ∷ []
 answers_by (for_one asked (Err fault)) = []
 answers_by (for_many commands run) = run.answers.items
 answers_by (for_report fault) = []
 
--- it met a fault of the store (90)
+-- the call met a fault of the store (90)
 abbrev pub is_stopped : Call → Bool
 is_stopped (for_one asked result) = is_store_fault result
 is_stopped (for_many commands run) = is_some_store_fault run.fault
 is_stopped (for_report fault) = is_some_store_fault fault
 
--- then one command was in work, if there was one: it is done or not
+-- the command that was in work when the call met a fault of the store, if there was one: it is done
+-- or not
 abbrev pub doubted_by : Call → List Asked
 doubted_by (for_one asked result) = asked ∷ []
 doubted_by (for_many commands run) = take 1 (drop (length run.answers.items) commands)
@@ -64,11 +69,11 @@ doubted_by (for_report fault) = []
 abbrev pub acknowledged : List Call → List Asked
 acknowledged calls = flat_map acknowledged_by calls
 
--- with which answers
+-- the answers to what the calls of a session acknowledged
 abbrev pub answers : List Call → List Answer
 answers calls = flat_map answers_by calls
 
--- what was in work when the store failed
+-- the command that was in work when the store failed in a session, if there was one
 abbrev pub in_doubt : List Call → List Asked
 in_doubt [] = []
 in_doubt (call ∷ calls) = if is_stopped call then doubted_by call else in_doubt calls
@@ -89,7 +94,7 @@ module _ {S : Type 0} (g : Ghosts S) where
   IsCall old (for_many commands run) new = AreMade commands × HasRun g old new commands run
   IsCall old (for_report fault) new = HasReported old new fault
 
-  -- it was called so in turn
+  -- a book was called so in turn, and is the new one then
   abbrev pub AreCalls : Kept S → List Call → Kept S → Type 0
   AreCalls old [] new = new ≡ old
   AreCalls old (call ∷ calls) new = (next : Kept S) × IsCall old call next × AreCalls next calls new
@@ -97,33 +102,71 @@ module _ {S : Type 0} (g : Ghosts S) where
 -- ---- Lives
 
 module _ {S : Type 0} (g : Ghosts S) where
-  -- a book was stopped, and `Book::adopt` took it up again over what a crash left of it: as its
+  -- a connection was opened over what a crash left of another
+  pub record IsOpenedOver (before opened : Held S) : Type 0 where
+    -- the disk of the other had returned what was written
+    pub clean : HasCleanDisk (state g before)
+    -- the new one shows what the crash left
+    pub left : (state g before).may_leave (state g opened).now.trees
+    -- nothing is done in it yet: as the clauses of `sqlite` say of a connection that is opened
+    pub opens : HasCleanDisk (state g opened) → Opens (state g opened)
+
+  -- a connection was opened over what a crash left of another, and `Book::adopt` took no book of
+  -- it: as its clause `not_loaded` says
+  pub record IsRefusedOver (before after : Held S) : Type 0 where
+    pub opened : Held S
+    pub over : IsOpenedOver before opened
+    pub fault : LoadFault
+    pub not_loaded : IsNotLoaded (state g opened) (state g after) fault
+
+  -- so many openings took no book, in turn, each over what a crash left of the one before it
+  abbrev pub AreRefused : ℕ → Held S → Held S → Type 0
+  AreRefused zero before last = last ≡ before
+  AreRefused (suc n) before last =
+      (next : Held S) × IsRefusedOver before next × AreRefused n next last
+
+  -- a connection was stopped, and `Book::adopt` took up a book over what a crash left of it: as its
   -- clauses `fresh` and `means` say
-  pub record IsTakenUp (stopped again : Kept S) : Type 0 where
+  pub record IsTakenUp (stopped : Held S) (again : Kept S) : Type 0 where
     -- what the new connection showed, and the state that was found in it
     pub shown : Database
     pub it : State
-    pub left : (state g stopped.held).may_leave shown.trees
+    pub left : (state g stopped).may_leave shown.trees
     -- the disk had returned what was written
-    pub clean : IsClean g stopped
+    pub clean : HasCleanDisk (state g stopped)
     pub fresh : again.failed ≡ false
     pub found : IsClean g again → IsFound it shown
     pub kept : IsDurablyAt g again it
 
-  -- more sessions, each over what a crash left of the one before
+  -- a connection was stopped, and a book was taken up over it, at once or after some openings that
+  -- took no book
+  pub record IsReopened (stopped : Held S) (again : Kept S) : Type 0 where
+    pub refusals : ℕ
+    pub last : Held S
+    pub refused : AreRefused refusals stopped last
+    pub up : IsTakenUp last again
+
+  -- a book had more sessions, each over what a crash left of the one before; it is the last one then
   abbrev pub GoesOn : Kept S → List (List Call) → Kept S → Type 0
   GoesOn stopped [] last = last ≡ stopped
   GoesOn stopped (calls ∷ later) last =
       (again : Kept S) × (left : Kept S)
-      × IsTakenUp stopped again × AreCalls g again calls left × GoesOn left later last
+      × IsReopened stopped.held again × AreCalls g again calls left × GoesOn left later last
 
-  -- a life: a book was durably at this state, as `Book::create` and `Book::adopt` make one; it was
-  -- called so in its first session, and so in later ones; it is the last one now
+  -- a book is durably at this state, as `Book::create` makes one, and `Book::adopt`
+  abbrev pub IsMadeAt : State → Kept S → Type 0
+  IsMadeAt begin made = (made.failed ≡ false) × IsDurablyAt g made begin
+
+  -- a book was taken up from a file that held this state, in version 1 or 2
+  abbrev pub IsFoundAt : State → Kept S → Type 0
+  IsFoundAt begin made = (file : Held S) × KeepsEither (state g file) begin × IsReopened file made
+
+  -- a life: a book was made at this state, or found at it; it was called so in its first session,
+  -- and so in later ones; it is the last one now
   pub record Life (begin : State) (calls : List Call) (later : List (List Call))
       (last : Kept S) : Type 0 where
     pub made : Kept S
-    pub fresh : made.failed ≡ false
-    pub kept : IsDurablyAt g made begin
+    pub begun : IsMadeAt begin made ⊎ IsFoundAt begin made
     pub left : Kept S
     pub first : AreCalls g made calls left
     pub more : GoesOn left later last
@@ -136,7 +179,8 @@ pub record AreDone (s : State) (calls : List Call) (done : List Asked) : Type 0 
   pub all : (done ≡ acknowledged calls) ⊎ (done ≡ acknowledged calls ++ in_doubt calls)
   pub replies : map result_of (answers calls) ≡ Replies s (acknowledged calls)
 
--- of sessions in turn, each begun in the state that the one before it left
+-- the commands that some sessions left done, in turn, each begun in the state that the one before
+-- it left
 abbrev pub AreDoneInTurn : State → List (List Call) → List (List Asked) → Type 0
 AreDoneInTurn s [] [] = Unit {0}
 AreDoneInTurn s [] (done ∷ more) = ⊥

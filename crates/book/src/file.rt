@@ -6,8 +6,8 @@ ghost use Rattle.sqlite_wal.specs.Files.{image_at};
 ghost use Rattle.sqlite.specs.Files.{IsOpened, file_state, over_files};
 ghost use Rattle.sqlite.specs.Held.{state};
 ghost use Rattle.sqlite.specs.Start.{FindsIn};
-ghost use Rattle.sqlite.specs.State.{HasCleanDisk, IsUnchanged};
-ghost use Rattle.writing.specs.Outcomes.{CrashAddsNothing, IsOutside};
+ghost use Rattle.sqlite.specs.State.{HasCleanDisk};
+ghost use Rattle.writing.specs.Outcomes.{IsOutside};
 ghost use Rattle.book.specs.Kept.{IsClean, HasFoundBook};
 ghost use Rattle.book.specs.Found.{MeansWhatIsIn};
 
@@ -23,9 +23,9 @@ use time117::Zone;
 pub type FileBook = Book<FileStore<FileFrom<Wary>>>;
 
 impl<S: Start> Book<FileStore<FileFrom<S>>> {
-    /// Opens the file of a path and takes up the book in it, as [`Book::adopt`] does. A file that isn't there is no book (40),
-    /// and isn't made; one that `sqlite` doesn't open is 90, or 91 where it finds no memory. `start` stands for what the files
-    /// hold.
+    /// Opens the file of a path and takes up the book in it, as [`Book::adopt`] does: one of version 1 becomes one of version 2.
+    /// A file that isn't there is no book (40), and isn't made; one that `sqlite` doesn't open is 90, or 91 where it finds no
+    /// memory. `start` stands for what the files hold.
     pub fn open_from(
         rt: &HostRuntime,
         path: &str,
@@ -88,10 +88,7 @@ fn adopted<S: Alter + Drop>(alloc: Global, conn: Connection<S>) -> Result<Book<S
     requires { IsOutside (state S.Store conn) }
     ensures fresh { IfOk result (λ b. b.failed ≡ false) }
     ensures means { IfOk result (λ b. HasFoundBook (state S.Store conn) (state S.Store b.held)) }
-    ensures unchanged { IfOk result
-        (λ b. IsClean S.Store b → IsUnchanged (state S.Store conn) (state S.Store b.held)) }
-    ensures nothing_new { IfOk result
-        (λ b. CrashAddsNothing (state S.Store conn) (state S.Store b.held)) }
+    ensures disk { IfOk result (λ b. IsClean S.Store b → HasCleanDisk (state S.Store conn)) }
 {
     match Book::adopt(alloc, conn) {
         Ok(book) => Ok(book),

@@ -11,7 +11,7 @@ ghost use Rattle.command.specs.declared.refusal.Refusal.{Refusal};
 ghost use Rattle.roster.specs.Folds.{answer_of, next};
 ghost use Rattle.roster.specs.State.{State, empty};
 ghost use Rattle.roster.specs.Steps.{step_of};
-ghost use Rattle.lookup.specs.Reads.{ChangesNothing, IsCaused, IsOpen};
+ghost use Rattle.lookup.specs.Reads.{ChangesNothing, IsCausedIfStore, IsOpen};
 ghost use Rattle.writing.specs.Commits.{AreTablesMade, IsNotMade};
 ghost use Rattle.writing.specs.Making.{IsFree};
 ghost use Rattle.writing.specs.Outcomes.{CrashAddsNothing, IsOutside, CrashLeavesSome, StaysOpen, StillShows};
@@ -19,9 +19,10 @@ ghost use Rattle.book.specs.Answered.{IsAnswered};
 ghost use Rattle.book.specs.Ran.{HasRun};
 ghost use Rattle.book.specs.Asking.{StepOutcome};
 ghost use Rattle.book.specs.Headline.{IsRefusal, MakesNoChange, SparesOthers, Untouched};
-ghost use Rattle.store.specs.Loaded.{IsNotLoaded};
+ghost use Rattle.store.specs.Loaded.{IsOfFirst, IsNotLoaded};
 ghost use Rattle.store.specs.Shown.{IsShown};
-ghost use Rattle.book.specs.Kept.{HasOne, HasTables, IsDurablyAt, IsClean, Keeps, HasFoundBook, StillHolds, is_store_fault, result_of};
+ghost use Rattle.book.specs.Kept.{HasOne, HasTables, IsDurablyAt, IsClean, Keeps, KeepsEither, HasFoundBook, StillHolds};
+ghost use Rattle.book.specs.Kept.{is_store_fault, result_of};
 
 use crate::answer::{Answer, Run};
 use command::{Command, Instruction, Key};
@@ -94,30 +95,34 @@ impl<S: Alter> Book<S> {
         }
     }
 
-    /// Takes up the book that a crash or anybody left, and changes nothing. Refused is what [`Store::load`] refuses (40, 41,
-    /// 42, 90, 91); then the connection is handed back.
+    /// Takes up the book that a crash or anybody left. One of version 1 becomes one of version 2, in one transaction; of one
+    /// of version 2 nothing is changed. Refused is what [`Store::load`] refuses (40, 41, 42, 90, 91); then the connection is
+    /// handed back, and the book that a crash leaves is still the one that was there.
     pub fn adopt(alloc: Global, conn: Connection<S>) -> Result<Book<S>, (LoadFault, Connection<S>)>
         // No transaction is begun.
         requires { IsOutside (state S.Store conn) }
 
-        // The book: it has not failed, and is the one that was found, with nothing changed.
+        // The book: it has not failed, and is the one that was found; of one of version 2 nothing is changed.
         ensures fresh { IfOk result (λ b. b.failed ≡ false) }
         ensures means { IfOk result (λ b. HasFoundBook (state S.Store conn)
             (state S.Store b.held)) }
-        ensures kept { (s : State) → Keeps (state S.Store conn) s
+        ensures kept { (s : State) → KeepsEither (state S.Store conn) s
             → IfOk result (λ b. IsDurablyAt S.Store b s) }
-        ensures nothing_new { IfOk result
-            (λ b. CrashAddsNothing (state S.Store conn) (state S.Store b.held)) }
-        ensures unchanged { IfOk result
-            (λ b. IsClean S.Store b → IsUnchanged (state S.Store conn) (state S.Store b.held)) }
+        ensures nothing_new { IfOk result (λ b. ¬ IsOfFirst (state S.Store conn)
+            → CrashAddsNothing (state S.Store conn) (state S.Store b.held)) }
+        ensures unchanged { IfOk result (λ b. IsClean S.Store b → ¬ IsOfFirst (state S.Store conn)
+            → IsUnchanged (state S.Store conn) (state S.Store b.held)) }
+        ensures disk { IfOk result (λ b. IsClean S.Store b → HasCleanDisk (state S.Store conn)) }
         ensures limit { IfOk result
             (λ b. (state S.Store b.held).step_limit ≡ (state S.Store conn).step_limit) }
 
-        // A refusal: why, with nothing changed.
+        // A refusal: why, and that a crash leaves the book that was there, in one version or the other.
         ensures not_loaded { IfErr result
             (λ e. IsNotLoaded (state S.Store conn) (state S.Store e.1) e.0) }
         ensures again { (s : State) → Keeps (state S.Store conn) s
             → IfErr result (λ e. Keeps (state S.Store e.1) s) }
+        ensures again_either { (s : State) → KeepsEither (state S.Store conn) s
+            → IfErr result (λ e. KeepsEither (state S.Store e.1) s) }
     {
         match Store::load(alloc, conn) {
             Ok((store, _roster)) => Ok(Book::over(store)),
@@ -159,7 +164,7 @@ impl<S: Alter> Book<S> {
 
         // A fault of the store has a cause.
         ensures caused { self.old.failed ≡ false → IfErr result
-            (IsCaused (state S.Store self.old.held) (state S.Store self.new.held)) }
+            (IsCausedIfStore (state S.Store self.old.held) (state S.Store self.new.held)) }
 
         // The text, by the state that the tables mean.
         ensures text { (s : State) → IsDurablyAt S.Store self.old s → IsClean S.Store self.new
@@ -332,7 +337,7 @@ fn decide<S: Alter>(
     // Where it makes no change, a fault of the store has a cause.
     ensures caused { (s : State) → Keeps (state S.Store store.old) s
         → StillHolds (state S.Store store.old) s → MakesNoChange s (key, command.now)
-        → IfErr result (IsCaused (state S.Store store.old) (state S.Store store.new)) }
+        → IfErr result (IsCausedIfStore (state S.Store store.old) (state S.Store store.new)) }
 
     // What stands beside the book in the database.
     ensures others_spared { (s : State) → Keeps (state S.Store store.old) s

@@ -16,7 +16,7 @@ use Rattle.state_rows.specs.declared.fault.StoreFault.TheVariants.{Memory, Store
 use Rattle.roster.specs.State as roster
 use Rattle.writing.specs.Kept.{IsBookOf}
 use Rattle.loading.specs.Loading.{AreRight}
-use Rattle.lookup.specs.Reads.{ChangesNothing, HasStoreCause, IsCaused, IsReadFault, ReadsByKey, Shows, Stays, TellOfNone}
+use Rattle.lookup.specs.Reads.{ChangesNothing, HasStoreCause, IsCausedIfStore, IsReadFault, ReadsByKey, Shows, Stays, HaveNone}
 
 -- ---- One read
 
@@ -47,7 +47,7 @@ read_cause Is IsDamaged old new fault wrong read clean is = elim (read clean) [
 ]
 
 -- a read by key whose rows were not read
-pub not_told : {B : Type 0} (Is : roster.State → B → Type 0) (old new : State) (fault : StoreFault) → Stays old new → IsCaused old new fault → ReadsByKey Is old new (Err fault)
+pub not_told : {B : Type 0} (Is : roster.State → B → Type 0) (old new : State) (fault : StoreFault) → Stays old new → IsCausedIfStore old new fault → ReadsByKey Is old new (Err fault)
 not_told Is old new fault stays caused = record { stays = stays; opened = tt; told = λ clean s shows. tt; caused = λ s shows. caused }
 
 pub no_memory : {B : Type 0} (Is : roster.State → B → Type 0) (old new : State) → Stays old new → ReadsByKey Is old new (Err Memory)
@@ -100,8 +100,8 @@ pub wrong_cause : {A : Type 0} (Why : Type 0) (old new : State) (result : Result
 wrong_cause Why old new (Ok a) why none = tt
 wrong_cause Why old new (Err fault) why none = λ s shows clean is. wrong_there old new (λ right. none clean s shows right (why is))
 
-pub told_cause : {A : Type 0} (Told : A → Type 0) (old new : State) (result : Result A StoreFault) → IfErr result (λ fault. fault ≡ Store → TellOfNone Told) →
+pub told_cause : {A : Type 0} (Told : A → Type 0) (old new : State) (result : Result A StoreFault) → IfErr result (λ fault. fault ≡ Store → HaveNone Told) →
     (HasCleanDisk new → (s : roster.State) → Shows old s → AreRight request old.now → (found : A) × Told found) →
     IfErr result (IsReadFault old new)
 told_cause Told old new result none some =
-    wrong_cause (TellOfNone Told) old new result none (λ clean s shows right untold. let it = some clean s shows right in untold it.0 it.1)
+    wrong_cause (HaveNone Told) old new result none (λ clean s shows right unread. let it = some clean s shows right in unread it.0 it.1)

@@ -1,5 +1,5 @@
 -- What reads leave of a connection, one after the other.
-use Rattle.std.proofs.Common.{◌≤◌, refl, inl, inr, arith, ◌∙◌}
+use Rattle.std.proofs.Common.{refl, inl, inr, arith, ◌∙◌}
 use Rattle.sqlite.specs.State as conn
 use Rattle.lookup.specs.Reads.{ChangesNothing, Stays}
 

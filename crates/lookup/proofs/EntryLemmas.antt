@@ -1,8 +1,7 @@
 -- What is read of a request, of ground duties and of the zone is the state's.
-use Rattle.std.proofs.Common.{◌≡◌, inl, inr, refl, sym, ap, subst, ◌∙◌, ℕ, pos, Bool, true, false, List, [], ◌∷◌, map, Contains, Result, Ok, Err, Option, Some, None, IfOk}
+use Rattle.std.proofs.Common.{◌≡◌, inl, inr, refl, sym, ap, subst, ◌∙◌, ℕ, pos, Bool, true, List, [], ◌∷◌, map, Contains, Result, Ok, Err, Option, Some, None, IfOk}
 use Rattle.std.specs.FinMap as fin
 use Rattle.std.specs.Ordering.{is_eq}
-use Rattle.std.specs.Str.{bytes_eq}
 use Rattle.std.proofs.lemmas.Cmp.{tied_itself}
 use Rattle.std.proofs.lemmas.Slice.Eq.{bytes_eq-Decides}
 use Rattle.sqlite_value.specs.Order.{Row, column, value_cmp}
@@ -12,8 +11,6 @@ use Rattle.sqlite_rules.specs.Lists.{Has}
 use Rattle.sqlite.specs.Effect.{Database}
 use Rattle.sqlite.specs.State.{State, HasCleanDisk, IsUnchanged}
 use Rattle.duty.specs.Plans.{GroundPlan}
-use Rattle.duty.specs.Words.{checked}
-use Rattle.duty.specs.declared.fault.DutyFault.{DutyFault}
 use Rattle.command.specs.Keys.{KeyParts, key_name}
 use Rattle.command.specs.declared.exceedance.Reply.{Reply}
 use Rattle.stored_json.specs.KeptText.{kept_text}

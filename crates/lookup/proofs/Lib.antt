@@ -6,7 +6,7 @@ pub mod OnePairing
 pub mod HeldLemmas
 pub mod PlanLemmas
 pub mod PlanReads
-pub mod Untold
+pub mod Unread
 pub mod EntryLemmas
 pub mod RecordedLemmas
 pub mod Changes

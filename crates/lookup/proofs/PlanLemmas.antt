@@ -1,16 +1,15 @@
 -- The pairing that its records tell of is the state's.
-use Rattle.std.proofs.Common.{◌≡◌, ◌↔◌, inl, inr, refl, sym, ap, subst, ◌∙◌, ℕ, zero, suc, pos, ◌+◌, ◌<◌, arith, Bool, true, false, ◌&&◌, List, [], ◌∷◌, length, map, Option, Some, None, slice_get, Result, Ok, Err, IfOk}
+use Rattle.std.proofs.Common.{◌≡◌, ◌↔◌, inl, inr, refl, sym, ap, subst, ◌∙◌, ℕ, zero, suc, pos, arith, Bool, true, List, [], ◌∷◌, length, map, Option, Some, None, slice_get, Result, Ok, Err, IfOk}
 use Rattle.std.specs.FinMap as fin
 use Rattle.std.specs.Prelude.{is_some}
 use Rattle.std.specs.List.{list_all}
-use Rattle.std.proofs.lemmas.Option.{slice_get_within}
 use Rattle.sqlite_value.specs.declared.value.Value.TheVariants.{Int, Text}
 use Rattle.sqlite_value.specs.Order.{Row, column}
 use Rattle.sqlite_rules.specs.Lists.{Has}
 use Rattle.sqlite.specs.Effect.{Database}
 use Rattle.sqlite.specs.State.{State, HasCleanDisk, IsUnchanged}
 use Rattle.duty.specs.Pairings.{pairing_fault, count_fault, times_fault, chain_fault, are_shaped}
-use Rattle.duty.specs.Plans.{ActualTimes, Plan}
+use Rattle.duty.specs.Plans.{Plan}
 use Rattle.duty.specs.Shape.{is_id}
 use Rattle.duty.specs.Words.{first_fault, unless}
 use Rattle.duty.specs.declared.fault.DutyFault.{DutyFault}
@@ -30,8 +29,7 @@ use Rattle.tables.specs.Schema.{period_table, segment_table}
 use Rattle.tables.specs.declared.period.PeriodRecord.{PeriodRecord}
 use Rattle.tables.specs.declared.seat.SeatRecord.{SeatRecord}
 use Rattle.tables.specs.declared.segment.SegmentRecord.{SegmentRecord}
-use Rattle.state_rows.specs.Rows.{TableName, table, period, seat, segment, row_of_period, row_of_seat, seat_number, At, PeriodOf, HeldSeat}
-use Rattle.state_rows.specs.declared.fault.StoreFault.{StoreFault}
+use Rattle.state_rows.specs.Rows.{table, period, seat, segment, row_of_period, row_of_seat, seat_number, At, PeriodOf, HeldSeat}
 use Rattle.state_rows.proofs.Lists.{one_value}
 use Rattle.state_rows.proofs.Tests.{found, passes}
 use Rattle.state_rows.proofs.Values.{text_is, number_is, seats_same}
@@ -41,14 +39,13 @@ use Rattle.writing.specs.Outcomes.{CrashAddsNothing}
 use Rattle.loading.proofs.Mapping.{all_taken}
 use Rattle.loading.proofs.ReadPeriods.{names_same as period_keys_same}
 use Rattle.loading.proofs.ReadSegments.{names_same as segment_keys_same}
-use Rattle.loading.proofs.PlanKeys.{period_names_same, segment_names_same}
 use Rattle.loading.proofs.SamePairings.{SamePlan}
 use Rattle.loading.specs.Keyed.{Ids, IsKeyedPeriod, PeriodsRead, IsKeyedSegment, SegmentsRead, name_of_period, row_of_keyed_period, name_of_segment, row_of_keyed_segment}
 use Rattle.loading.specs.OnePairing.{IsToldBy}
 use Rattle.loading.specs.PlanRows.{ArePeriodsKeyed, AreSegmentsKeyed, PeriodRows, Periods, SegmentRows, Segments, period_name, segment_name}
 use Rattle.loading.specs.Reading.{AreOnce, Mapped, Under}
 use Rattle.lookup.specs.Reads.{Shows}
-use Rattle.lookup.specs.Plans.{FindsPlan, HoldsSeat, IfSome, IsPairingOfRecords, TellsPairing}
+use Rattle.lookup.specs.Plans.{FindsPlan, HoldsSeat, IfSome, TellsPairing}
 use Rattle.lookup.specs.declared.pairing.PlanRecords.{PlanRecords}
 use Rattle.lookup.proofs.ReadLemmas.{in_found, of_found}
 use Rattle.lookup.proofs.OnePairing.{pairing_is}

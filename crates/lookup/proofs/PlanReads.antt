@@ -1,5 +1,5 @@
 -- The reads of a pairing, one after the other.
-use Rattle.std.proofs.Common.{◌≡◌, sym, ap, subst, ◌∙◌, ◌∷◌, [], ℕ, List, map, Result, Ok, Err, IfOk, OnOk}
+use Rattle.std.proofs.Common.{◌≡◌, sym, subst, ◌∙◌, ◌∷◌, [], ℕ, List, map, Ok, Err}
 use Rattle.sqlite_value.specs.declared.value.Value.TheVariants.{Text}
 use Rattle.sqlite_value.specs.Order.{Row}
 use Rattle.std.specs.Prelude.{Bool}
@@ -7,10 +7,10 @@ use Rattle.sqlite.specs.Effect.{Database}
 use Rattle.sqlite.specs.State.{State, HasCleanDisk, IsUnchanged}
 use Rattle.tables.specs.Records.{period_row, seat_row, segment_row}
 use Rattle.tables.specs.Rows.{Finds, begins_with}
-use Rattle.state_rows.specs.Rows.{TableName, table, period, seat, segment}
+use Rattle.state_rows.specs.Rows.{table, period, seat, segment}
 use Rattle.state_rows.specs.declared.fault.StoreFault.{StoreFault}
-use Rattle.lookup.specs.Reads.{IsCaused, Stays}
-use Rattle.lookup.specs.Plans.{FindsPlan, IfSome, ReadsPlan}
+use Rattle.lookup.specs.Reads.{IsCausedIfStore, Stays}
+use Rattle.lookup.specs.Plans.{IfSome, ReadsPlan}
 use Rattle.lookup.proofs.Causes.{cause_then}
 use Rattle.lookup.proofs.Changes.{changes_then, of_stays}
 use Rattle.lookup.specs.declared.pairing.PlanRecords.{PlanRecords}
@@ -44,17 +44,17 @@ module _ (id : List ℕ) where
   abbrev test : Row → Bool
   test = begins_with (Text id ∷ [])
 
-  pub not_first : (a b : State) (fault : StoreFault) → Stays a b → IsCaused a b fault → ReadsPlan id a b (Err fault)
+  pub not_first : (a b : State) (fault : StoreFault) → Stays a b → IsCausedIfStore a b fault → ReadsPlan id a b (Err fault)
   not_first a b fault stays caused = record { stays = stays; told = λ clean. tt; caused = caused }
 
-  pub not_second : (a b c : State) (fault : StoreFault) → Stays a b → Stays b c → IsCaused b c fault → ReadsPlan id a c (Err fault)
+  pub not_second : (a b c : State) (fault : StoreFault) → Stays a b → Stays b c → IsCausedIfStore b c fault → ReadsPlan id a c (Err fault)
   not_second a b c fault p q caused = record {
     stays = stays_on a b c p q;
     told = λ clean. tt;
     caused = λ clean is. cause_then a b c (of_stays a b p) (of_stays b c q) clean (caused clean is);
   }
 
-  pub not_third : (a b c d : State) (fault : StoreFault) → Stays a b → Stays b c → Stays c d → IsCaused c d fault → ReadsPlan id a d (Err fault)
+  pub not_third : (a b c d : State) (fault : StoreFault) → Stays a b → Stays b c → Stays c d → IsCausedIfStore c d fault → ReadsPlan id a d (Err fault)
   not_third a b c d fault p q r caused = record {
     stays = stays_on a c d (stays_on a b c p q) r;
     told = λ clean. tt;

@@ -1,11 +1,10 @@
 -- The exceedances that are read are the state's.
-use Rattle.std.proofs.Common.{◌≡◌, inl, inr, refl, sym, ap, subst, ◌∙◌, ℕ, ℤ, pos, ◌+◌, ◌<◌, List, [], ◌∷◌, map, take, length, Result, Ok, Err, Option, Some, None, IfOk, IsTrue, slice_get, true}
+use Rattle.std.proofs.Common.{◌≡◌, refl, sym, ap, subst, ◌∙◌, ℕ, pos, ◌+◌, ◌<◌, List, [], ◌∷◌, map, take, length, Result, Ok, Err, Some, IsTrue, slice_get, true}
 use Rattle.std.specs.Bool.{⊤}
 use Rattle.std.specs.FinMap as fin
 use Rattle.values.specs.Name.{name_cmp}
 use Rattle.sqlite_value.specs.Order.{Row, column}
 use Rattle.sqlite_value.specs.declared.value.Value.TheVariants.{Int, Text}
-use Rattle.sqlite_rules.specs.Lists.{Has}
 use Rattle.sqlite.specs.Effect.{Database}
 use Rattle.sqlite.specs.State.{State, HasCleanDisk}
 use Rattle.limits.specs.SectionText.{section_number}
@@ -23,7 +22,7 @@ use Rattle.tables.specs.Rows.{Finds, FindsInOrder, HasNoRecord, begins_with}
 use Rattle.tables.specs.Schema.{IsTable, exceedance_table}
 use Rattle.tables.specs.declared.exceedance.ExceedanceRecord.{ExceedanceRecord}
 use Rattle.tables.specs.declared.table_fault.TableFault.{TableFault}
-use Rattle.state_rows.specs.Rows.{table, exceedance, request, row_of_exceedance, ExceedanceAt}
+use Rattle.state_rows.specs.Rows.{table, exceedance, request, ExceedanceAt}
 use Rattle.state_rows.specs.Faults.{store_fault_of}
 use Rattle.state_rows.specs.declared.fault.StoreFault.{StoreFault}
 use Rattle.state_rows.specs.declared.fault.StoreFault.TheVariants.{Memory, Store}

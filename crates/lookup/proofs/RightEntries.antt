@@ -1,5 +1,5 @@
--- Where the tables are right, what is read of them tells of an entry, if it is there.
-use Rattle.std.proofs.Common.{◌≡◌, ◌⊎◌, inl, inr, refl, sym, ap, subst, ◌∙◌, ℕ, pos, true, false, List, [], ◌∷◌, map, Bool, Option, Some, None, slice_get}
+-- Where the tables are right, what is read of them has an entry, if it is there.
+use Rattle.std.proofs.Common.{◌≡◌, ◌⊎◌, inl, inr, refl, sym, ap, subst, ◌∙◌, ℕ, true, false, List, [], ◌∷◌, map, Bool, Option, Some, None, slice_get}
 use Rattle.sqlite_value.specs.Order.{Row, column}
 use Rattle.sqlite.specs.Effect.{Database}
 use Rattle.time117.specs.Local.{is_zone_text}
@@ -22,12 +22,12 @@ use Rattle.tables.specs.declared.book.BookRecord.{BookRecord}
 use Rattle.tables.specs.declared.crew.CrewRecord.{CrewRecord}
 use Rattle.tables.specs.declared.ground.GroundRecord.{GroundRecord}
 use Rattle.tables.specs.declared.request.RequestRecord.{RequestRecord}
-use Rattle.state_rows.specs.Rows.{table, book, crew, ground_duty, request, seat_number}
+use Rattle.state_rows.specs.Rows.{table, book, crew, ground_duty, request, row_of_book, seat_number}
 use Rattle.state_rows.proofs.Lists.{some_same}
 use Rattle.state_rows.proofs.Values.{number_is, text_is}
 use Rattle.loading.specs.Loading.{AreRight}
 use Rattle.lookup.specs.Entries.{HasFirstGround, HasFirstRequest, HasFirstZone, HasTexts, TellsGround, ground_told}
-use Rattle.lookup.specs.Reads.{HasFirst, TellOfNone}
+use Rattle.lookup.specs.Reads.{HasFirst, HaveNone}
 use Rattle.lookup.proofs.ReadLemmas.{in_found, of_found}
 use Rattle.lookup.proofs.RightRows.{book_right, crew_right, grounds_right}
 
@@ -69,15 +69,15 @@ module _ (db : Database) (right : AreRight request db) (test : Row → Bool) whe
 pub zone_there : (db : Database) → AreRight request db → (records : List BookRecord) → Finds (table book) (begins_with []) db (map book_row records) → (zone : List ℕ) × HasFirstZone records zone
 zone_there db right [] finds =
     let r = book_right db right in
-    let row = book_row (record { one = pos 1; version = pos 1; zone = r.0.zone }) in
-    absurd (in_found book (begins_with []) db [] finds row ((r.1.0.1 row).1 refl) refl)
+    let row = row_of_book r.1.0.1.0 r.0.zone in
+    absurd (in_found book (begins_with []) db [] finds row ((r.1.0.1.1 row).1 refl) refl)
 zone_there db right (row ∷ rows) finds =
     let r = book_right db right in
     let there = of_found book (begins_with []) db (map book_row (row ∷ rows)) finds (book_row row) (inl refl) in
-    let is = (r.1.0.1 (book_row row)).0 there.0 in
+    let is = (r.1.0.1.1 (book_row row)).0 there.0 in
     (row.zone, (refl, ap is_zone_text (text_is (ap (λ (x : Row). column x 2) is)) ∙ r.1.1))
 
--- ---- What a first record is that tells of none
+-- ---- What a first record is that has no entry
 
 of_seat : (seat : Seat) {n : ℕ} → seat_number seat ≡ n → (n ≡ 0) ⊎ (n ≡ 1)
 of_seat Captain is = inl (sym is)
@@ -87,20 +87,20 @@ seat_in : (records : List CrewRecord) (row : CrewRecord) → slice_get records 0
 seat_in [] row here found first = absurd (cc)
 seat_in (x ∷ xs) row here found first = let same : x.seat ≡ row.seat = ap (λ (r : CrewRecord). r.seat) (some_same here) in of_seat first.0.seat (first.2 ∙ same)
 
-pub no_seat : (records : List CrewRecord) (row : CrewRecord) → slice_get records 0 ≡ Some row → (row.seat ≡ 0 → ⊥) → (row.seat ≡ 1 → ⊥) → TellOfNone (HasFirst records)
+pub no_seat : (records : List CrewRecord) (row : CrewRecord) → slice_get records 0 ≡ Some row → (row.seat ≡ 0 → ⊥) → (row.seat ≡ 1 → ⊥) → HaveNone (HasFirst records)
 no_seat records row here first second found told = elim (seat_in records row here found told) [ inl is ↦ first is | inr is ↦ second is ]
 
 ground_in : (records : List GroundRecord) (row : GroundRecord) → slice_get records 0 ≡ Some row → (found : Option GroundPlan) → HasFirstGround records found → TellsGround row
 ground_in [] row here found first = absurd (cc)
 ground_in (x ∷ xs) row here found first = subst TellsGround (some_same here) first.1
 
-pub no_begin : (records : List GroundRecord) (row : GroundRecord) → slice_get records 0 ≡ Some row → (is_instant row.begin_at ≡ true → ⊥) → TellOfNone (HasFirstGround records)
+pub no_begin : (records : List GroundRecord) (row : GroundRecord) → slice_get records 0 ≡ Some row → (is_instant row.begin_at ≡ true → ⊥) → HaveNone (HasFirstGround records)
 no_begin records row here none found told = none (ground_in records row here found told).begin
 
-pub no_end : (records : List GroundRecord) (row : GroundRecord) → slice_get records 0 ≡ Some row → (is_instant row.end_at ≡ true → ⊥) → TellOfNone (HasFirstGround records)
+pub no_end : (records : List GroundRecord) (row : GroundRecord) → slice_get records 0 ≡ Some row → (is_instant row.end_at ≡ true → ⊥) → HaveNone (HasFirstGround records)
 no_end records row here none found told = none (ground_in records row here found told).end
 
-pub no_ground : (records : List GroundRecord) (row : GroundRecord) → slice_get records 0 ≡ Some row → (ground_fault (ground_told row) ≡ None → ⊥) → TellOfNone (HasFirstGround records)
+pub no_ground : (records : List GroundRecord) (row : GroundRecord) → slice_get records 0 ≡ Some row → (ground_fault (ground_told row) ≡ None → ⊥) → HaveNone (HasFirstGround records)
 no_ground records row here none found told = none (ground_in records row here found told).made
 
 request_in : (records : List RequestRecord) (row : RequestRecord) → slice_get records 0 ≡ Some row → (found : Option LoggedCommand) → HasFirstRequest records found → (r : LoggedCommand) × HasTexts row r
@@ -108,20 +108,20 @@ request_in [] row here found first = absurd (cc)
 request_in (x ∷ xs) row here found first = (first.0, subst (λ (y : RequestRecord). HasTexts y first.0) (some_same here) first.2)
 
 pub no_command : (records : List RequestRecord) (row : RequestRecord) → slice_get records 0 ≡ Some row →
-    ((instruction : Instruction) → IsCommand instruction → kept_text instruction ≡ row.command → ⊥) → TellOfNone (HasFirstRequest records)
+    ((instruction : Instruction) → IsCommand instruction → kept_text instruction ≡ row.command → ⊥) → HaveNone (HasFirstRequest records)
 no_command records row here none found told = let it = request_in records row here found told in none it.0.command it.1.command it.1.command_text
 
 pub no_reply : (records : List RequestRecord) (row : RequestRecord) → slice_get records 0 ≡ Some row →
-    ((reply : Reply) → reply_text reply ≡ row.reply → ⊥) → TellOfNone (HasFirstRequest records)
+    ((reply : Reply) → reply_text reply ≡ row.reply → ⊥) → HaveNone (HasFirstRequest records)
 no_reply records row here none found told = let it = request_in records row here found told in none it.0.reply it.1.reply_text
 
 zone_in : (records : List BookRecord) (row : BookRecord) → slice_get records 0 ≡ Some row → (zone : List ℕ) → HasFirstZone records zone → is_zone_text row.zone ≡ true
 zone_in [] row here zone first = absurd first
 zone_in (x ∷ xs) row here zone first = ap (λ (r : BookRecord). is_zone_text r.zone) (sym (some_same here)) ∙ first.1
 
-pub no_book : (records : List BookRecord) → slice_get records 0 ≡ None → TellOfNone (HasFirstZone records)
+pub no_book : (records : List BookRecord) → slice_get records 0 ≡ None → HaveNone (HasFirstZone records)
 no_book [] none found told = absurd told
 no_book (x ∷ xs) none found told = absurd (cc)
 
-pub no_zone : (records : List BookRecord) (row : BookRecord) → slice_get records 0 ≡ Some row → is_zone_text row.zone ≡ false → TellOfNone (HasFirstZone records)
+pub no_zone : (records : List BookRecord) (row : BookRecord) → slice_get records 0 ≡ Some row → is_zone_text row.zone ≡ false → HaveNone (HasFirstZone records)
 no_zone records row here bad found told = absurd (let no : true ≡ false = sym (zone_in records row here found told) ∙ bad in cc)

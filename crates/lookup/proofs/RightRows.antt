@@ -1,11 +1,12 @@
 -- Where the tables are right, each row is a record of its table.
-use Rattle.std.proofs.Common.{◌≡◌, inr, refl, ap, ◌∙◌, ℕ, Bool, true, Option, Some, None}
+use Rattle.std.specs.Prelude.{⊤}
+use Rattle.std.proofs.Common.{◌≡◌, inr, refl, ap, ◌∙◌, ℕ, Bool, Option, Some, None}
 use Rattle.sqlite_value.specs.Order.{Row, column}
 use Rattle.sqlite.specs.Effect.{Database}
 use Rattle.duty.specs.Shape.{is_id}
 use Rattle.tables.specs.Records.{IsBookRow, IsCrewRow, IsExceedanceRow, IsGroundRow, IsPairingRow, IsPeriodRow, IsRequestRow, IsSeatRow, IsSegmentRow, IsNumberIfAny, pairing_row}
 use Rattle.tables.specs.Rows.{HasNoRecord}
-use Rattle.state_rows.specs.Rows.{TableName, table, book, crew, pairing, period, segment, seat, ground_duty, exceedance, request}
+use Rattle.state_rows.specs.Rows.{TableName, table, book, crew, pairing, period, segment, seat, ground_duty, exceedance, request, base, crew_base, outside, outside_segment}
 use Rattle.state_rows.proofs.Values.{text_is}
 use Rattle.loading.specs.Loading.{AreRight, IsInstantIfAny}
 use Rattle.loading.proofs.Ascii.{id_utf8}
@@ -102,7 +103,7 @@ exceedance_records db test x right = no_exceedance db (inr (x.0, x.1, refl, x.3)
 request_records : AreRecords request IsRequestRow
 request_records db test x right = no_request db (inr (x.0, x.1, refl, x.3)) right
 
--- the rows that are records of each table
+-- the rows that are records of each table; of the tables that came with version 2, which are not read by key, any row
 abbrev pub RecordOf : TableName → Row → Type 0
 RecordOf book = IsBookRow
 RecordOf crew = IsCrewRow
@@ -113,6 +114,10 @@ RecordOf seat = IsSeatRow
 RecordOf ground_duty = IsGroundRow
 RecordOf exceedance = IsExceedanceRow
 RecordOf request = IsRequestRow
+RecordOf base = λ row. ⊤
+RecordOf crew_base = λ row. ⊤
+RecordOf outside = λ row. ⊤
+RecordOf outside_segment = λ row. ⊤
 
 pub records_of : (it : TableName) → AreRecords it (RecordOf it)
 records_of book = book_records
@@ -124,3 +129,7 @@ records_of seat = seat_records
 records_of ground_duty = ground_records
 records_of exceedance = exceedance_records
 records_of request = request_records
+records_of base = λ db test x right. x.3 tt
+records_of crew_base = λ db test x right. x.3 tt
+records_of outside = λ db test x right. x.3 tt
+records_of outside_segment = λ db test x right. x.3 tt

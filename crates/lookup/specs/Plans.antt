@@ -17,7 +17,7 @@ use Rattle.state_rows.specs.declared.fault.StoreFault.TheVariants.{Memory, Store
 use Rattle.loading.specs.OnePairing.{IsToldBy}
 use Rattle.loading.specs.declared.fault.LoadFault.{LoadFault}
 use Rattle.loading.specs.declared.fault.LoadFault.TheVariants.{Fault}
-use Rattle.lookup.specs.Reads.{IsCaused, Stays}
+use Rattle.lookup.specs.Reads.{IsCausedIfStore, Stays}
 use Rattle.lookup.specs.declared.pairing.PlanRecords.{PlanRecords}
 
 -- a fact that matters only where a list has an element
@@ -42,7 +42,7 @@ pub record ReadsPlan (id : List ℕ) (old new : conn.State)
   pub stays : Stays old new
   pub told : HasCleanDisk new →
       IfOk result (λ rows. IsUnchanged old new × FindsPlan id old.now rows)
-  pub caused : IfErr result (IsCaused old new)
+  pub caused : IfErr result (IsCausedIfStore old new)
 
 -- who holds the seat of a number by some records, if anybody does
 abbrev pub HoldsSeat : ℕ → List SeatRecord → Option (List ℕ) → Type 0
@@ -69,7 +69,7 @@ TellsPairing id [] segments seats found = found ≡ None
 TellsPairing id (p ∷ ps) segments seats found =
     (r : PairingEntry) × (found ≡ Some r) × IsPairingOfRecords id (p ∷ ps) segments seats r
 
--- the fault of a pairing of which its records don't tell: 91 where there was no memory, and else 90
-abbrev pub untold_as : LoadFault → StoreFault
-untold_as (Fault fault) = Memory
-untold_as _ = Store
+-- the fault of a read whose records make no pairing: 91 where there was no memory, and else 90
+abbrev pub unread_as : LoadFault → StoreFault
+unread_as (Fault fault) = Memory
+unread_as _ = Store

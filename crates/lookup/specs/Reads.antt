@@ -43,7 +43,7 @@ IsOpen now = HasCleanDisk now → IsTrue now.is_open
 
 -- Why a read answers a fault of the store (90): the disk failed or refused a call meanwhile, an
 -- earlier failure had shut the connection, a limit is set on the steps of a statement, or the
--- tables are not those of a right book, which opening them would refuse.
+-- tables from `book` to `request` are not those of a right book, which opening them would refuse.
 abbrev pub HasStoreCause : conn.State → conn.State → Type 0
 HasStoreCause old new =
     MoreFaults old.faults new.faults
@@ -51,13 +51,14 @@ HasStoreCause old new =
     ⊎ (HasStepLimit old
     ⊎ (AreRight request old.now → ⊥)))
 
--- what a fault of a read says: one of the store (90) has a cause
-abbrev pub IsCaused : conn.State → conn.State → StoreFault → Type 0
-IsCaused old new fault = HasCleanDisk new → fault ≡ Store → HasStoreCause old new
+-- a fault of a read, where it is one of the store (90), has a cause
+abbrev pub IsCausedIfStore : conn.State → conn.State → StoreFault → Type 0
+IsCausedIfStore old new fault = HasCleanDisk new → fault ≡ Store → HasStoreCause old new
 
--- what a fault of a read by key says: where a sound state was shown, one of the store has a cause
+-- a fault of a read by key, where a sound state was shown and it is one of the store (90), has a
+-- cause
 abbrev pub IsReadFault : conn.State → conn.State → StoreFault → Type 0
-IsReadFault old new fault = (s : State) → Shows old s → IsCaused old new fault
+IsReadFault old new fault = (s : State) → Shows old s → IsCausedIfStore old new fault
 
 -- what a read of a table tells: nothing is changed, the rows are just those that pass the test, and
 -- a fault of the store has a cause
@@ -66,7 +67,7 @@ pub record ReadsRows {A : Type 0} (it : TableName) (test : Row → Bool) (rows :
   pub stays : Stays old new
   pub told : HasCleanDisk new →
       IfOk result (λ a. IsUnchanged old new × Finds (table it) test old.now (rows a))
-  pub caused : IfErr result (IsCaused old new)
+  pub caused : IfErr result (IsCausedIfStore old new)
 
 -- what a read by key tells: nothing is changed, the answer is what the state has that is shown, and
 -- a fault of the store has a cause
@@ -78,11 +79,11 @@ pub record ReadsByKey {A : Type 0} (Is : State → A → Type 0)
       IfOk result (λ a. Shows new s × Is s a)
   pub caused : IfErr result (IsReadFault old new)
 
--- some records tell of no entry: no answer is what they tell
-abbrev pub TellOfNone : {A : Type 0} → (A → Type 0) → Type 0
-TellOfNone {A} Told = (found : A) → Told found → ⊥
+-- some records have no entry, where `Has` says which entry they have
+abbrev pub HaveNone : {A : Type 0} → (A → Type 0) → Type 0
+HaveNone {A} Has = (found : A) → Has found → ⊥
 
--- the member of the first record, if there is one
+-- the member that the first of some records of `crew` has, and no member where there is no record
 abbrev pub HasFirst : List CrewRecord → Option Member → Type 0
 HasFirst [] found = found ≡ None
 HasFirst (row ∷ rows) found =
@@ -94,7 +95,9 @@ ids_in records = map (λ row. row.pairing) records
 
 -- ---- Reads in turn
 
--- what some reads, one after the other, leave of a connection
+-- Some reads, one after the other, change nothing: a crash leaves nothing that it could not leave
+-- before, and what was shown is shown. No fault of the disk is forgotten, only one shuts the
+-- connection, and no limit is set on later statements.
 pub record ChangesNothing (old new : conn.State) : Type 0 where
   pub nothing_new : CrashAddsNothing old new
   pub still_shown : StillShows old new

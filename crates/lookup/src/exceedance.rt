@@ -52,7 +52,7 @@ fn exceedance_rows<S: Alter>(
 #[tactic(auto, using(crate::proofs::RecordedLemmas::row_is, crate::proofs::RecordedLemmas::no_key, crate::proofs::RecordedLemmas::no_section, crate::proofs::RecordedLemmas::no_period))]
 fn exceedance_told(alloc: Global, row: &ExceedanceRecord) -> Result<Told, StoreFault>
     ensures told { IfOk result (λ it. exceedance_row row.now ≡ row_of_recorded it.id it.period) }
-    ensures untold { IfErr result (λ fault. fault ≡ StoreFault.Store → IsStrange row.now) }
+    ensures unread { IfErr result (λ fault. fault ≡ StoreFault.Store → IsStrange row.now) }
 {
     let Some(key) = key_of(row.number, row.part) else {
         return Err(StoreFault::Store);
@@ -78,7 +78,7 @@ fn exceedances_told(
     records: &[ExceedanceRecord],
 ) -> Result<OrdMap<ExceedanceId, PeriodId>, StoreFault>
     ensures told { IfOk result (AreRead records.now (length records.now)) }
-    ensures untold { IfErr result (λ fault. fault ≡ StoreFault.Store
+    ensures unread { IfErr result (λ fault. fault ≡ StoreFault.Store
         → HasStranger row_of_recorded IsNumbered (map exceedance_row records.now)) }
 {
     let mut all = OrdMap::new(alloc);

@@ -10,7 +10,7 @@ ghost use Rattle.tables.specs.Rows.{begins_with, equals_at};
 ghost use Rattle.writing.specs.Outcomes.{IsOutside, IsOverBook};
 ghost use Rattle.state_rows.specs.Rows.{ground_duty};
 ghost use Rattle.roster.specs.Holding.{AreJust, IsGroundOf};
-ghost use Rattle.lookup.specs.Reads.{ReadsByKey, ReadsRows, TellOfNone};
+ghost use Rattle.lookup.specs.Reads.{ReadsByKey, ReadsRows, HaveNone};
 ghost use Rattle.lookup.specs.Entries.{HasFirstGround, grounds_in};
 
 use duty::{CrewId, Ground, GroundId};
@@ -67,8 +67,8 @@ fn crew_ground_rows<S: Alter>(
 #[tactic(auto, using(crate::proofs::RightEntries::no_begin, crate::proofs::RightEntries::no_end, crate::proofs::RightEntries::no_ground))]
 fn first_ground(alloc: Global, records: &[GroundRecord]) -> Result<Option<Ground>, StoreFault>
     ensures told { IfOk result (HasFirstGround records.now) }
-    ensures untold { IfErr result
-        (λ fault. fault ≡ StoreFault.Store → TellOfNone (HasFirstGround records.now)) }
+    ensures unread { IfErr result
+        (λ fault. fault ≡ StoreFault.Store → HaveNone (HasFirstGround records.now)) }
 {
     let Some(row) = records.first() else {
         return Ok(None);

@@ -9,7 +9,7 @@ ghost use Rattle.tables.specs.Records.{crew_row};
 ghost use Rattle.tables.specs.Rows.{begins_with};
 ghost use Rattle.writing.specs.Outcomes.{IsOutside, IsOverBook};
 ghost use Rattle.state_rows.specs.Rows.{crew};
-ghost use Rattle.lookup.specs.Reads.{HasFirst, ReadsByKey, ReadsRows, TellOfNone};
+ghost use Rattle.lookup.specs.Reads.{HasFirst, ReadsByKey, ReadsRows, HaveNone};
 
 use command::{Member, Seat};
 use duty::CrewId;
@@ -44,8 +44,8 @@ fn crew_rows<S: Alter>(
 #[tactic(auto, using(crate::proofs::RightEntries::no_seat))]
 fn first_member(alloc: Global, records: &[CrewRecord]) -> Result<Option<Member>, StoreFault>
     ensures told { IfOk result (HasFirst records.now) }
-    ensures untold { IfErr result
-        (λ fault. fault ≡ StoreFault.Store → TellOfNone (HasFirst records.now)) }
+    ensures unread { IfErr result
+        (λ fault. fault ≡ StoreFault.Store → HaveNone (HasFirst records.now)) }
 {
     let Some(row) = records.first() else {
         return Ok(None);

@@ -11,7 +11,7 @@ ghost use Rattle.writing.specs.Outcomes.{IsOutside, IsOverBook};
 ghost use Rattle.state_rows.specs.Rows.{period, seat, segment};
 ghost use Rattle.loading.specs.OnePairing.{IsUntold};
 ghost use Rattle.lookup.specs.Reads.{ReadsByKey, ReadsRows};
-ghost use Rattle.lookup.specs.Plans.{HoldsSeat, ReadsPlan, TellsPairing, untold_as};
+ghost use Rattle.lookup.specs.Plans.{HoldsSeat, ReadsPlan, TellsPairing, unread_as};
 
 use duty::{CrewId, PairingId};
 use loading::{LoadFault, pairing_of_records};
@@ -139,9 +139,10 @@ fn holder_in(
     Ok(None)
 }
 
-/// Names why records tell of no pairing. No table was read of, so a fault is want of memory.
-fn untold(fault: LoadFault) -> StoreFault
-    ensures { result ≡ untold_as fault }
+/// Returns the fault of a read whose records make no pairing: 90, or 91 for want of memory. Making it reads no table, so
+/// a fault of the store is want of memory here.
+fn unread(fault: LoadFault) -> StoreFault
+    ensures { result ≡ unread_as fault }
 {
     match fault {
         LoadFault::Fault(_) => StoreFault::Memory,
@@ -157,7 +158,7 @@ fn pairing_told(
 ) -> Result<Option<PairingEntry>, StoreFault>
     ensures told { IfOk result
         (TellsPairing id.now rows.now.periods.items rows.now.segments.items rows.now.seats.items) }
-    ensures untold { IfErr result (λ fault. fault ≡ StoreFault.Store
+    ensures unread { IfErr result (λ fault. fault ≡ StoreFault.Store
         → IsSome (slice_get rows.now.periods.items 0)
         × IsUntold id.now rows.now.periods.items rows.now.segments.items) }
 {
@@ -166,7 +167,7 @@ fn pairing_told(
     };
     let free = match pairing_of_records(alloc, id, &rows.periods, &rows.segments) {
         Ok(free) => free,
-        Err(fault) => return Err(untold(fault)),
+        Err(fault) => return Err(unread(fault)),
     };
     let captain = holder_in(alloc, 0, &rows.seats)?;
     let first_officer = holder_in(alloc, 1, &rows.seats)?;

@@ -10,7 +10,7 @@ ghost use Rattle.tables.specs.Records.{request_row};
 ghost use Rattle.tables.specs.Rows.{begins_with};
 ghost use Rattle.writing.specs.Outcomes.{IsOutside, IsOverBook};
 ghost use Rattle.state_rows.specs.Rows.{request};
-ghost use Rattle.lookup.specs.Reads.{ReadsByKey, ReadsRows, TellOfNone};
+ghost use Rattle.lookup.specs.Reads.{ReadsByKey, ReadsRows, HaveNone};
 ghost use Rattle.lookup.specs.Entries.{HasFirstRequest};
 
 use command::Key;
@@ -50,8 +50,8 @@ fn first_request(
     records: &[RequestRecord],
 ) -> Result<Option<LoggedCommand>, StoreFault>
     ensures told { IfOk result (HasFirstRequest records.now) }
-    ensures untold { IfErr result
-        (λ fault. fault ≡ StoreFault.Store → TellOfNone (HasFirstRequest records.now)) }
+    ensures unread { IfErr result
+        (λ fault. fault ≡ StoreFault.Store → HaveNone (HasFirstRequest records.now)) }
 {
     let Some(row) = records.first() else {
         return Ok(None);

@@ -7,7 +7,7 @@ ghost use Rattle.tables.specs.Records.{book_row};
 ghost use Rattle.tables.specs.Rows.{begins_with};
 ghost use Rattle.writing.specs.Outcomes.{IsOutside, IsOverBook};
 ghost use Rattle.state_rows.specs.Rows.{book};
-ghost use Rattle.lookup.specs.Reads.{ReadsByKey, ReadsRows, TellOfNone};
+ghost use Rattle.lookup.specs.Reads.{ReadsByKey, ReadsRows, HaveNone};
 ghost use Rattle.lookup.specs.Entries.{HasFirstZone};
 
 use sqlite::{Alter, Connection};
@@ -39,8 +39,8 @@ fn book_rows<S: Alter>(
 #[tactic(auto, using(crate::proofs::RightEntries::no_book, crate::proofs::RightEntries::no_zone))]
 fn first_zone(alloc: Global, records: &[BookRecord]) -> Result<Zone, StoreFault>
     ensures told { IfOk result (HasFirstZone records.now) }
-    ensures untold { IfErr result
-        (λ fault. fault ≡ StoreFault.Store → TellOfNone (HasFirstZone records.now)) }
+    ensures unread { IfErr result
+        (λ fault. fault ≡ StoreFault.Store → HaveNone (HasFirstZone records.now)) }
 {
     let Some(row) = records.first() else {
         return Err(StoreFault::Store);

@@ -1,5 +1,7 @@
--- Tables that are read one after the other.
-use Rattle.std.proofs.Common.{◌≡◌, refl, sym, subst, ◌∙◌, false, IsTrue, Result, Ok, Err, IfOk}
+-- Tables that are read one after the other, and a book of version 1 that is brought to version 2.
+use Rattle.std.proofs.Common.{◌≡◌, ◌⊎◌, inl, inr, refl, sym, subst, ◌∙◌, false, true, arith, IsTrue, Result, Ok, Err, IfOk, IsErr}
+use Rattle.std.proofs.lemmas.Bool.{cases_Bool}
+use Rattle.sqlite_disk.specs.Disk.{MoreFaults}
 use Rattle.sqlite_trees.specs.declared.store.Store.{Ghosts}
 use Rattle.sqlite_trees.specs.Tree.{Trees}
 use Rattle.sqlite.specs.Effect.{Database}
@@ -8,80 +10,256 @@ use Rattle.sqlite.specs.State.{State, HasCleanDisk, IsLive, IsUnchanged}
 use Rattle.sqlite.proofs.StateLemmas.{survives_then}
 use Rattle.roster.specs.State as roster
 use Rattle.tables.specs.Calls.{CrashLeavesNoMore}
-use Rattle.loading.specs.Loading.{Justifies}
-use Rattle.writing.specs.Kept.{IsBookOf}
-use Rattle.writing.specs.Outcomes.{CrashLeaves, HoldsNow, IsOutside, IsOverBook, one}
-use Rattle.loading.specs.Reading.{AgreesThrough, ReadsAs}
-use Rattle.state_rows.specs.Rows.{request}
+use Rattle.loading.specs.Loading.{HasReadCause, IsCaused, IsOfEdition, Justifies}
+use Rattle.tables.specs.Schema.{later_tables}
+use Rattle.writing.specs.Commits.{IsMigrated}
+use Rattle.writing.specs.Kept.{HoldBookOf, IsBookOf, IsFirstBookOf, KeepBeside}
+use Rattle.writing.specs.Outcomes.{CrashAddsNothing, CrashLeaves, CrashLeavesOnly, CrashLeavesSome, HoldsNow, IsOutside, IsOverBook, ShowsFirst, ShowsOnly, one}
+use Rattle.loading.specs.Reading.{AgreesIn, ReadsAs}
+use Rattle.state_rows.specs.Rows.{outside_segment}
+use Rattle.state_rows.specs.declared.edition.Edition.{Edition}
+use Rattle.state_rows.specs.declared.edition.Edition.TheVariants.{First, Second}
+use Rattle.state_rows.specs.declared.fault.StoreFault.{StoreFault}
+use Rattle.state_rows.specs.declared.fault.StoreFault.TheVariants.{Memory, Store}
 use Rattle.writing.proofs.Ending.{of_trees}
-use Rattle.store.proofs.ReadBooks.{read_book_of}
+use Rattle.store.proofs.ReadBooks.{read_book_of, read_first_of}
+use Rattle.loading.proofs.LaterTables.{one_edition}
 use Rattle.loading.proofs.Telling.{clean_before}
 use Rattle.loading.proofs.RightSound.{right_sound, right_instants}
 use Rattle.store.specs.Found.{IsFound}
+use Rattle.store.specs.Loaded.{CrashMayMigrate, IsLoaded, IsNotLoaded, IsOfFirst, AreMigrated, ShowsWhatIsLeft}
 use Rattle.loading.specs.declared.fault.LoadFault.{LoadFault}
-
--- what a call comes to that reads some tables
-abbrev pub Reads : {A : Type 0} → (Database → A → Type 0) → State → State → Result A LoadFault → Type 0
-Reads Is old new result = ReadsAs (Is old.now) (λ fault. Justifies fault old.now) old new result
-
-unchanged_then : (a b c : State) → IsUnchanged a b → IsUnchanged b c → IsUnchanged a c
-unchanged_then a b c p q = (
-  record {
-    was_open = p.0.was_open;
-    is_open = q.0.is_open;
-    now_is = q.0.now_is ∙ p.0.now_is;
-    committed_is = q.0.committed_is ∙ p.0.committed_is;
-    mode = q.0.mode ∙ p.0.mode;
-  },
-  record { changes = q.1.changes ∙ p.1.changes; last_rowid = q.1.last_rowid ∙ p.1.last_rowid },
-  q.2 ∙ p.2,
-)
-
-pub left_then : (a b c : State) → CrashLeavesNoMore a b → CrashLeavesNoMore b c → CrashLeavesNoMore a c
-left_then a b c p q = survives_then a b c _ _ _ (λ _ _ none. none) (λ _ _ none. none) p q
+use Rattle.loading.specs.declared.fault.LoadFault.TheVariants.{Fault}
 
 -- ---- A book that is read whole
 
-module _ {S : Type 0} (g : Ghosts S) (old : State) (new : Held S) (r : roster.State) (told : HasCleanDisk (state g new) → IsUnchanged old (state g new) × AgreesThrough request r old.now)
+module _ {S : Type 0} (g : Ghosts S) (old : State) (new : Held S) (r : roster.State) (edition : Edition)
+    (told : HasCleanDisk (state g new) → IsUnchanged old (state g new) × AgreesIn edition outside_segment r old.now)
     (live : IsLive (state g new)) (outside : IsOutside old) where
-  loaded_book : HasCleanDisk (state g new) → IsBookOf r (state g new).now
-  loaded_book clean =
+  agrees : HasCleanDisk (state g new) → AgreesIn edition outside_segment r (state g new).now
+  agrees clean = let it = told clean in subst (AgreesIn edition outside_segment r) (sym it.0.0.now_is) it.1
+
+  loaded_book : edition ≡ Second → HasCleanDisk (state g new) → IsBookOf r (state g new).now
+  loaded_book is clean =
       let it = told clean in
-      read_book_of r (state g new).now (live it.0.0.is_open).0 (subst (AgreesThrough request r) (sym it.0.0.now_is) it.1)
+      let now = agrees clean in
+      read_book_of r (state g new).now (live it.0.0.is_open).0 now.through (subst (λ e. IsOfEdition e (state g new).now) is now.of)
+
+  pub loaded_first : edition ≡ First → ShowsFirst (state g new) r
+  loaded_first is clean opened =
+      let now = agrees clean in
+      read_first_of r (state g new).now (live opened).0 now.through (subst (λ e. IsOfEdition e (state g new).now) is now.of)
 
   pub loaded_outside : CrashLeavesNoMore old (state g new) → IsOutside (state g new)
   loaded_outside left clean = (told clean).0.0.mode ∙ outside (clean_before old (state g new) left clean)
 
   -- it is what was committed last, and that is all that a crash leaves
   pub loaded_leaves : CrashLeavesNoMore old (state g new) → ((state g new).in_transaction ≡ false → IsTrue (state g new).is_open → (state g new).now ≡ (state g new).committed) →
-      ((it : S) (trees : Trees) → IsTrue (g.view it).is_open → g.recovers it trees → trees ≡ (g.view it).committed) → CrashLeaves (state g new) (one r)
-  loaded_leaves left settled law = record {
+      ((it : S) (trees : Trees) → IsTrue (g.view it).is_open → g.recovers it trees → trees ≡ (g.view it).committed) → edition ≡ Second → CrashLeaves (state g new) (one r)
+  loaded_leaves left settled law is = record {
     crash = λ clean trees may.
         let opened = (told clean).0.0.is_open in
         let same = settled (loaded_outside left clean) opened in
-        (r, refl, of_trees r (state g new).committed trees (law new.store trees opened may) (subst (IsBookOf r) same (loaded_book clean)));
+        (r, refl, of_trees r (state g new).committed trees (law new.store trees opened may) (subst (IsBookOf r) same (loaded_book is clean)));
   }
 
-  pub loaded_now : HoldsNow (state g new) r
-  loaded_now clean = ((told clean).0.0.is_open, loaded_book clean)
+  pub loaded_now : edition ≡ Second → HoldsNow (state g new) r
+  loaded_now is clean = ((told clean).0.0.is_open, loaded_book is clean)
+
+  its_book : (e : Edition) → edition ≡ e → HasCleanDisk (state g new) → IsFirstBookOf r (state g new).now ⊎ IsBookOf r (state g new).now
+  its_book First is clean = inl (loaded_first is clean (told clean).0.0.is_open)
+  its_book Second is clean = inr (loaded_book is clean)
 
   -- and it is what was found
   pub loaded_found : HasCleanDisk (state g new) → IsFound r old.now
   loaded_found clean =
       let it = told clean in
-      let right = it.1.right in
+      let right = it.1.through.right in
+      let first = right.0.0.0.0 in
       record {
-        book = subst (IsBookOf r) it.0.0.now_is (loaded_book clean);
+        book = subst (λ db. IsFirstBookOf r db ⊎ IsBookOf r db) it.0.0.now_is (its_book edition refl clean);
         right = right;
-        sound = right_sound r old.now right;
-        instants = right_instants r old.now right;
+        sound = right_sound r old.now first;
+        instants = right_instants r old.now first;
       }
 
-  pub loaded_over : IsOverBook (state g new)
-  loaded_over clean _ = let book = loaded_book clean in (book.tables, book.stored)
+  pub loaded_over : edition ≡ Second → IsOverBook (state g new)
+  loaded_over is clean _ = let book = loaded_book is clean in (book.tables, book.stored)
+
+-- what an open connection shows, outside a transaction, is what a crash leaves
+pub shows_what_is_left : {S : Type 0} (g : Ghosts S) (now : Held S) → IsTrue (state g now).is_open → (state g now).now ≡ (state g now).committed →
+    ((it : S) → IsTrue (g.view it).is_open → g.recovers it (g.view it).committed) → ShowsWhatIsLeft (state g now)
+shows_what_is_left g now opened same stays = subst (λ (db : Database). (state g now).may_leave db.trees) (sym same) (stays now.store opened)
 
 -- what is so of what was read
 pub on_read : {A : Type 0} (Is P : A → Type 0) (Refuses : LoadFault → Type 0) (old new : State) (result : Result A LoadFault) → ReadsAs Is Refuses old new result →
     ((a : A) → (HasCleanDisk new → IsUnchanged old new × Is a) → P a) → IfOk result P
 on_read Is P Refuses old new (Ok a) it so = so a it.told
 on_read Is P Refuses old new (Err fault) it so = tt
+
+-- ---- A read that is refused, and taken back
+
+module _ (old mid new : State) (left : CrashLeavesNoMore old mid) (back : CrashLeavesNoMore mid new) where
+  cause_on : HasReadCause old mid → HasReadCause old new
+  cause_on (inl more) = let later = back.counts in inl (omega (arith, more, later))
+  cause_on (inr other) = inr other
+
+  back_cause : HasCleanDisk new → MoreFaults mid.faults new.faults ⊎ (mid.is_open ≡ false) → HasReadCause old new
+  back_cause clean (inl more) = let before = left.counts in inl (omega (arith, more, before))
+  back_cause clean (inr shut) = elim (cases_Bool old.is_open) [
+    | inl opened ↦ elim (left.closes (clean_before mid new back clean) opened) [
+      | inl still ↦ absurd (let no : true ≡ false = sym still ∙ shut in cc)
+      | inr more ↦ let later = back.counts in inl (omega (arith, more, later))
+    ]
+    | inr was ↦ inr (inl was)
+  ]
+
+  both : CrashLeavesNoMore old new
+  both = survives_then old mid new _ _ _ (λ _ _ none. none) (λ _ _ none. none) left back
+
+  -- it is refused as it was
+  pub refused_still : {A : Type 0} (Is : A → Type 0) (Refuses : LoadFault → Type 0) (result : Result A LoadFault) → IsErr result → ReadsAs Is Refuses old mid result → ReadsAs Is Refuses old new result
+  refused_still Is Refuses (Ok a) err read = absurd (cc)
+  refused_still Is Refuses (Err fault) err read = record {
+    told = λ clean. read.told (clean_before mid new back clean);
+    caused = λ clean is. cause_on (read.caused (clean_before mid new back clean) is);
+    left = both;
+  }
+
+  -- what can't be taken back is refused by the store
+  pub refused_back : {A : Type 0} (Is : A → Type 0) (Refuses : LoadFault → Type 0) (fault : StoreFault) → Refuses (Fault fault) →
+      (HasCleanDisk new → MoreFaults mid.faults new.faults ⊎ (mid.is_open ≡ false)) → ReadsAs Is Refuses old new (Err (Fault fault))
+  refused_back Is Refuses fault refuses cause = record {
+    told = λ clean. refuses;
+    caused = λ clean is. back_cause clean (cause clean);
+    left = both;
+  }
+
+-- ---- A book that is left as it was
+
+pub still : (old new : State) → CrashAddsNothing old new → CrashMayMigrate old new
+still old new left = record { disk = left.disk; crash = λ clean trees may. inl (left.crash clean trees may) }
+
+-- no book was read
+pub not_read : (old new : State) (fault : LoadFault) → (HasCleanDisk new → Justifies fault old.now) → (HasCleanDisk new → IsCaused old new fault) → CrashLeavesNoMore old new → CrashAddsNothing old new →
+    CrashLeavesSome new → IsOutside new → IsNotLoaded old new fault
+not_read old new fault told caused left nothing_new some outside = record {
+  says = told;
+  caused = λ clean is. inl (caused clean is);
+  crash = still old new nothing_new;
+  nothing_new = λ _. nothing_new;
+  others_left = record { crash = λ clean trees may. inl (nothing_new.crash clean trees may) };
+  some_left = some;
+  still_open = left.closes;
+  limit = left.limit;
+  outside = outside;
+}
+
+module _ (old new : State) (r : roster.State) (saw : HasCleanDisk new → IsUnchanged old new × AgreesIn Second outside_segment r old.now) (left : CrashLeavesNoMore old new)
+    (found : HasCleanDisk new → IsFound r old.now) (shows : HasCleanDisk new → ShowsWhatIsLeft old) where
+  no_first : HasCleanDisk new → IsOfFirst old → ⊥
+  no_first clean first = one_edition old.now first (saw clean).1.of
+
+  pub second_loaded : CrashAddsNothing old new → CrashLeaves new (one r) → CrashLeavesSome new → HoldsNow new r → IsLoaded old new r
+  second_loaded nothing_new crash some shown = record {
+    found = found;
+    left = shows;
+    crash = crash;
+    some_left = some;
+    shown = shown;
+    nothing_new = λ _. nothing_new;
+    unchanged = λ clean _. (saw clean).0;
+    others_crash = λ first. record { crash = λ clean trees may. absurd (no_first clean first) };
+    others_shown = λ first clean. absurd (no_first clean first);
+    disk = nothing_new.disk;
+    limit = left.limit;
+  }
+
+-- ---- A book that is brought to version 2
+
+module _ {A : Type 0} (old mid new : State) (r : roster.State) (result : Result A StoreFault)
+    (saw : HasCleanDisk mid → IsUnchanged old mid × AgreesIn First outside_segment r old.now) (left : CrashLeavesNoMore old mid)
+    (found : HasCleanDisk mid → IsFound r old.now) (shows : HasCleanDisk mid → ShowsWhatIsLeft old) (first : ShowsFirst mid r)
+    (migrated : IsMigrated mid new r result) where
+  clean_first : HasCleanDisk new → HasCleanDisk old
+  clean_first clean = clean_before old mid left (migrated.disk clean)
+
+  is_first : HasCleanDisk new → IsOfFirst old
+  is_first clean = (saw (migrated.disk clean)).1.of
+
+  same_now : HasCleanDisk new → mid.now ≡ old.now
+  same_now clean = (saw (migrated.disk clean)).0.0.now_is
+
+  no_outcome : (db : Trees) → HasCleanDisk mid → mid.may_leave db → old.may_leave db
+  no_outcome db clean may = elim (left.crash clean db may) [ inl was ↦ was | inr none ↦ absurd none ]
+
+  same_limit : new.step_limit ≡ old.step_limit
+  same_limit = migrated.limit ∙ left.limit
+
+  pub first_loaded : CrashLeaves new (one r) → HoldsNow new r → CrashLeavesOnly new (KeepBeside later_tables mid.now) →
+      ShowsOnly new (KeepBeside later_tables mid.now) → IsLoaded old new r
+  first_loaded crash shown others others_shown = record {
+    found = λ clean. found (migrated.disk clean);
+    left = λ clean. shows (migrated.disk clean);
+    crash = crash;
+    some_left = migrated.some_left;
+    shown = shown;
+    nothing_new = λ bad. record { disk = clean_first; crash = λ clean trees may. absurd (bad (is_first clean)) };
+    unchanged = λ clean bad. absurd (bad (is_first clean));
+    others_crash = λ _. record { crash = λ clean trees may. subst (λ (db : Database). KeepBeside later_tables db trees) (same_now clean) (others.crash clean trees may) };
+    others_shown = λ _ clean. subst (λ (db : Database). KeepBeside later_tables db new.now.trees) (same_now clean) (others_shown clean);
+    disk = clean_first;
+    limit = same_limit;
+  }
+
+  was_first : HasCleanDisk new → IsFirstBookOf r old.now
+  was_first clean = let mid_clean = migrated.disk clean in subst (IsFirstBookOf r) (same_now clean) (first mid_clean (saw mid_clean).0.0.is_open)
+
+  migrated : (trees : Trees) → HasCleanDisk new → HoldBookOf trees r → AreMigrated old trees
+  migrated trees clean holds = record {
+    left = shows (migrated.disk clean);
+    it = r;
+    found = found (migrated.disk clean);
+    was = was_first clean;
+    is = holds;
+  }
+
+  may_raise : CrashMayMigrate old new
+  may_raise = record {
+    disk = clean_first;
+    crash = λ clean trees may. elim (migrated.store.crash clean trees may) [
+      | inl was ↦ inl (no_outcome trees (migrated.disk clean) was)
+      | inr is ↦ inr (migrated trees clean is)
+    ];
+  }
+
+  more_faults : MoreFaults mid.faults new.faults → MoreFaults old.faults new.faults
+  more_faults more = let before = left.counts in omega (arith, more, before)
+
+  nothing : (f : StoreFault) → (f ≡ Memory → CrashAddsNothing mid new) → (Fault f ≡ Fault Store → IsOfFirst old → ⊥) → CrashAddsNothing old new
+  nothing Memory memory unless = let same = memory refl in record {
+    disk = clean_first;
+    crash = λ clean trees may. no_outcome trees (migrated.disk clean) (same.crash clean trees may);
+  }
+  nothing Store memory unless = record { disk = clean_first; crash = λ clean trees may. absurd (unless refl (is_first clean)) }
+
+  pub first_stopped : (fault : StoreFault) → (fault ≡ Memory → CrashAddsNothing mid new) → IsOutside new → IsNotLoaded old new (Fault fault)
+  first_stopped fault memory outside = record {
+    says = λ clean. tt;
+    caused = λ clean _. inr (r, found (migrated.disk clean), was_first clean);
+    crash = may_raise;
+    nothing_new = λ unless. nothing fault memory unless;
+    others_left = record {
+      crash = λ clean trees may. elim (migrated.others_left.crash clean trees may) [
+        | inl was ↦ inl (no_outcome trees (migrated.disk clean) was)
+        | inr is ↦ inr (subst (λ (db : Database). KeepBeside later_tables db trees) (same_now clean) is)
+      ];
+    };
+    some_left = migrated.some_left;
+    still_open = λ clean opened. elim (migrated.still_open clean (saw (migrated.disk clean)).0.0.is_open) [
+      | inl is ↦ inl is
+      | inr more ↦ inr (more_faults more)
+    ];
+    limit = same_limit;
+    outside = outside;
+  }

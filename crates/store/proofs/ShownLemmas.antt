@@ -1,5 +1,5 @@
 -- What is gathered to be shown has the texts of the state.
-use Rattle.std.proofs.Common.{◌≡◌, ◌↔◌, sym, subst, ◌∙◌, ℕ, List, Result, Ok, Err, Option, Some, None, IfOk}
+use Rattle.std.proofs.Common.{◌≡◌, ◌↔◌, sym, subst, ◌∙◌, ℕ, List, Result, Option, Some, None, IfOk}
 use Rattle.roster.specs.State.{State}
 use Rattle.part.specs.Shown.{exceedances_part, member_part, pairing_part}
 use Rattle.part.proofs.ShownTexts.{member_text, pairing_shown_text, exceedance_shown_text}

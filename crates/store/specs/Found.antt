@@ -1,23 +1,23 @@
 -- What it means that a database holds a book.
+use Rattle.std.specs.Prelude.{◌⊎◌}
 use Rattle.sqlite_schema.specs.declared.schema.Schema.{Schema}
 use Rattle.sqlite_trees.specs.Tree.{Trees}
 use Rattle.sqlite.specs.Effect.{Database}
 use Rattle.roster.specs.Sound.{Sound}
 use Rattle.roster.specs.State.{State}
-use Rattle.state_rows.specs.Rows.{request}
-use Rattle.loading.specs.Loading.{IsRight}
+use Rattle.loading.specs.Loading.{IsRightBook}
 use Rattle.loading.specs.SameRows.{HasInstants}
-use Rattle.writing.specs.Kept.{IsBookOf}
+use Rattle.writing.specs.Kept.{IsBookOf, IsFirstBookOf}
 
--- a book in this state is found
+-- a sound book in this state is found in the database, in version 1 or in version 2
 pub record IsFound (s : State) (found : Database) : Type 0 where
   -- its tables are there, with just the rows of the state
-  pub book : IsBookOf s found
+  pub book : IsFirstBookOf s found ⊎ IsBookOf s found
   -- none of them is damaged
-  pub right : IsRight request s found
+  pub right : IsRightBook s found
   pub sound : Sound s
   pub instants : HasInstants s
 
--- it is found in trees, by the schema that they list
+-- a sound book in this state is found in the trees, by the schema that they list
 abbrev pub IsFoundIn : State → Trees → Type 0
 IsFoundIn s trees = (schema : Schema) × IsFound s (record { schema = schema; trees = trees })

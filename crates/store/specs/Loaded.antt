@@ -1,31 +1,82 @@
--- What it comes to that a book is loaded, or refused.
-use Rattle.std.specs.Prelude.{◌≡◌}
+-- What it comes to that a book is loaded, or refused. A book of version 1 is brought to version 2.
+use Rattle.std.specs.Prelude.{◌≡◌, ◌⊎◌}
+use Rattle.sqlite_trees.specs.Tree.{Trees}
 use Rattle.sqlite.specs.State as conn
 use Rattle.sqlite.specs.State.{HasCleanDisk, IsUnchanged}
 use Rattle.roster.specs.State.{State}
-use Rattle.loading.specs.Loading.{Justifies}
+use Rattle.loading.specs.Loading.{HasReadCause, IsOfEdition, Justifies}
 use Rattle.loading.specs.declared.fault.LoadFault.{LoadFault}
-use Rattle.writing.specs.Outcomes.{CrashAddsNothing, HoldsNow, IsOutside, CrashLeaves}
-use Rattle.writing.specs.Outcomes.{CrashLeavesSome, StaysOpen, one}
+use Rattle.loading.specs.declared.fault.LoadFault.TheVariants.{Fault}
+use Rattle.state_rows.specs.declared.edition.Edition.TheVariants.{First}
+use Rattle.state_rows.specs.declared.fault.StoreFault.TheVariants.{Store}
+use Rattle.tables.specs.Schema.{later_tables}
+use Rattle.writing.specs.Kept.{HoldBookOf, IsFirstBookOf, KeepBeside}
+use Rattle.writing.specs.Outcomes.{CrashAddsNothing, CrashAddsOnly, CrashLeaves, CrashLeavesOnly}
+use Rattle.writing.specs.Outcomes.{CrashLeavesSome, HoldsNow, IsOutside, ShowsOnly, StaysOpen, one}
 use Rattle.store.specs.Found.{IsFound}
 
--- a book was found in this state, and nothing was changed
+-- the connection shows a database whose table `book` says version 1
+abbrev pub IsOfFirst : conn.State → Type 0
+IsOfFirst s = IsOfEdition First s.now
+
+-- what the connection shows is what a crash could leave of it
+abbrev pub ShowsWhatIsLeft : conn.State → Type 0
+ShowsWhatIsLeft s = s.may_leave s.now.trees
+
+-- the connection shows a sound book of version 1
+abbrev pub ShowsFirstBook : conn.State → Type 0
+ShowsFirstBook s = (it : State) × IsFound it s.now × IsFirstBookOf it s.now
+
+-- the connection shows a sound book of version 1, which a crash could leave of it, and these trees
+-- hold the whole of the same book in version 2
+pub record AreMigrated (s : conn.State) (trees : Trees) : Type 0 where
+  pub left : ShowsWhatIsLeft s
+  pub it : State
+  pub found : IsFound it s.now
+  pub was : IsFirstBookOf it s.now
+  pub is : HoldBookOf trees it
+
+-- a crash leaves what it could leave before; or, where a sound book of version 1 was shown, the
+-- whole of the same book in version 2
+pub record CrashMayMigrate (old new : conn.State) : Type 0 where
+  pub disk : HasCleanDisk new → HasCleanDisk old
+  pub crash : HasCleanDisk new → (trees : Trees) → new.may_leave trees →
+      old.may_leave trees ⊎ AreMigrated old trees
+
+-- A book in this state was found. One of version 1 is one of version 2 now, in the same state; one
+-- of version 2 was left as it was.
 pub record IsLoaded (old new : conn.State) (s : State) : Type 0 where
   pub found : HasCleanDisk new → IsFound s old.now
-  -- what a crash leaves, and what is shown
+  -- what was found is what a crash could have left
+  pub left : HasCleanDisk new → ShowsWhatIsLeft old
+  -- the book now, of version 2: what a crash leaves, and what is shown
   pub crash : CrashLeaves new (one s)
   pub some_left : CrashLeavesSome new
   pub shown : HoldsNow new s
-  -- nothing was changed
-  pub nothing_new : CrashAddsNothing old new
-  pub unchanged : HasCleanDisk new → IsUnchanged old new
+  -- of a book of version 2 nothing was changed
+  pub nothing_new : ¬ IsOfFirst old → CrashAddsNothing old new
+  pub unchanged : HasCleanDisk new → ¬ IsOfFirst old → IsUnchanged old new
+  -- beside a book of version 1 all else stays that was there, and nothing else is made than the
+  -- tables of version 2: what a crash leaves, and what is shown
+  pub others_crash : IsOfFirst old → CrashLeavesOnly new (KeepBeside later_tables old.now)
+  pub others_shown : IsOfFirst old → ShowsOnly new (KeepBeside later_tables old.now)
+  -- the disk, and the limit of a statement's steps, if one is set
+  pub disk : HasCleanDisk new → HasCleanDisk old
   pub limit : new.step_limit ≡ old.step_limit
 
--- no book was taken, for this fault, and nothing was changed
+-- No book was taken, for this fault, and nothing was changed. Only where a fault of the store (90)
+-- met a book of version 1, a crash leaves it as it was, or as one of version 2.
 pub record IsNotLoaded (old new : conn.State) (fault : LoadFault) : Type 0 where
   pub says : HasCleanDisk new → Justifies fault old.now
-  pub nothing_new : CrashAddsNothing old new
+  -- a fault of the store came of a read, and has a cause; or when a book of version 1 was to become
+  -- one of version 2, and then no cause is told
+  pub caused : HasCleanDisk new → fault ≡ Fault Store → HasReadCause old new ⊎ ShowsFirstBook old
+  -- what a crash leaves
+  pub crash : CrashMayMigrate old new
+  pub nothing_new : (fault ≡ Fault Store → ¬ IsOfFirst old) → CrashAddsNothing old new
+  pub others_left : CrashAddsOnly old new (KeepBeside later_tables old.now)
   pub some_left : CrashLeavesSome new
+  -- the connection, and the limit of a statement's steps, if one is set
   pub still_open : StaysOpen old new
   pub limit : new.step_limit ≡ old.step_limit
   pub outside : IsOutside new

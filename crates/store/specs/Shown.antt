@@ -10,7 +10,8 @@ use Rattle.report.specs.RosterText.{IsRosterText}
 use Rattle.store.specs.declared.show.Show.{Show}
 use Rattle.store.specs.declared.show.Show.TheVariants.{Crew, Pairing, Exceedances}
 
--- a member who isn't there has no roster, and a pairing that isn't there no text
+-- what is shown of a state: the text of a member's roster, of a pairing or of the exceedances; or
+-- that there is none, where the member or the pairing isn't there
 abbrev pub IsShown : State → Show → Option (List ℕ) → Type 0
 IsShown s (Crew who) (Some text) = IsRosterText s who text
 IsShown s (Crew who) None = fin.get s.crew who ≡ None

@@ -12,11 +12,12 @@ ghost use Rattle.lookup.specs.Reads.{ChangesNothing, IsOpen, IsReadFault, Shows}
 ghost use Rattle.writing.specs.Commits.{IsCommitted, AreTablesMade, IsNotMade};
 ghost use Rattle.loading.specs.Loading.{Justifies};
 ghost use Rattle.writing.specs.Making.{IsFree};
-ghost use Rattle.writing.specs.Outcomes.{CrashLeaves, CrashLeavesSome, CrashAddsNothing, HoldsNow, IsOutside, IsOverBook, one};
-ghost use Rattle.loading.specs.Reading.{AgreesThrough, ReadsAs};
-ghost use Rattle.state_rows.specs.Rows.{request};
+ghost use Rattle.writing.specs.Outcomes.{CrashLeaves, CrashLeavesSome, CrashAddsNothing, HoldsNow, IsOutside};
+ghost use Rattle.writing.specs.Outcomes.{IsOverBook, ShowsFirst, one};
+ghost use Rattle.loading.specs.Reading.{AgreesIn, ReadsAs};
+ghost use Rattle.state_rows.specs.Rows.{outside_segment};
 ghost use Rattle.store.specs.Found.{IsFound};
-ghost use Rattle.store.specs.Loaded.{IsLoaded, IsNotLoaded};
+ghost use Rattle.store.specs.Loaded.{IsLoaded, IsNotLoaded, ShowsWhatIsLeft};
 ghost use Rattle.store.specs.Shown.{IsShown, shown_part};
 
 use crate::show::{Show, gather_shown};
@@ -25,11 +26,11 @@ use loading::{LoadFault, read_all};
 use part::gather;
 use roster::{Change, Roster};
 use sqlite::{Alter, Connection};
-use state_rows::StoreFault;
+use state_rows::{Edition, StoreFault};
 use std::alloc::Global;
 use std::marker::Model;
 use time117::Zone;
-use writing::{CreateFault, commit_change, make_book, take_back};
+use writing::{CreateFault, commit_change, make_book, migrate_book, take_back};
 
 /// The tables of a book. Contracts see what its connection holds.
 pub struct Store<S: Alter> {
@@ -77,9 +78,10 @@ impl<S: Alter> Store<S> {
         }
     }
 
-    /// Reads the book that a crash or anybody left, and changes nothing. Refused is a database without a table `book` (40),
-    /// tables of another version (42), tables that aren't the rows of a sound roster, with the first that is at fault (41),
-    /// a store's fault (90), and want of memory (91); then the connection is handed back.
+    /// Reads the book that a crash or anybody left. One of version 1 becomes one of version 2, in one transaction; of one of
+    /// version 2 nothing is changed. Refused is a database without a table `book` (40), tables of another version (42), tables
+    /// that aren't the rows of a sound roster, with the first that is at fault (41), a store's fault (90), and want of memory
+    /// (91); then the connection is handed back, with nothing changed. Only after 90 a book of version 1 may be of version 2.
     pub fn load(
         alloc: Global,
         mut conn: Connection<S>,
@@ -90,7 +92,7 @@ impl<S: Alter> Store<S> {
         ensures not_loaded { IfErr result
             (λ e. IsNotLoaded (state S.Store conn) (state S.Store e.1) e.0) }
     {
-        match read(alloc, &mut conn) {
+        match read_migrated(alloc, &mut conn) {
             Ok(roster) => Ok((Store { conn }, roster)),
             Err(fault) => Err((fault, conn)),
         }
@@ -161,30 +163,59 @@ impl<S: Alter> Store<S> {
     }
 }
 
+/// Reads a book, and brings one of version 1 to version 2.
+fn read_migrated<S: Alter>(alloc: Global, conn: &mut Connection<S>) -> Result<Roster, LoadFault>
+    requires { IsOutside (state S.Store conn.old) }
+    ensures loaded { IfOk result (IsLoaded (state S.Store conn.old) (state S.Store conn.new)) }
+    ensures not_loaded { IfErr result
+        (IsNotLoaded (state S.Store conn.old) (state S.Store conn.new)) }
+    ensures over { IfOk result (λ _. IsOverBook (state S.Store conn.new)) }
+    ensures outside { IsOutside (state S.Store conn.new) }
+{
+    let (roster, edition) = read(alloc, conn)?;
+    match edition {
+        Edition::First => match migrate_book(alloc, conn, &roster) {
+            Ok(()) => Ok(roster),
+            Err(fault) => Err(LoadFault::Fault(fault)),
+        },
+        Edition::Second => Ok(roster),
+    }
+}
+
 /// Reads a book, and leaves no transaction open: where it can't be taken back, that is the fault (90).
-fn read<S: Alter>(alloc: Global, conn: &mut Connection<S>) -> Result<Roster, LoadFault>
+fn read<S: Alter>(alloc: Global, conn: &mut Connection<S>) -> Result<(Roster, Edition), LoadFault>
     // No transaction is begun.
     requires { IsOutside (state S.Store conn.old) }
 
-    // What is read, or what is true of the database.
-    ensures saw { ReadsAs (λ r. AgreesThrough request r (state S.Store conn.old).now)
+    // What is read, or what is true of the database; and that a crash could have left the database.
+    ensures saw { ReadsAs (λ r. AgreesIn r.1 outside_segment r.0 (state S.Store conn.old).now)
         (λ fault. Justifies fault (state S.Store conn.old).now) (state S.Store conn.old)
         (state S.Store conn.new) result }
     ensures found { IfOk result
-        (λ r. HasCleanDisk (state S.Store conn.new) → IsFound r (state S.Store conn.old).now) }
+        (λ r. HasCleanDisk (state S.Store conn.new) → IsFound r.0 (state S.Store conn.old).now) }
+    ensures left { IfOk result (λ _. HasCleanDisk (state S.Store conn.new)
+        → ShowsWhatIsLeft (state S.Store conn.old)) }
 
-    // Where it is read: what a crash leaves, and what the tables show.
-    ensures crash { IfOk result (λ r. CrashLeaves (state S.Store conn.new) (one r)) }
-    ensures shown { IfOk result (λ r. HoldsNow (state S.Store conn.new) r) }
-    ensures over { IfOk result (λ _. IsOverBook (state S.Store conn.new)) }
+    // Where it is of version 1: what the tables show.
+    ensures first { IfOk result
+        (λ r. r.1 ≡ Edition.First → ShowsFirst (state S.Store conn.new) r.0) }
+
+    // Where it is of version 2: what a crash leaves, and what the tables show.
+    ensures crash { IfOk result
+        (λ r. r.1 ≡ Edition.Second → CrashLeaves (state S.Store conn.new) (one r.0)) }
+    ensures shown { IfOk result
+        (λ r. r.1 ≡ Edition.Second → HoldsNow (state S.Store conn.new) r.0) }
+    ensures over { IfOk result
+        (λ r. r.1 ≡ Edition.Second → IsOverBook (state S.Store conn.new)) }
     ensures some_left { CrashLeavesSome (state S.Store conn.new) }
 
     // Nothing is changed, and no transaction is begun.
     ensures nothing_new { CrashAddsNothing (state S.Store conn.old) (state S.Store conn.new) }
     ensures outside { IsOutside (state S.Store conn.new) }
 {
-    let read = read_all(alloc, conn);
     // The clauses of these calls say that an open connection shows a database, and outside a transaction what is committed.
+    let _begun = conn.is_autocommit();
+    let read = read_all(alloc, conn);
     let _live = conn.schema();
     let _settled = conn.is_autocommit();
     if read.is_err() {

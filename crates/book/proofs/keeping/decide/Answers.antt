@@ -1,9 +1,7 @@
-use Rattle.std.proofs.Common.{◌≡◌, false, ap, inl, inr, ◌⊎◌, ◌∙◌}
+use Rattle.std.proofs.Common.{ap, inl, inr, ◌∙◌}
 use Rattle.sqlite.specs.Held.{state}
 use Rattle.roster.specs.Folds.{answer_of, next}
-use Rattle.book.specs.Headline.{SparesOthers, Untouched}
-use Rattle.book.specs.Kept.{is_store_fault}
-use Rattle.book.proofs.Asked.{did_not_read, did_after, no_fault, read_fault, reply_as, shown_on, shows_it}
+use Rattle.book.proofs.Asked.{did_not_read, did_after, no_fault, reply_as, shown_on, shows_it}
 use Rattle.book.proofs.Sparing.{spares_after}
 use Rattle.book.proofs.States.{still_keeps}
 use Rattle.book.proofs.Untouched.{if_ok, on_ok, read_only, untouched}

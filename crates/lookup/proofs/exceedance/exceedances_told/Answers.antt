@@ -22,10 +22,10 @@ loop-row-preserved c =
 pub returns-clause-told : goal.returns-clause-told
 returns-clause-told c = subst (λ (n : ℕ). AreRead c.args.records.now n c.loop-row.all) (search rules) c.loop-row.invariant
 
-pub returns-in_err-id-clause-untold : goal.returns-in_err-id-clause-untold
-returns-in_err-id-clause-untold c =
+pub returns-in_err-id-clause-unread : goal.returns-in_err-id-clause-unread
+returns-in_err-id-clause-unread c =
     let records = c.args.records.now in
     let fault = c.in_err-id.field-0.0 in
     let is : c.from_residual.result ≡ Err fault = search rules in
     subst (λ (r : Result (fin.FinMap name_cmp PeriodId) StoreFault). IfErr r (λ told. told ≡ Store → HasStranger row_of_recorded IsNumbered (map exceedance_row records))) (sym is)
-    (λ store. stranger_at records c.loop-row.row-index c.row-item.result (slice_get_read records (length records) c.loop-row.row-index c.row-item.result refl (omega arith) c.row-item.is) (c.in_err-id.ensures.untold store))
+    (λ store. stranger_at records c.loop-row.row-index c.row-item.result (slice_get_read records (length records) c.loop-row.row-index c.row-item.result refl (omega arith) c.row-item.is) (c.in_err-id.ensures.unread store))

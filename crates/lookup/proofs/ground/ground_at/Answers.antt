@@ -19,7 +19,7 @@ returns g c = record {
       is_told (HasFirstGround c.in_ok-records.records.items) (λ t found. found ≡ fin.get t.grounds c.args.id.now) _ _ s c.first_ground.result clean read.0 c.ground_rows.ensures.stays.nothing_new shows
       (λ is_book a it. ground_is s shows.sound _ is_book c.args.id.now c.in_ok-records.records.items finds a it) first;
   caused =
-      let none = rw c.deref.ensures.value at c.first_ground.ensures.untold in
+      let none = rw c.deref.ensures.value at c.first_ground.ensures.unread in
       told_cause (HasFirstGround c.in_ok-records.records.items) (state g.S.Store c.args.conn.now) (state g.S.Store c.ground_rows.new.conn) c.first_ground.result none
       (λ clean s shows right. ground_there _ right _ c.in_ok-records.records.items (c.in_ok-records.ensures.told clean).1);
 }

@@ -1,6 +1,3 @@
-use Rattle.std.proofs.Common.{◌≡◌, Ok, List, ℕ}
-use Rattle.roster.specs.Holding.{AreJust, IsGroundOf}
-use Rattle.lookup.specs.Entries.{grounds_in}
 use Rattle.lookup.proofs.EntryLemmas.{grounds_are, shown_still}
 use Rattle.lookup.proofs.ground.grounds_held_at.Goals as goal
 

@@ -15,7 +15,7 @@ returns g c = record {
       let first = rw c.deref.ensures.value at c.first_member.ensures.told in
       member_told _ _ s _ _ c.first_member.result clean read.0 finds c.crew_rows.ensures.stays.nothing_new shows first;
   caused =
-      let none = rw c.deref.ensures.value at c.first_member.ensures.untold in
+      let none = rw c.deref.ensures.value at c.first_member.ensures.unread in
       told_cause (HasFirst c.in_ok-records.records.items) (state g.S.Store c.args.conn.now) (state g.S.Store c.crew_rows.new.conn) c.first_member.result none
       (λ clean s shows right. member_there _ right _ c.in_ok-records.records.items (c.in_ok-records.ensures.told clean).1);
 }

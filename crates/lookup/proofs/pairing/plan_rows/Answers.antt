@@ -3,7 +3,7 @@ use Rattle.sqlite.specs.Held.{state}
 use Rattle.state_rows.specs.declared.fault.StoreFault.{StoreFault}
 use Rattle.lookup.specs.Plans.{ReadsPlan}
 use Rattle.lookup.specs.declared.pairing.PlanRecords.{PlanRecords}
-use Rattle.lookup.proofs.PlanReads.{not_second, not_third}
+use Rattle.lookup.proofs.PlanReads.{all_read, not_second, not_third}
 use Rattle.lookup.proofs.ReadLemmas.{over_on}
 use Rattle.lookup.proofs.pairing.plan_rows.Goals as goal
 
@@ -26,3 +26,7 @@ returns-in_err-seats g c =
     let is : c.from_residual-in_err-seats.result ≡ Err fault = search rules in
     subst (λ (r : Result PlanRecords StoreFault). ReadsPlan c.args.id.now (state g.S.Store c.args.conn.now) (state g.S.Store c.seat_rows.new.conn) r) (sym is)
     (not_third c.args.id.now _ _ _ _ fault c.period_rows.ensures.stays c.segment_rows.ensures.stays c.seat_rows.ensures.stays c.in_err-seats.ensures.caused)
+
+pub returns : goal.returns
+returns g c = all_read c.args.id.now (state g.S.Store c.args.conn.now) (state g.S.Store c.period_rows.new.conn) (state g.S.Store c.segment_rows.new.conn) (state g.S.Store c.seat_rows.new.conn) _
+    c.period_rows.ensures.stays c.segment_rows.ensures.stays c.seat_rows.ensures.stays c.in_ok-periods.ensures.told c.in_ok-segments.ensures.told c.in_ok-seats.ensures.told

@@ -19,7 +19,7 @@ returns g c = record {
       is_told (HasFirstRequest c.in_ok-records.records.items) (λ t found. found ≡ fin.get t.requests (key_name c.args.key)) _ _ s c.first_request.result clean read.0 c.request_rows.ensures.stays.nothing_new shows
       (λ is_book a it. request_is s shows.sound shows.instants _ is_book c.args.key c.in_ok-records.records.items read.1 a it) first;
   caused =
-      let none = rw c.deref.ensures.value at c.first_request.ensures.untold in
+      let none = rw c.deref.ensures.value at c.first_request.ensures.unread in
       told_cause (HasFirstRequest c.in_ok-records.records.items) (state g.S.Store c.args.conn.now) (state g.S.Store c.request_rows.new.conn) c.first_request.result none
       (λ clean s shows right. request_there _ right _ c.in_ok-records.records.items (c.in_ok-records.ensures.told clean).1);
 }

@@ -17,7 +17,7 @@ returns g c = record {
       is_told (HasFirstZone c.in_ok-records.records.items) (λ t zone. zone ≡ t.zone) _ _ s c.first_zone.result clean read.0 c.book_rows.ensures.stays.nothing_new shows
       (λ is_book a it. zone_is s shows.sound _ is_book c.in_ok-records.records.items read.1 a it) first;
   caused =
-      let none = rw c.deref.ensures.value at c.first_zone.ensures.untold in
+      let none = rw c.deref.ensures.value at c.first_zone.ensures.unread in
       told_cause (HasFirstZone c.in_ok-records.records.items) (state g.S.Store c.args.conn.now) (state g.S.Store c.book_rows.new.conn) c.first_zone.result none
       (λ clean s shows right. zone_there _ right c.in_ok-records.records.items (c.in_ok-records.ensures.told clean).1);
 }

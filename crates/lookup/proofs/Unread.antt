@@ -12,10 +12,10 @@ use Rattle.roster.specs.State as roster
 use Rattle.roster.specs.declared.state.PairingEntry.{PairingEntry}
 use Rattle.tables.specs.Records.{period_row, segment_row}
 use Rattle.tables.specs.Rows.{Finds, begins_with, rows_of}
-use Rattle.tables.specs.Schema.{period_table, segment_table}
+use Rattle.tables.specs.Schema.{period_table}
 use Rattle.tables.specs.declared.period.PeriodRecord.{PeriodRecord}
 use Rattle.tables.specs.declared.segment.SegmentRecord.{SegmentRecord}
-use Rattle.state_rows.specs.Rows.{table, period, segment, request, At, InPeriod, InSegment}
+use Rattle.state_rows.specs.Rows.{table, period, segment, request, InPeriod, InSegment}
 use Rattle.state_rows.proofs.Lists.{one_value}
 use Rattle.state_rows.proofs.Tests.{found, passes, IsPlain}
 use Rattle.state_rows.proofs.Values.{text_is, number_is}
@@ -34,7 +34,7 @@ use Rattle.loading.specs.PlanRows.{AreUngapped, HasNoGaps, IsPairingOfRows, Peri
 use Rattle.loading.specs.Reading.{HasStranger}
 use Rattle.lookup.proofs.OnePairing.{alone, alone_here, only_one}
 use Rattle.lookup.proofs.PlanLemmas.{once_period, once_segment, periods_just, periods_keyed, segments_just, segments_keyed}
-use Rattle.lookup.specs.Plans.{FindsPlan, IfSome, untold_as}
+use Rattle.lookup.specs.Plans.{FindsPlan, IfSome, unread_as}
 use Rattle.lookup.specs.declared.pairing.PlanRecords.{PlanRecords}
 use Rattle.lookup.proofs.ReadLemmas.{in_found, of_found}
 use Rattle.lookup.proofs.RightRows.{segments_right}
@@ -221,10 +221,10 @@ module _ (s : roster.State) (sound : Sound s) (db : Database) (book : IsBookOf s
       let same : id ≡ at.0.name = period_of p kept.1 ∙ text_is (ap (λ (x : Row). column x 0) at.2) in
       (at.0.value, ap (fin.get t.pairings) same ∙ at.0.there)
 
-  pub not_untold : (p : PeriodRecord) → Has (map period_row periods) (period_row p) → IsUntold id periods segments → ⊥
-  not_untold p h (inl (inl strange)) = period_strange strange
-  not_untold p h (inl (inr gap)) = gap.2 (ungapped gap.0 gap.1)
-  not_untold p h (inr m) = elim m.2 [
+  pub not_unread : (p : PeriodRecord) → Has (map period_row periods) (period_row p) → IsUntold id periods segments → ⊥
+  not_unread p h (inl (inl strange)) = period_strange strange
+  not_unread p h (inl (inr gap)) = gap.2 (ungapped gap.0 gap.1)
+  not_unread p h (inr m) = elim m.2 [
     | inl wanting ↦ elim wanting [
       | inl strange ↦ segment_strange m.0 m.1.0 strange
       | inr gap ↦ gap.2 (segments_ungapped m.0 m.1.0 gap.0 gap.1)
@@ -233,25 +233,25 @@ module _ (s : roster.State) (sound : Sound s) (db : Database) (book : IsBookOf s
   ]
 
 -- of all that is read of a pairing with a period
-not_untold_rows : (s : roster.State) (sound : Sound s) (db : Database) (book : IsBookOf s db) (right : AreRight request db) (id : List ℕ) (periods : List PeriodRecord) (segments : List SegmentRecord) →
+not_unread_rows : (s : roster.State) (sound : Sound s) (db : Database) (book : IsBookOf s db) (right : AreRight request db) (id : List ℕ) (periods : List PeriodRecord) (segments : List SegmentRecord) →
     Finds (table period) (begins_with (Text id ∷ [])) db (map period_row periods) → IfSome periods (Finds (table segment) (begins_with (Text id ∷ [])) db (map segment_row segments)) →
     IsSome (slice_get periods 0) → IsUntold id periods segments → ⊥
-not_untold_rows s sound db book right id [] segments finds also some untold = absurd (cc)
-not_untold_rows s sound db book right id (p ∷ ps) segments finds also some untold = not_untold s sound db book right id (p ∷ ps) segments finds also p (inl refl) untold
+not_unread_rows s sound db book right id [] segments finds also some unread = absurd (cc)
+not_unread_rows s sound db book right id (p ∷ ps) segments finds also some unread = not_unread s sound db book right id (p ∷ ps) segments finds also p (inl refl) unread
 
-pub not_untold_plan : (s : roster.State) (sound : Sound s) (db : Database) (book : IsBookOf s db) (right : AreRight request db) (id : List ℕ) (rows : PlanRecords) → FindsPlan id db rows →
+pub not_unread_plan : (s : roster.State) (sound : Sound s) (db : Database) (book : IsBookOf s db) (right : AreRight request db) (id : List ℕ) (rows : PlanRecords) → FindsPlan id db rows →
     IsSome (slice_get rows.periods.items 0) → IsUntold id rows.periods.items rows.segments.items → ⊥
-not_untold_plan s sound db book right id rows finds some untold =
-    not_untold_rows s sound db book right id rows.periods.items rows.segments.items finds.periods finds.segments some untold
+not_unread_plan s sound db book right id rows finds some unread =
+    not_unread_rows s sound db book right id rows.periods.items rows.segments.items finds.periods finds.segments some unread
 
 -- ---- The fault
 
-untold_if : (id : List ℕ) (periods : List PeriodRecord) (segments : List SegmentRecord) (fault : LoadFault) → RefusesPairing id periods segments fault → untold_as fault ≡ Store → IsUntold id periods segments
-untold_if id periods segments (Fault fault) refuses is = absurd (cc)
-untold_if id periods segments NotABook refuses is = refuses
-untold_if id periods segments Version refuses is = refuses
-untold_if id periods segments (Damaged name) refuses is = refuses
+unread_if : (id : List ℕ) (periods : List PeriodRecord) (segments : List SegmentRecord) (fault : LoadFault) → RefusesPairing id periods segments fault → unread_as fault ≡ Store → IsUntold id periods segments
+unread_if id periods segments (Fault fault) refuses is = absurd (cc)
+unread_if id periods segments NotABook refuses is = refuses
+unread_if id periods segments Version refuses is = refuses
+unread_if id periods segments (Damaged name) refuses is = refuses
 
-pub why_untold : (id : List ℕ) (periods : List PeriodRecord) (segments : List SegmentRecord) (fault : LoadFault) (told : StoreFault) → told ≡ untold_as fault → RefusesPairing id periods segments fault →
+pub why_unread : (id : List ℕ) (periods : List PeriodRecord) (segments : List SegmentRecord) (fault : LoadFault) (told : StoreFault) → told ≡ unread_as fault → RefusesPairing id periods segments fault →
     told ≡ Store → IsUntold id periods segments
-why_untold id periods segments fault told same refuses is = untold_if id periods segments fault refuses (sym same ∙ is)
+why_unread id periods segments fault told same refuses is = unread_if id periods segments fault refuses (sym same ∙ is)
