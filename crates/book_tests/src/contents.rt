@@ -4,9 +4,10 @@ use crate::fault::Untold;
 use sqlite::types::ValueRef;
 use sqlite::{Alter, Connection, Error, Row};
 use std::alloc::Global;
+use tables::book_schema::has_table;
 
 /// Each table of a book with a SELECT of all its columns.
-const TABLES: [(&str, &str); 9] = [
+const TABLES: [(&str, &str); 13] = [
     ("book", "SELECT one, version, zone FROM book"),
     ("crew", "SELECT id, seat, name FROM crew"),
     ("pairing", "SELECT id FROM pairing"),
@@ -30,6 +31,16 @@ const TABLES: [(&str, &str); 9] = [
     (
         "request",
         "SELECT number, part, command, reply FROM request",
+    ),
+    ("base", "SELECT id, zone FROM base"),
+    ("crew_base", "SELECT crew, base FROM crew_base"),
+    (
+        "outside",
+        "SELECT id, crew, report_at, release_at FROM outside",
+    ),
+    (
+        "outside_segment",
+        "SELECT outside, number, out_at, in_at FROM outside_segment",
     ),
 ];
 
@@ -89,11 +100,13 @@ pub fn found<S: Alter>(
     sorted(alloc, lines)
 }
 
-/// All rows of the nine tables, as lines that begin with the name of their table.
+/// All rows of the tables of a book that are there, as lines that begin with the name of their table.
 pub fn told<S: Alter>(alloc: Global, conn: &mut Connection<S>) -> Result<String, Untold> {
     let mut lines = Vec::new(alloc);
     for (name, select) in TABLES {
-        add_lines(alloc, conn, name, select, &mut lines)?;
+        if has_table(conn, name) {
+            add_lines(alloc, conn, name, select, &mut lines)?;
+        }
     }
     sorted(alloc, lines)
 }

@@ -1,10 +1,10 @@
 //! Exchanges of HTTP with a book in memory: whole, cut, and over channels that fail.
 
-use crate::clerk::channel::{Input, Output};
 use crate::contents;
 use crate::fault::Untold;
 use crate::opening::{create, opened, take_up};
 use book::Book;
+use failing_channel::{Input, Output};
 use sqlite::{Alter, Connection};
 use std::alloc::Global;
 use std::test::Fail;
@@ -248,6 +248,9 @@ fn tried<S: Alter + Drop>(alloc: Global, conn: Connection<S>) -> Result<String, 
 fn exchanges_come_to_what_is_stated(rt: HostRuntime) -> Result<(), Fail> {
     let conn = Connection::open_in_memory(rt.alloc())?;
     let text = tried(rt.alloc(), conn)?;
-    assert_eq!(rt; text.as_str(), "book 1|1|EST5EDT,M3.2.0,M11.1.0\n");
+    assert_eq!(rt;
+        text.as_str(),
+        "base HOME|EST5EDT,M3.2.0,M11.1.0\nbook 1|2|EST5EDT,M3.2.0,M11.1.0\n"
+    );
     Ok(())
 }

@@ -80,11 +80,23 @@ fn outside(
     Ok(Outside::new(id, minute(report), minute(release), segments))
 }
 
-/// How an outside period is refused, or that it is equal to its copy.
+/// The id of an outside period, its report and its release.
+fn named(alloc: Global, period: &Outside) -> Result<String, Fault> {
+    let (id, report, release) = (period.id().as_str(), period.report(), period.release());
+    Ok(format!(in alloc; "{id} {} {}", report.number(), release.number())?)
+}
+
+/// How an outside period is refused, or what its copy, which is equal to it, is named.
 fn told(alloc: Global, id: &str, flown: Flown) -> Result<String, Fault> {
     match outside(alloc, id, flown)? {
-        Ok(period) if period.try_clone(alloc)? == period => Ok(String::from_str(alloc, "copied")?),
-        Ok(_) => Err(Fault::Otherwise),
+        Ok(period) => {
+            let copy = period.try_clone(alloc)?;
+            if copy == period {
+                named(alloc, &copy)
+            } else {
+                Err(Fault::Otherwise)
+            }
+        }
         Err(fault) => Ok(format!(in alloc; "{fault}")?),
     }
 }
@@ -154,7 +166,7 @@ fn faults_of_an_outside_period_have_an_order(rt: HostRuntime) -> Result<(), Fail
         told(alloc, "X1", (1, &[(0, 1)], 1))?.as_str(),
         "16 BadTimes 0"
     );
-    assert_eq!(rt; told(alloc, "X1", LONG)?.as_str(), "copied");
+    assert_eq!(rt; told(alloc, "X1", LONG)?.as_str(), "X1 13380720 13381680");
     Ok(())
 }
 

@@ -29,14 +29,14 @@ pub trait Stops: Disk + Drop {
     fn restarted(self, alloc: Global, left: Left) -> Self;
 
     /// What is written in the file, in one that takes so many calls.
-    fn limited(self, alloc: Global, calls: u64) -> Self;
+    fn limited(&self, alloc: Global, calls: u64) -> Self;
 }
 
-/// What is written in a file, in a file that takes so many calls.
+/// What is written in a file, in a file that takes so many calls, and that has synced it.
 fn written(alloc: Global, file: &Fuse<Memory>, calls: u64) -> Fuse<Memory> {
     let mut copy = Memory::new(alloc);
-    if copy.may_be_used() {
-        let _ = copy.write_at(0, file.inner().bytes());
+    if copy.may_be_used() && copy.write_at(0, file.inner().bytes()).is_ok() {
+        let _ = copy.sync();
     }
     Fuse::new(copy, calls)
 }
@@ -59,8 +59,8 @@ impl Stops for Fuse<Memory> {
         }
     }
 
-    fn limited(self, alloc: Global, calls: u64) -> Fuse<Memory> {
-        written(alloc, &self, calls)
+    fn limited(&self, alloc: Global, calls: u64) -> Fuse<Memory> {
+        written(alloc, self, calls)
     }
 }
 
@@ -92,12 +92,16 @@ pub fn restarted<D: Stops>(alloc: Global, files: Files<D>, left: Left) -> Files<
     }
 }
 
-/// The files with what is written in them, one of which takes so many calls more.
-pub fn limited<D: Stops>(alloc: Global, files: Files<D>, stopped: Stopped, calls: u64) -> Files<D> {
-    let Files { log, db } = files;
-    let (log_calls, db_calls) = stopped.calls(calls);
+/// Copies of the files with what is written in them, one of which takes so many calls.
+pub fn limited<D: Stops>(
+    alloc: Global,
+    files: &Files<D>,
+    stopped: Stopped,
+    calls: u64,
+) -> Files<D> {
+    let (log, db) = stopped.calls(calls);
     Files {
-        log: log.limited(alloc, log_calls),
-        db: db.limited(alloc, db_calls),
+        log: files.log.limited(alloc, log),
+        db: files.db.limited(alloc, db),
     }
 }

@@ -1,6 +1,6 @@
 //! A book in files that is asked the commands, and what is found in the files when they are opened again.
 
-use crate::contents::{found, told};
+use crate::contents::told;
 use crate::fault::Untold;
 use crate::opening::create;
 use crate::requests::{CAPTAIN, requests};
@@ -203,16 +203,6 @@ impl Act for Asking {
     }
 }
 
-/// All rows of a book, or none where there are no tables at all.
-fn rows<S: Alter>(alloc: Global, conn: &mut Connection<S>) -> Result<String, Untold> {
-    let tables = found(alloc, conn, "table", "SELECT name FROM sqlite_schema")?;
-    if tables.is_empty() {
-        Ok(tables)
-    } else {
-        told(alloc, conn)
-    }
-}
-
 /// The book that is there, or a new one where there is none; nothing where it is refused otherwise.
 fn there<S: Alter>(alloc: Global, conn: Connection<S>) -> Result<Book<S>, Connection<S>> {
     if !conn.is_autocommit() {
@@ -222,6 +212,31 @@ fn there<S: Alter>(alloc: Global, conn: Connection<S>) -> Result<Book<S>, Connec
         Ok(book) => Ok(book),
         Err((LoadFault::NotABook, conn)) => create(alloc, conn).map_err(|(_told, conn)| conn),
         Err((_fault, conn)) => Err(conn),
+    }
+}
+
+/// What makes a file of version 1 of one of version 2: its four tables more are gone.
+const LOWERED: &str =
+    "DROP TABLE base; DROP TABLE crew_base; DROP TABLE outside; DROP TABLE outside_segment; \
+    UPDATE book SET version = 1";
+
+/// Makes a book, asks it all commands, and leaves it in version 1.
+#[derive(Clone, Copy)]
+pub struct Lowering;
+
+impl Act for Lowering {
+    /// Whether it is so.
+    type Told = bool;
+
+    fn act<S: Alter + Drop>(self, alloc: Global, conn: Connection<S>) -> (bool, Connection<S>) {
+        match create(alloc, conn) {
+            Ok(mut book) => {
+                let is_answered = answers_all(alloc, &mut book);
+                let mut conn = book.into_connection();
+                (is_answered && conn.execute_batch(LOWERED).is_ok(), conn)
+            }
+            Err((_told, conn)) => (false, conn),
+        }
     }
 }
 
@@ -253,12 +268,12 @@ impl Act for HandedInAgain {
         alloc: Global,
         mut conn: Connection<S>,
     ) -> (Again, Connection<S>) {
-        let held = rows(alloc, &mut conn);
+        let held = told(alloc, &mut conn);
         let (is_answered, mut conn) = match there(alloc, conn) {
             Ok(mut book) => (answers_all(alloc, &mut book), book.into_connection()),
             Err(conn) => (false, conn),
         };
-        let ended = rows(alloc, &mut conn);
+        let ended = told(alloc, &mut conn);
         let again = Again {
             held,
             is_answered,

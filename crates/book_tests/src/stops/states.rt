@@ -176,7 +176,7 @@ struct Kept {
 const KEPT: [Kept; 5] = [
     Kept {
         command: 1,
-        rows: &["crew C1|0|Ada Ray"],
+        rows: &["crew C1|0|Ada Ray", "crew_base C1|HOME"],
         key: "1|0",
         text: CAPTAIN,
         exceedances: "",
@@ -190,7 +190,7 @@ const KEPT: [Kept; 5] = [
     },
     Kept {
         command: 7,
-        rows: &["crew F1|1|Zoë Roy"],
+        rows: &["crew F1|1|Zoë Roy", "crew_base F1|HOME"],
         key: "4|0",
         text: OFFICER,
         exceedances: "",
@@ -244,7 +244,8 @@ fn add_planned(
 
 /// Adds the rows after so many commands.
 fn add_rows(alloc: Global, count: usize, lines: &mut Vec<String>) -> Result<(), Untold> {
-    add(alloc, "book 1|1|EST5EDT,M3.2.0,M11.1.0", lines)?;
+    add(alloc, "book 1|2|EST5EDT,M3.2.0,M11.1.0", lines)?;
+    add(alloc, "base HOME|EST5EDT,M3.2.0,M11.1.0", lines)?;
     for kept in &KEPT {
         if kept.command <= count {
             add_kept(alloc, kept, lines)?;
@@ -273,4 +274,23 @@ pub fn states(alloc: Global) -> Result<Vec<String>, Untold> {
         states.push(after(alloc, count)?)?;
     }
     Ok(states)
+}
+
+/// Whether a row is one that only version 2 has.
+fn is_later(row: &str) -> bool {
+    row.starts_with("book ") || row.starts_with("base ") || row.starts_with("crew_base ")
+}
+
+/// The rows after all commands in a book of version 1.
+pub fn first(alloc: Global) -> Result<String, Untold> {
+    let mut later = Vec::new(alloc);
+    add_rows(alloc, COMMANDS, &mut later)?;
+    let mut lines = Vec::new(alloc);
+    add(alloc, "book 1|1|EST5EDT,M3.2.0,M11.1.0", &mut lines)?;
+    for line in later {
+        if !is_later(line.as_str()) {
+            lines.push(line)?;
+        }
+    }
+    sorted(alloc, lines)
 }

@@ -1,11 +1,10 @@
 //! Exchanges of HTTP over memory, with a handler that notes what it is asked.
 mod bytes;
-pub mod channel;
 mod heads;
 mod notes;
 
-use crate::clerk::channel::{Input, Output};
 use crate::clerk::notes::Clerk;
+use failing_channel::{Input, Output};
 use http_exchange::{ChannelFault, Served, exchange};
 use std::alloc::Global;
 use std::test::Fail;

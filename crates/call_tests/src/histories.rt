@@ -1,6 +1,6 @@
 //! What a history of duties counts, and where it has time free of duty.
 
-use crate::fault::Untold;
+use crate::fault::Fault;
 use duty::{DutyInForce, FdpInForce, History, Kind, Span};
 use std::alloc::Global;
 use std::test::Fail;
@@ -17,7 +17,7 @@ fn period(
     report: u32,
     flights: &[(u32, u32)],
     release: u32,
-) -> Result<DutyInForce, Untold> {
+) -> Result<DutyInForce, Fault> {
     let mut segments = Vec::new(alloc);
     for (out, into) in flights {
         segments.push(Span {
@@ -53,7 +53,7 @@ const JUNE: [Flown; 5] = [
 ];
 
 /// Their history.
-fn june(alloc: Global) -> Result<History, Untold> {
+fn june(alloc: Global) -> Result<History, Fault> {
     let mut history = History::empty(alloc);
     for (report, flights, release) in JUNE {
         history.add(period(alloc, report, flights, release)?)?;
@@ -62,7 +62,7 @@ fn june(alloc: Global) -> Result<History, Untold> {
 }
 
 /// How many duties it has, and how many minutes of flight, of flight duty and of duty in the week before 12 June.
-fn told(alloc: Global, history: &History) -> Result<String, Untold> {
+fn told(alloc: Global, history: &History) -> Result<String, Fault> {
     let (from, to) = (13_373_280, 13_383_360);
     let flight = history.flight_minutes(from, to);
     let flight_duty = history.fdp_minutes(from, to);
@@ -71,7 +71,7 @@ fn told(alloc: Global, history: &History) -> Result<String, Untold> {
 }
 
 /// The same, of all its minutes, where each kind has its own list of them.
-fn told_of_all(alloc: Global, history: &History) -> Result<String, Untold> {
+fn told_of_all(alloc: Global, history: &History) -> Result<String, Fault> {
     let flight = history.intervals(Kind::Flight).total();
     let flight_duty = history.intervals(Kind::FlightDuty).total();
     let duty = history.intervals(Kind::Duty).total();
@@ -88,7 +88,7 @@ const RUNS: [(u64, u64); 4] = [
 ];
 
 /// How many minutes of flight duty there are before each run, and up to its end.
-fn told_of_runs(alloc: Global, history: &History) -> Result<String, Untold> {
+fn told_of_runs(alloc: Global, history: &History) -> Result<String, Fault> {
     let mut told = String::new(alloc);
     for (from, to) in RUNS {
         let before = history.minutes_before(Kind::FlightDuty, from, from);

@@ -4,9 +4,9 @@ mod shutting;
 
 use crate::undoing::shutting::shutting_behind;
 use sqlite::{Alter, Connection};
+use state_rows::StoreFault;
 use std::alloc::Global;
 use std::test::Fail;
-use store::StoreFault;
 use writing::take_back;
 
 /// What is told of a transaction that is begun and has one savepoint, where the store shuts behind so many of them.

@@ -1,4 +1,6 @@
-//! A reader and a writer that may fail.
+//! A reader and a writer over memory that may fail, for the tests of exchanges.
+#![tactic(auto)]
+
 use std::alloc::Global;
 use std::io;
 use std::io::{ErrorKind, Read, Write};
@@ -12,6 +14,7 @@ pub struct Input<'b> {
 }
 
 impl<'b> Input<'b> {
+    /// Gives these bytes; at their end it fails, or says that there are no more.
     pub fn new(bytes: &'b [u8], fails: bool) -> Input<'b> {
         Input {
             rest: bytes,
@@ -20,6 +23,7 @@ impl<'b> Input<'b> {
         }
     }
 
+    /// Returns how many bytes were not read.
     pub fn unread(&self) -> usize {
         self.rest.len()
     }
@@ -47,11 +51,14 @@ impl Read for Input<'_> {
 #[derive(Drop)]
 pub struct Output {
     room: usize,
+    /// What was written and not handed on.
     pub waiting: Vec<u8>,
+    /// What was written and handed on.
     pub flushed: Vec<u8>,
 }
 
 impl Output {
+    /// Takes this many bytes.
     pub fn new(alloc: Global, room: usize) -> Output {
         Output {
             room,

@@ -4,9 +4,8 @@ ghost use Rattle.std.specs.Prelude.{OnOk};
 ghost use Rattle.sqlite.specs.Held.{state};
 ghost use Rattle.tables.specs.Calls.{HoldsBook};
 
-use crate::contents::sorted;
 use crate::fault::Untold;
-use crate::opening::{create, opened};
+use crate::making::make_tables;
 use sqlite::{Alter, Connection};
 use std::alloc::Global;
 use std::test::Fail;
@@ -46,7 +45,7 @@ enum Step {
 }
 
 /// A record that is told as a line.
-trait Told: TryClone + Drop {
+pub trait Told: TryClone + Drop {
     /// The record's columns with `|` between them, as the shell `sqlite3` prints a row.
     fn line(&self, alloc: Global) -> Result<String, Untold>;
 }
@@ -157,19 +156,29 @@ fn lines_of<R: Told>(
     Ok(lines)
 }
 
-/// What is found, in the order of the alphabet.
-fn in_order<R: Told>(alloc: Global, records: Result<Vec<R>, TableFault>) -> Result<String, Untold> {
-    Ok(sorted(alloc, lines_of(alloc, records)?)?)
-}
-
-/// What is found, as it comes.
-fn in_turn<R: Told>(alloc: Global, records: Result<Vec<R>, TableFault>) -> Result<String, Untold> {
+/// Lines as one text.
+fn joined(alloc: Global, lines: &[String]) -> Result<String, Untold> {
     let mut all = String::new(alloc);
-    for line in &lines_of(alloc, records)? {
+    for line in lines {
         all.push_str(line.as_str())?;
         all.push_str("\n")?;
     }
     Ok(all)
+}
+
+/// What is found, in the order of the alphabet.
+pub fn in_order<R: Told>(
+    alloc: Global,
+    records: Result<Vec<R>, TableFault>,
+) -> Result<String, Untold> {
+    let mut lines = lines_of(alloc, records)?;
+    lines.sort()?;
+    joined(alloc, lines.as_slice())
+}
+
+/// What is found, as it comes.
+fn in_turn<R: Told>(alloc: Global, records: Result<Vec<R>, TableFault>) -> Result<String, Untold> {
+    joined(alloc, lines_of(alloc, records)?.as_slice())
 }
 
 fn yes(alloc: Global, holds: bool) -> Result<String, Untold> {
@@ -177,7 +186,7 @@ fn yes(alloc: Global, holds: bool) -> Result<String, Untold> {
 }
 
 /// Sees to what each call on a table owes.
-fn look<S: Alter>(alloc: Global, conn: &Connection<S>) -> Result<(), Untold>
+pub fn look<S: Alter>(alloc: Global, conn: &Connection<S>) -> Result<(), Untold>
     ensures { OnOk result (HoldsBook (state S.Store conn.now)) }
 {
     if is_book(alloc, conn)? {
@@ -240,7 +249,7 @@ fn told_over<S: Alter + Drop>(
     steps: &[Step],
 ) -> Result<String, Untold> {
     let mut text = all_done(alloc, &mut conn, before)?;
-    let mut conn = opened(create(alloc, conn))?.into_connection();
+    make_tables(alloc, &mut conn)?;
     text.push_str(all_done(alloc, &mut conn, steps)?.as_str())?;
     Ok(text)
 }
@@ -305,7 +314,7 @@ fn records_are_found_by_key(rt: HostRuntime) -> Result<(), Fail> {
     assert_eq!(rt;
         text.as_str(),
         "yes\nno\nno\nyes\n\
-        1|1|EST5EDT,M3.2.0,M11.1.0\n\
+        1|2|EST5EDT,M3.2.0,M11.1.0\n\
         F1|1|Zoë Lind\nnone\n\
         P2\nnone\n\
         P1|1|100|700|110|720\nP1|2|800|900||\nnone\n\

@@ -1,0 +1,193 @@
+//! Calls on the tables of bases and of outside periods that no command makes yet: each record that they find is told as a line.
+
+use crate::fault::Untold;
+use crate::keyed::{Told, in_order, look};
+use crate::making::make_tables;
+use sqlite::{Alter, Connection};
+use std::alloc::Global;
+use std::test::Fail;
+use tables::base::{BaseRecord, bases};
+use tables::crew_base::{CrewBaseRecord, crew_base_by_crew};
+use tables::outside::{
+    OutsideRecord, delete_outside, insert_outside, outside_by_id, outsides_by_crew,
+};
+use tables::outside_segment::{
+    OutsideSegmentRecord, delete_outside_segments, insert_outside_segment, outside_segments_of,
+};
+use values::Text;
+
+impl Told for BaseRecord {
+    fn line(&self, alloc: Global) -> Result<String, Untold> {
+        Ok(format!(in alloc; "{}|{}", self.id.as_str(), self.zone.as_str())?)
+    }
+}
+
+impl Told for CrewBaseRecord {
+    fn line(&self, alloc: Global) -> Result<String, Untold> {
+        Ok(format!(in alloc; "{}|{}", self.crew.as_str(), self.base.as_str())?)
+    }
+}
+
+impl Told for OutsideRecord {
+    fn line(&self, alloc: Global) -> Result<String, Untold> {
+        let (id, crew) = (self.id.as_str(), self.crew.as_str());
+        Ok(format!(in alloc; "{id}|{crew}|{}|{}", self.report_at, self.release_at)?)
+    }
+}
+
+impl Told for OutsideSegmentRecord {
+    fn line(&self, alloc: Global) -> Result<String, Untold> {
+        let outside = self.outside.as_str();
+        Ok(format!(in alloc; "{outside}|{}|{}|{}", self.number, self.out_at, self.in_at)?)
+    }
+}
+
+/// A call that changes a table.
+#[derive(Clone, Copy)]
+enum Change {
+    /// An outside period of this id and member, with its report and its release.
+    Outside(&'static str, &'static str, u32, u32),
+    /// A segment of this outside period and number, with its block-out and its block-in.
+    Segment(&'static str, u32, u32, u32),
+    NoOutside(&'static str),
+    NoSegmentsOf(&'static str),
+}
+
+/// A call that looks for records.
+#[derive(Clone, Copy)]
+enum Search {
+    Bases,
+    BaseOf(&'static str),
+    Outside(&'static str),
+    OutsidesBy(&'static str),
+    SegmentsOf(&'static str),
+}
+
+fn text(alloc: Global, text: &str) -> Result<Text, Untold> {
+    Ok(Text::new(String::from_str(alloc, text)?))
+}
+
+fn outside(
+    alloc: Global,
+    (id, crew): (&str, &str),
+    (report_at, release_at): (u32, u32),
+) -> Result<OutsideRecord, Untold> {
+    Ok(OutsideRecord {
+        id: text(alloc, id)?,
+        crew: text(alloc, crew)?,
+        report_at,
+        release_at,
+    })
+}
+
+fn segment(
+    alloc: Global,
+    id: &str,
+    (number, out_at, in_at): (u32, u32, u32),
+) -> Result<OutsideSegmentRecord, Untold> {
+    Ok(OutsideSegmentRecord {
+        outside: text(alloc, id)?,
+        number,
+        out_at,
+        in_at,
+    })
+}
+
+/// Makes a change.
+fn make<S: Alter>(alloc: Global, conn: &mut Connection<S>, change: Change) -> Result<(), Untold> {
+    match change {
+        Change::Outside(id, crew, report, release) => {
+            let record = outside(alloc, (id, crew), (report, release))?;
+            look(alloc, conn)?;
+            Ok(insert_outside(conn, &record)?)
+        }
+        Change::Segment(id, number, block_out, block_in) => {
+            let record = segment(alloc, id, (number, block_out, block_in))?;
+            look(alloc, conn)?;
+            Ok(insert_outside_segment(conn, &record)?)
+        }
+        Change::NoOutside(id) => {
+            look(alloc, conn)?;
+            Ok(delete_outside(conn, id)?)
+        }
+        Change::NoSegmentsOf(id) => {
+            look(alloc, conn)?;
+            Ok(delete_outside_segments(conn, id)?)
+        }
+    }
+}
+
+/// The records that are found.
+fn found<S: Alter>(
+    alloc: Global,
+    conn: &mut Connection<S>,
+    search: Search,
+) -> Result<String, Untold> {
+    look(alloc, conn)?;
+    match search {
+        Search::Bases => in_order(alloc, bases(alloc, conn)),
+        Search::BaseOf(crew) => in_order(alloc, crew_base_by_crew(alloc, conn, crew)),
+        Search::Outside(id) => in_order(alloc, outside_by_id(alloc, conn, id)),
+        Search::OutsidesBy(crew) => in_order(alloc, outsides_by_crew(alloc, conn, crew)),
+        Search::SegmentsOf(id) => in_order(alloc, outside_segments_of(alloc, conn, id)),
+    }
+}
+
+const ALL: [Search; 6] = [
+    Search::Bases,
+    Search::BaseOf("C1"),
+    Search::Outside("X1"),
+    Search::OutsidesBy("C1"),
+    Search::SegmentsOf("X1"),
+    Search::SegmentsOf("X2"),
+];
+
+/// What is told of these changes, and of the records that are found then.
+fn changed<S: Alter>(
+    alloc: Global,
+    conn: &mut Connection<S>,
+    changes: &[Change],
+) -> Result<String, Untold> {
+    for change in changes {
+        make(alloc, conn, *change)?;
+    }
+    let mut text = String::new(alloc);
+    for search in ALL {
+        text.push_str(found(alloc, conn, search)?.as_str())?;
+    }
+    Ok(text)
+}
+
+fn told_over<S: Alter + Drop>(alloc: Global, mut conn: Connection<S>) -> Result<String, Untold> {
+    make_tables(alloc, &mut conn)?;
+    conn.execute_batch("INSERT INTO crew_base VALUES ('C1', 'HOME'), ('C2', 'DEN')")?;
+    let added = [
+        Change::Outside("X1", "C1", 100, 700),
+        Change::Outside("X2", "C1", 800, 900),
+        Change::Outside("X3", "C2", 100, 700),
+        Change::Segment("X1", 1, 110, 300),
+        Change::Segment("X1", 2, 310, 690),
+        Change::Segment("X2", 1, 810, 890),
+    ];
+    let mut text = changed(alloc, &mut conn, &added)?;
+    text.push_str("then\n")?;
+    let removed = [Change::NoOutside("X1"), Change::NoSegmentsOf("X1")];
+    text.push_str(changed(alloc, &mut conn, &removed)?.as_str())?;
+    Ok(text)
+}
+
+#[test]
+fn outside_periods_are_added_found_and_removed(rt: HostRuntime) -> Result<(), Fail> {
+    let conn = Connection::open_in_memory(rt.alloc())?;
+    assert_eq!(rt;
+        told_over(rt.alloc(), conn)?.as_str(),
+        "HOME|EST5EDT,M3.2.0,M11.1.0\nC1|HOME\n\
+        X1|C1|100|700\nX1|C1|100|700\nX2|C1|800|900\n\
+        X1|1|110|300\nX1|2|310|690\nX2|1|810|890\n\
+        then\n\
+        HOME|EST5EDT,M3.2.0,M11.1.0\nC1|HOME\n\
+        none\nX2|C1|800|900\n\
+        none\nX2|1|810|890\n"
+    );
+    Ok(())
+}
