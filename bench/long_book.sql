@@ -5,6 +5,7 @@ BEGIN;
 CREATE TABLE number (n INTEGER NOT NULL UNIQUE) STRICT;
 INSERT INTO number (n) WITH RECURSIVE count (n) AS (SELECT 0 UNION ALL SELECT n + 1 FROM count WHERE n < 49999) SELECT n FROM count;
 INSERT INTO crew (id, seat, name) SELECT 'M' || (1000000 + n), n % 2, 'Ada Ray' FROM number WHERE n < 200;
+INSERT INTO crew_base (crew, base) SELECT id, 'HOME' FROM crew;
 INSERT INTO pairing (id) SELECT 'P' || (1000000 + n) FROM number WHERE n < 10000;
 INSERT INTO period (pairing, number, report_at, release_at)
     SELECT 'P' || (1000000 + n), 1, n * 1440 + 720, n * 1440 + 1070 FROM number WHERE n < 10000;

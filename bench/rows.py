@@ -46,6 +46,7 @@ def changes(number, command, reply, seat):
     match command:
         case {"do": "add-crew", "crew": crew, "seat": word, "name": name}:
             yield "INSERT INTO crew (id, seat, name) VALUES (?, ?, ?)", (crew, SEATS[word], name)
+            yield "INSERT INTO crew_base (crew, base) VALUES (?, 'HOME')", (crew,)
         case {"do": "add-pairing", "pairing": pairing, "periods": periods}:
             yield "INSERT INTO pairing (id) VALUES (?)", (pairing,)
             for at, period in enumerate(periods, 1):

@@ -109,6 +109,7 @@ class Call:
     given: str
     answer: Ran
     is_made: bool = True  # whether the book is there before
+    is_first: bool = False  # whether it is of version 1 before
     fronts: tuple = ()  # of an import: its schedule up to each of its pairings but the last
     stride: int = STRIDE
 
@@ -139,6 +140,7 @@ class Exchange:
     sent: bytes
     response: bytes
     is_made = True
+    is_first = False
     fronts = ()
     stride = STRIDE
 
@@ -180,6 +182,7 @@ CASES = {
     "do_actual": asked(LATE, 0, BOTH_LATE),
     "import": Call("import BOOK 500", schedule(PLANS), Ran(1, PARTS, ""), fronts=(schedule(PLANS[:1]), schedule(PLANS[:2]))),
     "roster": Call("roster BOOK C1", "", Ran(0, ROSTER, "")),
+    "roster_of_version_1": Call("roster BOOK C1", "", Ran(0, ROSTER, ""), is_first=True),
     "pairing": Call("pairing BOOK P1", "", Ran(0, PAIRING, "")),
     "exceedances": Call("exceedances BOOK", "", Ran(0, EXCEEDANCES, "")),
     "duty": Call(PERIOD, "", Ran(0, WITHIN, ""), stride=5),
@@ -220,6 +223,7 @@ class Desk:
     memory: Memory
     is_all: bool
     office: Book
+    first: Book  # the office's book in version 1
     passed: int = 0
     failed: int = 0
     name: str = ""
@@ -235,7 +239,8 @@ class Desk:
     @contextmanager
     def book(self, case):
         """A copy of the office's book, or where the case makes one no book; it doesn't outlive the block."""
-        book = self.office.copy() if case.is_made else Book(Path(tempfile.mkdtemp(dir=self.room)))
+        of = self.first if case.is_first else self.office
+        book = of.copy() if case.is_made else Book(Path(tempfile.mkdtemp(dir=self.room)))
         try:
             yield book
         finally:
@@ -335,8 +340,9 @@ def main():
     if not build():
         return 3
     with folder("allocations-") as room:
-        desk = Desk(Path(room), Memory.built(room), asked_for.all, Book.made(room))
+        desk = Desk(Path(room), Memory.built(room), asked_for.all, Book.made(room), Book(Path(tempfile.mkdtemp(dir=room))))
         desk.expect("the book", carry_out(desk.office, OFFICE), [])
+        tables.lower(desk.office.file, desk.first.file)
         for desk.name in asked_for.cases or CASES:
             try_case(desk, CASES[desk.name])
     print(summary(desk))

@@ -41,7 +41,10 @@ TOP = Path(__file__).resolve().parent.parent
 PROGRAM = TOP / "crates" / "rosterbook_main" / "out" / "rosterbook_main"
 NAMED = re.compile(r"([^ ,]*)/(\w+)/(\w*) ")  # what a plan says of a flight
 ZONE = "EST5EDT,M3.2.0,M11.1.0"
-TABLES = ("book", "crew", "pairing", "period", "segment", "seat", "ground", "exceedance", "request")
+TABLES = (
+    "book", "crew", "pairing", "period", "segment", "seat", "ground", "exceedance", "request", "base", "crew_base", "outside",
+    "outside_segment",
+)  # fmt: skip
 SECTIONS = (
     "117.11(a)(1)", "117.13(a)", "117.23(b)(1)", "117.23(b)(2)", "117.23(c)(1)", "117.23(c)(2)", "117.25(b)", "117.25(e)",
 )  # fmt: skip

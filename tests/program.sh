@@ -226,7 +226,7 @@ books() {
     lost init full init "$room/untold" "$zone"
     case_of init_after_a_full_disk 3 '' 'refused 43 NotEmpty' init "$room/untold" "$zone"
     if command -v sqlite3 >/dev/null; then
-        holds zone_kept [ "$(sqlite3 "$book" 'SELECT one, version, zone FROM book' 2>&1)" = "1|1|$zone" ]
+        holds zone_kept [ "$(sqlite3 "$book" 'SELECT one, version, zone FROM book' 2>&1)" = "1|2|$zone" ]
     fi
 }
 

@@ -3,12 +3,12 @@
 
     tests/tables.py
 
-Books are made by plain SQL, and the program is asked: such with a damage, or with two, of which the first table has to be named
-(tests/tables/damages.txt), and sound ones, whose answers tell how their rows are read (answers.txt). Books that the program makes
-are read by plain SELECTs: after each order of a story (story.txt), with the longest pairing, with the greatest key, and beside
-other tables. One of them is damaged (late.txt), and the tables of others are offered rows that they have to refuse (refused.txt). The
-SQL is that of Python's own `sqlite3`, of SQLite 3.37 or newer. What differs is told on standard error. The last line is
-'N passed, M failed', and the exit status 1 where M isn't 0.
+Books of version 1 and of version 2 are made by plain SQL (tests/tables/version_1.sql, version_2.sql), and the program is asked: such
+with a damage, or with two, of which the first table has to be named (damages.txt), and sound ones, whose answers tell how their rows are
+read (answers.txt). Books that the program makes are read by plain SELECTs: after each order of a story (story.txt), with the longest
+pairing, with the greatest key, and beside other tables. One of them is damaged (late.txt), and the tables of others are offered rows
+that they have to refuse (refused.txt). The SQL is that of Python's own `sqlite3`, of SQLite 3.37 or newer. What differs is told on
+standard error. The last line is 'N passed, M failed', and the exit status 1 where M isn't 0.
 """
 
 import json
@@ -21,7 +21,7 @@ from contextlib import closing
 from dataclasses import dataclass
 from pathlib import Path
 
-from office import TOP, ZONE, Book, build, instant, rosterbook
+from office import TABLES, TOP, ZONE, Book, build, instant, rosterbook
 from reports import A_LATE_PERIOD, MEMBERS, carry_out
 
 GREATEST = "9223372036854775807"
@@ -44,7 +44,8 @@ def read(name):
     return found
 
 
-SOUND = text_of("sound.sql")
+FIRST = text_of("version_1.sql")
+LATER = text_of("version_2.sql")  # what makes a book of version 2 of one of version 1
 STORY = read("story.txt")
 MEMBER = STORY[0][0]
 FLY = next(kept for kept, _ in STORY if '"do":"actual"' in kept)
@@ -76,6 +77,31 @@ def told(file, of=""):
 
 def rows(file):
     return [line for line in told(file) if not line.startswith("sqlite_schema ")]
+
+
+def sound(version, statements=""):
+    """The statements that make the sound book of this version, which differs from the one of the SQL files by some statements."""
+    return FIRST + statements + (";" + LATER if version == 2 else "")
+
+
+def lower(file, other):
+    """Makes a book of version 1 in another file, with the rows that the book in this file has in the tables of version 1."""
+    database(other, FIRST[: FIRST.index("INSERT")])
+    with closing(sqlite3.connect(other)) as opened:
+        opened.execute("ATTACH ? AS second", (str(file),))
+        for (table,) in opened.execute("SELECT name FROM sqlite_schema WHERE type = 'table'").fetchall():
+            opened.execute(f"INSERT INTO {table} SELECT * FROM second.{table}")
+        opened.execute("UPDATE book SET version = 1")
+        opened.commit()
+
+
+def migrated(lines):
+    """The rows that a book of version 1 with these rows has after it was opened, as docs/FORMATS.md has it: those of version 2."""
+    (book,) = (line for line in lines if line.startswith("book "))
+    members = [line.split(" ")[1].split("|")[0] for line in lines if line.startswith("crew ")]
+    zone = book.removeprefix("book 1|1|")
+    others = [line for line in lines if line != book]
+    return sorted([*others, f"book 1|2|{zone}", f"base HOME|{zone}", *(f"crew_base {crew}|HOME" for crew in members)])
 
 
 def ran(*words, given=""):
@@ -181,6 +207,24 @@ class Desk:
         before = told(file)
         self.expect(name, call() + ("" if told(file) == before else "and other rows\n"), wanted)
 
+    def expect_migrated(self, name, file, call, wanted):
+        """That the call answers this, and makes a book of version 2 of the one of version 1: its rows, and four tables more."""
+        before, schema = rows(file), told(file, "sqlite_schema ")
+        answered = call()
+        self.expect(name, answered + ("" if rows(file) == migrated(before) else "and other rows\n"), wanted)
+        later = [line for line in told(file, "sqlite_schema ") if line not in schema]
+        self.expect(f"{name}: its tables", sorted(name_of(line) for line in later), sorted(LATER_NAMES))
+
+
+# The tables that version 2 has more, and the indexes by which SQLite keeps their keys.
+LATER_TABLES = ("base", "crew_base", "outside", "outside_segment")
+LATER_NAMES = [*LATER_TABLES, *(f"sqlite_autoindex_{table}_1" for table in LATER_TABLES), "sqlite_autoindex_outside_2"]
+
+
+def name_of(line):
+    """What a row of the schema names."""
+    return line.split("|")[1]
+
 
 # ---- What is tried
 
@@ -198,28 +242,39 @@ def long_pairing(periods, segments):
 
 
 def damages(name):
-    """The statements of a file, each with what is answered of its book after them."""
-    for wanted, lines in read(name):
+    """The statements of a file, each with what is answered of its book after them, and the versions of such books."""
+    for heading, lines in read(name):
+        wanted, _, version = heading.partition(" of version ")
         for line in lines:
             before, _, rest = line.partition("<")
             inside, _, after = rest.partition(">")
-            yield from ((before + one + after, wanted) for one in inside.split(" | "))
+            for one in inside.split(" | "):
+                yield before + one + after, wanted, (int(version),) if version else (1, 2)
 
 
 def long_pairings():
     """The same of pairings that are as long as may be, and longer."""
-    yield long_pairing(10, 12), "loaded"
+    yield long_pairing(10, 12), "loaded", (1, 2)
     for periods, segments in ((11, 1), (1, 13), (10, 13)):
-        yield long_pairing(periods, segments), "41 Damaged segment"
+        yield long_pairing(periods, segments), "41 Damaged segment", (1, 2)
 
 
 def try_damages(desk):
-    for statements, wanted in (*damages("damages.txt"), *long_pairings()):
-        file = database(desk.file(), SOUND + statements)
-        desk.expect_kept(statements, file, lambda: ran("do", file), of_nothing(wanted))
-    file = database(desk.file(), SOUND + "DELETE FROM seat WHERE pairing = 'P1' AND seat = 1")
-    desk.expect("damaged", ran("do", file), of_nothing("41 Damaged seat"))
-    desk.expect("mended", ran("do", database(file, "INSERT INTO seat VALUES ('P1', 1, 'F1')")), of_nothing("loaded"))
+    for statements, wanted, versions in (*damages("damages.txt"), *long_pairings()):
+        for version in versions:
+            try_damage(desk, version, statements, wanted)
+    for version in (1, 2):
+        file = database(desk.file(), sound(version) + "DELETE FROM seat WHERE pairing = 'P1' AND seat = 1")
+        desk.expect("damaged", ran("do", file), of_nothing("41 Damaged seat"))
+        desk.expect("mended", ran("do", database(file, "INSERT INTO seat VALUES ('P1', 1, 'F1')")), of_nothing("loaded"))
+
+
+def try_damage(desk, version, statements, wanted):
+    """A book of this version after these statements. What isn't loaded stays as it is, and what is loaded is of version 2 then."""
+    is_loaded = wanted == "loaded"
+    file = database(desk.file(), sound(version, statements) if is_loaded else sound(version) + statements)
+    expect = desk.expect_migrated if is_loaded and version == 1 else desk.expect_kept
+    expect(f"version {version}: {statements}", file, lambda: ran("do", file), of_nothing(wanted))
 
 
 def try_late_book(desk):
@@ -227,7 +282,7 @@ def try_late_book(desk):
     with tempfile.TemporaryDirectory() as room:
         book = Book.made(room)
         desk.expect("the late book", carry_out(book, MEMBERS + A_LATE_PERIOD), [])
-        for statements, wanted in damages("late.txt"):
+        for statements, wanted, _ in damages("late.txt"):
             file = database(book.copy().file, statements)
             desk.expect_kept(f"late: {statements}", file, lambda: ran("do", file), of_nothing(wanted))
 
@@ -240,19 +295,20 @@ def try_no_books(desk):
 
 
 def try_answers(desk):
-    for statements, lines in read("answers.txt"):
-        for words, wanted in (it.split(": ") for line in lines for it in line.split(" | ")):
-            file = database(desk.file(), SOUND + statements)
-            number, rest = words.split(" ", 1) if words[0].isdigit() else (100, words)
-            desk.expect(f"{statements}: {words}", asked(file, rest, number), answer(wanted))
-    file = database(desk.file(), SOUND)
-    desk.expect("a held part", imported(file, "13", ["P4", "P5"]), "1 accepted\n2 refused 1 NumberUsed\n[1]\n")
+    for version in (1, 2):
+        for statements, lines in read("answers.txt"):
+            for words, wanted in (it.split(": ") for line in lines for it in line.split(" | ")):
+                file = database(desk.file(), sound(version, statements))
+                number, rest = words.split(" ", 1) if words[0].isdigit() else (100, words)
+                desk.expect(f"version {version}: {statements}: {words}", asked(file, rest, number), answer(wanted))
+        file = database(desk.file(), sound(version))
+        desk.expect("a held part", imported(file, "13", ["P4", "P5"]), "1 accepted\n2 refused 1 NumberUsed\n[1]\n")
 
 
 def try_story(desk):
     """Each call opens the book anew. After each order those before it are asked again, and act once."""
-    file, wanted, held = desk.book(), [f"book 1|1|{ZONE}"], []
-    desk.expect("its row", rows(file), wanted)
+    file, wanted, held = desk.book(), [f"base HOME|{ZONE}", f"book 1|2|{ZONE}"], []
+    desk.expect("its rows", rows(file), wanted)
     for number, (kept, (line, *changes)) in enumerate(STORY, 1):
         text, _, anew = line.partition(", then ")
         for sign, row in (change.split(" ", 1) for change in changes):
@@ -338,7 +394,8 @@ def try_stopped_imports(desk):
 
 
 def try_making(desk):
-    member = [f"book 1|1|{ZONE}", "crew C1|0|Ada Ray", f"request 1|0|{MEMBER}|{reply('accepted')}"]
+    home = [f"base HOME|{ZONE}", f"book 1|2|{ZONE}"]
+    member = [*home, "crew C1|0|Ada Ray", "crew_base C1|HOME", f"request 1|0|{MEMBER}|{reply('accepted')}"]
     file = desk.book()
     desk.expect("a member", asked(file, MEMBER, 1), answer("accepted"))
     desk.expect_kept("a second book", file, lambda: ran("init", file, "UTC0"), refused("43 NotEmpty"))
@@ -347,8 +404,8 @@ def try_making(desk):
     desk.expect("a book beside a table", ran("init", file, ZONE), "ready\n")
     desk.expect("a member beside it", asked(file, MEMBER, 1), answer("accepted"))
     desk.expect("the rows of both", rows(file), [*member, "t 7", "t 8"])
-    request = "CREATE TABLE Request (x INTEGER) STRICT; INSERT INTO request VALUES (7)"
-    for statements in (request, "CREATE TABLE t (x INTEGER REFERENCES crew) STRICT"):
+    taken = [f"CREATE TABLE {table.title()} (x INTEGER) STRICT; INSERT INTO {table} VALUES (7)" for table in TABLES]
+    for statements in (*taken, *(f"CREATE TABLE t (x INTEGER REFERENCES {table}) STRICT" for table in TABLES)):
         file = database(desk.file(), statements)
         desk.expect_kept(statements, file, lambda: ran("init", file, "UTC0"), refused("43 NotEmpty"))
     desk.expect("a book in a folder", ran("init", desk.room, ZONE), refused("90 Store"))
@@ -367,7 +424,7 @@ def try_refused_rows(desk):
     file = desk.book()
     for held, refused_rows in read("refused.txt"):
         table, values = held.split(" ", 1)
-        if table != "book":
+        if table not in ("book", "base"):
             database(file, f"INSERT INTO {table} VALUES {values}")
         for row in refused_rows:
             desk.expect(f"{table} {row} is refused", is_refused(file, table, row), True)

@@ -1,5 +1,5 @@
--- A sound book, with times in minutes since 2000-01-01T00:00Z: three members; P1 of one period, flown, with both seats and an
--- exceedance; P2 of two periods, planned, with a captain; a ground duty; and two requests.
+-- A sound book of version 1, with times in minutes since 2000-01-01T00:00Z: three members; P1 of one period, flown, with both seats and
+-- an exceedance; P2 of two periods, planned, with a captain; a ground duty; and two requests.
 CREATE TABLE book (one INTEGER NOT NULL UNIQUE, version INTEGER NOT NULL, zone TEXT NOT NULL) STRICT;
 CREATE TABLE crew (id TEXT NOT NULL, seat INTEGER NOT NULL, name TEXT NOT NULL, PRIMARY KEY (id)) STRICT;
 CREATE TABLE pairing (id TEXT NOT NULL, PRIMARY KEY (id)) STRICT;
