@@ -215,8 +215,8 @@ module _ {A : Type 0} (old mid new : State) (r : roster.State) (result : Result 
   was_first : HasCleanDisk new → IsFirstBookOf r old.now
   was_first clean = let mid_clean = migrated.disk clean in subst (IsFirstBookOf r) (same_now clean) (first mid_clean (saw mid_clean).0.0.is_open)
 
-  migrated : (trees : Trees) → HasCleanDisk new → HoldBookOf trees r → AreMigrated old trees
-  migrated trees clean holds = record {
+  are_migrated : (trees : Trees) → HasCleanDisk new → HoldBookOf trees r → AreMigrated old trees
+  are_migrated trees clean holds = record {
     left = shows (migrated.disk clean);
     it = r;
     found = found (migrated.disk clean);
@@ -224,12 +224,12 @@ module _ {A : Type 0} (old mid new : State) (r : roster.State) (result : Result 
     is = holds;
   }
 
-  may_raise : CrashMayMigrate old new
-  may_raise = record {
+  may_migrate : CrashMayMigrate old new
+  may_migrate = record {
     disk = clean_first;
     crash = λ clean trees may. elim (migrated.store.crash clean trees may) [
       | inl was ↦ inl (no_outcome trees (migrated.disk clean) was)
-      | inr is ↦ inr (migrated trees clean is)
+      | inr is ↦ inr (are_migrated trees clean is)
     ];
   }
 
@@ -247,7 +247,7 @@ module _ {A : Type 0} (old mid new : State) (r : roster.State) (result : Result 
   first_stopped fault memory outside = record {
     says = λ clean. tt;
     caused = λ clean _. inr (r, found (migrated.disk clean), was_first clean);
-    crash = may_raise;
+    crash = may_migrate;
     nothing_new = λ unless. nothing fault memory unless;
     others_left = record {
       crash = λ clean trees may. elim (migrated.others_left.crash clean trees may) [
