@@ -78,13 +78,13 @@ HoldEither trees t = HoldFirstBookOf trees t ⊎ HoldBookOf trees t
 rows_here : (schema : Schema) (trees : Trees) (t : State) → IsDatabase (record { schema = schema; trees = trees }) → HoldEither trees t → EitherRows t (record { schema = schema; trees = trees })
 rows_here schema trees t database (inl p) =
     let same : p.0 ≡ schema = lists_once (trees catalog_tree) p.0 schema p.1.database.lists database.lists in
-    inl (subst (λ (it : Schema). FirstRows t (record { schema = it; trees = trees })) same p.1.rows)
+    inl (subst (λ (it : Schema). FirstRows t (record { schema = it; trees = trees })) same p.1.rows, p.1.first)
 rows_here schema trees t database (inr p) =
     let same : p.0 ≡ schema = lists_once (trees catalog_tree) p.0 schema p.1.database.lists database.lists in
     inr (subst (λ (it : Schema). Rows t (record { schema = it; trees = trees })) same p.1.rows)
 
 found_rows : (s : State) (db : Database) → IsFirstBookOf s db ⊎ IsBookOf s db → EitherRows s db
-found_rows s db (inl is) = inl is.rows
+found_rows s db (inl is) = inl (is.rows, is.first)
 found_rows s db (inr is) = inr is.rows
 
 found_database : (s : State) (db : Database) → IsFirstBookOf s db ⊎ IsBookOf s db → IsDatabase db

@@ -146,7 +146,8 @@ module _ {S : Type 0} (g : Ghosts S) where
     pub refused : AreRefused refusals stopped last
     pub up : IsTakenUp last again
 
-  -- a book had more sessions, each over what a crash left of the one before; it is the last one then
+  -- a book had more sessions, each over what a crash left of the one before; it is the last one
+  -- then
   abbrev pub GoesOn : Kept S → List (List Call) → Kept S → Type 0
   GoesOn stopped [] last = last ≡ stopped
   GoesOn stopped (calls ∷ later) last =

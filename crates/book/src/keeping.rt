@@ -13,8 +13,11 @@ ghost use Rattle.roster.specs.State.{State, empty};
 ghost use Rattle.roster.specs.Steps.{step_of};
 ghost use Rattle.lookup.specs.Reads.{ChangesNothing, IsCausedIfStore, IsOpen};
 ghost use Rattle.writing.specs.Commits.{AreTablesMade, IsNotMade};
+ghost use Rattle.writing.specs.Kept.{KeepBeside};
 ghost use Rattle.writing.specs.Making.{IsFree};
-ghost use Rattle.writing.specs.Outcomes.{CrashAddsNothing, IsOutside, CrashLeavesSome, StaysOpen, StillShows};
+ghost use Rattle.writing.specs.Outcomes.{CrashAddsNothing, CrashLeavesOnly, CrashLeavesSome, IsOutside};
+ghost use Rattle.writing.specs.Outcomes.{ShowsOnly, StaysOpen, StillShows};
+ghost use Rattle.tables.specs.Schema.{later_tables};
 ghost use Rattle.book.specs.Answered.{IsAnswered};
 ghost use Rattle.book.specs.Ran.{HasRun};
 ghost use Rattle.book.specs.Asking.{StepOutcome};
@@ -112,6 +115,13 @@ impl<S: Alter> Book<S> {
             → CrashAddsNothing (state S.Store conn) (state S.Store b.held)) }
         ensures unchanged { IfOk result (λ b. IsClean S.Store b → ¬ IsOfFirst (state S.Store conn)
             → IsUnchanged (state S.Store conn) (state S.Store b.held)) }
+        // Beside one of version 1 all else stays that was there, and nothing else is made than the tables of version 2.
+        ensures others_crash { IfOk result (λ b. IsOfFirst (state S.Store conn)
+            → CrashLeavesOnly (state S.Store b.held)
+            (KeepBeside later_tables (state S.Store conn).now)) }
+        ensures others_shown { IfOk result (λ b. IsOfFirst (state S.Store conn)
+            → ShowsOnly (state S.Store b.held)
+            (KeepBeside later_tables (state S.Store conn).now)) }
         ensures disk { IfOk result (λ b. IsClean S.Store b → HasCleanDisk (state S.Store conn)) }
         ensures limit { IfOk result
             (λ b. (state S.Store b.held).step_limit ≡ (state S.Store conn).step_limit) }

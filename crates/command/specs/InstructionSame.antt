@@ -10,7 +10,7 @@ use Rattle.command.specs.contracts.member.MemberLawfulEq.TheImpl.Laws.{exact-law
 use Rattle.command.specs.contracts.instruction.SwapLawfulEq.TheImpl.Laws.{exact-law as swap_law}
 use Rattle.command.specs.contracts.instruction.InstructionPartialEq.TheImpl.{ghosts}
 use Rattle.command.specs.declared.instruction.Instruction.{Instruction}
-use Rattle.command.specs.declared.instruction.Instruction.TheVariants.{AddCrew, AddPairing, CancelPairing, Assign, Release, Swap, AddGround, CancelGround, Actual}
+use Rattle.command.specs.declared.instruction.Instruction.TheVariants.{AddBase, AddCrew, AddPairing, CancelPairing, Assign, Release, Swap, AddGround, CancelGround, Actual}
 
 -- two values of a variant are equal if and only if their parts are: the value gives its parts back
 made_same : {A D : Type 0} (make : A → D) (a b : A) → (make a ≡ make b → a ≡ b) →
@@ -19,6 +19,9 @@ made_same make a b parts x same = (λ e. ap make (same.0 e), λ e. same.1 (parts
 
 -- `==` of instructions is equality
 pub instruction_same : (a b : Instruction) → IsTrue (ghosts.eq a b) ↔ (a ≡ b)
+instruction_same (AddBase a y) (AddBase b z) =
+    made_same (λ p. AddBase p.0 p.1) (a, y) (b, z) (λ e. cc) _
+    (both_same _ _ (bytes_eq-Decides a b) (bytes_eq-Decides y z))
 instruction_same (AddCrew a m) (AddCrew b n) =
     made_same (λ p. AddCrew p.0 p.1) (a, m) (b, n) (λ e. cc) _
     (both_same _ _ (bytes_eq-Decides a b) (member_law m n))

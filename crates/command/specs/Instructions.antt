@@ -1,8 +1,9 @@
 -- Which instructions are refused before the book looks at them, and with which fault. Shapes of
 -- texts come first, in the order of the fields; an actual's count and times come after the shape of
 -- its pairing's id.
-use Rattle.std.specs.Prelude.{◌≡◌, ◌≤◌, not, [], ◌∷◌, map, Option, None}
+use Rattle.std.specs.Prelude.{◌≡◌, ◌≤◌, true, not, [], ◌∷◌, map, Option, None}
 use Rattle.std.specs.Str.{bytes_eq}
+use Rattle.time117.specs.Local.{is_zone_text}
 use Rattle.duty.specs.Pairings.{pairing_fault, ground_fault, actual_fault}
 use Rattle.duty.specs.Plans.{as_planned}
 use Rattle.duty.specs.Shape.{is_id, is_plain_text}
@@ -11,7 +12,7 @@ use Rattle.duty.specs.declared.fault.DutyFault.{DutyFault}
 use Rattle.duty.specs.declared.fault.DutyFault.TheVariants.{BadField}
 use Rattle.duty.specs.declared.fault.Field.TheVariants as field
 use Rattle.command.specs.declared.instruction.Instruction.{Instruction}
-use Rattle.command.specs.declared.instruction.Instruction.TheVariants.{AddCrew, AddPairing, CancelPairing, Assign, Release, Swap, AddGround, CancelGround, Actual}
+use Rattle.command.specs.declared.instruction.Instruction.TheVariants.{AddBase, AddCrew, AddPairing, CancelPairing, Assign, Release, Swap, AddGround, CancelGround, Actual}
 use Rattle.command.specs.declared.instruction.Swap as swap
 
 -- why a swap is refused: one of its four ids hasn't the shape of an id, or it swaps a pairing or a
@@ -29,9 +30,11 @@ swap_fault w =
 -- why an instruction is refused: the first of its fields that is bad; a pairing, a ground duty or
 -- an actual in it is refused as where it is made
 unfoldable pub instruction_fault : Instruction → Option DutyFault
+instruction_fault (AddBase id zone) = unless (is_id id) (BadField field.Base)
 instruction_fault (AddCrew id member) =
     first_fault (unless (is_id id) (BadField field.Crew)
     ∷ unless (is_plain_text member.name) (BadField field.Name)
+    ∷ unless (is_id member.base) (BadField field.Base)
     ∷ [])
 instruction_fault (AddPairing pairing) = pairing_fault pairing
 instruction_fault (CancelPairing pairing) = unless (is_id pairing) (BadField field.Pairing)
@@ -49,9 +52,10 @@ instruction_fault (CancelGround id) = unless (is_id id) (BadField field.Ground)
 instruction_fault (Actual pairing actual) =
     first_fault (unless (is_id pairing) (BadField field.Pairing) ∷ actual_fault actual ∷ [])
 
--- what the types of an instruction's parts see to: each period of a pairing is as it was planned,
--- and the period of an actual has a number from 1 to 10
+-- what the types of an instruction's parts see to: a zone is a rule text, each period of a pairing
+-- is as it was planned, and the period of an actual has a number from 1 to 10
 abbrev pub IsTyped : Instruction → Type 0
+IsTyped (AddBase id zone) = is_zone_text zone ≡ true
 IsTyped (AddPairing plan) = map as_planned plan.periods ≡ plan.periods
 IsTyped (Actual id a) = (1 ≤ a.period) × (a.period ≤ 10)
 IsTyped instruction = Unit {0}

@@ -4,7 +4,7 @@ use Rattle.std.specs.Fmt.{decimal}
 use Rattle.command.specs.declared.member.Seat.{Seat}
 use Rattle.command.specs.declared.member.Seat.TheVariants.{Captain, FirstOfficer}
 use Rattle.command.specs.declared.refusal.Refusal.{Refusal}
-use Rattle.command.specs.declared.refusal.Refusal.TheVariants.{NumberUsed, NoSuchCrew, CrewExists, NoSuchPairing, PairingExists, SeatTaken, WrongSeat, NotAssigned, PairingCrewed, Flown, Overlap, Limits, NoSuchDuty, GroundExists, NoSuchGround, SegmentCount}
+use Rattle.command.specs.declared.refusal.Refusal.TheVariants.{NumberUsed, NoSuchCrew, CrewExists, NoSuchPairing, PairingExists, SeatTaken, WrongSeat, NotAssigned, PairingCrewed, Flown, Overlap, Limits, NoSuchDuty, GroundExists, NoSuchGround, SegmentCount, NoSuchBase, BaseExists}
 
 -- a seat as it is printed
 abbrev pub seat_text : Seat → List ℕ
@@ -29,6 +29,8 @@ refusal_number NoSuchDuty = 13
 refusal_number GroundExists = 14
 refusal_number NoSuchGround = 15
 refusal_number (SegmentCount _) = 19
+refusal_number NoSuchBase = 20
+refusal_number BaseExists = 21
 
 -- the name of a refusal
 abbrev pub refusal_name : Refusal → List ℕ
@@ -48,6 +50,8 @@ refusal_name NoSuchDuty = codes "NoSuchDuty"
 refusal_name GroundExists = codes "GroundExists"
 refusal_name NoSuchGround = codes "NoSuchGround"
 refusal_name (SegmentCount _) = codes "SegmentCount"
+refusal_name NoSuchBase = codes "NoSuchBase"
+refusal_name BaseExists = codes "BaseExists"
 
 -- a refusal as it is printed: its number and name, and the period where it names one
 abbrev pub refusal_text : Refusal → List ℕ

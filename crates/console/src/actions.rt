@@ -7,7 +7,7 @@ use codec::RequestNumber;
 pub enum Action {
     /// `duty ZONE REPORT TIME..`: judge one flight duty period.
     Duty {
-        /// The POSIX time zone rule of the acclimated crew.
+        /// The POSIX time zone rule of the base of the crew.
         zone: String,
         /// The instant of report.
         report: String,
@@ -18,7 +18,7 @@ pub enum Action {
     Init {
         /// The path of the file, which is new or has no book.
         file: String,
-        /// The POSIX time zone rule of the acclimated crew.
+        /// The POSIX time zone rule of the base `HOME`.
         zone: String,
     },
     /// `do FILE`: answer one command, which is JSON on standard input.

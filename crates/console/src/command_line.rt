@@ -25,7 +25,7 @@ use std::alloc::{AllocError, Global};
 const ARGUMENTS: &str = "\
 Arguments of the commands:
   FILE     file of the book
-  ZONE     time zone of the crew, a POSIX rule such as EST5EDT,M3.2.0,M11.1.0
+  ZONE     time zone of the base, a POSIX rule such as EST5EDT,M3.2.0,M11.1.0
   NUMBER   number of the request, 1 to 9223372036854775807
   PORT     port of 127.0.0.1, 1 to 65535
   CREW     id of a crew member, such as C1
@@ -49,6 +49,10 @@ const INIT_EXAMPLE: &str = "\
 Example:
   rosterbook init roster.db EST5EDT,M3.2.0,M11.1.0
 
+The zone is that of the base HOME, which every book has. It can't be changed
+later. A member at another place belongs to another base: 'rosterbook do'
+adds one by the command add-base, with its own zone.
+
 Exit status: 0 done, 1 the zone is refused, 2 a mistake in the command line,
 3 the file has a book already, or the file, memory or the output fails";
 
@@ -59,7 +63,8 @@ Example:
 
 A command is one JSON object in UTF-8. It has \"number\", a whole number from 1
 to 9223372036854775807, \"do\", which is one of these words, and more members:
-  add-crew        crew, seat, name
+  add-base        base, zone
+  add-crew        crew, seat, name, base
   add-pairing     pairing, periods
   cancel-pairing  pairing
   assign          pairing, crew
@@ -69,9 +74,11 @@ to 9223372036854775807, \"do\", which is one of these words, and more members:
   cancel-ground   ground
   actual          pairing, period, report, release, segments
 
-All of them are required, in any order. Members of other names are ignored.
-  crew, pairing, ground, other_crew, other_pairing
+All of them are required, in any order, but for base of add-crew: without it the
+base is HOME. Members of other names are ignored.
+  base, crew, pairing, ground, other_crew, other_pairing
                   an id: 1 to 12 of A-Z, 0-9 and -
+  zone            a POSIX rule such as \"MST7MDT,M3.2.0,M11.1.0\"
   seat            \"captain\" or \"first officer\"
   name, task      a text of 1 to 60 bytes
   period          a whole number from 1 to 10
@@ -111,9 +118,9 @@ const ROSTER_EXAMPLE: &str = "\
 Example:
   rosterbook roster roster.db C1
 
-Prints the member's id, seat and name, and then the duties in order of time:
-'plan' is as planned, 'actual' as flown. Times are UTC. Lengths are
-hours and minutes.
+Prints the member's id, seat and name, the base in a line of its own if it isn't
+HOME, and then the duties in order of time: 'plan' is as planned, 'actual' as
+flown. Times are UTC. Lengths are hours and minutes.
 
 Exit status: 0 done, 1 there is no such member, 2 a mistake in the command line,
 3 there is no book in the file, or the file, memory or the output fails";
@@ -175,7 +182,7 @@ How many connections to serve,
 a whole number from 1 to 1000000";
 
 const ZONE_HELP: &str = "\
-Time zone of the acclimated crew, a POSIX rule, which gives the
+Time zone of the base of the crew, a POSIX rule, which gives the
 hours WEST of UTC: EST5EDT,M3.2.0,M11.1.0 or UTC0 or '<+0530>-5:30'";
 
 const REPORT_HELP: &str = "\

@@ -4,7 +4,7 @@ use Rattle.std.specs.Fmt.{decimal}
 use Rattle.duty.specs.declared.fault.DutyFault.{DutyFault}
 use Rattle.duty.specs.declared.fault.DutyFault.TheVariants.{BadTimes, BadChain, BadField, SegmentCount, Memory}
 use Rattle.duty.specs.declared.fault.Field.{Field}
-use Rattle.duty.specs.declared.fault.Field.TheVariants.{Crew, Name, Pairing, Periods, OtherPairing, OtherCrew, Ground, Task, Outside}
+use Rattle.duty.specs.declared.fault.Field.TheVariants.{Crew, Name, Pairing, Periods, OtherPairing, OtherCrew, Ground, Task, Base, Outside}
 
 -- a field is printed as the commands name it
 abbrev pub field_text : Field → List ℕ
@@ -16,6 +16,7 @@ field_text OtherPairing = codes "other_pairing"
 field_text OtherCrew = codes "other_crew"
 field_text Ground = codes "ground"
 field_text Task = codes "task"
+field_text Base = codes "base"
 field_text Outside = codes "outside"
 
 -- a refusal of a duty is printed as its number, its name, and the period or field where there is

@@ -1,5 +1,5 @@
 -- The shapes of texts, by their bytes.
-use Rattle.std.specs.Prelude.{ℕ, Bool, not, ◌&&◌, ◌||◌, ◌==◌, nat_le, List, length}
+use Rattle.std.specs.Prelude.{ℕ, Bool, not, ◌&&◌, ◌||◌, ◌==◌, nat_le, List, length, codes}
 use Rattle.std.specs.Char.{is_ascii_uppercase, is_ascii_digit}
 use Rattle.std.specs.List.{list_all}
 
@@ -19,9 +19,13 @@ is_id_byte byte = is_code_byte byte || byte == 45
 abbrev pub is_plain_byte : ℕ → Bool
 is_plain_byte byte = nat_le 32 byte && not (byte == 127)
 
--- the id of a crew member, a pairing, a ground duty or an outside period: 1 to 12 bytes
+-- the id of a crew member, a pairing, a ground duty, a base or an outside period: 1 to 12 bytes
 abbrev pub is_id : List ℕ → Bool
 is_id text = is_within 1 12 (length text) && list_all is_id_byte text
+
+-- the id of the base that every book has
+abbrev pub home : List ℕ
+home = codes "HOME"
 
 -- the number of a flight with the airline's letters: 1 to 8 bytes
 abbrev pub is_flight : List ℕ → Bool

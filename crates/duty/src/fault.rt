@@ -37,6 +37,7 @@ pub enum Field {
     OtherCrew,
     Ground,
     Task,
+    Base,
     Outside,
 }
 
@@ -75,6 +76,7 @@ impl fmt::Display for Field {
             Field::OtherCrew => "other_crew",
             Field::Ground => "ground",
             Field::Task => "task",
+            Field::Base => "base",
             Field::Outside => "outside",
         })
     }

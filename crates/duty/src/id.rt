@@ -1,13 +1,14 @@
-//! Ids of crew members, pairings, ground duties and outside periods, flights and airports. A tag tells them apart, so
-//! that none is taken for another.
+//! Ids of crew members, pairings, ground duties, bases and outside periods, flights and airports. A tag tells them apart,
+//! so that none is taken for another.
 //! Wrong bodies: `must-fail-more/`.
-ghost use Rattle.std.specs.Prelude.{◌≡◌};
+ghost use Rattle.std.specs.Prelude.{◌≡◌, IfOk};
 ghost use Rattle.std.specs.Ordering.{nat_cmp, as_partial_cmp};
 ghost use Rattle.std.specs.Cmp.{partial_order_from_own_ties};
 ghost use Rattle.std.specs.Cmp.Lexicographic.{slice_cmp};
 ghost use Rattle.std.specs.Cmp.Rules.{comparing};
 ghost use Rattle.std.specs.Str.{bytes_eq};
 ghost use Rattle.std.proofs.Common.{rules};
+ghost use Rattle.duty.specs.Shape.{home};
 
 use crate::tag;
 use crate::tag::Shaped;
@@ -24,6 +25,9 @@ pub type PairingId = Id<tag::Pairing>;
 
 /// The id of a ground duty.
 pub type GroundId = Id<tag::Ground>;
+
+/// The id of a base.
+pub type BaseId = Id<tag::Base>;
 
 /// The id of a period that is flown for another certificate holder.
 pub type OutsideId = Id<tag::Outside>;
@@ -75,6 +79,22 @@ impl<T: Shaped> Id<T> {
         ensures { result ≡ T.has_shape self.now }
     {
         T::has_shape(self.as_str())
+    }
+}
+
+impl BaseId {
+    /// Makes the id of the base that every book has.
+    pub fn home(alloc: Global) -> Result<BaseId, MemoryFault>
+        ensures { IfOk result (λ id. id ≡ home) }
+    {
+        Ok(Id::new(Text::new(String::from_str(alloc, "HOME")?)))
+    }
+
+    /// Returns whether it is the id of the base that every book has.
+    pub fn is_home(&self) -> bool
+        ensures { result ≡ bytes_eq self.now home }
+    {
+        self.as_str() == "HOME"
     }
 }
 

@@ -31,7 +31,7 @@ pub use fdp::Fdp;
 pub use fdp_in_force::FdpInForce;
 pub use ground_duty::Ground;
 pub use history::History;
-pub use id::{Airport, CrewId, Flight, GroundId, Id, OutsideId, PairingId};
+pub use id::{Airport, BaseId, CrewId, Flight, GroundId, Id, OutsideId, PairingId};
 pub use intervals::{Interval, Intervals};
 pub use kind::Kind;
 pub use outside::Outside;

@@ -1,31 +1,33 @@
 -- The tables that version 2 added: when they are right, and what a refusal of one says.
-use Rattle.std.proofs.Common.{◌≡◌, inl, inr, refl, sym, ap, subst, ◌∙◌, arith, IsTrue, [], Result, Ok, Err, MatchResult, None}
+use Rattle.std.proofs.Common.{◌≡◌, inl, inr, refl, sym, ap, subst, arith, IsTrue, [], Result, Ok, Err, MatchResult, None}
 use Rattle.std.specs.List.{AllByRecursion}
 use Rattle.sqlite_value.specs.Order.{Row, column}
 use Rattle.sqlite_schema.specs.declared.schema.Schema.{Schema}
 use Rattle.sqlite.specs.Effect.{Database}
 use Rattle.sqlite.specs.State.{HasCleanDisk, IsUnchanged}
 use Rattle.sqlite.specs.State as conn
+use Rattle.roster.specs.Bases.{home_zone}
 use Rattle.roster.specs.State.{State}
 use Rattle.tables.specs.Rows.{AreNumbered, IsStored, kept_in}
 use Rattle.tables.specs.Schema.{AreFree, BookTable, later_tables, table_found, IsNameFree}
+use Rattle.loading.proofs.Homes.{are_bases, are_based}
 use Rattle.loading.proofs.Telling.{clean_before, nothing_left, of_blame}
-use Rattle.loading.specs.Loading.{AreRight, AreRightAbove, IsBookRight, IsDamaged, IsLaterOfState, IsOfEdition, IsRight, IsTableOfState, Justifies, named}
+use Rattle.loading.specs.Loading.{AreRight, AreRightAbove, IsDamaged, IsLaterOfState, IsOfEdition, IsRight, IsTableOfState, Justifies, named}
 use Rattle.loading.specs.Reading.{AgreesIn, AgreesThrough, BlamesName, BlamesOrFails, IsReadAs, ReadsAs, down_to}
 use Rattle.loading.specs.declared.fault.LoadFault.{LoadFault}
 use Rattle.loading.specs.declared.fault.LoadFault.TheVariants.{NotABook, Version, Damaged, Fault}
 use Rattle.loading.specs.declared.fault.TableName as name
 use Rattle.loading.specs.declared.fault.TableName.TheVariants as its
-use Rattle.state_rows.proofs.Values.{number_is, text_is}
-use Rattle.state_rows.specs.Bases.{home}
-use Rattle.state_rows.specs.Rows.{TableName, request, base, crew_base, outside, outside_segment, table, InBase, InCrewBase, InTable, row_of_book, row_of_member, row_of_post}
+use Rattle.state_rows.proofs.Values.{number_is}
+use Rattle.state_rows.specs.First.{IsFirst}
+use Rattle.state_rows.specs.Rows.{TableName, request, base, crew_base, outside, outside_segment, table, row_of_book}
 use Rattle.state_rows.specs.declared.fault.StoreFault.TheVariants.{Store}
 use Rattle.state_rows.specs.declared.edition.Edition.TheVariants.{First, Second}
 
 -- a database is of one version
 pub one_edition : (db : Database) → IsOfEdition First db → IsOfEdition Second db → ⊥
 one_edition db first second =
-    let row = row_of_book First first.0.zone in
+    let row = row_of_book First (home_zone first.0.bases) in
     let is = (second.1 row).0 ((first.1 row).1 refl) in
     let same : 1 ≡ 2 = number_is (ap (λ (r : Row). column r 1) is) in
     omega (arith, same)
@@ -35,118 +37,80 @@ one_edition db first second =
 -- of two tables that are looked at in turn: what the second is beside the first, and that its rows are told by the tables above
 pub record IsNext (above it : TableName) : Type 0 where
   pub split : (s : State) (db : Database) → IsRight it s db → IsRight above s db × IsLaterOfState it s db
-  pub join : (s : State) (db : Database) → IsRight above s db → IsLaterOfState it s db → IsRight it s db
   pub over : (db : Database) → AreRight above db → AreRightAbove it db
   pub stored : (db : Database) → IsStored (table it) db → AllByRecursion (λ n. IsStored (table n) db) (down_to above) → AllByRecursion (λ n. IsStored (table n) db) (down_to it)
-  pub same : (s t : State) (db : Database) → IsRight above s db → IsRight above t db → (row : Row) → InTable s it row → InTable t it row
-
-module _ (s t : State) (db : Database) (one : IsRight request s db) (other : IsRight request t db) where
-  book_of_one : IsBookRight s db
-  book_of_one = one.0.0.0.0.0.0.0.0
-
-  book_of_other : IsBookRight t db
-  book_of_other = other.0.0.0.0.0.0.0.0
-
-  same_zone : s.zone ≡ t.zone
-  same_zone =
-      let row = row_of_book book_of_one.0.1.0 s.zone in
-      let is = (book_of_other.0.1.1 row).0 ((book_of_one.0.1.1 row).1 refl) in
-      text_is (ap (λ (r : Row). column r 2) is)
-
-  same_base : (row : Row) → InBase s row → InBase t row
-  same_base row is = subst (λ zone. InBase (record s { zone = zone }) row) same_zone is
-
-  same_crew_base : (row : Row) → InCrewBase s row → InCrewBase t row
-  same_crew_base row is =
-      let at = is.0 in
-      let here = (one.0.0.0.0.0.0.0.1.1 (row_of_member at.name at.value)).1 (at, refl) in
-      let there = (other.0.0.0.0.0.0.0.1.1 (row_of_member at.name at.value)).0 here in
-      let name : at.name ≡ there.0.name = text_is (ap (λ (r : Row). column r 0) there.1) in
-      (there.0, is.1 ∙ ap (λ who. row_of_post who home) name)
 
 pub next_base : IsNext request base
 next_base = record {
-  split = λ s db right. right;
-  join = λ s db right later. (right, later);
+  split = λ s db right. (right.0, right.1);
   over = λ db right. right;
   stored = λ db now above. (now, above);
-  same = λ s t db one other row is. same_base s t db one other row is;
 }
 
 pub next_crew_base : IsNext base crew_base
 next_crew_base = record {
-  split = λ s db right. right;
-  join = λ s db right later. (right, later);
+  split = λ s db right. (right.0, right.1);
   over = λ db right. right;
   stored = λ db now above. (now, above);
-  same = λ s t db one other row is. same_crew_base s t db one.0 other.0 row is;
 }
 
 pub next_outside : IsNext crew_base outside
 next_outside = record {
   split = λ s db right. right;
-  join = λ s db right later. (right, later);
   over = λ db right. right;
   stored = λ db now above. (now, above);
-  same = λ s t db one other row is. is;
 }
 
 pub next_outside_segment : IsNext outside outside_segment
 next_outside_segment = record {
   split = λ s db right. right;
-  join = λ s db right later. (right, later);
   over = λ db right. right;
   stored = λ db now above. (now, above);
-  same = λ s t db one other row is. is;
 }
 
 -- ---- In a file of version 2
 
-module _ (above it : TableName) (next : IsNext above it) (s : State) (db : Database) (up : AgreesThrough above s db) (second : IsOfEdition Second db) where
-  damaged : (IsTableOfState it s db → ⊥) → IsDamaged it db
+-- the table is there, with the rows of a state whose tables are right down to it
+pub its_table : (above it : TableName) → IsNext above it → (s : State) (db : Database) → IsOfEdition Second db → IsRight it s db → IsTableOfState it s db
+its_table above it next s db second right = elim (next.split s db right).1 [
+  | inl is ↦ is.1
+  | inr is ↦ absurd (one_edition db is.0 second)
+]
+
+module _ (above it : TableName) (next : IsNext above it) (s : State) (db : Database) (up : AgreesThrough above s db) where
+  damaged : (AreRight it db → ⊥) → IsDamaged it db
   damaged wrong = record {
     book = up.book;
     version = up.version;
     above = next.over db (s, up.right);
-    damaged = λ right.
-        let both = next.split right.0 db right.1 in
-        elim both.1 [
-          | inl is ↦ wrong (
-            is.1.0,
-            λ row. (
-              λ h. next.same right.0 s db both.0 up.right row ((is.1.1 row).0 h),
-              λ here. (is.1.1 row).1 (next.same s right.0 db up.right both.0 row here),
-            ),
-          )
-          | inr is ↦ one_edition db is.0 second
-        ];
+    damaged = wrong;
   }
 
-  kept : IsReadAs it s db → AgreesThrough it s db
-  kept read = record {
+  kept : (t : State) → IsReadAs it t db → AgreesThrough it t db
+  kept t read = record {
     stored = next.stored db read.1 up.stored;
     book = up.book;
     version = up.version;
-    right = next.join s db up.right (inl (second, read.0));
+    right = read.0;
   }
 
 -- what was read of a table, or why it was refused, as it says of the database
-module _ {A : Type 0} (above it : TableName) (next : IsNext above it) (its_name : name.TableName) (is_named : named its_name ≡ it) (s : State) (old new : conn.State)
+module _ {A : Type 0} (above it : TableName) (next : IsNext above it) (its_name : name.TableName) (is_named : named its_name ≡ it) (s : State) (read_of : A → State) (old new : conn.State)
     (up : HasCleanDisk old → AgreesIn Second above s old.now) where
-  pub later_told : (result : Result A LoadFault) → ReadsAs (λ _. IsReadAs it s old.now) (BlamesOrFails its_name (IsTableOfState it s old.now → ⊥)) old new result →
-      ReadsAs (λ _. AgreesIn Second it s old.now) (λ f. Justifies f old.now) old new result
+  pub later_told : (result : Result A LoadFault) → ReadsAs (λ a. IsReadAs it (read_of a) old.now) (BlamesOrFails its_name (AreRight it old.now → ⊥)) old new result →
+      ReadsAs (λ a. AgreesIn Second it (read_of a) old.now) (λ f. Justifies f old.now) old new result
   later_told (Ok a) read = record {
     told = λ clean.
         let x = read.told clean in
         let u = up (clean_before old new read.left clean) in
-        (x.0, record { through = kept above it next s old.now u.through u.of x.1; of = u.of });
+        (x.0, record { through = kept above it next s old.now u.through (read_of a) x.1; of = u.of });
     caused = read.caused;
     left = read.left;
   }
   later_told (Err fault) read = record {
     told = λ clean.
         let u = up (clean_before old new read.left clean) in
-        of_blame its_name _ old.now (λ wrong. subst (λ t. IsDamaged t old.now) (sym is_named) (damaged above it next s old.now u.through u.of wrong)) fault (read.told clean);
+        of_blame its_name _ old.now (λ wrong. subst (λ t. IsDamaged t old.now) (sym is_named) (damaged above it next s old.now u.through wrong)) fault (read.told clean);
     caused = read.caused;
     left = read.left;
   }
@@ -172,11 +136,14 @@ module _ (s : State) (db : Database) (up : AgreesThrough request s db) (first : 
     ];
   }
 
+  said : IsFirst s
+  said = up.right.3 first
+
   to_base : IsNameFree (table base) db.schema → IsRight base s db
-  to_base free = (up.right, inr (first, free))
+  to_base free = (up.right, inr (first, free), are_bases s said up.right.0.0.0.0.0.0.0.0.1)
 
   to_crew_base : IsNameFree (table base) db.schema → IsNameFree (table crew_base) db.schema → IsRight crew_base s db
-  to_crew_base b c = (to_base b, inr (first, c))
+  to_crew_base b c = (to_base b, inr (first, c), are_based s said)
 
   to_outside : IsNameFree (table base) db.schema → IsNameFree (table crew_base) db.schema → IsNameFree (table outside) db.schema → IsRight outside s db
   to_outside b c o = (to_crew_base b c, inr (first, o))

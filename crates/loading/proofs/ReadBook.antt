@@ -8,12 +8,14 @@ use Rattle.sqlite.specs.Effect.{Database}
 use Rattle.sqlite.specs.State.{HasCleanDisk, IsUnchanged}
 use Rattle.sqlite.specs.State as conn
 use Rattle.time117.specs.Local.{is_zone_text}
+use Rattle.roster.specs.Bases.{home_zone}
 use Rattle.roster.specs.State.{State, empty}
 use Rattle.tables.specs.Calls.{CrashLeavesNoMore}
 use Rattle.tables.specs.Records.{IsBookRow, book_row}
 use Rattle.tables.specs.Rows.{rows_of}
 use Rattle.tables.specs.declared.book.BookRecord.{BookRecord}
 use Rattle.loading.proofs.Ascii.{zone_utf8}
+use Rattle.loading.proofs.Homes.{begun, begun_empty}
 use Rattle.loading.proofs.Mapping.{mapped_at}
 use Rattle.loading.proofs.Telling.{nothing_left, unread}
 use Rattle.state_rows.proofs.Values.{text_is}
@@ -114,6 +116,12 @@ no_zone records it edition is version none other only =
 pub of_book : (records : List BookRecord) (it : BookRecord) (edition : Edition) (zone : List ℕ) → IsOnly records it → it.version ≡ pos (edition_number edition) → it.one ≡ pos 1 → zone ≡ it.zone → IsOnly records (book_of edition zone)
 of_book records it edition zone is version one same = subst (IsOnly records) (λ i. record { one = one i; version = version i; zone = sym same i }) is
 
+pub begun_of : (records : List BookRecord) (it : BookRecord) (edition : Edition) (zone : List ℕ) (r : State) → IsOnly records it → it.version ≡ pos (edition_number edition) → it.one ≡ pos 1 → zone ≡ it.zone →
+    is_zone_text it.zone ≡ true → r ≡ empty zone → (r ≡ empty (home_zone r.bases)) × IsOnly records (book_of edition (home_zone r.bases)) × (is_zone_text (home_zone r.bases) ≡ true)
+begun_of records it edition zone r only version one same text is =
+    let home = begun r zone is ∙ same in
+    (begun_empty r zone is, of_book records it edition (home_zone r.bases) only version one home, ap is_zone_text home ∙ text)
+
 -- ---- The table
 
 -- the rows are as many records
@@ -122,7 +130,7 @@ only_rows db records it read only row = (λ h. (only.all row).0 ((read.all row).
 
 pub not_unreadable : (db : Database) → IsUnreadable book IsBookRow db → AreRight book db → ⊥
 not_unreadable db (inl none) right = none right.1.0.0
-not_unreadable db (inr x) right = x.3 (book_of right.1.0.1.0 right.0.zone, zone_utf8 right.0.zone right.1.1, (right.1.0.1.1 x.0).0 x.1)
+not_unreadable db (inr x) right = x.3 (book_of right.1.0.1.0 (home_zone right.0.bases), zone_utf8 (home_zone right.0.bases) right.1.1, (right.1.0.1.1 x.0).0 x.1)
 
 not_other : (db : Database) → IsUnreadable book IsBookRow db → IsOfOtherVersion db → ⊥
 not_other db (inl none) other = none other.there
@@ -143,21 +151,21 @@ module _ (db : Database) (there : IsNoBook db → ⊥) where
       version = λ other. let known = (none other.it (told_only other.it other.one_row)).0 in other.other known.0 known.1;
       above = tt;
       damaged = λ right.
-          let it = book_of right.1.0.1.0 right.0.zone in
+          let it = book_of right.1.0.1.0 (home_zone right.0.bases) in
           absurd (let f = sym ((none it (told_only it right.1.0.1.1)).1 refl) ∙ right.1.1 in cc);
     }
 
     pub other_version : (it : BookRecord) → IsOnly records it → IsUtf8 it.zone → (IsEditionNumber it.version → ⊥) → IsOfOtherVersion db
     other_version it only utf8 other = record { there = read.there; it = it; utf8 = utf8; one_row = only_rows db records it read only; other = λ edition e. other (edition, e) }
 
-    pub right : (r : State) (edition : Edition) → IsOnly records (book_of edition r.zone) → is_zone_text r.zone ≡ true → AgreesIn edition book r db
+    pub right : (r : State) (edition : Edition) → IsOnly records (book_of edition (home_zone r.bases)) → is_zone_text (home_zone r.bases) ≡ true → AgreesIn edition book r db
     right r edition only zone =
-        let just = only_rows db records (book_of edition r.zone) read only in
+        let just = only_rows db records (book_of edition (home_zone r.bases)) read only in
         record {
           through = record {
             stored = (read.stored, tt);
             book = there;
-            version = λ other. other.other edition (ap (λ (x : BookRecord). x.version) (only_one records other.it (book_of edition r.zone) (told_only other.it other.one_row) only));
+            version = λ other. other.other edition (ap (λ (x : BookRecord). x.version) (only_one records other.it (book_of edition (home_zone r.bases)) (told_only other.it other.one_row) only));
             right = ((read.there, (edition, just)), zone);
           };
           of = (r, just);
@@ -188,10 +196,10 @@ module _ (old new : conn.State) (there : IsNoBook old.now → ⊥) where
 
   pub is_read : (records seen : List BookRecord) (result : Result (State × Edition) LoadFault) → seen ≡ records →
       (HasCleanDisk new → IsUnchanged old new × HasRows book old.now (map book_row records)) → CrashLeavesNoMore old new →
-      MatchResult result (λ r. (r.0 ≡ empty r.0.zone) × IsOnly seen (book_of r.1 r.0.zone) × (is_zone_text r.0.zone ≡ true)) (BlamesBook seen) →
+      MatchResult result (λ r. (r.0 ≡ empty (home_zone r.0.bases)) × IsOnly seen (book_of r.1 (home_zone r.0.bases)) × (is_zone_text (home_zone r.0.bases) ≡ true)) (BlamesBook seen) →
       ReadsAs (Now old.now) (λ f. Justifies f old.now) old new result
   is_read records seen (Ok r) same saw left done = record {
-    told = λ clean. let it = saw clean in (it.0, right old.now there records it.1 r.0 r.1 (subst (λ l. IsOnly l (book_of r.1 r.0.zone)) same done.1) done.2);
+    told = λ clean. let it = saw clean in (it.0, right old.now there records it.1 r.0 r.1 (subst (λ l. IsOnly l (book_of r.1 (home_zone r.0.bases))) same done.1) done.2);
     caused = λ clean. tt;
     left = left;
   }

@@ -7,7 +7,7 @@ use Rattle.sqlite_rules.specs.Lists.{Has}
 use Rattle.sqlite.specs.Effect.{Database}
 use Rattle.sqlite.specs.State.{HasCleanDisk, IsUnchanged}
 use Rattle.sqlite.specs.State as conn
-use Rattle.duty.specs.Shape.{is_id, is_plain_text}
+use Rattle.duty.specs.Shape.{home, is_id, is_plain_text}
 use Rattle.command.specs.declared.member.Member.{Member}
 use Rattle.command.specs.declared.member.Seat.{Seat}
 use Rattle.command.specs.declared.member.Seat.TheVariants.{Captain, FirstOfficer}
@@ -21,12 +21,13 @@ use Rattle.tables.specs.Records.{IsCrewRow, crew_row}
 use Rattle.tables.specs.Rows.{begins_with}
 use Rattle.tables.specs.declared.crew.CrewRecord.{CrewRecord}
 use Rattle.loading.proofs.Ascii.{id_utf8}
+use Rattle.loading.proofs.Homes.{none_at_home, one_at_home}
 use Rattle.loading.proofs.Mapping.{all_taken, nothing_mapped, next_mapped, mapped_at, mapped_place}
 use Rattle.state_rows.proofs.Tests.{passes}
 use Rattle.state_rows.proofs.Values.{text_is, number_is}
 use Rattle.loading.proofs.Telling.{unread, of_blame, clean_before, or_fails, uncaused}
 use Rattle.loading.specs.Loading.{IsCaused, IsMember, IsRight, AreRight, IsDamaged, Justifies}
-use Rattle.loading.specs.Reading.{seat_of, MembersRead, ReadsAs, Blames, BlamesOrFails, HasRows, IsUnreadable, AgreesThrough, Mapped, AreOnce, TellsOf, HasStranger}
+use Rattle.loading.specs.Reading.{seat_of, AreAtHome, MembersRead, ReadsAs, Blames, BlamesOrFails, HasRows, IsUnreadable, AgreesThrough, Mapped, AreOnce, TellsOf, HasStranger}
 use Rattle.loading.specs.declared.fault.LoadFault.{LoadFault}
 use Rattle.loading.specs.declared.fault.TableName.TheVariants as table_name
 use Rattle.state_rows.specs.Rows.{seat_number, row_of_member, crew, book}
@@ -44,7 +45,7 @@ number_known (suc (suc n)) seat e = absurd (cc)
 
 module _ (it : CrewRecord) where
   abbrev Tells : Option Entry → Type 0
-  Tells = TellsOf (λ id member e. e ≡ entry.Member id member) row_of_member IsMember (crew_row it)
+  Tells = TellsOf (λ id member e. (e ≡ entry.Member id member) × (member.base ≡ home)) row_of_member IsMember (crew_row it)
 
   -- the parts of a member whose row it is
   seat_same : (id : List ℕ) (m : Member) → crew_row it ≡ row_of_member id m → seat_of it.seat ≡ Some m.seat
@@ -59,12 +60,12 @@ module _ (it : CrewRecord) where
   pub bad_name : is_plain_text it.name ≡ false → Tells None
   bad_name bad id m e is = absurd (let f = sym bad ∙ ap is_plain_text (text_is (ap (λ (row : Row). column row 2) e)) ∙ is.name_shape in cc)
 
-  pub tells : (seat : Seat) → seat_of it.seat ≡ Some seat → is_id it.id ≡ true → is_plain_text it.name ≡ true → IsUtf8 it.name →
-      Tells (Some (entry.Member it.id (record { seat = seat; name = it.name })))
-  tells seat is_seat id_shape name_shape utf8 = (
+  pub tells : (seat : Seat) (base : List ℕ) → base ≡ home → seat_of it.seat ≡ Some seat → is_id it.id ≡ true → is_plain_text it.name ≡ true → IsUtf8 it.name →
+      Tells (Some (entry.Member it.id (record { seat = seat; name = it.name; base = base })))
+  tells seat base here is_seat id_shape name_shape utf8 = (
     it.id,
-    record { seat = seat; name = it.name },
-    refl,
+    record { seat = seat; name = it.name; base = base },
+    (refl, here),
     ap (λ n. crew_row (record it { seat = n })) (number_known it.seat seat is_seat),
     record { id_shape = id_shape; name_shape = name_shape; utf8 = utf8 },
   )
@@ -72,7 +73,7 @@ module _ (it : CrewRecord) where
 -- ---- Records in turn
 
 pub none_read : (records : List CrewRecord) (s : State) → s.crew ≡ fin.empty → MembersRead records 0 s s
-none_read records s none = record { same = refl; mapped = λ once. subst (Mapped (λ id. id) row_of_member IsMember (take 0 (map crew_row records))) (sym none) (nothing_mapped (λ id. id) (λ i j e. e) row_of_member IsMember) }
+none_read records s none = record { same = refl; at_home = none_at_home s.crew none; mapped = λ once. subst (Mapped (λ id. id) row_of_member IsMember (take 0 (map crew_row records))) (sym none) (nothing_mapped (λ id. id) (λ i j e. e) row_of_member IsMember) }
 
 module _ (records : List CrewRecord) (at : ℕ) (it : CrewRecord) (there : slice_get records at ≡ Some it) where
   pub stranger : Tells it None → HasStranger row_of_member IsMember (map crew_row records)
@@ -82,10 +83,11 @@ module _ (records : List CrewRecord) (at : ℕ) (it : CrewRecord) (there : slice
   one_read s t u e told read made =
       let id = told.0 in
       let m = told.1 in
-      let is : u ≡ record t { crew = fin.insert t.crew id m } = made ∙ ap (put t) told.2 in
+      let is : u ≡ record t { crew = fin.insert t.crew id m } = made ∙ ap (put t) told.2.0 in
       let crew_is : u.crew ≡ fin.insert t.crew id m = ap (λ (r : State). r.crew) is in
       record {
         same = is ∙ (λ i. record (read.same i) { crew = fin.insert t.crew id m }) ∙ (λ i. record s { crew = sym crew_is i });
+        at_home = subst AreAtHome (sym crew_is) (one_at_home t.crew id m told.2.1 read.at_home);
         mapped = λ once. subst (λ c. Mapped (λ i. i) row_of_member IsMember (take (at + 1) (map crew_row records)) c) (sym crew_is)
             (next_mapped (λ i. i) (λ i j same. same) row_of_member IsMember t.crew id m (map crew_row records) at
             (mapped_place crew_row records at it there ∙ ap Some told.3) (read.mapped once) told.4 once);

@@ -170,10 +170,10 @@ pairing_here s t db a b id r e =
 
 -- so an exceedance of one is of the same member and period in the other
 known_here : (s t : State) (db : Database) → IsSeatRight s db → IsSeatRight t db → (id : ExceedanceId) (p : PeriodId) → IsExceedance t.crew t.pairings id p → IsExceedance s.crew s.pairings id p
-known_here s t db a b id p is = record {
+known_here s t db a b id p is = let alike = members_same s t db (crew_part s db a) (crew_part t db b) id.crew is.member is.of_member in record {
   is_key = is.is_key;
-  member = is.member;
-  of_member = members_same s t db (crew_part s db a) (crew_part t db b) id.crew is.member is.of_member;
+  member = alike.other;
+  of_member = alike.there;
   rostered = is.rostered;
   of_pairing = pairing_here s t db a b p.pairing is.rostered is.of_pairing;
   place = is.place;

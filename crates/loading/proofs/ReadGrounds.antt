@@ -29,7 +29,7 @@ use Rattle.tables.specs.Rows.{begins_with}
 use Rattle.tables.specs.declared.ground.GroundRecord.{GroundRecord}
 use Rattle.loading.proofs.Ascii.{id_utf8}
 use Rattle.loading.proofs.Mapping.{all_taken, nothing_mapped, next_mapped, mapped_at, mapped_place}
-use Rattle.loading.proofs.SameStates.{crew_told}
+use Rattle.loading.proofs.SameStates.{HasAlike, crew_told}
 use Rattle.state_rows.proofs.Tests.{passes}
 use Rattle.state_rows.proofs.Values.{text_is, number_is}
 use Rattle.loading.proofs.Telling.{unread, of_blame, clean_before, or_fails, uncaused}
@@ -141,19 +141,20 @@ module _ (records : List GroundRecord) (at : ℕ) (it : GroundRecord) (there : s
 number_fits : (n : ℕ) → is_instant n ≡ true → n < 2 ^ 32
 number_fits n e = grind (arith, nat_tests)
 
--- a ground duty is known by the same parts
-pub members_same : (s t : State) (db : Database) → IsCrewRight s db → IsCrewRight t db → (who : List ℕ) (m : Member) → fin.get t.crew who ≡ Some m → fin.get s.crew who ≡ Some m
+-- members are the same but for their bases
+pub members_same : (s t : State) (db : Database) → IsCrewRight s db → IsCrewRight t db → HasAlike t.crew s.crew
 members_same s t db a b who m e = crew_told t s (λ row it. (a.1.1 row).0 ((b.1.1 row).1 it)) who m e
 
+-- a ground duty is known by the same parts
 known_here : (s t : State) (db : Database) → IsCrewRight s db → IsCrewRight t db → (id : List ℕ) (g : GroundPlan) → IsGround t.crew id g → IsGround s.crew id g
-known_here s t db a b id g is = record {
+known_here s t db a b id g is = let alike = members_same s t db a b g.crew is.member is.of_member in record {
   named = is.named;
   made = is.made;
   begin = is.begin;
   end = is.end;
   utf8 = is.utf8;
-  member = is.member;
-  of_member = members_same s t db a b g.crew is.member is.of_member;
+  member = alike.other;
+  of_member = alike.there;
 }
 
 -- the shapes of its ids

@@ -1,9 +1,11 @@
 -- The table `request`: what its records tell, and when it is right.
-use Rattle.std.proofs.Common.{◌≡◌, inl, inr, refl, sym, ap, subst, ◌∙◌, arith, ℕ, pos, ◌≤◌, true, List, [], ◌∷◌, ◌++◌, append_assoc, ◌↔◌, Bool, map, take, slice_get, ◌+◌, length, Option, Some, None, Result, Ok, Err, MatchResult, IsUtf8}
+use Rattle.std.proofs.Common.{◌≡◌, inl, inr, refl, sym, ap, subst, ◌∙◌, arith, ℕ, pos, ◌≤◌, true, List, [], ◌∷◌, ◌++◌, append_assoc, ◌↔◌, Bool, map, take, slice_get, ◌+◌, length, Option, Some, None, Result, Ok, Err, MatchResult, IsTrue, IsUtf8}
 use Rattle.std.specs.FinMap as fin
 use Rattle.std.specs.List.{list_all}
 use Rattle.std.specs.Prelude.{is_some}
 use Rattle.std.specs.Ordering.{eq_by_cmp}
+use Rattle.std.specs.Str.{bytes_eq}
+use Rattle.std.proofs.lemmas.Slice.Eq.{bytes_eq-Decides}
 use Rattle.std.proofs.lemmas.Bool.{and_parts, and_from, cases_Bool}
 use Rattle.values.proofs.Names as names
 use Rattle.values.proofs.Names.{alike}
@@ -17,6 +19,7 @@ use Rattle.sqlite.specs.Effect.{Database}
 use Rattle.sqlite.specs.State.{HasCleanDisk, IsUnchanged}
 use Rattle.sqlite.specs.State as conn
 use Rattle.limits.specs.declared.section.Section.{Section}
+use Rattle.duty.specs.Shape.{home}
 use Rattle.command.specs.Keys.{KeyParts, key_name}
 use Rattle.command.specs.declared.exceedance.Reply.{Reply}
 use Rattle.command.specs.declared.instruction.Instruction.{Instruction}
@@ -37,15 +40,20 @@ use Rattle.tables.specs.Calls.{CrashLeavesNoMore}
 use Rattle.tables.specs.Records.{IsRequestRow, request_row}
 use Rattle.tables.specs.Rows.{begins_with}
 use Rattle.tables.specs.declared.request.RequestRecord.{RequestRecord}
+use Rattle.loading.proofs.Homes.{requests_at_home}
+use Rattle.loading.proofs.LaterTables.{one_edition}
 use Rattle.loading.proofs.Mapping.{all_taken, nothing_mapped, next_mapped, mapped_at, mapped_place}
 use Rattle.state_rows.proofs.Tests.{passes}
 use Rattle.state_rows.proofs.Values.{ids_same, int_is, text_is, number_is}
 use Rattle.loading.proofs.Telling.{unread, of_blame, clean_before, or_fails, uncaused}
-use Rattle.loading.specs.Loading.{IsCaused, IsKey, IsRequest, name_of, IsRight, AreRight, AreHeld, IsDamaged, Justifies}
-use Rattle.loading.specs.Reading.{AreWanting, RequestsRead, ReadsAs, Blames, BlamesOrFails, HasRows, IsUnreadable, AgreesThrough, Mapped, AreOnce, TellsOf, HasStranger}
+use Rattle.loading.specs.Loading.{IsCaused, IsKey, IsRequest, name_of, IsRight, AreRight, AreHeld, IsDamaged, IsOfEdition, Justifies}
+use Rattle.loading.specs.Reading.{AreWanting, CanKeep, IsAtHome, IsRequestIn, RequestsRead, ReadsAs, Blames, BlamesOrFails, HasRows, IsUnreadable, AgreesThrough, Mapped, AreOnce, TellsOf, HasStranger}
 use Rattle.loading.specs.declared.fault.LoadFault.{LoadFault}
 use Rattle.loading.specs.declared.fault.LoadFault.TheVariants.{NotABook, Damaged, Version, Fault}
 use Rattle.loading.specs.declared.fault.TableName.TheVariants as table_name
+use Rattle.state_rows.specs.First.{IsOfFirst}
+use Rattle.state_rows.specs.declared.edition.Edition.{Edition}
+use Rattle.state_rows.specs.declared.edition.Edition.TheVariants.{First, Second}
 use Rattle.state_rows.specs.Rows.{RequestAt, ExceedanceAt, row_of_request, row_of_exceedance, request, exceedance}
 
 -- ---- Texts
@@ -63,6 +71,17 @@ kept_otherwise text command read other instruction is same =
     let one : instruction ≡ command = ok_same (sym (kept_back instruction is.0 is.1) ∙ ap read_kept same ∙ read) in
     other (ap kept_text (sym one) ∙ same)
 
+-- nor, in a version, is that of a command that a book of it can't keep
+pub none_kept : (edition : Edition) (text : List ℕ) → ((instruction : Instruction) → IsCommand instruction → kept_text instruction ≡ text → ⊥) →
+    (instruction : Instruction) → IsCommand instruction → CanKeep edition instruction → kept_text instruction ≡ text → ⊥
+none_kept edition text none instruction is can same = none instruction is same
+
+pub not_kept_in : (edition : Edition) (text : List ℕ) (command : Instruction) → IsCommand command → kept_text command ≡ text → (CanKeep edition command → ⊥) →
+    (instruction : Instruction) → IsCommand instruction → CanKeep edition instruction → kept_text instruction ≡ text → ⊥
+not_kept_in edition text command made kept bad instruction is can same =
+    let one : instruction ≡ command = ok_same (sym (kept_back instruction is.0 is.1) ∙ ap read_kept (same ∙ sym kept) ∙ kept_back command made.0 made.1) in
+    bad (subst (CanKeep edition) one can)
+
 pub not_reply : (text : List ℕ) (fault : CodecFault) → read_reply text ≡ Err fault → (reply : Reply) → reply_text reply ≡ text → ⊥
 not_reply text fault failed reply same = absurd (let f = sym failed ∙ ap read_reply (sym same) ∙ reply_back reply in cc)
 
@@ -71,33 +90,40 @@ told_otherwise text told read other reply same =
     let one : reply ≡ told = ok_same (sym (reply_back reply) ∙ ap read_reply same ∙ read) in
     other (ap reply_text (sym one) ∙ same)
 
+-- the id of a base is that of HOME where it is tested to be
+pub is_at_home : (base : List ℕ) → IsTrue (bytes_eq base home) ↔ (base ≡ home)
+is_at_home base = (λ yes. (bytes_eq-Decides base home).0 yes, λ same. (bytes_eq-Decides base home).1 same)
+
 -- ---- One record
 
-module _ (it : RequestRecord) where
+module _ (edition : Edition) (it : RequestRecord) where
   abbrev Tells : Option Entry → Type 0
-  Tells = TellsOf (λ key kept e. e ≡ entry.LoggedCommand key kept) row_of_request IsRequest (request_row it)
+  Tells = TellsOf (λ key kept e. e ≡ entry.LoggedCommand key kept) row_of_request (IsRequestIn edition) (request_row it)
 
   pub no_key : ((key : KeyParts) → IsKey key → it.number ≡ pos key.number → it.part ≡ key.part → ⊥) → Tells None
-  no_key none key r e is = none key is.is_key (int_is (ap (λ (row : Row). column row 0) e)) (number_is (ap (λ (row : Row). column row 1) e))
+  no_key none key r e is = none key is.is.is_key (int_is (ap (λ (row : Row). column row 0) e)) (number_is (ap (λ (row : Row). column row 1) e))
 
-  pub no_command : ((instruction : Instruction) → IsCommand instruction → kept_text instruction ≡ it.command → ⊥) → Tells None
-  no_command none key r e is = none r.command is.command (sym (text_is (ap (λ (row : Row). column row 2) e)))
+  pub no_command : ((instruction : Instruction) → IsCommand instruction → CanKeep edition instruction → kept_text instruction ≡ it.command → ⊥) → Tells None
+  no_command none key r e is = none r.command is.is.command is.can (sym (text_is (ap (λ (row : Row). column row 2) e)))
 
   pub no_reply : ((reply : Reply) → reply_text reply ≡ it.reply → ⊥) → Tells None
   no_reply none key r e is = none r.reply (sym (text_is (ap (λ (row : Row). column row 3) e)))
 
   pub tells : (key : KeyParts) (command : Instruction) (reply : Reply) → IsKey key × (it.number ≡ pos key.number) × (it.part ≡ key.part) →
-      IsCommand command × (kept_text command ≡ it.command) × IsUtf8 it.command → (reply_text reply ≡ it.reply) × IsUtf8 it.reply →
+      IsCommand command × CanKeep edition command × (kept_text command ≡ it.command) × IsUtf8 it.command → (reply_text reply ≡ it.reply) × IsUtf8 it.reply →
       Tells (Some (entry.LoggedCommand key (record { command = command; reply = reply })))
   tells key command reply is_key is_command is_reply = (
     key,
     record { command = command; reply = reply },
     refl,
-    (λ i. request_row (record { number = is_key.1 i; part = is_key.2 i; command = sym is_command.1 i; reply = sym is_reply.0 i })),
+    (λ i. request_row (record { number = is_key.1 i; part = is_key.2 i; command = sym is_command.2 i; reply = sym is_reply.0 i })),
     record {
-      is_key = is_key.0;
-      command = is_command.0;
-      utf8 = (subst IsUtf8 (sym is_command.1) is_command.2, subst IsUtf8 (sym is_reply.0) is_reply.1);
+      is = record {
+        is_key = is_key.0;
+        command = is_command.0;
+        utf8 = (subst IsUtf8 (sym is_command.2) is_command.3, subst IsUtf8 (sym is_reply.0) is_reply.1);
+      };
+      can = is_command.1;
     },
   )
 
@@ -109,14 +135,17 @@ keys_same a b e =
 
 -- ---- Records in turn
 
-pub none_read : (records : List RequestRecord) (s : State) → s.requests ≡ fin.empty → RequestsRead records 0 s s
-none_read records s none = record { same = refl; mapped = λ once. subst (Mapped key_name row_of_request IsRequest (take 0 (map request_row records))) (sym none) (nothing_mapped key_name keys_same row_of_request IsRequest) }
+pub none_read : (edition : Edition) (records : List RequestRecord) (s : State) → s.requests ≡ fin.empty → RequestsRead edition records 0 s s
+none_read edition records s none = record {
+  same = refl;
+  mapped = λ once. subst (Mapped key_name row_of_request (IsRequestIn edition) (take 0 (map request_row records))) (sym none) (nothing_mapped key_name keys_same row_of_request (IsRequestIn edition));
+}
 
-module _ (records : List RequestRecord) (at : ℕ) (it : RequestRecord) (there : slice_get records at ≡ Some it) where
-  pub stranger : Tells it None → HasStranger row_of_request IsRequest (map request_row records)
+module _ (edition : Edition) (records : List RequestRecord) (at : ℕ) (it : RequestRecord) (there : slice_get records at ≡ Some it) where
+  pub stranger : Tells edition it None → HasStranger row_of_request (IsRequestIn edition) (map request_row records)
   stranger none = record { row = request_row it; here = mapped_at request_row records at it there; strange = none }
 
-  pub one_read : (s t u : State) (e : Entry) → Tells it (Some e) → RequestsRead records at s t → u ≡ put t e → RequestsRead records (at + 1) s u
+  pub one_read : (s t u : State) (e : Entry) → Tells edition it (Some e) → RequestsRead edition records at s t → u ≡ put t e → RequestsRead edition records (at + 1) s u
   one_read s t u e told read made =
       let key = told.0 in
       let r = told.1 in
@@ -124,8 +153,8 @@ module _ (records : List RequestRecord) (at : ℕ) (it : RequestRecord) (there :
       let requests_are : u.requests ≡ fin.insert t.requests (key_name key) r = ap (λ (x : State). x.requests) is in
       record {
         same = is ∙ (λ i. record (read.same i) { requests = fin.insert t.requests (key_name key) r }) ∙ (λ i. record s { requests = sym requests_are i });
-        mapped = λ once. subst (λ c. Mapped key_name row_of_request IsRequest (take (at + 1) (map request_row records)) c) (sym requests_are)
-            (next_mapped key_name keys_same row_of_request IsRequest t.requests key r (map request_row records) at
+        mapped = λ once. subst (λ c. Mapped key_name row_of_request (IsRequestIn edition) (take (at + 1) (map request_row records)) c) (sym requests_are)
+            (next_mapped key_name keys_same row_of_request (IsRequestIn edition) t.requests key r (map request_row records) at
             (mapped_place request_row records at it there ∙ ap Some told.3) (read.mapped once) told.4 once);
       }
 
@@ -152,19 +181,32 @@ not_unreadable db (inr x) right =
 itself : (key : KeyParts) (r : LoggedCommand) → begins_with (Int (pos key.number) ∷ Int (pos key.part) ∷ []) (row_of_request key r) ≡ true
 itself key r = passes (Int (pos key.number) ∷ Int (pos key.part) ∷ []) (row_of_request key r) (refl, (refl, tt))
 
-module _ (s : State) (db : Database) (above : AgreesThrough exceedance s db) where
+-- of a state with the tables down to `request`, a book of their version can keep the commands
+can_keep : (u : State) (db : Database) (edition : Edition) → IsRight request u db → IsOfEdition edition db → (name : List ℕ) (r : LoggedCommand) → fin.get u.requests name ≡ Some r → CanKeep edition r.command
+can_keep u db First right of name r there = (right.3 of).commands name r there
+can_keep u db Second right of name r there = tt
+
+-- and in version 1 they are commands of version 1
+of_first : (db : Database) (edition : Edition) → IsOfEdition edition db → IsOfEdition First db → (command : Instruction) → CanKeep edition command → IsOfFirst command
+of_first db First of first command can = can
+of_first db Second of first command can = absurd (one_edition db first of)
+
+module _ (edition : Edition) (s : State) (db : Database) (above : AgreesThrough exceedance s db) (of : IsOfEdition edition db) where
   damaged : (AreRight request db → ⊥) → IsDamaged request db
   damaged wrong = record { book = above.book; version = above.version; above = (s, above.right); damaged = wrong }
 
   pub unreadable : IsUnreadable request IsRequestRow db → IsDamaged request db
   unreadable why = damaged (not_unreadable db why)
 
-  pub strange : (rows : List Row) → HasRows request db rows → HasStranger row_of_request IsRequest rows → IsDamaged request db
+  pub strange : (rows : List Row) → HasRows request db rows → HasStranger row_of_request (IsRequestIn edition) rows → IsDamaged request db
   strange rows read stranger = damaged (λ right.
       let it = (right.1.1.1 stranger.row).0 ((read.all stranger.row).1 stranger.here) in
       let at = it.0 in
       let known = right.1.2.0 (key_name at.key) at.kept at.there in
-      stranger.strange at.key at.kept it.1 (subst (λ k. IsRequest k at.kept) (sym (keys_same at.key known.0 known.1)) known.2))
+      stranger.strange at.key at.kept it.1 (record {
+        is = subst (λ k. IsRequest k at.kept) (sym (keys_same at.key known.0 known.1)) known.2;
+        can = can_keep right.0 db edition right.1 of (key_name at.key) at.kept at.there;
+      }))
 
   requests_once : (rows : List Row) → HasRows request db rows → AreOnce row_of_request rows
   requests_once rows read key m n first second =
@@ -172,9 +214,9 @@ module _ (s : State) (db : Database) (above : AgreesThrough exceedance s db) whe
       ((read.all (row_of_request key m)).1 first) ((read.all (row_of_request key n)).1 second) (itself key m) (itself key n)
 
   -- all but that each key of an exceedance is held
-  pub kept_requests : (rows : List Row) (t : State) → HasRows request db rows → t ≡ record s { requests = t.requests } →
-      (AreOnce row_of_request rows → Mapped key_name row_of_request IsRequest rows t.requests) → AreHeld t → AgreesThrough request t db
-  kept_requests rows t read same mapped held =
+  pub kept_requests : (rows : List Row) (t : State) → HasRows request db rows → IsAtHome s → t ≡ record s { requests = t.requests } →
+      (AreOnce row_of_request rows → Mapped key_name row_of_request (IsRequestIn edition) rows t.requests) → AreHeld t → AgreesThrough request t db
+  kept_requests rows t read at_home same mapped held =
       let map = mapped (requests_once rows read) in
       record {
         stored = (read.stored, above.stored);
@@ -189,7 +231,12 @@ module _ (s : State) (db : Database) (above : AgreesThrough exceedance s db) whe
               λ it. (read.all row).1 (subst (Has rows) (sym it.1) (map.all (record { index = it.0.key; value = it.0.kept; there = it.0.there }))),
             ),
           ),
-          (map.known, held),
+          (λ name r e. let known = map.known name r e in (known.0, known.1, known.2.is), held),
+          λ first. let at = requests_at_home s t at_home same in record {
+            bases = at.0;
+            members = at.1;
+            commands = λ name r e. of_first db edition of first r.command (map.known name r e).2.can;
+          },
         );
       }
 
@@ -266,7 +313,7 @@ request_key a b r q e =
     λ i. record { number = number i; part = part i }
 
 module _ (s t u : State) (db : Database) (rows : List Row) (read : HasRows request db rows) (above : IsRight exceedance s db) (same : t ≡ record s { requests = t.requests })
-    (map : Mapped key_name row_of_request IsRequest rows t.requests) (right : IsRight request u db) where
+    (edition : Edition) (map : Mapped key_name row_of_request (IsRequestIn edition) rows t.requests) (right : IsRight request u db) where
   -- an exceedance of this state has the key of one of the other
   in_other : (id : ExceedanceId) (p : PeriodId) → fin.get t.exceedances (name_of id) ≡ Some p →
       (other : ExceedanceId) × (q : PeriodId) × (fin.get u.exceedances (name_of other) ≡ Some q) × (id.key ≡ other.key)
@@ -297,51 +344,53 @@ module _ (s t u : State) (db : Database) (rows : List Row) (read : HasRows reque
 
 -- ---- The call
 
-pub read_stranger : (records : List RequestRecord) (s : State) (fault : LoadFault) → Blames table_name.Request (HasStranger row_of_request IsRequest (map request_row records)) fault →
-    Blames table_name.Request (AreWanting records s) fault
-read_stranger records s NotABook blame = blame
-read_stranger records s Version blame = blame
-read_stranger records s (Damaged other) blame = (blame.0, inl blame.1)
-read_stranger records s (Fault fault) blame = blame
+pub read_stranger : (edition : Edition) (records : List RequestRecord) (s : State) (fault : LoadFault) → Blames table_name.Request (HasStranger row_of_request (IsRequestIn edition) (map request_row records)) fault →
+    Blames table_name.Request (AreWanting edition records s) fault
+read_stranger edition records s NotABook blame = blame
+read_stranger edition records s Version blame = blame
+read_stranger edition records s (Damaged other) blame = (blame.0, inl blame.1)
+read_stranger edition records s (Fault fault) blame = blame
 
-pub not_all_held : (records : List RequestRecord) (s r : State) → RequestsRead records (length records) s r → (AreHeld r → ⊥) → AreWanting records s
-not_all_held records s r read none = inr (r, read, none)
+pub not_all_held : (edition : Edition) (records : List RequestRecord) (s r : State) → RequestsRead edition records (length records) s r → (AreHeld r → ⊥) → AreWanting edition records s
+not_all_held edition records s r read none = inr (r, read, none)
 
-module _ (s : State) (old new : conn.State) (above : HasCleanDisk old → AgreesThrough exceedance s old.now) where
+module _ (edition : Edition) (s : State) (old new : conn.State) (above : HasCleanDisk old → AgreesThrough exceedance s old.now) (of : HasCleanDisk old → IsOfEdition edition old.now) where
   abbrev pub Now : State → Type 0
   Now r = AgreesThrough request r old.now
 
   pub not_read : (fault : LoadFault) → (HasCleanDisk new → BlamesOrFails table_name.Request (IsUnreadable request IsRequestRow old.now) fault) → (HasCleanDisk new → IsCaused old new fault) → CrashLeavesNoMore old new →
       ReadsAs Now (λ f. Justifies f old.now) old new (Err fault)
-  not_read fault told caused left = unread table_name.Request _ Now old new fault (λ clean. unreadable s old.now (above clean)) told caused left
+  not_read fault told caused left = unread table_name.Request _ Now old new fault (λ clean. unreadable edition s old.now (above clean) (of clean)) told caused left
 
-  all_mapped : (records : List RequestRecord) (r : State) → RequestsRead records (length records) s r → AreOnce row_of_request (map request_row records) →
-      Mapped key_name row_of_request IsRequest (map request_row records) r.requests
-  all_mapped records r read once = subst (λ l. Mapped key_name row_of_request IsRequest l r.requests) (all_taken request_row records) (read.mapped once)
+  all_mapped : (records : List RequestRecord) (r : State) → RequestsRead edition records (length records) s r → AreOnce row_of_request (map request_row records) →
+      Mapped key_name row_of_request (IsRequestIn edition) (map request_row records) r.requests
+  all_mapped records r read once = subst (λ l. Mapped key_name row_of_request (IsRequestIn edition) l r.requests) (all_taken request_row records) (read.mapped once)
 
   -- some row is wrong, or some exceedance has no request in any state with these rows
-  wanting : (records : List RequestRecord) → AgreesThrough exceedance s old.now → HasRows request old.now (map request_row records) → AreWanting records s → IsDamaged request old.now
-  wanting records up read (inl stranger) = strange s old.now up (map request_row records) read stranger
-  wanting records up read (inr it) = damaged s old.now up (λ right.
+  wanting : (records : List RequestRecord) → AgreesThrough exceedance s old.now → IsOfEdition edition old.now → HasRows request old.now (map request_row records) → AreWanting edition records s → IsDamaged request old.now
+  wanting records up is read (inl stranger) = strange edition s old.now up is (map request_row records) read stranger
+  wanting records up is read (inr it) = damaged edition s old.now up is (λ right.
       it.2 (held_here s it.0 right.0 old.now (map request_row records) read up.right it.1.same
-      (all_mapped records it.0 it.1 (requests_once s old.now up (map request_row records) read)) right.1))
+      edition (all_mapped records it.0 it.1 (requests_once edition s old.now up is (map request_row records) read)) right.1))
 
-  pub is_read : (records seen : List RequestRecord) (result : Result State LoadFault) → seen ≡ records →
+  pub is_read : (records seen : List RequestRecord) (result : Result State LoadFault) → IsAtHome s → seen ≡ records →
       (HasCleanDisk new → IsUnchanged old new × HasRows request old.now (map request_row records)) → CrashLeavesNoMore old new →
-      MatchResult result (λ r. RequestsRead seen (length seen) s r × AreHeld r) (Blames table_name.Request (AreWanting seen s)) →
+      MatchResult result (λ r. RequestsRead edition seen (length seen) s r × AreHeld r) (Blames table_name.Request (AreWanting edition seen s)) →
       ReadsAs Now (λ f. Justifies f old.now) old new result
-  is_read records seen (Ok r) same saw left done = record {
+  is_read records seen (Ok r) at_home same saw left done = record {
     told = λ clean.
         let it = saw clean in
-        let read = subst (λ l. RequestsRead l (length l) s r) same done.0 in
-        (it.0, kept_requests s old.now (above (clean_before old new left clean)) (map request_row records) r it.1 read.same (all_mapped records r read) done.1);
+        let read = subst (λ l. RequestsRead edition l (length l) s r) same done.0 in
+        let before = clean_before old new left clean in
+        (it.0, kept_requests edition s old.now (above before) (of before) (map request_row records) r it.1 at_home read.same (all_mapped records r read) done.1);
     caused = λ clean. tt;
     left = left;
   }
-  is_read records seen (Err fault) same saw left blame = record {
+  is_read records seen (Err fault) at_home same saw left blame = record {
     told = λ clean.
-        let why = subst (λ l. Blames table_name.Request (AreWanting l s) fault) same blame in
-        of_blame table_name.Request _ old.now (wanting records (above (clean_before old new left clean)) (saw clean).1) fault (or_fails table_name.Request _ fault why);
-    caused = λ clean. uncaused old new table_name.Request (AreWanting seen s) fault blame;
+        let why = subst (λ l. Blames table_name.Request (AreWanting edition l s) fault) same blame in
+        let before = clean_before old new left clean in
+        of_blame table_name.Request _ old.now (wanting records (above before) (of before) (saw clean).1) fault (or_fails table_name.Request _ fault why);
+    caused = λ clean. uncaused old new table_name.Request (AreWanting edition seen s) fault blame;
     left = left;
   }

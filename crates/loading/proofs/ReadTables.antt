@@ -109,3 +109,8 @@ refused_as Is Tells Refuses old new fault read = record { told = read.told; caus
 -- what was told of the database before a read holds of it after
 pub seen_here : {A : Type 0} (Is : Database → A → Type 0) (Refuses : LoadFault → Type 0) (a : A) (old new : State) → ReadsAs (Is old.now) Refuses old new (Ok a) → HasCleanDisk new → Is new.now a
 seen_here Is Refuses a old new saw clean = let it = saw.told clean in subst (λ db. Is db a) (sym it.0.0.now_is) it.1
+
+-- what was known of the database before a read is known of it after
+pub still_here : {A : Type 0} (P : Database → Type 0) (Is : A → Type 0) (Refuses : LoadFault → Type 0) (a : A) (old new : State) → ReadsAs Is Refuses old new (Ok a) → (HasCleanDisk old → P old.now) →
+    HasCleanDisk new → P new.now
+still_here P Is Refuses a old new saw before clean = subst P (sym (saw.told clean).0.0.now_is) (before (clean_before old new saw.left clean))

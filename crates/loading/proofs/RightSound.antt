@@ -9,9 +9,9 @@ use Rattle.duty.specs.Plans.{GroundPlan}
 use Rattle.duty.specs.Shape.{is_id, is_plain_text}
 use Rattle.roster.specs.Sound.{Sound}
 use Rattle.roster.specs.State.{State}
-use Rattle.loading.specs.Loading.{IsRight}
+use Rattle.loading.specs.Loading.{IsRight, IsRightBook}
+use Rattle.loading.specs.SameRows.{HasInstants, IsSaidByFirst}
 use Rattle.state_rows.specs.Rows.{request}
-use Rattle.loading.specs.SameRows.{HasInstants}
 
 begins_first : (g : GroundPlan) → ground_fault g ≡ None → g.begin < g.end
 unfolding ground_fault
@@ -29,7 +29,10 @@ begins_first g e = elim (cases_Bool (nat_lt g.begin g.end)) [
   ])
 ]
 
-module _ (s : State) (db : Database) (right : IsRight request s db) where
+module _ (s : State) (db : Database) (whole : IsRightBook s db) where
+  right : IsRight request s db
+  right = whole.0.0.0.0
+
   pub right_sound : Sound s
   right_sound =
       let to_exceedances = right.0 in
@@ -37,6 +40,8 @@ module _ (s : State) (db : Database) (right : IsRight request s db) where
       let to_seats = to_grounds.0 in
       let to_segments = to_seats.0 in
       record {
+        has_home = whole.0.0.0.2.has_home;
+        crew = whole.0.0.2;
         pairings = λ id r here.
             let plan = to_segments.3 id r here in
             let seated = to_seats.2 id r here in
@@ -78,3 +83,6 @@ module _ (s : State) (db : Database) (right : IsRight request s db) where
 
   pub right_instants : HasInstants s
   right_instants name r here = (right.2.0 name r here).2.command.1
+
+pub right_first : IsSaidByFirst
+right_first s db whole first = whole.0.0.0.0.3 first

@@ -3,24 +3,40 @@ use Rattle.std.proofs.Common.{◌≡◌, refl, sym, ap, ◌∙◌, ℕ, List, []
 use Rattle.std.specs.FinMap as fin
 use Rattle.sqlite_value.specs.Order.{Row, column}
 use Rattle.limits.specs.SectionText.{section_number}
+use Rattle.command.specs.declared.member.Member.{Member}
 use Rattle.command.specs.Keys.{key_name}
 use Rattle.command.specs.declared.exceedance.Reply.{Reply}
-use Rattle.roster.specs.Sound.{Sound}
+use Rattle.roster.specs.Sound.{Crew, Sound}
 use Rattle.roster.specs.State.{State, exceedance_name}
 use Rattle.stored_json.specs.KeptText.{kept_text}
 use Rattle.stored_json.specs.ReplyText.{reply_text, read_reply}
 use Rattle.stored_json.proofs.InstructionsBack.{kept_differ}
 use Rattle.stored_json.proofs.ReplyBack.{reply_back}
-use Rattle.state_rows.specs.Rows.{book, crew, pairing, period, segment, seat, ground_duty, exceedance, request, InBook, InCrew, InGround, InExceedance, InRequest, row_of_member, row_of_pairing, row_of_ground, row_of_exceedance, row_of_request, seat_number}
+use Rattle.state_rows.specs.Rows.{crew, pairing, period, segment, seat, ground_duty, exceedance, request, base, crew_base, InBase, InCrewBase, InCrew, InGround, InExceedance, InRequest, row_of_base, row_of_member, row_of_post, row_of_pairing, row_of_ground, row_of_exceedance, row_of_request, seat_number}
 use Rattle.loading.specs.SameRows.{HasInstants, SameRows, RowsSayAll, HoldsOneState}
-use Rattle.state_rows.proofs.Lists.{Answers, same_map}
+use Rattle.state_rows.proofs.Lists.{Answers, one_value, same_map}
 use Rattle.loading.proofs.SamePairings.{same_pairing}
-use Rattle.state_rows.proofs.Values.{members_same, sections_same, text_is, number_is}
+use Rattle.state_rows.proofs.Values.{members_same, seats_same, sections_same, text_is, number_is}
 
-zones_same : (s t : State) → ((row : Row) → InBook s row → InBook t row) → s.zone ≡ t.zone
-zones_same s t told = text_is (ap (λ (row : Row). column row 2) (told _ refl))
+pub bases_told : (s t : State) → ((row : Row) → InBase s row → InBase t row) → (id : List ℕ) → Answers (fin.get s.bases id) (fin.get t.bases id)
+bases_told s t told id zone e =
+    let it = told (row_of_base id zone) (record { name = id; value = zone; there = e }, refl) in
+    let same_id : id ≡ it.0.name = text_is (ap (λ (row : Row). column row 0) it.1) in
+    let same : it.0.value ≡ zone = text_is (sym (ap (λ (row : Row). column row 1) it.1)) in
+    ap (fin.get t.bases) same_id ∙ it.0.there ∙ ap Some same
 
-pub crew_told : (s t : State) → ((row : Row) → InCrew s row → InCrew t row) → (id : List ℕ) → Answers (fin.get s.crew id) (fin.get t.crew id)
+-- a member who is the same but for the base
+pub record Alike (members : Crew) (who : List ℕ) (m : Member) : Type 0 where
+  pub other : Member
+  pub there : fin.get members who ≡ Some other
+  pub seat : other.seat ≡ m.seat
+  pub name : other.name ≡ m.name
+
+-- each of these members is among the others, the same but for the base
+abbrev pub HasAlike : Crew → Crew → Type 0
+HasAlike members others = (who : List ℕ) (m : Member) → fin.get members who ≡ Some m → Alike others who m
+
+pub crew_told : (s t : State) → ((row : Row) → InCrew s row → InCrew t row) → HasAlike s.crew t.crew
 crew_told s t told id m e =
     let it = told (row_of_member id m) (record { name = id; value = m; there = e }, refl) in
     let same = it.1 in
@@ -28,7 +44,17 @@ crew_told s t told id m e =
     let same_id : id ≡ it.0.name = text_is (at_column 0) in
     let seat : seat_number it.0.value.seat ≡ seat_number m.seat = number_is (sym (at_column 1)) in
     let name : it.0.value.name ≡ m.name = text_is (sym (at_column 2)) in
-    ap (fin.get t.crew) same_id ∙ it.0.there ∙ ap Some (members_same it.0.value m seat name)
+    record { other = it.0.value; there = ap (fin.get t.crew) same_id ∙ it.0.there; seat = seats_same it.0.value.seat m.seat seat; name = name }
+
+-- with their bases, members are the same
+members_told : (s t : State) → ((row : Row) → InCrew s row → InCrew t row) → ((row : Row) → InCrewBase s row → InCrewBase t row) → (id : List ℕ) → Answers (fin.get s.crew id) (fin.get t.crew id)
+members_told s t crew_is base_is id m e =
+    let alike = crew_told s t crew_is id m e in
+    let it = base_is (row_of_post id m.base) (record { name = id; value = m; there = e }, refl) in
+    let same_id : id ≡ it.0.name = text_is (ap (λ (row : Row). column row 0) it.1) in
+    let same : it.0.value ≡ alike.other = one_value (ap (fin.get t.crew) same_id ∙ it.0.there) alike.there in
+    let based : alike.other.base ≡ m.base = ap (λ (n : Member). n.base) (sym same) ∙ text_is (sym (ap (λ (row : Row). column row 1) it.1)) in
+    alike.there ∙ ap Some (members_same alike.other m (ap seat_number alike.seat) alike.name based)
 
 grounds_told : (s t : State) → Sound s → Sound t → ((row : Row) → InGround s row → InGround t row) → (id : List ℕ) → Answers (fin.get s.grounds id) (fin.get t.grounds id)
 grounds_told s t ss st told id g e =
@@ -104,8 +130,8 @@ turned s t same name row = ((same name row).1, (same name row).0)
 
 pub rows_say_all : RowsSayAll
 rows_say_all s t ss st is it same = λ i. record {
-  zone = zones_same s t (λ row. (same book row).0) i;
-  crew = same_map s.crew t.crew (crew_told s t (λ row. (same crew row).0)) (crew_told t s (λ row. (same crew row).1)) i;
+  bases = same_map s.bases t.bases (bases_told s t (λ row. (same base row).0)) (bases_told t s (λ row. (same base row).1)) i;
+  crew = same_map s.crew t.crew (members_told s t (λ row. (same crew row).0) (λ row. (same crew_base row).0)) (members_told t s (λ row. (same crew row).1) (λ row. (same crew_base row).1)) i;
   pairings = same_map s.pairings t.pairings (pairings_told s t ss st same) (pairings_told t s st ss (turned s t same)) i;
   grounds = same_map s.grounds t.grounds (grounds_told s t ss st (λ row. (same ground_duty row).0)) (grounds_told t s st ss (λ row. (same ground_duty row).1)) i;
   exceedances = same_map s.exceedances t.exceedances (exceedances_told s t ss (λ row. (same exceedance row).0)) (exceedances_told t s st (λ row. (same exceedance row).1)) i;

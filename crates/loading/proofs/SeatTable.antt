@@ -181,12 +181,13 @@ module _ (s : State) (db : Database) (above : AgreesThrough segment s db) where
       let seated = right.1.2 at.name at.value at.there in
       let kind : (seat : Seat) → IsHolder right.0.crew seat (holder seat at.value) = λ k. elim k as (λ k. IsHolder right.0.crew k (holder k at.value)) [ Captain ↦ seated.captain | FirstOfficer ↦ seated.first_officer ] in
       let m = kind held.seat held.crew held.held in
+      let alike = crew_told right.0 s (told crew db _ _ right.1.0.0.0.0.1.1 above.right.0.0.0.1.1) held.crew m.0 m.1 in
       stranger.strange (record { pairing = at.name; seat = held.seat }) held.crew x.2 (record {
         rostered = here.other;
         of_pairing = here.there;
-        member = m.0;
-        of_member = crew_told right.0 s (told crew db _ _ right.1.0.0.0.0.1.1 above.right.0.0.0.1.1) held.crew m.0 m.1;
-        of_kind = m.2;
+        member = alike.other;
+        of_member = alike.there;
+        of_kind = alike.seat ∙ m.2;
       })
 
   seats_once : (rows : List Row) → HasRows seat db rows → AreOnce row_of_held rows

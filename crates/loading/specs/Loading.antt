@@ -12,7 +12,7 @@ use Rattle.sqlite.specs.State as conn
 use Rattle.time117.specs.Local.{is_zone_text}
 use Rattle.duty.specs.Pairings.{pairing_fault, ground_fault}
 use Rattle.duty.specs.Plans.{ActualTimes, GroundPlan, as_planned}
-use Rattle.duty.specs.Shape.{is_id, is_plain_text}
+use Rattle.duty.specs.Shape.{home, is_id, is_plain_text}
 use Rattle.command.specs.Keys.{KeyParts, key_name}
 use Rattle.command.specs.declared.member.Member.{Member}
 use Rattle.command.specs.declared.member.Seat.TheVariants.{Captain, FirstOfficer}
@@ -20,6 +20,7 @@ use Rattle.stored_json.specs.Instants.{is_instant, period_has_instants, times_ha
 use Rattle.stored_json.specs.KeptText.{kept_text}
 use Rattle.stored_json.specs.Laws.{IsCommand}
 use Rattle.stored_json.specs.ReplyText.{reply_text}
+use Rattle.roster.specs.Bases.{IsBase, home_zone}
 use Rattle.roster.specs.Pairings.{is_flown, is_fully_crewed}
 use Rattle.roster.specs.Sound.{Crew, IsHolder, IsActual}
 use Rattle.roster.specs.State.{State, exceedance_name}
@@ -38,6 +39,7 @@ use Rattle.loading.specs.declared.fault.LoadFault.TheVariants.{NotABook, Damaged
 use Rattle.loading.specs.declared.fault.TableName as name
 use Rattle.loading.specs.declared.fault.TableName.TheVariants as table_name
 use Rattle.state_rows.specs.Editions.{edition_number}
+use Rattle.state_rows.specs.First.{IsFirst}
 use Rattle.state_rows.specs.Rows.{TableName, book, crew, pairing, period, segment, seat, ground_duty, exceedance, request, base, crew_base, outside, outside_segment, table, InBookOf, InTable, InPeriod, HasJust}
 use Rattle.state_rows.specs.declared.edition.Edition.{Edition}
 use Rattle.state_rows.specs.declared.edition.Edition.TheVariants.{First, Second}
@@ -176,6 +178,16 @@ AreRequests s =
     (key : KeyParts) × (name ≡ key_name key) × IsRequest key r)
     × AreHeld s
 
+-- HOME is one of the bases; the id of each base has its shape, and its zone is a rule text
+pub record AreBases (s : State) : Type 0 where
+  pub has_home : IsBase s.bases home
+  pub shaped : (id zone : List ℕ) → fin.get s.bases id ≡ Some zone →
+      (is_id id ≡ true) × (is_zone_text zone ≡ true)
+
+-- the base of each member is one of the bases
+abbrev pub AreBased : State → Type 0
+AreBased s = (who : List ℕ) (m : Member) → fin.get s.crew who ≡ Some m → IsBase s.bases m.base
+
 -- ---- The tables in turn
 
 -- the table is there as its text declares it, with just the rows of the state
@@ -203,7 +215,7 @@ IsLaterOfState name s db =
 
 -- the table `book` is right, in version 1 or 2, with the row of this state
 abbrev pub IsBookRight : State → Database → Type 0
-IsBookRight s db = IsBookOfState s db × (is_zone_text s.zone ≡ true)
+IsBookRight s db = IsBookOfState s db × (is_zone_text (home_zone s.bases) ≡ true)
 
 -- the tables from `book` to `crew` are right, with the rows of this state
 abbrev pub IsCrewRight : State → Database → Type 0
@@ -236,19 +248,20 @@ IsGroundRight s db = IsSeatRight s db × IsTableOfState ground_duty s db × AreG
 abbrev pub IsExceedanceRight : State → Database → Type 0
 IsExceedanceRight s db = IsGroundRight s db × IsTableOfState exceedance s db × AreExceedances s
 
--- the tables from `book` to `request`, the last of version 1, are right, with the rows of this
--- state
+-- The tables from `book` to `request`, the last of version 1, are right, with the rows of this
+-- state. In a file of version 1 it is a state that version 1 can say.
 abbrev pub IsRequestRight : State → Database → Type 0
 IsRequestRight s db = IsExceedanceRight s db × IsTableOfState request s db × AreRequests s
+    × (IsOfEdition First db → IsFirst s)
 
 -- the tables from `book` to `base`, the first that version 2 added, are right, with the rows of
 -- this state
 abbrev pub IsBaseRight : State → Database → Type 0
-IsBaseRight s db = IsRequestRight s db × IsLaterOfState base s db
+IsBaseRight s db = IsRequestRight s db × IsLaterOfState base s db × AreBases s
 
 -- the tables from `book` to `crew_base` are right, with the rows of this state
 abbrev pub IsCrewBaseRight : State → Database → Type 0
-IsCrewBaseRight s db = IsBaseRight s db × IsLaterOfState crew_base s db
+IsCrewBaseRight s db = IsBaseRight s db × IsLaterOfState crew_base s db × AreBased s
 
 -- the tables from `book` to `outside` are right, with the rows of this state
 abbrev pub IsOutsideRight : State → Database → Type 0

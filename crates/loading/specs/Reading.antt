@@ -10,14 +10,18 @@ use Rattle.sqlite_schema.specs.declared.schema.Schema.{Schema}
 use Rattle.sqlite.specs.Effect.{Database, IsDatabase}
 use Rattle.sqlite.specs.State.{State, HasCleanDisk, IsUnchanged}
 use Rattle.duty.specs.Plans.{ActualTimes}
-use Rattle.command.specs.Keys.{key_name}
+use Rattle.duty.specs.Shape.{home, is_id}
+use Rattle.command.specs.Keys.{KeyParts, key_name}
+use Rattle.command.specs.declared.instruction.Instruction.{Instruction}
 use Rattle.command.specs.declared.member.Member.{Member}
 use Rattle.command.specs.declared.member.Seat.{Seat}
 use Rattle.command.specs.declared.member.Seat.TheVariants.{Captain, FirstOfficer}
+use Rattle.roster.specs.Bases.{IsBase, home_zone, only_home}
 use Rattle.roster.specs.Pairings.{holder, is_flown, is_fully_crewed}
 use Rattle.roster.specs.Sound.{Crew, IsHolder}
 use Rattle.roster.specs.State as roster
 use Rattle.roster.specs.declared.state.ExceedanceId.{ExceedanceId}
+use Rattle.roster.specs.declared.state.LoggedCommand.{LoggedCommand}
 use Rattle.roster.specs.declared.state.PeriodId.{PeriodId}
 use Rattle.roster.specs.declared.state.PairingEntry.{PairingEntry}
 use Rattle.tables.specs.Calls.{CrashLeavesNoMore}
@@ -32,11 +36,12 @@ use Rattle.tables.specs.declared.exceedance.ExceedanceRecord.{ExceedanceRecord}
 use Rattle.tables.specs.declared.ground.GroundRecord.{GroundRecord}
 use Rattle.tables.specs.declared.request.RequestRecord.{RequestRecord}
 use Rattle.tables.specs.declared.seat.SeatRecord.{SeatRecord}
-use Rattle.loading.specs.Loading.{IsCaused, IsMember, IsGround, IsExceedance, IsRequest, AreHeld, name_of, IsRight, IsNoBook, IsOfEdition, IsOfOtherVersion, IsTableOfState}
-use Rattle.state_rows.specs.Bases.{home}
+use Rattle.loading.specs.Loading.{IsCaused, IsMember, IsGround, IsExceedance, IsRequest, AreHeld, name_of, IsRight, IsNoBook, IsOfEdition, IsOfOtherVersion}
 use Rattle.state_rows.specs.Editions.{edition_number}
+use Rattle.state_rows.specs.First.{IsOfFirst}
 use Rattle.state_rows.specs.Rows.{TableName, book, crew, pairing, period, segment, seat, ground_duty, exceedance, request, base, crew_base, outside, outside_segment, table, row_of_member, row_of_seat, row_of_ground, row_of_exceedance, row_of_request, row_of_base, row_of_post, InSeat}
 use Rattle.state_rows.specs.declared.edition.Edition.{Edition}
+use Rattle.state_rows.specs.declared.edition.Edition.TheVariants.{First, Second}
 use Rattle.state_rows.specs.declared.fault.StoreFault.TheVariants.{Memory}
 use Rattle.loading.specs.declared.fault.LoadFault.{LoadFault}
 use Rattle.loading.specs.declared.fault.LoadFault.TheVariants.{NotABook, Damaged, Version, Fault}
@@ -174,10 +179,16 @@ pub record IsExceedanceInRange
 abbrev pub row_of_recorded : ExceedanceId → PeriodId → Row
 row_of_recorded id p = row_of_exceedance id.key id.crew id.section p
 
--- the members of this many first records were set in a roster
+-- each of these members is at HOME
+abbrev pub AreAtHome : Crew → Type 0
+AreAtHome members =
+    (who : List ℕ) (m : Member) → fin.get members who ≡ Some m → m.base ≡ home
+
+-- the members of this many first records were set in a roster, each at HOME
 pub record MembersRead
     (records : List CrewRecord) (count : ℕ) (old new : roster.State) : Type 0 where
   pub same : new ≡ record old { crew = new.crew }
+  pub at_home : AreAtHome new.crew
   pub mapped : AreOnce row_of_member (map crew_row records) →
       Mapped (λ id. id) row_of_member IsMember (take count (map crew_row records)) new.crew
 
@@ -197,19 +208,33 @@ pub record ExceedancesRead
       Mapped name_of row_of_recorded (IsExceedanceInRange old.crew old.pairings)
       (take count (map exceedance_row records)) new.exceedances
 
--- the kept commands of this many first records were set in a roster
+-- a book of this version can keep the instruction: in version 1 it adds no base, and no member at
+-- another base than HOME
+abbrev pub CanKeep : Edition → Instruction → Type 0
+CanKeep First instruction = IsOfFirst instruction
+CanKeep Second instruction = ⊤
+
+-- what is kept under a key is a command with its reply, and a book of this version can keep it
+pub record IsRequestIn (edition : Edition) (key : KeyParts) (r : LoggedCommand) : Type 0 where
+  pub is : IsRequest key r
+  pub can : CanKeep edition r.command
+
+-- the kept commands of this many first records were set in a roster; a book of this version can
+-- keep each of them
 pub record RequestsRead
-    (records : List RequestRecord) (count : ℕ) (old new : roster.State) : Type 0 where
+    (edition : Edition) (records : List RequestRecord) (count : ℕ) (old new : roster.State)
+    : Type 0 where
   pub same : new ≡ record old { requests = new.requests }
   pub mapped : AreOnce row_of_request (map request_row records) →
-      Mapped key_name row_of_request IsRequest
+      Mapped key_name row_of_request (IsRequestIn edition)
       (take count (map request_row records)) new.requests
 
--- some row is that of no request, or some exceedance has a key that isn't held
-abbrev pub AreWanting : List RequestRecord → roster.State → Type 0
-AreWanting records s =
-    HasStranger row_of_request IsRequest (map request_row records)
-    ⊎ ((r : roster.State) × RequestsRead records (length records) s r × (AreHeld r → ⊥))
+-- some row is that of no request that a book of this version can keep, or some exceedance has a key
+-- that isn't held
+abbrev pub AreWanting : Edition → List RequestRecord → roster.State → Type 0
+AreWanting edition records s =
+    HasStranger row_of_request (IsRequestIn edition) (map request_row records)
+    ⊎ ((r : roster.State) × RequestsRead edition records (length records) s r × (AreHeld r → ⊥))
 
 -- ---- The holders of seats
 
@@ -297,7 +322,11 @@ BlamesBook records (Fault fault) = fault ≡ Memory
 
 -- ---- A roster of plans
 
--- the roster has nothing but members and pairings
+-- HOME is the one base of the roster, and that of each member
+abbrev pub IsAtHome : roster.State → Type 0
+IsAtHome s = (s.bases ≡ only_home (home_zone s.bases)) × AreAtHome s.crew
+
+-- the roster has nothing but bases, members and pairings
 abbrev pub HasNoDuties : roster.State → Type 0
 HasNoDuties s = (s.grounds ≡ fin.empty) × (s.exceedances ≡ fin.empty) × (s.requests ≡ fin.empty)
 
@@ -322,49 +351,82 @@ BlamesName schema (Damaged its.OutsideSegment) =
     × IsNameFree (table outside) schema × ¬ IsNameFree (table outside_segment) schema
 BlamesName schema fault = ⊥
 
--- one of the tables that version 2 added is there, with just the rows of a state, each under a
--- number of its own
+-- the tables down to this one are right, with the rows of this state, and each row of this one is
+-- under a number of its own
 abbrev pub IsReadAs : TableName → roster.State → Database → Type 0
-IsReadAs it s db = IsTableOfState it s db × IsStored (table it) db
+IsReadAs it s db = IsRight it s db × IsStored (table it) db
 
--- the rows of these records of `base` are just the row of the base HOME with this zone
-abbrev pub IsHomeAlone : List BaseRecord → List ℕ → Type 0
-IsHomeAlone records zone =
-    (row : Row) → Has (map base_row records) row ↔ (row ≡ row_of_base home zone)
+-- ---- The bases
 
--- the ids of members whose base was read, as a map that has nothing under them
-abbrev pub Posted : Type 0
-Posted = fin.FinMap name_cmp ⊤
+-- the id of a base has its shape, and its zone is a rule text
+pub record IsShaped (id zone : List ℕ) : Type 0 where
+  pub id_shape : is_id id ≡ true
+  pub zone_text : is_zone_text zone ≡ true
 
--- the row of `crew_base` that a member at HOME has
-abbrev pub row_at_home : List ℕ → ⊤ → Row
-row_at_home who _ = row_of_post who home
+-- one of the records of `base` is the row of HOME with this zone
+abbrev pub HasHome : List BaseRecord → List ℕ → Type 0
+HasHome records zone = Has (map base_row records) (row_of_base home zone)
 
--- there is a member of this id
-abbrev pub IsPost : Crew → List ℕ → ⊤ → Type 0
-IsPost members who _ = fin.contains_key members who ≡ true
+-- The bases of this many first records of `base` were set in a roster that had HOME alone. So the
+-- bases are those of these records, and HOME, of which one of all the records has to be the row.
+pub record BasesRead
+    (records : List BaseRecord) (count : ℕ) (old new : roster.State) : Type 0 where
+  pub same : new ≡ record old { bases = new.bases }
+  pub mapped : AreOnce row_of_base (map base_row records) →
+      HasHome records (home_zone old.bases) → is_zone_text (home_zone old.bases) ≡ true →
+      Mapped (λ id. id) row_of_base IsShaped
+      (row_of_base home (home_zone old.bases) ∷ take count (map base_row records)) new.bases
 
--- the members of this many first records of `crew_base` are those of the map, each at HOME
+-- the bases of all records of `base` were set in a roster, and one is HOME with the zone that HOME
+-- had there before
+pub record AreBasesRead (records : List BaseRecord) (old new : roster.State) : Type 0 where
+  pub has_home : HasHome records (home_zone old.bases)
+  pub read : BasesRead records (length records) old new
+
+-- some record of `base` is that of no base, or none is the row of HOME with the zone of HOME in the
+-- roster
+abbrev pub AreNoBases : List BaseRecord → roster.State → Type 0
+AreNoBases records s =
+    HasStranger row_of_base IsShaped (map base_row records)
+    ⊎ (HasHome records (home_zone s.bases) → ⊥)
+
+-- ---- The bases of the members
+
+-- the row of `crew_base` of a member under an id
+abbrev pub row_of_posted : List ℕ → Member → Row
+row_of_posted who m = row_of_post who m.base
+
+-- the roster has a member under this id who is the same but for the base, and has the base
+pub record IsPosted (s : roster.State) (who : List ℕ) (m : Member) : Type 0 where
+  pub before : Member
+  pub there : fin.get s.crew who ≡ Some before
+  pub seat : m.seat ≡ before.seat
+  pub name : m.name ≡ before.name
+  pub based : IsBase s.bases m.base
+
+-- the members of the roster whom this many first records of `crew_base` name, each at the base that
+-- the record names
 pub record PostsRead
-    (members : Crew) (records : List CrewBaseRecord) (count : ℕ) (posted : Posted) : Type 0 where
-  pub mapped :
-      Mapped (λ who. who) row_at_home (IsPost members)
+    (s : roster.State) (records : List CrewBaseRecord) (count : ℕ) (posted : Crew)
+    : Type 0 where
+  pub mapped : AreOnce row_of_posted (map crew_base_row records) →
+      Mapped (λ who. who) row_of_posted (IsPosted s)
       (take count (map crew_base_row records)) posted
 
--- the base of each member was read
-abbrev pub AreAllPosted : Crew → Posted → Type 0
+-- each of the members is among the posted ones
+abbrev pub AreAllPosted : Crew → Crew → Type 0
 AreAllPosted members posted = (who : List ℕ) →
     fin.contains_key members who ≡ true → fin.contains_key posted who ≡ true
 
--- each record of `crew_base` is of a member at HOME, and each member has one
-abbrev pub ArePosted : Crew → List CrewBaseRecord → Type 0
-ArePosted members records =
-    (posted : Posted) × PostsRead members records (length records) posted
-    × AreAllPosted members posted
+-- each member of a roster was set at the base that a record of `crew_base` names
+pub record ArePosted (records : List CrewBaseRecord) (old new : roster.State) : Type 0 where
+  pub same : new ≡ record old { crew = new.crew }
+  pub read : PostsRead old records (length records) new.crew
+  pub all : AreAllPosted old.crew new.crew
 
--- some row of `crew_base` is of no member at HOME, or some member has none
-abbrev pub AreUnposted : Crew → List CrewBaseRecord → Type 0
-AreUnposted members records =
-    HasStranger row_at_home (IsPost members) (map crew_base_row records)
-    ⊎ ((posted : Posted) × PostsRead members records (length records) posted
-    × (AreAllPosted members posted → ⊥))
+-- some row of `crew_base` names no member or no base of the roster, or some member has none
+abbrev pub AreUnposted : List CrewBaseRecord → roster.State → Type 0
+AreUnposted records s =
+    HasStranger row_of_posted (IsPosted s) (map crew_base_row records)
+    ⊎ ((posted : Crew) × PostsRead s records (length records) posted
+    × (AreAllPosted s.crew posted → ⊥))

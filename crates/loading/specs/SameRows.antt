@@ -7,9 +7,10 @@ use Rattle.stored_json.specs.Instants.{instruction_has_instants}
 use Rattle.roster.specs.Sound.{Sound}
 use Rattle.roster.specs.State.{State}
 use Rattle.roster.specs.declared.state.LoggedCommand.{LoggedCommand}
+use Rattle.state_rows.specs.First.{IsFirst}
 use Rattle.state_rows.specs.Rows.{FirstRows, Rows, TableName, InTable}
 use Rattle.state_rows.specs.declared.edition.Edition.TheVariants.{First, Second}
-use Rattle.loading.specs.Loading.{IsOfEdition}
+use Rattle.loading.specs.Loading.{IsOfEdition, IsRightBook}
 
 -- the instants of kept commands are of the years 2000 to 2099, as the type of an instant sees to
 abbrev pub HasInstants : State → Type 0
@@ -34,11 +35,16 @@ HoldsOneState = (s t : State) (db : Database) → Sound s → Sound t → HasIns
 abbrev pub IsOfOneEdition : Type 0
 IsOfOneEdition = (db : Database) → IsOfEdition First db → ¬ IsOfEdition Second db
 
--- the database has just the rows of a state, in the tables of version 1 or in those of version 2
+-- the database has just the rows of a state: in the tables of version 2, or in those of version 1,
+-- if they can say the state
 abbrev pub EitherRows : State → Database → Type 0
-EitherRows s db = FirstRows s db ⊎ Rows s db
+EitherRows s db = (FirstRows s db × IsFirst s) ⊎ Rows s db
 
 -- one database holds the rows of one sound state at most, whether in version 1 or in version 2
 abbrev pub HoldsOneOfEither : Type 0
 HoldsOneOfEither = (s t : State) (db : Database) → Sound s → Sound t → HasInstants s →
     HasInstants t → EitherRows s db → EitherRows t db → s ≡ t
+
+-- a state whose rows are those of a right book of version 1 is one that version 1 can say
+abbrev pub IsSaidByFirst : Type 0
+IsSaidByFirst = (s : State) (db : Database) → IsRightBook s db → IsOfEdition First db → IsFirst s

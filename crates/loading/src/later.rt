@@ -1,12 +1,12 @@
 //! The tables that version 2 added: in a file of version 1 their names are free, in one of version 2 they are read.
 //! Files with such a damage: `tests/tables.py`. Wrong bodies: `must-fail/`.
 
-ghost use Rattle.std.specs.Prelude.{◌≡◌, ◌↔◌, [], IsTrue, None, MatchResult};
+ghost use Rattle.std.specs.Prelude.{◌≡◌, ◌↔◌, [], IsTrue, MatchResult};
 ghost use Rattle.sqlite.specs.Held.{state};
 ghost use Rattle.sqlite.specs.State.{HasCleanDisk};
-ghost use Rattle.tables.specs.Schema.{AreFree, NoneRefersTo, later_tables, table_found};
+ghost use Rattle.tables.specs.Schema.{AreFree, later_tables};
 ghost use Rattle.loading.specs.Loading.{Justifies};
-ghost use Rattle.loading.specs.Reading.{AgreesIn, Blames, BlamesName, ReadsAs};
+ghost use Rattle.loading.specs.Reading.{AgreesIn, Blames, BlamesName, IsAtHome, ReadsAs};
 ghost use Rattle.state_rows.specs.Rows.{request, outside_segment};
 ghost use Rattle.state_rows.specs.declared.edition.Edition.TheVariants.{Second};
 
@@ -19,7 +19,7 @@ use roster::Roster;
 use sqlite::{Alter, Connection};
 use state_rows::Edition;
 use std::alloc::Global;
-use tables::book_schema::{has_table, is_unreferenced};
+use tables::book_schema::is_name_free;
 
 /// Returns whether there is no record.
 pub(crate) fn is_none<T>(records: &[T]) -> bool
@@ -38,14 +38,6 @@ pub(crate) fn check_empty<T>(records: &[T], table: TableName) -> Result<(), Load
     } else {
         Err(LoadFault::Damaged(table))
     }
-}
-
-/// Returns whether no table has this name, and no foreign key refers to one of this name.
-fn is_name_free<S: Alter>(conn: &Connection<S>, name: &str) -> bool
-    ensures { IsTrue result ↔ (table_found (state S.Store conn.now).now.schema name.now ≡ None)
-        × NoneRefersTo name.now (state S.Store conn.now).now.schema }
-{
-    !has_table(conn, name) && is_unreferenced(conn, name)
 }
 
 /// Looks whether the names of the tables that version 2 added are free, in turn.
@@ -69,42 +61,47 @@ fn check_names<S: Alter>(conn: &Connection<S>) -> Result<(), LoadFault>
     Ok(())
 }
 
-/// Reads the tables that version 2 added, after a roster was read of the others.
+/// Reads the tables that version 2 added, into a roster that was read of the others.
 fn read_later_tables<S: Alter>(
     alloc: Global,
     conn: &mut Connection<S>,
-    roster: &Roster,
-) -> Result<(), LoadFault>
-    requires { HasCleanDisk (state S.Store conn.old)
-        → AgreesIn Second request roster.now (state S.Store conn.old).now }
-    ensures { ReadsAs
-        (λ _. AgreesIn Second outside_segment roster.now (state S.Store conn.old).now)
+    roster: Roster,
+) -> Result<Roster, LoadFault>
+    requires home { IsAtHome roster }
+    requires above { HasCleanDisk (state S.Store conn.old)
+        → AgreesIn Second request roster (state S.Store conn.old).now }
+    ensures { ReadsAs (λ r. AgreesIn Second outside_segment r (state S.Store conn.old).now)
         (λ fault. Justifies fault (state S.Store conn.old).now) (state S.Store conn.old)
         (state S.Store conn.new) result }
 {
-    read_base(alloc, conn, roster)?;
-    read_crew_base(alloc, conn, roster)?;
-    read_outside(alloc, conn, roster)?;
-    read_outside_segment(alloc, conn, roster)
+    let roster = read_base(alloc, conn, roster)?;
+    let roster = read_crew_base(alloc, conn, roster)?;
+    read_outside(alloc, conn, &roster)?;
+    read_outside_segment(alloc, conn, &roster)?;
+    Ok(roster)
 }
 
-/// Looks at the tables that version 2 added, after a roster was read of the others.
+/// Looks at the tables that version 2 added, and reads them into a roster that was read of the others.
 pub(crate) fn read_later<S: Alter>(
     alloc: Global,
     conn: &mut Connection<S>,
-    roster: &Roster,
+    roster: Roster,
     edition: Edition,
-) -> Result<(), LoadFault>
-    requires opened { HasCleanDisk (state S.Store conn.old) → IsTrue (state S.Store conn.old).is_open }
+) -> Result<Roster, LoadFault>
+    requires opened { HasCleanDisk (state S.Store conn.old)
+        → IsTrue (state S.Store conn.old).is_open }
+    requires home { IsAtHome roster }
     requires above { HasCleanDisk (state S.Store conn.old)
-        → AgreesIn edition request roster.now (state S.Store conn.old).now }
-    ensures { ReadsAs
-        (λ _. AgreesIn edition outside_segment roster.now (state S.Store conn.old).now)
+        → AgreesIn edition request roster (state S.Store conn.old).now }
+    ensures { ReadsAs (λ r. AgreesIn edition outside_segment r (state S.Store conn.old).now)
         (λ fault. Justifies fault (state S.Store conn.old).now) (state S.Store conn.old)
         (state S.Store conn.new) result }
 {
     match edition {
-        Edition::First => check_names(conn),
+        Edition::First => {
+            check_names(conn)?;
+            Ok(roster)
+        }
         Edition::Second => read_later_tables(alloc, conn, roster),
     }
 }

@@ -1,27 +1,27 @@
 //! The table `base`, as it is loaded from a file of version 2. What is right is `IsBaseRight` (`specs/Loading.antt`).
 //! Files with such a damage: `tests/tables.py`. Wrong bodies: `must-fail-more/`.
 
-ghost use Rattle.std.specs.Prelude.{◌≡◌, ◌↔◌, map, IsTrue, MatchResult};
+ghost use Rattle.std.specs.Prelude.{◌≡◌, ◌↔◌, length, map, IfOk, IsTrue, MatchResult};
+ghost use Rattle.duty.specs.Shape.{home};
 ghost use Rattle.sqlite.specs.Held.{state};
 ghost use Rattle.sqlite.specs.State.{HasCleanDisk};
+ghost use Rattle.roster.specs.Bases.{home_zone, only_home};
 ghost use Rattle.tables.specs.Records.{base_row, IsBaseRow};
 ghost use Rattle.loading.specs.Loading.{Justifies};
-ghost use Rattle.loading.specs.Reading.{AgreesIn, Blames, BlamesOrFails, HasRows, IsHomeAlone, IsUnreadable, ReadsAs};
-ghost use Rattle.state_rows.specs.Bases.{home};
+ghost use Rattle.loading.specs.Reading.{AgreesIn, AreBasesRead, AreNoBases, BasesRead, Blames, BlamesOrFails, HasHome, HasRows, HasStranger, IsShaped, IsUnreadable, ReadsAs, TellsOf};
 ghost use Rattle.state_rows.specs.Rows.{row_of_base, base, request};
 ghost use Rattle.state_rows.specs.declared.edition.Edition.TheVariants.{Second};
 ghost use Rattle.loading.specs.declared.fault.TableName.TheVariants as table_name;
 
 use crate::fault::{LoadFault, TableName};
-use crate::later::is_none;
-use roster::Roster;
+use duty::BaseId;
+use roster::{Entry, Roster};
 use sqlite::{Alter, Connection};
 use std::alloc::Global;
 use tables::base::{BaseRecord, is_base_there, load_bases};
 use tables::book_schema::is_spared;
-
-/// The base that every book has.
-pub(crate) const HOME: &str = "HOME";
+use time117::{Zone, ZoneFault};
+use values::{MemoryFault, TryClone};
 
 /// Reads the records of the table.
 #[tactic(auto, using(crate::proofs::Telling::not_there, crate::proofs::Telling::no_memory))]
@@ -51,38 +51,80 @@ fn base_records<S: Alter>(
 fn is_home(row: &BaseRecord, zone: &str) -> bool
     ensures { IsTrue result ↔ (base_row row.now ≡ row_of_base home zone.now) }
 {
-    row.id.as_str() == HOME && row.zone.as_str() == zone
+    row.id.as_str() == "HOME" && row.zone.as_str() == zone
 }
 
-/// Looks whether there is the base HOME with this zone, and no other.
-#[tactic(auto, using(crate::proofs::ReadBase::none_home, crate::proofs::ReadBase::next_home, crate::proofs::ReadBase::all_home, crate::proofs::ReadBase::other_base, crate::proofs::ReadBase::no_base))]
-fn check_home(records: &[BaseRecord], zone: &str) -> Result<(), LoadFault>
-    ensures { MatchResult result (λ _. IsHomeAlone records.now zone.now)
-        (Blames table_name.Base (IsHomeAlone records.now zone.now → ⊥)) }
+/// Returns whether one of the records is that of the base HOME with this zone.
+fn has_home(records: &[BaseRecord], zone: &str) -> bool
+    ensures { IsTrue result ↔ HasHome records.now zone.now }
 {
     for row in records {
-        if !is_home(row, zone) {
-            return Err(LoadFault::Damaged(TableName::Base));
+        if is_home(row, zone) {
+            return true;
         }
     }
-    if is_none(records) {
-        return Err(LoadFault::Damaged(TableName::Base));
-    }
-    Ok(())
+    false
 }
 
-/// Reads the bases: of a roster as it is today there is HOME alone, with the zone of the book.
+/// Reads the base that a record tells of, if it tells of one.
+#[tactic(auto, using(crate::proofs::ReadBase::bad_id, crate::proofs::ReadBase::bad_zone, crate::proofs::ReadBase::tells))]
+fn base_of(alloc: Global, row: &BaseRecord) -> Result<Option<Entry>, MemoryFault>
+    ensures { IfOk result (TellsOf (λ id zone entry. entry ≡ Entry.Base id zone) row_of_base
+        IsShaped (base_row row.now)) }
+{
+    let id = BaseId::new(row.id.try_clone(alloc)?);
+    if !id.has_shape() {
+        return Ok(None);
+    }
+    match Zone::read(alloc, row.zone.as_str()) {
+        Ok(zone) => Ok(Some(Entry::Base(id, zone))),
+        Err(ZoneFault::Memory) => Err(MemoryFault),
+        Err(ZoneFault::ZoneText) => Ok(None),
+    }
+}
+
+/// Sets the bases that the records tell of.
+fn add_bases(alloc: Global, roster: Roster, records: &[BaseRecord]) -> Result<Roster, LoadFault>
+    requires { roster.bases ≡ only_home (home_zone roster.bases) }
+    ensures { MatchResult result (BasesRead records.now (length records.now) roster)
+        (Blames table_name.Base (HasStranger row_of_base IsShaped (map base_row records.now))) }
+{
+    let mut roster = roster;
+    for row in records {
+        let Some(entry) = base_of(alloc, row)? else {
+            return Err(LoadFault::Damaged(TableName::Base));
+        };
+        roster.put(alloc, entry)?;
+    }
+    Ok(roster)
+}
+
+/// Sets the bases that the records tell of, where one of them is HOME with its zone.
+#[tactic(auto, using(crate::proofs::Homes::zone_there, crate::proofs::ReadBase::base_stranger, crate::proofs::ReadBase::without_home, crate::proofs::ReadBase::bases_read))]
+fn bases_of(alloc: Global, roster: Roster, records: &[BaseRecord]) -> Result<Roster, LoadFault>
+    requires { roster.bases ≡ only_home (home_zone roster.bases) }
+    ensures { MatchResult result (AreBasesRead records.now roster)
+        (Blames table_name.Base (AreNoBases records.now roster)) }
+{
+    if !has_home(records, roster.bases.home().text()) {
+        return Err(LoadFault::Damaged(TableName::Base));
+    }
+    add_bases(alloc, roster, records)
+}
+
+/// Reads the bases into a roster that has HOME alone, with the zone of the book.
 pub(crate) fn read_base<S: Alter>(
     alloc: Global,
     conn: &mut Connection<S>,
-    roster: &Roster,
-) -> Result<(), LoadFault>
-    requires { HasCleanDisk (state S.Store conn.old)
-        → AgreesIn Second request roster.now (state S.Store conn.old).now }
-    ensures { ReadsAs (λ _. AgreesIn Second base roster.now (state S.Store conn.old).now)
+    roster: Roster,
+) -> Result<Roster, LoadFault>
+    requires home { roster.bases ≡ only_home (home_zone roster.bases) }
+    requires above { HasCleanDisk (state S.Store conn.old)
+        → AgreesIn Second request roster (state S.Store conn.old).now }
+    ensures { ReadsAs (λ r. AgreesIn Second base r (state S.Store conn.old).now)
         (λ fault. Justifies fault (state S.Store conn.old).now) (state S.Store conn.old)
         (state S.Store conn.new) result }
 {
     let records = base_records(alloc, conn)?;
-    check_home(&records, roster.zone.text())
+    bases_of(alloc, roster, &records)
 }

@@ -5,6 +5,7 @@ ghost use Rattle.std.specs.Prelude.{◌≡◌, ◌↔◌, ℕ, List, map, pos, t
 ghost use Rattle.std.specs.Option.{option_copied};
 ghost use Rattle.sqlite.specs.Held.{state};
 ghost use Rattle.time117.specs.Local.{is_zone_text};
+ghost use Rattle.roster.specs.Bases.{home_zone};
 ghost use Rattle.roster.specs.State.{empty};
 ghost use Rattle.tables.specs.Records.{book_row, IsBookRow};
 ghost use Rattle.tables.specs.declared.book.BookRecord.{BookRecord as RecordOf};
@@ -88,10 +89,11 @@ fn edition_of(number: i64) -> Option<Edition>
 }
 
 /// Makes an empty roster of the zone that the one record names, and finds the version of the tables.
-#[tactic(auto, using(crate::proofs::ReadBook::no_row, crate::proofs::ReadBook::other_number, crate::proofs::ReadBook::no_zone, crate::proofs::ReadBook::of_book))]
+#[tactic(auto, using(crate::proofs::ReadBook::no_row, crate::proofs::ReadBook::other_number, crate::proofs::ReadBook::no_zone))]
 fn begun_of(alloc: Global, records: &[BookRecord]) -> Result<(Roster, Edition), LoadFault>
-    ensures { MatchResult result (λ r. (r.0 ≡ empty r.0.zone)
-        × IsOnly records.now (book_of r.1 r.0.zone) × (is_zone_text r.0.zone ≡ true))
+    ensures { MatchResult result (λ r. (r.0 ≡ empty (home_zone r.0.bases))
+        × IsOnly records.now (book_of r.1 (home_zone r.0.bases))
+        × (is_zone_text (home_zone r.0.bases) ≡ true))
         (BlamesBook records.now) }
 {
     let Some(book) = only(records) else {
@@ -111,7 +113,7 @@ fn begun_of(alloc: Global, records: &[BookRecord]) -> Result<(Roster, Edition), 
     }
 }
 
-/// Reads what the book is: a roster of nothing but the zone, and the version of the tables.
+/// Reads what the book is: a roster of nothing but HOME, and the version of the tables.
 #[tactic(auto, using(crate::proofs::ReadBook::no_book))]
 pub(crate) fn read_book<S: Alter>(
     alloc: Global,
@@ -120,7 +122,7 @@ pub(crate) fn read_book<S: Alter>(
     ensures read { ReadsAs (λ r. AgreesIn r.1 book r.0 (state S.Store conn.old).now)
         (λ fault. Justifies fault (state S.Store conn.old).now) (state S.Store conn.old)
         (state S.Store conn.new) result }
-    ensures rest { IfOk result (λ r. r.0 ≡ empty r.0.zone) }
+    ensures rest { IfOk result (λ r. r.0 ≡ empty (home_zone r.0.bases)) }
 {
     if !has_table(conn, "book") {
         return Err(LoadFault::NotABook);

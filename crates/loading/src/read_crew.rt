@@ -3,18 +3,19 @@
 
 ghost use Rattle.std.specs.Prelude.{◌≡◌, length, map, IfOk, MatchResult};
 ghost use Rattle.std.specs.FinMap as fin;
+ghost use Rattle.duty.specs.Shape.{home};
 ghost use Rattle.sqlite.specs.Held.{state};
 ghost use Rattle.sqlite.specs.State.{HasCleanDisk};
 ghost use Rattle.sqlite_rules.specs.Lists.{Has};
 ghost use Rattle.tables.specs.Records.{crew_row, IsCrewRow};
 ghost use Rattle.loading.specs.Loading.{IsMember, Justifies};
-ghost use Rattle.loading.specs.Reading.{seat_of, MembersRead, ReadsAs, HasRows, IsUnreadable, Blames, BlamesOrFails, AgreesThrough, TellsOf, HasStranger};
+ghost use Rattle.loading.specs.Reading.{seat_of, AreAtHome, MembersRead, ReadsAs, HasRows, IsUnreadable, Blames, BlamesOrFails, AgreesThrough, TellsOf, HasStranger};
 ghost use Rattle.state_rows.specs.Rows.{row_of_member, crew, book};
 ghost use Rattle.loading.specs.declared.fault.TableName.TheVariants as table_name;
 
 use crate::fault::{LoadFault, TableName};
 use command::{Member, Seat};
-use duty::{CrewId, is_plain_text};
+use duty::{BaseId, CrewId, is_plain_text};
 use roster::{Entry, Roster};
 use sqlite::{Alter, Connection};
 use std::alloc::Global;
@@ -56,11 +57,12 @@ pub(crate) fn seat_of_number(number: u32) -> Option<Seat>
     }
 }
 
-/// Reads the member that a record tells of, if it tells of one.
+/// Reads the member that a record tells of, if it tells of one, as a member at HOME: of the base the table `crew_base` tells.
 #[tactic(auto, using(crate::proofs::ReadCrew::no_seat, crate::proofs::ReadCrew::bad_id, crate::proofs::ReadCrew::bad_name, crate::proofs::ReadCrew::tells))]
 fn member_of(alloc: Global, row: &CrewRecord) -> Result<Option<Entry>, MemoryFault>
-    ensures { IfOk result (TellsOf (λ id member entry. entry ≡ Entry.Member id member) row_of_member
-        IsMember (crew_row row.now)) }
+    ensures { IfOk result (TellsOf
+        (λ id member entry. (entry ≡ Entry.Member id member) × (member.base ≡ home))
+        row_of_member IsMember (crew_row row.now)) }
 {
     let Some(seat) = seat_of_number(row.seat) else {
         return Ok(None);
@@ -70,7 +72,8 @@ fn member_of(alloc: Global, row: &CrewRecord) -> Result<Option<Entry>, MemoryFau
     if !id.has_shape() || !is_plain_text(&name) {
         return Ok(None);
     }
-    Ok(Some(Entry::Member(id, Member { seat, name })))
+    let base = BaseId::home(alloc)?;
+    Ok(Some(Entry::Member(id, Member { seat, name, base })))
 }
 
 /// Sets the members that the records tell of.
@@ -90,7 +93,7 @@ fn add_members(alloc: Global, roster: Roster, records: &[CrewRecord]) -> Result<
     Ok(roster)
 }
 
-/// Reads the members into a roster that has none.
+/// Reads the members into a roster that has none, each at HOME.
 #[tactic(auto, using(crate::proofs::ReadCrew::not_read, crate::proofs::ReadCrew::is_read))]
 pub(crate) fn read_crew<S: Alter>(
     alloc: Global,
@@ -105,6 +108,7 @@ pub(crate) fn read_crew<S: Alter>(
         (λ fault. Justifies fault (state S.Store conn.old).now)
         (state S.Store conn.old) (state S.Store conn.new) result }
     ensures rest { IfOk result (λ r. r ≡ record roster { crew = r.crew }) }
+    ensures home { IfOk result (λ r. AreAtHome r.crew) }
 {
     let records = crew_records(alloc, conn)?;
     add_members(alloc, roster, &records)

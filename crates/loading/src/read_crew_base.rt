@@ -2,27 +2,25 @@
 //! (`specs/Loading.antt`).
 //! Files with such a damage: `tests/tables.py`. Wrong bodies: `must-fail-more/`.
 
-ghost use Rattle.std.specs.Prelude.{◌≡◌, ◌↔◌, length, map, IsTrue, MatchResult};
+ghost use Rattle.std.specs.Prelude.{◌≡◌, ◌↔◌, length, map, IfOk, IsTrue, MatchResult};
 ghost use Rattle.sqlite.specs.Held.{state};
 ghost use Rattle.sqlite.specs.State.{HasCleanDisk};
 ghost use Rattle.tables.specs.Records.{crew_base_row, IsCrewBaseRow};
 ghost use Rattle.loading.specs.Loading.{Justifies};
-ghost use Rattle.loading.specs.Reading.{AgreesIn, AreAllPosted, ArePosted, AreUnposted, Blames, BlamesOrFails, HasRows, HasStranger, IsPost, IsUnreadable, PostsRead, ReadsAs, row_at_home};
-ghost use Rattle.state_rows.specs.Bases.{home};
+ghost use Rattle.loading.specs.Reading.{AgreesIn, AreAllPosted, ArePosted, AreUnposted, Blames, BlamesOrFails, HasRows, HasStranger, IsPosted, IsUnreadable, PostsRead, ReadsAs, TellsOf, row_of_posted};
 ghost use Rattle.state_rows.specs.Rows.{base, crew_base};
 ghost use Rattle.state_rows.specs.declared.edition.Edition.TheVariants.{Second};
 ghost use Rattle.loading.specs.declared.fault.TableName.TheVariants as table_name;
 
 use crate::fault::{LoadFault, TableName};
-use crate::read_base::HOME;
 use command::Member;
-use duty::CrewId;
+use duty::{BaseId, CrewId};
 use roster::Roster;
 use sqlite::{Alter, Connection};
 use std::alloc::Global;
 use tables::book_schema::is_spared;
 use tables::crew_base::{CrewBaseRecord, is_crew_base_there, load_crew_bases};
-use values::{OrdMap, TryClone};
+use values::{MemoryFault, OrdMap, TryClone};
 
 /// Reads the records of the table.
 #[tactic(auto, using(crate::proofs::Telling::not_there, crate::proofs::Telling::no_memory))]
@@ -48,39 +46,51 @@ fn crew_base_records<S: Alter>(
     }
 }
 
-/// Returns whether the record is of a member at HOME.
-fn is_at_home(row: &CrewBaseRecord) -> bool
-    ensures { IsTrue result ↔ (row.now.base ≡ home) }
+/// Reads the member that a record tells of, at the base that it names, if the roster has both.
+#[tactic(auto, using(crate::proofs::ReadCrewBase::no_base, crate::proofs::ReadCrewBase::no_member, crate::proofs::ReadCrewBase::tells))]
+fn posted_of(
+    alloc: Global,
+    roster: &Roster,
+    row: &CrewBaseRecord,
+) -> Result<Option<(CrewId, Member)>, MemoryFault>
+    ensures { IfOk result (TellsOf (λ who m it. (it.0 ≡ who) × (it.1 ≡ m)) row_of_posted
+        (IsPosted roster.now) (crew_base_row row.now)) }
 {
-    row.base.as_str() == HOME
+    let base = BaseId::new(row.base.try_clone(alloc)?);
+    if !roster.bases.contains(&base) {
+        return Ok(None);
+    }
+    let who = CrewId::new(row.crew.try_clone(alloc)?);
+    let Some(before) = roster.crew.get(&who) else {
+        return Ok(None);
+    };
+    let name = before.name.try_clone(alloc)?;
+    let seat = before.seat;
+    Ok(Some((who, Member { seat, name, base })))
 }
 
-/// Collects the members that the records name, each of whom has to be there, at HOME.
-fn posts_of(
+/// Collects the members that the records tell of, each at the base that the record names.
+fn posted_members(
     alloc: Global,
-    crew: &OrdMap<CrewId, Member>,
+    roster: &Roster,
     records: &[CrewBaseRecord],
-) -> Result<OrdMap<CrewId, ()>, LoadFault>
-    ensures { MatchResult result (PostsRead crew.now records.now (length records.now))
-        (Blames table_name.CrewBase (HasStranger row_at_home (IsPost crew.now)
+) -> Result<OrdMap<CrewId, Member>, LoadFault>
+    ensures { MatchResult result (PostsRead roster.now records.now (length records.now))
+        (Blames table_name.CrewBase (HasStranger row_of_posted (IsPosted roster.now)
         (map crew_base_row records.now))) }
 {
     let mut posted = OrdMap::new(alloc);
     for row in records {
-        if !is_at_home(row) {
+        let Some((who, member)) = posted_of(alloc, roster, row)? else {
             return Err(LoadFault::Damaged(TableName::CrewBase));
-        }
-        let who = CrewId::new(row.crew.try_clone(alloc)?);
-        if !crew.contains(&who) {
-            return Err(LoadFault::Damaged(TableName::CrewBase));
-        }
-        posted.insert(who, ())?;
+        };
+        posted.insert(who, member)?;
     }
     Ok(posted)
 }
 
 /// Returns whether each member is among these.
-fn are_all_posted(crew: &OrdMap<CrewId, Member>, posted: &OrdMap<CrewId, ()>) -> bool
+fn are_all_posted(crew: &OrdMap<CrewId, Member>, posted: &OrdMap<CrewId, Member>) -> bool
     ensures { IsTrue result ↔ AreAllPosted crew.now posted.now }
 {
     for (who, _) in crew.iter() {
@@ -91,35 +101,33 @@ fn are_all_posted(crew: &OrdMap<CrewId, Member>, posted: &OrdMap<CrewId, ()>) ->
     true
 }
 
-/// Looks whether each record is of a member at HOME, and each member has one.
+/// Sets each member at the base that a record names.
 #[tactic(auto, using(crate::proofs::ReadCrewBase::post_stranger, crate::proofs::ReadCrewBase::not_all_posted, crate::proofs::ReadCrewBase::all_posted))]
-fn check_posts(
-    alloc: Global,
-    crew: &OrdMap<CrewId, Member>,
-    records: &[CrewBaseRecord],
-) -> Result<(), LoadFault>
-    ensures { MatchResult result (λ _. ArePosted crew.now records.now)
-        (Blames table_name.CrewBase (AreUnposted crew.now records.now)) }
+fn post_all(alloc: Global, roster: Roster, records: &[CrewBaseRecord]) -> Result<Roster, LoadFault>
+    ensures { MatchResult result (ArePosted records.now roster)
+        (Blames table_name.CrewBase (AreUnposted records.now roster)) }
 {
-    let posted = posts_of(alloc, crew, records)?;
-    if !are_all_posted(crew, &posted) {
+    let mut roster = roster;
+    let posted = posted_members(alloc, &roster, records)?;
+    if !are_all_posted(&roster.crew, &posted) {
         return Err(LoadFault::Damaged(TableName::CrewBase));
     }
-    Ok(())
+    roster.crew = posted;
+    Ok(roster)
 }
 
-/// Reads the bases of the members: each is at HOME.
+/// Reads the bases of the members into a roster that has the bases.
 pub(crate) fn read_crew_base<S: Alter>(
     alloc: Global,
     conn: &mut Connection<S>,
-    roster: &Roster,
-) -> Result<(), LoadFault>
+    roster: Roster,
+) -> Result<Roster, LoadFault>
     requires { HasCleanDisk (state S.Store conn.old)
-        → AgreesIn Second base roster.now (state S.Store conn.old).now }
-    ensures { ReadsAs (λ _. AgreesIn Second crew_base roster.now (state S.Store conn.old).now)
+        → AgreesIn Second base roster (state S.Store conn.old).now }
+    ensures { ReadsAs (λ r. AgreesIn Second crew_base r (state S.Store conn.old).now)
         (λ fault. Justifies fault (state S.Store conn.old).now) (state S.Store conn.old)
         (state S.Store conn.new) result }
 {
     let records = crew_base_records(alloc, conn)?;
-    check_posts(alloc, &roster.crew, &records)
+    post_all(alloc, roster, &records)
 }

@@ -34,7 +34,8 @@ fn pairing_records<S: Alter>(
 ) -> Result<Vec<PairingRecord>, LoadFault>
     ensures { ReadsAs
         (λ found. HasRows pairing (state S.Store conn.old).now (map pairing_row found.items))
-        (BlamesOrFails table_name.Pairing (IsUnreadable pairing IsPairingRow (state S.Store conn.old).now))
+        (BlamesOrFails table_name.Pairing
+        (IsUnreadable pairing IsPairingRow (state S.Store conn.old).now))
         (state S.Store conn.old) (state S.Store conn.new) result }
 {
     if !is_pairing_there(alloc, conn)? || !is_spared(conn, "pairing") {

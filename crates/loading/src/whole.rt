@@ -6,8 +6,9 @@ ghost use Rattle.std.specs.Prelude.{◌≡◌, IfOk};
 ghost use Rattle.std.specs.FinMap as fin;
 ghost use Rattle.sqlite.specs.Held.{state};
 ghost use Rattle.sqlite.specs.State.{HasCleanDisk};
-ghost use Rattle.loading.specs.Loading.{Justifies};
-ghost use Rattle.loading.specs.Reading.{AgreesIn, AreFree, HasNoDuties, AgreesThrough, ReadsAs};
+ghost use Rattle.loading.specs.Loading.{IsOfEdition, Justifies};
+ghost use Rattle.loading.specs.Reading.{AgreesIn, AreFree, HasNoDuties, IsAtHome, AgreesThrough, ReadsAs};
+ghost use Rattle.roster.specs.Bases.{home_zone};
 ghost use Rattle.roster.specs.State.{empty};
 ghost use Rattle.state_rows.specs.Rows.{book, ground_duty, outside_segment, request, segment};
 
@@ -25,13 +26,13 @@ use sqlite::{Alter, Connection};
 use state_rows::Edition;
 use std::alloc::Global;
 
-/// Reads the members, and the pairings with their periods and segments, into a roster of nothing but the zone.
+/// Reads the members, and the pairings with their periods and segments, into a roster of nothing but HOME.
 fn read_plans<S: Alter>(
     alloc: Global,
     conn: &mut Connection<S>,
     roster: Roster,
 ) -> Result<Roster, LoadFault>
-    requires none { roster ≡ empty roster.zone }
+    requires none { roster ≡ empty (home_zone roster.bases) }
     requires above { HasCleanDisk (state S.Store conn.old)
         → AgreesThrough book roster (state S.Store conn.old).now }
     ensures read { ReadsAs (λ r. AgreesThrough segment r (state S.Store conn.old).now)
@@ -39,6 +40,7 @@ fn read_plans<S: Alter>(
         (state S.Store conn.new) result }
     ensures free { IfOk result AreFree }
     ensures rest { IfOk result HasNoDuties }
+    ensures home { IfOk result IsAtHome }
 {
     let roster = read_crew(alloc, conn, roster)?;
     read_pairings(alloc, conn, roster)
@@ -52,50 +54,61 @@ fn read_duties<S: Alter>(
 ) -> Result<Roster, LoadFault>
     requires free { AreFree roster }
     requires none { HasNoDuties roster }
+    requires home { IsAtHome roster }
     requires above { HasCleanDisk (state S.Store conn.old)
         → AgreesThrough segment roster (state S.Store conn.old).now }
     ensures read { ReadsAs (λ r. AgreesThrough ground_duty r (state S.Store conn.old).now)
         (λ fault. Justifies fault (state S.Store conn.old).now) (state S.Store conn.old)
         (state S.Store conn.new) result }
     ensures rest { IfOk result (λ r. (r.exceedances ≡ fin.empty) × (r.requests ≡ fin.empty)) }
+    ensures home { IfOk result IsAtHome }
 {
     let roster = read_seats(alloc, conn, roster)?;
     read_grounds(alloc, conn, roster)
 }
 
-/// Reads the exceedances and the requests into a roster of duties.
+/// Reads the exceedances and the requests into a roster of duties, of a file of this version.
 fn read_records<S: Alter>(
     alloc: Global,
     conn: &mut Connection<S>,
     roster: Roster,
+    edition: Edition,
 ) -> Result<Roster, LoadFault>
     requires none { (roster.exceedances ≡ fin.empty) × (roster.requests ≡ fin.empty) }
+    requires home { IsAtHome roster }
     requires above { HasCleanDisk (state S.Store conn.old)
         → AgreesThrough ground_duty roster (state S.Store conn.old).now }
+    requires of { HasCleanDisk (state S.Store conn.old)
+        → IsOfEdition edition (state S.Store conn.old).now }
     ensures read { ReadsAs (λ r. AgreesThrough request r (state S.Store conn.old).now)
         (λ fault. Justifies fault (state S.Store conn.old).now) (state S.Store conn.old)
         (state S.Store conn.new) result }
+    ensures home { IfOk result IsAtHome }
 {
     let roster = read_exceedances(alloc, conn, roster)?;
-    read_requests(alloc, conn, roster)
+    read_requests(alloc, conn, roster, edition)
 }
 
-/// Reads the tables of version 1 after `book`, into a roster of nothing but the zone.
+/// Reads the tables of version 1 after `book`, into a roster of nothing but HOME, of a file of this version.
 fn read_first<S: Alter>(
     alloc: Global,
     conn: &mut Connection<S>,
     roster: Roster,
+    edition: Edition,
 ) -> Result<Roster, LoadFault>
-    requires none { roster ≡ empty roster.zone }
+    requires none { roster ≡ empty (home_zone roster.bases) }
     requires above { HasCleanDisk (state S.Store conn.old)
         → AgreesThrough book roster (state S.Store conn.old).now }
+    requires of { HasCleanDisk (state S.Store conn.old)
+        → IsOfEdition edition (state S.Store conn.old).now }
     ensures read { ReadsAs (λ r. AgreesThrough request r (state S.Store conn.old).now)
         (λ fault. Justifies fault (state S.Store conn.old).now) (state S.Store conn.old)
         (state S.Store conn.new) result }
+    ensures home { IfOk result IsAtHome }
 {
     let roster = read_plans(alloc, conn, roster)?;
     let roster = read_duties(alloc, conn, roster)?;
-    read_records(alloc, conn, roster)
+    read_records(alloc, conn, roster, edition)
 }
 
 /// Reads a whole book of version 1 or 2, table by table, with the version that it is of, and changes nothing. Refused
@@ -110,7 +123,7 @@ pub fn read_all<S: Alter>(
         (state S.Store conn.new) result }
 {
     let (roster, edition) = read_book(alloc, conn)?;
-    let roster = read_first(alloc, conn, roster)?;
-    read_later(alloc, conn, &roster, edition)?;
+    let roster = read_first(alloc, conn, roster, edition)?;
+    let roster = read_later(alloc, conn, roster, edition)?;
     Ok((roster, edition))
 }

@@ -1,4 +1,4 @@
--- What is read of a request, of ground duties and of the zone is the state's.
+-- What is read of a request and of ground duties is the state's.
 use Rattle.std.proofs.Common.{◌≡◌, inl, inr, refl, sym, ap, subst, ◌∙◌, ℕ, pos, Bool, true, List, [], ◌∷◌, map, Contains, Result, Ok, Err, Option, Some, None, IfOk}
 use Rattle.std.specs.FinMap as fin
 use Rattle.std.specs.Ordering.{is_eq}
@@ -22,19 +22,18 @@ use Rattle.roster.proofs.Members.{first_or_later, is_first, is_later, none_in}
 use Rattle.roster.specs.Sound.{Sound}
 use Rattle.roster.specs.State as roster
 use Rattle.roster.specs.declared.state.LoggedCommand.{LoggedCommand}
-use Rattle.tables.specs.Records.{book_row, ground_row, request_row}
+use Rattle.tables.specs.Records.{ground_row, request_row}
 use Rattle.tables.specs.Rows.{Finds, begins_with, equals_at}
-use Rattle.tables.specs.declared.book.BookRecord.{BookRecord}
 use Rattle.tables.specs.declared.ground.GroundRecord.{GroundRecord}
 use Rattle.tables.specs.declared.request.RequestRecord.{RequestRecord}
-use Rattle.state_rows.specs.Rows.{table, book, ground_duty, request, row_of_ground, row_of_request, At, RequestAt}
+use Rattle.state_rows.specs.Rows.{table, ground_duty, request, row_of_ground, row_of_request, At, RequestAt}
 use Rattle.state_rows.proofs.Tests.{found, passes}
 use Rattle.state_rows.proofs.Values.{number_is, text_is}
 use Rattle.writing.specs.Kept.{IsBookOf}
 use Rattle.writing.specs.Outcomes.{CrashAddsNothing}
 use Rattle.roster.specs.Holding.{AreJust, IsGroundOf}
 use Rattle.lookup.specs.Reads.{Shows}
-use Rattle.lookup.specs.Entries.{HasFirstRequest, HasFirstGround, HasFirstZone, ground_told, grounds_in}
+use Rattle.lookup.specs.Entries.{HasFirstRequest, HasFirstGround, ground_told, grounds_in}
 use Rattle.lookup.proofs.HeldLemmas.{text_same}
 use Rattle.lookup.proofs.ReadLemmas.{in_found, of_found}
 
@@ -149,11 +148,3 @@ module _ (s : roster.State) (sound : Sound s) (db : Database) (is_book : IsBookO
         let test : equals_at 1 (Text who) row ≡ true = ap (λ v. is_eq (value_cmp (Text v) (Text who))) crew ∙ ap is_eq (tied_itself value_cmp_total (Text who)) in
         row_id records row id (in_found ground_duty (equals_at 1 (Text who)) db (map ground_row records) finds row ((is_book.rows ground_duty row).1 (at, refl)) test) refl,
   ))
-
-  -- ---- The zone
-
-  pub zone_is : (records : List BookRecord) → Finds (table book) (begins_with []) db (map book_row records) → (zone : List ℕ) → HasFirstZone records zone → zone ≡ s.zone
-  zone_is [] finds zone first = absurd first
-  zone_is (row ∷ rows) finds zone first =
-      let there = of_found book (begins_with []) db (map book_row (row ∷ rows)) finds (book_row row) (inl refl) in
-      first.0 ∙ text_is (ap (λ (x : Row). column x 2) ((is_book.rows book (book_row row)).0 there.0))

@@ -6,7 +6,10 @@ pub mod OnePairing
 pub mod HeldLemmas
 pub mod PlanLemmas
 pub mod PlanReads
+pub mod MemberReads
+pub mod MemberLemmas
 pub mod Unread
 pub mod EntryLemmas
 pub mod RecordedLemmas
+pub mod BaseLemmas
 pub mod Changes

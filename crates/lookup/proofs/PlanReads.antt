@@ -20,14 +20,14 @@ stays_on a b c p q =
     let it = changes_then a b c (of_stays a b p) (of_stays b c q) in
     record { nothing_new = it.nothing_new; still_shown = it.still_shown; outside = q.outside; faults = it.faults; still_open = it.still_open; limit = it.limit }
 
-if_some : {A : Type 0} (xs : List A) (P : Type 0) → P → IfSome xs P
+pub if_some : {A : Type 0} (xs : List A) (P : Type 0) → P → IfSome xs P
 if_some [] P is = tt
 if_some (x ∷ xs) P is = is
 
-of_none : {A : Type 0} (xs : List A) (P : Type 0) → xs ≡ [] → IfSome xs P
+pub of_none : {A : Type 0} (xs : List A) (P : Type 0) → xs ≡ [] → IfSome xs P
 of_none xs P none = subst (λ l. IfSome l P) (sym none) tt
 
-unchanged_on : (a b c : State) → IsUnchanged a b → IsUnchanged b c → IsUnchanged a c
+pub unchanged_on : (a b c : State) → IsUnchanged a b → IsUnchanged b c → IsUnchanged a c
 unchanged_on a b c one two = (
   record {
     was_open = one.0.was_open;

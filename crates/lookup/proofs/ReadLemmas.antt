@@ -1,26 +1,18 @@
 -- What a read by key tells.
-use Rattle.std.proofs.Common.{◌≡◌, inl, inr, arith, refl, sym, ap, subst, ◌∙◌, ℕ, Bool, true, false, cond, List, [], ◌∷◌, filter, map, Result, Ok, Err, Option, Some, None, IfOk, OnOk, IsTrue}
-use Rattle.std.specs.FinMap as fin
+use Rattle.std.proofs.Common.{◌≡◌, inl, inr, arith, refl, sym, ap, subst, ◌∙◌, Bool, true, false, cond, List, [], ◌∷◌, filter, Result, Ok, Err, OnOk, IsTrue}
 use Rattle.std.proofs.lemmas.List.Sorted.{IsPermutation-sym}
-use Rattle.sqlite_value.specs.Order.{Row, column}
-use Rattle.sqlite_value.specs.declared.value.Value.TheVariants.{Text}
+use Rattle.sqlite_value.specs.Order.{Row}
 use Rattle.sqlite_rules.specs.Lists.{Has}
 use Rattle.sqlite.specs.Effect.{Database}
 use Rattle.sqlite.specs.State.{State, HasCleanDisk, IsUnchanged}
-use Rattle.command.specs.declared.member.Member.{Member}
-use Rattle.roster.specs.State as roster
 use Rattle.tables.proofs.Answering.{has_permuted}
 use Rattle.tables.specs.Calls.{HasStepLimit, HoldsWhileOpen, CrashLeavesNoMore, Read, ReadAs, IsUnchangedOrUndone as NotMade}
-use Rattle.tables.specs.Records.{crew_row}
-use Rattle.tables.specs.Rows.{Finds, HasNoRecord, begins_with, rows_of}
-use Rattle.tables.specs.declared.crew.CrewRecord.{CrewRecord}
+use Rattle.tables.specs.Rows.{Finds, HasNoRecord, rows_of}
 use Rattle.tables.specs.declared.table_fault.TableFault.{TableFault}
-use Rattle.state_rows.specs.Rows.{TableName, table, crew, row_of_member, seat_number}
+use Rattle.state_rows.specs.Rows.{TableName, table}
 use Rattle.state_rows.specs.Faults.{store_fault_of}
 use Rattle.state_rows.specs.declared.fault.StoreFault.{StoreFault}
-use Rattle.state_rows.proofs.Tests.{found, passes}
-use Rattle.state_rows.proofs.Values.{text_is, number_is, members_same}
-use Rattle.writing.specs.Kept.{AreStored, IsBookOf}
+use Rattle.writing.specs.Kept.{AreStored}
 use Rattle.writing.proofs.Tables.{is_there}
 use Rattle.tables.specs.Schema.{IsBook}
 use Rattle.writing.specs.Outcomes.{CrashAddsNothing, IsOutside, IsOverBook}
@@ -28,7 +20,7 @@ use Rattle.writing.proofs.Committing.{unbegun_shows}
 use Rattle.loading.proofs.Telling.{clean_before}
 use Rattle.lookup.proofs.Causes.{read_cause}
 use Rattle.lookup.proofs.RightRows.{RecordOf, records_of}
-use Rattle.lookup.specs.Reads.{HasFirst, ReadsRows, Shows, Stays, IsOpen}
+use Rattle.lookup.specs.Reads.{ReadsRows, Stays, IsOpen}
 
 -- ---- Nothing is changed
 
@@ -136,44 +128,6 @@ module _ (it : TableName) (test : Row → Bool) (db : Database) (rows : List Row
 
   pub of_found : (x : Row) → Has rows x → Has (rows_of (table it) db) x × (test x ≡ true)
   of_found x h = of_filtered test (rows_of (table it) db) x (has_permuted rows (filter test (rows_of (table it) db)) x (IsPermutation-sym _ _ finds) h)
-
--- ---- A member
-
-module _ (s : roster.State) (db : Database) (book : IsBookOf s db) (id : List ℕ) where
-  abbrev by_id : Row → Bool
-  by_id = begins_with (Text id ∷ [])
-
-  none_there : (o : Option Member) → fin.get s.crew id ≡ o → Finds (table crew) by_id db [] → o ≡ None
-  none_there None here finds = refl
-  none_there (Some m) here finds =
-      let row = row_of_member id m in
-      let is_row = (book.rows crew row).1 (record { name = id; value = m; there = here }, refl) in
-      absurd (in_found crew by_id db [] finds row is_row (passes (Text id ∷ []) row (refl, tt)))
-
-  pub member_is : (records : List CrewRecord) (found : Option Member) → HasFirst records found → Finds (table crew) by_id db (map crew_row records) → found ≡ fin.get s.crew id
-  member_is [] answer first finds = first ∙ sym (none_there (fin.get s.crew id) refl finds)
-  member_is (row ∷ rows) answer first finds =
-      let there = of_found crew by_id db (map crew_row (row ∷ rows)) finds (crew_row row) (inl refl) in
-      let at = (book.rows crew (crew_row row)).0 there.0 in
-      let e = at.1 in
-      let at_column = λ (k : ℕ). ap (λ (x : Row). column x k) e in
-      let same_id : id ≡ at.0.name = sym (text_is (found (Text id ∷ []) (crew_row row) (tt, tt, tt) there.1).0) ∙ text_is (at_column 0) in
-      let seat : seat_number first.0.seat ≡ seat_number at.0.value.seat = first.2 ∙ number_is (at_column 1) in
-      let name : first.0.name ≡ at.0.value.name = first.3 ∙ text_is (at_column 2) in
-      first.1 ∙ ap Some (members_same first.0 at.0.value seat name) ∙ sym (ap (fin.get s.crew) same_id ∙ at.0.there)
-
-pub member_told : {E : Type 0} (old new : State) (s : roster.State) (id : List ℕ) (records : List CrewRecord) (result : Result (Option Member) E) → HasCleanDisk new →
-    IsUnchanged old new → Finds (table crew) (begins_with (Text id ∷ [])) old.now (map crew_row records) → CrashAddsNothing old new → Shows old s → IfOk result (HasFirst records) →
-    IfOk result (λ a. Shows new s × (a ≡ fin.get s.crew id))
-member_told old new s id records (Err fault) clean same finds left shows first = tt
-member_told old new s id records (Ok a) clean same finds left shows first = (
-  record {
-    sound = shows.sound;
-    instants = shows.instants;
-    book = λ now opened. subst (λ (db : Database). IsBookOf s db) (sym same.0.now_is) (shows.book (left.disk now) same.0.was_open);
-  },
-  member_is s old.now (shows.book (left.disk clean) same.0.was_open) id records a first finds,
-)
 
 pub opened_ok : {A E : Type 0} (result : Result A E) (old new : State) → (HasCleanDisk new → IsUnchanged old new) → OnOk result (IsOpen new)
 opened_ok (Ok a) old new same = λ clean. (same clean).0.is_open

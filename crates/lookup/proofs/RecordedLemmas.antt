@@ -22,7 +22,7 @@ use Rattle.tables.specs.Rows.{Finds, FindsInOrder, HasNoRecord, begins_with}
 use Rattle.tables.specs.Schema.{IsTable, exceedance_table}
 use Rattle.tables.specs.declared.exceedance.ExceedanceRecord.{ExceedanceRecord}
 use Rattle.tables.specs.declared.table_fault.TableFault.{TableFault}
-use Rattle.state_rows.specs.Rows.{table, exceedance, request, ExceedanceAt}
+use Rattle.state_rows.specs.Rows.{table, exceedance, crew_base, ExceedanceAt}
 use Rattle.state_rows.specs.Faults.{store_fault_of}
 use Rattle.state_rows.specs.declared.fault.StoreFault.{StoreFault}
 use Rattle.state_rows.specs.declared.fault.StoreFault.TheVariants.{Memory, Store}
@@ -179,7 +179,7 @@ module _ (s : roster.State) (sound : Sound s) (db : Database) (is_book : IsBookO
       let same = same_at id here.0.index p here.0.value here.1 in
       ap (fin.get m) (x.known_by ∙ same.0) ∙ here.0.there ∙ ap Some (sym same.1))
 
-pub no_stranger : (db : Database) → AreRight request db → (records : List ExceedanceRecord) → Finds (table exceedance) (begins_with []) db (map exceedance_row records) →
+pub no_stranger : (db : Database) → AreRight crew_base db → (records : List ExceedanceRecord) → Finds (table exceedance) (begins_with []) db (map exceedance_row records) →
     HasStranger row_of_recorded IsNumbered (map exceedance_row records) → ⊥
 no_stranger db right records finds x =
     let r = exceedances_right db right in

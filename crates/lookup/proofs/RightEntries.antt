@@ -1,8 +1,7 @@
 -- Where the tables are right, what is read of them has an entry, if it is there.
-use Rattle.std.proofs.Common.{◌≡◌, ◌⊎◌, inl, inr, refl, sym, ap, subst, ◌∙◌, ℕ, true, false, List, [], ◌∷◌, map, Bool, Option, Some, None, slice_get}
+use Rattle.std.proofs.Common.{◌≡◌, inl, refl, sym, ap, subst, ◌∙◌, ℕ, true, List, [], ◌∷◌, map, Bool, Option, Some, None, slice_get}
 use Rattle.sqlite_value.specs.Order.{Row, column}
 use Rattle.sqlite.specs.Effect.{Database}
-use Rattle.time117.specs.Local.{is_zone_text}
 use Rattle.duty.specs.Pairings.{ground_fault}
 use Rattle.stored_json.specs.Instants.{is_instant}
 use Rattle.stored_json.specs.KeptText.{kept_text}
@@ -11,36 +10,22 @@ use Rattle.stored_json.specs.ReplyText.{reply_text}
 use Rattle.command.specs.Keys.{key_name}
 use Rattle.command.specs.declared.exceedance.Reply.{Reply}
 use Rattle.command.specs.declared.instruction.Instruction.{Instruction}
-use Rattle.command.specs.declared.member.Member.{Member}
-use Rattle.command.specs.declared.member.Seat.{Seat}
-use Rattle.command.specs.declared.member.Seat.TheVariants.{Captain, FirstOfficer}
 use Rattle.duty.specs.Plans.{GroundPlan}
 use Rattle.roster.specs.declared.state.LoggedCommand.{LoggedCommand}
-use Rattle.tables.specs.Records.{book_row, crew_row, ground_row, request_row}
-use Rattle.tables.specs.Rows.{Finds, begins_with}
-use Rattle.tables.specs.declared.book.BookRecord.{BookRecord}
-use Rattle.tables.specs.declared.crew.CrewRecord.{CrewRecord}
+use Rattle.tables.specs.Records.{ground_row, request_row}
+use Rattle.tables.specs.Rows.{Finds}
 use Rattle.tables.specs.declared.ground.GroundRecord.{GroundRecord}
 use Rattle.tables.specs.declared.request.RequestRecord.{RequestRecord}
-use Rattle.state_rows.specs.Rows.{table, book, crew, ground_duty, request, row_of_book, seat_number}
+use Rattle.state_rows.specs.Rows.{table, ground_duty, request, crew_base}
 use Rattle.state_rows.proofs.Lists.{some_same}
 use Rattle.state_rows.proofs.Values.{number_is, text_is}
 use Rattle.loading.specs.Loading.{AreRight}
-use Rattle.lookup.specs.Entries.{HasFirstGround, HasFirstRequest, HasFirstZone, HasTexts, TellsGround, ground_told}
-use Rattle.lookup.specs.Reads.{HasFirst, HaveNone}
-use Rattle.lookup.proofs.ReadLemmas.{in_found, of_found}
-use Rattle.lookup.proofs.RightRows.{book_right, crew_right, grounds_right}
+use Rattle.lookup.specs.Entries.{HasFirstGround, HasFirstRequest, HasTexts, TellsGround, ground_told}
+use Rattle.lookup.specs.Reads.{HaveNone}
+use Rattle.lookup.proofs.ReadLemmas.{of_found}
+use Rattle.lookup.proofs.RightRows.{grounds_right, requests_right}
 
-module _ (db : Database) (right : AreRight request db) (test : Row → Bool) where
-  pub member_there : (records : List CrewRecord) → Finds (table crew) test db (map crew_row records) → (found : Option Member) × HasFirst records found
-  member_there [] finds = (None, refl)
-  member_there (row ∷ rows) finds =
-      let r = crew_right db right in
-      let there = of_found crew test db (map crew_row (row ∷ rows)) finds (crew_row row) (inl refl) in
-      let at = (r.1.1.1 (crew_row row)).0 there.0 in
-      let at_column = λ (k : ℕ). ap (λ (x : Row). column x k) at.1 in
-      (Some at.0.value, (at.0.value, refl, sym (number_is (at_column 1)), sym (text_is (at_column 2))))
-
+module _ (db : Database) (right : AreRight crew_base db) (test : Row → Bool) where
   pub ground_there : (records : List GroundRecord) → Finds (table ground_duty) test db (map ground_row records) → (found : Option GroundPlan) × HasFirstGround records found
   ground_there [] finds = (None, refl)
   ground_there (row ∷ rows) finds =
@@ -61,34 +46,13 @@ module _ (db : Database) (right : AreRight request db) (test : Row → Bool) whe
   request_there [] finds = (None, refl)
   request_there (row ∷ rows) finds =
       let there = of_found request test db (map request_row (row ∷ rows)) finds (request_row row) (inl refl) in
-      let at = (right.1.1.1 (request_row row)).0 there.0 in
-      let known = right.1.2.0 (key_name at.0.key) at.0.kept at.0.there in
+      let r = requests_right db right in
+      let at = (r.1.1.1 (request_row row)).0 there.0 in
+      let known = r.1.2.0 (key_name at.0.key) at.0.kept at.0.there in
       let at_column = λ (k : ℕ). ap (λ (x : Row). column x k) at.1 in
       (Some at.0.kept, (at.0.kept, refl, record { command = known.2.command; command_text = sym (text_is (at_column 2)); reply_text = sym (text_is (at_column 3)) }))
 
-pub zone_there : (db : Database) → AreRight request db → (records : List BookRecord) → Finds (table book) (begins_with []) db (map book_row records) → (zone : List ℕ) × HasFirstZone records zone
-zone_there db right [] finds =
-    let r = book_right db right in
-    let row = row_of_book r.1.0.1.0 r.0.zone in
-    absurd (in_found book (begins_with []) db [] finds row ((r.1.0.1.1 row).1 refl) refl)
-zone_there db right (row ∷ rows) finds =
-    let r = book_right db right in
-    let there = of_found book (begins_with []) db (map book_row (row ∷ rows)) finds (book_row row) (inl refl) in
-    let is = (r.1.0.1.1 (book_row row)).0 there.0 in
-    (row.zone, (refl, ap is_zone_text (text_is (ap (λ (x : Row). column x 2) is)) ∙ r.1.1))
-
 -- ---- What a first record is that has no entry
-
-of_seat : (seat : Seat) {n : ℕ} → seat_number seat ≡ n → (n ≡ 0) ⊎ (n ≡ 1)
-of_seat Captain is = inl (sym is)
-of_seat FirstOfficer is = inr (sym is)
-
-seat_in : (records : List CrewRecord) (row : CrewRecord) → slice_get records 0 ≡ Some row → (found : Option Member) → HasFirst records found → (row.seat ≡ 0) ⊎ (row.seat ≡ 1)
-seat_in [] row here found first = absurd (cc)
-seat_in (x ∷ xs) row here found first = let same : x.seat ≡ row.seat = ap (λ (r : CrewRecord). r.seat) (some_same here) in of_seat first.0.seat (first.2 ∙ same)
-
-pub no_seat : (records : List CrewRecord) (row : CrewRecord) → slice_get records 0 ≡ Some row → (row.seat ≡ 0 → ⊥) → (row.seat ≡ 1 → ⊥) → HaveNone (HasFirst records)
-no_seat records row here first second found told = elim (seat_in records row here found told) [ inl is ↦ first is | inr is ↦ second is ]
 
 ground_in : (records : List GroundRecord) (row : GroundRecord) → slice_get records 0 ≡ Some row → (found : Option GroundPlan) → HasFirstGround records found → TellsGround row
 ground_in [] row here found first = absurd (cc)
@@ -114,14 +78,3 @@ no_command records row here none found told = let it = request_in records row he
 pub no_reply : (records : List RequestRecord) (row : RequestRecord) → slice_get records 0 ≡ Some row →
     ((reply : Reply) → reply_text reply ≡ row.reply → ⊥) → HaveNone (HasFirstRequest records)
 no_reply records row here none found told = let it = request_in records row here found told in none it.0.reply it.1.reply_text
-
-zone_in : (records : List BookRecord) (row : BookRecord) → slice_get records 0 ≡ Some row → (zone : List ℕ) → HasFirstZone records zone → is_zone_text row.zone ≡ true
-zone_in [] row here zone first = absurd first
-zone_in (x ∷ xs) row here zone first = ap (λ (r : BookRecord). is_zone_text r.zone) (sym (some_same here)) ∙ first.1
-
-pub no_book : (records : List BookRecord) → slice_get records 0 ≡ None → HaveNone (HasFirstZone records)
-no_book [] none found told = absurd told
-no_book (x ∷ xs) none found told = absurd (cc)
-
-pub no_zone : (records : List BookRecord) (row : BookRecord) → slice_get records 0 ≡ Some row → is_zone_text row.zone ≡ false → HaveNone (HasFirstZone records)
-no_zone records row here bad found told = absurd (let no : true ≡ false = sym (zone_in records row here found told) ∙ bad in cc)

@@ -1,15 +1,18 @@
 -- Where the tables are right, each row is a record of its table.
 use Rattle.std.specs.Prelude.{⊤}
-use Rattle.std.proofs.Common.{◌≡◌, inr, refl, ap, ◌∙◌, ℕ, Bool, Option, Some, None}
+use Rattle.std.proofs.Common.{◌≡◌, inl, inr, refl, ap, subst, ◌∙◌, ℕ, Bool, map, Option, Some, None}
 use Rattle.sqlite_value.specs.Order.{Row, column}
+use Rattle.sqlite_rules.specs.Lists.{Has}
+use Rattle.sqlite_schema.specs.declared.schema.Table.{Table}
 use Rattle.sqlite.specs.Effect.{Database}
 use Rattle.duty.specs.Shape.{is_id}
-use Rattle.tables.specs.Records.{IsBookRow, IsCrewRow, IsExceedanceRow, IsGroundRow, IsPairingRow, IsPeriodRow, IsRequestRow, IsSeatRow, IsSegmentRow, IsNumberIfAny, pairing_row}
-use Rattle.tables.specs.Rows.{HasNoRecord}
+use Rattle.tables.specs.Records.{IsBaseRow, IsBookRow, IsCrewBaseRow, IsCrewRow, IsExceedanceRow, IsGroundRow, IsPairingRow, IsPeriodRow, IsRequestRow, IsSeatRow, IsSegmentRow, IsNumberIfAny, pairing_row}
+use Rattle.tables.specs.Rows.{HasNoRecord, cells, kept_in, rows_of}
+use Rattle.tables.specs.Schema.{BookTable, IsNameFree, base_table, crew_base_table}
 use Rattle.state_rows.specs.Rows.{TableName, table, book, crew, pairing, period, segment, seat, ground_duty, exceedance, request, base, crew_base, outside, outside_segment}
 use Rattle.state_rows.proofs.Values.{text_is}
 use Rattle.loading.specs.Loading.{AreRight, IsInstantIfAny}
-use Rattle.loading.proofs.Ascii.{id_utf8}
+use Rattle.loading.proofs.Ascii.{id_utf8, zone_utf8}
 use Rattle.loading.proofs.ReadBook.{not_unreadable as no_book}
 use Rattle.loading.proofs.ReadCrew.{not_unreadable as no_member}
 use Rattle.loading.proofs.ReadExceedances.{not_unreadable as no_exceedance}
@@ -22,36 +25,39 @@ use Rattle.loading.proofs.SeatTable.{not_unreadable as no_seat}
 
 -- ---- The tables down to each
 
-module _ (db : Database) (right : AreRight request db) where
+module _ (db : Database) (right : AreRight crew_base db) where
+  abbrev pub requests_right : AreRight request db
+  requests_right = (right.0, right.1.0.0)
+
   abbrev pub exceedances_right : AreRight exceedance db
-  exceedances_right = (right.0, right.1.0)
+  exceedances_right = (right.0, right.1.0.0.0)
 
   abbrev pub grounds_right : AreRight ground_duty db
-  grounds_right = (right.0, right.1.0.0)
+  grounds_right = (right.0, right.1.0.0.0.0)
 
   abbrev pub seats_right : AreRight seat db
-  seats_right = (right.0, right.1.0.0.0)
+  seats_right = (right.0, right.1.0.0.0.0.0)
 
   abbrev pub segments_right : AreRight segment db
-  segments_right = (right.0, right.1.0.0.0.0)
+  segments_right = (right.0, right.1.0.0.0.0.0.0)
 
   abbrev pub periods_right : AreRight period db
-  periods_right = (right.0, right.1.0.0.0.0.0)
+  periods_right = (right.0, right.1.0.0.0.0.0.0.0)
 
   abbrev pub pairings_right : AreRight pairing db
-  pairings_right = (right.0, right.1.0.0.0.0.0.0)
+  pairings_right = (right.0, right.1.0.0.0.0.0.0.0.0)
 
   abbrev pub crew_right : AreRight crew db
-  crew_right = (right.0, right.1.0.0.0.0.0.0.0)
+  crew_right = (right.0, right.1.0.0.0.0.0.0.0.0.0)
 
   abbrev pub book_right : AreRight book db
-  book_right = (right.0, right.1.0.0.0.0.0.0.0.0)
+  book_right = (right.0, right.1.0.0.0.0.0.0.0.0.0.0)
 
 -- ---- Their rows
 
 -- each row that passes a test is one of a record
 abbrev pub AreRecords : TableName → (Row → Type 0) → Type 0
-AreRecords it IsRecord = (db : Database) (test : Row → Bool) → HasNoRecord (table it) test IsRecord db → AreRight request db → ⊥
+AreRecords it IsRecord = (db : Database) (test : Row → Bool) → HasNoRecord (table it) test IsRecord db → AreRight crew_base db → ⊥
 
 book_records : AreRecords book IsBookRow
 book_records db test x right = no_book db (inr (x.0, x.1, refl, x.3)) (book_right db right)
@@ -101,9 +107,33 @@ pub exceedance_records : AreRecords exceedance IsExceedanceRow
 exceedance_records db test x right = no_exceedance db (inr (x.0, x.1, refl, x.3)) (exceedances_right db right)
 
 request_records : AreRecords request IsRequestRow
-request_records db test x right = no_request db (inr (x.0, x.1, refl, x.3)) right
+request_records db test x right = no_request db (inr (x.0, x.1, refl, x.3)) (requests_right db right)
 
--- the rows that are records of each table; of the tables that came with version 2, which are not read by key, any row
+-- where a name is free there is no row
+pub no_row : (kept : BookTable) (db : Database) (row : Row) → IsNameFree kept db.schema → Has (rows_of kept db) row → ⊥
+no_row kept db row free h = subst (λ (o : Option Table). Has (map (cells kept) (kept_in db.trees o)) row) free.0 h
+
+base_records : AreRecords base IsBaseRow
+base_records db test x right = elim right.1.0.1 [
+  | inl is ↦
+      let at = (is.1.1 x.0).0 x.1 in
+      let shape = right.1.0.2.shaped at.0.name at.0.value at.0.there in
+      x.3 (record { id = at.0.name; zone = at.0.value }, id_utf8 at.0.name shape.0, zone_utf8 at.0.value shape.1, at.1)
+  | inr none ↦ no_row base_table db x.0 none.1 x.1
+]
+
+crew_base_records : AreRecords crew_base IsCrewBaseRow
+crew_base_records db test x right = elim right.1.1 [
+  | inl is ↦
+      let at = (is.1.1 x.0).0 x.1 in
+      let member = (crew_right db right).1.2 at.0.name at.0.value at.0.there in
+      let its = right.1.2 at.0.name at.0.value at.0.there in
+      let shape = right.1.0.2.shaped at.0.value.base its.0 its.1 in
+      x.3 (record { crew = at.0.name; base = at.0.value.base }, id_utf8 at.0.name member.id_shape, id_utf8 at.0.value.base shape.0, at.1)
+  | inr none ↦ no_row crew_base_table db x.0 none.1 x.1
+]
+
+-- the rows that are records of each table; of the tables that are not read by key, any row
 abbrev pub RecordOf : TableName → Row → Type 0
 RecordOf book = IsBookRow
 RecordOf crew = IsCrewRow
@@ -114,8 +144,8 @@ RecordOf seat = IsSeatRow
 RecordOf ground_duty = IsGroundRow
 RecordOf exceedance = IsExceedanceRow
 RecordOf request = IsRequestRow
-RecordOf base = λ row. ⊤
-RecordOf crew_base = λ row. ⊤
+RecordOf base = IsBaseRow
+RecordOf crew_base = IsCrewBaseRow
 RecordOf outside = λ row. ⊤
 RecordOf outside_segment = λ row. ⊤
 
@@ -129,7 +159,7 @@ records_of seat = seat_records
 records_of ground_duty = ground_records
 records_of exceedance = exceedance_records
 records_of request = request_records
-records_of base = λ db test x right. x.3 tt
-records_of crew_base = λ db test x right. x.3 tt
+records_of base = base_records
+records_of crew_base = crew_base_records
 records_of outside = λ db test x right. x.3 tt
 records_of outside_segment = λ db test x right. x.3 tt

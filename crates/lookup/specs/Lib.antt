@@ -2,3 +2,5 @@ pub mod Reads
 pub mod Plans
 pub mod Entries
 pub mod Recorded
+pub mod Members
+pub mod Bases

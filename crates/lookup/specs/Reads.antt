@@ -1,20 +1,18 @@
 -- What a read by key tells of the state whose tables are read.
 use Rattle.std.specs.Prelude.{◌≡◌, ◌⊎◌, ◌≤◌, ℕ, map, Bool, false, OnOk, IsTrue}
-use Rattle.std.specs.Prelude.{List, [], ◌∷◌, Option, None, Some, Result, IfErr, IfOk}
+use Rattle.std.specs.Prelude.{List, Some, Result, IfErr, IfOk}
 use Rattle.sqlite_disk.specs.Disk.{MoreFaults}
 use Rattle.sqlite_value.specs.Order.{Row}
 use Rattle.sqlite.specs.State as conn
 use Rattle.sqlite.specs.State.{HasCleanDisk, IsUnchanged}
-use Rattle.command.specs.declared.member.Member.{Member}
 use Rattle.roster.specs.Sound.{Sound}
 use Rattle.roster.specs.State.{State}
 use Rattle.loading.specs.Loading.{AreRight}
 use Rattle.loading.specs.SameRows.{HasInstants}
 use Rattle.tables.specs.Calls.{HasStepLimit}
 use Rattle.tables.specs.Rows.{Finds}
-use Rattle.tables.specs.declared.crew.CrewRecord.{CrewRecord}
 use Rattle.tables.specs.declared.seat.SeatRecord.{SeatRecord}
-use Rattle.state_rows.specs.Rows.{TableName, table, request, seat_number}
+use Rattle.state_rows.specs.Rows.{TableName, table, crew_base}
 use Rattle.state_rows.specs.declared.fault.StoreFault.{StoreFault}
 use Rattle.state_rows.specs.declared.fault.StoreFault.TheVariants.{Store}
 use Rattle.writing.specs.Kept.{IsBookOf}
@@ -43,13 +41,13 @@ IsOpen now = HasCleanDisk now → IsTrue now.is_open
 
 -- Why a read answers a fault of the store (90): the disk failed or refused a call meanwhile, an
 -- earlier failure had shut the connection, a limit is set on the steps of a statement, or the
--- tables from `book` to `request` are not those of a right book, which opening them would refuse.
+-- tables from `book` to `crew_base` are not those of a right book, which opening them would refuse.
 abbrev pub HasStoreCause : conn.State → conn.State → Type 0
 HasStoreCause old new =
     MoreFaults old.faults new.faults
     ⊎ ((old.is_open ≡ false)
     ⊎ (HasStepLimit old
-    ⊎ (AreRight request old.now → ⊥)))
+    ⊎ (AreRight crew_base old.now → ⊥)))
 
 -- a fault of a read, where it is one of the store (90), has a cause
 abbrev pub IsCausedIfStore : conn.State → conn.State → StoreFault → Type 0
@@ -82,12 +80,6 @@ pub record ReadsByKey {A : Type 0} (Is : State → A → Type 0)
 -- some records have no entry, where `Has` says which entry they have
 abbrev pub HaveNone : {A : Type 0} → (A → Type 0) → Type 0
 HaveNone {A} Has = (found : A) → Has found → ⊥
-
--- the member that the first of some records of `crew` has, and no member where there is no record
-abbrev pub HasFirst : List CrewRecord → Option Member → Type 0
-HasFirst [] found = found ≡ None
-HasFirst (row ∷ rows) found =
-    (m : Member) × (found ≡ Some m) × (seat_number m.seat ≡ row.seat) × (m.name ≡ row.name)
 
 -- the pairings that some records of seats name
 abbrev pub ids_in : List SeatRecord → List (List ℕ)

@@ -2,18 +2,18 @@
 //! 90, and want of memory 91.
 #![tactic(auto)]
 
+mod bases;
 mod exceedance;
 mod ground;
 mod held;
 mod member;
 mod pairing;
 mod request;
-mod zone;
 
+pub use bases::bases_at;
 pub use exceedance::exceedances_at;
 pub use ground::{ground_at, grounds_held_at};
 pub use held::pairings_held_at;
 pub use member::member_at;
 pub use pairing::pairing_at;
 pub use request::request_at;
-pub use zone::zone_at;

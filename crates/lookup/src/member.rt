@@ -5,19 +5,28 @@ ghost use Rattle.std.specs.Prelude.{◌≡◌, IfErr, IfOk, [], ◌∷◌, map};
 ghost use Rattle.std.specs.FinMap as fin;
 ghost use Rattle.sqlite.specs.Held.{state};
 ghost use Rattle.sqlite_value.specs.declared.value.Value.TheVariants as value;
-ghost use Rattle.tables.specs.Records.{crew_row};
+ghost use Rattle.tables.specs.Records.{crew_base_row, crew_row};
 ghost use Rattle.tables.specs.Rows.{begins_with};
 ghost use Rattle.writing.specs.Outcomes.{IsOutside, IsOverBook};
-ghost use Rattle.state_rows.specs.Rows.{crew};
-ghost use Rattle.lookup.specs.Reads.{HasFirst, ReadsByKey, ReadsRows, HaveNone};
+ghost use Rattle.state_rows.specs.Rows.{crew, crew_base};
+ghost use Rattle.lookup.specs.Reads.{ReadsByKey, ReadsRows, HaveNone};
+ghost use Rattle.lookup.specs.Members.{HasFirst, ReadsMember};
 
 use command::{Member, Seat};
-use duty::CrewId;
+use duty::{BaseId, CrewId};
 use sqlite::{Alter, Connection};
 use state_rows::StoreFault;
 use std::alloc::Global;
 use tables::crew::{CrewRecord, crew_by_id};
+use tables::crew_base::{CrewBaseRecord, crew_base_by_crew};
 use values::TryClone;
+
+/// The records of one member; of one who isn't there, none.
+#[derive(Drop)]
+pub(crate) struct MemberRecords {
+    pub(crate) crew: Vec<CrewRecord>,
+    pub(crate) bases: Vec<CrewBaseRecord>,
+}
 
 /// Reads the records of the members with this id.
 #[tactic(auto, using(crate::proofs::ReadLemmas::was_read, crate::proofs::ReadLemmas::not_read, crate::proofs::ReadLemmas::holds_open))]
@@ -40,15 +49,65 @@ fn crew_rows<S: Alter>(
     }
 }
 
-/// Returns the member that the first of some records tells of.
-#[tactic(auto, using(crate::proofs::RightEntries::no_seat))]
-fn first_member(alloc: Global, records: &[CrewRecord]) -> Result<Option<Member>, StoreFault>
-    ensures told { IfOk result (HasFirst records.now) }
+/// Reads the records of the base of the member with this id.
+#[tactic(auto, using(crate::proofs::ReadLemmas::was_read, crate::proofs::ReadLemmas::not_read, crate::proofs::ReadLemmas::holds_open))]
+fn base_rows<S: Alter>(
+    alloc: Global,
+    conn: &mut Connection<S>,
+    id: &str,
+) -> Result<Vec<CrewBaseRecord>, StoreFault>
+    requires outside { IsOutside (state S.Store conn.old) }
+    requires over { IsOverBook (state S.Store conn.old) }
+    ensures { ReadsRows crew_base (begins_with (value.Text id.now ∷ []))
+        (λ found. map crew_base_row found.items) (state S.Store conn.old)
+        (state S.Store conn.new) result }
+{
+    // The clause of this call says that outside a transaction what is shown is committed.
+    let _settled = conn.is_autocommit();
+    match crew_base_by_crew(alloc, conn, id) {
+        Ok(records) => Ok(records),
+        Err(fault) => Err(StoreFault::from(fault)),
+    }
+}
+
+/// Reads both. Without a record of `crew` there is no member, and nothing more is read.
+#[tactic(auto, using(crate::proofs::MemberReads::no_member, crate::proofs::MemberReads::not_first, crate::proofs::MemberReads::not_second, crate::proofs::MemberReads::both_read, crate::proofs::ReadLemmas::over_on))]
+fn member_rows<S: Alter>(
+    alloc: Global,
+    conn: &mut Connection<S>,
+    id: &str,
+) -> Result<MemberRecords, StoreFault>
+    requires outside { IsOutside (state S.Store conn.old) }
+    requires over { IsOverBook (state S.Store conn.old) }
+    ensures { ReadsMember id.now (state S.Store conn.old) (state S.Store conn.new) result }
+{
+    let crew = crew_rows(alloc, conn, id)?;
+    if crew.is_empty() {
+        return Ok(MemberRecords {
+            crew,
+            bases: Vec::new(alloc),
+        });
+    }
+    let bases = base_rows(alloc, conn, id)?;
+    Ok(MemberRecords { crew, bases })
+}
+
+/// Returns the member that the first of some records tells of, at the base of the first of some others.
+#[tactic(auto, using(crate::proofs::MemberLemmas::none_told, crate::proofs::MemberLemmas::columns_told, crate::proofs::MemberLemmas::no_seat, crate::proofs::MemberLemmas::no_base))]
+fn first_member(
+    alloc: Global,
+    records: &[CrewRecord],
+    bases: &[CrewBaseRecord],
+) -> Result<Option<Member>, StoreFault>
+    ensures told { IfOk result (HasFirst records.now bases.now) }
     ensures unread { IfErr result
-        (λ fault. fault ≡ StoreFault.Store → HaveNone (HasFirst records.now)) }
+        (λ fault. fault ≡ StoreFault.Store → HaveNone (HasFirst records.now bases.now)) }
 {
     let Some(row) = records.first() else {
         return Ok(None);
+    };
+    let Some(its) = bases.first() else {
+        return Err(StoreFault::Store);
     };
     let seat = match row.seat {
         0 => Seat::Captain,
@@ -58,6 +117,7 @@ fn first_member(alloc: Global, records: &[CrewRecord]) -> Result<Option<Member>,
     Ok(Some(Member {
         seat,
         name: row.name.try_clone(alloc)?,
+        base: BaseId::new(its.base.try_clone(alloc)?),
     }))
 }
 
@@ -73,6 +133,6 @@ pub fn member_at<S: Alter>(
     ensures { ReadsByKey (λ s found. found ≡ fin.get s.crew id.now) (state S.Store conn.old)
         (state S.Store conn.new) result }
 {
-    let records = crew_rows(alloc, conn, id.as_str())?;
-    first_member(alloc, &records)
+    let rows = member_rows(alloc, conn, id.as_str())?;
+    first_member(alloc, &rows.crew, &rows.bases)
 }

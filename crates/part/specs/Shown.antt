@@ -21,7 +21,7 @@ is_ground_of s who id = option_map_or (λ g. bytes_eq g.crew who) (fin.get s.gro
 -- duties; who else holds these pairings isn't in it
 abbrev pub member_part : State → List ℕ → State
 member_part s who = record {
-  zone = s.zone;
+  bases = s.bases;
   crew = fin.retain_keys s.crew (bytes_eq who);
   pairings = fin.retain_keys s.pairings (is_held_of s who);
   grounds = fin.retain_keys s.grounds (is_ground_of s who);
@@ -32,7 +32,7 @@ member_part s who = record {
 -- the part of a state with one pairing alone
 abbrev pub pairing_part : State → List ℕ → State
 pairing_part s id = record {
-  zone = s.zone;
+  bases = s.bases;
   crew = fin.empty;
   pairings = fin.retain_keys s.pairings (bytes_eq id);
   grounds = fin.empty;
@@ -43,7 +43,7 @@ pairing_part s id = record {
 -- the part of a state with its exceedances alone
 abbrev pub exceedances_part : State → State
 exceedances_part s = record {
-  zone = s.zone;
+  bases = s.bases;
   crew = fin.empty;
   pairings = fin.empty;
   grounds = fin.empty;

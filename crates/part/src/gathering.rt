@@ -182,13 +182,13 @@ pub fn gather<S: Source>(
     ensures there { OnOk result (S.is_there source.new) }
 {
     let instruction = command.instruction();
-    let zone = source.zone(alloc)?;
+    let bases = source.bases(alloc)?;
     let requests = gather_requests(alloc, source, key)?;
     let Plans { pairings, judged } = gather_plans(alloc, source, instruction)?;
     let grounds = gather_grounds(alloc, source, instruction, &judged)?;
     let crew = gather_members(alloc, source, instruction, &pairings, &grounds)?;
     Ok(Roster {
-        zone,
+        bases,
         crew,
         pairings,
         grounds,

@@ -106,12 +106,12 @@ pub fn gather_member<S: Source>(
     ensures serves { OnOk result (S.serves source.old source.new) }
     ensures there { OnOk result (S.is_there source.new) }
 {
-    let zone = source.zone(alloc)?;
+    let bases = source.bases(alloc)?;
     let crew = one_member(alloc, source, who)?;
     let pairings = held_pairings(alloc, source, who)?;
     let grounds = grounds_held(alloc, source, who)?;
     Ok(Roster {
-        zone,
+        bases,
         crew,
         pairings,
         grounds,
@@ -134,10 +134,10 @@ pub fn gather_pairing<S: Source>(
     ensures serves { OnOk result (S.serves source.old source.new) }
     ensures there { OnOk result (S.is_there source.new) }
 {
-    let zone = source.zone(alloc)?;
+    let bases = source.bases(alloc)?;
     let pairings = one_pairing(alloc, source, id)?;
     Ok(Roster {
-        zone,
+        bases,
         crew: OrdMap::new(alloc),
         pairings,
         grounds: OrdMap::new(alloc),
@@ -156,10 +156,10 @@ pub fn gather_exceedances<S: Source>(alloc: Global, source: &mut S) -> Result<Ro
     ensures serves { OnOk result (S.serves source.old source.new) }
     ensures there { OnOk result (S.is_there source.new) }
 {
-    let zone = source.zone(alloc)?;
+    let bases = source.bases(alloc)?;
     let exceedances = source.exceedances(alloc)?;
     Ok(Roster {
-        zone,
+        bases,
         crew: OrdMap::new(alloc),
         pairings: OrdMap::new(alloc),
         grounds: OrdMap::new(alloc),

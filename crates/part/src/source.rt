@@ -9,9 +9,8 @@ ghost use Rattle.part.specs.Sources.{TellsOfState};
 
 use command::{Key, Member};
 use duty::{CrewId, Ground, GroundId, PairingId};
-use roster::{ExceedanceId, LoggedCommand, PairingEntry, PeriodId};
+use roster::{Bases, ExceedanceId, LoggedCommand, PairingEntry, PeriodId};
 use std::alloc::Global;
-use time117::Zone;
 use values::{MemoryFault, OrdMap};
 
 /// What shows a state of the book, read by key.
@@ -50,9 +49,9 @@ pub trait Source {
 
     ghost still_there: { (x y : Self) → serves x y → is_there x → is_there y };
 
-    /// Reads the zone.
-    fn zone(&mut self, alloc: Global) -> Result<Zone, Self::Fault>
-        ensures told { TellsOfState is_clean shows (λ s zone. zone ≡ s.zone)
+    /// Reads all bases.
+    fn bases(&mut self, alloc: Global) -> Result<Bases, Self::Fault>
+        ensures told { TellsOfState is_clean shows (λ s bases. bases ≡ s.bases)
             self.old self.new result }
         ensures left { stays self.old self.new }
         ensures caused { IfErr result (fails self.old self.new) }

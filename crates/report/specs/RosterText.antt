@@ -1,11 +1,12 @@
 -- A member's roster as a text.
-use Rattle.std.specs.Prelude.{◌≡◌, ℕ, List, ◌++◌, map, codes, Some}
+use Rattle.std.specs.Prelude.{◌≡◌, ℕ, List, [], ◌++◌, map, codes, Some, if◌then◌else◌}
 use Rattle.std.specs.Fmt.{decimal}
 use Rattle.std.specs.FinMap as fin
 use Rattle.std.specs.List.{filter, flat_map, enumerate_from}
 use Rattle.std.specs.Str.{bytes_eq}
 use Rattle.time117.specs.Instant.{written}
 use Rattle.duty.specs.Plans.{GroundPlan}
+use Rattle.duty.specs.Shape.{home}
 use Rattle.duty.specs.declared.fdp.Fdp.{Fdp}
 use Rattle.command.specs.Texts.{seat_text}
 use Rattle.command.specs.declared.member.Member.{Member}
@@ -71,11 +72,15 @@ lines_of s who =
 
 -- ---- The text
 
--- the first line: the member's id, seat and name
+-- the line of the member's base, where it isn't HOME
+abbrev pub base_line : List ℕ → List ℕ
+base_line base = if bytes_eq base home then [] else codes "base " ++ base ++ codes "\n"
+
+-- the first line: the member's id, seat and name; and the line of the base
 abbrev pub roster_header : List ℕ → Member → List ℕ
 roster_header who member =
     codes "ROSTER " ++ who ++ codes " " ++ seat_text member.seat ++ codes " " ++ member.name
-    ++ codes "\n"
+    ++ codes "\n" ++ base_line member.base
 
 -- the roster text of this member: the first line, and then the member's lines in their order
 pub record IsMemberText (s : State) (who : List ℕ) (member : Member) (text : List ℕ) : Type 0 where

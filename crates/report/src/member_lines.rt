@@ -20,9 +20,9 @@ use std::alloc::Global;
 use time117::Minute;
 use values::{MemoryFault, Text, TryClone};
 
-/// Writes a member's roster: the member, and then a line for each duty in force, in order of begin, end, periods before
-/// ground duties, id in byte order, and period. Times are those in force, as UTC instants; lengths are hours and
-/// minutes.
+/// Writes a member's roster: the member, the base where it isn't `HOME`, and then a line for each duty in force, in
+/// order of begin, end, periods before ground duties, id in byte order, and period. Times are those in force, as UTC
+/// instants; lengths are hours and minutes.
 pub fn roster_text(alloc: Global, roster: &Roster, who: &CrewId) -> Result<String, ReportFault>
     ensures text { IfOk result (λ text. spec.IsRosterText roster.now who.now (string_bytes text)) }
     ensures absent { (result ≡ Err ReportFault.NoSuchCrew)
@@ -50,12 +50,15 @@ fn member_text(
     text_of(header(alloc, who, member)?, &lines)
 }
 
-/// Writes the first line: the member's id, seat and name.
+/// Writes the first line: the member's id, seat and name; and a line with the member's base, where it isn't `HOME`.
 fn header(alloc: Global, who: &CrewId, member: &Member) -> Result<String, MemoryFault>
     ensures { IfOk result (λ text. string_bytes text ≡ spec.roster_header who.now member.now) }
 {
     let mut text = format!(in alloc; "ROSTER {} {}", who.as_str(), member.seat)?;
     text.push_str(&format!(in alloc; " {}\n", member.name.as_str())?)?;
+    if !member.base.is_home() {
+        text.push_str(&format!(in alloc; "base {}\n", member.base.as_str())?)?;
+    }
     Ok(text)
 }
 

@@ -10,7 +10,7 @@ use Rattle.command.specs.Keys.{KeyParts, key_name}
 use Rattle.command.specs.declared.exceedance.Exceedance.{Exceedance}
 use Rattle.command.specs.declared.exceedance.Reply.{Reply}
 use Rattle.command.specs.declared.instruction.Instruction.{Instruction}
-use Rattle.command.specs.declared.instruction.Instruction.TheVariants.{AddCrew, AddPairing, CancelPairing, Assign, Release, Swap, AddGround, CancelGround, Actual}
+use Rattle.command.specs.declared.instruction.Instruction.TheVariants.{AddBase, AddCrew, AddPairing, CancelPairing, Assign, Release, Swap, AddGround, CancelGround, Actual}
 use Rattle.command.specs.declared.refusal.Refusal.{Refusal}
 use Rattle.command.specs.declared.refusal.Refusal.TheVariants.{Limits}
 use Rattle.roster.specs.Laws.{AcceptedWithinLimits, Gain, IsAccepted, IsBroken, PassesChecks, gains, is_assignment, number_of}
@@ -165,6 +165,7 @@ breaks_none s (AddGround g) is =
     let gain : Gain = record { others = others s g.crew no_place; new = (ground_at (g.id, g)).1 ∷ [] } in
     through (applies (broken_by g.crew gain.others gain.new) [] refl)
     (through (nothing_broken g.crew gain) (one_is BreaksNone gain))
+breaks_none s (AddBase id zone) is = absurd (cc)
 breaks_none s (AddCrew who member) is = absurd (cc)
 breaks_none s (AddPairing plan) is = absurd (cc)
 breaks_none s (CancelPairing id) is = absurd (cc)

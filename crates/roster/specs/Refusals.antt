@@ -14,15 +14,19 @@ use Rattle.limits.specs.Judgement.{Broken}
 use Rattle.command.specs.contracts.member.SeatPartialEq.TheImpl.{ghosts as seats}
 use Rattle.command.specs.declared.exceedance.Exceedance.{Exceedance}
 use Rattle.command.specs.declared.instruction.Instruction.{Instruction}
-use Rattle.command.specs.declared.instruction.Instruction.TheVariants.{AddCrew, AddPairing, CancelPairing, Assign, Release, Swap, AddGround, CancelGround, Actual}
+use Rattle.command.specs.declared.instruction.Instruction.TheVariants.{AddBase, AddCrew, AddPairing, CancelPairing, Assign, Release, Swap, AddGround, CancelGround, Actual}
 use Rattle.command.specs.declared.instruction.Swap as swap
 use Rattle.command.specs.declared.refusal.Refusal.{Refusal}
-use Rattle.command.specs.declared.refusal.Refusal.TheVariants.{NoSuchCrew, CrewExists, NoSuchPairing, PairingExists, SeatTaken, WrongSeat, NotAssigned, PairingCrewed, Flown, Overlap, Limits, NoSuchDuty, GroundExists, NoSuchGround, SegmentCount}
+use Rattle.command.specs.declared.refusal.Refusal.TheVariants.{NoSuchCrew, CrewExists, NoSuchPairing, PairingExists, SeatTaken, WrongSeat, NotAssigned, PairingCrewed, Flown, Overlap, Limits, NoSuchDuty, GroundExists, NoSuchGround, SegmentCount, NoSuchBase, BaseExists}
 use Rattle.roster.specs.Pairings.{holder, is_held_by, is_flown, is_crewed, is_fully_crewed}
 use Rattle.roster.specs.Places.{duties, no_place, the_pairing, others, periods_at, ground_at}
 use Rattle.roster.specs.State.{State, zone_of}
 
 -- ---- Facts
+
+-- a base has this id
+abbrev pub is_base : State → List ℕ → Bool
+is_base s id = fin.contains_key s.bases id
 
 -- a member has this id
 abbrev pub is_member : State → List ℕ → Bool
@@ -111,7 +115,11 @@ trade_rows s w given taken =
 
 -- the refusals of an instruction in the order of their numbers, each with whether it applies
 unfoldable pub refusals : State → Instruction → List Row
-refusals s (AddCrew who member) = (CrewExists, is_member s who) ∷ []
+refusals s (AddBase id zone) = (BaseExists, is_base s id) ∷ []
+refusals s (AddCrew who member) =
+    (CrewExists, is_member s who)
+    ∷ (NoSuchBase, not (is_base s member.base))
+    ∷ []
 refusals s (AddPairing plan) = (PairingExists, is_pairing s plan.id) ∷ []
 refusals s (CancelPairing id) =
     (NoSuchPairing, not (is_pairing s id))

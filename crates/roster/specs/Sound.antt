@@ -1,11 +1,12 @@
--- A sound state: every name in it, save inside kept commands and replies, names something, and its
--- pairings, actuals and ground duties keep their orders. Exceedances and kept commands stand under
--- what they are known by, and nothing else does.
+-- A sound state: HOME is one of its bases, every name in it, save inside kept commands and replies,
+-- names something, and its pairings, actuals and ground duties keep their orders. Exceedances and
+-- kept commands stand under what they are known by, and nothing else does.
 use Rattle.std.specs.Prelude.{◌≡◌, ℕ, ◌+◌, ◌<◌, true, List, map, length, Option, Some, None, slice_get}
 use Rattle.std.specs.FinMap as fin
 use Rattle.values.specs.Name.{name_cmp}
 use Rattle.duty.specs.Pairings.{pairing_fault, actual_fault}
 use Rattle.duty.specs.Plans.{Plan, GroundPlan, ActualTimes, as_planned}
+use Rattle.duty.specs.Shape.{home}
 use Rattle.duty.specs.declared.fdp.Fdp.{Fdp}
 use Rattle.limits.specs.declared.section.Section.{Section}
 use Rattle.command.specs.Keys.{KeyParts, key_name}
@@ -13,6 +14,7 @@ use Rattle.command.specs.Instructions.{IsMade}
 use Rattle.command.specs.declared.member.Member.{Member}
 use Rattle.command.specs.declared.member.Seat.{Seat}
 use Rattle.command.specs.declared.member.Seat.TheVariants.{Captain, FirstOfficer}
+use Rattle.roster.specs.Bases.{IsBase}
 use Rattle.roster.specs.Pairings.{is_flown, is_fully_crewed}
 use Rattle.roster.specs.State.{State, exceedance_name}
 use Rattle.roster.specs.declared.state.PeriodId.{PeriodId}
@@ -84,8 +86,11 @@ pub record SoundRequest (name : List ℕ) (request : LoggedCommand) : Type 0 whe
   pub known_by : name ≡ key_name key
   pub made : IsMade request.command
 
--- each pairing, ground duty, exceedance and kept command is sound
+-- the bases have HOME, the base of each member is one of them, and each pairing, ground duty,
+-- exceedance and kept command is sound
 pub record Sound (s : State) : Type 0 where
+  pub has_home : IsBase s.bases home
+  pub crew : (who : List ℕ) (m : Member) → fin.get s.crew who ≡ Some m → IsBase s.bases m.base
   pub pairings : (id : List ℕ) (r : PairingEntry) → fin.get s.pairings id ≡ Some r →
       SoundPairing s.crew id r
   pub grounds : (id : List ℕ) (g : GroundPlan) → fin.get s.grounds id ≡ Some g →

@@ -12,7 +12,7 @@ use Rattle.command.specs.Keys.{KeyParts, key_name}
 use Rattle.command.specs.contracts.instruction.CommandPartialEq.TheImpl.{ghosts as commands}
 use Rattle.command.specs.declared.exceedance.Exceedance.{Exceedance}
 use Rattle.command.specs.declared.instruction.Instruction.{Instruction}
-use Rattle.command.specs.declared.instruction.Instruction.TheVariants.{AddCrew, AddPairing, CancelPairing, Assign, Release, Swap, AddGround, CancelGround, Actual}
+use Rattle.command.specs.declared.instruction.Instruction.TheVariants.{AddBase, AddCrew, AddPairing, CancelPairing, Assign, Release, Swap, AddGround, CancelGround, Actual}
 use Rattle.command.specs.declared.refusal.Refusal.{Refusal}
 use Rattle.command.specs.declared.refusal.Refusal.TheVariants.{NumberUsed}
 use Rattle.roster.specs.Pairings.{unheld, with_holder}
@@ -119,6 +119,7 @@ recorded key period records e = fin.insert records (exceedance_name key e.crew e
 
 -- the state that an accepted instruction leaves, before its key holds it
 abbrev pub effect : State → Change → Instruction → State
+effect s change (AddBase id zone) = record s { bases = fin.insert s.bases id zone }
 effect s change (AddCrew who member) = record s { crew = fin.insert s.crew who member }
 effect s change (AddPairing plan) =
     record s { pairings = fin.insert s.pairings plan.id (unheld plan) }

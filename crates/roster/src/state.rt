@@ -4,6 +4,7 @@ ghost use Rattle.std.specs.Option.{option_copied};
 ghost use Rattle.roster.specs.State.{empty, zone_of};
 ghost use Rattle.roster.specs.Pairings.{holder, is_flown, unheld};
 
+use crate::bases::Bases;
 use command::{Command, Key, Member, Reply, Seat};
 use duty::{Actual, CrewId, Fdp, Ground, GroundId, Pairing, PairingId};
 use limits::Section;
@@ -42,11 +43,12 @@ pub struct PeriodId {
     pub number: u8,
 }
 
-/// The state of the book, as a value: the acclimated zone, and a table for each thing that it knows. What `step` accepts
-/// and `apply` makes of an empty one is a sound roster; its parts are open to whoever reads one from a file.
+/// The state of the book, as a value: the bases with their zones, and a table for each other thing that it knows. What
+/// `step` accepts and `apply` makes of an empty one is a sound roster; its parts are open to whoever reads one from a
+/// file.
 #[derive(Drop)]
 pub struct Roster {
-    pub zone: Zone,
+    pub bases: Bases,
     pub crew: OrdMap<CrewId, Member>,
     pub pairings: OrdMap<PairingId, PairingEntry>,
     pub grounds: OrdMap<GroundId, Ground>,
@@ -55,12 +57,12 @@ pub struct Roster {
 }
 
 impl Roster {
-    /// Makes a roster of nothing but the zone.
+    /// Makes a roster of nothing but the base `HOME` with this zone.
     pub fn empty(alloc: Global, zone: Zone) -> Result<Roster, MemoryFault>
         ensures { result ≡ Ok (empty zone) }
     {
         Ok(Roster {
-            zone,
+            bases: Bases::new(alloc, zone),
             crew: OrdMap::new(alloc),
             pairings: OrdMap::new(alloc),
             grounds: OrdMap::new(alloc),
@@ -69,11 +71,14 @@ impl Roster {
         })
     }
 
-    /// Returns the zone in which a member's duties are placed.
-    pub fn zone_of(&self, _who: &CrewId) -> &Zone
-        ensures { result.now ≡ zone_of self.now _who.now }
+    /// Returns the zone in which a member's duties are placed: that of the member's base.
+    pub fn zone_of(&self, who: &CrewId) -> &Zone
+        ensures { result.now ≡ zone_of self.now who.now }
     {
-        &self.zone
+        match self.crew.get(who) {
+            Some(member) => self.bases.zone_at(&member.base),
+            None => self.bases.home(),
+        }
     }
 }
 
@@ -175,7 +180,7 @@ impl TryClone for PeriodId {
 impl TryClone for Roster {
     fn try_clone(&self, alloc: Global) -> Result<Roster, MemoryFault> {
         Ok(Roster {
-            zone: self.zone.try_clone(alloc)?,
+            bases: self.bases.try_clone(alloc)?,
             crew: self.crew.try_clone(alloc)?,
             pairings: self.pairings.try_clone(alloc)?,
             grounds: self.grounds.try_clone(alloc)?,

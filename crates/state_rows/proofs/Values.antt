@@ -20,8 +20,8 @@ seats_same Captain FirstOfficer e = absurd (cc)
 seats_same FirstOfficer Captain e = absurd (cc)
 seats_same FirstOfficer FirstOfficer e = refl
 
-pub members_same : (a b : Member) → seat_number a.seat ≡ seat_number b.seat → a.name ≡ b.name → a ≡ b
-members_same a b seat name = λ i. record { seat = seats_same a.seat b.seat seat i; name = name i }
+pub members_same : (a b : Member) → seat_number a.seat ≡ seat_number b.seat → a.name ≡ b.name → a.base ≡ b.base → a ≡ b
+members_same a b seat name base = λ i. record { seat = seats_same a.seat b.seat seat i; name = name i; base = base i }
 
 pub sections_same : (a b : Section) → section_number a ≡ section_number b → a ≡ b
 sections_same a b e =

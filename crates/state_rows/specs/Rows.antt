@@ -16,12 +16,12 @@ use Rattle.command.specs.Keys.{KeyParts, key_name}
 use Rattle.command.specs.declared.member.Member.{Member}
 use Rattle.command.specs.declared.member.Seat.{Seat}
 use Rattle.command.specs.declared.member.Seat.TheVariants.{Captain, FirstOfficer}
+use Rattle.roster.specs.Bases.{home_zone}
 use Rattle.roster.specs.Pairings.{holder}
 use Rattle.roster.specs.State.{State, exceedance_name}
 use Rattle.roster.specs.declared.state.PeriodId.{PeriodId}
 use Rattle.roster.specs.declared.state.LoggedCommand.{LoggedCommand}
 use Rattle.roster.specs.declared.state.PairingEntry.{PairingEntry}
-use Rattle.state_rows.specs.Bases.{bases_of, base_of}
 use Rattle.state_rows.specs.Editions.{edition_number}
 use Rattle.state_rows.specs.declared.edition.Edition.{Edition}
 use Rattle.state_rows.specs.declared.edition.Edition.TheVariants.{First, Second}
@@ -44,14 +44,14 @@ pub record At {V : Type 0} (m : fin.FinMap name_cmp V) : Type 0 where
 
 -- ---- The book, its members and its pairings
 
--- the row of `book`: the version of the tables, and the text of a zone
+-- the row of `book`: the version of the tables, and the zone of HOME, by its rule text
 abbrev pub row_of_book : Edition → List ℕ → Row
 row_of_book edition zone =
     book_row (record { one = pos 1; version = pos (edition_number edition); zone = zone })
 
 -- the one row of `book`, in tables of this version
 abbrev pub InBookOf : Edition → State → Row → Type 0
-InBookOf edition s row = row ≡ row_of_book edition s.zone
+InBookOf edition s row = row ≡ row_of_book edition (home_zone s.bases)
 
 -- the one row of `book`, in tables of version 2
 abbrev pub InBook : State → Row → Type 0
@@ -211,13 +211,13 @@ InRequest s row = (at : RequestAt s.requests) × (row ≡ row_of_request at.key 
 
 -- ---- Bases
 
--- the row of a base in `base`: the id, and the text of the zone
+-- the row of a base in `base`: the id, and the zone, by its rule text
 abbrev pub row_of_base : List ℕ → List ℕ → Row
 row_of_base id zone = base_row (record { id = id; zone = zone })
 
 -- the rows of `base`, one for each base of the state
 abbrev pub InBase : State → Row → Type 0
-InBase s row = (at : At (bases_of s)) × (row ≡ row_of_base at.name at.value)
+InBase s row = (at : At s.bases) × (row ≡ row_of_base at.name at.value)
 
 -- the row of a member in `crew_base`: the member's id, and the id of the member's base
 abbrev pub row_of_post : List ℕ → List ℕ → Row
@@ -225,7 +225,7 @@ row_of_post crew base = crew_base_row (record { crew = crew; base = base })
 
 -- the rows of `crew_base`, one for each member of the state
 abbrev pub InCrewBase : State → Row → Type 0
-InCrewBase s row = (at : At s.crew) × (row ≡ row_of_post at.name (base_of s at.name))
+InCrewBase s row = (at : At s.crew) × (row ≡ row_of_post at.name at.value.base)
 
 -- ---- The thirteen tables
 

@@ -1,16 +1,14 @@
 -- Tables that are read one after the other, and a book of version 1 that is brought to version 2.
-use Rattle.std.proofs.Common.{◌≡◌, ◌⊎◌, inl, inr, refl, sym, subst, ◌∙◌, false, true, arith, IsTrue, Result, Ok, Err, IfOk, IsErr}
-use Rattle.std.proofs.lemmas.Bool.{cases_Bool}
+use Rattle.std.proofs.Common.{◌≡◌, ◌⊎◌, inl, inr, refl, sym, subst, ◌∙◌, false, arith, IsTrue, Result, Ok, Err, IfOk}
 use Rattle.sqlite_disk.specs.Disk.{MoreFaults}
 use Rattle.sqlite_trees.specs.declared.store.Store.{Ghosts}
 use Rattle.sqlite_trees.specs.Tree.{Trees}
 use Rattle.sqlite.specs.Effect.{Database}
 use Rattle.sqlite.specs.Held.{Held, state}
 use Rattle.sqlite.specs.State.{State, HasCleanDisk, IsLive, IsUnchanged}
-use Rattle.sqlite.proofs.StateLemmas.{survives_then}
 use Rattle.roster.specs.State as roster
 use Rattle.tables.specs.Calls.{CrashLeavesNoMore}
-use Rattle.loading.specs.Loading.{HasReadCause, IsCaused, IsOfEdition, Justifies}
+use Rattle.loading.specs.Loading.{IsCaused, IsOfEdition, Justifies}
 use Rattle.tables.specs.Schema.{later_tables}
 use Rattle.writing.specs.Commits.{IsMigrated}
 use Rattle.writing.specs.Kept.{HoldBookOf, IsBookOf, IsFirstBookOf, KeepBeside}
@@ -75,12 +73,11 @@ module _ {S : Type 0} (g : Ghosts S) (old : State) (new : Held S) (r : roster.St
   loaded_found clean =
       let it = told clean in
       let right = it.1.through.right in
-      let first = right.0.0.0.0 in
       record {
         book = subst (λ db. IsFirstBookOf r db ⊎ IsBookOf r db) it.0.0.now_is (its_book edition refl clean);
         right = right;
-        sound = right_sound r old.now first;
-        instants = right_instants r old.now first;
+        sound = right_sound r old.now right;
+        instants = right_instants r old.now right;
       }
 
   pub loaded_over : edition ≡ Second → IsOverBook (state g new)
@@ -96,44 +93,6 @@ pub on_read : {A : Type 0} (Is P : A → Type 0) (Refuses : LoadFault → Type 0
     ((a : A) → (HasCleanDisk new → IsUnchanged old new × Is a) → P a) → IfOk result P
 on_read Is P Refuses old new (Ok a) it so = so a it.told
 on_read Is P Refuses old new (Err fault) it so = tt
-
--- ---- A read that is refused, and taken back
-
-module _ (old mid new : State) (left : CrashLeavesNoMore old mid) (back : CrashLeavesNoMore mid new) where
-  cause_on : HasReadCause old mid → HasReadCause old new
-  cause_on (inl more) = let later = back.counts in inl (omega (arith, more, later))
-  cause_on (inr other) = inr other
-
-  back_cause : HasCleanDisk new → MoreFaults mid.faults new.faults ⊎ (mid.is_open ≡ false) → HasReadCause old new
-  back_cause clean (inl more) = let before = left.counts in inl (omega (arith, more, before))
-  back_cause clean (inr shut) = elim (cases_Bool old.is_open) [
-    | inl opened ↦ elim (left.closes (clean_before mid new back clean) opened) [
-      | inl still ↦ absurd (let no : true ≡ false = sym still ∙ shut in cc)
-      | inr more ↦ let later = back.counts in inl (omega (arith, more, later))
-    ]
-    | inr was ↦ inr (inl was)
-  ]
-
-  both : CrashLeavesNoMore old new
-  both = survives_then old mid new _ _ _ (λ _ _ none. none) (λ _ _ none. none) left back
-
-  -- it is refused as it was
-  pub refused_still : {A : Type 0} (Is : A → Type 0) (Refuses : LoadFault → Type 0) (result : Result A LoadFault) → IsErr result → ReadsAs Is Refuses old mid result → ReadsAs Is Refuses old new result
-  refused_still Is Refuses (Ok a) err read = absurd (cc)
-  refused_still Is Refuses (Err fault) err read = record {
-    told = λ clean. read.told (clean_before mid new back clean);
-    caused = λ clean is. cause_on (read.caused (clean_before mid new back clean) is);
-    left = both;
-  }
-
-  -- what can't be taken back is refused by the store
-  pub refused_back : {A : Type 0} (Is : A → Type 0) (Refuses : LoadFault → Type 0) (fault : StoreFault) → Refuses (Fault fault) →
-      (HasCleanDisk new → MoreFaults mid.faults new.faults ⊎ (mid.is_open ≡ false)) → ReadsAs Is Refuses old new (Err (Fault fault))
-  refused_back Is Refuses fault refuses cause = record {
-    told = λ clean. refuses;
-    caused = λ clean is. back_cause clean (cause clean);
-    left = both;
-  }
 
 -- ---- A book that is left as it was
 

@@ -1,5 +1,5 @@
 -- What was read whole, as the tables of a book of version 1 or 2.
-use Rattle.std.proofs.Common.{◌≡◌, inl, inr, refl, false, true}
+use Rattle.std.proofs.Common.{◌≡◌, inl, inr, false, true}
 use Rattle.sqlite.specs.Effect.{Database, IsDatabase}
 use Rattle.roster.specs.State.{State}
 use Rattle.tables.specs.Rows.{IsStored}
@@ -168,5 +168,5 @@ module _ (s : State) (db : Database) (database : IsDatabase db) (read : AgreesTh
       | outside ↦ λ bad. absurd (cc)
       | outside_segment ↦ λ bad. absurd (cc)
     ];
-    first = record { bases = refl; posts = λ who m here. refl };
+    first = right.3 first;
   }

@@ -4,15 +4,14 @@ use crate::store::Store;
 use command::{Key, Member};
 use duty::{CrewId, Ground, GroundId, PairingId};
 use lookup::{
-    exceedances_at, ground_at, grounds_held_at, member_at, pairing_at, pairings_held_at,
-    request_at, zone_at,
+    bases_at, exceedances_at, ground_at, grounds_held_at, member_at, pairing_at, pairings_held_at,
+    request_at,
 };
 use part::Source;
-use roster::{ExceedanceId, LoggedCommand, PairingEntry, PeriodId};
+use roster::{Bases, ExceedanceId, LoggedCommand, PairingEntry, PeriodId};
 use sqlite::Alter;
 use state_rows::StoreFault;
 use std::alloc::Global;
-use time117::Zone;
 use values::OrdMap;
 
 impl<S: Alter> Source for Store<S> {
@@ -54,8 +53,8 @@ impl<S: Alter> Source for Store<S> {
 
     ghost still_there = { λ a b serves there clean. serves.1 clean (there (serves.0 clean)) };
 
-    fn zone(&mut self, alloc: Global) -> Result<Zone, StoreFault> {
-        zone_at(alloc, &mut self.conn)
+    fn bases(&mut self, alloc: Global) -> Result<Bases, StoreFault> {
+        bases_at(alloc, &mut self.conn)
     }
 
     fn request(&mut self, alloc: Global, key: Key) -> Result<Option<LoggedCommand>, StoreFault> {

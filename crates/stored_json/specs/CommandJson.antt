@@ -2,20 +2,22 @@
 -- in the order in which they stand here. The first that is missing or isn't read is refused by its
 -- name, and after them what the whole is refused for.
 use Rattle.std.specs.Prelude.{ℕ, List, Option, Some, None, is_some, ok_or, option_and_then, Result, Ok, Err, if◌then◌else◌}
+use Rattle.std.specs.Option.{option_map_or}
 use Rattle.serde_json.specs.Data.{Data}
-use Rattle.serde_json.specs.Find.{as_str, as_object}
+use Rattle.serde_json.specs.Find.{get, as_str, as_object}
 use Rattle.serde_json.specs.Read.{read}
 use Rattle.duty.specs.Plans.{plan}
+use Rattle.duty.specs.Shape.{home}
 use Rattle.duty.specs.declared.fault.DutyFault.{DutyFault}
 use Rattle.command.specs.Instructions.{instruction_fault}
 use Rattle.command.specs.declared.instruction.Instruction.{Instruction}
 use Rattle.command.specs.declared.instruction.Instruction.TheVariants as instruction
 use Rattle.stored_json.specs.Fields.{field_name}
-use Rattle.stored_json.specs.Parts.{read_named_part, read_list, read_time, read_times, read_seat, read_verb, read_period, read_period_number}
+use Rattle.stored_json.specs.Parts.{read_named_part, read_list, read_time, read_times, read_seat, read_verb, read_zone, read_period, read_period_number}
 use Rattle.stored_json.specs.declared.fault.CodecFault.{CodecFault}
 use Rattle.stored_json.specs.declared.fault.CodecFault.TheVariants.{BadJson, Duty}
 use Rattle.stored_json.specs.declared.field.JsonField.{JsonField}
-use Rattle.stored_json.specs.declared.field.JsonField.TheVariants.{Body, Do, Crew, Seat, Name, Pairing, Periods, OtherPairing, OtherCrew, Ground, Begin, End, Task, Period, Report, Release, Segments}
+use Rattle.stored_json.specs.declared.field.JsonField.TheVariants.{Body, Do, Crew, Seat, Name, Pairing, Periods, OtherPairing, OtherCrew, Ground, Begin, End, Task, Period, Report, Release, Segments, Base, Zone}
 use Rattle.stored_json.specs.declared.verb.Verb.{Verb}
 use Rattle.stored_json.specs.declared.verb.Verb.TheVariants as verb
 
@@ -29,13 +31,23 @@ and_then (Err fault) next = Err fault
 abbrev pub field_of : {A : Type 0} → (Data → Option A) → JsonField → Data → Result A CodecFault
 field_of reads field d = ok_or (read_named_part reads (field_name field) d) (BadJson field)
 
+-- a field of a command that may be missing, and is then this
+abbrev pub field_or : {A : Type 0} → A → (Data → Option A) → JsonField → Data → Result A CodecFault
+field_or missing reads field d =
+    option_map_or (λ value. ok_or (reads value) (BadJson field)) (get (field_name field) d)
+    (Ok missing)
+
 -- the instruction of this verb, by the members after `do`
 abbrev pub read_members : Verb → Data → Result Instruction CodecFault
+read_members verb.AddBase d =
+    and_then (field_of as_str Base d) (λ base.
+    and_then (field_of read_zone Zone d) (λ zone. Ok (instruction.AddBase base zone)))
 read_members verb.AddCrew d =
     and_then (field_of as_str Crew d) (λ crew.
     and_then (field_of read_seat Seat d) (λ seat.
     and_then (field_of as_str Name d) (λ name.
-    Ok (instruction.AddCrew crew (record { seat = seat; name = name })))))
+    and_then (field_or home as_str Base d) (λ base.
+    Ok (instruction.AddCrew crew (record { seat = seat; name = name; base = base }))))))
 read_members verb.AddPairing d =
     and_then (field_of as_str Pairing d) (λ pairing.
     and_then (field_of (read_list read_period) Periods d) (λ periods.

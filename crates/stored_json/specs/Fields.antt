@@ -2,7 +2,7 @@
 use Rattle.std.specs.Prelude.{ℕ, List, [], ◌∷◌, Option, codes, find}
 use Rattle.std.specs.Str.{bytes_eq}
 use Rattle.stored_json.specs.declared.field.JsonField.{JsonField}
-use Rattle.stored_json.specs.declared.field.JsonField.TheVariants.{Body, Number, Do, Crew, Seat, Name, Pairing, Periods, OtherPairing, OtherCrew, Ground, Begin, End, Task, Period, Report, Release, Segments}
+use Rattle.stored_json.specs.declared.field.JsonField.TheVariants.{Body, Number, Do, Crew, Seat, Name, Pairing, Periods, OtherPairing, OtherCrew, Ground, Begin, End, Task, Period, Report, Release, Segments, Base, Zone}
 use Rattle.stored_json.specs.declared.verb.Verb.{Verb}
 use Rattle.stored_json.specs.declared.verb.Verb.TheVariants as verb
 
@@ -26,9 +26,12 @@ field_name Period = codes "period"
 field_name Report = codes "report"
 field_name Release = codes "release"
 field_name Segments = codes "segments"
+field_name Base = codes "base"
+field_name Zone = codes "zone"
 
 -- the word of a verb
 abbrev pub verb_text : Verb → List ℕ
+verb_text verb.AddBase = codes "add-base"
 verb_text verb.AddCrew = codes "add-crew"
 verb_text verb.AddPairing = codes "add-pairing"
 verb_text verb.CancelPairing = codes "cancel-pairing"
@@ -39,11 +42,11 @@ verb_text verb.AddGround = codes "add-ground"
 verb_text verb.CancelGround = codes "cancel-ground"
 verb_text verb.Actual = codes "actual"
 
--- the nine verbs
+-- the ten verbs
 abbrev pub all_verbs : List Verb
 all_verbs =
-    verb.AddCrew ∷ verb.AddPairing ∷ verb.CancelPairing ∷ verb.Assign ∷ verb.Release ∷ verb.Swap
-    ∷ verb.AddGround ∷ verb.CancelGround ∷ verb.Actual ∷ []
+    verb.AddBase ∷ verb.AddCrew ∷ verb.AddPairing ∷ verb.CancelPairing ∷ verb.Assign ∷ verb.Release
+    ∷ verb.Swap ∷ verb.AddGround ∷ verb.CancelGround ∷ verb.Actual ∷ []
 
 -- the one of these values whose word the text is, if there is one
 abbrev pub worded : {A : Type 0} → (A → List ℕ) → List A → List ℕ → Option A

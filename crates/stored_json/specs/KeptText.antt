@@ -1,14 +1,16 @@
 -- The kept text of a command: the compact JSON text of its members, those of each object in byte
 -- order of their names.
-use Rattle.std.specs.Prelude.{ℕ, List, [], ◌∷◌, map, codes}
+use Rattle.std.specs.Prelude.{ℕ, List, [], ◌∷◌, ◌++◌, map, codes, if◌then◌else◌}
+use Rattle.std.specs.Str.{bytes_eq}
 use Rattle.serde_json.specs.Data.{Data, number, unsigned, string}
 use Rattle.serde_json.specs.Written.{compact_text}
+use Rattle.duty.specs.Shape.{home}
 use Rattle.duty.specs.declared.fdp.Fdp.{Fdp}
 use Rattle.duty.specs.declared.segment.BlockTimes.{BlockTimes}
 use Rattle.duty.specs.declared.segment.Segment.{Segment}
 use Rattle.command.specs.Texts.{seat_text}
 use Rattle.command.specs.declared.instruction.Instruction.{Instruction}
-use Rattle.command.specs.declared.instruction.Instruction.TheVariants.{AddCrew, AddPairing, CancelPairing, Assign, Release, Swap, AddGround, CancelGround, Actual}
+use Rattle.command.specs.declared.instruction.Instruction.TheVariants.{AddBase, AddCrew, AddPairing, CancelPairing, Assign, Release, Swap, AddGround, CancelGround, Actual}
 use Rattle.stored_json.specs.Values.{object_of, array_of, instant_json}
 
 -- the object of a segment as it is planned
@@ -28,10 +30,18 @@ period_json f =
     object_of ((codes "release", instant_json f.release) ∷ (codes "report", instant_json f.report)
     ∷ (codes "segments", array_of (map segment_json f.segments)) ∷ [])
 
+-- the member `base`, which is left out where it is HOME
+abbrev pub base_member : List ℕ → List (List ℕ × Data)
+base_member base = if bytes_eq base home then [] else (codes "base", string base) ∷ []
+
 -- the object of an instruction: what it asks under `do`, and the members of its kind
 abbrev pub instruction_json : Instruction → Data
+instruction_json (AddBase id zone) =
+    object_of ((codes "base", string id) ∷ (codes "do", string (codes "add-base"))
+    ∷ (codes "zone", string zone) ∷ [])
 instruction_json (AddCrew id m) =
-    object_of ((codes "crew", string id) ∷ (codes "do", string (codes "add-crew"))
+    object_of (base_member m.base ++ (codes "crew", string id)
+    ∷ (codes "do", string (codes "add-crew"))
     ∷ (codes "name", string m.name) ∷ (codes "seat", string (seat_text m.seat)) ∷ [])
 instruction_json (AddPairing p) =
     object_of ((codes "do", string (codes "add-pairing")) ∷ (codes "pairing", string p.id)

@@ -6,6 +6,7 @@ use Rattle.std.specs.Result.{result_ok}
 use Rattle.serde_json.specs.Data.{Data, Items, no_items, item}
 use Rattle.serde_json.specs.Find.{get, as_str, as_number, as_u64, as_array}
 use Rattle.time117.specs.Instant.{read_instant}
+use Rattle.time117.specs.Local.{is_zone_text}
 use Rattle.duty.specs.Shape.{is_within}
 use Rattle.duty.specs.declared.fdp.Fdp.{Fdp}
 use Rattle.duty.specs.declared.segment.BlockTimes.{BlockTimes}
@@ -38,6 +39,10 @@ read_list reads d = option_and_then (read_each reads) (as_array d)
 -- an instant, in either of its written forms
 abbrev pub read_time : Data → Option ℕ
 read_time d = option_and_then (λ text. result_ok (read_instant text)) (as_str d)
+
+-- a zone, by its rule text
+abbrev pub read_zone : Data → Option (List ℕ)
+read_zone d = option_and_then (λ text. if is_zone_text text then Some text else None) (as_str d)
 
 -- the number of a period, from 1 to 10
 abbrev pub read_period_number : Data → Option ℕ

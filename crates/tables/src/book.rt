@@ -24,9 +24,9 @@ use values::{MemoryFault, Text, TryClone};
 pub struct BookRecord {
     /// Always 1.
     pub one: i64,
-    /// The version of the tables: 1.
+    /// The version of the tables: 1 or 2.
     pub version: i64,
-    /// The rule text of the zone of acclimated time.
+    /// The rule text of the zone of the base `HOME`.
     pub zone: Text,
 }
 

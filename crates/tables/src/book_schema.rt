@@ -1,7 +1,7 @@
 //! Whether a database has the tables of a book, as their texts declare them.
 //! Files that lack a table, or have another: `tests/tables.py`. Wrong bodies: `must-fail-more/`.
 
-ghost use Rattle.std.specs.Prelude.{◌≡◌, ◌↔◌, IfErr, IfOk, IsTrue, IsSome, bytes_eq, not};
+ghost use Rattle.std.specs.Prelude.{◌≡◌, ◌↔◌, IfErr, IfOk, IsTrue, IsSome, None, bytes_eq, not};
 ghost use Rattle.std.specs.List.{list_all, list_any};
 ghost use Rattle.sqlite.specs.Held.{state};
 ghost use Rattle.sqlite_schema.specs.Names.{same_name};
@@ -66,6 +66,14 @@ pub fn is_unreferenced<S: Alter>(conn: &Connection<S>, name: &str) -> bool
     ensures { IsTrue result ↔ NoneRefersTo name.now (state S.Store conn.now).now.schema }
 {
     is_not_parent(conn.schema().tables.as_slice(), name.as_bytes())
+}
+
+/// Returns whether no table has this name, and no foreign key refers to one of this name.
+pub fn is_name_free<S: Alter>(conn: &Connection<S>, name: &str) -> bool
+    ensures { IsTrue result ↔ (table_found (state S.Store conn.now).now.schema name.now ≡ None)
+        × NoneRefersTo name.now (state S.Store conn.now).now.schema }
+{
+    !has_table(conn, name) && is_unreferenced(conn, name)
 }
 
 fn is_key(keys: &[Items<usize>], columns: &[usize]) -> bool

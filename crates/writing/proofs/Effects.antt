@@ -7,7 +7,7 @@ use Rattle.sqlite.specs.Effect.{Database}
 use Rattle.command.specs.Keys.{KeyParts, key_name}
 use Rattle.command.specs.Instructions.{IsMade}
 use Rattle.command.specs.declared.instruction.Instruction.{Instruction}
-use Rattle.command.specs.declared.instruction.Instruction.TheVariants.{AddCrew, AddPairing, CancelPairing, Assign, Release, Swap, AddGround, CancelGround, Actual}
+use Rattle.command.specs.declared.instruction.Instruction.TheVariants.{AddBase, AddCrew, AddPairing, CancelPairing, Assign, Release, Swap, AddGround, CancelGround, Actual}
 use Rattle.roster.proofs.Accepted.{Passed, accepted}
 use Rattle.roster.proofs.Records.{names_same}
 use Rattle.roster.proofs.Sound.Flown.{found, get_within}
@@ -28,7 +28,7 @@ use Rattle.writing.proofs.EffectActual.{actual_flown}
 use Rattle.writing.proofs.EffectPairing.{plan_added, pairing_removed}
 use Rattle.writing.proofs.EffectPlans.{Pairings}
 use Rattle.writing.proofs.EffectSeats.{AreThere, all_reseated}
-use Rattle.writing.proofs.EffectSimple.{member_added, ground_duty_added, ground_removed, request_added}
+use Rattle.writing.proofs.EffectSimple.{base_added, member_added, ground_duty_added, ground_removed, request_added}
 
 absent : {X : Type 0} (o : Option X) → is_some o ≡ false → o ≡ None
 absent None e = refl
@@ -66,6 +66,7 @@ module _ (s : State) (key : KeyParts) (free : fin.get s.requests (key_name key) 
   effect_rows : (instruction : Instruction) → IsMade instruction → Passed (refusals s instruction) → (old mid : Database) → IsFit old → Rows s old →
       WritesInstruction (change_of s key instruction) instruction old mid → Rows (effect s (change_of s key instruction) instruction) mid
   unfolding refusals
+  effect_rows (AddBase id zone) made passed old mid fit rows is = base_added s id zone old mid (absent _ passed.0) sound.has_home fit rows is
   effect_rows (AddCrew who m) made passed old mid fit rows is = member_added s who m old mid (absent _ passed.0) fit rows is
   effect_rows (AddPairing plan) made passed old mid fit rows is = plan_added s plan (absent _ passed.0) old mid fit rows is
   effect_rows (CancelPairing id) made passed old mid fit rows is =
@@ -98,6 +99,7 @@ module _ (s : State) (key : KeyParts) (free : fin.get s.requests (key_name key) 
 
 -- it leaves the requests
 requests_stay : (s : State) (change : Change) (instruction : Instruction) → (effect s change instruction).requests ≡ s.requests
+requests_stay s change (AddBase id zone) = refl
 requests_stay s change (AddCrew who m) = refl
 requests_stay s change (AddPairing plan) = refl
 requests_stay s change (CancelPairing id) = refl

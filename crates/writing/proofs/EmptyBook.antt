@@ -1,16 +1,18 @@
--- The tables that `create` makes are those of a book with nothing but its zone.
-use Rattle.std.proofs.Common.{◌≡◌, ◌⊎◌, ◌↔◌, inl, inr, sym, subst, ◌∙◌, ℕ, List, [], Some, None, Result, Ok, Err, IsOk, arith}
+-- The tables that `create` makes are those of a book with nothing but HOME.
+use Rattle.std.proofs.Common.{◌≡◌, ◌⊎◌, ◌↔◌, inl, inr, sym, ap, subst, ◌∙◌, ℕ, List, [], Option, Some, None, Result, Ok, Err, IsOk, arith}
 use Rattle.std.specs.FinMap as fin
+use Rattle.std.specs.Option.{unwrap_or}
 use Rattle.values.specs.Name.{name_cmp}
 use Rattle.sqlite_value.specs.Order.{Row}
 use Rattle.sqlite_rules.specs.Lists.{Has}
 use Rattle.sqlite.specs.Effect.{Database, IsDatabase}
 use Rattle.sqlite.specs.State.{State, HasCleanDisk, IsLive}
+use Rattle.duty.specs.Shape.{home}
 use Rattle.roster.proofs.Accepted.{insert_here, inserted}
+use Rattle.roster.specs.Bases.{home_zone, only_home}
 use Rattle.roster.specs.State.{empty}
 use Rattle.tables.specs.Schema.{base_table, book_table, book_tables}
 use Rattle.tables.specs.Rows.{Inserts}
-use Rattle.state_rows.specs.Bases.{home}
 use Rattle.state_rows.specs.declared.edition.Edition.TheVariants.{Second}
 use Rattle.state_rows.specs.Rows.{At, TableName, book, crew, pairing, period, segment, seat, ground_duty, exceedance, request, base, crew_base, outside, outside_segment, InTable, Rows, row_of_base, row_of_book}
 use Rattle.writing.specs.Calls.{Changed, IsFit, Then}
@@ -29,7 +31,7 @@ nothing : {X : Type 0} (q : List ℕ) (x : X) → fin.get (fin.empty {X = X} {R 
 nothing {X} q x e = let no : None ≡ Some x = sym (fin.get-empty {X = X} name_cmp q) ∙ e in cc
 
 -- where it is the only one
-pub home_row : (zone : List ℕ) (row : Row) → ((row ≡ row_of_base home zone) ⊎ ⊥) ↔ OfBases (fin.insert fin.empty home zone) row
+pub home_row : (zone : List ℕ) (row : Row) → ((row ≡ row_of_base home zone) ⊎ ⊥) ↔ OfBases (only_home zone) row
 home_row zone row = (
   λ h. elim h [ inl is ↦ (record { name = home; value = zone; there = insert_here fin.empty home zone }, is) | inr none ↦ absurd none ],
   λ h. elim (inserted fin.empty home zone h.0.name h.0.value h.0.there) [
@@ -37,6 +39,9 @@ home_row zone row = (
     | inr was ↦ absurd (nothing _ _ was.1)
   ],
 )
+
+pub only_zone : (zone : List ℕ) → home_zone (only_home zone) ≡ zone
+only_zone zone = ap (λ (at : Option (List ℕ)). unwrap_or at []) (insert_here fin.empty home zone)
 
 -- ---- Tables that were just made
 
@@ -54,7 +59,10 @@ module _ (mid : Database) (made : HasEmpty book_tables mid) where
 -- no table but `book` and `base` has a row of the empty book
 empty_words : (zone : List ℕ) (name : TableName) (row : Row) →
     sets.put base (λ x. (x ≡ row_of_base home zone) ⊎ ⊥) (sets.put book (λ x. (x ≡ row_of_book Second zone) ⊎ ⊥) NoRows) name row ↔ InTable (empty zone) name row
-empty_words zone book row = (λ h. elim h [ inl is ↦ is | inr none ↦ absurd none ], λ is. inl is)
+empty_words zone book row = (
+  λ h. elim h [ inl is ↦ is ∙ ap (row_of_book Second) (sym (only_zone zone)) | inr none ↦ absurd none ],
+  λ is. inl (is ∙ ap (row_of_book Second) (only_zone zone)),
+)
 empty_words zone base row = home_row zone row
 empty_words zone crew row = (λ none. absurd none, λ is. nothing _ _ is.0.there)
 empty_words zone pairing row = (λ none. absurd none, λ is. nothing _ _ is.0.there)

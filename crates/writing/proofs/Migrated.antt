@@ -9,15 +9,17 @@ use Rattle.sqlite_value.specs.Order.{Row}
 use Rattle.sqlite_rules.specs.Lists.{Has}
 use Rattle.sqlite.specs.Effect.{Database}
 use Rattle.sqlite.specs.State.{State, HasCleanDisk, IsLive}
+use Rattle.duty.specs.Shape.{home}
 use Rattle.command.specs.declared.member.Member.{Member}
 use Rattle.roster.proofs.Members.{from_rows, in_rows}
+use Rattle.roster.specs.Bases.{home_zone}
 use Rattle.roster.specs.State as roster
 use Rattle.tables.specs.Records.{with_version}
 use Rattle.tables.specs.Rows.{AreNumbered, Changes, begins_with, cells, rows_of, stored, IsStored}
 use Rattle.tables.specs.Schema.{IsOfBook, IsTable, IsUnreferenced, later_tables}
 use Rattle.tables.specs.declared.book.BookRecord.{BookRecord}
 use Rattle.tables.proofs.BookTexts.{with_version_is}
-use Rattle.state_rows.specs.Bases.{IsFirst, home}
+use Rattle.state_rows.specs.First.{IsFirst}
 use Rattle.state_rows.specs.Rows.{TableName, book, base, crew_base, outside, outside_segment, is_later, table, InCrewBase, InFirst, InTable, HasJust, Rows, row_of_base, row_of_book, row_of_post}
 use Rattle.state_rows.specs.declared.edition.Edition.TheVariants.{First, Second}
 use Rattle.state_rows.specs.declared.fault.StoreFault.{StoreFault}
@@ -81,25 +83,24 @@ module _ (s : roster.State) (old mid : Database) (was : IsFirstBookOf s old) (ma
 -- ---- A row for each member
 
 abbrev Post : ℕ → List ℕ × Member → Row → Type 0
-Post place member row = row ≡ row_of_post member.0 home
+Post place member row = row ≡ row_of_post member.0 member.1.base
 
 contained : {X : Type 0} (xs : List X) (n : ℕ) (x : X) → slice_get xs n ≡ Some x → Contains xs x
 contained xs n x at = (n, slice_get_within xs n x at, get_or_from_slice_get xs n x x at)
 
-posts_are : (s : roster.State) → IsFirst s → (row : Row) → (SomeOf Post 0 (fin.entries s.crew) row ⊎ ⊥) ↔ InCrewBase s row
-posts_are s all_home row = (
+posts_are : (s : roster.State) (row : Row) → (SomeOf Post 0 (fin.entries s.crew) row ⊎ ⊥) ↔ InCrewBase s row
+posts_are s row = (
   λ h. elim h [
     | inl some ↦
         let it = placed Post 0 (fin.entries s.crew) row some in
         let there = from_rows s.crew it.value.0 it.value.1 (contained (fin.entries s.crew) it.place it.value it.there) in
-        (record { name = it.value.0; value = it.value.1; there = there }, it.is ∙ ap (row_of_post it.value.0) (sym (all_home.posts it.value.0 it.value.1 there)))
+        (record { name = it.value.0; value = it.value.1; there = there }, it.is)
     | inr none ↦ absurd none
   ],
   λ h.
       let at = h.0 in
       let has = in_rows s.crew at.name at.value at.there in
-      inl (some_of Post 0 (fin.entries s.crew) row has.0 (at.name, at.value) (slice_get-get_or (fin.entries s.crew) has.0 (at.name, at.value) has.1 ∙ ap Some has.2)
-      (h.1 ∙ ap (row_of_post at.name) (all_home.posts at.name at.value at.there))),
+      inl (some_of Post 0 (fin.entries s.crew) row has.0 (at.name, at.value) (slice_get-get_or (fin.entries s.crew) has.0 (at.name, at.value) has.1 ∙ ap Some has.2) h.1),
 )
 
 -- ---- The version
@@ -130,7 +131,7 @@ version_set zone row = (
 
 module _ (s : roster.State) (all_home : IsFirst s) (old mid new : Database) (was : IsFirstBookOf s old) (makes : MakesTables later_tables old mid) (is : Fills s mid new) where
   abbrev Based : sets.Sets
-  Based = sets.put base (λ x. (x ≡ row_of_base home s.zone) ⊎ ⊥) (FirstSets s)
+  Based = sets.put base (λ x. (x ≡ row_of_base home (home_zone s.bases)) ⊎ ⊥) (FirstSets s)
 
   abbrev Posted : sets.Sets
   Posted = sets.put crew_base (λ x. SomeOf Post 0 (fin.entries s.crew) x ⊎ ⊥) Based
@@ -142,10 +143,10 @@ module _ (s : roster.State) (all_home : IsFirst s) (old mid new : Database) (was
   fit = made_fit s old mid was makes
 
   based_fit : IsFit is.0
-  based_fit = inserts_keep base (row_of_base home s.zone) mid is.0 fit is.1
+  based_fit = inserts_keep base (row_of_base home (home_zone s.bases)) mid is.0 fit is.1
 
   posts : Changes (table crew_base) is.0 is.2.0 (λ x. SomeOf Post 0 (fin.entries s.crew) x ⊎ Has (rows_of (table crew_base) is.0) x)
-  posts = each_grows crew_base (λ _ member. AddsPost member.0) Post (λ place member a b _ adds. adds) 0 (fin.entries s.crew) is.0 is.2.0 based_fit is.2.1
+  posts = each_grows crew_base (λ _ member. AddsPost member.0 member.1.base) Post (λ place member a b _ adds. adds) 0 (fin.entries s.crew) is.0 is.2.0 based_fit is.2.1
 
   posted_fit : IsFit is.2.0
   posted_fit = fit_after is.0 is.2.0 based_fit crew_base _ posts
@@ -154,7 +155,7 @@ module _ (s : roster.State) (all_home : IsFirst s) (old mid new : Database) (was
   lifted_fit = updates_keep book of_one (with_version (pos 2)) is.2.0 new posted_fit is.2.2
 
   based : sets.Shows Based is.0
-  based = sets.inserted base mid is.0 fit (FirstSets s) (first_shown s old mid was makes) (row_of_base home s.zone) is.1
+  based = sets.inserted base mid is.0 fit (FirstSets s) (first_shown s old mid was makes) (row_of_base home (home_zone s.bases)) is.1
 
   posted : sets.Shows Posted is.2.0
   posted = sets.changed crew_base is.0 is.2.0 based_fit Based based _ _ posts (λ x. (
@@ -166,9 +167,9 @@ module _ (s : roster.State) (all_home : IsFirst s) (old mid new : Database) (was
   versions = sets.updated book is.2.0 new posted_fit Posted posted of_one (with_version (pos 2)) is.2.2
 
   words : (name : TableName) (row : Row) → Versioned name row ↔ InTable s name row
-  words book row = version_set s.zone row
-  words base row = subst (λ bases. ((row ≡ row_of_base home s.zone) ⊎ ⊥) ↔ OfBases bases row) (sym all_home.bases) (home_row s.zone row)
-  words crew_base row = posts_are s all_home row
+  words book row = version_set (home_zone s.bases) row
+  words base row = subst (λ bases. ((row ≡ row_of_base home (home_zone s.bases)) ⊎ ⊥) ↔ OfBases bases row) (sym all_home.bases) (home_row (home_zone s.bases) row)
+  words crew_base row = posts_are s row
   words name row = (λ h. h, λ h. h)
 
   pub lifted_rows : Rows s new
@@ -202,14 +203,14 @@ pub record PostsAdded (m : fin.FinMap name_cmp Member) (old now : State) (left :
   pub wrote : Wrote {A = Unit {0}} {E = StoreFault} (AddsPosts done) old now (Ok tt)
 
 pub none_posted : (m : fin.FinMap name_cmp Member) (s : State) (members : List (List ℕ × Member)) → IsReady s → named_rows (λ id. id) members ≡ fin.entries m → PostsAdded m s s members
-none_posted m s members ready all = record { done = []; all = all; wrote = each_start {E = StoreFault} (λ _ (member : List ℕ × Member). AddsPost member.0) [] s tt ready }
+none_posted m s members ready all = record { done = []; all = all; wrote = each_start {E = StoreFault} (λ _ (member : List ℕ × Member). AddsPost member.0 member.1.base) [] s tt ready }
 
 appended : {X : Type 0} (a : List X) (x : X) (b : List X) → (a ++ x ∷ []) ++ b ≡ a ++ x ∷ b
 appended [] x b = refl
 appended (y ∷ a) x b = ap (λ t. y ∷ t) (appended a x b)
 
 pub post_added : {E : Type 0} (m : fin.FinMap name_cmp Member) (old mid new : State) (member : List ℕ × Member) (left : List (List ℕ × Member)) →
-    PostsAdded m old mid (member ∷ left) → Wrote {A = Unit {0}} {E = E} (AddsPost member.0) mid new (Ok tt) → PostsAdded m old new left
+    PostsAdded m old mid (member ∷ left) → Wrote {A = Unit {0}} {E = E} (AddsPost member.0 member.1.base) mid new (Ok tt) → PostsAdded m old new left
 post_added {E = E} m old mid new member left before more =
     let both = then_write old mid new tt (Ok tt) before.wrote more in
     record {
@@ -219,7 +220,7 @@ post_added {E = E} m old mid new member left before more =
         changed = record {
           done = λ clean.
               let it = both.changed.done clean in
-              (each_end (λ (who : List ℕ × Member). AddsPost who.0) 0 before.done member old.now it.0.0 new.now it.0.1 it.0.2, it.1);
+              (each_end (λ (who : List ℕ × Member). AddsPost who.0 who.1.base) 0 before.done member old.now it.0.0 new.now it.0.1 it.0.2, it.1);
           kept = both.changed.kept;
           left = both.changed.left;
         };

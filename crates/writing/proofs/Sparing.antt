@@ -13,13 +13,14 @@ use Rattle.sqlite.specs.Effect.{Database, IsDatabase}
 use Rattle.sqlite.specs.Held.{Held, state}
 use Rattle.sqlite.specs.State.{State, HasCleanDisk, IsLive, Survives}
 use Rattle.duty.specs.Plans.{Plan, ActualTimes}
+use Rattle.duty.specs.Shape.{home}
 use Rattle.roster.specs.declared.state.PeriodId.{PeriodId}
 use Rattle.command.specs.declared.instruction.Instruction.{Instruction}
 use Rattle.command.specs.declared.member.Member.{Member}
-use Rattle.command.specs.declared.instruction.Instruction.TheVariants.{AddCrew, AddPairing, CancelPairing, Assign, Release, Swap, AddGround, CancelGround, Actual}
+use Rattle.command.specs.declared.instruction.Instruction.TheVariants.{AddBase, AddCrew, AddPairing, CancelPairing, Assign, Release, Swap, AddGround, CancelGround, Actual}
+use Rattle.roster.specs.Bases.{home_zone}
 use Rattle.roster.specs.State as roster
 use Rattle.roster.specs.declared.change.Change.{Change}
-use Rattle.state_rows.specs.Bases.{home}
 use Rattle.roster.specs.declared.change.SeatChange.{SeatChange}
 use Rattle.tables.specs.Calls.{Begun, Committed}
 use Rattle.tables.specs.Records.{with_period_times, with_segment_times, with_version}
@@ -113,7 +114,8 @@ safe_flight change id a =
     (safe_each (λ _ e. Records change.key p e) (λ _ e. safe_insert exceedance (row_of_exceedance change.key e.crew e.section p)) 0 change.reply.exceedances))
 
 safe_instruction : (change : Change) (instruction : Instruction) → Safe (WritesInstruction change instruction)
-safe_instruction change (AddCrew id m) = safe_then (Inserts (table crew) (row_of_member id m)) (Inserts (table crew_base) (row_of_post id home)) (safe_insert crew (row_of_member id m)) (safe_insert crew_base (row_of_post id home))
+safe_instruction change (AddBase id zone) = safe_insert base (row_of_base id zone)
+safe_instruction change (AddCrew id m) = safe_then (Inserts (table crew) (row_of_member id m)) (Inserts (table crew_base) (row_of_post id m.base)) (safe_insert crew (row_of_member id m)) (safe_insert crew_base (row_of_post id m.base))
 safe_instruction change (AddPairing plan) = safe_plan plan
 safe_instruction change (CancelPairing id) =
     safe_then (Deletes (table segment) (begins_with (Text id ∷ []))) (Then (Deletes (table period) (begins_with (Text id ∷ []))) (Deletes (table pairing) (begins_with (Text id ∷ []))))
@@ -180,9 +182,9 @@ made_keeps row homes old begun last (Ok a) begins changed live clean is =
 
 safe_fills : (s : roster.State) → Safe (Fills s)
 safe_fills s =
-    safe_then (AddsHome s.zone) (Then (AddsPosts (fin.entries s.crew)) SetsVersion) (safe_insert base (row_of_base home s.zone))
+    safe_then (AddsHome (home_zone s.bases)) (Then (AddsPosts (fin.entries s.crew)) SetsVersion) (safe_insert base (row_of_base home (home_zone s.bases)))
     (safe_then (AddsPosts (fin.entries s.crew)) SetsVersion
-    (safe_each (λ _ (member : List ℕ × Member). AddsPost member.0) (λ _ member. safe_insert crew_base (row_of_post member.0 home)) 0 (fin.entries s.crew))
+    (safe_each (λ _ (member : List ℕ × Member). AddsPost member.0 member.1.base) (λ _ member. safe_insert crew_base (row_of_post member.0 member.1.base)) 0 (fin.entries s.crew))
     (safe_update book (begins_with (Int (pos 1) ∷ [])) (with_version (pos 2))))
 
 pub migrated_keeps : {A E : Type 0} (s : roster.State) (old begun last : State) (r : Result A E) → (HasCleanDisk begun → IsFirstBookOf s begun.now) → (HasCleanDisk begun → Begun old begun) →

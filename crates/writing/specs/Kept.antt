@@ -12,7 +12,7 @@ use Rattle.sqlite.specs.Effect.{Database, IsDatabase}
 use Rattle.roster.specs.State.{State}
 use Rattle.tables.specs.Schema.{BookTable, IsBook, IsNameFree, IsOfBook, IsTable, table_of}
 use Rattle.tables.specs.Rows.{IsStored, stored}
-use Rattle.state_rows.specs.Bases.{IsFirst}
+use Rattle.state_rows.specs.First.{IsFirst}
 use Rattle.state_rows.specs.Rows.{FirstRows, TableName, is_later, table, Rows}
 
 -- each row of each table is stored under a number of its own
@@ -95,8 +95,8 @@ pub record Adds (tables : List BookTable) (old new : Schema) : Type 0 where
   pub made : lacks_sequence old ≡ false → new ≡ made_in old tables
 
 -- The trees, by the schema that they list, have all tables, views and indexes of this database, and
--- beside them these tables, and nothing else is made. Each table that isn't of the book has the rows
--- that it has in the database.
+-- beside them these tables, and nothing else is made. Each table that isn't of the book has the
+-- rows that it has in the database.
 pub record KeepBeside (tables : List BookTable) (db : Database) (trees : Trees) : Type 0 where
   pub schema : Schema
   pub database : IsDatabase (record { schema = schema; trees = trees })

@@ -4,23 +4,24 @@ use Rattle.std.specs.Prelude.{pos, ℕ, List, [], ◌∷◌}
 use Rattle.std.specs.FinMap as fin
 use Rattle.sqlite_value.specs.declared.value.Value.TheVariants.{Int}
 use Rattle.sqlite.specs.Effect.{Database}
+use Rattle.duty.specs.Shape.{home}
 use Rattle.command.specs.declared.member.Member.{Member}
+use Rattle.roster.specs.Bases.{home_zone}
 use Rattle.roster.specs.State.{State}
 use Rattle.tables.specs.Records.{with_version}
 use Rattle.tables.specs.Rows.{Inserts, Updates, begins_with}
-use Rattle.state_rows.specs.Bases.{home}
 use Rattle.state_rows.specs.Rows.{table, base, book, crew_base, row_of_base, row_of_post}
 use Rattle.writing.specs.Calls.{Then, Each}
 use Rattle.tables.specs.Schema.{later_tables}
 use Rattle.writing.specs.Making.{MakesTables}
 
--- a row is added that says that a member is at the base HOME
-abbrev pub AddsPost : List ℕ → Database → Database → Type 0
-AddsPost who = Inserts (table crew_base) (row_of_post who home)
+-- the row of a member's base is added, by the ids of the member and of the base
+abbrev pub AddsPost : List ℕ → List ℕ → Database → Database → Type 0
+AddsPost who at = Inserts (table crew_base) (row_of_post who at)
 
--- a row is added for each of these members, in turn, that says that the member is at the base HOME
+-- for each of these members, in turn, the row of the member's base is added
 abbrev pub AddsPosts : List (List ℕ × Member) → Database → Database → Type 0
-AddsPosts = Each (λ _ member. AddsPost member.0) 0
+AddsPosts = Each (λ _ member. AddsPost member.0 member.1.base) 0
 
 -- the row of the base HOME is added, with its zone
 abbrev pub AddsHome : List ℕ → Database → Database → Type 0
@@ -32,7 +33,7 @@ SetsVersion = Updates (table book) (begins_with (Int (pos 1) ∷ [])) (with_vers
 
 -- the row of the base HOME is added, then those of the bases of members, then version 2 is set
 abbrev pub Fills : State → Database → Database → Type 0
-Fills s = Then (AddsHome s.zone) (Then (AddsPosts (fin.entries s.crew)) SetsVersion)
+Fills s = Then (AddsHome (home_zone s.bases)) (Then (AddsPosts (fin.entries s.crew)) SetsVersion)
 
 -- the four tables that version 1 lacks are made, then their rows are added, and version 2 is set
 abbrev pub Migrates : State → Database → Database → Type 0

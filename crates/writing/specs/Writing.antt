@@ -9,7 +9,7 @@ use Rattle.duty.specs.declared.segment.Segment.{Segment}
 use Rattle.command.specs.Keys.{KeyParts}
 use Rattle.command.specs.declared.exceedance.Exceedance.{Exceedance}
 use Rattle.command.specs.declared.instruction.Instruction.{Instruction}
-use Rattle.command.specs.declared.instruction.Instruction.TheVariants.{AddCrew, AddPairing, CancelPairing, Assign, Release, Swap, AddGround, CancelGround, Actual}
+use Rattle.command.specs.declared.instruction.Instruction.TheVariants.{AddBase, AddCrew, AddPairing, CancelPairing, Assign, Release, Swap, AddGround, CancelGround, Actual}
 use Rattle.command.specs.declared.member.Member.{Member}
 use Rattle.roster.specs.declared.change.Change.{Change}
 use Rattle.roster.specs.declared.change.SeatChange.{SeatChange}
@@ -18,7 +18,7 @@ use Rattle.tables.specs.Records.{with_period_times, with_segment_times}
 use Rattle.tables.specs.Rows.{Inserts, Deletes, Updates, begins_with}
 use Rattle.writing.specs.Calls.{Then, Each, Fitting}
 use Rattle.writing.specs.Migration.{AddsPost}
-use Rattle.state_rows.specs.Rows.{table, crew, pairing, period, segment, seat, ground_duty, exceedance, request, row_of_member, row_of_pairing, row_of_period, row_of_segment, row_of_seat, row_of_ground, row_of_exceedance, row_of_request, seat_number}
+use Rattle.state_rows.specs.Rows.{table, base, crew, pairing, period, segment, seat, ground_duty, exceedance, request, row_of_base, row_of_member, row_of_pairing, row_of_period, row_of_segment, row_of_seat, row_of_ground, row_of_exceedance, row_of_request, seat_number}
 
 -- ---- A pairing
 
@@ -108,14 +108,15 @@ Flies change id a = Then (FliesPeriod id a) (Then (FliesSegments id a.period a.s
 
 -- ---- A member
 
--- the row of a member is added, and then the one that says that the member is at the base HOME
+-- the row of a member is added, and then that of the member's base
 abbrev pub AddsMember : List ℕ → Member → Database → Database → Type 0
-AddsMember id m = Then (Inserts (table crew) (row_of_member id m)) (AddsPost id)
+AddsMember id m = Then (Inserts (table crew) (row_of_member id m)) (AddsPost id m.base)
 
 -- ---- All commands
 
 -- what an instruction writes, beside its request
 abbrev pub WritesInstruction : Change → Instruction → Database → Database → Type 0
+WritesInstruction change (AddBase id zone) = Inserts (table base) (row_of_base id zone)
 WritesInstruction change (AddCrew id m) = AddsMember id m
 WritesInstruction change (AddPairing plan) = AddsPairing plan
 WritesInstruction change (CancelPairing id) = RemovesPairing id

@@ -1,12 +1,12 @@
 //! The tables of a book, made in a database that has none of them, and those that version 2 has besides version 1.
 //! Files beside whose tables a book is made, or isn't: `tests/tables.py`. Wrong bodies: `must-fail-more/`.
 
-ghost use Rattle.std.specs.Prelude.{IsTrue, ◌↔◌, ◌≡◌, [], None};
+ghost use Rattle.std.specs.Prelude.{IsTrue, ◌↔◌, ◌≡◌, []};
 ghost use Rattle.sqlite.specs.Held.{state};
 ghost use Rattle.sqlite.specs.State.{HasCleanDisk};
 ghost use Rattle.tables.specs.Records.{base_row, book_row};
 ghost use Rattle.tables.specs.Rows.{Inserts};
-ghost use Rattle.tables.specs.Schema.{AreFree, base_table, book_table, book_tables, first_tables, later_tables, table_found, NoneRefersTo};
+ghost use Rattle.tables.specs.Schema.{AreFree, base_table, book_table, book_tables, first_tables, later_tables};
 ghost use Rattle.writing.specs.Calls.{IsInside, Changed, Then};
 ghost use Rattle.writing.specs.Making.{HasEmpty, MakesTables, IsFree, made_first, made_second, made_third};
 
@@ -14,7 +14,7 @@ use sqlite::{Alter, Connection};
 use state_rows::StoreFault;
 use tables::base::{BaseRecord, create_base, insert_base};
 use tables::book::{BookRecord, create_book, insert_book};
-use tables::book_schema::{has_table, is_unreferenced};
+use tables::book_schema::is_name_free;
 use tables::crew::create_crew;
 use tables::crew_base::create_crew_base;
 use tables::exceedance::create_exceedance;
@@ -26,14 +26,6 @@ use tables::period::create_period;
 use tables::request::create_request;
 use tables::seat::create_seat;
 use tables::segment::create_segment;
-
-/// Returns whether no table has this name, and no foreign key refers to one of this name.
-fn is_name_free<S: Alter>(conn: &Connection<S>, name: &str) -> bool
-    ensures { IsTrue result ↔ (table_found (state S.Store conn.now).now.schema name.now ≡ None)
-        × NoneRefersTo name.now (state S.Store conn.now).now.schema }
-{
-    !has_table(conn, name) && is_unreferenced(conn, name)
-}
 
 /// Returns whether no table has the name of one of version 1, and no foreign key refers to one.
 fn are_first_free<S: Alter>(conn: &Connection<S>) -> bool
@@ -78,7 +70,8 @@ pub(crate) fn make_tables<S: Alter>(
         → HasEmpty [] (state S.Store conn.old).now }
     requires inside { IsInside (state S.Store conn.old) }
     ensures { Changed (Then (MakesTables book_tables) (Then (Inserts book_table (book_row book.now))
-        (Inserts base_table (base_row home.now)))) (state S.Store conn.old) (state S.Store conn.new) result }
+        (Inserts base_table (base_row home.now)))) (state S.Store conn.old)
+        (state S.Store conn.new) result }
 {
     make_first(conn)?;
     make_second(conn)?;

@@ -15,7 +15,7 @@ use crate::making::make_later;
 use crate::records::{home_record, post_record};
 use crate::transaction::end;
 use command::Member;
-use duty::CrewId;
+use duty::{BaseId, CrewId};
 use roster::Roster;
 use sqlite::{Alter, Connection};
 use state_rows::StoreFault;
@@ -36,7 +36,8 @@ pub fn migrate_book<S: Alter>(
 ) -> Result<(), StoreFault>
     requires outside { IsOutside (state S.Store conn.old) }
     requires found { ShowsFirst (state S.Store conn.old) roster.now }
-    ensures migrated { IsMigrated (state S.Store conn.old) (state S.Store conn.new) roster.now result }
+    ensures migrated { IsMigrated (state S.Store conn.old) (state S.Store conn.new) roster.now
+        result }
     // what a store over it goes by
     ensures over { OnOk result (IsOverBook (state S.Store conn.new)) }
     ensures again { OnErr result (ShowsFirst (state S.Store conn.new) roster.now) }
@@ -59,7 +60,8 @@ fn write_later<S: Alter>(
     requires inside { IsInside (state S.Store conn.old) }
     requires found { HasCleanDisk (state S.Store conn.old)
         → IsFirstBookOf roster.now (state S.Store conn.old).now }
-    ensures { Changed (Migrates roster.now) (state S.Store conn.old) (state S.Store conn.new) result }
+    ensures { Changed (Migrates roster.now) (state S.Store conn.old) (state S.Store conn.new)
+        result }
 {
     make_later(conn)?;
     fill_later(alloc, conn, roster)
@@ -75,7 +77,7 @@ fn fill_later<S: Alter>(
     requires { IsReady (state S.Store conn.old) }
     ensures { Wrote (Fills roster.now) (state S.Store conn.old) (state S.Store conn.new) result }
 {
-    add_home(alloc, conn, &roster.zone)?;
+    add_home(alloc, conn, roster.bases.home())?;
     add_posts(alloc, conn, &roster.crew)?;
     set_version(conn)
 }
@@ -94,7 +96,7 @@ fn add_home<S: Alter>(
     Ok(insert_base(conn, &record)?)
 }
 
-/// Writes that these members are at that base.
+/// Writes the bases of these members.
 #[tactic(auto, using(crate::proofs::Chaining::each_start))]
 fn add_posts<S: Alter>(
     alloc: Global,
@@ -105,23 +107,25 @@ fn add_posts<S: Alter>(
     ensures { Wrote (AddsPosts (fin.entries crew.now)) (state S.Store conn.old)
         (state S.Store conn.new) result }
 {
-    for (id, _) in crew.iter() {
-        add_post(alloc, conn, id)?;
+    for (id, member) in crew.iter() {
+        add_post(alloc, conn, id, &member.base)?;
     }
     Ok(())
 }
 
-/// Writes that a member is at that base.
+/// Writes the base of a member.
 #[tactic(auto, using(crate::proofs::Chaining::one_write, crate::proofs::Tables::inserts_keep))]
 pub(crate) fn add_post<S: Alter>(
     alloc: Global,
     conn: &mut Connection<S>,
     crew: &CrewId,
+    base: &BaseId,
 ) -> Result<(), StoreFault>
     requires { IsReady (state S.Store conn.old) }
-    ensures { Wrote (AddsPost crew.now) (state S.Store conn.old) (state S.Store conn.new) result }
+    ensures { Wrote (AddsPost crew.now base.now) (state S.Store conn.old)
+        (state S.Store conn.new) result }
 {
-    let record = post_record(alloc, crew)?;
+    let record = post_record(alloc, crew, base)?;
     Ok(insert_crew_base(conn, &record)?)
 }
 

@@ -8,21 +8,24 @@ ghost use Rattle.sqlite_value.specs.declared.value.Value.TheVariants as value;
 ghost use Rattle.tables.specs.Records.{request_row};
 ghost use Rattle.tables.specs.Rows.{Inserts, Deletes, begins_with};
 ghost use Rattle.writing.specs.Calls.{IsReady, Wrote};
-ghost use Rattle.state_rows.specs.Rows.{table, crew, pairing, period, segment, ground_duty, request, row_of_member, row_of_pairing, row_of_period, row_of_segment, row_of_ground, row_of_request};
+ghost use Rattle.state_rows.specs.Rows.{table, base, crew, pairing, period, segment, ground_duty, request, row_of_base, row_of_member, row_of_pairing, row_of_period, row_of_segment, row_of_ground, row_of_request};
 ghost use Rattle.state_rows.specs.Counts.{HaveFewSegments};
 ghost use Rattle.writing.specs.Writing.{AddsMember, AddsPeriods, AddsSegmentsOf, AddsSegments, AddsPairing, RemovesPairing, FreesSeat, TakesSeat, Reseats, ReseatsAll, FliesSegment, FliesSegments, FliesPeriod, Records, RecordsAll, Flies, WritesInstruction, Writes};
 
 use crate::migrating::add_post;
 use crate::records::{
-    crew_record, exceedance_record, ground_record, number_of_seat, pairing_record, period_record,
-    seat_record, segment_record,
+    base_record, crew_record, exceedance_record, ground_record, number_of_seat, pairing_record,
+    period_record, seat_record, segment_record,
 };
 use command::{Exceedance, Instruction, Key, Member};
-use duty::{Actual, BlockTimes, CrewId, Fdp, Ground, GroundId, Pairing, PairingId, Segment};
+use duty::{
+    Actual, BaseId, BlockTimes, CrewId, Fdp, Ground, GroundId, Pairing, PairingId, Segment,
+};
 use roster::{Change, SeatChange};
 use sqlite::{Alter, Connection};
 use state_rows::StoreFault;
 use std::alloc::Global;
+use tables::base::insert_base;
 use tables::crew::insert_crew;
 use tables::exceedance::insert_exceedance;
 use tables::ground::{delete_ground, insert_ground};
@@ -31,6 +34,23 @@ use tables::period::{delete_periods, insert_period, update_period};
 use tables::request::{RequestRecord, insert_request};
 use tables::seat::{delete_seat, insert_seat};
 use tables::segment::{delete_segments, insert_segment, update_segment};
+use time117::Zone;
+
+/// Writes a new base.
+#[tactic(auto, using(crate::proofs::Chaining::one_write, crate::proofs::Tables::inserts_keep))]
+fn add_base<S: Alter>(
+    alloc: Global,
+    conn: &mut Connection<S>,
+    id: &BaseId,
+    zone: &Zone,
+) -> Result<(), StoreFault>
+    requires { IsReady (state S.Store conn.old) }
+    ensures { Wrote (Inserts (table base) (row_of_base id.now zone.now))
+        (state S.Store conn.old) (state S.Store conn.new) result }
+{
+    let record = base_record(alloc, id, zone)?;
+    Ok(insert_base(conn, &record)?)
+}
 
 /// Writes the row of a new member.
 #[tactic(auto, using(crate::proofs::Chaining::one_write, crate::proofs::Tables::inserts_keep))]
@@ -61,7 +81,7 @@ fn add_member<S: Alter>(
         (state S.Store conn.new) result }
 {
     add_crew(alloc, conn, id, member)?;
-    add_post(alloc, conn, id)
+    add_post(alloc, conn, id, &member.base)
 }
 
 /// Writes a new ground duty.
@@ -451,6 +471,7 @@ pub(crate) fn write_instruction<S: Alter>(
         (state S.Store conn.new) result }
 {
     match instruction {
+        Instruction::AddBase(id, zone) => add_base(alloc, conn, id, zone),
         Instruction::AddCrew(id, member) => add_member(alloc, conn, id, member),
         Instruction::AddPairing(plan) => add_pairing(alloc, conn, plan),
         Instruction::CancelPairing(id) => remove_pairing(conn, id),

@@ -1,6 +1,7 @@
 use Rattle.std.proofs.Common.{rules, ◌≡◌, sym, subst, Result, Ok, Err}
 use Rattle.sqlite.specs.Effect.{Database}
 use Rattle.sqlite.specs.Held.{state}
+use Rattle.sqlite.specs.State as conn
 use Rattle.roster.specs.State.{State}
 use Rattle.loading.specs.Loading.{Justifies}
 use Rattle.loading.specs.Reading.{AgreesIn, ReadsAs}
@@ -10,11 +11,32 @@ use Rattle.loading.specs.declared.fault.LoadFault.{LoadFault}
 use Rattle.loading.proofs.ReadTables.{refused_as, then_saw}
 use Rattle.loading.proofs.later.read_later_tables.Goals as goal
 
-abbrev Tells : TableName → State → Database → Unit {0} → Type 0
-Tells it s db _ = AgreesIn Second it s db
+abbrev Tells : TableName → Database → State → Type 0
+Tells it db r = AgreesIn Second it r db
+
+abbrev Also : TableName → State → Database → Unit {0} → Type 0
+Also it s db _ = AgreesIn Second it s db
 
 abbrev Refuses : Database → LoadFault → Type 0
 Refuses db fault = Justifies fault db
+
+-- the first three reads, one after another
+in_turn : (old one two new : conn.State) (s t : State) (result : Result (Unit {0}) LoadFault) → ReadsAs (Tells base old.now) (Refuses old.now) old one (Ok s) →
+    ReadsAs (Tells crew_base one.now) (Refuses one.now) one two (Ok t) → ReadsAs (Also outside t two.now) (Refuses two.now) two new result → ReadsAs (Also outside t old.now) (Refuses old.now) old new result
+in_turn old one two new s t result first second third =
+    then_saw (Tells crew_base old.now) (Refuses old.now) (Also outside t) Refuses t old two new result
+    (then_saw (Tells base old.now) (Refuses old.now) (Tells crew_base) Refuses s old one two (Ok t) first second) third
+
+pub returns-in_err-roster-2 : goal.returns-in_err-roster-2
+returns-in_err-roster-2 g c =
+    let old = state g.S.Store c.args.conn.now in
+    let one = state g.S.Store c.read_base.new.conn in
+    let new = state g.S.Store c.read_crew_base.new.conn in
+    let fault = c.in_err-roster-2.field-0.0 in
+    let is : c.from_residual-in_err-roster-2.result ≡ Err fault = search rules in
+    let both = then_saw (Tells base old.now) (Refuses old.now) (Tells crew_base) Refuses c.in_ok-roster.roster old one new (Err fault) c.in_ok-roster.ensures c.in_err-roster-2.ensures in
+    subst (λ (r : Result State LoadFault). ReadsAs (Tells outside_segment old.now) (Refuses old.now) old new r) (sym is)
+    (refused_as (Tells crew_base old.now) (Tells outside_segment old.now) (Refuses old.now) old new fault both)
 
 pub returns-in_err-read_outside : goal.returns-in_err-read_outside
 returns-in_err-read_outside g c =
@@ -22,14 +44,27 @@ returns-in_err-read_outside g c =
     let one = state g.S.Store c.read_base.new.conn in
     let two = state g.S.Store c.read_crew_base.new.conn in
     let new = state g.S.Store c.read_outside.new.conn in
-    let s = c.args.roster.now in
+    let t = c.in_ok-roster-2.roster in
     let fault = c.in_err-read_outside.field-0.0 in
     let is : c.from_residual-in_err-read_outside.result ≡ Err fault = search rules in
-    let both = then_saw (Tells base s old.now) (Refuses old.now) (Tells crew_base s) Refuses c.in_ok-read_base.field-0 old one two (Ok c.in_ok-read_crew_base.field-0)
-    c.in_ok-read_base.ensures c.in_ok-read_crew_base.ensures in
-    let all = then_saw (Tells crew_base s old.now) (Refuses old.now) (Tells outside s) Refuses c.in_ok-read_crew_base.field-0 old two new (Err fault) both c.in_err-read_outside.ensures in
-    subst (λ (r : Result (Unit {0}) LoadFault). ReadsAs (λ _. AgreesIn Second outside_segment s old.now) (λ f. Justifies f old.now) old new r) (sym is)
-    (refused_as (Tells outside s old.now) (Tells outside_segment s old.now) (Refuses old.now) old new fault all)
+    let all = in_turn old one two new c.in_ok-roster.roster t (Err fault) c.in_ok-roster.ensures c.in_ok-roster-2.ensures c.in_err-read_outside.ensures in
+    subst (λ (r : Result State LoadFault). ReadsAs (Tells outside_segment old.now) (Refuses old.now) old new r) (sym is)
+    (refused_as (Also outside t old.now) (Tells outside_segment old.now) (Refuses old.now) old new fault all)
+
+pub returns-in_err-read_outside_segment : goal.returns-in_err-read_outside_segment
+returns-in_err-read_outside_segment g c =
+    let old = state g.S.Store c.args.conn.now in
+    let one = state g.S.Store c.read_base.new.conn in
+    let two = state g.S.Store c.read_crew_base.new.conn in
+    let three = state g.S.Store c.read_outside.new.conn in
+    let new = state g.S.Store c.read_outside_segment.new.conn in
+    let t = c.in_ok-roster-2.roster in
+    let fault = c.in_err-read_outside_segment.field-0.0 in
+    let is : c.from_residual-in_err-read_outside_segment.result ≡ Err fault = search rules in
+    let all = in_turn old one two three c.in_ok-roster.roster t (Ok c.in_ok-read_outside.field-0) c.in_ok-roster.ensures c.in_ok-roster-2.ensures c.in_ok-read_outside.ensures in
+    let last = then_saw (Also outside t old.now) (Refuses old.now) (Also outside_segment t) Refuses c.in_ok-read_outside.field-0 old three new (Err fault) all c.in_err-read_outside_segment.ensures in
+    subst (λ (r : Result State LoadFault). ReadsAs (Tells outside_segment old.now) (Refuses old.now) old new r) (sym is)
+    (refused_as (Also outside_segment t old.now) (Tells outside_segment old.now) (Refuses old.now) old new fault last)
 
 pub returns : goal.returns
 returns g c =
@@ -38,8 +73,7 @@ returns g c =
     let two = state g.S.Store c.read_crew_base.new.conn in
     let three = state g.S.Store c.read_outside.new.conn in
     let new = state g.S.Store c.read_outside_segment.new.conn in
-    let s = c.args.roster.now in
-    let both = then_saw (Tells base s old.now) (Refuses old.now) (Tells crew_base s) Refuses c.in_ok-read_base.field-0 old one two (Ok c.in_ok-read_crew_base.field-0)
-    c.in_ok-read_base.ensures c.in_ok-read_crew_base.ensures in
-    let all = then_saw (Tells crew_base s old.now) (Refuses old.now) (Tells outside s) Refuses c.in_ok-read_crew_base.field-0 old two three (Ok c.in_ok-read_outside.field-0) both c.in_ok-read_outside.ensures in
-    then_saw (Tells outside s old.now) (Refuses old.now) (Tells outside_segment s) Refuses c.in_ok-read_outside.field-0 old three new c.read_outside_segment.result all c.read_outside_segment.ensures
+    let t = c.in_ok-roster-2.roster in
+    let all = in_turn old one two three c.in_ok-roster.roster t (Ok c.in_ok-read_outside.field-0) c.in_ok-roster.ensures c.in_ok-roster-2.ensures c.in_ok-read_outside.ensures in
+    let last = then_saw (Also outside t old.now) (Refuses old.now) (Also outside_segment t) Refuses c.in_ok-read_outside.field-0 old three new (Ok c.in_ok-read_outside_segment.field-0) all c.in_ok-read_outside_segment.ensures in
+    record { told = last.told; caused = λ clean. tt; left = last.left }

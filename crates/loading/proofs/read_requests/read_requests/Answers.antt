@@ -7,16 +7,16 @@ use Rattle.loading.specs.declared.fault.LoadFault.{LoadFault}
 use Rattle.loading.proofs.ReadRequests.{Now, not_read, is_read}
 use Rattle.loading.proofs.read_requests.read_requests.Goals as goal
 
-pub returns-in_err-records : goal.returns-in_err-records
-returns-in_err-records g c =
+pub returns-in_err-records-clause-read : goal.returns-in_err-records-clause-read
+returns-in_err-records-clause-read g c =
     let old = state g.S.Store c.args.conn.now in
     let new = state g.S.Store c.request_records.new.conn in
     let fault = c.in_err-records.field-0.0 in
     let is : c.from_residual.result ≡ Err fault = search rules in
-    subst (λ (r : Result State LoadFault). ReadsAs (Now c.args.roster old new c.requires.above) (λ f. Justifies f old.now) old new r) (sym is)
-    (not_read c.args.roster old new c.requires.above fault c.in_err-records.ensures.told c.in_err-records.ensures.caused c.request_records.ensures.left)
+    subst (λ (r : Result State LoadFault). ReadsAs (Now c.args.edition c.args.roster old new c.requires.above c.requires.of) (λ f. Justifies f old.now) old new r) (sym is)
+    (not_read c.args.edition c.args.roster old new c.requires.above c.requires.of fault c.in_err-records.ensures.told c.in_err-records.ensures.caused c.request_records.ensures.left)
 
-pub returns : goal.returns
-returns g c =
-    is_read c.args.roster (state g.S.Store c.args.conn.now) (state g.S.Store c.request_records.new.conn) c.requires.above c.in_ok-records.records.items c.deref.result.now c.add_held.result c.deref.ensures.value
+pub returns-clause-read : goal.returns-clause-read
+returns-clause-read g c =
+    is_read c.args.edition c.args.roster (state g.S.Store c.args.conn.now) (state g.S.Store c.request_records.new.conn) c.requires.above c.requires.of c.in_ok-records.records.items c.deref.result.now c.add_held.result c.requires.home c.deref.ensures.value
     c.in_ok-records.ensures.told c.request_records.ensures.left c.add_held.ensures

@@ -12,6 +12,11 @@ use Rattle.state_rows.specs.Rows.{book, outside_segment, request}
 use Rattle.state_rows.specs.declared.edition.Edition.{Edition}
 use Rattle.loading.proofs.whole.read_all.Goals as goal
 
+pub read_first-requires-clause-of : goal.read_first-requires-clause-of
+read_first-requires-clause-of g c clean =
+    let first = c.in_ok-roster.ensures.read.told clean in
+    subst (IsOfEdition c.in_ok-roster.edition) (sym first.0.0.now_is) first.1.of
+
 pub read_later-requires-clause-above : goal.read_later-requires-clause-above
 read_later-requires-clause-above g c clean =
     let mid = state g.S.Store c.read_book.new.conn in
@@ -32,33 +37,33 @@ Begun db r = AgreesIn r.1 book r.0 db
 abbrev First : Database → State → Type 0
 First db r = AgreesThrough request r db
 
-abbrev Later : Edition → State → Database → Unit {0} → Type 0
-Later edition s db _ = AgreesIn edition outside_segment s db
+abbrev Later : Edition → Database → State → Type 0
+Later edition db r = AgreesIn edition outside_segment r db
 
 abbrev All : Database → State × Edition → Type 0
 All db r = AgreesIn r.1 outside_segment r.0 db
 
 -- the three reads, one after another
-in_turn : (old one two new : conn.State) (s t : State) (edition : Edition) (result : Result (Unit {0}) LoadFault) → ReadsAs (Begun old.now) (Refuses old.now) old one (Ok (s, edition)) →
-    ReadsAs (First one.now) (Refuses one.now) one two (Ok t) → ReadsAs (Later edition t two.now) (Refuses two.now) two new result → ReadsAs (Later edition t old.now) (Refuses old.now) old new result
+in_turn : (old one two new : conn.State) (s t : State) (edition : Edition) (result : Result State LoadFault) → ReadsAs (Begun old.now) (Refuses old.now) old one (Ok (s, edition)) →
+    ReadsAs (First one.now) (Refuses one.now) one two (Ok t) → ReadsAs (Later edition two.now) (Refuses two.now) two new result → ReadsAs (Later edition old.now) (Refuses old.now) old new result
 in_turn old one two new s t edition result first second third =
-    then_saw (First old.now) (Refuses old.now) (Later edition t) Refuses t old two new result
+    then_saw (First old.now) (Refuses old.now) (Later edition) Refuses t old two new result
     (then_saw (Begun old.now) (Refuses old.now) First Refuses (s, edition) old one two (Ok t) first second) third
 
-pub returns-in_err-read_later : goal.returns-in_err-read_later
-returns-in_err-read_later g c =
+pub returns-in_err-roster-3 : goal.returns-in_err-roster-3
+returns-in_err-roster-3 g c =
     let old = state g.S.Store c.args.conn.now in
     let one = state g.S.Store c.read_book.new.conn in
     let two = state g.S.Store c.read_first.new.conn in
     let new = state g.S.Store c.read_later.new.conn in
     let t = c.in_ok-roster-2.roster in
     let edition = c.in_ok-roster.edition in
-    let fault = c.in_err-read_later.field-0.0 in
-    let is : c.from_residual-in_err-read_later.result ≡ Err fault = search rules in
-    let all = in_turn old one two new c.in_ok-roster.roster t edition (Err fault) c.in_ok-roster.ensures.read c.in_ok-roster-2.ensures.read c.in_err-read_later.ensures in
+    let fault = c.in_err-roster-3.field-0.0 in
+    let is : c.from_residual-in_err-roster-3.result ≡ Err fault = search rules in
+    let all = in_turn old one two new c.in_ok-roster.roster t edition (Err fault) c.in_ok-roster.ensures.read c.in_ok-roster-2.ensures.read c.in_err-roster-3.ensures in
     record {
       read = subst (λ (r : Result (State × Edition) LoadFault). ReadsAs (All old.now) (Refuses old.now) old new r) (sym is)
-          (refused_as (Later edition t old.now) (All old.now) (Refuses old.now) old new fault all);
+          (refused_as (Later edition old.now) (All old.now) (Refuses old.now) old new fault all);
     }
 
 pub returns : goal.returns
@@ -67,6 +72,6 @@ returns g c =
     let one = state g.S.Store c.read_book.new.conn in
     let two = state g.S.Store c.read_first.new.conn in
     let new = state g.S.Store c.read_later.new.conn in
-    let all = in_turn old one two new c.in_ok-roster.roster c.in_ok-roster-2.roster c.in_ok-roster.edition (Ok c.in_ok-read_later.field-0)
-    c.in_ok-roster.ensures.read c.in_ok-roster-2.ensures.read c.in_ok-read_later.ensures in
+    let all = in_turn old one two new c.in_ok-roster.roster c.in_ok-roster-2.roster c.in_ok-roster.edition (Ok c.in_ok-roster-3.roster)
+    c.in_ok-roster.ensures.read c.in_ok-roster-2.ensures.read c.in_ok-roster-3.ensures in
     record { read = record { told = all.told; caused = λ clean. tt; left = all.left } }

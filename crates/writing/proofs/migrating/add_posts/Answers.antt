@@ -15,7 +15,7 @@ loop-id-preserved g c =
     let G = g.S.Store in
     let old = state G c.args.conn.now in
     let mid = state G c.loop-id.conn in
-    let member : List ℕ × Member = (c.in-Some.id.now, c.in-Some.field-0-1.now) in
+    let member : List ℕ × Member = (c.in-Some.id.now, c.in-Some.member.now) in
     let left : c.loop-id.id-iterator ≡ member ∷ c.next.new.self = search rules in
     post_added c.args.crew.now old mid (state G c.add_post.new.conn) member c.next.new.self
     (subst (PostsAdded c.args.crew.now old mid) left c.loop-id.invariant) c.in_ok-add_post.ensures

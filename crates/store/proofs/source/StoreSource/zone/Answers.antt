@@ -1,5 +1,0 @@
-use Rattle.lookup.proofs.ReadLemmas.{over_on}
-use Rattle.store.proofs.source.StoreSource.zone.Goals as goal
-
-pub invariant_of-self : goal.invariant_of-self
-invariant_of-self g c = (c.zone_at.ensures.stays.outside, over_on _ _ c.zone_at.ensures.stays c.self.invariant.1)
