@@ -3,7 +3,7 @@
 
 use crate::fault::Untold;
 use crate::opening::{create, opened};
-use crate::requests::{key, plan};
+use crate::requests::{AT_DENVER, AT_NO_BASE, DENVER, key, plan};
 use book::{Answer, Book};
 use command::{Command, Key};
 use duty::Id;
@@ -15,7 +15,7 @@ use store::{Store, StoreFault};
 use stored_json::read_canonical;
 use values::{OrdMap, TryClone};
 
-/// The pairings of the book: C1 holds P7, P8, P13A and P13B, F1 holds P13A, and C2 holds P91. P92 is free.
+/// The pairings of the book: C1 holds P7, P8, P13A and P13B, F1 holds P13A, and C2 holds P91. P92 is free, and D1 holds none.
 const PLANS: [(&str, [&str; 4]); 6] = [
     ("P7", ["07T12:00", "07T13:00", "07T20:00", "07T20:30"]),
     ("P8", ["08T12:00", "08T13:00", "08T20:00", "08T20:30"]),
@@ -26,7 +26,7 @@ const PLANS: [(&str, [&str; 4]); 6] = [
 ];
 
 /// What is asked after the pairings are added, each of it accepted. P13A is flown eleven hours late.
-const FILLED: [&str; 12] = [
+const FILLED: [&str; 14] = [
     "{\"crew\":\"C1\",\"do\":\"add-crew\",\"name\":\"Ada Ray\",\"seat\":\"captain\"}",
     "{\"crew\":\"C2\",\"do\":\"add-crew\",\"name\":\"Bo Lind\",\"seat\":\"captain\"}",
     "{\"crew\":\"F1\",\"do\":\"add-crew\",\"name\":\"Zoë Roy\",\"seat\":\"first officer\"}",
@@ -40,6 +40,8 @@ const FILLED: [&str; 12] = [
     "{\"begin\":\"2025-06-03T08:00Z\",\"crew\":\"C2\",\"do\":\"add-ground\",\"end\":\"2025-06-03T12:00Z\",\"ground\":\"G2\",\"task\":\"Simulator\"}",
     "{\"do\":\"actual\",\"pairing\":\"P13A\",\"period\":1,\"release\":\"2025-06-11T07:30Z\",\"report\":\"2025-06-10T11:00Z\",\"segments\":[\
         {\"in\":\"2025-06-11T07:00Z\",\"out\":\"2025-06-10T23:00Z\"}]}",
+    DENVER,
+    AT_DENVER,
 ];
 
 /// Fails unless a command is accepted.
@@ -95,7 +97,18 @@ fn told(alloc: Global, part: &Roster) -> Result<String, Untold> {
     Ok(text)
 }
 
-/// Adds what the part of a command holds; where the machine answers it otherwise by the part than by the roster, that too.
+/// Whether a part has the zones of a roster, at `HOME` and at the bases of all its members.
+fn has_bases(part: &Roster, roster: &Roster) -> bool {
+    for (_who, member) in roster.crew.iter() {
+        if part.bases.get(&member.base) != roster.bases.get(&member.base) {
+            return false;
+        }
+    }
+    *part.bases.home() == *roster.bases.home()
+}
+
+/// Adds what the part of a command holds; where it lacks a base, and where the machine answers the command otherwise by the part than
+/// by the roster, that too.
 fn add_part<S: Alter>(
     alloc: Global,
     store: &mut Store<S>,
@@ -105,14 +118,17 @@ fn add_part<S: Alter>(
 ) -> Result<(), Untold> {
     let part = store.part(alloc, key, &command)?;
     text.push_str(told(alloc, &part)?.as_str())?;
+    if !has_bases(&part, roster) {
+        text.push_str("other bases\n")?;
+    }
     if part.step(alloc, key, &command)? != roster.step(alloc, key, &command)? {
         text.push_str("otherwise\n")?;
     }
     Ok(())
 }
 
-/// A command of each kind, and then one whose key is held.
-const ASKED: [(u8, &str); 11] = [
+/// A command of each kind, and then one whose key is held; and more of bases, one of which D1 belongs to.
+const ASKED: [(u8, &str); 16] = [
     (
         31,
         "{\"crew\":\"C1\",\"do\":\"assign\",\"pairing\":\"P92\"}",
@@ -143,6 +159,17 @@ const ASKED: [(u8, &str); 11] = [
     ),
     (10, "{\"crew\":\"C1\",\"do\":\"assign\",\"pairing\":\"P7\"}"),
     (10, "{\"do\":\"cancel-ground\",\"ground\":\"G2\"}"),
+    (
+        31,
+        "{\"base\":\"BOI\",\"do\":\"add-base\",\"zone\":\"MST7MDT,M3.2.0,M11.1.0\"}",
+    ),
+    (31, DENVER),
+    (31, AT_DENVER),
+    (31, AT_NO_BASE),
+    (
+        31,
+        "{\"crew\":\"D1\",\"do\":\"assign\",\"pairing\":\"P92\"}",
+    ),
 ];
 
 /// What is told of the parts of these commands, and of that of one that adds P7.
@@ -193,6 +220,11 @@ const TOLD: &str = "P13A P13B P7 P8 P92 | C1 F1 | G1 | 0 0\n\
     P13A P13B P7 P8 | C1 F1 | G1 | 0 0\n\
     P13A P13B P7 P8 | C1 F1 | G1 | 0 1\n\
     | C2 | G2 | 0 1\n\
+    | | | 0 0\n\
+    | | | 0 0\n\
+    | D1 | | 0 0\n\
+    | | | 0 0\n\
+    P92 | D1 | | 0 0\n\
     P7 | C1 | | 0 0\n";
 
 #[test]

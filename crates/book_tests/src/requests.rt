@@ -13,6 +13,18 @@ pub const CAPTAIN: &str =
 pub const OFFICER: &str =
     "{\"crew\":\"F1\",\"do\":\"add-crew\",\"name\":\"Zoë Roy\",\"seat\":\"first officer\"}";
 
+/// A second base, two hours west of the first one.
+pub const DENVER: &str =
+    "{\"base\":\"DEN\",\"do\":\"add-base\",\"zone\":\"MST7MDT,M3.2.0,M11.1.0\"}";
+
+/// D1, a captain, belongs to it.
+pub const AT_DENVER: &str =
+    "{\"base\":\"DEN\",\"crew\":\"D1\",\"do\":\"add-crew\",\"name\":\"Lee Roy\",\"seat\":\"captain\"}";
+
+/// D2 is to belong to a base that isn't there.
+pub const AT_NO_BASE: &str =
+    "{\"base\":\"BOI\",\"crew\":\"D2\",\"do\":\"add-crew\",\"name\":\"Lee Roy\",\"seat\":\"captain\"}";
+
 /// P1 has two flights on 10 June 2025.
 pub const PLAN: &str = "{\"do\":\"add-pairing\",\"pairing\":\"P1\",\"periods\":[\
     {\"release\":\"2025-06-10T20:00Z\",\"report\":\"2025-06-10T11:00Z\",\"segments\":[\

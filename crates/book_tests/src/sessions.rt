@@ -3,7 +3,10 @@
 use crate::contents;
 use crate::fault::Untold;
 use crate::opening::{Left, create, take_up};
-use crate::requests::{CANCEL, CAPTAIN, LATE, LEFT, OFFICER, PLAN, RELEASE, RIGHT, requests};
+use crate::requests::{
+    AT_DENVER, AT_NO_BASE, CANCEL, CAPTAIN, DENVER, LATE, LEFT, OFFICER, PLAN, RELEASE, RIGHT,
+    requests,
+};
 use book::{Answer, Book, Run};
 use command::{Command, Key};
 use sqlite::{Alter, Connection};
@@ -11,8 +14,9 @@ use std::alloc::Global;
 use std::test::Fail;
 
 /// C1 takes P1 as request 20, and is released as request 21. Then request 20 comes again, and comes with another command. As
-/// request 30 C1 is to take a pairing that isn't there, and then P1. P1 is flown as request 32, and C1 is to be released again.
-const REQUESTS: [(u8, &str); 12] = [
+/// request 30 C1 is to take a pairing that isn't there, and then P1. P1 is flown as request 32, and C1 is to be released again. Then
+/// come a second base and a member of it, a member of a base that isn't there, and the second base once more.
+const REQUESTS: [(u8, &str); 16] = [
     (1, CAPTAIN),
     (2, OFFICER),
     (3, PLAN),
@@ -25,6 +29,10 @@ const REQUESTS: [(u8, &str); 12] = [
     (31, RIGHT),
     (32, LATE),
     (33, RELEASE),
+    (40, DENVER),
+    (41, AT_DENVER),
+    (42, AT_NO_BASE),
+    (42, DENVER),
 ];
 
 /// A mark for each answer: `+` where it accepts, or else the number of the refusal.
@@ -101,7 +109,8 @@ fn add_session<S: Alter + Drop>(
     Ok(conn)
 }
 
-/// Adds `same` where all rows are those that were noted, or else the rows; and then the seats and the numbers that are kept.
+/// Adds `same` where all rows are those that were noted, or else the rows; and then the seats, the bases, who belongs to them, and the
+/// numbers that are kept.
 fn add_rows<S: Alter>(
     alloc: Global,
     conn: &mut Connection<S>,
@@ -116,6 +125,10 @@ fn add_rows<S: Alter>(
     })?;
     let seats = contents::found(alloc, conn, "seat", "SELECT pairing, seat, crew FROM seat")?;
     text.push_str(seats.as_str())?;
+    let bases = contents::found(alloc, conn, "base", "SELECT id, zone FROM base")?;
+    text.push_str(bases.as_str())?;
+    let members = contents::found(alloc, conn, "member", "SELECT crew, base FROM crew_base")?;
+    text.push_str(members.as_str())?;
     let kept = contents::found(alloc, conn, "kept", "SELECT number FROM request")?;
     text.push_str(kept.as_str())?;
     Ok(())
@@ -147,9 +160,12 @@ fn told(alloc: Global, in_one_run: bool) -> Result<String, Untold> {
 }
 
 /// In the second session request 30 is held.
-const TOLD: &str = " + + + + + + 1 4 + + + 10 | + + + + + + 1 1 + + + 10\nsame\n\
+const TOLD: &str =
+    " + + + + + + 1 4 + + + 10 + + 20 21 | + + + + + + 1 1 + + + 10 + + 20 21\nsame\n\
     seat P1|0|C1\nseat P1|1|F1\n\
-    kept 1\nkept 2\nkept 20\nkept 21\nkept 3\nkept 30\nkept 31\nkept 32\n";
+    base DEN|MST7MDT,M3.2.0,M11.1.0\nbase HOME|EST5EDT,M3.2.0,M11.1.0\n\
+    member C1|HOME\nmember D1|DEN\nmember F1|HOME\n\
+    kept 1\nkept 2\nkept 20\nkept 21\nkept 3\nkept 30\nkept 31\nkept 32\nkept 40\nkept 41\n";
 
 #[test]
 fn requests_that_are_asked_one_by_one_act_once(rt: HostRuntime) -> Result<(), Fail> {

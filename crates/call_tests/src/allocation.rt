@@ -57,7 +57,7 @@ fn insert(rt: HostRuntime) -> Result<(), Fail> {
 fn step(rt: HostRuntime) -> Result<(), Fail> {
     assert_eq!(rt;
         text_of(&rt, Part::Step)?.as_str(),
-        "++++++++++++++++++== 1 2 12 11"
+        "++++++++++++++++++++== 1 2 12 11 20 21"
     );
     Ok(())
 }
@@ -66,14 +66,14 @@ fn step(rt: HostRuntime) -> Result<(), Fail> {
 fn put(rt: HostRuntime) -> Result<(), Fail> {
     assert_eq!(rt;
         text_of(&rt, Part::Put)?.as_str(),
-        "3 members, 3 pairings, 1 ground duty, 4 exceedances, 18 requests"
+        "4 members, each with its base, 3 pairings, 1 ground duty, 4 exceedances, 20 requests"
     );
     Ok(())
 }
 
 #[test]
 fn canonical(rt: HostRuntime) -> Result<(), Fail> {
-    assert_eq!(rt; text_of(&rt, Part::Canonical)?.as_str(), "24 texts");
+    assert_eq!(rt; text_of(&rt, Part::Canonical)?.as_str(), "28 texts");
     Ok(())
 }
 
@@ -83,6 +83,8 @@ ROSTER C1 captain Ada Ray
 2025-06-20T12:00Z 2025-06-20T20:00Z ground G1 Simulator
 ROSTER C2 captain Bo Lind
 2025-06-10T11:00Z 2025-06-11T07:30Z pairing P1/1 actual fdp 20:00 flight 10:00
+ROSTER D1 captain Lee Roy
+base DEN
 ROSTER F1 first officer Zoë Roy
 2025-06-10T11:00Z 2025-06-11T07:30Z pairing P1/1 actual fdp 20:00 flight 10:00
 PAIRING P1

@@ -1,6 +1,6 @@
 //! What no clause of the crates from `values` to `roster` says and no run of the program shows: that with ample memory a copy is
-//! made of verdicts, of entries, of duties and of a history, and that a verdict and an entry are equal to their copies and to no
-//! other one of theirs. Making these copies makes one of each type that they are made of.
+//! made of verdicts, of entries, of the bases, of duties and of a history, and that a verdict and an entry are equal to their copies
+//! and to no other one of theirs. Making these copies makes one of each type that they are made of.
 
 mod entries;
 mod played;
@@ -67,8 +67,21 @@ fn copied_entries(alloc: Global, roster: &Roster) -> Result<usize, Fail> {
 
 /// How many duties are in a copy of the history of copies of a roster's duties.
 fn copied_duties(alloc: Global, roster: &Roster) -> Result<usize, Fail> {
-    let history = history(alloc, &entries(alloc, roster)?, &roster.zone)?;
+    let history = history(alloc, &entries(alloc, roster)?, roster.bases.home())?;
     Ok(history.try_clone(alloc)?.duties().len())
+}
+
+/// The zones at `HOME` and at the bases of the members, each once, in a copy of the bases.
+fn copied_zones(alloc: Global, roster: &Roster) -> Result<String, Fail> {
+    let bases = roster.bases.try_clone(alloc)?;
+    let mut zones = String::from_str(alloc, bases.home().text())?;
+    for (_who, member) in roster.crew.iter() {
+        if !member.base.is_home() {
+            zones.push_str(" ")?;
+            zones.push_str(bases.zone_at(&member.base).text())?;
+        }
+    }
+    Ok(zones)
 }
 
 #[test]
@@ -76,7 +89,7 @@ fn verdicts_are_copied(rt: HostRuntime) -> Result<(), Fail> {
     let played = asked_all(rt.alloc())?;
     assert_eq!(rt;
         told(rt.alloc(), &played.verdicts)?.as_str(),
-        "++++++++++++++++++++== 1 2 3 4 5 6 7 8 9 10 11 12 13 14 15 19, copied"
+        "++++++++++++++++++++++== 1 2 3 4 5 6 7 8 9 10 11 12 13 14 15 19 20 21, copied"
     );
     Ok(())
 }
@@ -84,7 +97,7 @@ fn verdicts_are_copied(rt: HostRuntime) -> Result<(), Fail> {
 #[test]
 fn entries_are_copied(rt: HostRuntime) -> Result<(), Fail> {
     let played = asked_all(rt.alloc())?;
-    assert_eq!(rt; copied_entries(rt.alloc(), &played.roster)?, 32);
+    assert_eq!(rt; copied_entries(rt.alloc(), &played.roster)?, 37);
     Ok(())
 }
 
@@ -92,5 +105,15 @@ fn entries_are_copied(rt: HostRuntime) -> Result<(), Fail> {
 fn duties_and_histories_are_copied(rt: HostRuntime) -> Result<(), Fail> {
     let played = asked_all(rt.alloc())?;
     assert_eq!(rt; copied_duties(rt.alloc(), &played.roster)?, 5);
+    Ok(())
+}
+
+#[test]
+fn bases_are_copied(rt: HostRuntime) -> Result<(), Fail> {
+    let played = asked_all(rt.alloc())?;
+    assert_eq!(rt;
+        copied_zones(rt.alloc(), &played.roster)?.as_str(),
+        "EST5EDT,M3.2.0,M11.1.0 MST7MDT,M3.2.0,M11.1.0"
+    );
     Ok(())
 }

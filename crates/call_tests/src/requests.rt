@@ -15,6 +15,18 @@ pub const OFFICER: &str =
 pub const OTHER_CAPTAIN: &str =
     "{\"crew\":\"C2\",\"do\":\"add-crew\",\"name\":\"Bo Lind\",\"seat\":\"captain\"}";
 
+/// A second base, two hours west of the first one.
+pub const DENVER: &str =
+    "{\"base\":\"DEN\",\"do\":\"add-base\",\"zone\":\"MST7MDT,M3.2.0,M11.1.0\"}";
+
+/// D1 belongs to it.
+pub const AT_DENVER: &str =
+    "{\"base\":\"DEN\",\"crew\":\"D1\",\"do\":\"add-crew\",\"name\":\"Lee Roy\",\"seat\":\"captain\"}";
+
+/// D2 is to belong to a base that isn't there.
+pub const AT_NO_BASE: &str =
+    "{\"base\":\"BOI\",\"crew\":\"D2\",\"do\":\"add-crew\",\"name\":\"Lee Roy\",\"seat\":\"captain\"}";
+
 /// P1 has two flights on 10 June 2025.
 pub const P1: &str = "{\"do\":\"add-pairing\",\"pairing\":\"P1\",\"periods\":[\
     {\"release\":\"2025-06-10T20:00Z\",\"report\":\"2025-06-10T11:00Z\",\"segments\":[\
@@ -53,10 +65,10 @@ pub const LATE: &str = "{\"do\":\"actual\",\"pairing\":\"P1\",\"period\":1,\
 /// A request's number, and the text of its command.
 pub type Line = (u8, &'static str);
 
-/// What a new roster is asked. It accepts commands of all nine kinds, of which C1 and C2 exchange their pairings before P1 is flown;
+/// What a new roster is asked. It accepts commands of all ten kinds, of which C1 and C2 exchange their pairings before P1 is flown;
 /// repeats two of its replies; and then refuses: a number is held, a member isn't there, would have too little rest, and has a duty
-/// at that time.
-pub const REQUESTS: [Line; 24] = [
+/// at that time; a base isn't there, and one is.
+pub const REQUESTS: [Line; 28] = [
     (1, CAPTAIN),
     (2, OFFICER),
     (3, OTHER_CAPTAIN),
@@ -78,12 +90,16 @@ pub const REQUESTS: [Line; 24] = [
     (16, G2),
     (17, "{\"do\":\"cancel-ground\",\"ground\":\"G2\"}"),
     (18, LATE),
+    (19, DENVER),
+    (20, AT_DENVER),
     (11, TAKE),
     (18, LATE),
     (11, RELEASE),
     (30, "{\"crew\":\"C9\",\"do\":\"assign\",\"pairing\":\"P3\"}"),
     (30, "{\"crew\":\"C2\",\"do\":\"assign\",\"pairing\":\"P3\"}"),
     (30, G1),
+    (30, AT_NO_BASE),
+    (30, DENVER),
 ];
 
 /// Three pairings and two ground duties, none at the time of another.

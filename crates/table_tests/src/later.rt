@@ -1,4 +1,5 @@
-//! Calls on the tables of bases and of outside periods that no command makes yet: each record that they find is told as a line.
+//! Calls on the tables of bases and of members' bases, and those on the tables of outside periods, which no command makes yet: each record
+//! that they find is told as a line.
 
 use crate::fault::Untold;
 use crate::keyed::{Told, in_order, look};
@@ -133,9 +134,11 @@ fn found<S: Alter>(
     }
 }
 
-const ALL: [Search; 6] = [
+const ALL: [Search; 8] = [
     Search::Bases,
     Search::BaseOf("C1"),
+    Search::BaseOf("C2"),
+    Search::BaseOf("C3"),
     Search::Outside("X1"),
     Search::OutsidesBy("C1"),
     Search::SegmentsOf("X1"),
@@ -160,6 +163,7 @@ fn changed<S: Alter>(
 
 fn told_over<S: Alter + Drop>(alloc: Global, mut conn: Connection<S>) -> Result<String, Untold> {
     make_tables(alloc, &mut conn)?;
+    conn.execute_batch("INSERT INTO base VALUES ('DEN', 'MST7MDT,M3.2.0,M11.1.0')")?;
     conn.execute_batch("INSERT INTO crew_base VALUES ('C1', 'HOME'), ('C2', 'DEN')")?;
     let added = [
         Change::Outside("X1", "C1", 100, 700),
@@ -181,11 +185,11 @@ fn outside_periods_are_added_found_and_removed(rt: HostRuntime) -> Result<(), Fa
     let conn = Connection::open_in_memory(rt.alloc())?;
     assert_eq!(rt;
         told_over(rt.alloc(), conn)?.as_str(),
-        "HOME|EST5EDT,M3.2.0,M11.1.0\nC1|HOME\n\
+        "DEN|MST7MDT,M3.2.0,M11.1.0\nHOME|EST5EDT,M3.2.0,M11.1.0\nC1|HOME\nC2|DEN\nnone\n\
         X1|C1|100|700\nX1|C1|100|700\nX2|C1|800|900\n\
         X1|1|110|300\nX1|2|310|690\nX2|1|810|890\n\
         then\n\
-        HOME|EST5EDT,M3.2.0,M11.1.0\nC1|HOME\n\
+        DEN|MST7MDT,M3.2.0,M11.1.0\nHOME|EST5EDT,M3.2.0,M11.1.0\nC1|HOME\nC2|DEN\nnone\n\
         none\nX2|C1|800|900\n\
         none\nX2|1|810|890\n"
     );

@@ -44,7 +44,25 @@ fn set_all<K: Row>(
     Ok(table.len())
 }
 
-/// Sets an entry for each row of a roster.
+/// Sets an entry for the base of each member.
+fn set_bases(
+    alloc: Global,
+    told: &mut Told,
+    roster: &mut Roster,
+    other: &mut Roster,
+    source: &Roster,
+) -> Result<(), Fault> {
+    for (who, member) in source.crew.iter() {
+        let zone = source.zone_of(who).try_clone(alloc)?;
+        let entry = Entry::Base(member.base.try_clone(alloc)?, zone);
+        let done = set(alloc, told, roster, other, &entry);
+        drop(entry);
+        done?;
+    }
+    Ok(())
+}
+
+/// Sets an entry for each row of a roster. A base is set after its members, so that it is compared.
 fn put_all(
     alloc: Global,
     told: &mut Told,
@@ -53,6 +71,7 @@ fn put_all(
     source: &Roster,
 ) -> Result<String, Fault> {
     let crew = set_all(alloc, told, roster, other, &source.crew)?;
+    set_bases(alloc, told, roster, other, source)?;
     let pairings = set_all(alloc, told, roster, other, &source.pairings)?;
     let grounds = set_all(alloc, told, roster, other, &source.grounds)?;
     let exceedances = set_all(alloc, told, roster, other, &source.exceedances)?;
@@ -61,7 +80,7 @@ fn put_all(
         return Err(Fault::Otherwise);
     }
     Ok(format!(in alloc;
-        "{crew} members, {pairings} pairings, {grounds} ground duty, {exceedances} exceedances, {requests} requests"
+        "{crew} members, each with its base, {pairings} pairings, {grounds} ground duty, {exceedances} exceedances, {requests} requests"
     )?)
 }
 

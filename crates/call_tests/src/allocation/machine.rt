@@ -5,7 +5,7 @@ ghost use Rattle.std.specs.FinMap as fin;
 ghost use Rattle.command.specs.Keys.{key_name};
 ghost use Rattle.roster.specs.Steps.{IsUnderFreeKey};
 
-use crate::allocation::same::are_rosters_same;
+use crate::allocation::same::{are_rosters_same, is_base_same};
 use crate::allocation::told::Told;
 use crate::fault::Fault;
 use crate::requests::{REQUESTS, eastern, requests};
@@ -14,7 +14,7 @@ use roster::{Change, Roster, Verdict};
 use std::alloc::Global;
 use values::MemoryFault;
 
-/// A roster with nothing but its zone.
+/// A roster with nothing but the base `HOME`.
 pub fn empty(alloc: Global) -> Result<Roster, Fault> {
     Ok(Roster::empty(alloc, eastern(alloc)?)?)
 }
@@ -50,7 +50,7 @@ fn change(
 {
     if roster.apply(alloc, change).is_err() {
         told.memory = true;
-        if !are_rosters_same(roster, other) {
+        if !are_rosters_same(roster, other) || !is_base_same(roster, other, &change.command) {
             return Err(Fault::Changed);
         }
         roster.apply(alloc, change)?;

@@ -1,7 +1,7 @@
 //! The entries of a roster, and the history of its duties.
 
 use crate::rows::Row;
-use duty::{Duty, History};
+use duty::{BaseId, Duty, History};
 use roster::{Entry, Roster};
 use std::alloc::Global;
 use std::test::Fail;
@@ -20,9 +20,23 @@ fn add_all<K: Row>(
     Ok(())
 }
 
+/// Adds an entry for `HOME`, and one for the base of each member who belongs to another one.
+fn add_bases(alloc: Global, roster: &Roster, entries: &mut Vec<Entry>) -> Result<(), Fail> {
+    let home = roster.bases.home().try_clone(alloc)?;
+    entries.push(Entry::Base(BaseId::home(alloc)?, home))?;
+    for (who, member) in roster.crew.iter() {
+        if !member.base.is_home() {
+            let zone = roster.zone_of(who).try_clone(alloc)?;
+            entries.push(Entry::Base(member.base.try_clone(alloc)?, zone))?;
+        }
+    }
+    Ok(())
+}
+
 /// An entry for each row, of copies of what stands in it.
 pub fn entries(alloc: Global, roster: &Roster) -> Result<Vec<Entry>, Fail> {
     let mut entries = Vec::new(alloc);
+    add_bases(alloc, roster, &mut entries)?;
     add_all(alloc, &roster.crew, &mut entries)?;
     add_all(alloc, &roster.pairings, &mut entries)?;
     add_all(alloc, &roster.grounds, &mut entries)?;

@@ -3,8 +3,8 @@
 ghost use Rattle.roster.specs.Steps.{IsUnderFreeKey};
 
 use crate::requests::{
-    CANCEL, CAPTAIN, G1, G2, LATE, Line, OFFICER, OTHER_CAPTAIN, P1, P2, P3, RELEASE, TAKE,
-    TAKE_RIGHT, eastern, key,
+    AT_DENVER, AT_NO_BASE, CANCEL, CAPTAIN, DENVER, G1, G2, LATE, Line, OFFICER, OTHER_CAPTAIN, P1,
+    P2, P3, RELEASE, TAKE, TAKE_RIGHT, eastern, key,
 };
 use command::{Command, Key};
 use roster::{Roster, Verdict};
@@ -12,8 +12,8 @@ use std::alloc::Global;
 use std::test::Fail;
 use stored_json::read_canonical;
 
-/// Commands of all nine kinds, each under a number of its own.
-const ACCEPTED: [Line; 20] = [
+/// Commands of all ten kinds, each under a number of its own.
+const ACCEPTED: [Line; 22] = [
     (1, CAPTAIN),
     (2, OTHER_CAPTAIN),
     (3, OFFICER),
@@ -40,10 +40,12 @@ const ACCEPTED: [Line; 20] = [
     ),
     (19, "{\"do\":\"cancel-ground\",\"ground\":\"G3\"}"),
     (20, LATE),
+    (21, DENVER),
+    (22, AT_DENVER),
 ];
 
 /// One for each refusal of the book, in the order of their numbers.
-const REFUSED: [Line; 16] = [
+const REFUSED: [Line; 18] = [
     (1, RELEASE),
     (30, "{\"do\":\"assign\",\"pairing\":\"P3\",\"crew\":\"C9\"}"),
     (30, CAPTAIN),
@@ -80,6 +82,8 @@ const REFUSED: [Line; 16] = [
         "{\"do\":\"actual\",\"pairing\":\"P1\",\"period\":1,\"report\":\"2025-06-10T11:00Z\",\"release\":\"2025-06-11T07:30Z\",\
         \"segments\":[{\"out\":\"2025-06-10T12:00Z\",\"in\":\"2025-06-10T14:00Z\"}]}",
     ),
+    (30, AT_NO_BASE),
+    (30, DENVER),
 ];
 
 /// A roster that was asked all requests, and its verdicts in turn.
