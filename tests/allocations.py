@@ -60,6 +60,14 @@ OFFICE = """
     12 fly P1 1 10: 11:00 | 23:00-+1 01:30 | +1 02:00
 """
 
+# What is there too, but in no book of version 1.
+DENVER = """
+    13 base DEN: MST7MDT,M3.2.0,M11.1.0
+    14 hire C9 captain DEN: Lee Roy
+"""
+
+AT_DENVER = "ROSTER C9 captain Lee Roy\nbase DEN\n"
+
 ROSTER = """\
 ROSTER C1 captain Ada Ray
 2025-06-10T11:00Z 2025-06-11T02:00Z pairing P1/1 actual fdp 14:30 flight 2:30
@@ -180,8 +188,11 @@ CASES = {
     "do_refused": asked("20 assign P2 C1", 1, TOO_SOON),
     "do_repeated": asked("4 assign P1 C1", 0, ACCEPTED),
     "do_actual": asked(LATE, 0, BOTH_LATE),
+    "do_base": asked("20 base PHX: MST7", 0, ACCEPTED),
+    "do_hire": asked("20 hire C8 captain DEN: Bo Lind", 0, ACCEPTED),
     "import": Call("import BOOK 500", schedule(PLANS), Ran(1, PARTS, ""), fronts=(schedule(PLANS[:1]), schedule(PLANS[:2]))),
     "roster": Call("roster BOOK C1", "", Ran(0, ROSTER, "")),
+    "roster_of_a_base": Call("roster BOOK C9", "", Ran(0, AT_DENVER, "")),
     "roster_of_version_1": Call("roster BOOK C1", "", Ran(0, ROSTER, ""), is_first=True),
     "pairing": Call("pairing BOOK P1", "", Ran(0, PAIRING, "")),
     "exceedances": Call("exceedances BOOK", "", Ran(0, EXCEEDANCES, "")),
@@ -223,7 +234,7 @@ class Desk:
     memory: Memory
     is_all: bool
     office: Book
-    first: Book  # the office's book in version 1
+    first: Book  # the office's book in version 1, without its second base
     passed: int = 0
     failed: int = 0
     name: str = ""
@@ -343,6 +354,7 @@ def main():
         desk = Desk(Path(room), Memory.built(room), asked_for.all, Book.made(room), Book(Path(tempfile.mkdtemp(dir=room))))
         desk.expect("the book", carry_out(desk.office, OFFICE), [])
         tables.lower(desk.office.file, desk.first.file)
+        desk.expect("its second base", carry_out(desk.office, DENVER), [])
         for desk.name in asked_for.cases or CASES:
             try_case(desk, CASES[desk.name])
     print(summary(desk))

@@ -9,6 +9,8 @@ a command, as tests/office.py has it, or a look into the tables of the book:
     20 assign P1 C1 -> accepted     under the number 20, with what has to be told
     assign P1 C1                    under a number of its own; it has to be accepted, and to break no limit
     seats -> P1 C1 -                each pairing with its captain and its first officer
+    bases -> HOME UTC0              each base with its zone
+    members -> C1 HOME              each member with the base to which the member belongs
     exceedances -> none             each exceedance that is kept
     planned P1 10: .. -> yes        whether the pairing is kept with these periods alone
 
@@ -387,12 +389,112 @@ REQUESTS = {
     """],
 }  # fmt: skip
 
+# ---- Bases, and members who belong to others than HOME, whose zone is New York's.
+
+# C9 belongs to Denver, whose clock is two hours behind that of C1, C2 and F1.
+DENVER = """
+    base DEN: MST7MDT,M3.2.0,M11.1.0
+    hire C9 captain DEN: Lee Roy
+"""
+
+# P1 reports at 12:00 in New York and at 10:00 in Denver, and lasts 13:59. Table B gives two flights 13 hours there, and 14 here.
+BOTH_CLOCKS = """
+    plan P1 10: 16:00 | 16:30-20:30, +1 01:29-+1 05:59 | +1 06:30
+"""
+
+BASES = {
+    "a_period_is_judged_by_the_clock_of_the_members_base": [DENVER, BOTH_CLOCKS, """
+        1 assign P1 C1 -> 12 Limits C1 117.13(a)
+        2 assign P1 C9 -> accepted
+        seats -> P1 C9 -
+    """],
+    # It reports at 20:30 in New York, where Table A gives 8 hours, and at 18:30 in Denver, where it gives 9.
+    "the_flight_time_too": [DENVER, """
+        plan P2 14: 00:30 | 01:00-09:01 | 09:30
+        1 assign P2 C1 -> 12 Limits C1 117.11(a)(1)
+        2 assign P2 C9 -> accepted
+    """],
+    # It reports at 07:00 in New York, where Table B gives 14 hours, and at 05:00 in Denver, where it gives 12.
+    "what_new_york_may_fly_denver_may_not": [DENVER, """
+        plan P3 10: 11:00 | 12:00-14:00, 22:00-+1 00:00 | +1 00:30
+        1 assign P3 C9 -> 12 Limits C9 117.13(a)
+        2 assign P3 C1 -> accepted
+    """],
+    # Each is judged by the clock of the member who gets the pairing, and not of the one who gives it.
+    "a_swap_is_judged_by_the_clock_of_who_gets_the_pairing": [DENVER, BOTH_CLOCKS, """
+        assign P1 C9
+        plan P3 17: 11:00 | 12:00-14:00, 22:00-+1 00:00 | +1 00:30
+        assign P3 C1
+        plan P4 24: 11:00 | 12:00-14:00 | 14:30
+        assign P4 C1
+        plan P5 28: 11:00 | 12:00-14:00 | 14:30
+        assign P5 C9
+        1 swap P4 C1 P1 C9 -> 12 Limits C1 117.13(a)
+        2 swap P1 C9 P4 C1 -> 12 Limits C1 117.13(a)
+        3 swap P3 C1 P5 C9 -> 12 Limits C9 117.13(a)
+        4 swap P3 C1 P1 C9 -> 12 Limits C1 117.13(a) C9 117.13(a)
+        5 swap P1 C9 P3 C1 -> 12 Limits C9 117.13(a) C1 117.13(a)
+        6 swap P4 C1 P5 C9 -> accepted
+    """],
+    # Planned at 13 hours, and flown for 13:59 and then for 14:01.
+    "each_of_a_crew_is_recorded_by_the_own_clock": [DENVER, """
+        plan P1 10: 16:00 | 16:30-20:30, +1 01:00-+1 05:00 | +1 05:30
+        assign P1 C9
+        assign P1 F1
+        1 fly P1 1 10: 16:00 | 16:30-20:30, +1 01:29-+1 05:59 | +1 06:30 -> accepted F1 117.13(a)
+        2 fly P1 1 10: 16:00 | 16:30-20:30, +1 01:31-+1 06:01 | +1 06:30 -> accepted C9 117.13(a) F1 117.13(a)
+        exceedances -> 1 0 F1 117.13(a) P1 1 | 2 0 C9 117.13(a) P1 1 | 2 0 F1 117.13(a) P1 1
+    """],
+    "every_book_has_home": ["""
+        bases -> HOME EST5EDT,M3.2.0,M11.1.0
+        members -> C1 HOME | C2 HOME | F1 HOME
+        1 base HOME: UTC0 -> 21 BaseExists
+        2 base HOME: EST5EDT,M3.2.0,M11.1.0 -> 21 BaseExists
+        bases -> HOME EST5EDT,M3.2.0,M11.1.0
+    """],
+    "a_base_is_added_once": ["""
+        1 base DEN: MST7MDT,M3.2.0,M11.1.0 -> accepted
+        1 base DEN: MST7MDT,M3.2.0,M11.1.0 -> repeated
+        1 base DEN: MST7 -> 1 NumberUsed
+        2 base DEN: MST7MDT,M3.2.0,M11.1.0 -> 21 BaseExists
+        3 base DEN: MST7 -> 21 BaseExists
+        bases -> DEN MST7MDT,M3.2.0,M11.1.0 | HOME EST5EDT,M3.2.0,M11.1.0
+    """],
+    # An id that is there is looked at before the base.
+    "a_member_belongs_to_a_base_that_is_there": [DENVER, """
+        1 hire C3 captain X: Lee Roy -> 20 NoSuchBase
+        2 hire C1 captain X: Ada Ray -> 3 CrewExists
+        3 hire C1 captain DEN: Ada Ray -> 3 CrewExists
+        4 hire C9 captain: Lee Roy -> 3 CrewExists
+        1 base X: UTC0 -> accepted
+        5 hire C3 captain X: Lee Roy -> accepted
+        members -> C1 HOME | C2 HOME | C3 X | C9 DEN | F1 HOME
+    """],
+    # HOME is left out of the text that is kept, whether the command names it or not.
+    "a_member_without_a_base_is_one_of_home": [DENVER, """
+        1 hire C3 captain: Lee Roy -> accepted
+        1 hire C3 captain HOME: Lee Roy -> repeated
+        1 hire C3 captain DEN: Lee Roy -> 1 NumberUsed
+        2 hire C4 captain HOME: Lee Roy -> accepted
+        2 hire C4 captain: Lee Roy -> repeated
+        3 hire C5 captain DEN: Lee Roy -> accepted
+        3 hire C5 captain: Lee Roy -> 1 NumberUsed
+        3 hire C5 captain HOME: Lee Roy -> 1 NumberUsed
+        members -> C1 HOME | C2 HOME | C3 HOME | C4 HOME | C5 DEN | C9 DEN | F1 HOME
+    """],
+}  # fmt: skip
+
 # ---- Commands that are refused unseen: for texts outside their shapes, equal sides of a swap, counts, times and chains.
 
 
 def hire(crew, name="Ada Ray"):
     """The JSON of hiring a captain whom no line can name."""
     return compact({"do": "add-crew", "crew": crew, "seat": "captain", "name": name})
+
+
+def base(base, zone="UTC0"):
+    """The JSON of a base that no line can name."""
+    return compact({"do": "add-base", "base": base, "zone": zone})
 
 
 def train(ground, crew, task):
@@ -416,6 +518,17 @@ SHAPES = {
         5 {hire("")} -> 18 BadField crew
         6 {hire("c1")} -> 18 BadField crew
         7 {hire("C 1")} -> 18 BadField crew
+    """],
+    "ids_of_bases_too": [f"""
+        1 {base("A")} -> accepted
+        2 {base("ABCDEFGHIJ-2")} -> accepted
+        3 {base("ABCDEFGHIJ-23")} -> 18 BadField base
+        4 {base("")} -> 18 BadField base
+        5 {base("den")} -> 18 BadField base
+        6 {base("home")} -> 18 BadField base
+        7 hire C9 captain den: Lee Roy -> 18 BadField base
+        8 hire C9 captain home: Lee Roy -> 18 BadField base
+        9 hire C9 captain ABCDEFGHIJ-2: Lee Roy -> accepted
     """],
     "names_are_of_1_to_60_bytes_without_control_bytes": [f"""
         1 {hire("N1", "Zoë Ray")} -> accepted
@@ -445,6 +558,8 @@ SHAPES = {
     "the_first_text_outside_its_shape_is_refused": [f"""
         1 {hire("c1", "")} -> 18 BadField crew
         2 {hire("C3", "")} -> 18 BadField name
+        10 hire c3 captain den: Lee Roy -> 18 BadField crew
+        11 {compact({**order("hire C3 captain den: -"), "name": ""})} -> 18 BadField name
         3 assign p1 c1 -> 18 BadField pairing
         4 assign P1 c1 -> 18 BadField crew
         5 release p1 c1 -> 18 BadField pairing
@@ -515,7 +630,7 @@ SHAPES = {
     """],
 }  # fmt: skip
 
-CASES = {**ASSIGNMENTS, **FLOWN_PERIODS, **JUDGEMENT, **REQUESTS, **SHAPES}
+CASES = {**ASSIGNMENTS, **FLOWN_PERIODS, **JUDGEMENT, **REQUESTS, **BASES, **SHAPES}
 
 
 @dataclass(frozen=True)
@@ -532,6 +647,10 @@ def look(book, line):
     match word:
         case "seats":
             return " | ".join(book.seats()) or "none"
+        case "bases":
+            return " | ".join(book.bases()) or "none"
+        case "members":
+            return " | ".join(book.members()) or "none"
         case "exceedances":
             return " | ".join(book.exceedances()) or "none"
         case "planned":

@@ -314,6 +314,17 @@ ROSTER C1 captain Ada Ray
     ("GET /exceedances", (200, "EXCEEDANCES 2\n7 C1 117.13(a) B101/1\n7 F1 117.13(a) B101/1\n")),
     ("GET /crew/C9", NO_CREW),
     ("GET /pairings/B999", NO_PAIRING),
+    ("10 base HOME: UTC0", (409, refused(21, "BaseExists"))),
+    ("10 hire C9 captain DEN: Lee Roy", (409, refused(20, "NoSuchBase"))),
+    ("10 hire C1 captain DEN: Lee Roy", (409, refused(3, "CrewExists"))),
+    ("10 base DEN: MST7MDT,M3.2.0,M11.1.0", (200, ACCEPTED)),
+    ("10 base DEN: MST7MDT,M3.2.0,M11.1.0", (200, ACCEPTED)),
+    ("10 base DEN: MST7", (409, refused(1, "NumberUsed"))),
+    ("11 base DEN: MST7MDT,M3.2.0,M11.1.0", (409, refused(21, "BaseExists"))),
+    ("11 base LAX: PST8PDT", (422, refused(31, "BadJson", field="zone"))),
+    ("11 base lax: PST8PDT,M3.2.0,M11.1.0", (422, refused(18, "BadField", field="base"))),
+    ("11 hire C9 captain DEN: Lee Roy", (200, ACCEPTED)),
+    ("GET /crew/C9", (200, "ROSTER C9 captain Lee Roy\nbase DEN\n")),
 ]  # fmt: skip
 
 

@@ -262,10 +262,10 @@ def try_zones(office):
 
 
 def try_members(office):
-    """The members of each of the nine commands, in turn, and those of a period and of a segment."""
+    """The members of each of the ten commands, in turn, and those of a period and of a segment."""
     rows = re.findall(r"^\| `([a-z-]+)` \| (`[^|]+`) \|$", text("docs/FORMATS.md"), re.M)
     wanted = [(name, re.findall(r"`(\w+)`", members)) for name, members in rows]
-    office.expect("the formats have nine commands", len({name for name, _ in wanted}), 9)
+    office.expect("the formats have ten commands", len({name for name, _ in wanted}), 10)
     page = text(MANUAL)
     for where, said in (("do --help", rosterbook("do", "--help").out), ("the manual page", plain_lines(section(page, "COMMANDS")))):
         listed = re.findall(r"^ *([a-z]+(?:-[a-z]+)?)  +((?:[a-z_]+, )*[a-z_]+)$", said, re.M)

@@ -6,8 +6,9 @@
 Tables A and B are asked of `duty`, at the first and the last minute of each row, with one to eight segments, and on both sides of
 what they give. Then members fly, train and are assigned pairings at times without a pattern, and each answer of `do` is compared
 with a count, minute by minute, of docs/RULES.md ("The eight limits"): duties overlap, touch, begin at minute 0 and run for days,
-and some members have none. The times are the same in each run. What differs is told on standard error. The last line is
-'N passed, M failed', and the exit status 1 where M isn't 0.
+and some members have none. The members belong to three bases, and some books are of a week in which daylight saving time begins at
+one of these. The times are the same in each run. What differs is told on standard error. The last line is 'N passed, M failed',
+and the exit status 1 where M isn't 0.
 """
 
 import shutil
@@ -16,12 +17,14 @@ import tempfile
 from concurrent.futures import ProcessPoolExecutor
 from copy import deepcopy
 from dataclasses import dataclass, field
+from datetime import datetime, timedelta
 from itertools import accumulate, chain, compress, repeat
 from operator import sub
 
 from office import SECTIONS, Book, Ran, build, instant, rosterbook, told
 
 DAY = 1_440
+FIRST = datetime(2000, 1, 1)  # minute 0
 
 # ---- The tables, as 14 CFR Part 117 prints them: the first minute of a row, the first of the next, and hours.
 
@@ -98,16 +101,48 @@ def try_tables(desk):
         desk.expect(f"a period with {times}", rosterbook("duty", "UTC0", *times), line_of(start, segments))
 
 
-# ---- Duties in force, and the slow count.
+# ---- The bases, and what the clock of each shows.
 
-OFFSET = -300  # the clock's of the zone EST5
+
+def sunday(year, month, week, hour):
+    """The instant at an hour of UTC on the first Sunday of a month, the second and so on; the fifth stands for the last one."""
+    first = datetime(year, month, 1, hour)
+    days = [first + timedelta(days=day) for day in range(31)]
+    return [day for day in days if day.weekday() == 6 and day.month == month][week - 1 if week < 5 else -1]
+
+
+@dataclass(frozen=True)
+class Zone:
+    """A zone: its rule, and by how many hours its clock is ahead of UTC in winter. Where it has summer time, an hour more, that begins
+    and ends on a Sunday of a month at an hour of UTC."""
+
+    rule: str
+    hours: int
+    summer: tuple = ()
+
+    def clock(self, minute):
+        """The minute of the day that its clock shows at an instant."""
+        moment = FIRST + timedelta(minutes=minute)
+        is_summer = self.summer and sunday(moment.year, *self.summer[0]) <= moment < sunday(moment.year, *self.summer[1])
+        return (minute + 60 * (self.hours + bool(is_summer))) % DAY
+
+
+ZONES = {
+    "HOME": Zone("EST5EDT,M3.2.0,M11.1.0", -5, ((3, 2, 7), (11, 1, 6))),
+    "PHX": Zone("MST7", -7),
+    "LON": Zone("GMT0BST,M3.5.0/1,M10.5.0", 0, ((3, 5, 1), (10, 5, 1))),
+}
+CAPTAINS, OFFICERS = ("C1", "C2", "C3"), ("F1", "F2", "F3")
+BASES = {"C1": "HOME", "C2": "PHX", "C3": "LON", "F1": "LON", "F2": "HOME", "F3": "PHX"}
+
+# ---- Duties in force, and the slow count. Times are in minutes after the first minute of a book's horizon.
 
 
 @dataclass(frozen=True)
 class Period:
-    """A flight duty period in force: the minute of the day of its planned report, and its times."""
+    """A flight duty period in force: the minute of the day of its planned report, by the clock of each base, and its times."""
 
-    start: int
+    starts: dict = field(hash=False)
     report: int
     segments: tuple
     release: int
@@ -178,16 +213,23 @@ def lacks_rest(held, new, new_duties, duties, width, lacks):
     )
 
 
-def broken(new_duties, others):
-    """The sections that new duties of a member break beside the others, in order."""
+def breaks_tables(period, base):
+    """Whether a period exceeds Table A, and whether it exceeds Table B, by the clock of a base."""
+    start = period.starts[base]
+    flight = sum(last - first for first, last in period.segments)
+    return flight > table_a(start), period.last_in - period.report > table_b(start, len(period.segments))
+
+
+def broken(new_duties, others, base):
+    """The sections that new duties of a member of this base break beside the others, in order."""
     duties = [*others, *new_duties]
     end = max(last for duty in duties for _, last in duty_spans(duty))
     flight, period, duty = (minutes(duties, spans, end) for spans in (flight_spans, period_spans, duty_spans))
     new_flight, new_period, new_duty = (minutes(new_duties, spans, end) for spans in (flight_spans, period_spans, duty_spans))
-    flown = [it for it in new_duties if isinstance(it, Period)]
+    flown = [breaks_tables(it, base) for it in new_duties if isinstance(it, Period)]
     found = (
-        any(sum(last - first for first, last in it.segments) > table_a(it.start) for it in flown),
-        any(it.last_in - it.report > table_b(it.start, len(it.segments)) for it in flown),
+        any(is_over_a for is_over_a, _ in flown),
+        any(is_over_b for _, is_over_b in flown),
         is_over(flight, new_flight, 672 * 60, 100 * 60),
         is_over([day.count(1) for day in days(flight)], bytes(1 in day for day in days(new_flight)), 365, 1_000 * 60),
         is_over(period, new_period, 168 * 60, 60 * 60),
@@ -207,19 +249,18 @@ def overlap(new_duties, others):
 
 # ---- Books of members who fly, train and are assigned pairings at times without a pattern.
 
-CAPTAINS, OFFICERS = ("C1", "C2", "C3"), ("F1", "F2", "F3")
-
 
 @dataclass(frozen=True)
 class Scale:
-    """How many books there are, how many commands each is asked, and how large they are: times are multiples of `grid` minutes, duties
-    begin in the first `horizon` of these units, and nothing in them lasts `longest` units."""
+    """How many books there are, how many commands each is asked, and how large they are: times are multiples of `grid` minutes after
+    the first minute of a day, duties begin in the first `horizon` of these units, and nothing in them lasts `longest` units."""
 
     books: int
     steps: int
     grid: int
     horizon: int
     longest: int
+    first: int = 0
 
     @property
     def end(self):
@@ -227,7 +268,11 @@ class Scale:
         return ((self.horizon + 6 * self.longest + 6) * self.grid // DAY + 1) * DAY
 
 
-SCALES = (Scale(60, 30, 60, 200, 12), Scale(60, 30, 1, 14_000, 900), Scale(30, 30, 120, 250, 30), Scale(20, 20, 720, 1_000, 40))
+# Summer time begins at HOME on 9 March 2025, at 07:00 of UTC.
+MARCH = (datetime(2025, 3, 5) - FIRST).days * DAY
+SCALES = (
+    Scale(60, 30, 60, 200, 12), Scale(60, 30, 1, 14_000, 900, MARCH), Scale(30, 30, 120, 250, 30), Scale(20, 20, 720, 1_000, 40),
+)  # fmt: skip
 
 
 @dataclass
@@ -269,7 +314,7 @@ class Model:
         others = self.others(member)
         if overlap(new_duties, others):
             return "11 Overlap"
-        sections = broken(new_duties, others)
+        sections = broken(new_duties, others, BASES[member])
         return " ".join(["12 Limits", *(f"{member} {section}" for section in sections)]) if sections else None
 
     def assign(self, pairing, member):
@@ -288,7 +333,7 @@ class Model:
         self.pairings[pairing][place] = period
         words = ["accepted"]
         for member in self.seats[pairing]:
-            words += [f"{member} {section}" for section in broken([period], self.others(member, pairing, place))]
+            words += [f"{member} {section}" for section in broken([period], self.others(member, pairing, place), BASES[member])]
         return " ".join(words)
 
 
@@ -301,46 +346,61 @@ def drawn_period(draws, scale, plan=None):
         time = block_out + draws.below(scale.longest - 1) + 1
         segments.append((block_out * scale.grid, time * scale.grid))
     report, release = report * scale.grid, (time + draws.below(3)) * scale.grid
-    return Period(plan.start if plan else (report + OFFSET) % DAY, report, tuple(segments), release)
+    return Period(plan.starts if plan else clocks(scale.first + report), report, tuple(segments), release)
 
 
-def short_period(report, segments):
+def clocks(minute):
+    """The minute of the day that the clock of each base shows at an instant."""
+    return {base: zone.clock(minute) for base, zone in ZONES.items()}
+
+
+def short_period(first, report, segments):
     """A period of segments of a minute each."""
     times = tuple((report + place, report + place + 1) for place in range(segments))
-    return Period((report + OFFSET) % DAY, report, times, report + segments)
+    return Period(clocks(first + report), report, times, report + segments)
 
 
-def written(period):
+def written(period, at):
     """The times of a period, as an actual has them."""
-    segments = [{"out": instant(block_out), "in": instant(block_in)} for block_out, block_in in period.segments]
-    return {"report": instant(period.report), "release": instant(period.release), "segments": segments}
+    segments = [{"out": at(block_out), "in": at(block_in)} for block_out, block_in in period.segments]
+    return {"report": at(period.report), "release": at(period.release), "segments": segments}
 
 
-def schedule(pairings):
+def schedule(pairings, at):
     """Pairings as a schedule in CSV."""
     records = ["pairing,period,report,release,flight,from,out,to,in"]
     for name, periods in pairings.items():
         for number, period in enumerate(periods, 1):
             for block_out, block_in in period.segments:
-                times = f"{instant(period.report)},{instant(period.release)},RB1,BOS,{instant(block_out)},BOS,{instant(block_in)}"
+                times = f"{at(period.report)},{at(period.release)},RB1,BOS,{at(block_out)},BOS,{at(block_in)}"
                 records.append(f"{name},{number},{times}")
     return "".join(f"{record}\n" for record in records)
 
 
+CLOCK = "a flown period exceeds other tables by HOME's clock"
+COUNTED = (*SECTIONS, CLOCK)
+
+
 @dataclass
 class Walk:
-    """A book, what it has to hold, and how often each section was broken."""
+    """A book, what it has to hold, how often each section was broken and the clock of the own base decided that, and the first minute
+    of its horizon."""
 
     book: Book
     model: Model
     tally: dict
+    first: int
 
     def copy(self):
-        return Walk(self.book.copy(), deepcopy(self.model), self.tally)
+        return Walk(self.book.copy(), deepcopy(self.model), self.tally, self.first)
+
+    def at(self, minute):
+        """The instant of a minute after the first one."""
+        return instant(self.first + minute)
 
     def add(self, pairings):
         """Adds pairings, which nobody holds."""
-        self.book.import_schedule(self.book.take_number(), schedule(pairings))
+        self.book.import_schedule(self.book.take_number(), schedule(pairings, self.at))
         self.model.pairings |= pairings
         self.model.seats |= {name: [None, None] for name in pairings}
 
@@ -356,14 +416,16 @@ class Walk:
         return self.compare({"do": "assign", "pairing": pairing, "crew": member}, wanted)
 
     def train(self, member, training):
-        times = {"begin": instant(training.begin), "end": instant(training.end)}
+        times = {"begin": self.at(training.begin), "end": self.at(training.end)}
         ground = f"G{len(self.model.trainings)}"
         wanted = self.model.train(member, training)
         return self.compare({"do": "add-ground", "ground": ground, "crew": member, "task": "Simulator", **times}, wanted)
 
     def fly(self, pairing, place, period):
         wanted = self.model.fly(pairing, place, period)
-        return self.compare({"do": "actual", "pairing": pairing, "period": place + 1, **written(period)}, wanted)
+        at_home = breaks_tables(period, "HOME")
+        self.tally[CLOCK] += sum(breaks_tables(period, BASES[member]) != at_home for member in self.model.seats[pairing])
+        return self.compare({"do": "actual", "pairing": pairing, "period": place + 1, **written(period, self.at)}, wanted)
 
     def step(self, draws, scale):
         """One command: most often a period is flown, else a ground duty added or a pairing assigned."""
@@ -385,12 +447,16 @@ class Walk:
 def crewed_book(room, draws, scale, tally):
     """A book of eight pairings after the horizon, each with a crew, whose periods are flown before it; and what was wrong. The last
     captain and the last first officer hold none."""
-    walk = Walk(Book.made(room, "EST5"), Model(), tally)
+    walk = Walk(Book.made(room, ZONES["HOME"].rule), Model(), tally, scale.first)
+    for base, zone in ZONES.items():
+        if base != "HOME":
+            walk.book.settle(f"base {base}: {zone.rule}")
     for member in CAPTAINS:
-        walk.book.settle(f"hire {member} captain: Ada Ray")
+        walk.book.settle(f"hire {member} captain {BASES[member]}: Ada Ray")
     for member in OFFICERS:
-        walk.book.settle(f"hire {member} first-officer: Bo Lind")
-    far = {f"FAR{place}": [short_period(scale.end + 3 * DAY * place + draws.below(DAY), draws.below(3) + 1)] for place in range(8)}
+        walk.book.settle(f"hire {member} first-officer {BASES[member]}: Bo Lind")
+    ends = [scale.end + 3 * DAY * place for place in range(8)]
+    far = {f"FAR{place}": [short_period(scale.first, end + draws.below(DAY), draws.below(3) + 1)] for place, end in enumerate(ends)}
     walk.add(far)
     crews = [(pairing, member) for place, pairing in enumerate(far) for member in (CAPTAINS[place // 6], OFFICERS[place % 2])]
     found = [walk.assign(pairing, member) for pairing, member in crews]
@@ -400,7 +466,8 @@ def crewed_book(room, draws, scale, tally):
 def first_difference(walk, draws, scale):
     """What the first answer that differs from the count is, or None."""
     near = {f"NEAR{place}": [drawn_period(draws, scale)] for place in range(4)}
-    later = {f"LATER{place}": [short_period(draws.below(scale.horizon) * scale.grid, draws.below(3) + 1)] for place in range(4)}
+    short = lambda: short_period(scale.first, draws.below(scale.horizon) * scale.grid, draws.below(3) + 1)
+    later = {f"LATER{place}": [short()] for place in range(4)}
     walk.add(near | later)
     for _ in range(scale.steps):
         difference = walk.step(draws, scale)
@@ -412,7 +479,7 @@ def first_difference(walk, draws, scale):
 def walked(start, number, scale):
     """The first difference in a copy of a book, by draws of its own, and how often each section was broken."""
     walk = start.copy()
-    walk.tally = dict.fromkeys(SECTIONS, 0)
+    walk.tally = dict.fromkeys(COUNTED, 0)
     difference = first_difference(walk, Draws(117 + number), scale)
     shutil.rmtree(walk.book.folder)
     return difference, walk.tally
@@ -420,18 +487,18 @@ def walked(start, number, scale):
 
 def try_judgement(desk):
     draws = Draws()
-    tally = dict.fromkeys(SECTIONS, 0)
+    tally = dict.fromkeys(COUNTED, 0)
     with ProcessPoolExecutor() as pool:
         for scale in SCALES:
             start, difference = crewed_book(desk.room, draws, scale, tally)
             desk.expect(f"crews of a book by {scale.grid} minutes", difference, None)
             numbers = range(scale.books)
-            for number, (difference, broken) in enumerate(pool.map(walked, repeat(start), numbers, repeat(scale))):
+            for number, (difference, counted) in enumerate(pool.map(walked, repeat(start), numbers, repeat(scale))):
                 desk.expect(f"book {number} by {scale.grid} minutes", difference, None)
-                for section, count in broken.items():
-                    tally[section] += count
-    for section, count in tally.items():
-        desk.expect(f"{section} is broken {count} times, which is", "enough" if count >= 10 else "not enough", "enough")
+                for what, count in counted.items():
+                    tally[what] += count
+    for what, count in tally.items():
+        desk.expect(f"{what}: {count} times, which is", "enough" if count >= 10 else "not enough", "enough")
 
 
 @dataclass

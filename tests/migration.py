@@ -84,6 +84,7 @@ KEPT = (6, "assign P1 C1", ACCEPTED)
 LATE_REPORTS = reports.CASES["a_late_period_is_shown_as_flown"][1]
 LATE_KEPT = (
     (1_000, "hire C1 captain: Ada Ray", ACCEPTED),
+    (1_000, "hire C1 captain HOME: Ada Ray", ACCEPTED),
     (
         113,
         "fly P13A 1 10: 11:00 | 23:00-+1 07:00 | +1 07:30",
@@ -199,6 +200,15 @@ def try_requests(desk):
     desk.expect("a new member", book.do(100, order("hire C3 captain: Cy Moe")), Ran(0, f"{ACCEPTED}\n", ""))
     with_member = [*before, "crew C3|0|Cy Moe", f'request 100|0|{compact(order("hire C3 captain: Cy Moe"))}|{ACCEPTED}']
     desk.expect_migrated("after a new member", book, sorted(with_member))
+    denver = order("base DEN: MST7MDT,M3.2.0,M11.1.0")
+    book = desk.first.copy()
+    desk.expect("a new base", book.do(100, denver), Ran(0, f"{ACCEPTED}\n", ""))
+    with_base = [*before, f"base DEN|{denver['zone']}", f"request 100|0|{compact(denver)}|{ACCEPTED}"]
+    desk.expect_migrated("after a new base", book, sorted(with_base))
+    book = desk.first.copy()
+    no_base = compact({"name": "NoSuchBase", "refusal": 20, "result": "refused"})
+    desk.expect("a member of no base", book.do(100, order("hire C3 captain DEN: Cy Moe")), Ran(1, f"{no_base}\n", ""))
+    desk.expect_migrated("after a member of no base", book, before)
     book = desk.first.copy()
     header = "pairing,period,report,release,flight,from,out,to,in\n"
     desk.expect("a schedule of nothing", book.import_schedule(100, header), Ran(0, "", ""))
@@ -216,7 +226,8 @@ def try_server(desk):
 
 
 def try_late_flight(desk):
-    """The reports of a flight that came late, and the requests of it, after they were kept in version 1."""
+    """The reports of a flight that came late, and the requests of it, after they were kept in version 1. A member who was added then is
+    added no second time by a command that names HOME."""
     book = Book.made(desk.room)
     desk.expect("the book", reports.carry_out(book, reports.MEMBERS + reports.A_LATE_PERIOD), [])
     first = Book(desk.room / "late")

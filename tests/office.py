@@ -7,8 +7,10 @@
 
 A line is a command, on a day of June 2025 (`10`) or of the whole year (`day-365`):
 
+    base DEN: MST7MDT,M3.2.0,M11.1.0
     hire C1 captain: Ada Ray
     hire F1 first-officer: Zoë Roy
+    hire C9 captain DEN: Lee Roy
     plan P1 10: 11:00 | 12:00-19:30 | 20:00
     plan P2 10: 11:00 | 12:00-14:00, 15:00-17:00 | 20:00; 11: 16:00 | 17:00-+1 01:00 | +1 01:30
     cancel P1
@@ -19,7 +21,7 @@ A line is a command, on a day of June 2025 (`10`) or of the whole year (`day-365
     excuse G1
     fly P1 1 10: 11:00 | 12:00-19:30 | 20:00
 
-Periods are written as `report | out-in, out-in | release`, and `+1` is the day after. Flights are RB1, RB2 and so on, from BOS
+`hire` without a base leaves that member of the command out. Periods are written as `report | out-in, out-in | release`, and `+1` is the day after. Flights are RB1, RB2 and so on, from BOS
 to IAD and back in turn; a plan may name all those of a period itself, as `RB7/BOS/JFK 12:00-19:30`. A ground duty, which `train`
 adds and `excuse` cancels, is one of C1 in the simulator. Any other command is written as its JSON, `{"do":"assign", ..}`.
 
@@ -130,8 +132,12 @@ def order(line):
         return json.loads(line)
     head, _, text = line.partition(": ")
     match head.split():
+        case ["base", base]:
+            return {"do": "add-base", "base": base, "zone": text}
         case ["hire", crew, seat]:
             return {"do": "add-crew", "crew": crew, "seat": seat.replace("-", " "), "name": text}
+        case ["hire", crew, seat, base]:
+            return {"do": "add-crew", "crew": crew, "seat": seat.replace("-", " "), "name": text, "base": base}
         case ["plan", pairing]:
             return {"do": "add-pairing", "pairing": pairing, "periods": []}
         case ["plan", pairing, _]:
@@ -171,6 +177,11 @@ def schedule(lines):
 def compact(value):
     """The JSON of a value with no blanks, and its members in order."""
     return json.dumps(value, ensure_ascii=False, separators=(",", ":"), sort_keys=True)
+
+
+def kept_text(command):
+    """The text that a book keeps of a command, which has its instants in the first form: it names no base where that is HOME."""
+    return compact({name: value for name, value in command.items() if (name, value, command["do"]) != ("base", "HOME", "add-crew")})
 
 
 def told(ran):
@@ -258,7 +269,7 @@ class Book:
         is_accepted = words.startswith("accepted")
         if after == before:
             return words.replace("accepted", "repeated", 1) if is_accepted else words
-        kept = (number, 0, compact(command), ran.out.strip())
+        kept = (number, 0, kept_text(command), ran.out.strip())
         if is_accepted and after["request"] == before["request"] | {kept}:
             return words
         return f"{words}, with other requests than before: {sorted(before['request'] ^ after['request'])}"
@@ -276,6 +287,14 @@ class Book:
     def requests(self):
         """The rows of its requests, in order."""
         return self.rows("SELECT * FROM request ORDER BY number, part")
+
+    def bases(self):
+        """Each base with its zone."""
+        return [f"{base} {zone}" for base, zone in self.rows("SELECT id, zone FROM base ORDER BY id")]
+
+    def members(self):
+        """Each member with the base to which the member belongs."""
+        return [f"{crew} {base}" for crew, base in self.rows("SELECT crew, base FROM crew_base ORDER BY crew")]
 
     def seats(self):
         """Each pairing with its captain and its first officer, or a dash for nobody."""

@@ -173,8 +173,8 @@ helps() {
     help_of '' duty init 'do' import roster pairing exceedances serve FILE ZONE NUMBER PORT CREW PAIRING REPORT TIME "$zone" "$report" \
         REFUSALS.md 'man rosterbook'
     help_of duty duty ZONE REPORT TIME "$zone" "$report" 'UTC instant' Example:
-    help_of init init FILE ZONE "$zone" UTC 'new or empty' Example:
-    help_of 'do' 'do' FILE 'JSON on standard input' '"number":1' '  add-crew        crew, seat, name' \
+    help_of init init FILE ZONE "$zone" UTC 'new or empty' 'base HOME' Example:
+    help_of 'do' 'do' FILE 'JSON on standard input' '"number":1' '  add-base        base, zone' '  add-crew        crew, seat, name, base' \
         '  actual          pairing, period, report, release, segments' '90 Store' 'Exit status'
     help_of import import FILE NUMBER 'CSV on standard input' 'from 1 to 9223372036854775807' '  pairing,period,report,release,flight,from,out,to,in' \
         'record 1' '90 Store' 'Exit status'

@@ -162,6 +162,30 @@ CASES = {
             2025-06-20T15:00Z 2025-06-20T16:00Z ground B a, "b"
         """,
     }],
+    "a_member_of_another_base_than_home_has_a_line_of_it": ["""
+        base DEN: MST7MDT,M3.2.0,M11.1.0
+        hire C9 captain DEN: Lee Roy
+        hire F9 first-officer HOME: Ann Oh
+        plan P1 10: 16:00 | 16:30-20:30, +1 01:29-+1 05:59 | +1 06:30
+        assign P1 C9
+    """, {
+        "roster C9": """
+            ROSTER C9 captain Lee Roy
+            base DEN
+            2025-06-10T16:00Z 2025-06-11T06:30Z pairing P1/1 plan fdp 13:59 flight 8:30
+        """,
+        "roster F9": "ROSTER F9 first officer Ann Oh",
+        "roster C1": "ROSTER C1 captain Ada Ray",
+        "pairing P1": """
+            PAIRING P1
+            captain C9
+            first officer -
+            1 plan report 2025-06-10T16:00Z release 2025-06-11T06:30Z
+            1.1 RB1 BOS 2025-06-10T16:30Z IAD 2025-06-10T20:30Z
+            1.2 RB2 IAD 2025-06-11T01:29Z BOS 2025-06-11T05:59Z
+        """,
+        "exceedances": "EXCEEDANCES 0",
+    }],
     "a_period_of_more_than_99_hours": ["""
         plan P1 10: 11:00 | 12:00-19:30 | 20:00
         assign P1 C1

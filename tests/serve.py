@@ -386,7 +386,7 @@ def try_life(desk):
         desk.expect("the end", ended, server.served(FAILED * lines))
         desk.expect("a number of failed connections", 12 <= lines <= 40, True)
     desk.expect("the tables", book.tables(), other.tables())
-    desk.expect("how many are kept", len(book.requests()), 14 + 3 + 7)
+    desk.expect("how many are kept", len(book.requests()), 16 + 3 + 7)
 
 
 def takes_turn(server, turn):

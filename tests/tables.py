@@ -5,7 +5,7 @@
 
 Books of version 1 and of version 2 are made by plain SQL (tests/tables/version_1.sql, version_2.sql), and the program is asked: such
 with a damage, or with two, of which the first table has to be named (damages.txt), and sound ones, whose answers tell how their rows are
-read (answers.txt). Books that the program makes are read by plain SELECTs: after each order of a story (story.txt), with the longest
+read (answers.txt, and of those with a second base bases.txt). Books that the program makes are read by plain SELECTs: after each order of a story (story.txt), with the longest
 pairing, with the greatest key, and beside other tables. One of them is damaged (late.txt), and the tables of others are offered rows
 that they have to refuse (refused.txt). The SQL is that of Python's own `sqlite3`, of SQLite 3.37 or newer. What differs is told on
 standard error. The last line is 'N passed, M failed', and the exit status 1 where M isn't 0.
@@ -112,7 +112,8 @@ def ran(*words, given=""):
 
 # What an order in words names, in turn.
 NAMED = {
-    "add-crew": ("crew", "seat", "name"),
+    "add-base": ("base", "zone"),
+    "add-crew": ("crew", "seat", "name", "base"),
     "cancel-pairing": ("pairing",),
     "assign": ("pairing", "crew"),
     "release": ("pairing", "crew"),
@@ -262,18 +263,18 @@ def long_pairings():
 def try_damages(desk):
     for statements, wanted, versions in (*damages("damages.txt"), *long_pairings()):
         for version in versions:
-            try_damage(desk, version, statements, wanted)
+            try_damage(desk, version, statements, wanted, wanted == "loaded" and 1 in versions)
     for version in (1, 2):
         file = database(desk.file(), sound(version) + "DELETE FROM seat WHERE pairing = 'P1' AND seat = 1")
         desk.expect("damaged", ran("do", file), of_nothing("41 Damaged seat"))
         desk.expect("mended", ran("do", database(file, "INSERT INTO seat VALUES ('P1', 1, 'F1')")), of_nothing("loaded"))
 
 
-def try_damage(desk, version, statements, wanted):
-    """A book of this version after these statements. What isn't loaded stays as it is, and what is loaded is of version 2 then."""
-    is_loaded = wanted == "loaded"
-    file = database(desk.file(), sound(version, statements) if is_loaded else sound(version) + statements)
-    expect = desk.expect_migrated if is_loaded and version == 1 else desk.expect_kept
+def try_damage(desk, version, statements, wanted, is_of_both):
+    """A book of this version after these statements, or, where they are of both versions, made of one of version 1 after them. What
+    isn't loaded stays as it is, and what is loaded is of version 2 then."""
+    file = database(desk.file(), sound(version, statements) if is_of_both else sound(version) + statements)
+    expect = desk.expect_migrated if wanted == "loaded" and version == 1 else desk.expect_kept
     expect(f"version {version}: {statements}", file, lambda: ran("do", file), of_nothing(wanted))
 
 
@@ -294,15 +295,28 @@ def try_no_books(desk):
         desk.expect_kept(f"no book: {statements}", file, lambda: ran("do", file), of_nothing("40 NotABook"))
 
 
+def answers(name):
+    """The statements of a file, each with what a book is asked after them, in words, and what it answers."""
+    for statements, lines in read(name):
+        for words, wanted in (it.split(": ") for line in lines for it in line.split(" | ")):
+            yield statements, words, wanted
+
+
+def try_answer(desk, name, statements, words, wanted):
+    """What a book of these statements answers."""
+    file = database(desk.file(), statements)
+    number, rest = words.split(" ", 1) if words[0].isdigit() else (100, words)
+    desk.expect(f"{name}: {words}", asked(file, rest, number), answer(wanted))
+
+
 def try_answers(desk):
     for version in (1, 2):
-        for statements, lines in read("answers.txt"):
-            for words, wanted in (it.split(": ") for line in lines for it in line.split(" | ")):
-                file = database(desk.file(), sound(version, statements))
-                number, rest = words.split(" ", 1) if words[0].isdigit() else (100, words)
-                desk.expect(f"version {version}: {statements}: {words}", asked(file, rest, number), answer(wanted))
+        for statements, words, wanted in answers("answers.txt"):
+            try_answer(desk, f"version {version}: {statements}", sound(version, statements), words, wanted)
         file = database(desk.file(), sound(version))
         desk.expect("a held part", imported(file, "13", ["P4", "P5"]), "1 accepted\n2 refused 1 NumberUsed\n[1]\n")
+    for statements, words, wanted in answers("bases.txt"):
+        try_answer(desk, statements, sound(2) + statements, words, wanted)
 
 
 def try_story(desk):

@@ -3,7 +3,7 @@
 
     tests/texts.py
 
-Instants and zones are those of `duty` and of ground duties, requests those of `do`, and schedules those of `import`. Each text
+Instants and zones are those of `duty`, of ground duties and of bases, requests those of `do`, and schedules those of `import`. Each text
 stands here with what docs/FORMATS.md has of it: a refusal in words, as tests/office.py tells it, or the text that the command is
 kept as, which is read from the table `request`. A schedule and some requests are also cut after each of their bytes; what a cut
 schedule is told is worked out with Python's own reader of CSV. What differs is told on standard error. The line before the last one
@@ -118,7 +118,26 @@ REFUSED = {
         '{"number":1,"do":"assign","pairing":"p1","crew":5}',
     ],
     "31 BadJson seat": ['{"number":1,"do":"add-crew","crew":"c","seat":"Captain"}'],
-    "31 BadJson name": ['{"number":1,"do":"add-crew","crew":"c","seat":"captain"}'],
+    "31 BadJson name": [
+        '{"number":1,"do":"add-crew","crew":"c","seat":"captain"}',
+        '{"number":1,"do":"add-crew","crew":"c","seat":"captain","base":null}',
+    ],
+    # A base may be missing where a member is added, and is a text else.
+    "31 BadJson base": [
+        '{"number":1,"do":"add-crew","crew":"c","seat":"captain","name":"","base":null}',
+        '{"number":1,"do":"add-crew","crew":"c","seat":"captain","name":"","base":5}',
+        '{"number":1,"do":"add-crew","crew":"c","seat":"captain","name":"","base":["HOME"]}',
+        '{"number":1,"do":"add-crew","crew":"c","seat":"captain","name":"","base":"HOME","base":null}',
+        '{"number":1,"do":"add-base"}',
+        '{"number":1,"do":"add-base","zone":"nowhere"}',
+        '{"number":1,"do":"add-base","base":null,"zone":"nowhere"}',
+    ],
+    "31 BadJson zone": [
+        '{"number":1,"do":"add-base","base":"den"}',
+        '{"number":1,"do":"add-base","base":"den","zone":"nowhere"}',
+        '{"number":1,"do":"add-base","base":"HOME","zone":null}',
+        '{"number":1,"do":"add-base","base":"HOME","zone":5}',
+    ],
     "31 BadJson periods": ['{"number":1,"do":"add-pairing","pairing":"p","periods":{}}'],
     "31 BadJson other_pairing": ['{"number":1,"do":"swap","pairing":"p","crew":"c"}'],
     "31 BadJson other_crew": ['{"number":1,"do":"swap","pairing":"p","crew":"c","other_pairing":"q"}'],
@@ -142,6 +161,12 @@ REFUSED = {
     "18 BadField pairing": [
         '{"number":1,"do":"assign","pairing":"p","crew":"c"}',
         f'{{"number":1,"do":"actual","pairing":"p","period":1,{TIMES},"segments":[]}}',
+    ],
+    "18 BadField base": [
+        '{"number":1,"do":"add-base","base":"den","zone":"UTC0"}',
+        '{"number":1,"do":"add-base","base":"","zone":"UTC0"}',
+        '{"number":1,"do":"add-crew","crew":"C1","seat":"captain","name":"Ada Ray","base":"home"}',
+        '{"number":1,"do":"add-crew","crew":"C1","seat":"captain","name":"Ada Ray","base":""}',
     ],
     "18 BadField ground": [r'{"number":1,"do":"cancel-ground","ground":"G\u0000"}'],
     "18 BadField name": [
@@ -233,6 +258,19 @@ KEPT = [
         '{"out":"2025-06-19T12:05Z","in":"2025-06-19T14:40Z"},{"out":"2025-06-19T16:05Z","in":"2025-06-19T18:40Z"}]}',
         '{"do":"actual","pairing":"P1","period":10,"release":"2025-06-19T22:00Z","report":"2025-06-19T11:10Z","segments":['
         '{"in":"2025-06-19T14:40Z","out":"2025-06-19T12:05Z"},{"in":"2025-06-19T18:40Z","out":"2025-06-19T16:05Z"}]}',
+    ),
+    (
+        '{"number":9,"do":"add-base","zone":"MST7MDT,M3.2.0,M11.1.0","base":"DEN"}',
+        '{"base":"DEN","do":"add-base","zone":"MST7MDT,M3.2.0,M11.1.0"}',
+    ),
+    (
+        '{"number":10,"do":"add-crew","crew":"C9","seat":"captain","name":"Lee Roy","base":"DEN"}',
+        '{"base":"DEN","crew":"C9","do":"add-crew","name":"Lee Roy","seat":"captain"}',
+    ),
+    # HOME is left out, whether it is named or not.
+    (
+        '{"number":11,"do":"add-crew","crew":"C8","seat":"captain","name":"Bo Lind","base":null,"base":"HOME"}',
+        '{"crew":"C8","do":"add-crew","name":"Bo Lind","seat":"captain"}',
     ),
 ]  # fmt: skip
 
@@ -416,12 +454,24 @@ def try_instants(desk):
             desk.expect(f"instant '{text}'", rosterbook("duty", "UTC0", text, "x", "x"), refused(fault))
 
 
+def base_at(number, zone):
+    """A request that adds a base in a zone."""
+    return compact({"number": number, "do": "add-base", "base": f"B{number:02}", "zone": zone})
+
+
 def try_zones(desk):
     for zone, instant, local in LOCAL:
         ran = rosterbook("duty", zone, instant, instant, written(datetime.fromisoformat(instant[:-1]) + timedelta(minutes=1)))
         desk.expect(f"{zone} at {instant}", ran.out.partition(" segments ")[0], f"report {local}")
     for zone in NO_ZONES:
         desk.expect(f"zone '{zone}'", rosterbook("duty", zone, "x", "x", "x"), refused("T4 ZoneText"))
+        desk.expect(f"a base at '{zone}'", told(desk.empty.send(base_at(1, zone))), "31 BadJson zone")
+    book = desk.empty.copy()
+    zones = list(dict.fromkeys(zone for zone, _, _ in LOCAL))
+    for number, zone in enumerate(zones, 1):
+        desk.expect(f"a base at {zone}", told(book.send(base_at(number, zone))), "accepted")
+    kept = book.rows("SELECT zone FROM base WHERE id <> 'HOME' ORDER BY id")
+    desk.expect("the zones of the bases", kept, [(zone,) for zone in zones])
     desk.expect("the bytes of two zones", [len(zone) for zone in (LONGEST_ZONE, NO_ZONES[1])], [64, 65])
 
 
@@ -464,9 +514,9 @@ def try_cut_schedules(desk):
 
 
 def try_cut_requests(desk):
-    """A member, a ground duty and an actual."""
+    """A member, a ground duty, an actual, and a member of a base."""
     book = desk.empty
-    for body, _ in (KEPT[0], KEPT[2], KEPT[7]):
+    for body, _ in (KEPT[0], KEPT[2], KEPT[7], KEPT[9]):
         text = body.encode()
         answers = {length: told(book.send(text[:length])) for length in range(len(text))}
         desk.expect(f"cuts of {body}", {length: got for length, got in answers.items() if got != "31 BadJson body"}, {})
