@@ -5,12 +5,13 @@ use Rattle.std.proofs.lemmas.Slice.Eq.{bytes_eq-Decides}
 use Rattle.values.specs.Same.{both_same}
 use Rattle.duty.specs.contracts.pairing.PairingLawfulEq.TheImpl.Laws.{exact-law as pairing_law}
 use Rattle.duty.specs.contracts.ground_duty.GroundLawfulEq.TheImpl.Laws.{exact-law as ground_law}
+use Rattle.duty.specs.contracts.outside.OutsideLawfulEq.TheImpl.Laws.{exact-law as outside_law}
 use Rattle.duty.specs.contracts.actual.ActualLawfulEq.TheImpl.Laws.{exact-law as actual_law}
 use Rattle.command.specs.contracts.member.MemberLawfulEq.TheImpl.Laws.{exact-law as member_law}
 use Rattle.command.specs.contracts.instruction.SwapLawfulEq.TheImpl.Laws.{exact-law as swap_law}
 use Rattle.command.specs.contracts.instruction.InstructionPartialEq.TheImpl.{ghosts}
 use Rattle.command.specs.declared.instruction.Instruction.{Instruction}
-use Rattle.command.specs.declared.instruction.Instruction.TheVariants.{AddBase, AddCrew, AddPairing, CancelPairing, Assign, Release, Swap, AddGround, CancelGround, Actual}
+use Rattle.command.specs.declared.instruction.Instruction.TheVariants.{AddBase, AddCrew, AddPairing, CancelPairing, Assign, Release, Swap, AddGround, CancelGround, Actual, RecordOutside}
 
 -- two values of a variant are equal if and only if their parts are: the value gives its parts back
 made_same : {A D : Type 0} (make : A → D) (a b : A) → (make a ≡ make b → a ≡ b) →
@@ -42,4 +43,7 @@ instruction_same (CancelGround p) (CancelGround q) =
 instruction_same (Actual p a) (Actual q b) =
     made_same (λ p. Actual p.0 p.1) (p, a) (q, b) (λ e. cc) _
     (both_same _ _ (bytes_eq-Decides p q) (actual_law a b))
+instruction_same (RecordOutside a o) (RecordOutside b p) =
+    made_same (λ p. RecordOutside p.0 p.1) (a, o) (b, p) (λ e. cc) _
+    (both_same _ _ (bytes_eq-Decides a b) (outside_law o p))
 instruction_same a b = (λ e. cc, λ e. cc)

@@ -1,10 +1,10 @@
 -- Which instructions are refused before the book looks at them, and with which fault. Shapes of
 -- texts come first, in the order of the fields; an actual's count and times come after the shape of
--- its pairing's id.
+-- its pairing's id, and an outside period's after the shapes of its id and of its member's.
 use Rattle.std.specs.Prelude.{◌≡◌, ◌≤◌, true, not, [], ◌∷◌, map, Option, None}
 use Rattle.std.specs.Str.{bytes_eq}
 use Rattle.time117.specs.Local.{is_zone_text}
-use Rattle.duty.specs.Pairings.{pairing_fault, ground_fault, actual_fault}
+use Rattle.duty.specs.Pairings.{pairing_fault, ground_fault, outside_fault, actual_fault}
 use Rattle.duty.specs.Plans.{as_planned}
 use Rattle.duty.specs.Shape.{is_id, is_plain_text}
 use Rattle.duty.specs.Words.{first_fault, unless}
@@ -12,7 +12,7 @@ use Rattle.duty.specs.declared.fault.DutyFault.{DutyFault}
 use Rattle.duty.specs.declared.fault.DutyFault.TheVariants.{BadField}
 use Rattle.duty.specs.declared.fault.Field.TheVariants as field
 use Rattle.command.specs.declared.instruction.Instruction.{Instruction}
-use Rattle.command.specs.declared.instruction.Instruction.TheVariants.{AddBase, AddCrew, AddPairing, CancelPairing, Assign, Release, Swap, AddGround, CancelGround, Actual}
+use Rattle.command.specs.declared.instruction.Instruction.TheVariants.{AddBase, AddCrew, AddPairing, CancelPairing, Assign, Release, Swap, AddGround, CancelGround, Actual, RecordOutside}
 use Rattle.command.specs.declared.instruction.Swap as swap
 
 -- why a swap is refused: one of its four ids hasn't the shape of an id, or it swaps a pairing or a
@@ -27,8 +27,8 @@ swap_fault w =
     ∷ unless (not (bytes_eq w.crew w.other_crew)) (BadField field.OtherCrew)
     ∷ [])
 
--- why an instruction is refused: the first of its fields that is bad; a pairing, a ground duty or
--- an actual in it is refused as where it is made
+-- why an instruction is refused: the first of its fields that is bad; a pairing, a ground duty, an
+-- outside period or an actual in it is refused as where it is made
 unfoldable pub instruction_fault : Instruction → Option DutyFault
 instruction_fault (AddBase id zone) = unless (is_id id) (BadField field.Base)
 instruction_fault (AddCrew id member) =
@@ -51,6 +51,11 @@ instruction_fault (AddGround g) = ground_fault g
 instruction_fault (CancelGround id) = unless (is_id id) (BadField field.Ground)
 instruction_fault (Actual pairing actual) =
     first_fault (unless (is_id pairing) (BadField field.Pairing) ∷ actual_fault actual ∷ [])
+instruction_fault (RecordOutside crew o) =
+    first_fault (unless (is_id o.id) (BadField field.Outside)
+    ∷ unless (is_id crew) (BadField field.Crew)
+    ∷ outside_fault o
+    ∷ [])
 
 -- what the types of an instruction's parts see to: a zone is a rule text, each period of a pairing
 -- is as it was planned, and the period of an actual has a number from 1 to 10

@@ -4,7 +4,7 @@ use Rattle.std.specs.Fmt.{decimal}
 use Rattle.command.specs.declared.member.Seat.{Seat}
 use Rattle.command.specs.declared.member.Seat.TheVariants.{Captain, FirstOfficer}
 use Rattle.command.specs.declared.refusal.Refusal.{Refusal}
-use Rattle.command.specs.declared.refusal.Refusal.TheVariants.{NumberUsed, NoSuchCrew, CrewExists, NoSuchPairing, PairingExists, SeatTaken, WrongSeat, NotAssigned, PairingCrewed, Flown, Overlap, Limits, NoSuchDuty, GroundExists, NoSuchGround, SegmentCount, NoSuchBase, BaseExists}
+use Rattle.command.specs.declared.refusal.Refusal.TheVariants.{NumberUsed, NoSuchCrew, CrewExists, NoSuchPairing, PairingExists, SeatTaken, WrongSeat, NotAssigned, PairingCrewed, Flown, Overlap, Limits, NoSuchDuty, GroundExists, NoSuchGround, SegmentCount, NoSuchBase, BaseExists, OutsideTaken}
 
 -- a seat as it is printed
 abbrev pub seat_text : Seat → List ℕ
@@ -31,6 +31,7 @@ refusal_number NoSuchGround = 15
 refusal_number (SegmentCount _) = 19
 refusal_number NoSuchBase = 20
 refusal_number BaseExists = 21
+refusal_number OutsideTaken = 22
 
 -- the name of a refusal
 abbrev pub refusal_name : Refusal → List ℕ
@@ -52,6 +53,7 @@ refusal_name NoSuchGround = codes "NoSuchGround"
 refusal_name (SegmentCount _) = codes "SegmentCount"
 refusal_name NoSuchBase = codes "NoSuchBase"
 refusal_name BaseExists = codes "BaseExists"
+refusal_name OutsideTaken = codes "OutsideTaken"
 
 -- a refusal as it is printed: its number and name, and the period where it names one
 abbrev pub refusal_text : Refusal → List ℕ

@@ -17,14 +17,19 @@ is_held_of s who id = option_map_or (holds who) (fin.get s.pairings id) false
 abbrev pub is_ground_of : State → List ℕ → List ℕ → Bool
 is_ground_of s who id = option_map_or (λ g. bytes_eq g.crew who) (fin.get s.grounds id) false
 
--- the part of a state with one member, the pairings that the member holds and the member's ground
--- duties; who else holds these pairings isn't in it
+-- this outside period is the member's
+abbrev pub is_outside_of : State → List ℕ → List ℕ → Bool
+is_outside_of s who id = option_map_or (λ o. bytes_eq o.crew who) (fin.get s.outsides id) false
+
+-- the part of a state with one member, the pairings that the member holds, and the member's ground
+-- duties and outside periods; who else holds these pairings isn't in it
 abbrev pub member_part : State → List ℕ → State
 member_part s who = record {
   bases = s.bases;
   crew = fin.retain_keys s.crew (bytes_eq who);
   pairings = fin.retain_keys s.pairings (is_held_of s who);
   grounds = fin.retain_keys s.grounds (is_ground_of s who);
+  outsides = fin.retain_keys s.outsides (is_outside_of s who);
   exceedances = fin.empty;
   requests = fin.empty;
 }
@@ -36,6 +41,7 @@ pairing_part s id = record {
   crew = fin.empty;
   pairings = fin.retain_keys s.pairings (bytes_eq id);
   grounds = fin.empty;
+  outsides = fin.empty;
   exceedances = fin.empty;
   requests = fin.empty;
 }
@@ -47,6 +53,7 @@ exceedances_part s = record {
   crew = fin.empty;
   pairings = fin.empty;
   grounds = fin.empty;
+  outsides = fin.empty;
   exceedances = s.exceedances;
   requests = fin.empty;
 }

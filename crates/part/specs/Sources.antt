@@ -7,8 +7,9 @@ use Rattle.values.specs.Name.{name_cmp}
 use Rattle.duty.specs.Plans.{GroundPlan}
 use Rattle.command.specs.declared.instruction.Instruction.{Instruction}
 use Rattle.part.specs.Part.{holders, members_named}
-use Rattle.roster.specs.Holding.{IsGroundOf, IsHeldBy}
+use Rattle.roster.specs.Holding.{IsGroundOf, IsHeldBy, IsOutsideOf}
 use Rattle.roster.specs.State.{State}
+use Rattle.roster.specs.declared.state.OutsideEntry.{OutsideEntry}
 use Rattle.roster.specs.declared.state.PairingEntry.{PairingEntry}
 
 -- what a call says of the state: while the source may be believed it shows the state that it
@@ -51,10 +52,16 @@ IsHeldByOne s names id = (who : List ℕ) × Contains names who × IsHeldBy s wh
 abbrev pub IsGroundOfOne : State → List (List ℕ) → List ℕ → Type 0
 IsGroundOfOne s names id = (who : List ℕ) × Contains names who × IsGroundOf s who id
 
--- the members whom an instruction names, and whom these pairings and ground duties name
+-- the outside period is of one of these members
+abbrev pub IsOutsideOfOne : State → List (List ℕ) → List ℕ → Type 0
+IsOutsideOfOne s names id = (who : List ℕ) × Contains names who × IsOutsideOf s who id
+
+-- the members whom an instruction names, and whom these pairings, ground duties and outside periods
+-- name
 abbrev pub members_wanted :
     Instruction → fin.FinMap name_cmp PairingEntry → fin.FinMap name_cmp GroundPlan
-    → List (List ℕ)
-members_wanted instruction pairings grounds =
-    (members_named instruction ++ flat_map (λ row. holders row.1) (fin.entries pairings))
-    ++ map (λ row. row.1.crew) (fin.entries grounds)
+    → fin.FinMap name_cmp OutsideEntry → List (List ℕ)
+members_wanted instruction pairings grounds outsides =
+    ((members_named instruction ++ flat_map (λ row. holders row.1) (fin.entries pairings))
+    ++ map (λ row. row.1.crew) (fin.entries grounds))
+    ++ map (λ row. row.1.crew) (fin.entries outsides)

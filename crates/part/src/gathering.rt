@@ -5,16 +5,16 @@ ghost use Rattle.std.specs.Prelude.{◌≡◌, ◌++◌, IfErr, OnOk};
 ghost use Rattle.std.specs.FinMap as fin;
 ghost use Rattle.std.specs.Str.{bytes_eq};
 ghost use Rattle.command.specs.Keys.{key_name};
-ghost use Rattle.part.specs.Part.{Part, pairings_needed, grounds_needed, judged_by, needs_member};
+ghost use Rattle.part.specs.Part.{Part, pairings_needed, grounds_needed, outsides_needed, judged_by, needs_member};
 ghost use Rattle.roster.specs.Holding.{AreJust};
-ghost use Rattle.part.specs.Sources.{IsCaused, IsGroundOfOne, IsHeldByOne, TellsOfState};
+ghost use Rattle.part.specs.Sources.{IsCaused, IsGroundOfOne, IsHeldByOne, IsOutsideOfOne, TellsOfState};
 
-use crate::named::{grounds_named, judged_in, members_wanted, pairings_named};
-use crate::pick::{pick_grounds, pick_members, pick_pairings, pick_request};
+use crate::named::{grounds_named, judged_in, members_wanted, outsides_named, pairings_named};
+use crate::pick::{pick_grounds, pick_members, pick_outsides, pick_pairings, pick_request};
 use crate::source::Source;
 use command::{Command, Instruction, Key, Member};
-use duty::{CrewId, Ground, GroundId, PairingId};
-use roster::{LoggedCommand, PairingEntry, Roster};
+use duty::{CrewId, Ground, GroundId, OutsideId, PairingId};
+use roster::{LoggedCommand, OutsideEntry, PairingEntry, Roster};
 use std::alloc::Global;
 use values::{MemoryFault, OrdMap};
 
@@ -64,6 +64,27 @@ fn grounds_of_one<S: Source>(
     let mut all = Vec::new(alloc);
     for who in judged {
         let theirs = source.grounds_of(alloc, who)?;
+        add_all(&mut all, theirs)?;
+    }
+    Ok(all)
+}
+
+/// Reads the ids of some members' outside periods.
+fn outsides_of_one<S: Source>(
+    alloc: Global,
+    source: &mut S,
+    judged: &[CrewId],
+) -> Result<Vec<OutsideId>, S::Fault>
+    ensures told { TellsOfState S.is_clean S.shows
+        (λ s found. AreJust (IsOutsideOfOne s judged.now) found.items) source.old source.new result }
+    ensures left { S.stays source.old source.new }
+    ensures caused { IfErr result
+        (IsCaused S.fails S.Fault.from_gives source.old source.new) }
+    ensures serves { OnOk result (S.serves source.old source.new) }
+{
+    let mut all = Vec::new(alloc);
+    for who in judged {
+        let theirs = source.outsides_of(alloc, who)?;
         add_all(&mut all, theirs)?;
     }
     Ok(all)
@@ -122,6 +143,29 @@ fn gather_grounds<S: Source>(
     Ok(grounds)
 }
 
+/// Gathers the outside periods of a part.
+#[tactic(auto, using(crate::proofs::Picked::outsides_are))]
+fn gather_outsides<S: Source>(
+    alloc: Global,
+    source: &mut S,
+    instruction: &Instruction,
+    judged: &[CrewId],
+) -> Result<OrdMap<OutsideId, OutsideEntry>, S::Fault>
+    ensures told { TellsOfState S.is_clean S.shows (λ s it. judged.now ≡ judged_by s instruction.now
+        → it ≡ outsides_needed s instruction.now) source.old source.new result }
+    ensures left { S.stays source.old source.new }
+    ensures caused { IfErr result
+        (IsCaused S.fails S.Fault.from_gives source.old source.new) }
+    ensures serves { OnOk result (S.serves source.old source.new) }
+{
+    let mut outsides = OrdMap::new(alloc);
+    let named = outsides_named(alloc, instruction)?;
+    pick_outsides(alloc, source, &named, &mut outsides)?;
+    let theirs = outsides_of_one(alloc, source, judged)?;
+    pick_outsides(alloc, source, &theirs, &mut outsides)?;
+    Ok(outsides)
+}
+
 /// Gathers the members of a part.
 fn gather_members<S: Source>(
     alloc: Global,
@@ -129,10 +173,12 @@ fn gather_members<S: Source>(
     instruction: &Instruction,
     pairings: &OrdMap<PairingId, PairingEntry>,
     grounds: &OrdMap<GroundId, Ground>,
+    outsides: &OrdMap<OutsideId, OutsideEntry>,
 ) -> Result<OrdMap<CrewId, Member>, S::Fault>
     ensures told { TellsOfState S.is_clean S.shows
         (λ s it. pairings.now ≡ pairings_needed s instruction.now
         → grounds.now ≡ grounds_needed s instruction.now
+        → outsides.now ≡ outsides_needed s instruction.now
         → it ≡ fin.retain_keys s.crew (needs_member s instruction.now))
         source.old source.new result }
     ensures left { S.stays source.old source.new }
@@ -141,7 +187,7 @@ fn gather_members<S: Source>(
     ensures serves { OnOk result (S.serves source.old source.new) }
 {
     let mut crew = OrdMap::new(alloc);
-    let wanted = members_wanted(alloc, instruction, pairings, grounds)?;
+    let wanted = members_wanted(alloc, instruction, pairings, grounds, outsides)?;
     pick_members(alloc, source, &wanted, &mut crew)?;
     Ok(crew)
 }
@@ -186,12 +232,14 @@ pub fn gather<S: Source>(
     let requests = gather_requests(alloc, source, key)?;
     let Plans { pairings, judged } = gather_plans(alloc, source, instruction)?;
     let grounds = gather_grounds(alloc, source, instruction, &judged)?;
-    let crew = gather_members(alloc, source, instruction, &pairings, &grounds)?;
+    let outsides = gather_outsides(alloc, source, instruction, &judged)?;
+    let crew = gather_members(alloc, source, instruction, &pairings, &grounds, &outsides)?;
     Ok(Roster {
         bases,
         crew,
         pairings,
         grounds,
+        outsides,
         exceedances: OrdMap::new(alloc),
         requests,
     })

@@ -6,8 +6,8 @@ ghost use Rattle.part.specs.Sources.{IsCaused, IsPartOf, TellsOfState, picked, p
 
 use crate::source::Source;
 use command::{Key, Member};
-use duty::{CrewId, Ground, GroundId, PairingId};
-use roster::{LoggedCommand, PairingEntry};
+use duty::{CrewId, Ground, GroundId, OutsideId, PairingId};
+use roster::{LoggedCommand, OutsideEntry, PairingEntry};
 use std::alloc::Global;
 use values::{OrdMap, TryClone};
 
@@ -109,6 +109,46 @@ pub(crate) fn pick_grounds<S: Source>(
 {
     for id in ids {
         pick_ground(alloc, source, id, grounds)?;
+    }
+    Ok(())
+}
+
+/// Sets what the source has under an id.
+fn pick_outside<S: Source>(
+    alloc: Global,
+    source: &mut S,
+    id: &OutsideId,
+    outsides: &mut OrdMap<OutsideId, OutsideEntry>,
+) -> Result<(), S::Fault>
+    ensures told { TellsOfState S.is_clean S.shows
+        (λ s _. outsides.new ≡ pick s.outsides outsides.old id.now) source.old source.new result }
+    ensures left { S.stays source.old source.new }
+    ensures caused { IfErr result
+        (IsCaused S.fails S.Fault.from_gives source.old source.new) }
+    ensures serves { OnOk result (S.serves source.old source.new) }
+{
+    if let Some(outside) = source.outside(alloc, id)? {
+        outsides.insert(id.try_clone(alloc)?, outside)?;
+    }
+    Ok(())
+}
+
+/// Sets what the source has under these ids.
+pub(crate) fn pick_outsides<S: Source>(
+    alloc: Global,
+    source: &mut S,
+    ids: &[OutsideId],
+    outsides: &mut OrdMap<OutsideId, OutsideEntry>,
+) -> Result<(), S::Fault>
+    ensures told { TellsOfState S.is_clean S.shows
+        (λ s _. outsides.new ≡ picked s.outsides outsides.old ids.now) source.old source.new result }
+    ensures left { S.stays source.old source.new }
+    ensures caused { IfErr result
+        (IsCaused S.fails S.Fault.from_gives source.old source.new) }
+    ensures serves { OnOk result (S.serves source.old source.new) }
+{
+    for id in ids {
+        pick_outside(alloc, source, id, outsides)?;
     }
     Ok(())
 }

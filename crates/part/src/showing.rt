@@ -4,14 +4,14 @@
 ghost use Rattle.std.specs.Prelude.{◌≡◌, IfErr, OnOk};
 ghost use Rattle.std.specs.FinMap as fin;
 ghost use Rattle.std.specs.Str.{bytes_eq};
-ghost use Rattle.part.specs.Shown.{exceedances_part, is_ground_of, is_held_of, member_part, pairing_part};
+ghost use Rattle.part.specs.Shown.{exceedances_part, is_ground_of, is_held_of, is_outside_of, member_part, pairing_part};
 ghost use Rattle.part.specs.Sources.{IsCaused, TellsOfState};
 
-use crate::pick::{pick_grounds, pick_member, pick_pairing, pick_pairings};
+use crate::pick::{pick_grounds, pick_member, pick_outsides, pick_pairing, pick_pairings};
 use crate::source::Source;
 use command::Member;
-use duty::{CrewId, Ground, GroundId, PairingId};
-use roster::{PairingEntry, Roster};
+use duty::{CrewId, Ground, GroundId, OutsideId, PairingId};
+use roster::{OutsideEntry, PairingEntry, Roster};
 use std::alloc::Global;
 use values::OrdMap;
 
@@ -55,6 +55,26 @@ fn grounds_held<S: Source>(
     Ok(grounds)
 }
 
+/// Gathers a member's outside periods.
+fn outsides_held<S: Source>(
+    alloc: Global,
+    source: &mut S,
+    who: &CrewId,
+) -> Result<OrdMap<OutsideId, OutsideEntry>, S::Fault>
+    ensures told { TellsOfState S.is_clean S.shows
+        (λ s it. it ≡ fin.retain_keys s.outsides (is_outside_of s who.now))
+        source.old source.new result }
+    ensures left { S.stays source.old source.new }
+    ensures caused { IfErr result
+        (IsCaused S.fails S.Fault.from_gives source.old source.new) }
+    ensures serves { OnOk result (S.serves source.old source.new) }
+{
+    let mut outsides = OrdMap::new(alloc);
+    let ids = source.outsides_of(alloc, who)?;
+    pick_outsides(alloc, source, &ids, &mut outsides)?;
+    Ok(outsides)
+}
+
 /// Gathers the member of an id, if there is one.
 fn one_member<S: Source>(
     alloc: Global,
@@ -92,7 +112,7 @@ fn one_pairing<S: Source>(
     Ok(pairings)
 }
 
-/// Gathers a member, with the pairings that the member holds and the member's ground duties.
+/// Gathers a member, with the pairings that the member holds, and the member's ground duties and outside periods.
 pub fn gather_member<S: Source>(
     alloc: Global,
     source: &mut S,
@@ -110,11 +130,13 @@ pub fn gather_member<S: Source>(
     let crew = one_member(alloc, source, who)?;
     let pairings = held_pairings(alloc, source, who)?;
     let grounds = grounds_held(alloc, source, who)?;
+    let outsides = outsides_held(alloc, source, who)?;
     Ok(Roster {
         bases,
         crew,
         pairings,
         grounds,
+        outsides,
         exceedances: OrdMap::new(alloc),
         requests: OrdMap::new(alloc),
     })
@@ -141,6 +163,7 @@ pub fn gather_pairing<S: Source>(
         crew: OrdMap::new(alloc),
         pairings,
         grounds: OrdMap::new(alloc),
+        outsides: OrdMap::new(alloc),
         exceedances: OrdMap::new(alloc),
         requests: OrdMap::new(alloc),
     })
@@ -163,6 +186,7 @@ pub fn gather_exceedances<S: Source>(alloc: Global, source: &mut S) -> Result<Ro
         crew: OrdMap::new(alloc),
         pairings: OrdMap::new(alloc),
         grounds: OrdMap::new(alloc),
+        outsides: OrdMap::new(alloc),
         exceedances,
         requests: OrdMap::new(alloc),
     })

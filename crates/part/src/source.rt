@@ -4,12 +4,12 @@ ghost use Rattle.std.specs.Prelude.{◌≡◌, IfErr, OnOk};
 ghost use Rattle.std.specs.FinMap as fin;
 ghost use Rattle.command.specs.Keys.{key_name};
 ghost use Rattle.roster.specs.State.{State};
-ghost use Rattle.roster.specs.Holding.{IsHeldBy, IsGroundOf, AreJust};
+ghost use Rattle.roster.specs.Holding.{IsHeldBy, IsGroundOf, IsOutsideOf, AreJust};
 ghost use Rattle.part.specs.Sources.{TellsOfState};
 
 use command::{Key, Member};
-use duty::{CrewId, Ground, GroundId, PairingId};
-use roster::{Bases, ExceedanceId, LoggedCommand, PairingEntry, PeriodId};
+use duty::{CrewId, Ground, GroundId, OutsideId, PairingId};
+use roster::{Bases, DutyId, ExceedanceId, LoggedCommand, OutsideEntry, PairingEntry};
 use std::alloc::Global;
 use values::{MemoryFault, OrdMap};
 
@@ -94,6 +94,18 @@ pub trait Source {
         ensures caused { IfErr result (fails self.old self.new) }
         ensures serves { OnOk result (serves self.old self.new) };
 
+    /// Reads the outside period of an id, with its member.
+    fn outside(
+        &mut self,
+        alloc: Global,
+        id: &OutsideId,
+    ) -> Result<Option<OutsideEntry>, Self::Fault>
+        ensures told { TellsOfState is_clean shows
+            (λ s found. found ≡ fin.get s.outsides id.now) self.old self.new result }
+        ensures left { stays self.old self.new }
+        ensures caused { IfErr result (fails self.old self.new) }
+        ensures serves { OnOk result (serves self.old self.new) };
+
     /// Reads the ids of the pairings that a member holds, in any order.
     fn pairings_of(&mut self, alloc: Global, who: &CrewId) -> Result<Vec<PairingId>, Self::Fault>
         ensures told { TellsOfState is_clean shows
@@ -110,8 +122,16 @@ pub trait Source {
         ensures caused { IfErr result (fails self.old self.new) }
         ensures serves { OnOk result (serves self.old self.new) };
 
+    /// Reads the ids of the member's outside periods, in any order.
+    fn outsides_of(&mut self, alloc: Global, who: &CrewId) -> Result<Vec<OutsideId>, Self::Fault>
+        ensures told { TellsOfState is_clean shows
+            (λ s found. AreJust (IsOutsideOf s who.now) found.items) self.old self.new result }
+        ensures left { stays self.old self.new }
+        ensures caused { IfErr result (fails self.old self.new) }
+        ensures serves { OnOk result (serves self.old self.new) };
+
     /// Reads all exceedances.
-    fn exceedances(&mut self, alloc: Global) -> Result<OrdMap<ExceedanceId, PeriodId>, Self::Fault>
+    fn exceedances(&mut self, alloc: Global) -> Result<OrdMap<ExceedanceId, DutyId>, Self::Fault>
         ensures told { TellsOfState is_clean shows
             (λ s found. found ≡ s.exceedances) self.old self.new result }
         ensures left { stays self.old self.new }

@@ -8,22 +8,37 @@ use Rattle.limits.specs.SectionText.{section_text}
 use Rattle.roster.specs.State.{State, exceedance_name}
 use Rattle.roster.specs.declared.state.ExceedanceId.{ExceedanceId}
 use Rattle.roster.specs.declared.state.PeriodId.{PeriodId}
+use Rattle.roster.specs.declared.state.DutyId.{DutyId}
+use Rattle.roster.specs.declared.state.DutyId.TheVariants.{Period, Outside}
 
--- an exceedance, and the period in which a limit was exceeded
+-- an exceedance, and the duty that it names, in which a limit was exceeded
 abbrev pub ExceedanceEntry : Type 0
-ExceedanceEntry = ExceedanceId × PeriodId
+ExceedanceEntry = ExceedanceId × DutyId
 
 -- the first line, with the number of exceedances
 abbrev pub exceedances_header : ℕ → List ℕ
 exceedances_header count = codes "EXCEEDANCES " ++ decimal count ++ codes "\n"
 
--- the line of an exceedance: the number of the command, the member, the section, and the period of
--- the pairing
+-- a period of a pairing is printed as the id of the pairing and its number
+abbrev pub period_text : PeriodId → List ℕ
+period_text p = p.pairing ++ codes "/" ++ decimal p.number
+
+-- an outside period is printed as a word and its id
+abbrev pub outside_text : List ℕ → List ℕ
+outside_text id = codes "outside " ++ id
+
+-- the duty that an exceedance names is printed as a period or as an outside period
+abbrev pub duty_text : DutyId → List ℕ
+duty_text (Period p) = period_text p
+duty_text (Outside id) = outside_text id
+
+-- the line of an exceedance: the number of the command, the member, the section, and the duty that
+-- it names
 abbrev pub line : ExceedanceEntry → List ℕ
-line (id, period) =
+line (id, named) =
     (decimal id.key.number ++ codes " " ++ id.crew)
     ++ (codes " " ++ section_text id.section)
-    ++ codes " " ++ period.pairing ++ codes "/" ++ decimal period.number ++ codes "\n"
+    ++ codes " " ++ duty_text named ++ codes "\n"
 
 -- the rows are those of the state, in the order of their names: number, part, member, section
 abbrev pub AreExceedanceRows : State → List ExceedanceEntry → Type 0

@@ -4,15 +4,17 @@ use Rattle.std.specs.List.Sorted.{IsPermutation, IsSorted}
 use Rattle.values.specs.Name.{name_cmp, text_then}
 use Rattle.report.specs.declared.line.Line.{Line}
 use Rattle.report.specs.declared.line.Place.{Place}
-use Rattle.report.specs.declared.line.Place.TheVariants.{Period, Ground}
+use Rattle.report.specs.declared.line.Place.TheVariants.{Period, Ground, Outside}
 
--- the place of a line as a list of numbers: periods before ground duties, then the id, then the
--- period
+-- the place of a line as a list of numbers: periods before ground duties, ground duties before
+-- outside periods, then the id, then the period
 abbrev pub key_of_place : Place → List ℕ
 key_of_place (Period id number) = 0 ∷ text_then id (number ∷ [])
 key_of_place (Ground id) = 1 ∷ text_then id []
+key_of_place (Outside id) = 2 ∷ text_then id []
 
--- what puts a line in its place: begin, end, periods before ground duties, id in byte order, period
+-- what puts a line in its place: begin, end, periods before ground duties before outside periods, id
+-- in byte order, period
 abbrev pub key_of : Line → List ℕ
 key_of line = line.begin ∷ line.end ∷ key_of_place line.place
 

@@ -5,19 +5,21 @@ use Rattle.std.specs.FinMap as fin
 use Rattle.std.specs.List.{filter, flat_map, enumerate_from}
 use Rattle.std.specs.Str.{bytes_eq}
 use Rattle.time117.specs.Instant.{written}
+use Rattle.duty.specs.DutiesInForce.{outside_times}
+use Rattle.duty.specs.Minutes.{fdp_length, flight_time}
 use Rattle.duty.specs.Plans.{GroundPlan}
 use Rattle.duty.specs.Shape.{home}
-use Rattle.duty.specs.declared.fdp.Fdp.{Fdp}
 use Rattle.command.specs.Texts.{seat_text}
 use Rattle.command.specs.declared.member.Member.{Member}
 use Rattle.roster.specs.Pairings.{holds}
 use Rattle.roster.specs.State.{State}
+use Rattle.roster.specs.declared.state.OutsideEntry.{OutsideEntry}
 use Rattle.roster.specs.declared.state.PairingEntry.{PairingEntry}
 use Rattle.period_verdict.specs.Texts.{hours_text}
 use Rattle.report.specs.Lines.{IsInOrder}
 use Rattle.report.specs.Periods.{pairing_periods, word, length_to_last_block_in, flight_time_of}
 use Rattle.report.specs.declared.line.Line.{Line}
-use Rattle.report.specs.declared.line.Place.TheVariants.{Period, Ground}
+use Rattle.report.specs.declared.line.Place.TheVariants.{Period, Ground, Outside}
 use Rattle.report.specs.declared.periods.PeriodInForce.{PeriodInForce}
 
 -- ---- The lines
@@ -26,11 +28,10 @@ use Rattle.report.specs.declared.periods.PeriodInForce.{PeriodInForce}
 abbrev pub span_text : ℕ → ℕ → List ℕ
 span_text begin end = written begin ++ codes " " ++ written end
 
--- the length of a period and the flight time in it, as they end its line
-abbrev pub lengths_text : Fdp → List ℕ
-lengths_text f =
-    codes " fdp " ++ hours_text (length_to_last_block_in f)
-    ++ codes " flight " ++ hours_text (flight_time_of f) ++ codes "\n"
+-- the length of a period and the flight time in it, in minutes, as they end its line
+abbrev pub lengths_text : ℕ → ℕ → List ℕ
+lengths_text length flight =
+    codes " fdp " ++ hours_text length ++ codes " flight " ++ hours_text flight ++ codes "\n"
 
 -- the line of a period of a pairing, which runs from its report to its release
 abbrev pub roster_period_line : List ℕ → ℕ × PeriodInForce → Line
@@ -40,7 +41,7 @@ roster_period_line id (number, p) = record {
   place = Period id number;
   text = span_text p.fdp.report p.fdp.release
       ++ (codes " pairing " ++ id ++ codes "/" ++ decimal number ++ codes " " ++ word p)
-      ++ lengths_text p.fdp;
+      ++ lengths_text (length_to_last_block_in p.fdp) (flight_time_of p.fdp);
 }
 
 -- the line of a ground duty
@@ -50,6 +51,16 @@ ground_line (id, g) = record {
   end = g.end;
   place = Ground id;
   text = span_text g.begin g.end ++ codes " ground " ++ id ++ codes " " ++ g.task ++ codes "\n";
+}
+
+-- the line of an outside period, which runs to its release
+abbrev pub outside_line : List ℕ × OutsideEntry → Line
+outside_line (id, o) = record {
+  begin = o.period.report;
+  end = o.period.release;
+  place = Outside id;
+  text = span_text o.period.report o.period.release ++ (codes " outside " ++ id)
+      ++ lengths_text (fdp_length (outside_times o.period)) (flight_time (outside_times o.period));
 }
 
 -- ---- A member's lines
@@ -63,20 +74,26 @@ abbrev pub ground_lines : State → List ℕ → List Line
 ground_lines s who =
     map ground_line (filter (λ row. bytes_eq row.1.crew who) (fin.entries s.grounds))
 
--- the lines of a member: the periods of the pairings that the member holds, and the member's ground
--- duties
+-- the lines of a member's outside periods
+abbrev pub outside_lines : State → List ℕ → List Line
+outside_lines s who =
+    map outside_line (filter (λ row. bytes_eq row.1.crew who) (fin.entries s.outsides))
+
+-- the lines of a member: the periods of the pairings that the member holds, the member's ground
+-- duties, and the member's outside periods
 abbrev pub lines_of : State → List ℕ → List Line
 lines_of s who =
     flat_map roster_period_lines (filter (λ row. holds who row.1) (fin.entries s.pairings))
-    ++ ground_lines s who
+    ++ ground_lines s who ++ outside_lines s who
 
 -- ---- The text
 
--- the line of the member's base, where it isn't HOME
+-- the line of the base that a member belongs to, or nothing where that is HOME
 abbrev pub base_line : List ℕ → List ℕ
 base_line base = if bytes_eq base home then [] else codes "base " ++ base ++ codes "\n"
 
--- the first line: the member's id, seat and name; and the line of the base
+-- the first line, with the member's id, seat and name, and behind it the line of the base, if the
+-- member has one
 abbrev pub roster_header : List ℕ → Member → List ℕ
 roster_header who member =
     codes "ROSTER " ++ who ++ codes " " ++ seat_text member.seat ++ codes " " ++ member.name

@@ -13,16 +13,16 @@ use crate::instant::instant;
 use crate::line::{Line, Place, in_order, text_of};
 use crate::periods::{PeriodInForce, periods_of};
 use command::Member;
-use duty::{CrewId, Ground, GroundId, PairingId};
+use duty::{CrewId, Ground, GroundId, OutsideId, PairingId, flight_minutes};
 use period_verdict::Hours;
-use roster::{PairingEntry, Roster};
+use roster::{OutsideEntry, PairingEntry, Roster};
 use std::alloc::Global;
 use time117::Minute;
 use values::{MemoryFault, Text, TryClone};
 
 /// Writes a member's roster: the member, the base where it isn't `HOME`, and then a line for each duty in force, in
-/// order of begin, end, periods before ground duties, id in byte order, and period. Times are those in force, as UTC
-/// instants; lengths are hours and minutes.
+/// order of begin, end, periods before ground duties before outside periods, id in byte order, and period. Times are
+/// those in force, as UTC instants; lengths are hours and minutes.
 pub fn roster_text(alloc: Global, roster: &Roster, who: &CrewId) -> Result<String, ReportFault>
     ensures text { IfOk result (λ text. spec.IsRosterText roster.now who.now (string_bytes text)) }
     ensures absent { (result ≡ Err ReportFault.NoSuchCrew)
@@ -73,6 +73,7 @@ fn lines_of(alloc: Global, roster: &Roster, who: &CrewId) -> Result<Vec<Line>, M
         }
     }
     add_grounds(alloc, roster, who, &mut lines)?;
+    add_outsides(alloc, roster, who, &mut lines)?;
     Ok(lines)
 }
 
@@ -111,6 +112,24 @@ fn add_grounds(
     Ok(())
 }
 
+/// Adds a line for each outside period of the member.
+fn add_outsides(
+    alloc: Global,
+    roster: &Roster,
+    who: &CrewId,
+    lines: &mut Vec<Line>,
+) -> Result<(), MemoryFault>
+    ensures { OnOk result
+        (lines.new.items ≡ lines.old.items ++ spec.outside_lines roster.now who.now) }
+{
+    for (id, outside) in roster.outsides.iter() {
+        if outside.crew == *who {
+            lines.push(outside_line(alloc, id, outside)?)?;
+        }
+    }
+    Ok(())
+}
+
 fn period_line(
     alloc: Global,
     id: &PairingId,
@@ -123,7 +142,7 @@ fn period_line(
     let (begin, end) = (period.fdp.report, period.fdp.release);
     let mut text = span_text(alloc, begin, end)?;
     text.push_str(&format!(in alloc; " pairing {}/{number} {}", id.as_str(), period.word())?)?;
-    text.push_str(&lengths_text(alloc, period)?)?;
+    text.push_str(&lengths_text(alloc, period.length(), period.flight_time())?)?;
     Ok(Line {
         begin,
         end,
@@ -132,17 +151,12 @@ fn period_line(
     })
 }
 
-/// Writes the length of a period and the flight time in it.
-fn lengths_text(alloc: Global, period: &PeriodInForce) -> Result<String, MemoryFault>
-    requires { length period.now.fdp.segments ≤ 12 }
-    ensures { IfOk result (λ text. string_bytes text ≡ spec.lengths_text period.now.fdp) }
+/// Writes the length of a period and the flight time in it, in minutes.
+fn lengths_text(alloc: Global, length: u32, flight: u32) -> Result<String, MemoryFault>
+    ensures { IfOk result (λ text. string_bytes text ≡ spec.lengths_text length flight) }
 {
-    let length = Hours {
-        minutes: period.length(),
-    };
-    let flight = Hours {
-        minutes: period.flight_time(),
-    };
+    let length = Hours { minutes: length };
+    let flight = Hours { minutes: flight };
     Ok(format!(in alloc; " fdp {length} flight {flight}\n")?)
 }
 
@@ -156,6 +170,24 @@ fn ground_line(alloc: Global, id: &GroundId, duty: &Ground) -> Result<Line, Memo
         begin,
         end,
         place: Place::Ground(id.try_clone(alloc)?),
+        text: Text::new(text),
+    })
+}
+
+fn outside_line(alloc: Global, id: &OutsideId, outside: &OutsideEntry) -> Result<Line, MemoryFault>
+    ensures { IfOk result (λ line. line ≡ spec.outside_line (id.now, outside.now)) }
+{
+    // The clause of this call says that an outside period has no fault, and so few segments.
+    let _sound = outside.period.id();
+    let times = outside.period.in_force(alloc)?;
+    let (begin, end) = (times.report(), times.release());
+    let mut text = span_text(alloc, begin, end)?;
+    text.push_str(&format!(in alloc; " outside {}", id.as_str())?)?;
+    text.push_str(&lengths_text(alloc, times.length(), flight_minutes(times.segments()))?)?;
+    Ok(Line {
+        begin,
+        end,
+        place: Place::Outside(id.try_clone(alloc)?),
         text: Text::new(text),
     })
 }

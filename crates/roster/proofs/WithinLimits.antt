@@ -10,7 +10,7 @@ use Rattle.command.specs.Keys.{KeyParts, key_name}
 use Rattle.command.specs.declared.exceedance.Exceedance.{Exceedance}
 use Rattle.command.specs.declared.exceedance.Reply.{Reply}
 use Rattle.command.specs.declared.instruction.Instruction.{Instruction}
-use Rattle.command.specs.declared.instruction.Instruction.TheVariants.{AddBase, AddCrew, AddPairing, CancelPairing, Assign, Release, Swap, AddGround, CancelGround, Actual}
+use Rattle.command.specs.declared.instruction.Instruction.TheVariants.{AddBase, AddCrew, AddPairing, CancelPairing, Assign, Release, Swap, AddGround, CancelGround, Actual, RecordOutside}
 use Rattle.command.specs.declared.refusal.Refusal.{Refusal}
 use Rattle.command.specs.declared.refusal.Refusal.TheVariants.{Limits}
 use Rattle.roster.specs.Laws.{AcceptedWithinLimits, Gain, IsAccepted, IsBroken, PassesChecks, gains, is_assignment, number_of}
@@ -172,6 +172,7 @@ breaks_none s (CancelPairing id) is = absurd (cc)
 breaks_none s (Release id who) is = absurd (cc)
 breaks_none s (CancelGround id) is = absurd (cc)
 breaks_none s (Actual id a) is = absurd (cc)
+breaks_none s (RecordOutside who o) is = absurd (cc)
 
 pub accepted_within_limits : AcceptedWithinLimits
 accepted_within_limits s key instruction is passes = through (decided s key instruction passes) (breaks_none s instruction is)

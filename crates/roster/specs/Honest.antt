@@ -11,13 +11,13 @@ use Rattle.limits.specs.declared.section.Section.{Section}
 use Rattle.command.specs.Keys.{KeyParts}
 use Rattle.roster.specs.Places.{Placed, place_of, duties, history_of}
 use Rattle.roster.specs.State.{State, exceedance_name}
-use Rattle.roster.specs.declared.state.PeriodId.{PeriodId}
+use Rattle.roster.specs.declared.state.DutyId.{DutyId}
 
 -- an exceedance of the member has this section, and names one of the duties of a list
 pub record IsRecorded
     (s : State) (who : List ℕ) (section : Section) (some : List Placed) : Type 0 where
   pub key : KeyParts
-  pub named : PeriodId
+  pub named : DutyId
   pub recorded : fin.get s.exceedances (exceedance_name key who section) ≡ Some named
   pub duty : DutyInForce
   pub is_one : Contains some (place_of named, duty)

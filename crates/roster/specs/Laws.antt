@@ -24,7 +24,7 @@ use Rattle.roster.specs.State.{State, empty}
 use Rattle.roster.specs.Steps.{step_of, after}
 use Rattle.roster.specs.declared.change.Change.{Change}
 use Rattle.roster.specs.declared.change.Verdict.TheVariants.{Repeat, Accept}
-use Rattle.roster.specs.declared.state.PeriodId.{PeriodId}
+use Rattle.roster.specs.declared.state.DutyId.{DutyId}
 use Rattle.roster.specs.declared.state.LoggedCommand.{LoggedCommand}
 
 -- ---- The order of refusals
@@ -136,11 +136,11 @@ abbrev pub StaysHonest : Type 0
 StaysHonest = (s : State) (asked : List Asked) → AreMade asked → Sound s → Honest s →
     Honest (Fold s asked)
 
--- a book without anything is sound and honest
+-- a book of nothing but the base HOME is sound and honest
 abbrev pub StartsSound : Type 0
 StartsSound = (zone : List ℕ) → Sound (empty zone) × Honest (empty zone)
 
--- a book that commands made of a book without anything is sound and honest
+-- a book that commands made of a book of nothing but the base HOME is sound and honest
 abbrev pub MadeByCommands : Type 0
 MadeByCommands = (zone : List ℕ) (asked : List Asked) → AreMade asked →
     Sound (Fold (empty zone) asked) × Honest (Fold (empty zone) asked)
@@ -148,8 +148,8 @@ MadeByCommands = (zone : List ℕ) (asked : List Asked) → AreMade asked →
 -- an exceedance that was recorded stays for good
 abbrev pub KeepsRecords : Type 0
 KeepsRecords = (s : State) (asked : List Asked) → AreMade asked → Sound s →
-    (name : List ℕ) (period : PeriodId) → fin.get s.exceedances name ≡ Some period →
-    fin.get (Fold s asked).exceedances name ≡ Some period
+    (name : List ℕ) (named : DutyId) → fin.get s.exceedances name ≡ Some named →
+    fin.get (Fold s asked).exceedances name ≡ Some named
 
 -- ---- Requests act once
 

@@ -6,6 +6,7 @@ use Rattle.std.specs.Prelude.{ℕ, ◌-◌, ◌==◌, Bool, false, not, ◌&&◌
 use Rattle.std.specs.FinMap as fin
 use Rattle.std.specs.List.{find}
 use Rattle.std.specs.Option.{option_map, option_and_then, option_map_or}
+use Rattle.std.specs.Str.{bytes_eq}
 use Rattle.duty.specs.Plans.{ActualTimes}
 use Rattle.duty.specs.Overlaps.{overlaps}
 use Rattle.duty.specs.declared.duty_in_force.DutyInForce.{DutyInForce}
@@ -14,10 +15,10 @@ use Rattle.limits.specs.Judgement.{Broken}
 use Rattle.command.specs.contracts.member.SeatPartialEq.TheImpl.{ghosts as seats}
 use Rattle.command.specs.declared.exceedance.Exceedance.{Exceedance}
 use Rattle.command.specs.declared.instruction.Instruction.{Instruction}
-use Rattle.command.specs.declared.instruction.Instruction.TheVariants.{AddBase, AddCrew, AddPairing, CancelPairing, Assign, Release, Swap, AddGround, CancelGround, Actual}
+use Rattle.command.specs.declared.instruction.Instruction.TheVariants.{AddBase, AddCrew, AddPairing, CancelPairing, Assign, Release, Swap, AddGround, CancelGround, Actual, RecordOutside}
 use Rattle.command.specs.declared.instruction.Swap as swap
 use Rattle.command.specs.declared.refusal.Refusal.{Refusal}
-use Rattle.command.specs.declared.refusal.Refusal.TheVariants.{NoSuchCrew, CrewExists, NoSuchPairing, PairingExists, SeatTaken, WrongSeat, NotAssigned, PairingCrewed, Flown, Overlap, Limits, NoSuchDuty, GroundExists, NoSuchGround, SegmentCount, NoSuchBase, BaseExists}
+use Rattle.command.specs.declared.refusal.Refusal.TheVariants.{NoSuchCrew, CrewExists, NoSuchPairing, PairingExists, SeatTaken, WrongSeat, NotAssigned, PairingCrewed, Flown, Overlap, Limits, NoSuchDuty, GroundExists, NoSuchGround, SegmentCount, NoSuchBase, BaseExists, OutsideTaken}
 use Rattle.roster.specs.Pairings.{holder, is_held_by, is_flown, is_crewed, is_fully_crewed}
 use Rattle.roster.specs.Places.{duties, no_place, the_pairing, others, periods_at, ground_at}
 use Rattle.roster.specs.State.{State, zone_of}
@@ -39,6 +40,11 @@ is_pairing s id = fin.contains_key s.pairings id
 -- a ground duty has this id
 abbrev pub is_ground : State → List ℕ → Bool
 is_ground s id = fin.contains_key s.grounds id
+
+-- an outside period of another member has this id
+abbrev pub is_taken_from : State → List ℕ → List ℕ → Bool
+is_taken_from s who id =
+    option_map_or (λ o. not (bytes_eq o.crew who)) (fin.get s.outsides id) false
 
 -- both members are there, and they take seats of different kinds
 abbrev pub are_of_two_kinds : State → List ℕ → List ℕ → Bool
@@ -117,14 +123,10 @@ trade_rows s w given taken =
 unfoldable pub refusals : State → Instruction → List Row
 refusals s (AddBase id zone) = (BaseExists, is_base s id) ∷ []
 refusals s (AddCrew who member) =
-    (CrewExists, is_member s who)
-    ∷ (NoSuchBase, not (is_base s member.base))
-    ∷ []
+    (CrewExists, is_member s who) ∷ (NoSuchBase, not (is_base s member.base)) ∷ []
 refusals s (AddPairing plan) = (PairingExists, is_pairing s plan.id) ∷ []
 refusals s (CancelPairing id) =
-    (NoSuchPairing, not (is_pairing s id))
-    ∷ (PairingCrewed, has_holder s id)
-    ∷ []
+    (NoSuchPairing, not (is_pairing s id)) ∷ (PairingCrewed, has_holder s id) ∷ []
 refusals s (Assign id who) =
     (NoSuchCrew, not (is_member s who))
     ∷ (NoSuchPairing, not (is_pairing s id))
@@ -162,6 +164,8 @@ refusals s (Actual id a) =
     ∷ (NoSuchDuty, is_none (planned s id a.period))
     ∷ (SegmentCount a.period, is_miscounted s id a)
     ∷ []
+refusals s (RecordOutside who o) =
+    (NoSuchCrew, not (is_member s who)) ∷ (OutsideTaken, is_taken_from s who o.id) ∷ []
 
 -- the first refusal of a list that applies
 abbrev pub first_of : List Row → Option Refusal

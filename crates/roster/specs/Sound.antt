@@ -1,10 +1,10 @@
 -- A sound state: HOME is one of its bases, every name in it, save inside kept commands and replies,
--- names something, and its pairings, actuals and ground duties keep their orders. Exceedances and
--- kept commands stand under what they are known by, and nothing else does.
+-- names something, and its pairings, actuals, ground duties and outside periods keep their orders.
+-- Exceedances and kept commands stand under what they are known by, and nothing else does.
 use Rattle.std.specs.Prelude.{◌≡◌, ℕ, ◌+◌, ◌<◌, true, List, map, length, Option, Some, None, slice_get}
 use Rattle.std.specs.FinMap as fin
 use Rattle.values.specs.Name.{name_cmp}
-use Rattle.duty.specs.Pairings.{pairing_fault, actual_fault}
+use Rattle.duty.specs.Pairings.{pairing_fault, outside_fault, actual_fault}
 use Rattle.duty.specs.Plans.{Plan, GroundPlan, ActualTimes, as_planned}
 use Rattle.duty.specs.Shape.{home}
 use Rattle.duty.specs.declared.fdp.Fdp.{Fdp}
@@ -17,6 +17,9 @@ use Rattle.command.specs.declared.member.Seat.TheVariants.{Captain, FirstOfficer
 use Rattle.roster.specs.Bases.{IsBase}
 use Rattle.roster.specs.Pairings.{is_flown, is_fully_crewed}
 use Rattle.roster.specs.State.{State, exceedance_name}
+use Rattle.roster.specs.declared.state.DutyId.{DutyId}
+use Rattle.roster.specs.declared.state.DutyId.TheVariants.{Period, Outside}
+use Rattle.roster.specs.declared.state.OutsideEntry.{OutsideEntry}
 use Rattle.roster.specs.declared.state.PeriodId.{PeriodId}
 use Rattle.roster.specs.declared.state.LoggedCommand.{LoggedCommand}
 use Rattle.roster.specs.declared.state.PairingEntry.{PairingEntry}
@@ -62,9 +65,30 @@ pub record SoundGround (crew : Crew) (id : List ℕ) (g : GroundPlan) : Type 0 w
   pub of_member : fin.get crew g.crew ≡ Some member
   pub begins : g.begin < g.end
 
--- an exceedance is known by a key that is held, a member and a section, and is of a period that has
--- an actual
-pub record SoundExceedance (s : State) (name : List ℕ) (p : PeriodId) : Type 0 where
+-- an outside period is of a member, and is one that `Outside::new` makes
+pub record SoundOutside (crew : Crew) (id : List ℕ) (o : OutsideEntry) : Type 0 where
+  pub named : o.period.id ≡ id
+  pub member : Member
+  pub of_member : fin.get crew o.crew ≡ Some member
+  pub made : outside_fault o.period ≡ None
+
+-- a period of a pairing has an actual
+pub record IsFlown (s : State) (p : PeriodId) : Type 0 where
+  pub rostered : PairingEntry
+  pub of_pairing : fin.get s.pairings p.pairing ≡ Some rostered
+  pub place : ℕ
+  pub number : p.number ≡ place + 1
+  pub actual : ActualTimes
+  pub flown : slice_get rostered.actuals place ≡ Some (Some actual)
+
+-- what an exceedance names is there: a period that has an actual, or an outside period
+abbrev pub IsNamed : State → DutyId → Type 0
+IsNamed s (Period p) = IsFlown s p
+IsNamed s (Outside id) = (o : OutsideEntry) × (fin.get s.outsides id ≡ Some o)
+
+-- an exceedance is known by a key that is held, a member and a section, and names a period that has
+-- an actual, or an outside period
+pub record SoundExceedance (s : State) (name : List ℕ) (named : DutyId) : Type 0 where
   pub key : KeyParts
   pub crew : List ℕ
   pub section : Section
@@ -73,12 +97,7 @@ pub record SoundExceedance (s : State) (name : List ℕ) (p : PeriodId) : Type 0
   pub held : fin.get s.requests (key_name key) ≡ Some request
   pub member : Member
   pub of_member : fin.get s.crew crew ≡ Some member
-  pub rostered : PairingEntry
-  pub of_pairing : fin.get s.pairings p.pairing ≡ Some rostered
-  pub place : ℕ
-  pub number : p.number ≡ place + 1
-  pub actual : ActualTimes
-  pub flown : slice_get rostered.actuals place ≡ Some (Some actual)
+  pub of_duty : IsNamed s named
 
 -- what is kept under a key is a command
 pub record SoundRequest (name : List ℕ) (request : LoggedCommand) : Type 0 where
@@ -87,7 +106,7 @@ pub record SoundRequest (name : List ℕ) (request : LoggedCommand) : Type 0 whe
   pub made : IsMade request.command
 
 -- the bases have HOME, the base of each member is one of them, and each pairing, ground duty,
--- exceedance and kept command is sound
+-- outside period, exceedance and kept command is sound
 pub record Sound (s : State) : Type 0 where
   pub has_home : IsBase s.bases home
   pub crew : (who : List ℕ) (m : Member) → fin.get s.crew who ≡ Some m → IsBase s.bases m.base
@@ -95,7 +114,9 @@ pub record Sound (s : State) : Type 0 where
       SoundPairing s.crew id r
   pub grounds : (id : List ℕ) (g : GroundPlan) → fin.get s.grounds id ≡ Some g →
       SoundGround s.crew id g
-  pub exceedances : (name : List ℕ) (p : PeriodId) → fin.get s.exceedances name ≡ Some p →
-      SoundExceedance s name p
+  pub outsides : (id : List ℕ) (o : OutsideEntry) → fin.get s.outsides id ≡ Some o →
+      SoundOutside s.crew id o
+  pub exceedances : (name : List ℕ) (d : DutyId) → fin.get s.exceedances name ≡ Some d →
+      SoundExceedance s name d
   pub requests : (name : List ℕ) (r : LoggedCommand) → fin.get s.requests name ≡ Some r →
       SoundRequest name r

@@ -10,8 +10,9 @@ use Rattle.command.specs.Keys.{KeyParts}
 use Rattle.roster.specs.Bases.{only_home, zone_at}
 use Rattle.roster.specs.declared.state.Roster.{Roster}
 
--- what the book holds: the zones of the bases, members, pairings and ground duties under their ids;
--- exceedances under key, member and section; and under its key each accepted command with its reply
+-- what the book holds: the zones of the bases, members, pairings, ground duties and outside periods
+-- under their ids; exceedances under key, member and section; and under its key each accepted
+-- command with its reply
 abbrev pub State : Type 0
 State = Roster
 
@@ -30,6 +31,7 @@ empty zone = record {
   crew = fin.empty;
   pairings = fin.empty;
   grounds = fin.empty;
+  outsides = fin.empty;
   exceedances = fin.empty;
   requests = fin.empty;
 }

@@ -12,18 +12,19 @@ use Rattle.command.specs.Keys.{KeyParts, key_name}
 use Rattle.command.specs.contracts.instruction.CommandPartialEq.TheImpl.{ghosts as commands}
 use Rattle.command.specs.declared.exceedance.Exceedance.{Exceedance}
 use Rattle.command.specs.declared.instruction.Instruction.{Instruction}
-use Rattle.command.specs.declared.instruction.Instruction.TheVariants.{AddBase, AddCrew, AddPairing, CancelPairing, Assign, Release, Swap, AddGround, CancelGround, Actual}
+use Rattle.command.specs.declared.instruction.Instruction.TheVariants.{AddBase, AddCrew, AddPairing, CancelPairing, Assign, Release, Swap, AddGround, CancelGround, Actual, RecordOutside}
 use Rattle.command.specs.declared.refusal.Refusal.{Refusal}
 use Rattle.command.specs.declared.refusal.Refusal.TheVariants.{NumberUsed}
 use Rattle.roster.specs.Pairings.{unheld, with_holder}
-use Rattle.roster.specs.Places.{others, the_period}
+use Rattle.roster.specs.Places.{others, outside_duty, the_outside, the_period}
 use Rattle.roster.specs.Refusals.{planned, broken_by, refusal_of}
 use Rattle.roster.specs.State.{State, zone_of, exceedance_name}
 use Rattle.roster.specs.declared.change.Change.{Change}
 use Rattle.roster.specs.declared.change.SeatChange.{SeatChange}
 use Rattle.roster.specs.declared.change.Verdict.{Verdict}
 use Rattle.roster.specs.declared.change.Verdict.TheVariants.{Repeat, Accept, Refuse}
-use Rattle.roster.specs.declared.state.PeriodId.{PeriodId}
+use Rattle.roster.specs.declared.state.DutyId.{DutyId}
+use Rattle.roster.specs.declared.state.DutyId.TheVariants as duty_id
 use Rattle.roster.specs.declared.state.LoggedCommand.{LoggedCommand}
 use Rattle.roster.specs.declared.state.PairingEntry.{PairingEntry}
 
@@ -60,12 +61,15 @@ broken_by_holder s id a holder =
     (λ who. broken_by who (others s who (the_period id a.period)) (flown_duty s who id a))
     holder []
 
--- the exceedances that an instruction records: only an actual records some, the captain's first
+-- the exceedances that an instruction records: an actual's, the captain's first, and an outside
+-- period's; no other instruction records any
 unfoldable pub recorded_by : State → Instruction → List Exceedance
 recorded_by s (Actual id a) =
     option_map_or
     (λ r. broken_by_holder s id a r.captain ++ broken_by_holder s id a r.first_officer)
     (fin.get s.pairings id) []
+recorded_by s (RecordOutside who o) =
+    broken_by who (others s who (the_outside o.id)) (outside_duty o ∷ [])
 recorded_by s instruction = []
 
 -- ---- The answer
@@ -112,10 +116,10 @@ reseated pairings seat = changed_at pairings seat.pairing (with_holder seat.seat
 abbrev pub with_actual : ActualTimes → PairingEntry → PairingEntry
 with_actual a r = record r { actuals = slice_set r.actuals (a.period - 1) (Some a) }
 
--- the exceedances with one more, which names this period
+-- the exceedances with one more, which names this duty
 abbrev pub recorded :
-    KeyParts → PeriodId → fin.FinMap name_cmp PeriodId → Exceedance → fin.FinMap name_cmp PeriodId
-recorded key period records e = fin.insert records (exceedance_name key e.crew e.section) period
+    KeyParts → DutyId → fin.FinMap name_cmp DutyId → Exceedance → fin.FinMap name_cmp DutyId
+recorded key named records e = fin.insert records (exceedance_name key e.crew e.section) named
 
 -- the state that an accepted instruction leaves, before its key holds it
 abbrev pub effect : State → Change → Instruction → State
@@ -132,8 +136,13 @@ effect s change (CancelGround id) = record s { grounds = fin.remove s.grounds id
 effect s change (Actual id a) = record s {
   pairings = changed_at s.pairings id (with_actual a);
   exceedances =
-      fold (recorded change.key (record { pairing = id; number = a.period }))
+      fold (recorded change.key (duty_id.Period (record { pairing = id; number = a.period })))
       s.exceedances change.reply.exceedances;
+}
+effect s change (RecordOutside who o) = record s {
+  outsides = fin.insert s.outsides o.id (record { crew = who; period = o });
+  exceedances =
+      fold (recorded change.key (duty_id.Outside o.id)) s.exceedances change.reply.exceedances;
 }
 
 -- the state in which the key of a change holds its command with its reply

@@ -6,7 +6,7 @@ ghost use Rattle.roster.specs.Pairings.{holder, is_flown, unheld};
 
 use crate::bases::Bases;
 use command::{Command, Key, Member, Reply, Seat};
-use duty::{Actual, CrewId, Fdp, Ground, GroundId, Pairing, PairingId};
+use duty::{Actual, CrewId, Fdp, Ground, GroundId, Outside, OutsideId, Pairing, PairingId};
 use limits::Section;
 use std::alloc::Global;
 use time117::Zone;
@@ -19,6 +19,13 @@ pub struct PairingEntry {
     pub actuals: Sequence<Option<Actual>>,
     pub captain: Option<CrewId>,
     pub first_officer: Option<CrewId>,
+}
+
+/// A period that a member flew for another certificate holder.
+#[derive(PartialEq, Eq, Drop)]
+pub struct OutsideEntry {
+    pub crew: CrewId,
+    pub period: Outside,
 }
 
 /// A command that was accepted, with its reply.
@@ -43,6 +50,13 @@ pub struct PeriodId {
     pub number: u8,
 }
 
+/// The duty that an exceedance names: a period of a pairing, or one that was flown for another certificate holder.
+#[derive(PartialEq, Eq, Drop)]
+pub enum DutyId {
+    Period(PeriodId),
+    Outside(OutsideId),
+}
+
 /// The state of the book, as a value: the bases with their zones, and a table for each other thing that it knows. What
 /// `step` accepts and `apply` makes of an empty one is a sound roster; its parts are open to whoever reads one from a
 /// file.
@@ -52,7 +66,8 @@ pub struct Roster {
     pub crew: OrdMap<CrewId, Member>,
     pub pairings: OrdMap<PairingId, PairingEntry>,
     pub grounds: OrdMap<GroundId, Ground>,
-    pub exceedances: OrdMap<ExceedanceId, PeriodId>,
+    pub outsides: OrdMap<OutsideId, OutsideEntry>,
+    pub exceedances: OrdMap<ExceedanceId, DutyId>,
     pub requests: OrdMap<Key, LoggedCommand>,
 }
 
@@ -66,6 +81,7 @@ impl Roster {
             crew: OrdMap::new(alloc),
             pairings: OrdMap::new(alloc),
             grounds: OrdMap::new(alloc),
+            outsides: OrdMap::new(alloc),
             exceedances: OrdMap::new(alloc),
             requests: OrdMap::new(alloc),
         })
@@ -149,6 +165,15 @@ impl TryClone for PairingEntry {
     }
 }
 
+impl TryClone for OutsideEntry {
+    fn try_clone(&self, alloc: Global) -> Result<OutsideEntry, MemoryFault> {
+        Ok(OutsideEntry {
+            crew: self.crew.try_clone(alloc)?,
+            period: self.period.try_clone(alloc)?,
+        })
+    }
+}
+
 impl TryClone for LoggedCommand {
     fn try_clone(&self, alloc: Global) -> Result<LoggedCommand, MemoryFault> {
         Ok(LoggedCommand {
@@ -177,6 +202,15 @@ impl TryClone for PeriodId {
     }
 }
 
+impl TryClone for DutyId {
+    fn try_clone(&self, alloc: Global) -> Result<DutyId, MemoryFault> {
+        Ok(match self {
+            DutyId::Period(period) => DutyId::Period(period.try_clone(alloc)?),
+            DutyId::Outside(id) => DutyId::Outside(id.try_clone(alloc)?),
+        })
+    }
+}
+
 impl TryClone for Roster {
     fn try_clone(&self, alloc: Global) -> Result<Roster, MemoryFault> {
         Ok(Roster {
@@ -184,6 +218,7 @@ impl TryClone for Roster {
             crew: self.crew.try_clone(alloc)?,
             pairings: self.pairings.try_clone(alloc)?,
             grounds: self.grounds.try_clone(alloc)?,
+            outsides: self.outsides.try_clone(alloc)?,
             exceedances: self.exceedances.try_clone(alloc)?,
             requests: self.requests.try_clone(alloc)?,
         })

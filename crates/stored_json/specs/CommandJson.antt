@@ -17,7 +17,7 @@ use Rattle.stored_json.specs.Parts.{read_named_part, read_list, read_time, read_
 use Rattle.stored_json.specs.declared.fault.CodecFault.{CodecFault}
 use Rattle.stored_json.specs.declared.fault.CodecFault.TheVariants.{BadJson, Duty}
 use Rattle.stored_json.specs.declared.field.JsonField.{JsonField}
-use Rattle.stored_json.specs.declared.field.JsonField.TheVariants.{Body, Do, Crew, Seat, Name, Pairing, Periods, OtherPairing, OtherCrew, Ground, Begin, End, Task, Period, Report, Release, Segments, Base, Zone}
+use Rattle.stored_json.specs.declared.field.JsonField.TheVariants.{Body, Do, Crew, Seat, Name, Pairing, Periods, OtherPairing, OtherCrew, Ground, Begin, End, Task, Period, Report, Release, Segments, Base, Zone, Outside}
 use Rattle.stored_json.specs.declared.verb.Verb.{Verb}
 use Rattle.stored_json.specs.declared.verb.Verb.TheVariants as verb
 
@@ -94,6 +94,18 @@ read_members verb.Actual d =
     and_then (field_of (read_list read_times) Segments d) (λ segments.
     Ok (instruction.Actual pairing (record {
       period = period;
+      report = report;
+      release = release;
+      segments = segments;
+    })))))))
+read_members verb.RecordOutside d =
+    and_then (field_of as_str Outside d) (λ id.
+    and_then (field_of as_str Crew d) (λ crew.
+    and_then (field_of read_time Report d) (λ report.
+    and_then (field_of read_time Release d) (λ release.
+    and_then (field_of (read_list read_times) Segments d) (λ segments.
+    Ok (instruction.RecordOutside crew (record {
+      id = id;
       report = report;
       release = release;
       segments = segments;

@@ -2,7 +2,7 @@
 use Rattle.std.specs.Prelude.{ℕ, List, [], ◌∷◌, Option, codes, find}
 use Rattle.std.specs.Str.{bytes_eq}
 use Rattle.stored_json.specs.declared.field.JsonField.{JsonField}
-use Rattle.stored_json.specs.declared.field.JsonField.TheVariants.{Body, Number, Do, Crew, Seat, Name, Pairing, Periods, OtherPairing, OtherCrew, Ground, Begin, End, Task, Period, Report, Release, Segments, Base, Zone}
+use Rattle.stored_json.specs.declared.field.JsonField.TheVariants.{Body, Number, Do, Crew, Seat, Name, Pairing, Periods, OtherPairing, OtherCrew, Ground, Begin, End, Task, Period, Report, Release, Segments, Base, Zone, Outside}
 use Rattle.stored_json.specs.declared.verb.Verb.{Verb}
 use Rattle.stored_json.specs.declared.verb.Verb.TheVariants as verb
 
@@ -28,6 +28,7 @@ field_name Release = codes "release"
 field_name Segments = codes "segments"
 field_name Base = codes "base"
 field_name Zone = codes "zone"
+field_name Outside = codes "outside"
 
 -- the word of a verb
 abbrev pub verb_text : Verb → List ℕ
@@ -41,12 +42,13 @@ verb_text verb.Swap = codes "swap"
 verb_text verb.AddGround = codes "add-ground"
 verb_text verb.CancelGround = codes "cancel-ground"
 verb_text verb.Actual = codes "actual"
+verb_text verb.RecordOutside = codes "record-outside"
 
--- the ten verbs
+-- the eleven verbs
 abbrev pub all_verbs : List Verb
 all_verbs =
     verb.AddBase ∷ verb.AddCrew ∷ verb.AddPairing ∷ verb.CancelPairing ∷ verb.Assign ∷ verb.Release
-    ∷ verb.Swap ∷ verb.AddGround ∷ verb.CancelGround ∷ verb.Actual ∷ []
+    ∷ verb.Swap ∷ verb.AddGround ∷ verb.CancelGround ∷ verb.Actual ∷ verb.RecordOutside ∷ []
 
 -- the one of these values whose word the text is, if there is one
 abbrev pub worded : {A : Type 0} → (A → List ℕ) → List A → List ℕ → Option A

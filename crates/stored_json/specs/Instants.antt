@@ -6,7 +6,7 @@ use Rattle.duty.specs.declared.fdp.Fdp.{Fdp}
 use Rattle.duty.specs.declared.segment.BlockTimes.{BlockTimes}
 use Rattle.duty.specs.declared.segment.Segment.{Segment}
 use Rattle.command.specs.declared.instruction.Instruction.{Instruction}
-use Rattle.command.specs.declared.instruction.Instruction.TheVariants.{AddPairing, AddGround, Actual}
+use Rattle.command.specs.declared.instruction.Instruction.TheVariants.{AddPairing, AddGround, Actual, RecordOutside}
 
 -- the number of a minute of the years 2000 to 2099
 abbrev pub is_instant : ℕ → Bool
@@ -31,4 +31,6 @@ instruction_has_instants (AddPairing p) = list_all period_has_instants p.periods
 instruction_has_instants (AddGround g) = is_instant g.begin && is_instant g.end
 instruction_has_instants (Actual id a) =
     is_instant a.report && is_instant a.release && list_all times_have_instants a.segments
+instruction_has_instants (RecordOutside who o) =
+    is_instant o.report && is_instant o.release && list_all times_have_instants o.segments
 instruction_has_instants instruction = true

@@ -10,7 +10,7 @@ use Rattle.duty.specs.declared.segment.BlockTimes.{BlockTimes}
 use Rattle.duty.specs.declared.segment.Segment.{Segment}
 use Rattle.command.specs.Texts.{seat_text}
 use Rattle.command.specs.declared.instruction.Instruction.{Instruction}
-use Rattle.command.specs.declared.instruction.Instruction.TheVariants.{AddBase, AddCrew, AddPairing, CancelPairing, Assign, Release, Swap, AddGround, CancelGround, Actual}
+use Rattle.command.specs.declared.instruction.Instruction.TheVariants.{AddBase, AddCrew, AddPairing, CancelPairing, Assign, Release, Swap, AddGround, CancelGround, Actual, RecordOutside}
 use Rattle.stored_json.specs.Values.{object_of, array_of, instant_json}
 
 -- the object of a segment as it is planned
@@ -69,6 +69,11 @@ instruction_json (Actual id a) =
     ∷ (codes "period", number (unsigned a.period)) ∷ (codes "release", instant_json a.release)
     ∷ (codes "report", instant_json a.report)
     ∷ (codes "segments", array_of (map times_json a.segments)) ∷ [])
+instruction_json (RecordOutside who o) =
+    object_of ((codes "crew", string who) ∷ (codes "do", string (codes "record-outside"))
+    ∷ (codes "outside", string o.id) ∷ (codes "release", instant_json o.release)
+    ∷ (codes "report", instant_json o.report)
+    ∷ (codes "segments", array_of (map times_json o.segments)) ∷ [])
 
 -- the kept text of an instruction: the compact text of its object
 unfoldable pub kept_text : Instruction → List ℕ

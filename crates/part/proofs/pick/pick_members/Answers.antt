@@ -5,6 +5,8 @@ use Rattle.values.specs.Name.{name_cmp}
 use Rattle.command.specs.declared.member.Member.{Member}
 use Rattle.part.specs.Sources.{IsPartOf, pick, picked}
 use Rattle.part.proofs.Picked.{picked_one_more, picked_part}
+use Rattle.std.proofs.lemmas.Result.{err_from_is_err_and}
+use Rattle.part.proofs.Causes.{caused_then}
 use Rattle.part.proofs.pick.pick_members.Goals as goal
 
 pub loop-id-preserved : goal.loop-id-preserved
@@ -28,3 +30,8 @@ loop-id-preserved g c = (
             told.1 known ∙ ap (λ (m : fin.FinMap name_cmp Member). pick s.crew m id) so_far ∙ picked_one_more s.crew (take i ids) first id ∙ ap (picked s.crew first) (sym more),
       ),
 )
+
+pub returns-in_err-pick_member-clause-caused : goal.returns-in_err-pick_member-clause-caused
+returns-in_err-pick_member-clause-caused g c =
+    let p = err_from_is_err_and c.from_residual.result c.from_residual.ensures.1 in
+    rw (p.1, p.2) (caused_then g.S.Source.fails g.S.Fault.From.from_gives g.S.Source.stays g.S.Source.fails_then _ _ _ _ c.loop-id.invariant.0 c.pick_member.ensures.left c.in_err-pick_member.ensures.caused)

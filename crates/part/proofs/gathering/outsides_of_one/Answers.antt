@@ -1,0 +1,48 @@
+use Rattle.std.proofs.Common.{inl, ◌≡◌, ◌+◌, ◌++◌, ◌∷◌, [], take, sym, subst, take_all, arith}
+use Rattle.std.proofs.lemmas.Grind.{take_at_read}
+use Rattle.roster.specs.Holding.{AreJust, IsOutsideOf}
+use Rattle.part.specs.Sources.{IsOutsideOfOne}
+use Rattle.part.proofs.Picked.{one_more_of}
+use Rattle.std.proofs.lemmas.Result.{err_from_is_err_and}
+use Rattle.part.proofs.Causes.{caused_then}
+use Rattle.part.proofs.gathering.outsides_of_one.Goals as goal
+
+pub loop-who-preserved : goal.loop-who-preserved
+loop-who-preserved g c = (
+  g.S.Source.and_then _ _ _ c.loop-who.invariant.0 c.outsides_of.ensures.left,
+  g.S.Source.serves_then _ _ _ c.loop-who.invariant.1 c.in_ok-theirs.ensures.serves,
+  λ clean. c.loop-who.invariant.2 (c.outsides_of.ensures.told.0 clean),
+  λ clean s shows.
+      let before = c.outsides_of.ensures.told.0 clean in
+      let was = c.loop-who.invariant.3 before s shows in
+      let told = c.in_ok-theirs.ensures.told.1 clean s was.0 in
+      let judged = c.args.judged.now in
+      let i = c.loop-who.who-index in
+      let who = c.who-item.result in
+      let more : take (i + 1) judged ≡ take i judged ++ who ∷ [] = rw c.who-item.is ((take_at_read judged i who c.loop-who-test.true).1) in (
+        told.0,
+        subst (λ l. AreJust (IsOutsideOfOne s l) c.add_all.new.list.items) (sym more)
+            (one_more_of (IsOutsideOf s) (take i judged) who c.loop-who.all.items c.in_ok-theirs.theirs.items c.add_all.new.list.items was.1 told.1 c.in_ok-add_all.ensures),
+      ),
+)
+
+pub returns-clause-told : goal.returns-clause-told
+returns-clause-told g c = (
+  c.loop-who.invariant.2,
+  λ clean s shows.
+      let it = c.loop-who.invariant.3 clean s shows in
+      let end = c.loop-who-test.false in
+      let all : take c.loop-who.who-index c.args.judged.now ≡ c.args.judged.now = take_all c.loop-who.who-index c.args.judged.now (omega (arith, end)) in
+      (it.0, subst (λ l. AreJust (IsOutsideOfOne s l) c.loop-who.all.items) all it.1),
+)
+
+pub returns-in_err-theirs-clause-left : goal.returns-in_err-theirs-clause-left
+returns-in_err-theirs-clause-left g c = g.S.Source.and_then _ _ _ c.loop-who.invariant.0 c.outsides_of.ensures.left
+
+pub returns-in_err-add_all-clause-left : goal.returns-in_err-add_all-clause-left
+returns-in_err-add_all-clause-left g c = g.S.Source.and_then _ _ _ c.loop-who.invariant.0 c.outsides_of.ensures.left
+
+pub returns-in_err-theirs-clause-caused : goal.returns-in_err-theirs-clause-caused
+returns-in_err-theirs-clause-caused g c =
+    let p = err_from_is_err_and c.from_residual.result c.from_residual.ensures.1 in
+    rw (p.1, p.2) (caused_then g.S.Source.fails g.S.Fault.From.from_gives g.S.Source.stays g.S.Source.fails_then _ _ _ _ c.loop-who.invariant.0 c.outsides_of.ensures.left (inl c.in_err-theirs.ensures.caused))
