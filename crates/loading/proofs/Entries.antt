@@ -1,11 +1,12 @@
 -- Going over the entries of a table, one after the other.
-use Rattle.std.proofs.Common.{◌≡◌, inl, inr, refl, sym, ap, subst, ◌∙◌, ℕ, List, [], ◌∷◌, ◌++◌, append_assoc, Some}
+use Rattle.std.proofs.Common.{◌≡◌, ◌↔◌, inl, inr, refl, sym, ap, subst, ◌∙◌, ℕ, Bool, true, ◌&&◌, List, [], ◌∷◌, ◌++◌, append_assoc, Contains, Some}
 use Rattle.std.specs.FinMap as fin
-use Rattle.std.specs.List.{AllByRecursion}
+use Rattle.std.specs.List.{AllByRecursion, list_all}
 use Rattle.std.specs.Ordering.{eq_by_cmp}
-use Rattle.std.proofs.lemmas.Bool.{cases_Bool}
+use Rattle.std.proofs.lemmas.Bool.{and_from, and_parts, cases_Bool}
 use Rattle.values.specs.Name.{name_cmp, named_rows}
 use Rattle.values.proofs.Names.{alike, itself}
+use Rattle.roster.proofs.Members.{first_or_later, from_rows, in_rows, is_first, is_later, none_in}
 
 all_more : {A : Type 0} (P : A → Type 0) (xs : List A) (x : A) → AllByRecursion P xs → P x → AllByRecursion P (xs ++ x ∷ [])
 all_more P [] x all p = (p, tt)
@@ -76,3 +77,51 @@ module _ {K V : Type 0} (name : K → List ℕ) where
     whole = passed.whole;
     each = all_still (λ e. P e.0) (λ e. Q e.0) (λ e p. f e.0 p) passed.done passed.each;
   }
+
+-- ---- A test of the values
+
+module _ {K V : Type 0} (name : K → List ℕ) (test : V → Bool) where
+  all_in : (items : List (List ℕ × V)) → list_all (λ e. test e.1) items ≡ true → (row : List ℕ × V) → Contains items row → test row.1 ≡ true
+  all_in [] all row c = absurd (none_in row c)
+  all_in (x ∷ xs) all row c =
+      let parts = and_parts (test x.1) (list_all (λ e. test e.1) xs) all in
+      elim (first_or_later x xs row c) [
+        | inl is ↦ ap (λ (e : List ℕ × V). test e.1) (sym is) ∙ parts.0
+        | inr later ↦ all_in xs parts.1 row later
+      ]
+
+  in_all : (items : List (List ℕ × V)) → ((row : List ℕ × V) → Contains items row → test row.1 ≡ true) → list_all (λ e. test e.1) items ≡ true
+  in_all [] each = refl
+  in_all (x ∷ xs) each = and_from _ _ (each x (is_first x xs x refl)) (in_all xs (λ row c. each row (is_later x xs row c)))
+
+  by_names : (items : List (K × V)) → list_all (λ e. test e.1) (named_rows name items) ≡ list_all (λ e. test e.1) items
+  by_names [] = refl
+  by_names (x ∷ xs) = ap (λ b. test x.1 && b) (by_names xs)
+
+  -- all values that are listed pass a test just where all that the map has do
+  pub values_pass : (items : List (K × V)) (m : fin.FinMap name_cmp V) → named_rows name items ≡ fin.entries m →
+      (list_all (λ e. test e.1) items ≡ true) ↔ ((q : List ℕ) (v : V) → fin.get m q ≡ Some v → test v ≡ true)
+  values_pass items m listed =
+      let same : list_all (λ e. test e.1) (fin.entries m) ≡ list_all (λ e. test e.1) items = ap (list_all (λ (e : List ℕ × V). test e.1)) (sym listed) ∙ by_names items in (
+        λ all q v there. all_in (fin.entries m) (same ∙ all) (q, v) (in_rows m q v there),
+        λ each. sym same ∙ in_all (fin.entries m) (λ row c. each row.0 row.1 (from_rows m row.0 row.1 c)),
+      )
+
+-- ---- The value that a key stands with
+
+in_appended : {X : Type 0} (before items : List X) (x : X) → Contains (before ++ x ∷ items) x
+in_appended [] items x = is_first x items x refl
+in_appended (y ∷ before) items x = is_later y (before ++ x ∷ items) x (in_appended before items x)
+
+named_in : {K V : Type 0} (name : K → List ℕ) (items : List (K × V)) (x : K × V) → Contains items x → Contains (named_rows name items) (name x.0, x.1)
+named_in name [] x c = absurd (none_in x c)
+named_in name (y ∷ ys) x c = elim (first_or_later y ys x c) [
+  | inl is ↦ is_first (name y.0, y.1) (named_rows name ys) (name x.0, x.1) (ap (λ e. (name e.0, e.1)) is)
+  | inr later ↦ is_later (name y.0, y.1) (named_rows name ys) (name x.0, x.1) (named_in name ys x later)
+]
+
+module _ {K V : Type 0} (name : K → List ℕ) (P : K → Type 0) (m : fin.FinMap name_cmp V) (x : K × V) (left : List (K × V)) where
+  -- the next of the entries stands in the map
+  pub stands : Passed name P m (x ∷ left) → fin.get m (name x.0) ≡ Some x.1
+  stands passed =
+      from_rows m (name x.0) x.1 (subst (λ l. Contains l (name x.0, x.1)) passed.whole (named_in name (passed.done ++ x ∷ left) x (in_appended passed.done left x)))

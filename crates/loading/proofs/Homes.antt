@@ -17,7 +17,7 @@ use Rattle.roster.proofs.Accepted.{insert_here}
 use Rattle.state_rows.proofs.Lists.{some_same}
 use Rattle.state_rows.specs.First.{IsFirst}
 use Rattle.loading.specs.Loading.{AreBased, AreBases}
-use Rattle.loading.specs.Reading.{AreAtHome, IsAtHome}
+use Rattle.loading.specs.Reading.{AreAtHome, HasNoLater}
 use Rattle.loading.specs.declared.fault.LoadFault.{LoadFault}
 
 -- ---- HOME alone
@@ -86,29 +86,30 @@ one_at_home c id m here at who n there =
 
 -- ---- A roster that is read from the tables of version 1
 
-planned_at_home : (s t u : State) → s ≡ empty (home_zone s.bases) → t ≡ record s { crew = t.crew } → AreAtHome t.crew → u ≡ record t { pairings = u.pairings } → IsAtHome u
-planned_at_home s t u none read at planned =
-    subst IsAtHome (sym planned) (
+planned_without_later : (s t u : State) → s ≡ empty (home_zone s.bases) → t ≡ record s { crew = t.crew } → AreAtHome t.crew → u ≡ record t { pairings = u.pairings } → HasNoLater u
+planned_without_later s t u none read at planned =
+    subst HasNoLater (sym planned) (
       subst (λ (m : Bases). m ≡ only_home (home_zone m)) (sym (ap (λ (x : State). x.bases) read)) (ap (λ (x : State). x.bases) none),
       at,
+      ap (λ (x : State). x.outsides) read ∙ ap (λ (x : State). x.outsides) none,
     )
 
-pub plans_at_home : (s t : State) (result : Result State LoadFault) → s ≡ empty (home_zone s.bases) → t ≡ record s { crew = t.crew } → AreAtHome t.crew →
-    IfOk result (λ u. u ≡ record t { pairings = u.pairings }) → IfOk result IsAtHome
-plans_at_home s t (Ok u) none read at planned = planned_at_home s t u none read at planned
-plans_at_home s t (Err fault) none read at planned = tt
+pub plans_without_later : (s t : State) (result : Result State LoadFault) → s ≡ empty (home_zone s.bases) → t ≡ record s { crew = t.crew } → AreAtHome t.crew →
+    IfOk result (λ u. u ≡ record t { pairings = u.pairings }) → IfOk result HasNoLater
+plans_without_later s t (Ok u) none read at planned = planned_without_later s t u none read at planned
+plans_without_later s t (Err fault) none read at planned = tt
 
-pub duties_at_home : (s t : State) (result : Result State LoadFault) → IsAtHome s → t ≡ record s { pairings = t.pairings } → IfOk result (λ u. u ≡ record t { grounds = u.grounds }) → IfOk result IsAtHome
-duties_at_home s t (Ok u) at one two = subst IsAtHome (sym two) (subst IsAtHome (sym one) at)
-duties_at_home s t (Err fault) at one two = tt
+pub duties_without_later : (s t : State) (result : Result State LoadFault) → HasNoLater s → t ≡ record s { pairings = t.pairings } → IfOk result (λ u. u ≡ record t { grounds = u.grounds }) → IfOk result HasNoLater
+duties_without_later s t (Ok u) at one two = subst HasNoLater (sym two) (subst HasNoLater (sym one) at)
+duties_without_later s t (Err fault) at one two = tt
 
-pub exceedances_at_home : (s t : State) → IsAtHome s → t ≡ record s { exceedances = t.exceedances } → IsAtHome t
-exceedances_at_home s t at one = subst IsAtHome (sym one) at
+pub exceedances_without_later : (s t : State) → HasNoLater s → t ≡ record s { exceedances = t.exceedances } → HasNoLater t
+exceedances_without_later s t at one = subst HasNoLater (sym one) at
 
-pub requests_at_home : (s t : State) → IsAtHome s → t ≡ record s { requests = t.requests } → IsAtHome t
-requests_at_home s t at one = subst IsAtHome (sym one) at
+pub requests_without_later : (s t : State) → HasNoLater s → t ≡ record s { requests = t.requests } → HasNoLater t
+requests_without_later s t at one = subst HasNoLater (sym one) at
 
-pub records_at_home : (s t : State) (result : Result State LoadFault) → IsAtHome s → t ≡ record s { exceedances = t.exceedances } → IfOk result (λ u. u ≡ record t { requests = u.requests }) →
-    IfOk result IsAtHome
-records_at_home s t (Ok u) at one two = requests_at_home t u (exceedances_at_home s t at one) two
-records_at_home s t (Err fault) at one two = tt
+pub records_without_later : (s t : State) (result : Result State LoadFault) → HasNoLater s → t ≡ record s { exceedances = t.exceedances } → IfOk result (λ u. u ≡ record t { requests = u.requests }) →
+    IfOk result HasNoLater
+records_without_later s t (Ok u) at one two = requests_without_later t u (exceedances_without_later s t at one) two
+records_without_later s t (Err fault) at one two = tt

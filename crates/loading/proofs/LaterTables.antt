@@ -1,6 +1,8 @@
 -- The tables that version 2 added: when they are right, and what a refusal of one says.
-use Rattle.std.proofs.Common.{◌≡◌, inl, inr, refl, sym, ap, subst, arith, IsTrue, [], Result, Ok, Err, MatchResult, None}
+use Rattle.std.proofs.Common.{◌≡◌, ◌⊎◌, ◌∙◌, inl, inr, refl, sym, ap, subst, arith, IsTrue, [], Result, Ok, Err, MatchResult, None}
+use Rattle.std.specs.FinMap as fin
 use Rattle.std.specs.List.{AllByRecursion}
+use Rattle.values.specs.Name.{name_cmp}
 use Rattle.sqlite_value.specs.Order.{Row, column}
 use Rattle.sqlite_schema.specs.declared.schema.Schema.{Schema}
 use Rattle.sqlite.specs.Effect.{Database}
@@ -9,10 +11,11 @@ use Rattle.sqlite.specs.State as conn
 use Rattle.roster.specs.Bases.{home_zone}
 use Rattle.roster.specs.State.{State}
 use Rattle.tables.specs.Rows.{AreNumbered, IsStored, kept_in}
-use Rattle.tables.specs.Schema.{AreFree, BookTable, later_tables, table_found, IsNameFree}
+use Rattle.tables.specs.Schema.{AreFree, BookTable, IsOfBook, later_tables, outside_table, table_found, IsNameFree}
 use Rattle.loading.proofs.Homes.{are_bases, are_based}
+use Rattle.loading.proofs.ReadTables.{told_as}
 use Rattle.loading.proofs.Telling.{clean_before, nothing_left, of_blame}
-use Rattle.loading.specs.Loading.{AreRight, AreRightAbove, IsDamaged, IsLaterOfState, IsOfEdition, IsRight, IsTableOfState, Justifies, named}
+use Rattle.loading.specs.Loading.{AreOutsides, AreOutsidesMade, AreRight, AreRightAbove, IsDamaged, IsLaterOfState, IsOfEdition, IsRight, IsTableOfState, Justifies, named}
 use Rattle.loading.specs.Reading.{AgreesIn, AgreesThrough, BlamesName, BlamesOrFails, IsReadAs, ReadsAs, down_to}
 use Rattle.loading.specs.declared.fault.LoadFault.{LoadFault}
 use Rattle.loading.specs.declared.fault.LoadFault.TheVariants.{NotABook, Version, Damaged, Fault}
@@ -34,50 +37,74 @@ one_edition db first second =
 
 -- ---- One table after another
 
--- of two tables that are looked at in turn: what the second is beside the first, and that its rows are told by the tables above
-pub record IsNext (above it : TableName) : Type 0 where
-  pub split : (s : State) (db : Database) → IsRight it s db → IsRight above s db × IsLaterOfState it s db
+-- of two tables that are looked at in turn: what the second is beside the first in a file of version 2, that in one of version 1 its name is free, and that its rows are told by the tables above
+pub record IsNext (above it : TableName) (Has : State → Database → Type 0) : Type 0 where
+  pub split : (s : State) (db : Database) → IsRight it s db → IsRight above s db × ((IsOfEdition Second db × Has s db) ⊎ (IsOfEdition First db × IsNameFree (table it) db.schema))
   pub over : (db : Database) → AreRight above db → AreRightAbove it db
   pub stored : (db : Database) → IsStored (table it) db → AllByRecursion (λ n. IsStored (table n) db) (down_to above) → AllByRecursion (λ n. IsStored (table n) db) (down_to it)
 
-pub next_base : IsNext request base
+pub next_base : IsNext request base (IsTableOfState base)
 next_base = record {
   split = λ s db right. (right.0, right.1);
   over = λ db right. right;
   stored = λ db now above. (now, above);
 }
 
-pub next_crew_base : IsNext base crew_base
+pub next_crew_base : IsNext base crew_base (IsTableOfState crew_base)
 next_crew_base = record {
   split = λ s db right. (right.0, right.1);
   over = λ db right. right;
   stored = λ db now above. (now, above);
 }
 
-pub next_outside : IsNext crew_base outside
+-- the table `outside` is there, and fits the members and exceedances of the state
+abbrev pub FitsOutside : State → Database → Type 0
+FitsOutside s db = IsOfBook outside_table db.schema × AreOutsides s db
+
+pub next_outside : IsNext crew_base outside FitsOutside
 next_outside = record {
-  split = λ s db right. right;
+  split = λ s db right. (
+    right.0,
+    elim right.1 as (λ _. (IsOfEdition Second db × FitsOutside s db) ⊎ (IsOfEdition First db × IsNameFree (table outside) db.schema)) [
+      | inl is ↦ inl (is.0, (is.1, is.2))
+      | inr is ↦ inr is
+    ],
+  );
   over = λ db right. right;
   stored = λ db now above. (now, above);
 }
 
-pub next_outside_segment : IsNext outside outside_segment
+-- both tables of outside periods have just the rows of the state, whose outside periods are such as `Outside::new` makes
+abbrev pub HasBothOutside : State → Database → Type 0
+HasBothOutside s db = IsTableOfState outside s db × IsTableOfState outside_segment s db × AreOutsidesMade s
+
+outside_of_second : (s : State) (db : Database) → IsOfEdition Second db → IsLaterOfState outside s db → IsTableOfState outside s db
+outside_of_second s db second (inl is) = is.1
+outside_of_second s db second (inr is) = absurd (one_edition db is.0 second)
+
+pub next_outside_segment : IsNext outside outside_segment HasBothOutside
 next_outside_segment = record {
-  split = λ s db right. right;
+  split = λ s db right. (
+    right.0,
+    elim right.2 as (λ _. (IsOfEdition Second db × HasBothOutside s db) ⊎ (IsOfEdition First db × IsNameFree (table outside_segment) db.schema)) [
+      | inl is ↦ inl (is.0, (outside_of_second s db is.0 right.1, is.1, right.3))
+      | inr is ↦ inr is
+    ],
+  );
   over = λ db right. right;
   stored = λ db now above. (now, above);
 }
 
 -- ---- In a file of version 2
 
--- the table is there, with the rows of a state whose tables are right down to it
-pub its_table : (above it : TableName) → IsNext above it → (s : State) (db : Database) → IsOfEdition Second db → IsRight it s db → IsTableOfState it s db
+-- what the table is, with a state whose tables are right down to it
+pub its_table : (above it : TableName) {Has : State → Database → Type 0} → IsNext above it Has → (s : State) (db : Database) → IsOfEdition Second db → IsRight it s db → Has s db
 its_table above it next s db second right = elim (next.split s db right).1 [
   | inl is ↦ is.1
   | inr is ↦ absurd (one_edition db is.0 second)
 ]
 
-module _ (above it : TableName) (next : IsNext above it) (s : State) (db : Database) (up : AgreesThrough above s db) where
+module _ (above it : TableName) (Has : State → Database → Type 0) (next : IsNext above it Has) (s : State) (db : Database) (up : AgreesThrough above s db) where
   damaged : (AreRight it db → ⊥) → IsDamaged it db
   damaged wrong = record {
     book = up.book;
@@ -95,25 +122,33 @@ module _ (above it : TableName) (next : IsNext above it) (s : State) (db : Datab
   }
 
 -- what was read of a table, or why it was refused, as it says of the database
-module _ {A : Type 0} (above it : TableName) (next : IsNext above it) (its_name : name.TableName) (is_named : named its_name ≡ it) (s : State) (read_of : A → State) (old new : conn.State)
-    (up : HasCleanDisk old → AgreesIn Second above s old.now) where
-  pub later_told : (result : Result A LoadFault) → ReadsAs (λ a. IsReadAs it (read_of a) old.now) (BlamesOrFails its_name (AreRight it old.now → ⊥)) old new result →
-      ReadsAs (λ a. AgreesIn Second it (read_of a) old.now) (λ f. Justifies f old.now) old new result
-  later_told (Ok a) read = record {
+module _ {A : Type 0} (above it : TableName) {Has : State → Database → Type 0} (next : IsNext above it Has) (its_name : name.TableName) (is_named : named its_name ≡ it) (s : State) (read_of : A → State)
+    (old new : conn.State) (up : HasCleanDisk old → AgreesIn Second above s old.now) where
+  -- with more that is so of what was read
+  pub later_found : (Also : A → Type 0) (result : Result A LoadFault) → ReadsAs (λ a. IsReadAs it (read_of a) old.now × Also a) (BlamesOrFails its_name (AreRight it old.now → ⊥)) old new result →
+      ReadsAs (λ a. AgreesIn Second it (read_of a) old.now × Also a) (λ f. Justifies f old.now) old new result
+  later_found Also (Ok a) read = record {
     told = λ clean.
         let x = read.told clean in
         let u = up (clean_before old new read.left clean) in
-        (x.0, record { through = kept above it next s old.now u.through (read_of a) x.1; of = u.of });
+        (x.0, (record { through = kept above it Has next s old.now u.through (read_of a) x.1.0; of = u.of }, x.1.1));
     caused = read.caused;
     left = read.left;
   }
-  later_told (Err fault) read = record {
+  later_found Also (Err fault) read = record {
     told = λ clean.
         let u = up (clean_before old new read.left clean) in
-        of_blame its_name _ old.now (λ wrong. subst (λ t. IsDamaged t old.now) (sym is_named) (damaged above it next s old.now u.through wrong)) fault (read.told clean);
+        of_blame its_name _ old.now (λ wrong. subst (λ t. IsDamaged t old.now) (sym is_named) (damaged above it Has next s old.now u.through wrong)) fault (read.told clean);
     caused = read.caused;
     left = read.left;
   }
+
+  pub later_told : (result : Result A LoadFault) → ReadsAs (λ a. IsReadAs it (read_of a) old.now) (BlamesOrFails its_name (AreRight it old.now → ⊥)) old new result →
+      ReadsAs (λ a. AgreesIn Second it (read_of a) old.now) (λ f. Justifies f old.now) old new result
+  later_told result read =
+      told_as (λ a. AgreesIn Second it (read_of a) old.now × Unit {0}) (λ a. AgreesIn Second it (read_of a) old.now) (λ f. Justifies f old.now) (λ a x. x.0) old new result
+      (later_found (λ _. Unit {0}) result
+      (told_as (λ a. IsReadAs it (read_of a) old.now) (λ a. IsReadAs it (read_of a) old.now × Unit {0}) (BlamesOrFails its_name (AreRight it old.now → ⊥)) (λ a x. (x, tt)) old new result read))
 
 -- ---- In a file of version 1
 
@@ -125,7 +160,7 @@ not_stored : (it : BookTable) (db : Database) → table_found db.schema it.name 
 not_stored it db none = subst (λ found. AreNumbered (kept_in db.trees found)) (sym none) no_rows
 
 module _ (s : State) (db : Database) (up : AgreesThrough request s db) (first : IsOfEdition First db) where
-  taken : (above it : TableName) → IsNext above it → AreRight above db → (IsNameFree (table it) db.schema → ⊥) → IsDamaged it db
+  taken : (above it : TableName) {Has : State → Database → Type 0} → IsNext above it Has → AreRight above db → (IsNameFree (table it) db.schema → ⊥) → IsDamaged it db
   taken above it next right bad = record {
     book = up.book;
     version = up.version;
@@ -147,6 +182,9 @@ module _ (s : State) (db : Database) (up : AgreesThrough request s db) (first : 
 
   to_outside : IsNameFree (table base) db.schema → IsNameFree (table crew_base) db.schema → IsNameFree (table outside) db.schema → IsRight outside s db
   to_outside b c o = (to_crew_base b c, inr (first, o))
+
+  none_made : AreOutsidesMade s
+  none_made id o there = absurd (let e = sym (ap (λ m. fin.get m id) said.outsides ∙ fin.get-empty name_cmp id) ∙ there in cc)
 
   names_taken : (fault : LoadFault) → BlamesName db.schema fault → Justifies fault db
   names_taken (Damaged its.Base) bad = taken request base next_base (s, up.right) bad
@@ -171,7 +209,7 @@ module _ (s : State) (db : Database) (up : AgreesThrough request s db) (first : 
     stored = (not_stored (table outside_segment) db free.1.1.1.0.0, (not_stored (table outside) db free.1.1.0.0, (not_stored (table crew_base) db free.1.0.0, (not_stored (table base) db free.0.0, up.stored))));
     book = up.book;
     version = up.version;
-    right = (to_outside free.0 free.1.0 free.1.1.0, inr (first, free.1.1.1.0));
+    right = (to_outside free.0 free.1.0 free.1.1.0, inr (first, free.1.1.0), inr (first, free.1.1.1.0), none_made);
   }
 
 -- a refusal of a name is no fault of the store

@@ -11,8 +11,8 @@ use Rattle.command.specs.declared.member.Seat.{Seat}
 use Rattle.roster.specs.Bases.{Bases, home_zone}
 use Rattle.roster.specs.Sound.{Crew, IsHolder}
 use Rattle.roster.specs.State.{State}
+use Rattle.roster.specs.declared.state.DutyId.{DutyId}
 use Rattle.roster.specs.declared.state.ExceedanceId.{ExceedanceId}
-use Rattle.roster.specs.declared.state.PeriodId.{PeriodId}
 use Rattle.roster.specs.declared.state.PairingEntry.{PairingEntry}
 use Rattle.loading.specs.Loading.{IsBookRight, IsCrewRight, IsExceedance, IsGround, IsMember, IsOfEdition, IsRequestRight, IsSeated}
 use Rattle.loading.proofs.LaterTables.{one_edition}
@@ -56,17 +56,12 @@ module _ (members others : Crew) (to : HasAlike members others) where
     of_member = a.there;
   }
 
-  exceedance_stays : (pairings : fin.FinMap _ PairingEntry) (id : ExceedanceId) (p : PeriodId) → IsExceedance members pairings id p → IsExceedance others pairings id p
-  exceedance_stays pairings id p is = let a = to id.crew is.member is.of_member in record {
+  exceedance_stays : (pairings : fin.FinMap _ PairingEntry) (id : ExceedanceId) (named : DutyId) → IsExceedance members pairings id named → IsExceedance others pairings id named
+  exceedance_stays pairings id named is = let a = to id.crew is.member is.of_member in record {
     is_key = is.is_key;
     member = a.other;
     of_member = a.there;
-    rostered = is.rostered;
-    of_pairing = is.of_pairing;
-    place = is.place;
-    number = is.number;
-    actual = is.actual;
-    flown = is.flown;
+    of_duty = is.of_duty;
   }
 
 pub alike_itself : (members : Crew) → HasAlike members members
@@ -138,7 +133,8 @@ module _ (s : State) (bases : Bases) (members : Crew) (zone : home_zone bases �
             λ id g here. ground_stays s.crew members to id g (grounds.2 id g here),
           ),
           exceedances.1,
-          λ name p here. let x = exceedances.2 name p here in (x.0, x.1, exceedance_stays s.crew members to s.pairings x.0 p x.2),
+          λ name named here. let x = exceedances.2 name named here in (x.0, x.1, exceedance_stays s.crew members to s.pairings x.0 named x.2),
+          exceedances.3,
         ),
         right.1,
         right.2,

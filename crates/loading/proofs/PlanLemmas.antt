@@ -40,7 +40,7 @@ refused_of (Some fault) x why e none = absurd (cc)
 -- ---- Lists side by side
 
 -- the place of an element after one more
-last_or_before : {A : Type 0} (xs : List A) (x : A) (i : ℕ) (a : A) → slice_get (xs ++ x ∷ []) i ≡ Some a → (slice_get xs i ≡ Some a) ⊎ ((i ≡ length xs) × (x ≡ a))
+pub last_or_before : {A : Type 0} (xs : List A) (x : A) (i : ℕ) (a : A) → slice_get (xs ++ x ∷ []) i ≡ Some a → (slice_get xs i ≡ Some a) ⊎ ((i ≡ length xs) × (x ≡ a))
 last_or_before [] x zero a e = inr (refl, some_same e)
 last_or_before [] x (suc i) a e = absurd (cc)
 last_or_before (y ∷ xs) x zero a e = inl e

@@ -1,5 +1,5 @@
 -- The table `exceedance`: what its records tell, and when it is right.
-use Rattle.std.proofs.Common.{◌≡◌, inl, inr, refl, sym, ap, subst, ◌∙◌, arith, ℕ, pos, ◌<◌, ◌^◌, true, false, List, [], ◌∷◌, map, take, slice_get, ◌+◌, length, Option, Some, None, Result, Ok, Err, MatchResult}
+use Rattle.std.proofs.Common.{◌≡◌, inl, inr, refl, sym, ap, subst, ◌∙◌, arith, ℕ, pos, ◌<◌, ◌≤◌, ◌^◌, true, false, List, [], ◌∷◌, map, take, slice_get, ◌+◌, length, Option, Some, None, Result, Ok, Err, MatchResult, IsUtf8}
 use Rattle.std.specs.FinMap as fin
 use Rattle.std.specs.Prelude.{is_some}
 use Rattle.std.proofs.lemmas.Option.{slice_get_within}
@@ -20,8 +20,9 @@ use Rattle.roster.specs.Sound.{Crew, SoundPairing}
 use Rattle.roster.specs.State.{State, exceedance_name}
 use Rattle.roster.specs.declared.put.Entry.{Entry}
 use Rattle.roster.specs.declared.put.Entry.TheVariants as entry
+use Rattle.roster.specs.declared.state.DutyId.{DutyId}
+use Rattle.roster.specs.declared.state.DutyId.TheVariants.{Period, Outside}
 use Rattle.roster.specs.declared.state.ExceedanceId.{ExceedanceId}
-use Rattle.roster.specs.declared.state.PeriodId.{PeriodId}
 use Rattle.roster.specs.declared.state.PairingEntry.{PairingEntry}
 use Rattle.tables.proofs.KeyLemmas.{exceedance_once}
 use Rattle.tables.specs.Calls.{CrashLeavesNoMore}
@@ -30,24 +31,48 @@ use Rattle.tables.specs.Rows.{rows_of, begins_with}
 use Rattle.tables.specs.Schema.{BookTable, pairing_table, period_table, segment_table, seat_table, exceedance_table}
 use Rattle.tables.specs.declared.exceedance.ExceedanceRecord.{ExceedanceRecord}
 use Rattle.loading.proofs.Ascii.{id_utf8}
+use Rattle.loading.proofs.Duties.{IsAboveZero, duties_same}
 use Rattle.state_rows.proofs.FewPeriods.{few_periods}
+use Rattle.loading.proofs.LaterTables.{one_edition}
 use Rattle.loading.proofs.Mapping.{all_taken, nothing_mapped, next_mapped, mapped_at, mapped_place}
 use Rattle.loading.proofs.ReadGrounds.{crew_part, members_same}
 use Rattle.loading.proofs.SamePairings.{same_pairing}
 use Rattle.state_rows.proofs.Tests.{passes}
 use Rattle.state_rows.proofs.Values.{ids_same, int_is, text_is, number_is}
 use Rattle.loading.proofs.Telling.{unread, of_blame, clean_before, or_fails, uncaused}
-use Rattle.loading.specs.Loading.{IsCaused, IsKey, IsExceedance, ArePlanned, AreSeated, name_of, IsRight, IsSeatRight, AreRight, IsDamaged, Justifies}
-use Rattle.loading.specs.Reading.{ExceedancesRead, IsFlown, IsExceedanceInRange, row_of_recorded, ReadsAs, Blames, BlamesOrFails, HasRows, IsUnreadable, AgreesThrough, Mapped, AreOnce, TellsOf, HasStranger}
+use Rattle.loading.specs.Loading.{IsCaused, IsKey, IsExceedance, IsOfEdition, IsRecorded, ArePlanned, AreSeated, name_of, IsRight, IsSeatRight, AreRight, IsDamaged, Justifies}
+use Rattle.loading.specs.Reading.{CanName, ExceedancesRead, IsDutyOf, IsExceedanceIn, IsInRange, row_of_recorded, ReadsAs, Blames, BlamesOrFails, HasRows, IsUnreadable, AgreesThrough, Mapped, AreOnce, TellsOf, HasStranger}
 use Rattle.loading.specs.declared.fault.LoadFault.{LoadFault}
 use Rattle.loading.specs.declared.fault.TableName.TheVariants as table_name
-use Rattle.state_rows.specs.Rows.{HasJust, row_of_pairing, exceedance, ground_duty}
+use Rattle.state_rows.specs.First.{IsOfPairing}
+use Rattle.state_rows.specs.Rows.{HasJust, named_id, named_number, row_of_pairing, exceedance, ground_duty}
+use Rattle.state_rows.specs.declared.edition.Edition.{Edition}
+use Rattle.state_rows.specs.declared.edition.Edition.TheVariants.{First, Second}
 
 -- ---- One record
 
-module _ (members : Crew) (pairings : fin.FinMap name_cmp PairingEntry) (it : ExceedanceRecord) where
+-- the number of a period with an actual is above 0
+pub recorded_above : (pairings : fin.FinMap name_cmp PairingEntry) (named : DutyId) → IsRecorded pairings named → IsAboveZero named
+recorded_above pairings (Period p) is = let n = is.number in omega (arith, n)
+recorded_above pairings (Outside id) is = tt
+
+range_above : (named : DutyId) → IsInRange named → IsAboveZero named
+range_above (Period p) is = is.0
+range_above (Outside id) is = tt
+
+-- what can be named is recorded, where its id is a text
+pub is_recorded : (edition : Edition) (pairings : fin.FinMap name_cmp PairingEntry) (named : DutyId) → CanName edition pairings named → IsUtf8 (named_id named) → IsRecorded pairings named
+is_recorded edition pairings (Period p) can utf8 = can
+is_recorded First pairings (Outside id) can utf8 = utf8
+is_recorded Second pairings (Outside id) can utf8 = utf8
+
+number_fits : (named : DutyId) → IsInRange named → named_number named < 256
+number_fits (Period p) is = is.1
+number_fits (Outside id) is = omega arith
+
+module _ (edition : Edition) (members : Crew) (pairings : fin.FinMap name_cmp PairingEntry) (it : ExceedanceRecord) where
   abbrev Tells : Option Entry → Type 0
-  Tells = TellsOf (λ id p e. e ≡ entry.Exceedance id p) row_of_recorded (IsExceedanceInRange members pairings) (exceedance_row it)
+  Tells = TellsOf (λ id named e. e ≡ entry.Exceedance id named) row_of_recorded (IsExceedanceIn edition members pairings) (exceedance_row it)
 
   pub no_key : ((key : KeyParts) → IsKey key → it.number ≡ pos key.number → it.part ≡ key.part → ⊥) → Tells None
   no_key none id p e is = none id.key is.is.is_key (int_is (ap (λ (row : Row). column row 0) e)) (number_is (ap (λ (row : Row). column row 1) e))
@@ -55,74 +80,69 @@ module _ (members : Crew) (pairings : fin.FinMap name_cmp PairingEntry) (it : Ex
   pub no_section : ((section : Section) → it.section ≡ section_number section → ⊥) → Tells None
   no_section none id p e is = none id.section (number_is (ap (λ (row : Row). column row 3) e))
 
-  pub no_number : (it.period < 256 → ⊥) → Tells None
-  no_number none id p e is = none (subst (λ n. n < 256) (sym (number_is (ap (λ (row : Row). column row 5) e))) is.fits)
+  pub no_duty : 256 ≤ it.period → Tells None
+  no_duty high id named e is =
+      let number : it.period ≡ named_number named = number_is (ap (λ (row : Row). column row 5) e) in
+      let fits = is.fits in
+      omega (arith, high, number, fits)
 
   pub no_member : fin.contains_key members it.crew ≡ false → Tells None
   no_member none id p e is =
       let there : fin.get members it.crew ≡ Some is.is.member = ap (fin.get members) (text_is (ap (λ (row : Row). column row 2) e)) ∙ is.is.of_member in
       absurd (let f = sym none ∙ ap is_some there in cc)
 
-  abbrev pub told_period : PeriodId
-  told_period = record { pairing = it.pairing; number = it.period }
+  -- the duty that a row names is the one that its columns tell
+  its_duty : (id : ExceedanceId) (named told : DutyId) → exceedance_row it ≡ row_of_recorded id named → IsExceedanceIn edition members pairings id named → IsDutyOf it.pairing it.period told → named ≡ told
+  its_duty id named told e is of =
+      duties_same named told (recorded_above pairings named is.is.of_duty) (range_above told of.in_range)
+      (sym (text_is (ap (λ (row : Row). column row 4) e)) ∙ sym of.same_id) (sym (number_is (ap (λ (row : Row). column row 5) e)) ∙ sym of.same_number)
 
-  pub not_flown : (IsFlown pairings told_period → ⊥) → Tells None
-  not_flown none id p e is = none (record {
-    rostered = is.is.rostered;
-    of_pairing = ap (fin.get pairings) (text_is (ap (λ (row : Row). column row 4) e)) ∙ is.is.of_pairing;
-    place = is.is.place;
-    number = number_is (ap (λ (row : Row). column row 5) e) ∙ is.is.number;
-    actual = is.is.actual;
-    flown = is.is.flown;
-  })
+  pub not_named : (told : DutyId) → IsDutyOf it.pairing it.period told → (CanName edition pairings told → ⊥) → Tells None
+  not_named told of none id named e is = none (subst (CanName edition pairings) (its_duty id named told e is of) is.can)
 
   member_there : (o : Option Member) → is_some o ≡ true → (m : Member) × (o ≡ Some m)
   member_there None e = absurd (cc)
   member_there (Some m) e = (m, refl)
 
-  pub tells : (key : KeyParts) (section : Section) → IsKey key × (it.number ≡ pos key.number) × (it.part ≡ key.part) → it.section ≡ section_number section → it.period < 256 →
-      fin.contains_key members it.crew ≡ true → IsFlown pairings told_period →
-      Tells (Some (entry.Exceedance (record { key = key; crew = it.crew; section = section }) told_period))
-  tells key section is_key is_section fits known flown =
+  pub tells : (key : KeyParts) (section : Section) (named : DutyId) → IsKey key × (it.number ≡ pos key.number) × (it.part ≡ key.part) → it.section ≡ section_number section →
+      IsDutyOf it.pairing it.period named → fin.contains_key members it.crew ≡ true → CanName edition pairings named →
+      Tells (Some (entry.Exceedance (record { key = key; crew = it.crew; section = section }) named))
+  tells key section named is_key is_section of known can =
       let member = member_there (fin.get members it.crew) known in (
         record { key = key; crew = it.crew; section = section },
-        told_period,
+        named,
         refl,
-        (λ i. exceedance_row (record it { number = is_key.1 i; part = is_key.2 i; section = is_section i })),
+        (λ i. exceedance_row (record it { number = is_key.1 i; part = is_key.2 i; section = is_section i; pairing = sym of.same_id i; period = sym of.same_number i })),
         record {
           is = record {
             is_key = is_key.0;
             member = member.0;
             of_member = member.1;
-            rostered = flown.rostered;
-            of_pairing = flown.of_pairing;
-            place = flown.place;
-            number = flown.number;
-            actual = flown.actual;
-            flown = flown.flown;
+            of_duty = is_recorded edition pairings named can (subst IsUtf8 (sym of.same_id) of.utf8);
           };
-          fits = fits;
+          can = can;
+          fits = number_fits named of.in_range;
         },
       )
 
 -- ---- Records in turn
 
-pub none_read : (records : List ExceedanceRecord) (s : State) → s.exceedances ≡ fin.empty → ExceedancesRead records 0 s s
-none_read records s none = record {
+pub none_read : (edition : Edition) (records : List ExceedanceRecord) (s : State) → s.exceedances ≡ fin.empty → ExceedancesRead edition records 0 s s
+none_read edition records s none = record {
   same = refl;
-  mapped = λ once. subst (Mapped name_of row_of_recorded (IsExceedanceInRange s.crew s.pairings) (take 0 (map exceedance_row records))) (sym none)
-      (nothing_mapped name_of ids_same row_of_recorded (IsExceedanceInRange s.crew s.pairings));
+  mapped = λ once. subst (Mapped name_of row_of_recorded (IsExceedanceIn edition s.crew s.pairings) (take 0 (map exceedance_row records))) (sym none)
+      (nothing_mapped name_of ids_same row_of_recorded (IsExceedanceIn edition s.crew s.pairings));
 }
 
-module _ (records : List ExceedanceRecord) (at : ℕ) (it : ExceedanceRecord) (there : slice_get records at ≡ Some it) where
+module _ (edition : Edition) (records : List ExceedanceRecord) (at : ℕ) (it : ExceedanceRecord) (there : slice_get records at ≡ Some it) where
   -- the members and pairings stay while the exceedances are set
-  as_begun : (s t : State) (e : Option Entry) → ExceedancesRead records at s t → Tells t.crew t.pairings it e → Tells s.crew s.pairings it e
-  as_begun s t e read = subst (λ (r : State). Tells r.crew r.pairings it e) read.same
+  as_begun : (s t : State) (e : Option Entry) → ExceedancesRead edition records at s t → Tells edition t.crew t.pairings it e → Tells edition s.crew s.pairings it e
+  as_begun s t e read = subst (λ (r : State). Tells edition r.crew r.pairings it e) read.same
 
-  pub stranger : (s t : State) → ExceedancesRead records at s t → Tells t.crew t.pairings it None → HasStranger row_of_recorded (IsExceedanceInRange s.crew s.pairings) (map exceedance_row records)
+  pub stranger : (s t : State) → ExceedancesRead edition records at s t → Tells edition t.crew t.pairings it None → HasStranger row_of_recorded (IsExceedanceIn edition s.crew s.pairings) (map exceedance_row records)
   stranger s t read none = record { row = exceedance_row it; here = mapped_at exceedance_row records at it there; strange = as_begun s t None read none }
 
-  pub one_read : (s t u : State) (e : Entry) → Tells t.crew t.pairings it (Some e) → ExceedancesRead records at s t → u ≡ put t e → ExceedancesRead records (at + 1) s u
+  pub one_read : (s t u : State) (e : Entry) → Tells edition t.crew t.pairings it (Some e) → ExceedancesRead edition records at s t → u ≡ put t e → ExceedancesRead edition records (at + 1) s u
   one_read s t u e told_now read made =
       let told = as_begun s t (Some e) read told_now in
       let id = told.0 in
@@ -131,8 +151,8 @@ module _ (records : List ExceedanceRecord) (at : ℕ) (it : ExceedanceRecord) (t
       let exceedances_are : u.exceedances ≡ fin.insert t.exceedances (name_of id) p = ap (λ (r : State). r.exceedances) is in
       record {
         same = is ∙ (λ i. record (read.same i) { exceedances = fin.insert t.exceedances (name_of id) p }) ∙ (λ i. record s { exceedances = sym exceedances_are i });
-        mapped = λ once. subst (λ m. Mapped name_of row_of_recorded (IsExceedanceInRange s.crew s.pairings) (take (at + 1) (map exceedance_row records)) m) (sym exceedances_are)
-            (next_mapped name_of ids_same row_of_recorded (IsExceedanceInRange s.crew s.pairings) t.exceedances id p (map exceedance_row records) at
+        mapped = λ once. subst (λ m. Mapped name_of row_of_recorded (IsExceedanceIn edition s.crew s.pairings) (take (at + 1) (map exceedance_row records)) m) (sym exceedances_are)
+            (next_mapped name_of ids_same row_of_recorded (IsExceedanceIn edition s.crew s.pairings) t.exceedances id p (map exceedance_row records) at
             (mapped_place exceedance_row records at it there ∙ ap Some told.3) (read.mapped once) told.4 once);
       }
 
@@ -168,12 +188,9 @@ pairing_here s t db a b id r e =
     (of_other segment_table db _ _ b.0.2.1 a.0.2.1) (of_other segment_table db _ _ a.0.2.1 b.0.2.1)
     (of_other seat_table db _ _ b.1.1 a.1.1) (of_other seat_table db _ _ a.1.1 b.1.1))
 
--- so an exceedance of one is of the same member and period in the other
-known_here : (s t : State) (db : Database) → IsSeatRight s db → IsSeatRight t db → (id : ExceedanceId) (p : PeriodId) → IsExceedance t.crew t.pairings id p → IsExceedance s.crew s.pairings id p
-known_here s t db a b id p is = let alike = members_same s t db (crew_part s db a) (crew_part t db b) id.crew is.member is.of_member in record {
-  is_key = is.is_key;
-  member = alike.other;
-  of_member = alike.there;
+-- so an exceedance of one is of the same member in the other, and names the same duty
+recorded_here : (s t : State) (db : Database) → IsSeatRight s db → IsSeatRight t db → (named : DutyId) → IsRecorded t.pairings named → IsRecorded s.pairings named
+recorded_here s t db a b (Period p) is = record {
   rostered = is.rostered;
   of_pairing = pairing_here s t db a b p.pairing is.rostered is.of_pairing;
   place = is.place;
@@ -181,26 +198,61 @@ known_here s t db a b id p is = let alike = members_same s t db (crew_part s db 
   actual = is.actual;
   flown = is.flown;
 }
+recorded_here s t db a b (Outside id) is = is
+
+known_here : (s t : State) (db : Database) → IsSeatRight s db → IsSeatRight t db → (id : ExceedanceId) (named : DutyId) → IsExceedance t.crew t.pairings id named → IsExceedance s.crew s.pairings id named
+known_here s t db a b id named is = let alike = members_same s t db (crew_part s db a) (crew_part t db b) id.crew is.member is.of_member in record {
+  is_key = is.is_key;
+  member = alike.other;
+  of_member = alike.there;
+  of_duty = recorded_here s t db a b named is.of_duty;
+}
 
 -- the number of a period with an actual has eight bits, since a pairing has few periods
-pub period_fits : (s : State) → ArePlanned s → (id : ExceedanceId) (p : PeriodId) → IsExceedance s.crew s.pairings id p → p.number < 256
-period_fits s planned id p is =
+pub period_fits : (s : State) → ArePlanned s → (named : DutyId) → IsRecorded s.pairings named → named_number named < 256
+period_fits s planned (Period p) is =
     let r = planned p.pairing is.rostered is.of_pairing in
     let few = few_periods is.rostered.plan r.plan in
     let within = slice_get_within is.rostered.actuals is.place (Some is.actual) is.flown in
     omega (arith, few, within, r.places, is.number)
+period_fits s planned (Outside id) is = omega arith
 
 -- ---- The table
 
 -- where it is right, each row is that of an exceedance
 pub recorded_in : (s : State) (db : Database) → IsRight exceedance s db → (row : Row) → Has (rows_of exceedance_table db) row →
-    (id : ExceedanceId) × (p : PeriodId) × (row ≡ row_of_recorded id p) × IsExceedance s.crew s.pairings id p
+    (id : ExceedanceId) × (named : DutyId) × (row ≡ row_of_recorded id named) × IsExceedance s.crew s.pairings id named
 recorded_in s db right row here =
     let it = (right.1.1 row).0 here in
     let at = it.0 in
-    let known = right.2 (exceedance_name at.key at.crew at.section) at.period at.there in
+    let known = right.2 (exceedance_name at.key at.crew at.section) at.named at.there in
     let same : record { key = at.key; crew = at.crew; section = at.section } ≡ known.0 = ids_same _ known.0 known.1 in
-    (known.0, at.period, it.1 ∙ ap (λ (id : ExceedanceId). row_of_recorded id at.period) same, known.2)
+    (known.0, at.named, it.1 ∙ ap (λ (id : ExceedanceId). row_of_recorded id at.named) same, known.2)
+
+-- and what each names, one in a file of this version can name
+can_name : (s : State) (db : Database) (edition : Edition) → IsOfEdition edition db → (named : DutyId) → IsRecorded s.pairings named → (IsOfEdition First db → IsOfPairing named) → CanName edition s.pairings named
+can_name s db edition of (Period p) is first = is
+can_name s db First of (Outside id) is first = first of
+can_name s db Second of (Outside id) is first = tt
+
+named_in : (s : State) (db : Database) (edition : Edition) → IsOfEdition edition db → IsRight exceedance s db → (row : Row) → Has (rows_of exceedance_table db) row →
+    (id : ExceedanceId) × (named : DutyId) × (row ≡ row_of_recorded id named) × IsExceedance s.crew s.pairings id named × CanName edition s.pairings named
+unfolding recorded_in
+named_in s db edition of right row here =
+    let at = ((right.1.1 row).0 here).0 in
+    let it = recorded_in s db right row here in
+    (it.0, it.1, it.2, it.3, can_name s db edition of it.1 it.3.of_duty (λ first. right.3 first (exceedance_name at.key at.crew at.section) at.named at.there))
+
+-- in version 1 it is a period of a pairing
+of_pairing : (edition : Edition) (db : Database) → IsOfEdition edition db → IsOfEdition First db → (pairings : fin.FinMap name_cmp PairingEntry) (named : DutyId) → CanName edition pairings named → IsOfPairing named
+of_pairing edition db of first pairings (Period p) can = tt
+of_pairing First db of first pairings (Outside id) can = can
+of_pairing Second db of first pairings (Outside id) can = absurd (one_edition db first of)
+
+-- the id of what is named is a text
+id_is_text : (s : State) (db : Database) → IsSeatRight s db → (named : DutyId) → IsRecorded s.pairings named → IsUtf8 (named_id named)
+id_is_text s db down (Period p) is = id_utf8 p.pairing (down.0.0.0.2 p.pairing is.rostered is.of_pairing)
+id_is_text s db down (Outside id) is = is
 
 section_fits : (section : Section) → section_number section < 2 ^ 32
 section_fits FlightTime = omega arith
@@ -217,36 +269,40 @@ not_unreadable db (inl none) right = none right.1.1.0
 not_unreadable db (inr x) right =
     let it = recorded_in right.0 db right.1 x.0 x.1 in
     let id = it.0 in
-    let p = it.1 in
+    let named = it.1 in
     let is = it.3 in
     let down = right.1.0.0 in
     let part = is.is_key.2 in
-    let fits = period_fits right.0 down.0.3 id p is in
+    let fits = period_fits right.0 down.0.3 named is.of_duty in
     x.3 (
-      record { number = pos id.key.number; part = id.key.part; crew = id.crew; section = section_number id.section; pairing = p.pairing; period = p.number },
+      record { number = pos id.key.number; part = id.key.part; crew = id.crew; section = section_number id.section; pairing = named_id named; period = named_number named },
       omega (arith, part),
       id_utf8 id.crew ((crew_part right.0 db down).2 id.crew is.member is.of_member).id_shape,
       section_fits id.section,
-      id_utf8 p.pairing (down.0.0.0.2 p.pairing is.rostered is.of_pairing),
+      id_is_text right.0 db down named is.of_duty,
       omega (arith, fits),
       it.2,
     )
 
-itself : (id : ExceedanceId) (p : PeriodId) → begins_with (Int (pos id.key.number) ∷ Int (pos id.key.part) ∷ Text id.crew ∷ Int (pos (section_number id.section)) ∷ []) (row_of_recorded id p) ≡ true
+itself : (id : ExceedanceId) (p : DutyId) → begins_with (Int (pos id.key.number) ∷ Int (pos id.key.part) ∷ Text id.crew ∷ Int (pos (section_number id.section)) ∷ []) (row_of_recorded id p) ≡ true
 itself id p = passes (Int (pos id.key.number) ∷ Int (pos id.key.part) ∷ Text id.crew ∷ Int (pos (section_number id.section)) ∷ []) (row_of_recorded id p) (refl, (refl, (refl, (refl, tt))))
 
-module _ (s : State) (db : Database) (above : AgreesThrough ground_duty s db) where
+module _ (edition : Edition) (s : State) (db : Database) (above : AgreesThrough ground_duty s db) (of : IsOfEdition edition db) where
   damaged : (AreRight exceedance db → ⊥) → IsDamaged exceedance db
   damaged wrong = record { book = above.book; version = above.version; above = (s, above.right); damaged = wrong }
 
   pub unreadable : IsUnreadable exceedance IsExceedanceRow db → IsDamaged exceedance db
   unreadable why = damaged (not_unreadable db why)
 
-  pub strange : (rows : List Row) → HasRows exceedance db rows → HasStranger row_of_recorded (IsExceedanceInRange s.crew s.pairings) rows → IsDamaged exceedance db
+  pub strange : (rows : List Row) → HasRows exceedance db rows → HasStranger row_of_recorded (IsExceedanceIn edition s.crew s.pairings) rows → IsDamaged exceedance db
   strange rows read stranger = damaged (λ right.
-      let it = recorded_in right.0 db right.1 stranger.row ((read.all stranger.row).1 stranger.here) in
+      let it = named_in right.0 db edition of right.1 stranger.row ((read.all stranger.row).1 stranger.here) in
       let is = known_here s right.0 db above.right.0 right.1.0.0 it.0 it.1 it.3 in
-      stranger.strange it.0 it.1 it.2 (record { is = is; fits = period_fits s above.right.0.0.3 it.0 it.1 is }))
+      stranger.strange it.0 it.1 it.2 (record {
+        is = is;
+        can = can_name s db edition of it.1 is.of_duty (λ first. of_pairing edition db of first right.0.pairings it.1 it.4);
+        fits = period_fits s above.right.0.0.3 it.1 is.of_duty;
+      }))
 
   exceedances_once : (rows : List Row) → HasRows exceedance db rows → AreOnce row_of_recorded rows
   exceedances_once rows read id p q first second =
@@ -254,7 +310,7 @@ module _ (s : State) (db : Database) (above : AgreesThrough ground_duty s db) wh
       ((read.all (row_of_recorded id p)).1 first) ((read.all (row_of_recorded id q)).1 second) (itself id p) (itself id q)
 
   pub right : (rows : List Row) (t : State) → HasRows exceedance db rows → t ≡ record s { exceedances = t.exceedances } →
-      (AreOnce row_of_recorded rows → Mapped name_of row_of_recorded (IsExceedanceInRange s.crew s.pairings) rows t.exceedances) → AgreesThrough exceedance t db
+      (AreOnce row_of_recorded rows → Mapped name_of row_of_recorded (IsExceedanceIn edition s.crew s.pairings) rows t.exceedances) → AgreesThrough exceedance t db
   right rows t read same mapped =
       let map = mapped (exceedances_once rows read) in
       record {
@@ -268,44 +324,47 @@ module _ (s : State) (db : Database) (above : AgreesThrough ground_duty s db) wh
             λ row. (
               λ h.
                   let it = map.has row ((read.all row).0 h) in
-                  (record { key = it.0.index.key; crew = it.0.index.crew; section = it.0.index.section; period = it.0.value; there = it.0.there }, it.1),
+                  (record { key = it.0.index.key; crew = it.0.index.crew; section = it.0.index.section; named = it.0.value; there = it.0.there }, it.1),
               λ it.
                   let id : ExceedanceId = record { key = it.0.key; crew = it.0.crew; section = it.0.section } in
-                  (read.all row).1 (subst (Has rows) (sym it.1) (map.all (record { index = id; value = it.0.period; there = it.0.there }))),
+                  (read.all row).1 (subst (Has rows) (sym it.1) (map.all (record { index = id; value = it.0.named; there = it.0.there }))),
             ),
           ),
           λ name p e. let known = map.known name p e in (known.0, known.1, subst (λ (r : State). IsExceedance r.crew r.pairings known.0 p) (sym same) known.2.is),
+          λ first name p e. of_pairing edition db of first s.pairings p (map.known name p e).2.can,
         );
       }
 
 -- ---- The call
 
-module _ (s : State) (old new : conn.State) (above : HasCleanDisk old → AgreesThrough ground_duty s old.now) where
+module _ (edition : Edition) (s : State) (old new : conn.State) (above : HasCleanDisk old → AgreesThrough ground_duty s old.now) (of : HasCleanDisk old → IsOfEdition edition old.now) where
   abbrev pub Now : State → Type 0
   Now r = AgreesThrough exceedance r old.now × (r ≡ record s { exceedances = r.exceedances })
 
   pub not_read : (fault : LoadFault) → (HasCleanDisk new → BlamesOrFails table_name.Exceedance (IsUnreadable exceedance IsExceedanceRow old.now) fault) → (HasCleanDisk new → IsCaused old new fault) → CrashLeavesNoMore old new →
       ReadsAs Now (λ f. Justifies f old.now) old new (Err fault)
-  not_read fault told caused left = unread table_name.Exceedance _ Now old new fault (λ clean. unreadable s old.now (above clean)) told caused left
+  not_read fault told caused left = unread table_name.Exceedance _ Now old new fault (λ clean. unreadable edition s old.now (above clean) (of clean)) told caused left
 
   pub is_read : (records seen : List ExceedanceRecord) (result : Result State LoadFault) → seen ≡ records →
       (HasCleanDisk new → IsUnchanged old new × HasRows exceedance old.now (map exceedance_row records)) → CrashLeavesNoMore old new →
-      MatchResult result (ExceedancesRead seen (length seen) s) (Blames table_name.Exceedance (HasStranger row_of_recorded (IsExceedanceInRange s.crew s.pairings) (map exceedance_row seen))) →
+      MatchResult result (ExceedancesRead edition seen (length seen) s) (Blames table_name.Exceedance (HasStranger row_of_recorded (IsExceedanceIn edition s.crew s.pairings) (map exceedance_row seen))) →
       ReadsAs Now (λ f. Justifies f old.now) old new result
   is_read records seen (Ok r) same saw left done = record {
     told = λ clean.
         let it = saw clean in
-        let read = subst (λ l. ExceedancesRead l (length l) s r) same done in
+        let read = subst (λ l. ExceedancesRead edition l (length l) s r) same done in
         let mapped = λ (once : AreOnce row_of_recorded (map exceedance_row records)).
-        subst (λ l. Mapped name_of row_of_recorded (IsExceedanceInRange s.crew s.pairings) l r.exceedances) (all_taken exceedance_row records) (read.mapped once) in
-        (it.0, (right s old.now (above (clean_before old new left clean)) (map exceedance_row records) r it.1 read.same mapped, read.same));
+        subst (λ l. Mapped name_of row_of_recorded (IsExceedanceIn edition s.crew s.pairings) l r.exceedances) (all_taken exceedance_row records) (read.mapped once) in
+        let before = clean_before old new left clean in
+        (it.0, (right edition s old.now (above before) (of before) (map exceedance_row records) r it.1 read.same mapped, read.same));
     caused = λ clean. tt;
     left = left;
   }
   is_read records seen (Err fault) same saw left blame = record {
     told = λ clean.
-        let why = subst (λ l. Blames table_name.Exceedance (HasStranger row_of_recorded (IsExceedanceInRange s.crew s.pairings) (map exceedance_row l)) fault) same blame in
-        of_blame table_name.Exceedance _ old.now (strange s old.now (above (clean_before old new left clean)) (map exceedance_row records) (saw clean).1) fault (or_fails table_name.Exceedance _ fault why);
-    caused = λ clean. uncaused old new table_name.Exceedance (HasStranger row_of_recorded (IsExceedanceInRange s.crew s.pairings) (map exceedance_row seen)) fault blame;
+        let why = subst (λ l. Blames table_name.Exceedance (HasStranger row_of_recorded (IsExceedanceIn edition s.crew s.pairings) (map exceedance_row l)) fault) same blame in
+        let before = clean_before old new left clean in
+        of_blame table_name.Exceedance _ old.now (strange edition s old.now (above before) (of before) (map exceedance_row records) (saw clean).1) fault (or_fails table_name.Exceedance _ fault why);
+    caused = λ clean. uncaused old new table_name.Exceedance (HasStranger row_of_recorded (IsExceedanceIn edition s.crew s.pairings) (map exceedance_row seen)) fault blame;
     left = left;
   }

@@ -9,8 +9,8 @@ use Rattle.std.proofs.lemmas.Slice.Eq.{bytes_eq-Decides}
 use Rattle.std.proofs.lemmas.Bool.{and_parts, and_from, cases_Bool}
 use Rattle.values.proofs.Names as names
 use Rattle.values.proofs.Names.{alike}
+use Rattle.roster.specs.declared.state.DutyId.{DutyId}
 use Rattle.roster.specs.declared.state.ExceedanceId.{ExceedanceId}
-use Rattle.roster.specs.declared.state.PeriodId.{PeriodId}
 use Rattle.values.specs.Name.{name_cmp, named_rows}
 use Rattle.sqlite_value.specs.declared.value.Value.TheVariants.{Int}
 use Rattle.sqlite_value.specs.Order.{Row, column}
@@ -40,18 +40,18 @@ use Rattle.tables.specs.Calls.{CrashLeavesNoMore}
 use Rattle.tables.specs.Records.{IsRequestRow, request_row}
 use Rattle.tables.specs.Rows.{begins_with}
 use Rattle.tables.specs.declared.request.RequestRecord.{RequestRecord}
-use Rattle.loading.proofs.Homes.{requests_at_home}
+use Rattle.loading.proofs.Homes.{requests_without_later}
 use Rattle.loading.proofs.LaterTables.{one_edition}
 use Rattle.loading.proofs.Mapping.{all_taken, nothing_mapped, next_mapped, mapped_at, mapped_place}
 use Rattle.state_rows.proofs.Tests.{passes}
 use Rattle.state_rows.proofs.Values.{ids_same, int_is, text_is, number_is}
 use Rattle.loading.proofs.Telling.{unread, of_blame, clean_before, or_fails, uncaused}
 use Rattle.loading.specs.Loading.{IsCaused, IsKey, IsRequest, name_of, IsRight, AreRight, AreHeld, IsDamaged, IsOfEdition, Justifies}
-use Rattle.loading.specs.Reading.{AreWanting, CanKeep, IsAtHome, IsRequestIn, RequestsRead, ReadsAs, Blames, BlamesOrFails, HasRows, IsUnreadable, AgreesThrough, Mapped, AreOnce, TellsOf, HasStranger}
+use Rattle.loading.specs.Reading.{AreWanting, CanKeep, HasNoLater, IsRequestIn, RequestsRead, ReadsAs, Blames, BlamesOrFails, HasRows, IsUnreadable, AgreesThrough, Mapped, AreOnce, TellsOf, HasStranger}
 use Rattle.loading.specs.declared.fault.LoadFault.{LoadFault}
 use Rattle.loading.specs.declared.fault.LoadFault.TheVariants.{NotABook, Damaged, Version, Fault}
 use Rattle.loading.specs.declared.fault.TableName.TheVariants as table_name
-use Rattle.state_rows.specs.First.{IsOfFirst}
+use Rattle.state_rows.specs.First.{AreOfPairings, IsOfFirst}
 use Rattle.state_rows.specs.declared.edition.Edition.{Edition}
 use Rattle.state_rows.specs.declared.edition.Edition.TheVariants.{First, Second}
 use Rattle.state_rows.specs.Rows.{RequestAt, ExceedanceAt, row_of_request, row_of_exceedance, request, exceedance}
@@ -214,9 +214,9 @@ module _ (edition : Edition) (s : State) (db : Database) (above : AgreesThrough 
       ((read.all (row_of_request key m)).1 first) ((read.all (row_of_request key n)).1 second) (itself key m) (itself key n)
 
   -- all but that each key of an exceedance is held
-  pub kept_requests : (rows : List Row) (t : State) → HasRows request db rows → IsAtHome s → t ≡ record s { requests = t.requests } →
+  pub kept_requests : (rows : List Row) (t : State) → HasRows request db rows → HasNoLater s → t ≡ record s { requests = t.requests } →
       (AreOnce row_of_request rows → Mapped key_name row_of_request (IsRequestIn edition) rows t.requests) → AreHeld t → AgreesThrough request t db
-  kept_requests rows t read at_home same mapped held =
+  kept_requests rows t read none same mapped held =
       let map = mapped (requests_once rows read) in
       record {
         stored = (read.stored, above.stored);
@@ -232,9 +232,11 @@ module _ (edition : Edition) (s : State) (db : Database) (above : AgreesThrough 
             ),
           ),
           (λ name r e. let known = map.known name r e in (known.0, known.1, known.2.is), held),
-          λ first. let at = requests_at_home s t at_home same in record {
+          λ first. let at = requests_without_later s t none same in record {
             bases = at.0;
             members = at.1;
+            outsides = at.2;
+            records = subst AreOfPairings (sym same) (above.right.3 first);
             commands = λ name r e. of_first db edition of first r.command (map.known name r e).2.can;
           },
         );
@@ -246,11 +248,11 @@ tied_itself : (q : List ℕ) → eq_by_cmp name_cmp q q ≡ true
 tied_itself q = names.itself q q refl
 
 abbrev Listed : Type 0
-Listed = List (ExceedanceId × PeriodId)
+Listed = List (ExceedanceId × DutyId)
 
 module _ (test : ExceedanceId → Bool) where
   -- what is found under a name passes where all do
-  found_passes : (items : Listed) (q : List ℕ) (p : PeriodId) → fin.find name_cmp q (named_rows name_of items) ≡ Some p → list_all (λ e. test e.0) items ≡ true →
+  found_passes : (items : Listed) (q : List ℕ) (p : DutyId) → fin.find name_cmp q (named_rows name_of items) ≡ Some p → list_all (λ e. test e.0) items ≡ true →
       (id : ExceedanceId) × (name_of id ≡ q) × (test id ≡ true)
   found_passes [] q p e all = absurd (cc)
   found_passes (x ∷ xs) q p e all =
@@ -261,14 +263,14 @@ module _ (test : ExceedanceId → Bool) where
       ]
 
   -- and what stands in a list is found under its name
-  found_itself : (before items : Listed) (x : ExceedanceId × PeriodId) → (p : PeriodId) × (fin.find name_cmp (name_of x.0) (named_rows name_of (before ++ x ∷ items)) ≡ Some p)
+  found_itself : (before items : Listed) (x : ExceedanceId × DutyId) → (p : DutyId) × (fin.find name_cmp (name_of x.0) (named_rows name_of (before ++ x ∷ items)) ≡ Some p)
   found_itself [] items x = (x.1, rw (tied_itself (name_of x.0)) refl)
   found_itself (y ∷ before) items x = elim (cases_Bool (eq_by_cmp name_cmp (name_of x.0) (name_of y.0))) [
     | inl tied ↦ (y.1, rw tied refl)
     | inr apart ↦ let later = found_itself before items x in (later.0, rw apart later.1)
   ]
 
-  all_pass : (before items : Listed) → ((id : ExceedanceId) (p : PeriodId) → fin.find name_cmp (name_of id) (named_rows name_of (before ++ items)) ≡ Some p → test id ≡ true) →
+  all_pass : (before items : Listed) → ((id : ExceedanceId) (p : DutyId) → fin.find name_cmp (name_of id) (named_rows name_of (before ++ items)) ≡ Some p → test id ≡ true) →
       list_all (λ e. test e.0) items ≡ true
   all_pass before [] each = refl
   all_pass before (x ∷ items) each =
@@ -276,8 +278,8 @@ module _ (test : ExceedanceId → Bool) where
       and_from _ _ (each x.0 here.0 here.1)
       (all_pass (before ++ x ∷ []) items (λ id p e. each id p (subst (λ l. fin.find name_cmp (name_of id) (named_rows name_of l) ≡ Some p) (append_assoc before (x ∷ []) items) e)))
 
-  pub passes_all : (items : Listed) (m : fin.FinMap name_cmp PeriodId) → named_rows name_of items ≡ fin.entries m →
-      (list_all (λ e. test e.0) items ≡ true) ↔ ((id : ExceedanceId) (p : PeriodId) → fin.get m (name_of id) ≡ Some p → test id ≡ true)
+  pub passes_all : (items : Listed) (m : fin.FinMap name_cmp DutyId) → named_rows name_of items ≡ fin.entries m →
+      (list_all (λ e. test e.0) items ≡ true) ↔ ((id : ExceedanceId) (p : DutyId) → fin.get m (name_of id) ≡ Some p → test id ≡ true)
   passes_all items m listed = (
     λ all id p there.
         let found : fin.find name_cmp (name_of id) (named_rows name_of items) ≡ Some p = ap (fin.find name_cmp (name_of id)) listed ∙ sym (fin.get-entries m (name_of id)) ∙ there in
@@ -292,7 +294,7 @@ is_there (Some v) e = (v, refl)
 
 -- each exceedance has its request where all that are listed have
 pub held_if : (s : State) (items : Listed) → named_rows name_of items ≡ fin.entries s.exceedances → (all : Bool) →
-    all ≡ list_all (λ (x : ExceedanceId × PeriodId). fin.contains_key s.requests (key_name x.0.key)) items → (all ≡ true) ↔ AreHeld s
+    all ≡ list_all (λ (x : ExceedanceId × DutyId). fin.contains_key s.requests (key_name x.0.key)) items → (all ≡ true) ↔ AreHeld s
 held_if s items listed all is =
     let both = passes_all (λ id. fin.contains_key s.requests (key_name id.key)) items s.exceedances listed in (
       λ yes id p there. is_there (fin.get s.requests (key_name id.key)) (both.0 (sym is ∙ yes) id p there),
@@ -300,7 +302,7 @@ held_if s items listed all is =
     )
 
 -- equal rows have equal keys
-exceedance_key : (a b : KeyParts) (x y : List ℕ) (m n : Section) (p q : PeriodId) → row_of_exceedance a x m p ≡ row_of_exceedance b y n q → a ≡ b
+exceedance_key : (a b : KeyParts) (x y : List ℕ) (m n : Section) (p q : DutyId) → row_of_exceedance a x m p ≡ row_of_exceedance b y n q → a ≡ b
 exceedance_key a b x y m n p q e =
     let number : a.number ≡ b.number = number_is (ap (λ (row : Row). column row 0) e) in
     let part : a.part ≡ b.part = number_is (ap (λ (row : Row). column row 1) e) in
@@ -315,15 +317,15 @@ request_key a b r q e =
 module _ (s t u : State) (db : Database) (rows : List Row) (read : HasRows request db rows) (above : IsRight exceedance s db) (same : t ≡ record s { requests = t.requests })
     (edition : Edition) (map : Mapped key_name row_of_request (IsRequestIn edition) rows t.requests) (right : IsRight request u db) where
   -- an exceedance of this state has the key of one of the other
-  in_other : (id : ExceedanceId) (p : PeriodId) → fin.get t.exceedances (name_of id) ≡ Some p →
-      (other : ExceedanceId) × (q : PeriodId) × (fin.get u.exceedances (name_of other) ≡ Some q) × (id.key ≡ other.key)
+  in_other : (id : ExceedanceId) (p : DutyId) → fin.get t.exceedances (name_of id) ≡ Some p →
+      (other : ExceedanceId) × (q : DutyId) × (fin.get u.exceedances (name_of other) ≡ Some q) × (id.key ≡ other.key)
   in_other id p there =
       let old : fin.get s.exceedances (name_of id) ≡ Some p = ap (λ (x : State). fin.get x.exceedances (name_of id)) (sym same) ∙ there in
-      let at : ExceedanceAt s.exceedances = record { key = id.key; crew = id.crew; section = id.section; period = p; there = old } in
+      let at : ExceedanceAt s.exceedances = record { key = id.key; crew = id.crew; section = id.section; named = p; there = old } in
       let row = row_of_exceedance id.key id.crew id.section p in
       let it = (right.0.1.1 row).0 ((above.1.1 row).1 (at, refl)) in
       let other : ExceedanceId = record { key = it.0.key; crew = it.0.crew; section = it.0.section } in
-      (other, it.0.period, it.0.there, exceedance_key id.key it.0.key id.crew it.0.crew id.section it.0.section p it.0.period it.1)
+      (other, it.0.named, it.0.there, exceedance_key id.key it.0.key id.crew it.0.crew id.section it.0.section p it.0.named it.1)
 
   -- a key that is held in the other is held in this one
   from_other : (key : KeyParts) (r : LoggedCommand) → fin.get u.requests (key_name key) ≡ Some r → (q : LoggedCommand) × (fin.get t.requests (key_name key) ≡ Some q)
@@ -373,20 +375,20 @@ module _ (edition : Edition) (s : State) (old new : conn.State) (above : HasClea
       it.2 (held_here s it.0 right.0 old.now (map request_row records) read up.right it.1.same
       edition (all_mapped records it.0 it.1 (requests_once edition s old.now up is (map request_row records) read)) right.1))
 
-  pub is_read : (records seen : List RequestRecord) (result : Result State LoadFault) → IsAtHome s → seen ≡ records →
+  pub is_read : (records seen : List RequestRecord) (result : Result State LoadFault) → HasNoLater s → seen ≡ records →
       (HasCleanDisk new → IsUnchanged old new × HasRows request old.now (map request_row records)) → CrashLeavesNoMore old new →
       MatchResult result (λ r. RequestsRead edition seen (length seen) s r × AreHeld r) (Blames table_name.Request (AreWanting edition seen s)) →
       ReadsAs Now (λ f. Justifies f old.now) old new result
-  is_read records seen (Ok r) at_home same saw left done = record {
+  is_read records seen (Ok r) none same saw left done = record {
     told = λ clean.
         let it = saw clean in
         let read = subst (λ l. RequestsRead edition l (length l) s r) same done.0 in
         let before = clean_before old new left clean in
-        (it.0, kept_requests edition s old.now (above before) (of before) (map request_row records) r it.1 at_home read.same (all_mapped records r read) done.1);
+        (it.0, kept_requests edition s old.now (above before) (of before) (map request_row records) r it.1 none read.same (all_mapped records r read) done.1);
     caused = λ clean. tt;
     left = left;
   }
-  is_read records seen (Err fault) at_home same saw left blame = record {
+  is_read records seen (Err fault) none same saw left blame = record {
     told = λ clean.
         let why = subst (λ l. Blames table_name.Request (AreWanting edition l s) fault) same blame in
         let before = clean_before old new left clean in

@@ -1,11 +1,11 @@
 -- The table `seat`: what its records tell, and when it is right.
-use Rattle.std.proofs.Common.{◌≡◌, ◌⊎◌, ◌↔◌, inl, inr, refl, sym, ap, subst, ◌∙◌, ℕ, true, false, not, Bool, ◌&&◌, ◌||◌, List, [], ◌∷◌, map, take, cond, slice_get, ◌+◌, length, Option, Some, None, Contains}
+use Rattle.std.proofs.Common.{◌≡◌, ◌⊎◌, ◌↔◌, inl, inr, refl, sym, ap, subst, ◌∙◌, ℕ, true, false, not, Bool, ◌&&◌, ◌||◌, List, [], ◌∷◌, map, take, cond, slice_get, ◌+◌, length, Option, Some, None}
 use Rattle.std.specs.FinMap as fin
 use Rattle.std.specs.List.{list_all}
 use Rattle.std.specs.Option.{option_map}
 use Rattle.std.specs.Ordering.{eq_by_cmp}
 use Rattle.std.specs.Prelude.{is_some}
-use Rattle.std.proofs.lemmas.Bool.{and_parts, and_from, cases_Bool}
+use Rattle.std.proofs.lemmas.Bool.{cases_Bool}
 use Rattle.values.proofs.Names as names
 use Rattle.values.proofs.Names.{alike, get-changed_at}
 use Rattle.values.specs.Name.{name_cmp, changed_at, named_rows}
@@ -14,7 +14,6 @@ use Rattle.sqlite_rules.specs.Lists.{Has}
 use Rattle.command.specs.declared.member.Member.{Member}
 use Rattle.command.specs.declared.member.Seat.{Seat}
 use Rattle.command.specs.declared.member.Seat.TheVariants.{Captain, FirstOfficer}
-use Rattle.roster.proofs.Members.{first_or_later, is_first, is_later, from_rows, in_rows, none_in}
 use Rattle.roster.specs.Pairings.{holder, with_holder, is_flown, is_fully_crewed}
 use Rattle.roster.specs.Sound.{Crew, IsHolder}
 use Rattle.roster.specs.State.{State}
@@ -22,6 +21,7 @@ use Rattle.roster.specs.declared.state.PairingEntry.{PairingEntry}
 use Rattle.tables.specs.Records.{seat_row}
 use Rattle.tables.specs.declared.seat.SeatRecord.{SeatRecord}
 use Rattle.state_rows.proofs.Lists.{one_value, some_same}
+use Rattle.loading.proofs.Entries.{values_pass}
 use Rattle.loading.proofs.Mapping.{mapped_at, mapped_place, of_appended, in_appended, of_taken, take_next, has_at}
 use Rattle.loading.proofs.ReadCrew.{seat_known, number_known}
 use Rattle.state_rows.proofs.Values.{text_is, number_is}
@@ -263,32 +263,6 @@ module _ (records : List SeatRecord) (count : ℕ) (it : SeatRecord) (there : sl
 
 -- ---- That both seats of each flown pairing are held
 
-module _ (test : PairingEntry → Bool) where
-  all_in : (items : List (List ℕ × PairingEntry)) → list_all (λ e. test e.1) items ≡ true → (row : List ℕ × PairingEntry) → Contains items row → test row.1 ≡ true
-  all_in [] all row c = absurd (none_in row c)
-  all_in (x ∷ xs) all row c =
-      let parts = and_parts (test x.1) (list_all (λ e. test e.1) xs) all in
-      elim (first_or_later x xs row c) [
-        | inl is ↦ ap (λ (e : List ℕ × PairingEntry). test e.1) (sym is) ∙ parts.0
-        | inr later ↦ all_in xs parts.1 row later
-      ]
-
-  in_all : (items : List (List ℕ × PairingEntry)) → ((row : List ℕ × PairingEntry) → Contains items row → test row.1 ≡ true) → list_all (λ e. test e.1) items ≡ true
-  in_all [] each = refl
-  in_all (x ∷ xs) each = and_from _ _ (each x (is_first x xs x refl)) (in_all xs (λ row c. each row (is_later x xs row c)))
-
-  rows_same : (items : List (List ℕ × PairingEntry)) → named_rows (λ (id : List ℕ). id) items ≡ items
-  rows_same [] = refl
-  rows_same (x ∷ xs) = ap (λ l. x ∷ l) (rows_same xs)
-
-  pub passes_all : (items : List (List ℕ × PairingEntry)) (m : fin.FinMap name_cmp PairingEntry) → named_rows (λ (id : List ℕ). id) items ≡ fin.entries m →
-      (list_all (λ e. test e.1) items ≡ true) ↔ ((id : List ℕ) (r : PairingEntry) → fin.get m id ≡ Some r → test r ≡ true)
-  passes_all items m listed =
-      let same : items ≡ fin.entries m = sym (rows_same items) ∙ listed in (
-        λ all id r there. all_in items all (id, r) (subst (λ l. Contains l (id, r)) (sym same) (in_rows m id r there)),
-        λ each. in_all items (λ row c. each row.0 row.1 (from_rows m row.0 row.1 (subst (λ l. Contains l row) same c))),
-      )
-
 -- where it is flown, both its seats are held
 abbrev pub is_seated : PairingEntry → Bool
 is_seated r = not (is_flown r) || is_fully_crewed r
@@ -299,7 +273,7 @@ seated_if false crewed = (λ _ e. absurd (cc), λ _. refl)
 
 pub all_crewed : (items : List (List ℕ × PairingEntry)) (s : State) → named_rows (λ (id : List ℕ). id) items ≡ fin.entries s.pairings → (list_all (λ e. is_seated e.1) items ≡ true) ↔ AreCrewed s
 all_crewed items s listed =
-    let pass = passes_all is_seated items s.pairings listed in (
+    let pass = values_pass (λ (id : List ℕ). id) is_seated items s.pairings listed in (
       λ all id r here. (seated_if (is_flown r) (is_fully_crewed r)).0 (pass.0 all id r here),
       λ crewed. pass.1 (λ id r here. (seated_if (is_flown r) (is_fully_crewed r)).1 (crewed id r here)),
     )

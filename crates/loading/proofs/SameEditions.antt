@@ -1,9 +1,12 @@
 -- A file of version 1 says all of a state too.
-use Rattle.std.proofs.Common.{◌≡◌, ◌↔◌, inl, inr, refl, sym, ap, subst, ◌∙◌}
+use Rattle.std.proofs.Common.{◌≡◌, ◌↔◌, inl, inr, refl, sym, ap, subst, ◌∙◌, ℕ, List, Some}
+use Rattle.std.specs.FinMap as fin
+use Rattle.values.specs.Name.{name_cmp}
 use Rattle.sqlite_value.specs.Order.{Row, column}
 use Rattle.sqlite.specs.Effect.{Database}
 use Rattle.roster.specs.Bases.{Bases, home_zone, only_home}
 use Rattle.roster.specs.State.{State}
+use Rattle.roster.specs.declared.state.OutsideEntry.{OutsideEntry}
 use Rattle.loading.proofs.LaterTables.{one_edition}
 use Rattle.loading.proofs.SameStates.{crew_told, rows_say_all, database_holds_one_state}
 use Rattle.loading.specs.SameRows.{HoldsOneOfEither, SameRows}
@@ -29,6 +32,10 @@ module _ (s t : State) (db : Database) (p : FirstRows s db) (q : FirstRows t db)
       let based : at.value.base ≡ alike.other.base = first.members at.name at.value at.there ∙ sym (other.members at.name alike.other alike.there) in
       (record { name = at.name; value = alike.other; there = alike.there }, is.1 ∙ ap (row_of_post at.name) based)
 
+-- a state that version 1 can say has no row of an outside period
+no_outside : (s : State) → IsFirst s → (id : List ℕ) (o : OutsideEntry) → fin.get s.outsides id ≡ Some o → ⊥
+no_outside s first id o there = absurd (let e = sym (ap (λ (x : fin.FinMap name_cmp OutsideEntry). fin.get x id) first.outsides ∙ fin.get-empty name_cmp id) ∙ there in cc)
+
 same_rows : (s t : State) (db : Database) → FirstRows s db → FirstRows t db → IsFirst s → IsFirst t → SameRows s t
 same_rows s t db p q first other name = elim name as (λ n. (row : Row) → InTable s n row ↔ InTable t n row) [
   | book ↦ λ row. (book_row_same s t db p q first other row, book_row_same t s db q p other first row)
@@ -42,8 +49,8 @@ same_rows s t db p q first other name = elim name as (λ n. (row : Row) → InTa
   | request ↦ λ row. (λ x. (q request refl row).0 ((p request refl row).1 x), λ x. (p request refl row).0 ((q request refl row).1 x))
   | base ↦ λ row. (base_same s t db p q first other row, base_same t s db q p other first row)
   | crew_base ↦ λ row. (crew_base_same s t db p q first other row, crew_base_same t s db q p other first row)
-  | outside ↦ λ row. (λ x. x, λ x. x)
-  | outside_segment ↦ λ row. (λ x. x, λ x. x)
+  | outside ↦ λ row. (λ x. absurd (no_outside s first x.0.name x.0.value x.0.there), λ x. absurd (no_outside t other x.0.name x.0.value x.0.there))
+  | outside_segment ↦ λ row. (λ x. absurd (no_outside s first x.0.name x.0.value x.0.there), λ x. absurd (no_outside t other x.0.name x.0.value x.0.there))
 ]
 
 not_both : (s t : State) (db : Database) → FirstRows s db → Rows t db → ⊥

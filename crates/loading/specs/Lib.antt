@@ -6,4 +6,6 @@ pub mod SameRows
 pub mod Reading
 pub mod Keyed
 pub mod OnePairing
+pub mod OneOutside
+pub mod OutsideRows
 pub mod Refusals

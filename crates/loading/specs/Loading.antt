@@ -10,7 +10,7 @@ use Rattle.sqlite_disk.specs.Disk.{MoreFaults}
 use Rattle.sqlite.specs.Effect.{Database}
 use Rattle.sqlite.specs.State as conn
 use Rattle.time117.specs.Local.{is_zone_text}
-use Rattle.duty.specs.Pairings.{pairing_fault, ground_fault}
+use Rattle.duty.specs.Pairings.{pairing_fault, ground_fault, outside_fault}
 use Rattle.duty.specs.Plans.{ActualTimes, GroundPlan, as_planned}
 use Rattle.duty.specs.Shape.{home, is_id, is_plain_text}
 use Rattle.command.specs.Keys.{KeyParts, key_name}
@@ -24,22 +24,26 @@ use Rattle.roster.specs.Bases.{IsBase, home_zone}
 use Rattle.roster.specs.Pairings.{is_flown, is_fully_crewed}
 use Rattle.roster.specs.Sound.{Crew, IsHolder, IsActual}
 use Rattle.roster.specs.State.{State, exceedance_name}
+use Rattle.roster.specs.declared.state.DutyId.{DutyId}
+use Rattle.roster.specs.declared.state.DutyId.TheVariants.{Period, Outside}
 use Rattle.roster.specs.declared.state.ExceedanceId.{ExceedanceId}
 use Rattle.roster.specs.declared.state.PeriodId.{PeriodId}
 use Rattle.roster.specs.declared.state.LoggedCommand.{LoggedCommand}
+use Rattle.roster.specs.declared.state.OutsideEntry.{OutsideEntry}
 use Rattle.roster.specs.declared.state.PairingEntry.{PairingEntry}
 use Rattle.tables.specs.Calls.{HasStepLimit, IsInOrder}
-use Rattle.tables.specs.Records.{IsNumber, book_row, period_row, pairing_row}
-use Rattle.tables.specs.Schema.{IsOfBook, book_table, pairing_table, period_table, table_found, IsNameFree}
+use Rattle.tables.specs.Records.{IsNumber, book_row, period_row, pairing_row, outside_row}
+use Rattle.tables.specs.Schema.{IsOfBook, book_table, pairing_table, period_table, outside_table, table_found, IsNameFree}
 use Rattle.tables.specs.Rows.{rows_of}
 use Rattle.tables.specs.declared.book.BookRecord.{BookRecord}
+use Rattle.tables.specs.declared.outside.OutsideRecord.{OutsideRecord}
 use Rattle.tables.specs.declared.period.PeriodRecord.{PeriodRecord}
 use Rattle.loading.specs.declared.fault.LoadFault.{LoadFault}
 use Rattle.loading.specs.declared.fault.LoadFault.TheVariants.{NotABook, Damaged, Version, Fault}
 use Rattle.loading.specs.declared.fault.TableName as name
 use Rattle.loading.specs.declared.fault.TableName.TheVariants as table_name
 use Rattle.state_rows.specs.Editions.{edition_number}
-use Rattle.state_rows.specs.First.{IsFirst}
+use Rattle.state_rows.specs.First.{AreOfPairings, IsFirst}
 use Rattle.state_rows.specs.Rows.{TableName, book, crew, pairing, period, segment, seat, ground_duty, exceedance, request, base, crew_base, outside, outside_segment, table, InBookOf, InTable, InPeriod, HasJust}
 use Rattle.state_rows.specs.declared.edition.Edition.{Edition}
 use Rattle.state_rows.specs.declared.edition.Edition.TheVariants.{First, Second}
@@ -136,13 +140,8 @@ AreGrounds s = (id : List ℕ) (g : GroundPlan) → fin.get s.grounds id ≡ Som
 abbrev pub IsKey : KeyParts → Type 0
 IsKey key = (1 ≤ key.number) × (key.number ≤ 9_223_372_036_854_775_807) × (key.part ≤ 10_000)
 
--- an exceedance is of a member, and of a period with an actual
-pub record IsExceedance
-    (members : Crew) (pairings : fin.FinMap name_cmp PairingEntry) (id : ExceedanceId)
-    (p : PeriodId) : Type 0 where
-  pub is_key : IsKey id.key
-  pub member : Member
-  pub of_member : fin.get members id.crew ≡ Some member
+-- the period is there, and it has an actual
+pub record IsFlown (pairings : fin.FinMap name_cmp PairingEntry) (p : PeriodId) : Type 0 where
   pub rostered : PairingEntry
   pub of_pairing : fin.get pairings p.pairing ≡ Some rostered
   pub place : ℕ
@@ -150,14 +149,30 @@ pub record IsExceedance
   pub actual : ActualTimes
   pub flown : slice_get rostered.actuals place ≡ Some (Some actual)
 
+-- what an exceedance names is a period with an actual, or an outside period by its id, of which
+-- only the table `outside` says whether it is there
+abbrev pub IsRecorded : fin.FinMap name_cmp PairingEntry → DutyId → Type 0
+IsRecorded pairings (Period p) = IsFlown pairings p
+IsRecorded pairings (Outside id) = IsUtf8 id
+
+-- an exceedance is of a member, and names a period with an actual, or an outside period
+pub record IsExceedance
+    (members : Crew) (pairings : fin.FinMap name_cmp PairingEntry) (id : ExceedanceId)
+    (named : DutyId) : Type 0 where
+  pub is_key : IsKey id.key
+  pub member : Member
+  pub of_member : fin.get members id.crew ≡ Some member
+  pub of_duty : IsRecorded pairings named
+
 -- the name that an exceedance stands under
 abbrev pub name_of : ExceedanceId → List ℕ
 name_of id = exceedance_name id.key id.crew id.section
 
--- each exceedance is of a member and of a period with an actual, and stands under its name
+-- each exceedance is of a member, names a period with an actual, or an outside period, and stands
+-- under its name
 abbrev pub AreExceedances : State → Type 0
-AreExceedances s = (name : List ℕ) (p : PeriodId) → fin.get s.exceedances name ≡ Some p →
-    (id : ExceedanceId) × (name ≡ name_of id) × IsExceedance s.crew s.pairings id p
+AreExceedances s = (name : List ℕ) (named : DutyId) → fin.get s.exceedances name ≡ Some named →
+    (id : ExceedanceId) × (name ≡ name_of id) × IsExceedance s.crew s.pairings id named
 
 -- what is kept is a command, and it and its reply are texts
 pub record IsRequest (key : KeyParts) (r : LoggedCommand) : Type 0 where
@@ -167,7 +182,8 @@ pub record IsRequest (key : KeyParts) (r : LoggedCommand) : Type 0 where
 
 -- each key that an exceedance names is held
 abbrev pub AreHeld : State → Type 0
-AreHeld s = (id : ExceedanceId) (p : PeriodId) → fin.get s.exceedances (name_of id) ≡ Some p →
+AreHeld s = (id : ExceedanceId) (named : DutyId) →
+    fin.get s.exceedances (name_of id) ≡ Some named →
     (r : LoggedCommand) × (fin.get s.requests (key_name id.key) ≡ Some r)
 
 -- each kept command is a command, read back as its text, and stands under its key's name; and each
@@ -187,6 +203,39 @@ pub record AreBases (s : State) : Type 0 where
 -- the base of each member is one of the bases
 abbrev pub AreBased : State → Type 0
 AreBased s = (who : List ℕ) (m : Member) → fin.get s.crew who ≡ Some m → IsBase s.bases m.base
+
+-- a row of `outside` is that of an outside period of a member, whose id has its shape
+pub record IsOutsidePeriod (members : Crew) (row : Row) : Type 0 where
+  pub it : OutsideRecord
+  pub is : row ≡ outside_row it
+  pub id_shape : is_id it.id ≡ true
+  pub report : is_instant it.report_at ≡ true
+  pub release : is_instant it.release_at ≡ true
+  pub member : Member
+  pub of_member : fin.get members it.crew ≡ Some member
+
+-- an outside period has a row in `outside`
+abbrev pub HasOutside : Database → List ℕ → Type 0
+HasOutside db id = (it : OutsideRecord) × Has (rows_of outside_table db) (outside_row it)
+    × (it.id ≡ id)
+
+-- each row of `outside` is that of an outside period of a member, and each outside period that an
+-- exceedance names has a row
+pub record AreOutsides (s : State) (db : Database) : Type 0 where
+  pub rows : (row : Row) → Has (rows_of outside_table db) row → IsOutsidePeriod s.crew row
+  pub recorded : (name id : List ℕ) → fin.get s.exceedances name ≡ Some (Outside id) →
+      HasOutside db id
+
+-- an outside period stands under its id, and is one that `Outside::new` makes
+pub record IsOutsideMade (id : List ℕ) (o : OutsideEntry) : Type 0 where
+  pub named : o.period.id ≡ id
+  pub made : outside_fault o.period ≡ None
+  pub instants : list_all times_have_instants o.period.segments ≡ true
+
+-- each outside period stands under its id, and is one that `Outside::new` makes
+abbrev pub AreOutsidesMade : State → Type 0
+AreOutsidesMade s = (id : List ℕ) (o : OutsideEntry) → fin.get s.outsides id ≡ Some o →
+    IsOutsideMade id o
 
 -- ---- The tables in turn
 
@@ -244,12 +293,14 @@ IsSeatRight s db = IsSegmentRight s db × IsTableOfState seat s db × AreSeated 
 abbrev pub IsGroundRight : State → Database → Type 0
 IsGroundRight s db = IsSeatRight s db × IsTableOfState ground_duty s db × AreGrounds s
 
--- the tables from `book` to `exceedance` are right, with the rows of this state
+-- The tables from `book` to `exceedance` are right, with the rows of this state. In a file of
+-- version 1 no exceedance names an outside period.
 abbrev pub IsExceedanceRight : State → Database → Type 0
 IsExceedanceRight s db = IsGroundRight s db × IsTableOfState exceedance s db × AreExceedances s
+    × (IsOfEdition First db → AreOfPairings s)
 
 -- The tables from `book` to `request`, the last of version 1, are right, with the rows of this
--- state. In a file of version 1 it is a state that version 1 can say.
+-- state. In a file of version 1 the state is one that version 1 can say.
 abbrev pub IsRequestRight : State → Database → Type 0
 IsRequestRight s db = IsExceedanceRight s db × IsTableOfState request s db × AreRequests s
     × (IsOfEdition First db → IsFirst s)
@@ -263,14 +314,24 @@ IsBaseRight s db = IsRequestRight s db × IsLaterOfState base s db × AreBases s
 abbrev pub IsCrewBaseRight : State → Database → Type 0
 IsCrewBaseRight s db = IsBaseRight s db × IsLaterOfState crew_base s db × AreBased s
 
--- the tables from `book` to `outside` are right, with the rows of this state
+-- the table `outside` of a file of version 2 is there and fits the members and exceedances of the
+-- state; in a file of version 1 its name is free
+abbrev pub IsOutsideFit : State → Database → Type 0
+IsOutsideFit s db =
+    (IsOfEdition Second db × IsOfBook outside_table db.schema × AreOutsides s db)
+    ⊎ (IsOfEdition First db × IsNameFree outside_table db.schema)
+
+-- the tables from `book` to `crew_base` are right, with the rows of this state, and `outside` fits
+-- them: its rows aren't compared with the state's yet, since without their segments there are no
+-- outside periods
 abbrev pub IsOutsideRight : State → Database → Type 0
-IsOutsideRight s db = IsCrewBaseRight s db × IsLaterOfState outside s db
+IsOutsideRight s db = IsCrewBaseRight s db × IsOutsideFit s db
 
 -- the tables from `book` to `outside_segment`, the last of version 2, are right, with the rows of
--- this state
+-- this state, in `outside` too
 abbrev pub IsOutsideSegmentRight : State → Database → Type 0
-IsOutsideSegmentRight s db = IsOutsideRight s db × IsLaterOfState outside_segment s db
+IsOutsideSegmentRight s db = IsOutsideRight s db × IsLaterOfState outside s db
+    × IsLaterOfState outside_segment s db × AreOutsidesMade s
 
 -- the tables down to the one of this name are right, with the rows of this state
 abbrev pub IsRight : TableName → State → Database → Type 0

@@ -1,12 +1,16 @@
--- The keys of periods and of segments are in the order of their names.
+-- The keys of periods, of segments, and of the segments of outside periods are in the order of
+-- their names.
 use Rattle.std.specs.Prelude.{◌≡◌, ℕ, [], ◌∷◌}
 use Rattle.std.proofs.Common.{ap, ◌∙◌}
 use Rattle.std.specs.Ordering.{nat_cmp, ordering_then}
 use Rattle.values.specs.Name.{name_cmp}
 use Rattle.values.proofs.Names.{number_order, text_order}
+use Rattle.loading.specs.OutsideRows.{outside_segment_name}
 use Rattle.loading.specs.PlanRows.{period_name, segment_name}
+use Rattle.loading.specs.contracts.outside_rows.OutsideSegmentKeyOrd.TheImpl.{ghosts as outside_segments}
 use Rattle.loading.specs.contracts.plan_rows.PeriodKeyOrd.TheImpl.{ghosts as periods}
 use Rattle.loading.specs.contracts.plan_rows.SegmentKeyOrd.TheImpl.{ghosts as segments}
+use Rattle.loading.specs.declared.outside_rows.OutsideSegmentKey.{OutsideSegmentKey}
 use Rattle.loading.specs.declared.plan_rows.PeriodKey.{PeriodKey}
 use Rattle.loading.specs.declared.plan_rows.SegmentKey.{SegmentKey}
 
@@ -33,3 +37,11 @@ segments_order a b =
     ap (ordering_then (name_cmp a.pairing b.pairing))
     (two_numbers a.period a.number b.period b.number)
     ∙ text_order a.pairing b.pairing (a.period ∷ a.number ∷ []) (b.period ∷ b.number ∷ [])
+
+-- the keys of the segments of outside periods are in the order of their names
+pub outside_segments_order : (a b : OutsideSegmentKey) →
+    outside_segments.cmp a b
+    ≡ name_cmp (outside_segment_name a.outside a.number) (outside_segment_name b.outside b.number)
+outside_segments_order a b =
+    ap (ordering_then (name_cmp a.outside b.outside)) (number_order a.number b.number)
+    ∙ text_order a.outside b.outside (a.number ∷ []) (b.number ∷ [])

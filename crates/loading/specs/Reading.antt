@@ -1,6 +1,6 @@
 -- What the functions that load a book say to one another. Of these the public clause of `read_all`
 -- names `ReadsAs` and `AgreesIn`.
-use Rattle.std.specs.Prelude.{◌≡◌, ◌⊎◌, ◌↔◌, ◌+◌, ◌<◌, ⊤, true, false, pos, IsUtf8, ℕ, ℤ, zero, suc, List, [], ◌∷◌, map, take, length, Option, None, Some, Result, IfErr, MatchResult, slice_get}
+use Rattle.std.specs.Prelude.{◌≡◌, ◌⊎◌, ◌↔◌, ◌<◌, ◌≤◌, ⊤, true, false, pos, IsUtf8, ℕ, ℤ, zero, suc, List, [], ◌∷◌, map, take, length, Option, None, Some, Result, IfErr, MatchResult}
 use Rattle.std.specs.FinMap as fin
 use Rattle.std.specs.List.{AllByRecursion}
 use Rattle.values.specs.Name.{name_cmp}
@@ -9,7 +9,6 @@ use Rattle.sqlite_rules.specs.Lists.{Has}
 use Rattle.sqlite_schema.specs.declared.schema.Schema.{Schema}
 use Rattle.sqlite.specs.Effect.{Database, IsDatabase}
 use Rattle.sqlite.specs.State.{State, HasCleanDisk, IsUnchanged}
-use Rattle.duty.specs.Plans.{ActualTimes}
 use Rattle.duty.specs.Shape.{home, is_id}
 use Rattle.command.specs.Keys.{KeyParts, key_name}
 use Rattle.command.specs.declared.instruction.Instruction.{Instruction}
@@ -20,9 +19,10 @@ use Rattle.roster.specs.Bases.{IsBase, home_zone, only_home}
 use Rattle.roster.specs.Pairings.{holder, is_flown, is_fully_crewed}
 use Rattle.roster.specs.Sound.{Crew, IsHolder}
 use Rattle.roster.specs.State as roster
+use Rattle.roster.specs.declared.state.DutyId.{DutyId}
+use Rattle.roster.specs.declared.state.DutyId.TheVariants.{Period, Outside}
 use Rattle.roster.specs.declared.state.ExceedanceId.{ExceedanceId}
 use Rattle.roster.specs.declared.state.LoggedCommand.{LoggedCommand}
-use Rattle.roster.specs.declared.state.PeriodId.{PeriodId}
 use Rattle.roster.specs.declared.state.PairingEntry.{PairingEntry}
 use Rattle.tables.specs.Calls.{CrashLeavesNoMore}
 use Rattle.tables.specs.Rows.{IsStored, rows_of, HasNoRecord, begins_with}
@@ -36,10 +36,10 @@ use Rattle.tables.specs.declared.exceedance.ExceedanceRecord.{ExceedanceRecord}
 use Rattle.tables.specs.declared.ground.GroundRecord.{GroundRecord}
 use Rattle.tables.specs.declared.request.RequestRecord.{RequestRecord}
 use Rattle.tables.specs.declared.seat.SeatRecord.{SeatRecord}
-use Rattle.loading.specs.Loading.{IsCaused, IsMember, IsGround, IsExceedance, IsRequest, AreHeld, name_of, IsRight, IsNoBook, IsOfEdition, IsOfOtherVersion}
+use Rattle.loading.specs.Loading.{IsCaused, IsMember, IsFlown, IsGround, IsExceedance, IsRequest, AreHeld, name_of, IsRight, IsNoBook, IsOfEdition, IsOfOtherVersion}
 use Rattle.state_rows.specs.Editions.{edition_number}
 use Rattle.state_rows.specs.First.{IsOfFirst}
-use Rattle.state_rows.specs.Rows.{TableName, book, crew, pairing, period, segment, seat, ground_duty, exceedance, request, base, crew_base, outside, outside_segment, table, row_of_member, row_of_seat, row_of_ground, row_of_exceedance, row_of_request, row_of_base, row_of_post, InSeat}
+use Rattle.state_rows.specs.Rows.{TableName, book, crew, pairing, period, segment, seat, ground_duty, exceedance, request, base, crew_base, outside, outside_segment, table, row_of_member, row_of_seat, row_of_ground, row_of_exceedance, row_of_request, row_of_base, row_of_post, named_id, named_number, InSeat}
 use Rattle.state_rows.specs.declared.edition.Edition.{Edition}
 use Rattle.state_rows.specs.declared.edition.Edition.TheVariants.{First, Second}
 use Rattle.state_rows.specs.declared.fault.StoreFault.TheVariants.{Memory}
@@ -158,26 +158,38 @@ seat_of zero = Some Captain
 seat_of (suc zero) = Some FirstOfficer
 seat_of (suc (suc n)) = None
 
--- the period is there, and it has an actual
-pub record IsFlown (pairings : fin.FinMap name_cmp PairingEntry) (p : PeriodId) : Type 0 where
-  pub rostered : PairingEntry
-  pub of_pairing : fin.get pairings p.pairing ≡ Some rostered
-  pub place : ℕ
-  pub number : p.number ≡ place + 1
-  pub actual : ActualTimes
-  pub flown : slice_get rostered.actuals place ≡ Some (Some actual)
+-- the number of a period is above 0, and has eight bits, as that of each period of a pairing has
+abbrev pub IsInRange : DutyId → Type 0
+IsInRange (Period p) = (1 ≤ p.number) × (p.number < 256)
+IsInRange (Outside id) = ⊤
 
--- an exceedance is of a member and of a period with an actual, whose number has eight bits, as that
--- of each period of a pairing has
-pub record IsExceedanceInRange
-    (members : Crew) (pairings : fin.FinMap name_cmp PairingEntry) (id : ExceedanceId)
-    (p : PeriodId) : Type 0 where
-  pub is : IsExceedance members pairings id p
-  pub fits : p.number < 256
+-- this is the duty that the columns `pairing` and `period` of `exceedance` name: with 0 as the
+-- number an outside period, and with a higher one a period of a pairing
+pub record IsDutyOf (id : List ℕ) (number : ℕ) (named : DutyId) : Type 0 where
+  pub same_id : named_id named ≡ id
+  pub same_number : named_number named ≡ number
+  pub in_range : IsInRange named
+  pub utf8 : IsUtf8 id
 
--- the row of an exceedance of a period
-abbrev pub row_of_recorded : ExceedanceId → PeriodId → Row
-row_of_recorded id p = row_of_exceedance id.key id.crew id.section p
+-- an exceedance in a file of this version can name the duty: a period with an actual or, in
+-- version 2, an outside period
+abbrev pub CanName : Edition → fin.FinMap name_cmp PairingEntry → DutyId → Type 0
+CanName edition pairings (Period p) = IsFlown pairings p
+CanName First pairings (Outside id) = ⊥
+CanName Second pairings (Outside id) = ⊤
+
+-- an exceedance is of a member, and names a duty that one in a file of this version can name, with
+-- a number of eight bits
+pub record IsExceedanceIn
+    (edition : Edition) (members : Crew) (pairings : fin.FinMap name_cmp PairingEntry)
+    (id : ExceedanceId) (named : DutyId) : Type 0 where
+  pub is : IsExceedance members pairings id named
+  pub can : CanName edition pairings named
+  pub fits : named_number named < 256
+
+-- the row of an exceedance, with the duty that it names
+abbrev pub row_of_recorded : ExceedanceId → DutyId → Row
+row_of_recorded id named = row_of_exceedance id.key id.crew id.section named
 
 -- each of these members is at HOME
 abbrev pub AreAtHome : Crew → Type 0
@@ -200,16 +212,17 @@ pub record GroundsRead
       Mapped (λ id. id) row_of_ground (IsGround old.crew)
       (take count (map ground_row records)) new.grounds
 
--- the exceedances of this many first records were set in a roster
+-- the exceedances of this many first records, of a file of this version, were set in a roster
 pub record ExceedancesRead
-    (records : List ExceedanceRecord) (count : ℕ) (old new : roster.State) : Type 0 where
+    (edition : Edition) (records : List ExceedanceRecord) (count : ℕ) (old new : roster.State)
+    : Type 0 where
   pub same : new ≡ record old { exceedances = new.exceedances }
   pub mapped : AreOnce row_of_recorded (map exceedance_row records) →
-      Mapped name_of row_of_recorded (IsExceedanceInRange old.crew old.pairings)
+      Mapped name_of row_of_recorded (IsExceedanceIn edition old.crew old.pairings)
       (take count (map exceedance_row records)) new.exceedances
 
 -- a book of this version can keep the instruction: in version 1 it adds no base, and no member at
--- another base than HOME
+-- another base than HOME, and records no outside period
 abbrev pub CanKeep : Edition → Instruction → Type 0
 CanKeep First instruction = IsOfFirst instruction
 CanKeep Second instruction = ⊤
@@ -322,9 +335,11 @@ BlamesBook records (Fault fault) = fault ≡ Memory
 
 -- ---- A roster of plans
 
--- HOME is the one base of the roster, and that of each member
-abbrev pub IsAtHome : roster.State → Type 0
-IsAtHome s = (s.bases ≡ only_home (home_zone s.bases)) × AreAtHome s.crew
+-- the roster has nothing that only tables of version 2 tell: HOME is its one base, and that of each
+-- member, and it has no outside period
+abbrev pub HasNoLater : roster.State → Type 0
+HasNoLater s = (s.bases ≡ only_home (home_zone s.bases)) × AreAtHome s.crew
+    × (s.outsides ≡ fin.empty)
 
 -- the roster has nothing but bases, members and pairings
 abbrev pub HasNoDuties : roster.State → Type 0

@@ -1,12 +1,12 @@
 //! The tables that version 2 added: in a file of version 1 their names are free, in one of version 2 they are read.
 //! Files with such a damage: `tests/tables.py`. Wrong bodies: `must-fail/`.
 
-ghost use Rattle.std.specs.Prelude.{◌≡◌, ◌↔◌, [], IsTrue, MatchResult};
+ghost use Rattle.std.specs.Prelude.{IsTrue, MatchResult};
 ghost use Rattle.sqlite.specs.Held.{state};
 ghost use Rattle.sqlite.specs.State.{HasCleanDisk};
 ghost use Rattle.tables.specs.Schema.{AreFree, later_tables};
 ghost use Rattle.loading.specs.Loading.{Justifies};
-ghost use Rattle.loading.specs.Reading.{AgreesIn, Blames, BlamesName, IsAtHome, ReadsAs};
+ghost use Rattle.loading.specs.Reading.{AgreesIn, BlamesName, HasNoLater, ReadsAs};
 ghost use Rattle.state_rows.specs.Rows.{request, outside_segment};
 ghost use Rattle.state_rows.specs.declared.edition.Edition.TheVariants.{Second};
 
@@ -20,25 +20,6 @@ use sqlite::{Alter, Connection};
 use state_rows::Edition;
 use std::alloc::Global;
 use tables::book_schema::is_name_free;
-
-/// Returns whether there is no record.
-pub(crate) fn is_none<T>(records: &[T]) -> bool
-    ensures { IsTrue result ↔ (records.now ≡ []) }
-{
-    records.is_empty()
-}
-
-/// Looks whether there is no record of this table.
-pub(crate) fn check_empty<T>(records: &[T], table: TableName) -> Result<(), LoadFault>
-    ensures { MatchResult result (λ _. records.now ≡ [])
-        (Blames table (records.now ≡ [] → ⊥)) }
-{
-    if is_none(records) {
-        Ok(())
-    } else {
-        Err(LoadFault::Damaged(table))
-    }
-}
 
 /// Looks whether the names of the tables that version 2 added are free, in turn.
 fn check_names<S: Alter>(conn: &Connection<S>) -> Result<(), LoadFault>
@@ -67,7 +48,7 @@ fn read_later_tables<S: Alter>(
     conn: &mut Connection<S>,
     roster: Roster,
 ) -> Result<Roster, LoadFault>
-    requires home { IsAtHome roster }
+    requires first { HasNoLater roster }
     requires above { HasCleanDisk (state S.Store conn.old)
         → AgreesIn Second request roster (state S.Store conn.old).now }
     ensures { ReadsAs (λ r. AgreesIn Second outside_segment r (state S.Store conn.old).now)
@@ -76,9 +57,8 @@ fn read_later_tables<S: Alter>(
 {
     let roster = read_base(alloc, conn, roster)?;
     let roster = read_crew_base(alloc, conn, roster)?;
-    read_outside(alloc, conn, &roster)?;
-    read_outside_segment(alloc, conn, &roster)?;
-    Ok(roster)
+    let outsides = read_outside(alloc, conn, &roster)?;
+    read_outside_segment(alloc, conn, roster, &outsides)
 }
 
 /// Looks at the tables that version 2 added, and reads them into a roster that was read of the others.
@@ -90,7 +70,7 @@ pub(crate) fn read_later<S: Alter>(
 ) -> Result<Roster, LoadFault>
     requires opened { HasCleanDisk (state S.Store conn.old)
         → IsTrue (state S.Store conn.old).is_open }
-    requires home { IsAtHome roster }
+    requires first { HasNoLater roster }
     requires above { HasCleanDisk (state S.Store conn.old)
         → AgreesIn edition request roster (state S.Store conn.old).now }
     ensures { ReadsAs (λ r. AgreesIn edition outside_segment r (state S.Store conn.old).now)

@@ -7,7 +7,7 @@ ghost use Rattle.std.specs.FinMap as fin;
 ghost use Rattle.sqlite.specs.Held.{state};
 ghost use Rattle.sqlite.specs.State.{HasCleanDisk};
 ghost use Rattle.loading.specs.Loading.{IsOfEdition, Justifies};
-ghost use Rattle.loading.specs.Reading.{AgreesIn, AreFree, HasNoDuties, IsAtHome, AgreesThrough, ReadsAs};
+ghost use Rattle.loading.specs.Reading.{AgreesIn, AreFree, HasNoDuties, HasNoLater, AgreesThrough, ReadsAs};
 ghost use Rattle.roster.specs.Bases.{home_zone};
 ghost use Rattle.roster.specs.State.{empty};
 ghost use Rattle.state_rows.specs.Rows.{book, ground_duty, outside_segment, request, segment};
@@ -40,7 +40,7 @@ fn read_plans<S: Alter>(
         (state S.Store conn.new) result }
     ensures free { IfOk result AreFree }
     ensures rest { IfOk result HasNoDuties }
-    ensures home { IfOk result IsAtHome }
+    ensures first { IfOk result HasNoLater }
 {
     let roster = read_crew(alloc, conn, roster)?;
     read_pairings(alloc, conn, roster)
@@ -54,14 +54,14 @@ fn read_duties<S: Alter>(
 ) -> Result<Roster, LoadFault>
     requires free { AreFree roster }
     requires none { HasNoDuties roster }
-    requires home { IsAtHome roster }
+    requires first { HasNoLater roster }
     requires above { HasCleanDisk (state S.Store conn.old)
         → AgreesThrough segment roster (state S.Store conn.old).now }
     ensures read { ReadsAs (λ r. AgreesThrough ground_duty r (state S.Store conn.old).now)
         (λ fault. Justifies fault (state S.Store conn.old).now) (state S.Store conn.old)
         (state S.Store conn.new) result }
     ensures rest { IfOk result (λ r. (r.exceedances ≡ fin.empty) × (r.requests ≡ fin.empty)) }
-    ensures home { IfOk result IsAtHome }
+    ensures first { IfOk result HasNoLater }
 {
     let roster = read_seats(alloc, conn, roster)?;
     read_grounds(alloc, conn, roster)
@@ -75,7 +75,7 @@ fn read_records<S: Alter>(
     edition: Edition,
 ) -> Result<Roster, LoadFault>
     requires none { (roster.exceedances ≡ fin.empty) × (roster.requests ≡ fin.empty) }
-    requires home { IsAtHome roster }
+    requires first { HasNoLater roster }
     requires above { HasCleanDisk (state S.Store conn.old)
         → AgreesThrough ground_duty roster (state S.Store conn.old).now }
     requires of { HasCleanDisk (state S.Store conn.old)
@@ -83,9 +83,9 @@ fn read_records<S: Alter>(
     ensures read { ReadsAs (λ r. AgreesThrough request r (state S.Store conn.old).now)
         (λ fault. Justifies fault (state S.Store conn.old).now) (state S.Store conn.old)
         (state S.Store conn.new) result }
-    ensures home { IfOk result IsAtHome }
+    ensures first { IfOk result HasNoLater }
 {
-    let roster = read_exceedances(alloc, conn, roster)?;
+    let roster = read_exceedances(alloc, conn, roster, edition)?;
     read_requests(alloc, conn, roster, edition)
 }
 
@@ -104,7 +104,7 @@ fn read_first<S: Alter>(
     ensures read { ReadsAs (λ r. AgreesThrough request r (state S.Store conn.old).now)
         (λ fault. Justifies fault (state S.Store conn.old).now) (state S.Store conn.old)
         (state S.Store conn.new) result }
-    ensures home { IfOk result IsAtHome }
+    ensures first { IfOk result HasNoLater }
 {
     let roster = read_plans(alloc, conn, roster)?;
     let roster = read_duties(alloc, conn, roster)?;

@@ -17,7 +17,7 @@ use Rattle.tables.specs.Records.{base_row}
 use Rattle.tables.specs.Rows.{Finds, begins_with, rows_of}
 use Rattle.tables.specs.Schema.{base_table}
 use Rattle.tables.specs.declared.base.BaseRecord.{BaseRecord}
-use Rattle.state_rows.specs.Rows.{table, base, crew_base, row_of_base}
+use Rattle.state_rows.specs.Rows.{table, base, outside_segment, row_of_base}
 use Rattle.state_rows.proofs.Lists.{one_value, same_map}
 use Rattle.state_rows.proofs.Values.{text_is}
 use Rattle.writing.specs.Kept.{IsBookOf}
@@ -26,7 +26,7 @@ use Rattle.loading.specs.Loading.{AreRight}
 use Rattle.loading.specs.Reading.{AreOnce, Mapped}
 use Rattle.lookup.specs.Bases.{AreOfBases, BasesRead}
 use Rattle.lookup.proofs.ReadLemmas.{in_found, of_found}
-use Rattle.lookup.proofs.RightRows.{no_row}
+use Rattle.lookup.proofs.RightRows.{bases_right, no_row}
 
 abbrev Is : List ℕ → List ℕ → Type 0
 Is id zone = ⊤
@@ -143,15 +143,17 @@ module _ (s : roster.State) (db : Database) (is_book : IsBookOf s db) (records :
       let value : zone ≡ at.0.value = text_is (ap (λ (row : Row). column row 1) at.1) in
       ap (fin.get m) name ∙ at.0.there ∙ ap Some (sym value))
 
-  zone_right : AreRight crew_base db → (it : BaseRecord) → Has (rows_of base_table db) (base_row it) → is_zone_text it.zone ≡ true
-  zone_right right it h = elim right.1.0.1 [
-    | inl is ↦
-        let at = (is.1.1 (base_row it)).0 h in
-        ap is_zone_text (text_is (ap (λ (row : Row). column row 1) at.1)) ∙ (right.1.0.2.shaped at.0.name at.0.value at.0.there).1
-    | inr none ↦ absurd (no_row base_table db (base_row it) none.1 h)
-  ]
+  zone_right : AreRight outside_segment db → (it : BaseRecord) → Has (rows_of base_table db) (base_row it) → is_zone_text it.zone ≡ true
+  zone_right right it h =
+      let r = bases_right db right in
+      elim r.1.1 [
+        | inl is ↦
+            let at = (is.1.1 (base_row it)).0 h in
+            ap is_zone_text (text_is (ap (λ (row : Row). column row 1) at.1)) ∙ (r.1.2.shaped at.0.name at.0.value at.0.there).1
+        | inr none ↦ absurd (no_row base_table db (base_row it) none.1 h)
+      ]
 
-  pub of_bases : Sound s → AreRight crew_base db → AreOfBases records
+  pub of_bases : Sound s → AreRight outside_segment db → AreOfBases records
   of_bases sound right =
       let zone = sound.has_home.0 in
       let it = record_of records (row_of_base home zone) (in_state home zone sound.has_home.1) in

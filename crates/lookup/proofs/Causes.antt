@@ -10,7 +10,7 @@ use Rattle.tables.specs.Faults.{table_fault_of}
 use Rattle.tables.specs.declared.table_fault.TableFault.{TableFault}
 use Rattle.tables.specs.declared.table_fault.TableFault.TheVariants as table_fault
 use Rattle.state_rows.specs.Faults.{store_fault_of}
-use Rattle.state_rows.specs.Rows.{crew_base}
+use Rattle.state_rows.specs.Rows.{outside_segment}
 use Rattle.state_rows.specs.declared.fault.StoreFault.{StoreFault}
 use Rattle.state_rows.specs.declared.fault.StoreFault.TheVariants.{Memory, Store}
 use Rattle.roster.specs.State as roster
@@ -32,14 +32,14 @@ failed : (old new : State) (fault : TableFault) → Failed ⊥ old new fault →
 failed old new fault it is =
     failed_for old new it.1.0 it.1.2 (ap (λ e. store_fault_of (table_fault_of e)) (sym it.1.1) ∙ ap store_fault_of (sym it.2) ∙ is)
 
-module _ (old new : State) (damaged : Type 0) (wrong : damaged → AreRight crew_base old.now → ⊥) where
+module _ (old new : State) (damaged : Type 0) (wrong : damaged → AreRight outside_segment old.now → ⊥) where
   refused : (fault : TableFault) → GivesNoRows (HasStepLimit old) damaged fault → store_fault_of fault ≡ Store → HasStoreCause old new
   refused table_fault.Store h is = inr (inr (inl h))
   refused table_fault.Memory h is = absurd (cc)
   refused table_fault.NotARecord h is = inr (inr (inr (wrong h)))
 
 -- of a read of a table whose rows are records where all is right
-pub read_cause : {A : Type 0} (Is : Database → A → Type 0) (IsDamaged : Database → Type 0) (old new : State) (fault : TableFault) → (IsDamaged old.now → AreRight crew_base old.now → ⊥) →
+pub read_cause : {A : Type 0} (Is : Database → A → Type 0) (IsDamaged : Database → Type 0) (old new : State) (fault : TableFault) → (IsDamaged old.now → AreRight outside_segment old.now → ⊥) →
     ReadAs Is IsDamaged (HasStepLimit old) old new (Err fault) → HasCleanDisk new → store_fault_of fault ≡ Store → HasStoreCause old new
 read_cause Is IsDamaged old new fault wrong read clean is = elim (read clean) [
   | inl it ↦ failed old new fault it is
@@ -70,7 +70,7 @@ cause_then a b c p q clean (inl more) = inl (omega (arith, more, p.faults))
 cause_then a b c p q clean (inr (inl shut)) = shut_then a b c p q clean shut
 cause_then a b c p q clean (inr (inr (inl limit))) = inr (inr (inl (subst (λ l. IsSome l) p.limit limit)))
 cause_then a b c p q clean (inr (inr (inr wrong))) = elim (cases_Bool b.is_open) [
-  | inl opened ↦ inr (inr (inr (λ right. wrong (subst (AreRight crew_base) (sym (p.still_shown (q.nothing_new.disk clean) opened).1) right))))
+  | inl opened ↦ inr (inr (inr (λ right. wrong (subst (AreRight outside_segment) (sym (p.still_shown (q.nothing_new.disk clean) opened).1) right))))
   | inr shut ↦ shut_then a b c p q clean shut
 ]
 
@@ -91,17 +91,17 @@ memory_fault a b fault memory s shows clean is = absurd (let no : Memory ≡ Sto
 
 -- ---- What is read tells of no entry
 
-pub wrong_there : (old new : State) → (AreRight crew_base old.now → ⊥) → HasStoreCause old new
+pub wrong_there : (old new : State) → (AreRight outside_segment old.now → ⊥) → HasStoreCause old new
 wrong_there old new wrong = inr (inr (inr wrong))
 
 -- a fact of the records is why they are refused, which they have not where all is right
 pub wrong_cause : {A : Type 0} (Why : Type 0) (old new : State) (result : Result A StoreFault) → IfErr result (λ fault. fault ≡ Store → Why) →
-    (HasCleanDisk new → (s : roster.State) → Shows old s → AreRight crew_base old.now → Why → ⊥) → IfErr result (IsReadFault old new)
+    (HasCleanDisk new → (s : roster.State) → Shows old s → AreRight outside_segment old.now → Why → ⊥) → IfErr result (IsReadFault old new)
 wrong_cause Why old new (Ok a) why none = tt
 wrong_cause Why old new (Err fault) why none = λ s shows clean is. wrong_there old new (λ right. none clean s shows right (why is))
 
 pub told_cause : {A : Type 0} (Told : A → Type 0) (old new : State) (result : Result A StoreFault) → IfErr result (λ fault. fault ≡ Store → HaveNone Told) →
-    (HasCleanDisk new → (s : roster.State) → Shows old s → AreRight crew_base old.now → (found : A) × Told found) →
+    (HasCleanDisk new → (s : roster.State) → Shows old s → AreRight outside_segment old.now → (found : A) × Told found) →
     IfErr result (IsReadFault old new)
 told_cause Told old new result none some =
     wrong_cause (HaveNone Told) old new result none (λ clean s shows right unread. let it = some clean s shows right in unread it.0 it.1)

@@ -8,6 +8,8 @@ pub mod PlanLemmas
 pub mod PlanReads
 pub mod MemberReads
 pub mod MemberLemmas
+pub mod OutsideReads
+pub mod OutsideLemmas
 pub mod Unread
 pub mod EntryLemmas
 pub mod RecordedLemmas

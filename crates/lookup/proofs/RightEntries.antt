@@ -16,7 +16,7 @@ use Rattle.tables.specs.Records.{ground_row, request_row}
 use Rattle.tables.specs.Rows.{Finds}
 use Rattle.tables.specs.declared.ground.GroundRecord.{GroundRecord}
 use Rattle.tables.specs.declared.request.RequestRecord.{RequestRecord}
-use Rattle.state_rows.specs.Rows.{table, ground_duty, request, crew_base}
+use Rattle.state_rows.specs.Rows.{table, ground_duty, request, outside_segment}
 use Rattle.state_rows.proofs.Lists.{some_same}
 use Rattle.state_rows.proofs.Values.{number_is, text_is}
 use Rattle.loading.specs.Loading.{AreRight}
@@ -25,7 +25,7 @@ use Rattle.lookup.specs.Reads.{HaveNone}
 use Rattle.lookup.proofs.ReadLemmas.{of_found}
 use Rattle.lookup.proofs.RightRows.{grounds_right, requests_right}
 
-module _ (db : Database) (right : AreRight crew_base db) (test : Row → Bool) where
+module _ (db : Database) (right : AreRight outside_segment db) (test : Row → Bool) where
   pub ground_there : (records : List GroundRecord) → Finds (table ground_duty) test db (map ground_row records) → (found : Option GroundPlan) × HasFirstGround records found
   ground_there [] finds = (None, refl)
   ground_there (row ∷ rows) finds =

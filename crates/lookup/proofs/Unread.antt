@@ -15,7 +15,7 @@ use Rattle.tables.specs.Rows.{Finds, begins_with, rows_of}
 use Rattle.tables.specs.Schema.{period_table}
 use Rattle.tables.specs.declared.period.PeriodRecord.{PeriodRecord}
 use Rattle.tables.specs.declared.segment.SegmentRecord.{SegmentRecord}
-use Rattle.state_rows.specs.Rows.{table, period, segment, crew_base, InPeriod, InSegment}
+use Rattle.state_rows.specs.Rows.{table, period, segment, outside_segment, InPeriod, InSegment}
 use Rattle.state_rows.proofs.Lists.{one_value}
 use Rattle.state_rows.proofs.Tests.{found, passes, IsPlain}
 use Rattle.state_rows.proofs.Values.{text_is, number_is}
@@ -39,7 +39,7 @@ use Rattle.lookup.specs.declared.pairing.PlanRecords.{PlanRecords}
 use Rattle.lookup.proofs.ReadLemmas.{in_found, of_found}
 use Rattle.lookup.proofs.RightRows.{segments_right}
 
-module _ (s : roster.State) (sound : Sound s) (db : Database) (book : IsBookOf s db) (right : AreRight crew_base db) (id : List ℕ)
+module _ (s : roster.State) (sound : Sound s) (db : Database) (book : IsBookOf s db) (right : AreRight outside_segment db) (id : List ℕ)
     (periods : List PeriodRecord) (segments : List SegmentRecord)
     (finds : Finds (table period) (begins_with (Text id ∷ [])) db (map period_row periods))
     (also : Finds (table segment) (begins_with (Text id ∷ [])) db (map segment_row segments)) where
@@ -233,13 +233,13 @@ module _ (s : roster.State) (sound : Sound s) (db : Database) (book : IsBookOf s
   ]
 
 -- of all that is read of a pairing with a period
-not_unread_rows : (s : roster.State) (sound : Sound s) (db : Database) (book : IsBookOf s db) (right : AreRight crew_base db) (id : List ℕ) (periods : List PeriodRecord) (segments : List SegmentRecord) →
+not_unread_rows : (s : roster.State) (sound : Sound s) (db : Database) (book : IsBookOf s db) (right : AreRight outside_segment db) (id : List ℕ) (periods : List PeriodRecord) (segments : List SegmentRecord) →
     Finds (table period) (begins_with (Text id ∷ [])) db (map period_row periods) → IfSome periods (Finds (table segment) (begins_with (Text id ∷ [])) db (map segment_row segments)) →
     IsSome (slice_get periods 0) → IsUntold id periods segments → ⊥
 not_unread_rows s sound db book right id [] segments finds also some unread = absurd (cc)
 not_unread_rows s sound db book right id (p ∷ ps) segments finds also some unread = not_unread s sound db book right id (p ∷ ps) segments finds also p (inl refl) unread
 
-pub not_unread_plan : (s : roster.State) (sound : Sound s) (db : Database) (book : IsBookOf s db) (right : AreRight crew_base db) (id : List ℕ) (rows : PlanRecords) → FindsPlan id db rows →
+pub not_unread_plan : (s : roster.State) (sound : Sound s) (db : Database) (book : IsBookOf s db) (right : AreRight outside_segment db) (id : List ℕ) (rows : PlanRecords) → FindsPlan id db rows →
     IsSome (slice_get rows.periods.items 0) → IsUntold id rows.periods.items rows.segments.items → ⊥
 not_unread_plan s sound db book right id rows finds some unread =
     not_unread_rows s sound db book right id rows.periods.items rows.segments.items finds.periods finds.segments some unread

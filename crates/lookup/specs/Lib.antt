@@ -4,3 +4,4 @@ pub mod Entries
 pub mod Recorded
 pub mod Members
 pub mod Bases
+pub mod Outsides

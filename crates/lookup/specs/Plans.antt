@@ -69,7 +69,8 @@ TellsPairing id [] segments seats found = found ≡ None
 TellsPairing id (p ∷ ps) segments seats found =
     (r : PairingEntry) × (found ≡ Some r) × IsPairingOfRecords id (p ∷ ps) segments seats r
 
--- the fault of a read whose records make no pairing: 91 where there was no memory, and else 90
+-- the fault of a read whose records make no pairing, or no outside period: 91 where there was no
+-- memory, and else 90
 abbrev pub unread_as : LoadFault → StoreFault
 unread_as (Fault fault) = Memory
 unread_as _ = Store

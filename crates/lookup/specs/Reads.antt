@@ -1,6 +1,6 @@
 -- What a read by key tells of the state whose tables are read.
 use Rattle.std.specs.Prelude.{◌≡◌, ◌⊎◌, ◌≤◌, ℕ, map, Bool, false, OnOk, IsTrue}
-use Rattle.std.specs.Prelude.{List, Some, Result, IfErr, IfOk}
+use Rattle.std.specs.Prelude.{List, Result, IfErr, IfOk}
 use Rattle.sqlite_disk.specs.Disk.{MoreFaults}
 use Rattle.sqlite_value.specs.Order.{Row}
 use Rattle.sqlite.specs.State as conn
@@ -12,7 +12,7 @@ use Rattle.loading.specs.SameRows.{HasInstants}
 use Rattle.tables.specs.Calls.{HasStepLimit}
 use Rattle.tables.specs.Rows.{Finds}
 use Rattle.tables.specs.declared.seat.SeatRecord.{SeatRecord}
-use Rattle.state_rows.specs.Rows.{TableName, table, crew_base}
+use Rattle.state_rows.specs.Rows.{TableName, table, outside_segment}
 use Rattle.state_rows.specs.declared.fault.StoreFault.{StoreFault}
 use Rattle.state_rows.specs.declared.fault.StoreFault.TheVariants.{Store}
 use Rattle.writing.specs.Kept.{IsBookOf}
@@ -41,13 +41,13 @@ IsOpen now = HasCleanDisk now → IsTrue now.is_open
 
 -- Why a read answers a fault of the store (90): the disk failed or refused a call meanwhile, an
 -- earlier failure had shut the connection, a limit is set on the steps of a statement, or the
--- tables from `book` to `crew_base` are not those of a right book, which opening them would refuse.
+-- tables are not those of a right book, which opening them would refuse.
 abbrev pub HasStoreCause : conn.State → conn.State → Type 0
 HasStoreCause old new =
     MoreFaults old.faults new.faults
     ⊎ ((old.is_open ≡ false)
     ⊎ (HasStepLimit old
-    ⊎ (AreRight crew_base old.now → ⊥)))
+    ⊎ (AreRight outside_segment old.now → ⊥)))
 
 -- a fault of a read, where it is one of the store (90), has a cause
 abbrev pub IsCausedIfStore : conn.State → conn.State → StoreFault → Type 0

@@ -9,11 +9,11 @@ ghost use Rattle.loading.specs.Reading.{HasStranger, row_of_recorded};
 ghost use Rattle.writing.specs.Outcomes.{IsOutside};
 ghost use Rattle.state_rows.specs.Rows.{exceedance};
 ghost use Rattle.lookup.specs.Reads.{ReadsByKey, ReadsRows};
-ghost use Rattle.lookup.specs.Recorded.{AreRead, IsNumbered, IsStrange};
+ghost use Rattle.lookup.specs.Recorded.{AreRead, IsNumbered, IsStrange, TellsRecorded};
 
-use duty::{CrewId, PairingId};
-use loading::{key_of, section_of};
-use roster::{ExceedanceId, PeriodId};
+use duty::CrewId;
+use loading::{duty_of, key_of, section_of};
+use roster::{DutyId, ExceedanceId};
 use sqlite::{Alter, Connection};
 use state_rows::StoreFault;
 use std::alloc::Global;
@@ -24,7 +24,7 @@ use values::{OrdMap, TryClone};
 #[derive(Drop)]
 struct Told {
     id: ExceedanceId,
-    period: PeriodId,
+    named: DutyId,
 }
 
 /// Reads the records of the table.
@@ -49,9 +49,9 @@ fn exceedance_rows<S: Alter>(
 }
 
 /// Returns the exceedance that a record tells of.
-#[tactic(auto, using(crate::proofs::RecordedLemmas::row_is, crate::proofs::RecordedLemmas::no_key, crate::proofs::RecordedLemmas::no_section, crate::proofs::RecordedLemmas::no_period))]
+#[tactic(auto, using(crate::proofs::RecordedLemmas::row_is, crate::proofs::RecordedLemmas::no_key, crate::proofs::RecordedLemmas::no_section, crate::proofs::RecordedLemmas::no_duty))]
 fn exceedance_told(alloc: Global, row: &ExceedanceRecord) -> Result<Told, StoreFault>
-    ensures told { IfOk result (λ it. exceedance_row row.now ≡ row_of_recorded it.id it.period) }
+    ensures told { IfOk result (λ it. TellsRecorded row.now it.id it.named) }
     ensures unread { IfErr result (λ fault. fault ≡ StoreFault.Store → IsStrange row.now) }
 {
     let Some(key) = key_of(row.number, row.part) else {
@@ -60,14 +60,13 @@ fn exceedance_told(alloc: Global, row: &ExceedanceRecord) -> Result<Told, StoreF
     let Some(section) = section_of(row.section) else {
         return Err(StoreFault::Store);
     };
-    let Ok(number) = u8::try_from(row.period) else {
+    let Some(named) = duty_of(alloc, &row.pairing, row.period)? else {
         return Err(StoreFault::Store);
     };
     let crew = CrewId::new(row.crew.try_clone(alloc)?);
-    let pairing = PairingId::new(row.pairing.try_clone(alloc)?);
     Ok(Told {
         id: ExceedanceId { key, crew, section },
-        period: PeriodId { pairing, number },
+        named,
     })
 }
 
@@ -76,15 +75,15 @@ fn exceedance_told(alloc: Global, row: &ExceedanceRecord) -> Result<Told, StoreF
 fn exceedances_told(
     alloc: Global,
     records: &[ExceedanceRecord],
-) -> Result<OrdMap<ExceedanceId, PeriodId>, StoreFault>
+) -> Result<OrdMap<ExceedanceId, DutyId>, StoreFault>
     ensures told { IfOk result (AreRead records.now (length records.now)) }
     ensures unread { IfErr result (λ fault. fault ≡ StoreFault.Store
         → HasStranger row_of_recorded IsNumbered (map exceedance_row records.now)) }
 {
     let mut all = OrdMap::new(alloc);
     for row in records {
-        let Told { id, period } = exceedance_told(alloc, row)?;
-        all.insert(id, period)?;
+        let Told { id, named } = exceedance_told(alloc, row)?;
+        all.insert(id, named)?;
     }
     Ok(all)
 }
@@ -94,7 +93,7 @@ fn exceedances_told(
 pub fn exceedances_at<S: Alter>(
     alloc: Global,
     conn: &mut Connection<S>,
-) -> Result<OrdMap<ExceedanceId, PeriodId>, StoreFault>
+) -> Result<OrdMap<ExceedanceId, DutyId>, StoreFault>
     requires { IsOutside (state S.Store conn.old) }
     ensures { ReadsByKey (λ s found. found ≡ s.exceedances) (state S.Store conn.old)
         (state S.Store conn.new) result }

@@ -7,6 +7,7 @@ mod exceedance;
 mod ground;
 mod held;
 mod member;
+mod outside;
 mod pairing;
 mod request;
 
@@ -15,5 +16,6 @@ pub use exceedance::exceedances_at;
 pub use ground::{ground_at, grounds_held_at};
 pub use held::pairings_held_at;
 pub use member::member_at;
+pub use outside::{outside_at, outsides_held_at};
 pub use pairing::pairing_at;
 pub use request::request_at;

@@ -139,9 +139,9 @@ fn holder_in(
     Ok(None)
 }
 
-/// Returns the fault of a read whose records make no pairing: 90, or 91 for want of memory. Making it reads no table, so
-/// a fault of the store is want of memory here.
-fn unread(fault: LoadFault) -> StoreFault
+/// Returns the fault of a read whose records make no pairing, or no outside period: 90, or 91 for want of memory. Making
+/// one reads no table, so a fault of the store is want of memory here.
+pub(crate) fn unread(fault: LoadFault) -> StoreFault
     ensures { result ≡ unread_as fault }
 {
     match fault {

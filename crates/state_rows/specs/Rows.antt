@@ -6,7 +6,7 @@ use Rattle.values.specs.Name.{name_cmp}
 use Rattle.sqlite_value.specs.Order.{Row}
 use Rattle.sqlite_rules.specs.Lists.{Has}
 use Rattle.sqlite.specs.Effect.{Database}
-use Rattle.duty.specs.Plans.{ActualTimes, GroundPlan}
+use Rattle.duty.specs.Plans.{ActualTimes, GroundPlan, OutsidePlan}
 use Rattle.duty.specs.declared.fdp.Fdp.{Fdp}
 use Rattle.duty.specs.declared.segment.BlockTimes.{BlockTimes}
 use Rattle.duty.specs.declared.segment.Segment.{Segment}
@@ -19,8 +19,10 @@ use Rattle.command.specs.declared.member.Seat.TheVariants.{Captain, FirstOfficer
 use Rattle.roster.specs.Bases.{home_zone}
 use Rattle.roster.specs.Pairings.{holder}
 use Rattle.roster.specs.State.{State, exceedance_name}
-use Rattle.roster.specs.declared.state.PeriodId.{PeriodId}
+use Rattle.roster.specs.declared.state.DutyId.{DutyId}
+use Rattle.roster.specs.declared.state.DutyId.TheVariants.{Period, Outside}
 use Rattle.roster.specs.declared.state.LoggedCommand.{LoggedCommand}
+use Rattle.roster.specs.declared.state.OutsideEntry.{OutsideEntry}
 use Rattle.roster.specs.declared.state.PairingEntry.{PairingEntry}
 use Rattle.state_rows.specs.Editions.{edition_number}
 use Rattle.state_rows.specs.declared.edition.Edition.{Edition}
@@ -28,7 +30,7 @@ use Rattle.state_rows.specs.declared.edition.Edition.TheVariants.{First, Second}
 use Rattle.stored_json.specs.KeptText.{kept_text}
 use Rattle.stored_json.specs.ReplyText.{reply_text}
 use Rattle.tables.specs.Schema.{BookTable, book_table, crew_table, pairing_table, period_table, segment_table, seat_table, ground_table, exceedance_table, request_table, base_table, crew_base_table, outside_table, outside_segment_table}
-use Rattle.tables.specs.Records.{base_row, crew_base_row, book_row, crew_row, pairing_row, period_row, segment_row, seat_row, ground_row, exceedance_row, request_row}
+use Rattle.tables.specs.Records.{base_row, crew_base_row, book_row, crew_row, pairing_row, period_row, segment_row, seat_row, ground_row, exceedance_row, request_row, outside_row, outside_segment_row}
 use Rattle.tables.specs.Rows.{rows_of}
 
 -- the number of a seat in the tables
@@ -166,29 +168,42 @@ row_of_ground id g = ground_row (record {
 abbrev pub InGround : State → Row → Type 0
 InGround s row = (at : At s.grounds) × (row ≡ row_of_ground at.name at.value)
 
--- an exceedance: the key that recorded it, the member, the section, and the period in which it was
-pub record ExceedanceAt (exceedances : fin.FinMap name_cmp PeriodId) : Type 0 where
+-- an exceedance: the key that recorded it, the member, the section, and the duty that it names
+pub record ExceedanceAt (exceedances : fin.FinMap name_cmp DutyId) : Type 0 where
   pub key : KeyParts
   pub crew : List ℕ
   pub section : Section
-  pub period : PeriodId
-  pub there : fin.get exceedances (exceedance_name key crew section) ≡ Some period
+  pub named : DutyId
+  pub there : fin.get exceedances (exceedance_name key crew section) ≡ Some named
 
--- the row of an exceedance: the key that recorded it, the member, the section, and the period
-abbrev pub row_of_exceedance : KeyParts → List ℕ → Section → PeriodId → Row
-row_of_exceedance key crew section period = exceedance_row (record {
+-- what the column `pairing` of `exceedance` has of the duty that an exceedance names: the id of the
+-- pairing, or that of the outside period
+abbrev pub named_id : DutyId → List ℕ
+named_id (Period p) = p.pairing
+named_id (Outside id) = id
+
+-- what the column `period` of `exceedance` has of the duty that an exceedance names: the number of
+-- the period, from 1, or 0 for an outside period
+abbrev pub named_number : DutyId → ℕ
+named_number (Period p) = p.number
+named_number (Outside id) = 0
+
+-- the row of an exceedance: the key that recorded it, the member, the section, and the duty that it
+-- names
+abbrev pub row_of_exceedance : KeyParts → List ℕ → Section → DutyId → Row
+row_of_exceedance key crew section named = exceedance_row (record {
   number = pos key.number;
   part = key.part;
   crew = crew;
   section = section_number section;
-  pairing = period.pairing;
-  period = period.number;
+  pairing = named_id named;
+  period = named_number named;
 })
 
 -- the rows of `exceedance`, one for each exceedance of the state
 abbrev pub InExceedance : State → Row → Type 0
 InExceedance s row = (at : ExceedanceAt s.exceedances)
-    × (row ≡ row_of_exceedance at.key at.crew at.section at.period)
+    × (row ≡ row_of_exceedance at.key at.crew at.section at.named)
 
 -- a key that is held, with its command and reply
 pub record RequestAt (requests : fin.FinMap name_cmp LoggedCommand) : Type 0 where
@@ -226,6 +241,42 @@ row_of_post crew base = crew_base_row (record { crew = crew; base = base })
 -- the rows of `crew_base`, one for each member of the state
 abbrev pub InCrewBase : State → Row → Type 0
 InCrewBase s row = (at : At s.crew) × (row ≡ row_of_post at.name at.value.base)
+
+-- ---- Outside periods
+
+-- the row of an outside period: the id, the member who flew it, its report and release
+abbrev pub row_of_outside : List ℕ → OutsideEntry → Row
+row_of_outside id o = outside_row (record {
+  id = id;
+  crew = o.crew;
+  report_at = o.period.report;
+  release_at = o.period.release;
+})
+
+-- the rows of `outside`, one for each outside period of the state
+abbrev pub InOutside : State → Row → Type 0
+InOutside s row = (at : At s.outsides) × (row ≡ row_of_outside at.name at.value)
+
+-- a segment of an outside period, at its place counted from 0
+pub record OutsideSegmentOf (o : OutsidePlan) : Type 0 where
+  pub place : ℕ
+  pub times : BlockTimes
+  pub flown : slice_get o.segments place ≡ Some times
+
+-- the row of a segment of an outside period: the id of the period, the number of the segment from
+-- 1, block-out and block-in
+abbrev pub row_of_outside_segment : List ℕ → ℕ → BlockTimes → Row
+row_of_outside_segment id place times = outside_segment_row (record {
+  outside = id;
+  number = place + 1;
+  out_at = times.block_out;
+  in_at = times.block_in;
+})
+
+-- the rows of `outside_segment`, one for each segment of each outside period
+abbrev pub InOutsideSegment : State → Row → Type 0
+InOutsideSegment s row = (at : At s.outsides) × (g : OutsideSegmentOf at.value.period)
+    × (row ≡ row_of_outside_segment at.name g.place g.times)
 
 -- ---- The thirteen tables
 
@@ -282,8 +333,8 @@ InTable s exceedance = InExceedance s
 InTable s request = InRequest s
 InTable s base = InBase s
 InTable s crew_base = InCrewBase s
-InTable s outside = λ row. ⊥
-InTable s outside_segment = λ row. ⊥
+InTable s outside = InOutside s
+InTable s outside_segment = InOutsideSegment s
 
 -- the rows of a state in a table of version 1
 abbrev pub InFirst : State → TableName → Row → Type 0

@@ -92,8 +92,8 @@ module _ (s : State) (db : Database) (database : IsDatabase db) (read : AgreesTh
   read_book_of second =
       let t_base = its_table base s db later_base.1 second in
       let t_crew_base = its_table crew_base s db later_crew_base.1 second in
-      let t_outside = its_table outside s db later_outside.1 second in
-      let t_segment = its_table outside_segment s db last.1 second in
+      let t_outside = its_table outside s db last.1 second in
+      let t_segment = its_table outside_segment s db last.2 second in
       record {
         database = database;
         tables = (
@@ -149,8 +149,8 @@ module _ (s : State) (db : Database) (database : IsDatabase db) (read : AgreesTh
       | request ↦ λ bad. absurd (cc)
       | base ↦ λ _. its_name base s db later_base.1 first
       | crew_base ↦ λ _. its_name crew_base s db later_crew_base.1 first
-      | outside ↦ λ _. its_name outside s db later_outside.1 first
-      | outside_segment ↦ λ _. its_name outside_segment s db last.1 first
+      | outside ↦ λ _. its_name outside s db last.1 first
+      | outside_segment ↦ λ _. its_name outside_segment s db last.2 first
     ];
     stored = each_stored;
     rows = λ name. elim name as (λ n. is_later n ≡ false → HasJust (table n) db (InFirst s n)) [

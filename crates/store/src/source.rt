@@ -2,13 +2,13 @@
 
 use crate::store::Store;
 use command::{Key, Member};
-use duty::{CrewId, Ground, GroundId, PairingId};
+use duty::{CrewId, Ground, GroundId, OutsideId, PairingId};
 use lookup::{
-    bases_at, exceedances_at, ground_at, grounds_held_at, member_at, pairing_at, pairings_held_at,
-    request_at,
+    bases_at, exceedances_at, ground_at, grounds_held_at, member_at, outside_at, outsides_held_at,
+    pairing_at, pairings_held_at, request_at,
 };
 use part::Source;
-use roster::{Bases, ExceedanceId, LoggedCommand, PairingEntry, PeriodId};
+use roster::{Bases, DutyId, ExceedanceId, LoggedCommand, OutsideEntry, PairingEntry};
 use sqlite::Alter;
 use state_rows::StoreFault;
 use std::alloc::Global;
@@ -77,6 +77,14 @@ impl<S: Alter> Source for Store<S> {
         ground_at(alloc, &mut self.conn, id)
     }
 
+    fn outside(
+        &mut self,
+        alloc: Global,
+        id: &OutsideId,
+    ) -> Result<Option<OutsideEntry>, StoreFault> {
+        outside_at(alloc, &mut self.conn, id)
+    }
+
     fn pairings_of(&mut self, alloc: Global, who: &CrewId) -> Result<Vec<PairingId>, StoreFault> {
         pairings_held_at(alloc, &mut self.conn, who)
     }
@@ -85,7 +93,11 @@ impl<S: Alter> Source for Store<S> {
         grounds_held_at(alloc, &mut self.conn, who)
     }
 
-    fn exceedances(&mut self, alloc: Global) -> Result<OrdMap<ExceedanceId, PeriodId>, StoreFault> {
+    fn outsides_of(&mut self, alloc: Global, who: &CrewId) -> Result<Vec<OutsideId>, StoreFault> {
+        outsides_held_at(alloc, &mut self.conn, who)
+    }
+
+    fn exceedances(&mut self, alloc: Global) -> Result<OrdMap<ExceedanceId, DutyId>, StoreFault> {
         exceedances_at(alloc, &mut self.conn)
     }
 }

@@ -1,11 +1,11 @@
 -- What the actual times of a period make of the rows of a state.
-use Rattle.std.proofs.Common.{◌≡◌, ◌⊎◌, ◌↔◌, inl, inr, refl, sym, ap, subst, ◌∙◌, arith, ℕ, zero, suc, pos, ◌+◌, ◌-◌, ◌<◌, List, [], ◌∷◌, length, Option, Some, None, Bool, true, false, slice_get, option_map}
+use Rattle.std.proofs.Common.{◌≡◌, ◌⊎◌, ◌↔◌, inl, inr, refl, sym, ap, subst, ◌∙◌, arith, ℕ, pos, ◌+◌, ◌-◌, ◌<◌, List, [], ◌∷◌, length, Option, Some, None, Bool, true, false, slice_get, option_map}
 use Rattle.std.specs.Prelude.{slice_set}
 use Rattle.std.specs.FinMap as fin
 use Rattle.std.specs.List.{fold}
 use Rattle.std.proofs.lemmas.Bool.{cases_eq}
 use Rattle.std.proofs.lemmas.Option.{slice_get_cases, slice_get_within}
-use Rattle.values.specs.Name.{name_cmp, changed_at}
+use Rattle.values.specs.Name.{changed_at}
 use Rattle.sqlite_value.specs.declared.value.Value.TheVariants.{Int, Text}
 use Rattle.sqlite_value.specs.Order.{Row, column}
 use Rattle.sqlite.specs.Effect.{Database}
@@ -17,103 +17,29 @@ use Rattle.command.specs.Keys.{KeyParts}
 use Rattle.command.specs.declared.exceedance.Exceedance.{Exceedance}
 use Rattle.command.specs.declared.member.Seat.{Seat}
 use Rattle.command.specs.declared.member.Seat.TheVariants.{Captain, FirstOfficer}
-use Rattle.roster.proofs.Accepted.{decide, inserted, insert_here, insert_elsewhere, changed, change_here, change_elsewhere}
-use Rattle.roster.proofs.Records.{names_same}
+use Rattle.roster.proofs.Accepted.{decide, changed, change_here, change_elsewhere}
 use Rattle.roster.proofs.Sound.Flown.{set_here, set_other}
 use Rattle.roster.specs.Pairings.{holder}
-use Rattle.roster.specs.State.{State, exceedance_name}
+use Rattle.roster.specs.State.{State}
 use Rattle.roster.specs.Steps.{with_actual, recorded}
-use Rattle.roster.specs.declared.state.PeriodId.{PeriodId}
+use Rattle.roster.specs.declared.state.DutyId.{DutyId}
+use Rattle.roster.specs.declared.state.DutyId.TheVariants as duty_id
 use Rattle.roster.specs.declared.state.PairingEntry.{PairingEntry}
 use Rattle.tables.specs.Records.{with_period_times}
 use Rattle.tables.specs.Rows.{begins_with}
 use Rattle.tables.specs.declared.period.PeriodRecord.{PeriodRecord}
 use Rattle.tables.proofs.PeriodTexts.{with_period_times_is}
 use Rattle.writing.specs.Calls.{IsFit, Then}
-use Rattle.state_rows.specs.Rows.{TableName, pairing, period, segment, seat, exceedance, At, PeriodOf, SegmentOf, ExceedanceAt, InTable, InPairing, InPeriod, InSegment, InSeat, InExceedance, Rows, row_of_period, row_of_segment, row_of_exceedance, times_flown}
+use Rattle.state_rows.specs.Rows.{TableName, pairing, period, segment, seat, exceedance, At, PeriodOf, SegmentOf, ExceedanceAt, InTable, InPairing, InPeriod, InSegment, InSeat, InExceedance, Rows, row_of_period, row_of_segment, times_flown}
 use Rattle.writing.specs.Writing.{FliesPeriod, FliesSegments, RecordsAll}
-use Rattle.writing.proofs.Growing.{SomeOf, placed, some_of, each_grows}
-use Rattle.state_rows.proofs.Lists.{one_value, some_same}
+use Rattle.writing.proofs.Growing.{SomeOf, each_grows}
+use Rattle.writing.proofs.EffectRecords.{NewExceedance, exceedances_words}
+use Rattle.state_rows.proofs.Lists.{one_value}
 use Rattle.writing.proofs.Retiming.{Flown, after, all_flown, flown_to, flown_from, after_past, after_here, hit_none, hit_one, hit_other}
 use Rattle.writing.proofs.Sets as sets
 use Rattle.writing.proofs.Tables.{fit_after, updates_keep}
 use Rattle.state_rows.proofs.Tests.{found, passes, fails, others}
 use Rattle.state_rows.proofs.Values.{text_is, number_is}
-
--- ---- Exceedances
-
-module _ (key : KeyParts) (p : PeriodId) where
-  abbrev name_of : Exceedance → List ℕ
-  name_of e = exceedance_name key e.crew e.section
-
-  -- what is there stays, under another name or as this period
-  stays : (es : List Exceedance) (m : fin.FinMap name_cmp PeriodId) (name : List ℕ) (q : PeriodId) → (((e : Exceedance) → name ≡ name_of e → ⊥) ⊎ (p ≡ q)) →
-      fin.get m name ≡ Some q → fin.get (fold (recorded key p) m es) name ≡ Some q
-  stays [] m name q why at = at
-  stays (e ∷ es) m name q why at = stays es (recorded key p m e) name q why (elim (decide name (name_of e)) [
-    | inl same ↦ elim why [
-      | inl other ↦ absurd (other e same)
-      | inr is ↦ ap (fin.get (recorded key p m e)) same ∙ insert_here m (name_of e) p ∙ ap Some is
-    ]
-    | inr apart ↦ insert_elsewhere m (name_of e) p name apart ∙ at
-  ])
-
-  recorded_here : (es : List Exceedance) (m : fin.FinMap name_cmp PeriodId) (place : ℕ) (e : Exceedance) → slice_get es place ≡ Some e → fin.get (fold (recorded key p) m es) (name_of e) ≡ Some p
-  recorded_here [] m place e at = absurd (cc)
-  recorded_here (x ∷ es) m zero e at =
-      stays es (recorded key p m x) (name_of e) p (inr refl) (ap (λ y. fin.get (recorded key p m x) (name_of y)) (sym (some_same at)) ∙ insert_here m (name_of x) p)
-  recorded_here (x ∷ es) m (suc place) e at = recorded_here es (recorded key p m x) place e at
-
-  pub record Recorded (es : List Exceedance) (name : List ℕ) (q : PeriodId) : Type 0 where
-    pub place : ℕ
-    pub value : Exceedance
-    pub there : slice_get es place ≡ Some value
-    pub named : name ≡ name_of value
-    pub same : p ≡ q
-
-  recorded_back : (es : List Exceedance) (m : fin.FinMap name_cmp PeriodId) (name : List ℕ) (q : PeriodId) → fin.get (fold (recorded key p) m es) name ≡ Some q →
-      Recorded es name q ⊎ (fin.get m name ≡ Some q)
-  recorded_back [] m name q at = inr at
-  recorded_back (e ∷ es) m name q at = elim (recorded_back es (recorded key p m e) name q at) [
-    | inl it ↦ inl (record { place = suc it.place; value = it.value; there = it.there; named = it.named; same = it.same })
-    | inr was ↦ elim (inserted m (name_of e) p name q was) [
-      | inl new ↦ inl (record { place = 0; value = e; there = refl; named = new.0; same = new.1 })
-      | inr old ↦ inr old.1
-    ]
-  ]
-
-  abbrev pub NewExceedance : ℕ → Exceedance → Row → Type 0
-  NewExceedance place e x = x ≡ row_of_exceedance key e.crew e.section p
-
-  pub exceedances_words : (m : fin.FinMap name_cmp PeriodId) (es : List Exceedance) →
-      ((at : ExceedanceAt m) → at.key ≡ key → ⊥) → (row : Row) →
-      (SomeOf NewExceedance 0 es row ⊎ ((at : ExceedanceAt m) × (row ≡ row_of_exceedance at.key at.crew at.section at.period)))
-      ↔ ((at : ExceedanceAt (fold (recorded key p) m es)) × (row ≡ row_of_exceedance at.key at.crew at.section at.period))
-  exceedances_words m es fresh row = (
-    λ h. elim h [
-      | inl new ↦
-          let it = placed NewExceedance 0 es row new in
-          (record { key = key; crew = it.value.crew; section = it.value.section; period = p; there = recorded_here es m it.place it.value it.there }, it.is)
-      | inr was ↦
-          let other : (e : Exceedance) → exceedance_name was.0.key was.0.crew was.0.section ≡ name_of e → ⊥ = λ e same.
-          fresh was.0 (names_same was.0.key key was.0.crew e.crew was.0.section e.section same).0 in (
-            record {
-              key = was.0.key;
-              crew = was.0.crew;
-              section = was.0.section;
-              period = was.0.period;
-              there = stays es m _ was.0.period (inl other) was.0.there;
-            },
-            was.1,
-          )
-    ],
-    λ h. elim (recorded_back es m (exceedance_name h.0.key h.0.crew h.0.section) h.0.period h.0.there) [
-      | inl it ↦
-          let same = names_same h.0.key key h.0.crew it.value.crew h.0.section it.value.section it.named in
-          inl (some_of NewExceedance 0 es row it.place it.value it.there (h.1 ∙ (λ i. row_of_exceedance (same.0 i) (same.1 i) (same.2 i) (sym it.same i))))
-      | inr was ↦ inr (record { key = h.0.key; crew = h.0.crew; section = h.0.section; period = h.0.period; there = was }, h.1)
-    ],
-  )
 
 -- ---- The pairing
 
@@ -395,8 +321,8 @@ module _ (s : State) (id : List ℕ) (a : ActualTimes) (r : PairingEntry) (there
   -- ---- All of it
 
   module _ (key : KeyParts) (es : List Exceedance) (fresh : (at : ExceedanceAt s.exceedances) → at.key ≡ key → ⊥) where
-    abbrev the_period : PeriodId
-    the_period = record { pairing = id; number = a.period }
+    abbrev the_period : DutyId
+    the_period = duty_id.Period (record { pairing = id; number = a.period })
 
     abbrev reflown : State
     reflown = record s { pairings = changed_at s.pairings id (with_actual a); exceedances = fold (recorded key the_period) s.exceedances es }

@@ -7,7 +7,7 @@ use Rattle.sqlite.specs.Effect.{Database}
 use Rattle.command.specs.Keys.{KeyParts, key_name}
 use Rattle.command.specs.Instructions.{IsMade}
 use Rattle.command.specs.declared.instruction.Instruction.{Instruction}
-use Rattle.command.specs.declared.instruction.Instruction.TheVariants.{AddBase, AddCrew, AddPairing, CancelPairing, Assign, Release, Swap, AddGround, CancelGround, Actual}
+use Rattle.command.specs.declared.instruction.Instruction.TheVariants.{AddBase, AddCrew, AddPairing, CancelPairing, Assign, Release, Swap, AddGround, CancelGround, Actual, RecordOutside}
 use Rattle.roster.proofs.Accepted.{Passed, accepted}
 use Rattle.roster.proofs.Records.{names_same}
 use Rattle.roster.proofs.Sound.Flown.{found, get_within}
@@ -25,6 +25,7 @@ use Rattle.writing.specs.Next.{IsAcceptedChange}
 use Rattle.state_rows.specs.Rows.{ExceedanceAt, Rows}
 use Rattle.writing.specs.Writing.{Writes, WritesInstruction}
 use Rattle.writing.proofs.EffectActual.{actual_flown}
+use Rattle.writing.proofs.EffectOutside.{outside_recorded}
 use Rattle.writing.proofs.EffectPairing.{plan_added, pairing_removed}
 use Rattle.writing.proofs.EffectPlans.{Pairings}
 use Rattle.writing.proofs.EffectSeats.{AreThere, all_reseated}
@@ -58,7 +59,7 @@ module _ (s : State) (key : KeyParts) (free : fin.get s.requests (key_name key) 
   -- no exceedance has a free key
   fresh : (at : ExceedanceAt s.exceedances) → at.key ≡ key → ⊥
   fresh at same =
-      let x = sound.exceedances (exceedance_name at.key at.crew at.section) at.period at.there in
+      let x = sound.exceedances (exceedance_name at.key at.crew at.section) at.named at.there in
       let keys = names_same at.key x.key at.crew x.crew at.section x.section x.known_by in
       let no : None ≡ Some x.request = sym free ∙ ap (λ k. fin.get s.requests (key_name k)) (sym same ∙ keys.0) ∙ x.held in
       cc
@@ -96,6 +97,7 @@ module _ (s : State) (key : KeyParts) (free : fin.get s.requests (key_name key) 
       omega (arith, places, planned) in
       actual_flown s id a f.rostered f.there (a.period - 1) (omega (arith, positive)) f.fdp f.planned f.count within
       key (recorded_by s (Actual id a)) fresh old mid fit rows is
+  effect_rows (RecordOutside who o) made passed old mid fit rows is = outside_recorded s who o key (recorded_by s (RecordOutside who o)) fresh old mid fit rows is
 
 -- it leaves the requests
 requests_stay : (s : State) (change : Change) (instruction : Instruction) → (effect s change instruction).requests ≡ s.requests
@@ -109,6 +111,7 @@ requests_stay s change (Swap w) = refl
 requests_stay s change (AddGround g) = refl
 requests_stay s change (CancelGround id) = refl
 requests_stay s change (Actual id a) = refl
+requests_stay s change (RecordOutside who o) = refl
 
 -- ---- All of it
 

@@ -27,7 +27,7 @@ use Rattle.writing.proofs.Tables.{inserts_keep, is_book, just_made, no_rows, non
 abbrev pub OfBases : fin.FinMap name_cmp (List ℕ) → Row → Type 0
 OfBases bases row = (at : At bases) × (row ≡ row_of_base at.name at.value)
 
-nothing : {X : Type 0} (q : List ℕ) (x : X) → fin.get (fin.empty {X = X} {R = name_cmp}) q ≡ Some x → ⊥
+pub nothing : {X : Type 0} (q : List ℕ) (x : X) → fin.get (fin.empty {X = X} {R = name_cmp}) q ≡ Some x → ⊥
 nothing {X} q x e = let no : None ≡ Some x = sym (fin.get-empty {X = X} name_cmp q) ∙ e in cc
 
 -- where it is the only one
@@ -73,8 +73,8 @@ empty_words zone ground_duty row = (λ none. absurd none, λ is. nothing _ _ is.
 empty_words zone exceedance row = (λ none. absurd none, λ is. nothing _ _ is.0.there)
 empty_words zone request row = (λ none. absurd none, λ is. nothing _ _ is.0.there)
 empty_words zone crew_base row = (λ none. absurd none, λ is. nothing _ _ is.0.there)
-empty_words zone outside row = (λ h. h, λ h. h)
-empty_words zone outside_segment row = (λ h. h, λ h. h)
+empty_words zone outside row = (λ none. absurd none, λ is. nothing _ _ is.0.there)
+empty_words zone outside_segment row = (λ none. absurd none, λ is. nothing _ _ is.0.there)
 
 module _ (zone : List ℕ) (made booked new : Database) (it : HasEmpty book_tables made) (first : Inserts book_table (row_of_book Second zone) made booked)
     (then : Inserts base_table (row_of_base home zone) booked new) where

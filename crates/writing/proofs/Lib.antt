@@ -13,6 +13,8 @@ pub mod EffectPlans
 pub mod Effects
 pub mod EffectActual
 pub mod EffectPairing
+pub mod EffectRecords
+pub mod EffectOutside
 pub mod EffectSeats
 pub mod Tables
 pub mod Growth

@@ -20,7 +20,7 @@ use Rattle.tables.specs.Schema.{IsOfBook, IsTable, IsUnreferenced, later_tables}
 use Rattle.tables.specs.declared.book.BookRecord.{BookRecord}
 use Rattle.tables.proofs.BookTexts.{with_version_is}
 use Rattle.state_rows.specs.First.{IsFirst}
-use Rattle.state_rows.specs.Rows.{TableName, book, base, crew_base, outside, outside_segment, is_later, table, InCrewBase, InFirst, InTable, HasJust, Rows, row_of_base, row_of_book, row_of_post}
+use Rattle.state_rows.specs.Rows.{At, TableName, book, base, crew_base, outside, outside_segment, is_later, table, InCrewBase, InFirst, InTable, HasJust, Rows, row_of_base, row_of_book, row_of_post}
 use Rattle.state_rows.specs.declared.edition.Edition.TheVariants.{First, Second}
 use Rattle.state_rows.specs.declared.fault.StoreFault.{StoreFault}
 use Rattle.state_rows.proofs.Tests.{passes}
@@ -29,7 +29,7 @@ use Rattle.writing.specs.Kept.{IsBookOf, IsFirstBookOf}
 use Rattle.writing.specs.Migration.{AddsPost, AddsPosts, Fills, Migrates}
 use Rattle.writing.specs.Making.{AreUnreferenced, HasEmpty, MakesTables}
 use Rattle.writing.proofs.Chaining.{each_start, then_write}
-use Rattle.writing.proofs.EmptyBook.{OfBases, home_row}
+use Rattle.writing.proofs.EmptyBook.{OfBases, home_row, nothing}
 use Rattle.writing.proofs.Growth.{on_tables}
 use Rattle.writing.proofs.Growing.{SomeOf, each_grows, placed, some_of}
 use Rattle.writing.proofs.Sets as sets
@@ -166,10 +166,15 @@ module _ (s : roster.State) (all_home : IsFirst s) (old mid new : Database) (was
   versions : sets.Shows Versioned new
   versions = sets.updated book is.2.0 new posted_fit Posted posted of_one (with_version (pos 2)) is.2.2
 
+  none_outside : At s.outsides → ⊥
+  none_outside at = nothing at.name at.value (ap (λ outsides. fin.get outsides at.name) (sym all_home.outsides) ∙ at.there)
+
   words : (name : TableName) (row : Row) → Versioned name row ↔ InTable s name row
   words book row = version_set (home_zone s.bases) row
   words base row = subst (λ bases. ((row ≡ row_of_base home (home_zone s.bases)) ⊎ ⊥) ↔ OfBases bases row) (sym all_home.bases) (home_row (home_zone s.bases) row)
   words crew_base row = posts_are s row
+  words outside row = (λ none. absurd none, λ is. none_outside is.0)
+  words outside_segment row = (λ none. absurd none, λ is. none_outside is.0)
   words name row = (λ h. h, λ h. h)
 
   pub lifted_rows : Rows s new

@@ -12,16 +12,17 @@ use Rattle.sqlite_value.specs.declared.value.Value.TheVariants.{Int, Text}
 use Rattle.sqlite.specs.Effect.{Database, IsDatabase}
 use Rattle.sqlite.specs.Held.{Held, state}
 use Rattle.sqlite.specs.State.{State, HasCleanDisk, IsLive, Survives}
-use Rattle.duty.specs.Plans.{Plan, ActualTimes}
+use Rattle.duty.specs.Plans.{Plan, ActualTimes, OutsidePlan}
 use Rattle.duty.specs.Shape.{home}
-use Rattle.roster.specs.declared.state.PeriodId.{PeriodId}
 use Rattle.command.specs.declared.instruction.Instruction.{Instruction}
 use Rattle.command.specs.declared.member.Member.{Member}
-use Rattle.command.specs.declared.instruction.Instruction.TheVariants.{AddBase, AddCrew, AddPairing, CancelPairing, Assign, Release, Swap, AddGround, CancelGround, Actual}
+use Rattle.command.specs.declared.instruction.Instruction.TheVariants.{AddBase, AddCrew, AddPairing, CancelPairing, Assign, Release, Swap, AddGround, CancelGround, Actual, RecordOutside}
 use Rattle.roster.specs.Bases.{home_zone}
 use Rattle.roster.specs.State as roster
 use Rattle.roster.specs.declared.change.Change.{Change}
 use Rattle.roster.specs.declared.change.SeatChange.{SeatChange}
+use Rattle.roster.specs.declared.state.DutyId.{DutyId}
+use Rattle.roster.specs.declared.state.DutyId.TheVariants as duty_id
 use Rattle.tables.specs.Calls.{Begun, Committed}
 use Rattle.tables.specs.Records.{with_period_times, with_segment_times, with_version}
 use Rattle.tables.specs.Rows.{Changes, Inserts, Deletes, Updates, begins_with, kept_in, stored}
@@ -31,8 +32,8 @@ use Rattle.writing.specs.Kept.{Adds, IsFirstBookOf, IsOther, KeepBeside, KeepOth
 use Rattle.writing.specs.Migration.{AddsHome, AddsPost, AddsPosts, Fills, Migrates, SetsVersion}
 use Rattle.writing.specs.Making.{MakesTables}
 use Rattle.writing.specs.Outcomes.{CrashLeavesOnly, CrashAddsOnly, ShowsOnly}
-use Rattle.state_rows.specs.Rows.{TableName, table, crew, pairing, period, segment, seat, ground_duty, exceedance, request, base, book, crew_base, row_of_base, row_of_post, row_of_member, row_of_pairing, row_of_period, row_of_segment, row_of_seat, row_of_ground, row_of_exceedance, row_of_request, seat_number}
-use Rattle.writing.specs.Writing.{AddsPeriods, AddsSegmentOf, AddsSegmentsOf, AddsSegments, FreesSeat, Seats, Reseats, FliesPeriod, FliesSegment, FliesSegments, Records, RecordsAll, Writes, WritesInstruction}
+use Rattle.state_rows.specs.Rows.{TableName, table, crew, pairing, period, segment, seat, ground_duty, exceedance, request, base, book, crew_base, outside, outside_segment, row_of_base, row_of_post, row_of_member, row_of_pairing, row_of_period, row_of_segment, row_of_seat, row_of_ground, row_of_exceedance, row_of_request, row_of_outside, row_of_outside_segment, seat_number}
+use Rattle.writing.specs.Writing.{AddsPeriods, AddsSegmentOf, AddsSegmentsOf, AddsSegments, FreesSeat, Seats, Reseats, FliesPeriod, FliesSegment, FliesSegments, Records, RecordsAll, RecordsFlown, RecordsOutsideOf, RemovesOutside, AddsOutsideRow, AddsOutsideSegment, AddsOutsideSegments, AddsOutside, Writes, WritesInstruction}
 use Rattle.writing.proofs.Migrated.{made_fit}
 use Rattle.writing.proofs.Tables.{fit_after}
 
@@ -103,15 +104,33 @@ safe_reseats changes =
     safe_each (λ _ change. Reseats change)
     (λ _ change. safe_then (FreesSeat change) (Seats change change.holder) (safe_delete seat (begins_with (Text change.pairing ∷ Int (pos (seat_number change.seat)) ∷ []))) (safe_seats change change.holder)) 0 changes
 
+safe_records : (change : Change) (named : DutyId) → Safe (RecordsAll change.key named change.reply.exceedances)
+safe_records change named =
+    safe_each (λ _ e. Records change.key named e) (λ _ e. safe_insert exceedance (row_of_exceedance change.key e.crew e.section named)) 0 change.reply.exceedances
+
 safe_flight : (change : Change) (id : List ℕ) (a : ActualTimes) → Safe (WritesInstruction change (Actual id a))
 safe_flight change id a =
-    let p : PeriodId = record { pairing = id; number = a.period } in
-    safe_then (FliesPeriod id a) (Then (FliesSegments id a.period a.segments) (RecordsAll change.key p change.reply.exceedances))
+    safe_then (FliesPeriod id a) (Then (FliesSegments id a.period a.segments) (RecordsFlown change id a.period))
     (safe_update period (begins_with (Text id ∷ Int (pos a.period) ∷ [])) (with_period_times a.report a.release))
-    (safe_then (FliesSegments id a.period a.segments) (RecordsAll change.key p change.reply.exceedances)
+    (safe_then (FliesSegments id a.period a.segments) (RecordsFlown change id a.period)
     (safe_each (FliesSegment id a.period)
     (λ at t. safe_update segment (begins_with (Text id ∷ Int (pos a.period) ∷ Int (pos (at + 1)) ∷ [])) (with_segment_times t.block_out t.block_in)) 0 a.segments)
-    (safe_each (λ _ e. Records change.key p e) (λ _ e. safe_insert exceedance (row_of_exceedance change.key e.crew e.section p)) 0 change.reply.exceedances))
+    (safe_records change (duty_id.Period (record { pairing = id; number = a.period }))))
+
+safe_removal : (id : List ℕ) → Safe (RemovesOutside id)
+safe_removal id =
+    safe_then (Deletes (table outside_segment) (begins_with (Text id ∷ []))) (Deletes (table outside) (begins_with (Text id ∷ [])))
+    (safe_delete outside_segment (begins_with (Text id ∷ []))) (safe_delete outside (begins_with (Text id ∷ [])))
+
+safe_addition : (who : List ℕ) (o : OutsidePlan) → Safe (AddsOutside who o)
+safe_addition who o =
+    safe_then (AddsOutsideRow who o) (AddsOutsideSegments o.id o.segments) (safe_insert outside (row_of_outside o.id (record { crew = who; period = o })))
+    (safe_each (AddsOutsideSegment o.id) (λ at t. safe_insert outside_segment (row_of_outside_segment o.id at t)) 0 o.segments)
+
+safe_outside : (change : Change) (who : List ℕ) (o : OutsidePlan) → Safe (WritesInstruction change (RecordOutside who o))
+safe_outside change who o =
+    safe_then (RemovesOutside o.id) (Then (AddsOutside who o) (RecordsOutsideOf change o.id)) (safe_removal o.id)
+    (safe_then (AddsOutside who o) (RecordsOutsideOf change o.id) (safe_addition who o) (safe_records change (duty_id.Outside o.id)))
 
 safe_instruction : (change : Change) (instruction : Instruction) → Safe (WritesInstruction change instruction)
 safe_instruction change (AddBase id zone) = safe_insert base (row_of_base id zone)
@@ -128,6 +147,7 @@ safe_instruction change (Swap w) = safe_reseats change.seats
 safe_instruction change (AddGround g) = safe_insert ground_duty (row_of_ground g.id g)
 safe_instruction change (CancelGround id) = safe_delete ground_duty (begins_with (Text id ∷ []))
 safe_instruction change (Actual id a) = safe_flight change id a
+safe_instruction change (RecordOutside who o) = safe_outside change who o
 
 safe_writes : (change : Change) → Safe (Writes change)
 safe_writes change old new fit is =

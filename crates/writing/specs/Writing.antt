@@ -2,23 +2,24 @@
 use Rattle.std.specs.Prelude.{◌≡◌, ◌+◌, ℕ, pos, List, [], ◌∷◌, Option, Some, None}
 use Rattle.sqlite_value.specs.declared.value.Value.TheVariants.{Int, Text}
 use Rattle.sqlite.specs.Effect.{Database}
-use Rattle.duty.specs.Plans.{Plan, ActualTimes}
+use Rattle.duty.specs.Plans.{Plan, ActualTimes, OutsidePlan}
 use Rattle.duty.specs.declared.fdp.Fdp.{Fdp}
 use Rattle.duty.specs.declared.segment.BlockTimes.{BlockTimes}
 use Rattle.duty.specs.declared.segment.Segment.{Segment}
 use Rattle.command.specs.Keys.{KeyParts}
 use Rattle.command.specs.declared.exceedance.Exceedance.{Exceedance}
 use Rattle.command.specs.declared.instruction.Instruction.{Instruction}
-use Rattle.command.specs.declared.instruction.Instruction.TheVariants.{AddBase, AddCrew, AddPairing, CancelPairing, Assign, Release, Swap, AddGround, CancelGround, Actual}
+use Rattle.command.specs.declared.instruction.Instruction.TheVariants.{AddBase, AddCrew, AddPairing, CancelPairing, Assign, Release, Swap, AddGround, CancelGround, Actual, RecordOutside}
 use Rattle.command.specs.declared.member.Member.{Member}
 use Rattle.roster.specs.declared.change.Change.{Change}
 use Rattle.roster.specs.declared.change.SeatChange.{SeatChange}
-use Rattle.roster.specs.declared.state.PeriodId.{PeriodId}
+use Rattle.roster.specs.declared.state.DutyId.{DutyId}
+use Rattle.roster.specs.declared.state.DutyId.TheVariants as duty_id
 use Rattle.tables.specs.Records.{with_period_times, with_segment_times}
 use Rattle.tables.specs.Rows.{Inserts, Deletes, Updates, begins_with}
 use Rattle.writing.specs.Calls.{Then, Each, Fitting}
 use Rattle.writing.specs.Migration.{AddsPost}
-use Rattle.state_rows.specs.Rows.{table, base, crew, pairing, period, segment, seat, ground_duty, exceedance, request, row_of_base, row_of_member, row_of_pairing, row_of_period, row_of_segment, row_of_seat, row_of_ground, row_of_exceedance, row_of_request, seat_number}
+use Rattle.state_rows.specs.Rows.{table, base, crew, pairing, period, segment, seat, ground_duty, exceedance, request, outside, outside_segment, row_of_base, row_of_member, row_of_pairing, row_of_period, row_of_segment, row_of_seat, row_of_ground, row_of_exceedance, row_of_request, row_of_outside, row_of_outside_segment, seat_number}
 
 -- ---- A pairing
 
@@ -74,6 +75,26 @@ Reseats change = Then (FreesSeat change) (Seats change change.holder)
 abbrev pub ReseatsAll : List SeatChange → Database → Database → Type 0
 ReseatsAll = Each (λ _ change. Reseats change) 0
 
+-- ---- Exceedances
+
+-- a row is added for an exceedance of a duty
+abbrev pub Records : KeyParts → DutyId → Exceedance → Database → Database → Type 0
+Records key named e = Inserts (table exceedance) (row_of_exceedance key e.crew e.section named)
+
+-- a row is added for each exceedance of a list, in turn
+abbrev pub RecordsAll : KeyParts → DutyId → List Exceedance → Database → Database → Type 0
+RecordsAll key named = Each (λ _ e. Records key named e) 0
+
+-- a row is added for each exceedance of a period of a pairing that a change records
+abbrev pub RecordsFlown : Change → List ℕ → ℕ → Database → Database → Type 0
+RecordsFlown change id number =
+    RecordsAll change.key (duty_id.Period (record { pairing = id; number = number }))
+    change.reply.exceedances
+
+-- a row is added for each exceedance of an outside period that a change records
+abbrev pub RecordsOutsideOf : Change → List ℕ → Database → Database → Type 0
+RecordsOutsideOf change id = RecordsAll change.key (duty_id.Outside id) change.reply.exceedances
+
 -- ---- Actual times
 
 -- the times of a segment as it was flown are set in its row
@@ -92,19 +113,41 @@ FliesPeriod id a =
     Updates (table period) (begins_with (Text id ∷ Int (pos a.period) ∷ []))
     (with_period_times a.report a.release)
 
--- a row is added for an exceedance of a period
-abbrev pub Records : KeyParts → PeriodId → Exceedance → Database → Database → Type 0
-Records key p e = Inserts (table exceedance) (row_of_exceedance key e.crew e.section p)
-
--- a row is added for each exceedance of a list, in turn
-abbrev pub RecordsAll : KeyParts → PeriodId → List Exceedance → Database → Database → Type 0
-RecordsAll key p = Each (λ _ e. Records key p e) 0
-
 -- the times of a period as it was flown are set, then the times of its segments, and then the
 -- exceedances are added
 abbrev pub Flies : Change → List ℕ → ActualTimes → Database → Database → Type 0
-Flies change id a = Then (FliesPeriod id a) (Then (FliesSegments id a.period a.segments)
-    (RecordsAll change.key (record { pairing = id; number = a.period }) change.reply.exceedances))
+Flies change id a = Then (FliesPeriod id a)
+    (Then (FliesSegments id a.period a.segments) (RecordsFlown change id a.period))
+
+-- ---- An outside period
+
+-- the rows of the segments of an outside period are removed, and then its own
+abbrev pub RemovesOutside : List ℕ → Database → Database → Type 0
+RemovesOutside id = Then (Deletes (table outside_segment) (begins_with (Text id ∷ [])))
+    (Deletes (table outside) (begins_with (Text id ∷ [])))
+
+-- a row is added for an outside period, with the member who flew it
+abbrev pub AddsOutsideRow : List ℕ → OutsidePlan → Database → Database → Type 0
+AddsOutsideRow who o =
+    Inserts (table outside) (row_of_outside o.id (record { crew = who; period = o }))
+
+-- a row is added for a segment of an outside period, at its place
+abbrev pub AddsOutsideSegment : List ℕ → ℕ → BlockTimes → Database → Database → Type 0
+AddsOutsideSegment id at t = Inserts (table outside_segment) (row_of_outside_segment id at t)
+
+-- a row is added for each segment of an outside period, in turn
+abbrev pub AddsOutsideSegments : List ℕ → List BlockTimes → Database → Database → Type 0
+AddsOutsideSegments id = Each (AddsOutsideSegment id) 0
+
+-- the row of an outside period is added, and then the rows of its segments
+abbrev pub AddsOutside : List ℕ → OutsidePlan → Database → Database → Type 0
+AddsOutside who o = Then (AddsOutsideRow who o) (AddsOutsideSegments o.id o.segments)
+
+-- the rows of an outside period with this id are removed, then those of the new one are added, and
+-- then its exceedances
+abbrev pub ReplacesOutside : Change → List ℕ → OutsidePlan → Database → Database → Type 0
+ReplacesOutside change who o =
+    Then (RemovesOutside o.id) (Then (AddsOutside who o) (RecordsOutsideOf change o.id))
 
 -- ---- A member
 
@@ -127,6 +170,7 @@ WritesInstruction change (AddGround g) = Inserts (table ground_duty) (row_of_gro
 WritesInstruction change (CancelGround id) =
     Deletes (table ground_duty) (begins_with (Text id ∷ []))
 WritesInstruction change (Actual id a) = Flies change id a
+WritesInstruction change (RecordOutside who o) = ReplacesOutside change who o
 
 -- what a change writes: the effect of its command, and then the command with its reply under its
 -- key

@@ -8,20 +8,21 @@ ghost use Rattle.sqlite_value.specs.declared.value.Value.TheVariants as value;
 ghost use Rattle.tables.specs.Records.{request_row};
 ghost use Rattle.tables.specs.Rows.{Inserts, Deletes, begins_with};
 ghost use Rattle.writing.specs.Calls.{IsReady, Wrote};
-ghost use Rattle.state_rows.specs.Rows.{table, base, crew, pairing, period, segment, ground_duty, request, row_of_base, row_of_member, row_of_pairing, row_of_period, row_of_segment, row_of_ground, row_of_request};
+ghost use Rattle.state_rows.specs.Rows.{table, base, crew, pairing, period, segment, ground_duty, request, outside, outside_segment, row_of_base, row_of_member, row_of_pairing, row_of_period, row_of_segment, row_of_ground, row_of_request};
 ghost use Rattle.state_rows.specs.Counts.{HaveFewSegments};
-ghost use Rattle.writing.specs.Writing.{AddsMember, AddsPeriods, AddsSegmentsOf, AddsSegments, AddsPairing, RemovesPairing, FreesSeat, TakesSeat, Reseats, ReseatsAll, FliesSegment, FliesSegments, FliesPeriod, Records, RecordsAll, Flies, WritesInstruction, Writes};
+ghost use Rattle.writing.specs.Writing.{AddsMember, AddsPeriods, AddsSegmentsOf, AddsSegments, AddsPairing, RemovesPairing, FreesSeat, TakesSeat, Reseats, ReseatsAll, FliesSegment, FliesSegments, FliesPeriod, Records, RecordsAll, RecordsFlown, RecordsOutsideOf, Flies, RemovesOutside, AddsOutsideRow, AddsOutsideSegment, AddsOutsideSegments, AddsOutside, ReplacesOutside, WritesInstruction, Writes};
 
 use crate::migrating::add_post;
 use crate::records::{
-    base_record, crew_record, exceedance_record, ground_record, number_of_seat, pairing_record,
-    period_record, seat_record, segment_record,
+    base_record, crew_record, exceedance_record, ground_record, number_of_seat, outside_record,
+    outside_segment_record, pairing_record, period_record, seat_record, segment_record,
 };
 use command::{Exceedance, Instruction, Key, Member};
 use duty::{
-    Actual, BaseId, BlockTimes, CrewId, Fdp, Ground, GroundId, Pairing, PairingId, Segment,
+    Actual, BaseId, BlockTimes, CrewId, Fdp, Ground, GroundId, Outside, OutsideId, Pairing,
+    PairingId, Segment,
 };
-use roster::{Change, SeatChange};
+use roster::{Change, DutyId, PeriodId, SeatChange};
 use sqlite::{Alter, Connection};
 use state_rows::StoreFault;
 use std::alloc::Global;
@@ -29,12 +30,15 @@ use tables::base::insert_base;
 use tables::crew::insert_crew;
 use tables::exceedance::insert_exceedance;
 use tables::ground::{delete_ground, insert_ground};
+use tables::outside::{delete_outside, insert_outside};
+use tables::outside_segment::{delete_outside_segments, insert_outside_segment};
 use tables::pairing::{delete_pairing, insert_pairing};
 use tables::period::{delete_periods, insert_period, update_period};
 use tables::request::{RequestRecord, insert_request};
 use tables::seat::{delete_seat, insert_seat};
 use tables::segment::{delete_segments, insert_segment, update_segment};
 use time117::Zone;
+use values::TryClone;
 
 /// Writes a new base.
 #[tactic(auto, using(crate::proofs::Chaining::one_write, crate::proofs::Tables::inserts_keep))]
@@ -401,42 +405,60 @@ fn fly_segments<S: Alter>(
     Ok(())
 }
 
-/// Writes an exceedance of a period.
+/// Writes an exceedance of a duty.
 #[tactic(auto, using(crate::proofs::Chaining::one_write, crate::proofs::Tables::inserts_keep))]
 fn record_one<S: Alter>(
     alloc: Global,
     conn: &mut Connection<S>,
     key: Key,
-    id: &PairingId,
-    number: u8,
+    named: &DutyId,
     broken: &Exceedance,
 ) -> Result<(), StoreFault>
     requires { IsReady (state S.Store conn.old) }
-    ensures { Wrote (Records key (record { pairing = id.now; number = number }) broken.now)
-        (state S.Store conn.old) (state S.Store conn.new) result }
+    ensures { Wrote (Records key named.now broken.now) (state S.Store conn.old)
+        (state S.Store conn.new) result }
 {
-    let record = exceedance_record(alloc, key, broken, id, number)?;
+    let record = exceedance_record(alloc, key, broken, named)?;
     Ok(insert_exceedance(conn, &record)?)
 }
 
-/// Writes the exceedances that a command records of a period.
+/// Writes the exceedances that a command records of a duty.
 #[tactic(auto, using(crate::proofs::Chaining::each_start))]
 fn record_all<S: Alter>(
     alloc: Global,
     conn: &mut Connection<S>,
     key: Key,
-    id: &PairingId,
-    number: u8,
+    named: &DutyId,
     exceedances: &[Exceedance],
 ) -> Result<(), StoreFault>
     requires { IsReady (state S.Store conn.old) }
-    ensures { Wrote (RecordsAll key (record { pairing = id.now; number = number }) exceedances.now)
-        (state S.Store conn.old) (state S.Store conn.new) result }
+    ensures { Wrote (RecordsAll key named.now exceedances.now) (state S.Store conn.old)
+        (state S.Store conn.new) result }
 {
     for broken in exceedances {
-        record_one(alloc, conn, key, id, number, broken)?;
+        record_one(alloc, conn, key, named, broken)?;
     }
     Ok(())
+}
+
+/// Writes the exceedances that a change records of a period of a pairing.
+fn record_flown<S: Alter>(
+    alloc: Global,
+    conn: &mut Connection<S>,
+    change: &Change,
+    id: &PairingId,
+    number: u8,
+) -> Result<(), StoreFault>
+    requires { IsReady (state S.Store conn.old) }
+    ensures { Wrote (RecordsFlown change.now id.now number) (state S.Store conn.old)
+        (state S.Store conn.new) result }
+{
+    let named = DutyId::Period(PeriodId {
+        pairing: id.try_clone(alloc)?,
+        number,
+    });
+    let exceedances = change.reply.exceedances.as_slice();
+    record_all(alloc, conn, change.key, &named, exceedances)
 }
 
 /// Writes how a period was flown, and the exceedances of it.
@@ -455,8 +477,142 @@ fn fly<S: Alter>(
     let number = actual.period();
     fly_period(conn, id, actual)?;
     fly_segments(conn, id, number, actual.segments())?;
+    record_flown(alloc, conn, change, id, number)
+}
+
+/// Deletes the outside period, with its segments, if there is one.
+#[tactic(auto, using(crate::proofs::Chaining::one_write, crate::proofs::Chaining::then_write, crate::proofs::Chaining::write_stopped, crate::proofs::Tables::deletes_keep))]
+fn remove_outside<S: Alter>(conn: &mut Connection<S>, id: &OutsideId) -> Result<(), StoreFault>
+    requires { IsReady (state S.Store conn.old) }
+    ensures { Wrote (RemovesOutside id.now) (state S.Store conn.old)
+        (state S.Store conn.new) result }
+{
+    remove_outside_segments(conn, id)?;
+    remove_outside_row(conn, id)
+}
+
+#[tactic(auto, using(crate::proofs::Chaining::one_write, crate::proofs::Tables::deletes_keep))]
+fn remove_outside_segments<S: Alter>(
+    conn: &mut Connection<S>,
+    id: &OutsideId,
+) -> Result<(), StoreFault>
+    requires { IsReady (state S.Store conn.old) }
+    ensures { Wrote (Deletes (table outside_segment) (begins_with (value.Text id.now ∷ [])))
+        (state S.Store conn.old) (state S.Store conn.new) result }
+{
+    Ok(delete_outside_segments(conn, id.as_str())?)
+}
+
+#[tactic(auto, using(crate::proofs::Chaining::one_write, crate::proofs::Tables::deletes_keep))]
+fn remove_outside_row<S: Alter>(conn: &mut Connection<S>, id: &OutsideId) -> Result<(), StoreFault>
+    requires { IsReady (state S.Store conn.old) }
+    ensures { Wrote (Deletes (table outside) (begins_with (value.Text id.now ∷ [])))
+        (state S.Store conn.old) (state S.Store conn.new) result }
+{
+    Ok(delete_outside(conn, id.as_str())?)
+}
+
+/// Writes the row of an outside period, with the member who flew it.
+#[tactic(auto, using(crate::proofs::Chaining::one_write, crate::proofs::Tables::inserts_keep))]
+fn add_outside_row<S: Alter>(
+    alloc: Global,
+    conn: &mut Connection<S>,
+    who: &CrewId,
+    flying: &Outside,
+) -> Result<(), StoreFault>
+    requires { IsReady (state S.Store conn.old) }
+    ensures { Wrote (AddsOutsideRow who.now flying.now) (state S.Store conn.old)
+        (state S.Store conn.new) result }
+{
+    let record = outside_record(alloc, who, flying)?;
+    Ok(insert_outside(conn, &record)?)
+}
+
+/// Writes a segment of an outside period, by its place in the period.
+#[tactic(auto, using(crate::proofs::Chaining::one_write, crate::proofs::Tables::inserts_keep))]
+fn add_outside_segment<S: Alter>(
+    alloc: Global,
+    conn: &mut Connection<S>,
+    id: &OutsideId,
+    at: usize,
+    times: &BlockTimes,
+) -> Result<(), StoreFault>
+    requires ready { IsReady (state S.Store conn.old) }
+    requires at { at < 12 }
+    ensures { Wrote (AddsOutsideSegment id.now at times.now) (state S.Store conn.old)
+        (state S.Store conn.new) result }
+{
+    let record = outside_segment_record(alloc, id, at, times)?;
+    Ok(insert_outside_segment(conn, &record)?)
+}
+
+/// Writes the segments of an outside period.
+#[tactic(auto, using(crate::proofs::Chaining::each_start))]
+fn add_outside_segments<S: Alter>(
+    alloc: Global,
+    conn: &mut Connection<S>,
+    id: &OutsideId,
+    legs: &[BlockTimes],
+) -> Result<(), StoreFault>
+    requires ready { IsReady (state S.Store conn.old) }
+    requires few { length legs.now ≤ 12 }
+    ensures { Wrote (AddsOutsideSegments id.now legs.now) (state S.Store conn.old)
+        (state S.Store conn.new) result }
+{
+    for (at, times) in legs.iter().enumerate() {
+        add_outside_segment(alloc, conn, id, at, times)?;
+    }
+    Ok(())
+}
+
+/// Writes an outside period of a member, with its segments.
+#[tactic(auto, using(crate::proofs::Chaining::then_write, crate::proofs::Chaining::write_stopped, crate::proofs::FewPeriods::few_outside))]
+fn add_outside<S: Alter>(
+    alloc: Global,
+    conn: &mut Connection<S>,
+    who: &CrewId,
+    flying: &Outside,
+) -> Result<(), StoreFault>
+    requires { IsReady (state S.Store conn.old) }
+    ensures { Wrote (AddsOutside who.now flying.now) (state S.Store conn.old)
+        (state S.Store conn.new) result }
+{
+    add_outside_row(alloc, conn, who, flying)?;
+    add_outside_segments(alloc, conn, flying.id(), flying.segments())
+}
+
+/// Writes the exceedances that a change records of an outside period.
+fn record_outside_of<S: Alter>(
+    alloc: Global,
+    conn: &mut Connection<S>,
+    change: &Change,
+    id: &OutsideId,
+) -> Result<(), StoreFault>
+    requires { IsReady (state S.Store conn.old) }
+    ensures { Wrote (RecordsOutsideOf change.now id.now) (state S.Store conn.old)
+        (state S.Store conn.new) result }
+{
+    let named = DutyId::Outside(id.try_clone(alloc)?);
     let exceedances = change.reply.exceedances.as_slice();
-    record_all(alloc, conn, change.key, id, number, exceedances)
+    record_all(alloc, conn, change.key, &named, exceedances)
+}
+
+/// Writes an outside period of a member in the place of an earlier one with its id, and the exceedances of it.
+#[tactic(auto, using(crate::proofs::Chaining::then_write, crate::proofs::Chaining::write_stopped))]
+fn record_outside<S: Alter>(
+    alloc: Global,
+    conn: &mut Connection<S>,
+    change: &Change,
+    who: &CrewId,
+    flying: &Outside,
+) -> Result<(), StoreFault>
+    requires { IsReady (state S.Store conn.old) }
+    ensures { Wrote (ReplacesOutside change.now who.now flying.now) (state S.Store conn.old)
+        (state S.Store conn.new) result }
+{
+    remove_outside(conn, flying.id())?;
+    add_outside(alloc, conn, who, flying)?;
+    record_outside_of(alloc, conn, change, flying.id())
 }
 
 /// Writes what a command changes, but for its request.
@@ -481,6 +637,7 @@ pub(crate) fn write_instruction<S: Alter>(
         Instruction::AddGround(ground) => add_ground(alloc, conn, ground),
         Instruction::CancelGround(id) => remove_ground(conn, id),
         Instruction::Actual(id, actual) => fly(alloc, conn, change, id, actual),
+        Instruction::RecordOutside(who, flying) => record_outside(alloc, conn, change, who, flying),
     }
 }
 

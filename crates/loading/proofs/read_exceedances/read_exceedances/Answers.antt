@@ -13,10 +13,10 @@ returns-in_err-records-clause-read g c =
     let new = state g.S.Store c.exceedance_records.new.conn in
     let fault = c.in_err-records.field-0.0 in
     let is : c.from_residual.result ≡ Err fault = search rules in
-    subst (λ (r : Result State LoadFault). ReadsAs (Now c.args.roster old new c.requires.above) (λ f. Justifies f old.now) old new r) (sym is)
-    (not_read c.args.roster old new c.requires.above fault c.in_err-records.ensures.told c.in_err-records.ensures.caused c.exceedance_records.ensures.left)
+    subst (λ (r : Result State LoadFault). ReadsAs (Now c.args.edition c.args.roster old new c.requires.above c.requires.of) (λ f. Justifies f old.now) old new r) (sym is)
+    (not_read c.args.edition c.args.roster old new c.requires.above c.requires.of fault c.in_err-records.ensures.told c.in_err-records.ensures.caused c.exceedance_records.ensures.left)
 
 pub returns-clause-read : goal.returns-clause-read
 returns-clause-read g c =
-    is_read c.args.roster (state g.S.Store c.args.conn.now) (state g.S.Store c.exceedance_records.new.conn) c.requires.above c.in_ok-records.records.items c.deref.result.now c.add_exceedances.result c.deref.ensures.value
+    is_read c.args.edition c.args.roster (state g.S.Store c.args.conn.now) (state g.S.Store c.exceedance_records.new.conn) c.requires.above c.requires.of c.in_ok-records.records.items c.deref.result.now c.add_exceedances.result c.deref.ensures.value
     c.in_ok-records.ensures.told c.exceedance_records.ensures.left c.add_exceedances.ensures

@@ -5,13 +5,13 @@ use Rattle.std.proofs.lemmas.Iterator.Consumers.{YieldsList-from_rest}
 use Rattle.std.proofs.lemmas.Iterator.Search.{all_from_yields_List}
 use Rattle.command.specs.Keys.{key_name}
 use Rattle.roster.specs.declared.state.ExceedanceId.{ExceedanceId}
-use Rattle.roster.specs.declared.state.PeriodId.{PeriodId}
+use Rattle.roster.specs.declared.state.DutyId.{DutyId}
 use Rattle.loading.proofs.ReadRequests.{held_if}
 use Rattle.loading.proofs.read_requests.are_held.Goals as goal
 
 pub returns : goal.returns
 returns c =
     let s = c.args.roster.now in
-    let all_is : c.all.result ≡ list_all (λ (x : ExceedanceId × PeriodId). fin.contains_key s.requests (key_name x.0.key)) c.iter.result =
-    all_from_yields_List (λ (x : ExceedanceId × PeriodId). fin.contains_key s.requests (key_name x.0.key)) _ _ _ c.all.ensures.ran (YieldsList-from_rest c.iter.result refl) (λ x b q k. search (rules, tests)) in
+    let all_is : c.all.result ≡ list_all (λ (x : ExceedanceId × DutyId). fin.contains_key s.requests (key_name x.0.key)) c.iter.result =
+    all_from_yields_List (λ (x : ExceedanceId × DutyId). fin.contains_key s.requests (key_name x.0.key)) _ _ _ c.all.ensures.ran (YieldsList-from_rest c.iter.result refl) (λ x b q k. search (rules, tests)) in
     held_if s c.iter.result c.iter.ensures c.all.result all_is

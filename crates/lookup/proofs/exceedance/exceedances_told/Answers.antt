@@ -1,7 +1,7 @@
 use Rattle.std.proofs.Common.{◌≡◌, rules, refl, subst, sym, arith, length, map, ℕ, Result, Err, IfErr}
 use Rattle.std.specs.FinMap as fin
 use Rattle.values.specs.Name.{name_cmp}
-use Rattle.roster.specs.declared.state.PeriodId.{PeriodId}
+use Rattle.roster.specs.declared.state.DutyId.{DutyId}
 use Rattle.tables.specs.Records.{exceedance_row}
 use Rattle.state_rows.specs.declared.fault.StoreFault.{StoreFault}
 use Rattle.state_rows.specs.declared.fault.StoreFault.TheVariants.{Store}
@@ -17,7 +17,7 @@ loop-row-init c = none_read c.args.records.now c.new-all.result c.new-all.ensure
 pub loop-row-preserved : goal.loop-row-preserved
 loop-row-preserved c =
     one_read c.args.records.now c.loop-row.row-index c.row-item.result
-    (slice_get_read c.args.records.now (length c.args.records.now) c.loop-row.row-index c.row-item.result refl (omega arith) c.row-item.is) c.loop-row.all c.insert.new.self c.in_ok-id.id c.in_ok-id.period (search rules) (search rules) c.loop-row.invariant
+    (slice_get_read c.args.records.now (length c.args.records.now) c.loop-row.row-index c.row-item.result refl (omega arith) c.row-item.is) c.loop-row.all c.insert.new.self c.in_ok-id.id c.in_ok-id.named (search rules) (search rules) c.loop-row.invariant
 
 pub returns-clause-told : goal.returns-clause-told
 returns-clause-told c = subst (λ (n : ℕ). AreRead c.args.records.now n c.loop-row.all) (search rules) c.loop-row.invariant
@@ -27,5 +27,5 @@ returns-in_err-id-clause-unread c =
     let records = c.args.records.now in
     let fault = c.in_err-id.field-0.0 in
     let is : c.from_residual.result ≡ Err fault = search rules in
-    subst (λ (r : Result (fin.FinMap name_cmp PeriodId) StoreFault). IfErr r (λ told. told ≡ Store → HasStranger row_of_recorded IsNumbered (map exceedance_row records))) (sym is)
+    subst (λ (r : Result (fin.FinMap name_cmp DutyId) StoreFault). IfErr r (λ told. told ≡ Store → HasStranger row_of_recorded IsNumbered (map exceedance_row records))) (sym is)
     (λ store. stranger_at records c.loop-row.row-index c.row-item.result (slice_get_read records (length records) c.loop-row.row-index c.row-item.result refl (omega arith) c.row-item.is) (c.in_err-id.ensures.unread store))
