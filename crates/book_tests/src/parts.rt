@@ -26,7 +26,7 @@ const PLANS: [(&str, [&str; 4]); 6] = [
 ];
 
 /// What is asked after the pairings are added, each of it accepted. P13A is flown eleven hours late.
-const FILLED: [&str; 14] = [
+const FILLED: [&str; 16] = [
     "{\"crew\":\"C1\",\"do\":\"add-crew\",\"name\":\"Ada Ray\",\"seat\":\"captain\"}",
     "{\"crew\":\"C2\",\"do\":\"add-crew\",\"name\":\"Bo Lind\",\"seat\":\"captain\"}",
     "{\"crew\":\"F1\",\"do\":\"add-crew\",\"name\":\"Zoë Roy\",\"seat\":\"first officer\"}",
@@ -42,6 +42,10 @@ const FILLED: [&str; 14] = [
         {\"in\":\"2025-06-11T07:00Z\",\"out\":\"2025-06-10T23:00Z\"}]}",
     DENVER,
     AT_DENVER,
+    "{\"crew\":\"C1\",\"do\":\"record-outside\",\"outside\":\"X1\",\"release\":\"2025-06-25T12:00Z\",\"report\":\"2025-06-25T08:00Z\",\"segments\":[\
+        {\"in\":\"2025-06-25T11:00Z\",\"out\":\"2025-06-25T09:00Z\"}]}",
+    "{\"crew\":\"C2\",\"do\":\"record-outside\",\"outside\":\"X2\",\"release\":\"2025-06-26T12:00Z\",\"report\":\"2025-06-26T08:00Z\",\"segments\":[\
+        {\"in\":\"2025-06-26T11:00Z\",\"out\":\"2025-06-26T09:00Z\"}]}",
 ];
 
 /// Fails unless a command is accepted.
@@ -86,12 +90,13 @@ fn add_ids<T, V>(table: &OrdMap<Id<T>, V>, text: &mut String) -> Result<(), Unto
     Ok(())
 }
 
-/// The ids of its pairings, members and ground duties, and how many exceedances and requests it has.
+/// The ids of its pairings, members, ground duties and outside periods, and how many exceedances and requests it has.
 fn told(alloc: Global, part: &Roster) -> Result<String, Untold> {
     let mut text = String::new(alloc);
     add_ids(&part.pairings, &mut text)?;
     add_ids(&part.crew, &mut text)?;
     add_ids(&part.grounds, &mut text)?;
+    add_ids(&part.outsides, &mut text)?;
     let counts = format!(in alloc; "{} {}\n", part.exceedances.len(), part.requests.len())?;
     text.push_str(counts.as_str())?;
     Ok(text)
@@ -127,8 +132,9 @@ fn add_part<S: Alter>(
     Ok(())
 }
 
-/// A command of each kind, and then one whose key is held; and more of bases, one of which D1 belongs to.
-const ASKED: [(u8, &str); 16] = [
+/// A command of each kind, and then one whose key is held; more of bases, one of which D1 belongs to; and outside periods: a new one,
+/// one of another member, and one that is replaced.
+const ASKED: [(u8, &str); 19] = [
     (
         31,
         "{\"crew\":\"C1\",\"do\":\"assign\",\"pairing\":\"P92\"}",
@@ -170,6 +176,21 @@ const ASKED: [(u8, &str); 16] = [
         31,
         "{\"crew\":\"D1\",\"do\":\"assign\",\"pairing\":\"P92\"}",
     ),
+    (
+        31,
+        "{\"crew\":\"F1\",\"do\":\"record-outside\",\"outside\":\"X9\",\"release\":\"2025-06-10T12:00Z\",\"report\":\"2025-06-10T08:00Z\",\"segments\":[\
+        {\"in\":\"2025-06-10T11:00Z\",\"out\":\"2025-06-10T09:00Z\"}]}",
+    ),
+    (
+        31,
+        "{\"crew\":\"C1\",\"do\":\"record-outside\",\"outside\":\"X2\",\"release\":\"2025-06-10T12:00Z\",\"report\":\"2025-06-10T08:00Z\",\"segments\":[\
+        {\"in\":\"2025-06-10T11:00Z\",\"out\":\"2025-06-10T09:00Z\"}]}",
+    ),
+    (
+        31,
+        "{\"crew\":\"C1\",\"do\":\"record-outside\",\"outside\":\"X1\",\"release\":\"2025-06-10T12:00Z\",\"report\":\"2025-06-10T08:00Z\",\"segments\":[\
+        {\"in\":\"2025-06-10T11:00Z\",\"out\":\"2025-06-10T09:00Z\"}]}",
+    ),
 ];
 
 /// What is told of the parts of these commands, and of that of one that adds P7.
@@ -208,24 +229,27 @@ fn told_of_parts(alloc: Global) -> Result<String, Untold> {
     told_over(alloc, book.into_connection())
 }
 
-/// The pairings, the members and the ground duties of each part, and its exceedances and requests.
-const TOLD: &str = "P13A P13B P7 P8 P92 | C1 F1 | G1 | 0 0\n\
-    | | | 0 0\n\
-    P92 | | | 0 0\n\
-    | | | 0 0\n\
-    P91 | C2 | | 0 0\n\
-    P13A P13B P7 P8 P91 | C1 C2 F1 | G1 G2 | 0 0\n\
-    P13A | C1 C2 F1 | G2 | 0 0\n\
-    | C1 | G1 | 0 0\n\
-    P13A P13B P7 P8 | C1 F1 | G1 | 0 0\n\
-    P13A P13B P7 P8 | C1 F1 | G1 | 0 1\n\
-    | C2 | G2 | 0 1\n\
-    | | | 0 0\n\
-    | | | 0 0\n\
-    | D1 | | 0 0\n\
-    | | | 0 0\n\
-    P92 | D1 | | 0 0\n\
-    P7 | C1 | | 0 0\n";
+/// The pairings, the members, the ground duties and the outside periods of each part, and its exceedances and requests.
+const TOLD: &str = "P13A P13B P7 P8 P92 | C1 F1 | G1 | X1 | 0 0\n\
+    | | | | 0 0\n\
+    P92 | | | | 0 0\n\
+    | | | | 0 0\n\
+    P91 | C2 | | | 0 0\n\
+    P13A P13B P7 P8 P91 | C1 C2 F1 | G1 G2 | X1 X2 | 0 0\n\
+    P13A | C1 C2 F1 | G2 | | 0 0\n\
+    | C1 | G1 | | 0 0\n\
+    P13A P13B P7 P8 | C1 F1 | G1 | X1 | 0 0\n\
+    P13A P13B P7 P8 | C1 F1 | G1 | X1 | 0 1\n\
+    | C2 | G2 | | 0 1\n\
+    | | | | 0 0\n\
+    | | | | 0 0\n\
+    | D1 | | | 0 0\n\
+    | | | | 0 0\n\
+    P92 | D1 | | | 0 0\n\
+    P13A | C1 F1 | | | 0 0\n\
+    P13A P13B P7 P8 | C1 C2 F1 | G1 | X1 X2 | 0 0\n\
+    P13A P13B P7 P8 | C1 F1 | G1 | X1 | 0 0\n\
+    P7 | C1 | | | 0 0\n";
 
 #[test]
 fn parts_answer_as_the_roster(rt: HostRuntime) -> Result<(), Fail> {

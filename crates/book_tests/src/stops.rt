@@ -8,7 +8,7 @@ pub mod states;
 
 use crate::stops::disk::{Left, Stopped, Stops, limited, restarted, taking};
 use crate::stops::run::{Again, Asking, HandedInAgain, Lowering, Reached, Taken, TakingUp, opened};
-use crate::stops::states::{COMMANDS, first, states};
+use crate::stops::states::{COMMANDS, FIRST, first, states};
 use sqlite::Files;
 use sqlite_disk::{Fuse, Memory};
 use std::alloc::Global;
@@ -133,7 +133,7 @@ fn is_in_first(first: &str, states: &[String], again: Option<Again>) -> Result<b
     };
     let held = held?;
     let is_in_first = held.as_str() == first;
-    if !is_in_first && !is_left(held.as_str(), states, COMMANDS.saturating_add(1), true) {
+    if !is_in_first && !is_left(held.as_str(), states, FIRST.saturating_add(1), true) {
         return Err(Fail::from("what no stop may leave"));
     }
     ends_as_always(states, is_answered, ended?.as_str())?;

@@ -57,7 +57,7 @@ fn insert(rt: HostRuntime) -> Result<(), Fail> {
 fn step(rt: HostRuntime) -> Result<(), Fail> {
     assert_eq!(rt;
         text_of(&rt, Part::Step)?.as_str(),
-        "++++++++++++++++++++== 1 2 12 11 20 21"
+        "+++++++++++++++++++++== 1 2 12 11 20 21 22"
     );
     Ok(())
 }
@@ -66,20 +66,21 @@ fn step(rt: HostRuntime) -> Result<(), Fail> {
 fn put(rt: HostRuntime) -> Result<(), Fail> {
     assert_eq!(rt;
         text_of(&rt, Part::Put)?.as_str(),
-        "4 members, each with its base, 3 pairings, 1 ground duty, 4 exceedances, 20 requests"
+        "4 members, each with its base, 3 pairings, 1 ground duty, 1 outside period, 5 exceedances, 21 requests"
     );
     Ok(())
 }
 
 #[test]
 fn canonical(rt: HostRuntime) -> Result<(), Fail> {
-    assert_eq!(rt; text_of(&rt, Part::Canonical)?.as_str(), "28 texts");
+    assert_eq!(rt; text_of(&rt, Part::Canonical)?.as_str(), "30 texts");
     Ok(())
 }
 
 const REPORTS: &str = "\
 ROSTER C1 captain Ada Ray
 2025-06-12T11:00Z 2025-06-12T20:00Z pairing P2/1 plan fdp 8:30 flight 7:30
+2025-06-13T04:00Z 2025-06-13T07:30Z outside X1 fdp 3:00 flight 2:00
 2025-06-20T12:00Z 2025-06-20T20:00Z ground G1 Simulator
 ROSTER C2 captain Bo Lind
 2025-06-10T11:00Z 2025-06-11T07:30Z pairing P1/1 actual fdp 20:00 flight 10:00
@@ -103,11 +104,12 @@ captain -
 first officer -
 1 plan report 2025-06-11T12:00Z release 2025-06-11T15:30Z
 1.1 RB1 BOS 2025-06-11T13:00Z IAD 2025-06-11T15:00Z
-EXCEEDANCES 4
+EXCEEDANCES 5
 18 C2 117.11(a)(1) P1/1
 18 C2 117.13(a) P1/1
 18 F1 117.11(a)(1) P1/1
 18 F1 117.13(a) P1/1
+21 C1 117.25(e) outside X1
 ";
 
 #[test]

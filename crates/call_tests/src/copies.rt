@@ -89,7 +89,7 @@ fn verdicts_are_copied(rt: HostRuntime) -> Result<(), Fail> {
     let played = asked_all(rt.alloc())?;
     assert_eq!(rt;
         told(rt.alloc(), &played.verdicts)?.as_str(),
-        "++++++++++++++++++++++== 1 2 3 4 5 6 7 8 9 10 11 12 13 14 15 19 20 21, copied"
+        "+++++++++++++++++++++++== 1 2 3 4 5 6 7 8 9 10 11 12 13 14 15 19 20 21 22, copied"
     );
     Ok(())
 }
@@ -97,14 +97,14 @@ fn verdicts_are_copied(rt: HostRuntime) -> Result<(), Fail> {
 #[test]
 fn entries_are_copied(rt: HostRuntime) -> Result<(), Fail> {
     let played = asked_all(rt.alloc())?;
-    assert_eq!(rt; copied_entries(rt.alloc(), &played.roster)?, 37);
+    assert_eq!(rt; copied_entries(rt.alloc(), &played.roster)?, 40);
     Ok(())
 }
 
 #[test]
 fn duties_and_histories_are_copied(rt: HostRuntime) -> Result<(), Fail> {
     let played = asked_all(rt.alloc())?;
-    assert_eq!(rt; copied_duties(rt.alloc(), &played.roster)?, 5);
+    assert_eq!(rt; copied_duties(rt.alloc(), &played.roster)?, 6);
     Ok(())
 }
 

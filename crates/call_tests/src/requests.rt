@@ -62,13 +62,23 @@ pub const LATE: &str = "{\"do\":\"actual\",\"pairing\":\"P1\",\"period\":1,\
     {\"in\":\"2025-06-10T14:00Z\",\"out\":\"2025-06-10T12:00Z\"},\
     {\"in\":\"2025-06-11T07:00Z\",\"out\":\"2025-06-10T23:00Z\"}]}";
 
+/// C1 flies for another certificate holder on 13 June 2025, eight hours after the release from P2.
+pub const ELSEWHERE: &str = "{\"crew\":\"C1\",\"do\":\"record-outside\",\"outside\":\"X1\",\
+    \"release\":\"2025-06-13T07:30Z\",\"report\":\"2025-06-13T04:00Z\",\"segments\":[\
+    {\"in\":\"2025-06-13T07:00Z\",\"out\":\"2025-06-13T05:00Z\"}]}";
+
+/// The same period is recorded of C2.
+pub const ELSEWHERE_OF_C2: &str = "{\"crew\":\"C2\",\"do\":\"record-outside\",\"outside\":\"X1\",\
+    \"release\":\"2025-06-13T07:30Z\",\"report\":\"2025-06-13T04:00Z\",\"segments\":[\
+    {\"in\":\"2025-06-13T07:00Z\",\"out\":\"2025-06-13T05:00Z\"}]}";
+
 /// A request's number, and the text of its command.
 pub type Line = (u8, &'static str);
 
-/// What a new roster is asked. It accepts commands of all ten kinds, of which C1 and C2 exchange their pairings before P1 is flown;
-/// repeats two of its replies; and then refuses: a number is held, a member isn't there, would have too little rest, and has a duty
-/// at that time; a base isn't there, and one is.
-pub const REQUESTS: [Line; 28] = [
+/// What a new roster is asked. It accepts commands of all eleven kinds, of which C1 and C2 exchange their pairings before P1 is
+/// flown; repeats two of its replies; and then refuses: a number is held, a member isn't there, would have too little rest, and has a
+/// duty at that time; a base isn't there, and one is; and an outside period is another member's.
+pub const REQUESTS: [Line; 30] = [
     (1, CAPTAIN),
     (2, OFFICER),
     (3, OTHER_CAPTAIN),
@@ -92,6 +102,7 @@ pub const REQUESTS: [Line; 28] = [
     (18, LATE),
     (19, DENVER),
     (20, AT_DENVER),
+    (21, ELSEWHERE),
     (11, TAKE),
     (18, LATE),
     (11, RELEASE),
@@ -100,6 +111,7 @@ pub const REQUESTS: [Line; 28] = [
     (30, G1),
     (30, AT_NO_BASE),
     (30, DENVER),
+    (30, ELSEWHERE_OF_C2),
 ];
 
 /// Three pairings and two ground duties, none at the time of another.

@@ -1,8 +1,8 @@
 //! The rows of a roster's tables, each as an entry.
 
 use command::{Key, Member};
-use duty::{CrewId, Ground, GroundId, PairingId};
-use roster::{Entry, ExceedanceId, LoggedCommand, PairingEntry, PeriodId};
+use duty::{CrewId, Ground, GroundId, OutsideId, PairingId};
+use roster::{DutyId, Entry, ExceedanceId, LoggedCommand, OutsideEntry, PairingEntry};
 use values::{OrdKey, TryClone};
 
 /// What a table of a roster is keyed by.
@@ -38,10 +38,18 @@ impl Row for GroundId {
     }
 }
 
-impl Row for ExceedanceId {
-    type Value = PeriodId;
+impl Row for OutsideId {
+    type Value = OutsideEntry;
 
-    fn entry(self, value: PeriodId) -> Entry {
+    fn entry(self, value: OutsideEntry) -> Entry {
+        Entry::Outside(value)
+    }
+}
+
+impl Row for ExceedanceId {
+    type Value = DutyId;
+
+    fn entry(self, value: DutyId) -> Entry {
         Entry::Exceedance(self, value)
     }
 }

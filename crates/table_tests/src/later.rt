@@ -1,5 +1,4 @@
-//! Calls on the tables of bases and of members' bases, and those on the tables of outside periods, which no command makes yet: each record
-//! that they find is told as a line.
+//! Calls on the tables of bases, of members' bases and of outside periods: each record that they find is told as a line.
 
 use crate::fault::Untold;
 use crate::keyed::{Told, in_order, look};

@@ -4,7 +4,7 @@ use crate::contents::told;
 use crate::fault::Untold;
 use crate::opening::create;
 use crate::requests::{CAPTAIN, requests};
-use crate::stops::states::{ANSWERS, COMMANDS, IMPORT, asked, is_part, pairings};
+use crate::stops::states::{ANSWERS, COMMANDS, FIRST, IMPORT, asked, is_part, pairings};
 use book::{Answer, Book, Import, LoadFault, Run, Show};
 use duty::{CrewId, PairingId};
 use sqlite::{Alter, Connection, Files, Options};
@@ -220,7 +220,7 @@ const LOWERED: &str =
     "DROP TABLE base; DROP TABLE crew_base; DROP TABLE outside; DROP TABLE outside_segment; \
     UPDATE book SET version = 1";
 
-/// Makes a book, asks it all commands, and leaves it in version 1.
+/// Makes a book, asks it the commands that a book of version 1 can keep, and leaves it in version 1.
 #[derive(Clone, Copy)]
 pub struct Lowering;
 
@@ -231,7 +231,7 @@ impl Act for Lowering {
     fn act<S: Alter + Drop>(self, alloc: Global, conn: Connection<S>) -> (bool, Connection<S>) {
         match create(alloc, conn) {
             Ok(mut book) => {
-                let is_answered = answers_all(alloc, &mut book);
+                let is_answered = answers_first(alloc, &mut book, FIRST);
                 let mut conn = book.into_connection();
                 (is_answered && conn.execute_batch(LOWERED).is_ok(), conn)
             }
@@ -255,9 +255,9 @@ pub struct Again {
 #[derive(Clone, Copy)]
 pub struct HandedInAgain;
 
-/// Whether all commands are answered as always.
-fn answers_all<S: Alter>(alloc: Global, book: &mut Book<S>) -> bool {
-    matches!(play(alloc, book, COMMANDS), Ok((COMMANDS, Heard::AsAlways)))
+/// Whether the first commands, so many, are answered as always.
+fn answers_first<S: Alter>(alloc: Global, book: &mut Book<S>, count: usize) -> bool {
+    matches!(play(alloc, book, count), Ok((_, Heard::AsAlways)))
 }
 
 impl Act for HandedInAgain {
@@ -270,7 +270,10 @@ impl Act for HandedInAgain {
     ) -> (Again, Connection<S>) {
         let held = told(alloc, &mut conn);
         let (is_answered, mut conn) = match there(alloc, conn) {
-            Ok(mut book) => (answers_all(alloc, &mut book), book.into_connection()),
+            Ok(mut book) => (
+                answers_first(alloc, &mut book, COMMANDS),
+                book.into_connection(),
+            ),
             Err(conn) => (false, conn),
         };
         let ended = told(alloc, &mut conn);

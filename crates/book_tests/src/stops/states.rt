@@ -1,4 +1,4 @@
-//! Nine commands, three of them the parts of an import, and the rows of the book after each of them. Times are in minutes since
+//! Eleven commands, three of them the parts of an import, and the rows of the book after each of them. Times are in minutes since
 //! 2000-01-01T00:00Z.
 
 use crate::contents::sorted;
@@ -11,7 +11,10 @@ use stored_json::read_canonical;
 use values::TryClone;
 
 /// How many commands there are.
-pub const COMMANDS: usize = 9;
+pub const COMMANDS: usize = 11;
+
+/// How many of them a book of version 1 can keep: the later ones are of an outside period.
+pub const FIRST: usize = 9;
 
 /// Where its parts begin among them, and where they have ended.
 const PARTS: [usize; 2] = [2, 5];
@@ -28,8 +31,19 @@ const FLOWN: &str =
     "{\"do\":\"actual\",\"pairing\":\"P10\",\"period\":1,\"release\":\"2025-06-11T07:30Z\",\
     \"report\":\"2025-06-10T11:00Z\",\"segments\":[{\"in\":\"2025-06-11T07:00Z\",\"out\":\"2025-06-10T23:00Z\"}]}";
 
+/// C1 flies for another certificate holder, four and a half hours after the release from P10.
+const ELSEWHERE: &str =
+    "{\"crew\":\"C1\",\"do\":\"record-outside\",\"outside\":\"X1\",\"release\":\"2025-06-11T15:30Z\",\
+    \"report\":\"2025-06-11T12:00Z\",\"segments\":[{\"in\":\"2025-06-11T15:00Z\",\"out\":\"2025-06-11T13:00Z\"}]}";
+
+/// It was two days later, and of two flights.
+const LATER: &str =
+    "{\"crew\":\"C1\",\"do\":\"record-outside\",\"outside\":\"X1\",\"release\":\"2025-06-13T16:30Z\",\
+    \"report\":\"2025-06-13T12:00Z\",\"segments\":[{\"in\":\"2025-06-13T14:00Z\",\"out\":\"2025-06-13T13:00Z\"},\
+    {\"in\":\"2025-06-13T16:00Z\",\"out\":\"2025-06-13T15:00Z\"}]}";
+
 /// The refusal of each command, or 0 where it is accepted: the second part of the import names a pairing that is there.
-pub const ANSWERS: [u8; COMMANDS] = [0, 0, 0, 5, 0, 0, 0, 0, 0];
+pub const ANSWERS: [u8; COMMANDS] = [0, 0, 0, 5, 0, 0, 0, 0, 0, 0, 0];
 
 /// A pairing of one flight, from 11:00 to 20:00 of a day of June 2025, with the first minute of that day.
 #[derive(Clone, Copy)]
@@ -103,6 +117,8 @@ fn numbered(alloc: Global, at: usize) -> Result<(u8, String), Untold> {
         6 => (4, OFFICER),
         7 => (5, JOINED),
         8 => (6, FLOWN),
+        9 => (7, ELSEWHERE),
+        10 => (8, LATER),
         _ => return Ok((2, plan(alloc, P20.id, P20.times)?)),
     };
     Ok((number, String::from_str(alloc, text)?))
@@ -173,7 +189,7 @@ struct Kept {
     exceedances: &'static str,
 }
 
-const KEPT: [Kept; 5] = [
+const KEPT: [Kept; 7] = [
     Kept {
         command: 1,
         rows: &["crew C1|0|Ada Ray", "crew_base C1|HOME"],
@@ -209,6 +225,39 @@ const KEPT: [Kept; 5] = [
         text: FLOWN,
         exceedances: EXCEEDANCES,
     },
+    Kept {
+        command: 10,
+        rows: &["exceedance 7|0|C1|8|X1|0"],
+        key: "7|0",
+        text: ELSEWHERE,
+        exceedances: "{\"crew\":\"C1\",\"section\":\"117.25(e)\"}",
+    },
+    Kept {
+        command: 11,
+        rows: &[],
+        key: "8|0",
+        text: LATER,
+        exceedances: "",
+    },
+];
+
+/// The rows of X1 after this many commands, the second in place of the first.
+const OUTSIDE: [(usize, &[&str]); 2] = [
+    (
+        10,
+        &[
+            "outside X1|C1|13382640|13382850",
+            "outside_segment X1|1|13382700|13382820",
+        ],
+    ),
+    (
+        11,
+        &[
+            "outside X1|C1|13385520|13385790",
+            "outside_segment X1|1|13385580|13385640",
+            "outside_segment X1|2|13385700|13385760",
+        ],
+    ),
 ];
 
 /// The pairings that are added, each by this command and under this key.
@@ -220,16 +269,22 @@ fn add(alloc: Global, row: &str, lines: &mut Vec<String>) -> Result<(), Untold> 
     Ok(())
 }
 
-/// Adds the rows of a command that adds no pairing.
-fn add_kept(alloc: Global, kept: &Kept, lines: &mut Vec<String>) -> Result<(), Untold> {
-    for row in kept.rows {
+/// Adds rows.
+fn add_each(alloc: Global, rows: &[&str], lines: &mut Vec<String>) -> Result<(), Untold> {
+    for row in rows {
         add(alloc, row, lines)?;
     }
+    Ok(())
+}
+
+/// Adds the rows of a command that adds no pairing.
+fn add_kept(alloc: Global, kept: &Kept, lines: &mut Vec<String>) -> Result<(), Untold> {
+    add_each(alloc, kept.rows, lines)?;
     lines.push(request_row(alloc, kept.key, kept.text, kept.exceedances)?)?;
     Ok(())
 }
 
-/// Adds the rows of a pairing after so many commands. The last one tells how P10 was flown.
+/// Adds the rows of a pairing after so many commands. The ninth tells how P10 was flown.
 fn add_planned(
     alloc: Global,
     planned: &Planned,
@@ -237,7 +292,7 @@ fn add_planned(
     count: usize,
     lines: &mut Vec<String>,
 ) -> Result<(), Untold> {
-    let is_flown = planned.day == P10.day && count == COMMANDS;
+    let is_flown = planned.day == P10.day && count >= 9;
     add_times(alloc, planned, if is_flown { LATE } else { PLANNED }, lines)?;
     add_pairing(alloc, planned, key, lines)
 }
@@ -254,6 +309,11 @@ fn add_rows(alloc: Global, count: usize, lines: &mut Vec<String>) -> Result<(), 
     for (command, planned, key) in ADDED {
         if command <= count {
             add_planned(alloc, &planned, key, count, lines)?;
+        }
+    }
+    for (command, rows) in OUTSIDE {
+        if command == count {
+            add_each(alloc, rows, lines)?;
         }
     }
     Ok(())
@@ -281,10 +341,10 @@ fn is_later(row: &str) -> bool {
     row.starts_with("book ") || row.starts_with("base ") || row.starts_with("crew_base ")
 }
 
-/// The rows after all commands in a book of version 1.
+/// The rows in a book of version 1 after the commands that it can keep.
 pub fn first(alloc: Global) -> Result<String, Untold> {
     let mut later = Vec::new(alloc);
-    add_rows(alloc, COMMANDS, &mut later)?;
+    add_rows(alloc, FIRST, &mut later)?;
     let mut lines = Vec::new(alloc);
     add(alloc, "book 1|1|EST5EDT,M3.2.0,M11.1.0", &mut lines)?;
     for line in later {

@@ -74,13 +74,14 @@ fn put_all(
     set_bases(alloc, told, roster, other, source)?;
     let pairings = set_all(alloc, told, roster, other, &source.pairings)?;
     let grounds = set_all(alloc, told, roster, other, &source.grounds)?;
+    let outsides = set_all(alloc, told, roster, other, &source.outsides)?;
     let exceedances = set_all(alloc, told, roster, other, &source.exceedances)?;
     let requests = set_all(alloc, told, roster, other, &source.requests)?;
     if !are_rosters_same(roster, source) {
         return Err(Fault::Otherwise);
     }
     Ok(format!(in alloc;
-        "{crew} members, each with its base, {pairings} pairings, {grounds} ground duty, {exceedances} exceedances, {requests} requests"
+        "{crew} members, each with its base, {pairings} pairings, {grounds} ground duty, {outsides} outside period, {exceedances} exceedances, {requests} requests"
     )?)
 }
 

@@ -37,6 +37,7 @@ pub fn are_rosters_same(one: &Roster, other: &Roster) -> bool {
         && are_tables_same(&one.crew, &other.crew)
         && are_tables_same(&one.pairings, &other.pairings)
         && are_tables_same(&one.grounds, &other.grounds)
+        && are_tables_same(&one.outsides, &other.outsides)
         && are_tables_same(&one.exceedances, &other.exceedances)
         && are_tables_same(&one.requests, &other.requests)
 }

@@ -32,7 +32,7 @@ fn is_kept_text(
     Ok(text.as_str() == kept)
 }
 
-/// Writes commands of all ten kinds.
+/// Writes commands of all eleven kinds.
 pub fn canonical(alloc: Global, told: &mut Told) -> Result<String, Fault> {
     let requests = requests(alloc, &REQUESTS)?;
     for ((_key, command), (_number, kept)) in requests.iter().zip(REQUESTS.iter()) {

@@ -40,12 +40,13 @@ pub fn entries(alloc: Global, roster: &Roster) -> Result<Vec<Entry>, Fail> {
     add_all(alloc, &roster.crew, &mut entries)?;
     add_all(alloc, &roster.pairings, &mut entries)?;
     add_all(alloc, &roster.grounds, &mut entries)?;
+    add_all(alloc, &roster.outsides, &mut entries)?;
     add_all(alloc, &roster.exceedances, &mut entries)?;
     add_all(alloc, &roster.requests, &mut entries)?;
     Ok(entries)
 }
 
-/// The duty of an entry, where it is one: the first period of a pairing, or a ground duty.
+/// The duty of an entry, where it is one: the first period of a pairing, a ground duty, or an outside period.
 fn duty_of(alloc: Global, entry: &Entry) -> Result<Option<Duty>, Fail> {
     match entry {
         Entry::Pairing(rostered) => match rostered.plan.periods().first() {
@@ -53,6 +54,7 @@ fn duty_of(alloc: Global, entry: &Entry) -> Result<Option<Duty>, Fail> {
             None => Ok(None),
         },
         Entry::Ground(ground) => Ok(Some(Duty::Ground(ground.try_clone(alloc)?))),
+        Entry::Outside(outside) => Ok(Some(Duty::Outside(outside.period.try_clone(alloc)?))),
         _ => Ok(None),
     }
 }

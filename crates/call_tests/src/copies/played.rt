@@ -3,8 +3,8 @@
 ghost use Rattle.roster.specs.Steps.{IsUnderFreeKey};
 
 use crate::requests::{
-    AT_DENVER, AT_NO_BASE, CANCEL, CAPTAIN, DENVER, G1, G2, LATE, Line, OFFICER, OTHER_CAPTAIN, P1,
-    P2, P3, RELEASE, TAKE, TAKE_RIGHT, eastern, key,
+    AT_DENVER, AT_NO_BASE, CANCEL, CAPTAIN, DENVER, ELSEWHERE, ELSEWHERE_OF_C2, G1, G2, LATE, Line,
+    OFFICER, OTHER_CAPTAIN, P1, P2, P3, RELEASE, TAKE, TAKE_RIGHT, eastern, key,
 };
 use command::{Command, Key};
 use roster::{Roster, Verdict};
@@ -12,8 +12,8 @@ use std::alloc::Global;
 use std::test::Fail;
 use stored_json::read_canonical;
 
-/// Commands of all ten kinds, each under a number of its own.
-const ACCEPTED: [Line; 22] = [
+/// Commands of all eleven kinds, each under a number of its own.
+const ACCEPTED: [Line; 23] = [
     (1, CAPTAIN),
     (2, OTHER_CAPTAIN),
     (3, OFFICER),
@@ -42,10 +42,11 @@ const ACCEPTED: [Line; 22] = [
     (20, LATE),
     (21, DENVER),
     (22, AT_DENVER),
+    (23, ELSEWHERE),
 ];
 
 /// One for each refusal of the book, in the order of their numbers.
-const REFUSED: [Line; 18] = [
+const REFUSED: [Line; 19] = [
     (1, RELEASE),
     (30, "{\"do\":\"assign\",\"pairing\":\"P3\",\"crew\":\"C9\"}"),
     (30, CAPTAIN),
@@ -84,6 +85,7 @@ const REFUSED: [Line; 18] = [
     ),
     (30, AT_NO_BASE),
     (30, DENVER),
+    (30, ELSEWHERE_OF_C2),
 ];
 
 /// A roster that was asked all requests, and its verdicts in turn.
