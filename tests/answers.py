@@ -13,6 +13,8 @@ a command, as tests/office.py has it, or a look into the tables of the book:
     members -> C1 HOME              each member with the base to which the member belongs
     exceedances -> none             each exceedance that is kept
     planned P1 10: .. -> yes        whether the pairing is kept with these periods alone
+    outsides -> X1 C1               each outside period with the member who flew it
+    recorded X1 C1 10: .. -> yes    whether the outside period is kept with this member and these times alone
 
 Of a page that begins with the line `import` all others are pairings of one schedule. What differs is told on standard error.
 The last line is 'N passed, M failed', and the exit status 1 where M isn't 0.
@@ -484,6 +486,208 @@ BASES = {
     """],
 }  # fmt: skip
 
+# ---- What a member flies for another certificate holder: it counts in all limits but those of the tables.
+
+
+def flown_elsewhere(page):
+    """The page with each pairing that is planned and then assigned flown for another certificate holder."""
+    lines = [line.split(maxsplit=2) for line in page.strip().split("\n")]
+    plans = {words[1]: words[2] for words in lines if words[0] == "plan"}
+    made = [f"outside {words[1]} {words[2]} {plans[words[1]]}" if words[0] == "assign" else " ".join(words) for words in lines]
+    return "\n".join(line for line in made if not line.startswith("plan"))
+
+
+HELD_ELSEWHERE = """
+    outside X2 C1 10: 11:00 | 12:00-19:30 | 20:00
+"""
+
+# On C1's five days of flight duty, 3,600 minutes in a week, a minute more is recorded.
+A_MINUTE_TOO_MUCH = """
+    114 outside X1 C1 11: 12:00 | 12:00-12:01 | 12:01 -> accepted C1 117.23(c)(1)
+"""
+
+OUTSIDE = {
+    "ten_hours_of_rest_are_needed_after_outside_flying": [HELD_ELSEWHERE, """
+        plan P803 11: 05:59 | 07:00-09:00 | 09:30
+        1 assign P803 C1 -> 12 Limits C1 117.25(e)
+        plan P802 11: 06:00 | 07:00-09:00 | 09:30
+        2 assign P802 C1 -> accepted
+    """],
+    "ten_hours_of_rest_are_needed_before_outside_flying": ["""
+        outside X1 C1 11: 06:00 | 07:00-09:00 | 09:30
+        plan P1 10: 11:00 | 12:00-19:30 | 20:01
+        1 assign P1 C1 -> 12 Limits C1 117.25(e)
+        plan P2 10: 11:00 | 12:00-19:30 | 20:00
+        2 assign P2 C1 -> accepted
+    """],
+    "a_minute_of_outside_flying_too_much_is_recorded": [FIVE_DAYS_OF_FLIGHT_DUTY, A_MINUTE_TOO_MUCH, """
+        exceedances -> 114 0 C1 117.23(c)(1) X1 0
+        outsides -> X1 C1
+        recorded X1 C1 11: 12:00 | 12:00-12:01 | 12:01 -> yes
+        114 outside X1 C1 11: 12:00 | 12:00-12:01 | 12:01 -> repeated C1 117.23(c)(1)
+        114 outside X1 C1 11: 12:00 | 12:00-12:01 | 12:02 -> 1 NumberUsed
+        exceedances -> 114 0 C1 117.23(c)(1) X1 0
+    """],
+    "an_outside_period_is_replaced_and_its_exceedance_stays": [FIVE_DAYS_OF_FLIGHT_DUTY, A_MINUTE_TOO_MUCH, """
+        115 outside X1 C1 20: 12:00 | 12:00-12:01 | 12:01 -> accepted
+        recorded X1 C1 20: 12:00 | 12:00-12:01 | 12:01 -> yes
+        116 outside X1 C2 20: 12:00 | 12:00-12:01 | 12:01 -> 22 OutsideTaken
+        outsides -> X1 C1
+        exceedances -> 114 0 C1 117.23(c)(1) X1 0
+        114 outside X1 C1 11: 12:00 | 12:00-12:01 | 12:01 -> repeated C1 117.23(c)(1)
+        recorded X1 C1 20: 12:00 | 12:00-12:01 | 12:01 -> yes
+    """],
+    # What was recorded twice at the same times is an exceedance of each request.
+    "each_record_of_an_outside_period_is_judged": [FIVE_DAYS_OF_FLIGHT_DUTY, A_MINUTE_TOO_MUCH, """
+        113 outside X1 C1 11: 12:00 | 12:00-12:01 | 12:01 -> accepted C1 117.23(c)(1)
+        exceedances -> 113 0 C1 117.23(c)(1) X1 0 | 114 0 C1 117.23(c)(1) X1 0
+    """],
+    # Had the first times stayed beside the second, there would be no rest before 15:00.
+    "an_outside_period_is_judged_without_its_earlier_times": [HELD_ELSEWHERE, """
+        1 outside X2 C1 10: 15:00 | 16:00-19:30 | 20:00 -> accepted
+        2 outside X2 C1 10: 11:00 | 12:00-13:00, 14:00-15:00 | 15:30 -> accepted
+        recorded X2 C1 10: 11:00 | 12:00-13:00, 14:00-15:00 | 15:30 -> yes
+        plan P1 11: 01:29 | 02:00-04:00 | 04:30
+        3 assign P1 C1 -> 12 Limits C1 117.25(e)
+        plan P2 11: 01:30 | 02:00-04:00 | 04:30
+        4 assign P2 C1 -> accepted
+        exceedances -> none
+    """],
+    # It reports at 12:00 in New York, lasts 24 hours and flies for all of them, which neither table gives. In Denver neither.
+    "outside_flying_enters_no_table": [DENVER, """
+        1 outside X1 C1 10: 16:00 | 16:00-+1 16:00 | +1 16:00 -> accepted
+        2 outside X2 C9 10: 16:00 | 16:00-+1 16:00 | +1 16:00 -> accepted
+        3 outside X3 F1 10: 16:00 | 16:00-+1 16:00 | +1 16:00 -> accepted
+        exceedances -> none
+    """],
+    "outside_flying_counts_for_its_member_alone": [HELD_ELSEWHERE, """
+        plan P803 11: 05:59 | 07:00-09:00 | 09:30
+        1 assign P803 C2 -> accepted
+        2 assign P803 F1 -> accepted
+    """],
+    "a_week_of_outside_flying_holds_3600_minutes_of_flight_duty": [flown_elsewhere(FIVE_DAYS_OF_FLIGHT_DUTY), """
+        plan P11 11: 12:00 | 12:00-12:01 | 12:01
+        1 assign P11 C1 -> 12 Limits C1 117.23(c)(1)
+        2 outside X11 C1 11: 12:00 | 12:00-12:01 | 12:01 -> accepted C1 117.23(c)(1)
+    """],
+    "four_weeks_of_outside_flying_hold_11400_minutes_of_flight_duty": [flown_elsewhere(FIFTEEN_DAYS_OF_FLIGHT_DUTY), """
+        plan P27 27: 12:00 | 13:00-15:00, 20:00-22:01 | 22:01
+        1 assign P27 C1 -> 12 Limits C1 117.23(c)(2)
+        plan P28 27: 12:00 | 13:00-15:00, 20:00-22:00 | 22:00
+        2 assign P28 C1 -> accepted
+    """],
+    "a_minute_over_11400_is_recorded_of_outside_flying": [FIFTEEN_DAYS_OF_FLIGHT_DUTY, """
+        1 outside X27 C1 27: 12:00 | 13:00-15:00, 20:00-22:01 | 22:01 -> accepted C1 117.23(c)(2)
+        2 outside X27 C1 27: 12:00 | 13:00-15:00, 20:00-22:00 | 22:00 -> accepted
+        exceedances -> 1 0 C1 117.23(c)(2) X27 0
+    """],
+    "four_weeks_of_outside_flying_hold_6000_minutes_of_flight": [flown_elsewhere(TWELVE_DAYS_OF_FLYING), """
+        plan P30 29: 06:59 | 07:59-15:59 | 16:30
+        1 assign P30 C1 -> 12 Limits C1 117.23(b)(1)
+        plan P29 29: 07:00 | 08:00-16:00 | 16:30
+        2 assign P29 C1 -> accepted
+    """],
+    "a_minute_over_6000_is_recorded_of_outside_flying": [TWELVE_DAYS_OF_FLYING, """
+        1 outside X29 C1 29: 06:59 | 07:59-15:59 | 16:30 -> accepted C1 117.23(b)(1)
+        2 outside X29 C1 29: 07:00 | 08:00-16:00 | 16:30 -> accepted
+    """],
+    "a_minute_over_60000_is_recorded_of_outside_flying": [A_YEAR_PLANNED, A_YEAR_OF_FLYING, """
+        1 outside X365 C1 day-365: 15:00 | 15:39-+1 00:30 | +1 01:00 -> accepted C1 117.23(b)(2)
+        2 outside X365 C1 day-365: 15:00 | 15:40-+1 00:30 | +1 01:00 -> accepted
+    """],
+    # The report of the outside period on 16 June is one that keeps its thirty hours.
+    "an_outside_period_keeps_its_thirty_hours_before_it": [flown_elsewhere(FIVE_GROUND_DUTIES), """
+        plan P902 15: 00:00 | 01:00-07:00 | 08:00
+        1 assign P902 C1 -> 12 Limits C1 117.25(b)
+        plan P903 15: 00:00 | 01:00-05:00 | 06:00
+        2 assign P903 C1 -> accepted
+    """],
+    # Recorded late, behind a period that is planned already: what is named is the outside period, and not the one that lacks its rest.
+    "outside_flying_that_is_recorded_late_takes_the_rest_of_a_later_period": [FIVE_GROUND_DUTIES, """
+        1 outside X1 C1 15: 00:00 | 01:00-07:00 | 08:00 -> accepted C1 117.25(b)
+        2 train G6 14: 12:00-12:01 -> 12 Limits C1 117.25(b)
+        3 outside X1 C1 15: 00:00 | 01:00-05:00 | 06:00 -> accepted
+        exceedances -> 1 0 C1 117.25(b) X1 0
+    """],
+    # Into a week that holds 3,600 minutes, with a number below theirs. The 36 hours between P4 and P6 were the thirty free ones of PL. A
+    # window from 11:00 on 1 June has no minute of PL.
+    "outside_flying_is_recorded_into_a_week_that_was_flown": [A_LONG_PERIOD, """
+        61 fly PL 1 8: 11:00 | 11:10-12:00 | 12:00 -> accepted
+        7 outside X1 C1 5: 12:00 | 12:00-12:01 | 12:01 -> accepted C1 117.23(c)(1) C1 117.25(b)
+        8 outside X1 C1 1: 11:00 | 11:00-11:01 | 11:01 -> accepted
+        exceedances -> 7 0 C1 117.23(c)(1) X1 0 | 7 0 C1 117.25(b) X1 0 | 60 0 C1 117.23(c)(1) PL 1
+        9 outside X1 F1 5: 12:00 | 12:00-12:01 | 12:01 -> 22 OutsideTaken
+        9 outside X2 F1 5: 12:00 | 12:00-12:01 | 12:01 -> accepted
+    """],
+    # X1 begins an hour before P801, which so lacks its ten hours; X2 is at the same time as P801, and both have theirs.
+    "outside_flying_may_overlap": [HELD, """
+        1 outside X1 C1 10: 10:00 | 10:30-11:30 | 19:00 -> accepted C1 117.25(e)
+        2 outside X1 C1 10: 11:00 | 12:00-19:30 | 20:00 -> accepted
+        3 outside X2 C1 10: 11:00 | 12:00-19:30 | 20:00 -> accepted
+        outsides -> X1 C1 | X2 C1
+        exceedances -> 1 0 C1 117.25(e) X1 0
+    """],
+    # 720 minutes on each of five days, once for the book and once, at the same times, for another holder: they count once.
+    "minutes_that_overlap_count_once": [FIVE_DAYS_OF_FLIGHT_DUTY, """
+        1 outside X12 C1 12: 12:00 | 13:00-15:00, 21:00-+1 00:00 | +1 00:00 -> accepted
+        2 outside X12 C1 12: 12:00 | 13:00-15:00, 21:00-+1 00:01 | +1 00:01 -> accepted C1 117.23(c)(1)
+    """],
+    "no_new_duty_is_at_the_time_of_outside_flying": [HELD_ELSEWHERE, """
+        plan P1 10: 19:59 | 20:30-21:00 | 21:30
+        1 assign P1 C1 -> 11 Overlap
+        2 assign P1 C2 -> accepted
+        3 train G1 10: 19:59-21:00 -> 11 Overlap
+        4 train G1 10: 10:59-11:01 -> 11 Overlap
+        5 train G1 10: 20:00-21:00 -> accepted
+    """],
+    # C1 flies for another holder in the night before P2.
+    "a_swap_is_judged_with_outside_flying": ["""
+        plan P1 10: 11:00 | 12:00-19:30 | 20:00
+        assign P1 C1
+        plan P2 12: 11:00 | 12:00-19:30 | 20:00
+        assign P2 C2
+        outside X1 C1 11: 20:00 | 21:00-+1 03:30 | +1 04:00
+        1 swap P1 C1 P2 C2 -> 12 Limits C1 117.25(e)
+        2 swap P2 C2 P1 C1 -> 12 Limits C1 117.25(e)
+        3 outside X1 C1 11: 20:00 | 21:00-+1 00:30 | +1 01:00 -> accepted
+        4 swap P1 C1 P2 C2 -> accepted
+    """],
+    # P1 is released half an hour late, which leaves F1 less than ten hours before X1.
+    "an_actual_is_judged_with_outside_flying": ["""
+        plan P1 10: 11:00 | 12:00-18:30 | 19:00
+        assign P1 C1
+        assign P1 F1
+        outside X1 F1 11: 05:30 | 06:00-08:00 | 08:30
+        outside X2 C1 11: 05:31 | 06:00-08:00 | 08:30
+        113 fly P1 1 10: 11:00 | 12:00-19:00 | 19:31 -> accepted F1 117.25(e)
+        exceedances -> 113 0 F1 117.25(e) P1 1
+    """],
+    "outside_flying_is_of_a_member_who_is_there_and_of_one_alone": [HELD_ELSEWHERE, """
+        1 outside X1 C9 10: 11:00 | 12:00-19:30 | 20:00 -> 2 NoSuchCrew
+        2 outside X2 C9 10: 11:00 | 12:00-19:30 | 20:00 -> 2 NoSuchCrew
+        3 outside X2 C2 10: 11:00 | 12:00-19:30 | 20:00 -> 22 OutsideTaken
+        4 outside X2 F1 10: 11:00 | 12:00-19:30 | 20:00 -> 22 OutsideTaken
+        4 outside X3 F1 10: 11:00 | 12:00-19:30 | 20:00 -> accepted
+        4 outside X2 C2 10: 11:00 | 12:00-19:30 | 20:00 -> 1 NumberUsed
+        outsides -> X2 C1 | X3 F1
+    """],
+    # An outside period may have the id of a pairing, a ground duty or a member; no command removes it.
+    "ids_of_outside_periods_are_apart_from_others": [HELD, """
+        train G1 12: 12:00-20:00
+        1 outside P801 C1 20: 11:00 | 12:00-19:30 | 20:00 -> accepted
+        2 outside G1 C1 22: 11:00 | 12:00-19:30 | 20:00 -> accepted
+        3 outside C1 C1 24: 11:00 | 12:00-19:30 | 20:00 -> accepted
+        4 release P801 C1 -> accepted
+        5 cancel P801 -> accepted
+        6 excuse G1 -> accepted
+        7 cancel P801 -> 4 NoSuchPairing
+        8 excuse G1 -> 15 NoSuchGround
+        outsides -> C1 C1 | G1 C1 | P801 C1
+        plan P1 25: 05:59 | 07:00-09:00 | 09:30
+        9 assign P1 C1 -> 12 Limits C1 117.25(e)
+    """],
+}  # fmt: skip
+
 # ---- Commands that are refused unseen: for texts outside their shapes, equal sides of a swap, counts, times and chains.
 
 
@@ -509,6 +713,13 @@ def plan(counts):
     return "plan P1 " + "; ".join(f"{day}: 00:00 | {its} | 23:00" for day, its in enumerate(flights, 1))
 
 
+def outside(outside, crew, segments=1):
+    """The JSON of an outside period that no line can name, of segments that end as they begin, and before its report."""
+    times = {"report": "2025-06-10T12:00Z", "release": "2025-06-10T11:00Z"}
+    blocks = [{"out": "2025-06-10T11:30Z", "in": "2025-06-10T11:30Z"}] * segments
+    return compact({"do": "record-outside", "outside": outside, "crew": crew, **times, "segments": blocks})
+
+
 SHAPES = {
     "ids_are_of_1_to_12_capitals_digits_and_dashes": [f"""
         1 {hire("A")} -> accepted
@@ -529,6 +740,16 @@ SHAPES = {
         7 hire C9 captain den: Lee Roy -> 18 BadField base
         8 hire C9 captain home: Lee Roy -> 18 BadField base
         9 hire C9 captain ABCDEFGHIJ-2: Lee Roy -> accepted
+    """],
+    "ids_of_outside_periods_too": [f"""
+        1 {outside("ABCDEFGHIJ-23", "C1")} -> 18 BadField outside
+        2 {outside("", "C1")} -> 18 BadField outside
+        3 {outside("x1", "C1")} -> 18 BadField outside
+        4 {outside("X 1", "C1")} -> 18 BadField outside
+        5 {outside("X1", "")} -> 18 BadField crew
+        6 {outside("X1", "ABCDEFGHIJ-23")} -> 18 BadField crew
+        7 outside ABCDEFGHIJ-2 C1 10: 11:00 | 12:00-19:30 | 20:00 -> accepted
+        8 outside - C1 12: 11:00 | 12:00-19:30 | 20:00 -> accepted
     """],
     "names_are_of_1_to_60_bytes_without_control_bytes": [f"""
         1 {hire("N1", "Zoë Ray")} -> accepted
@@ -567,6 +788,8 @@ SHAPES = {
         7 cancel p1 -> 18 BadField pairing
         8 fly p1 1 10: 11:00 | 12:00-18:00 | 20:00 -> 18 BadField pairing
         9 excuse g1 -> 18 BadField ground
+        12 {outside("x1", "c1", 0)} -> 18 BadField outside
+        13 {outside("X1", "c1", 0)} -> 18 BadField crew
     """],
     "a_ground_duty_has_its_shapes_and_begins_before_it_ends": [f"""
         1 {train("g1", "c1", "")} -> 18 BadField ground
@@ -615,6 +838,23 @@ SHAPES = {
         2 fly P1 2 10: 00:40 | {", ".join(["00:20-00:20"] * 13)} | 00:10 -> 19 SegmentCount 2
         3 fly P1 2 10: 00:40 | {", ".join(["00:20-00:20"] * 12)} | 00:10 -> 16 BadTimes 2
     """],
+    "an_outside_period_has_1_to_12_flights": [f"""
+        1 {outside("X1", "C9", 0)} -> 19 SegmentCount 0
+        2 {outside("X1", "C9", 13)} -> 19 SegmentCount 0
+        3 {outside("X1", "C9", 12)} -> 16 BadTimes 0
+        4 outside X1 C1 1: 00:00 | {", ".join(f"{hour:02}:00-{hour:02}:10" for hour in range(12))} | 23:00 -> accepted
+    """],
+    # Each time of an outside period, moved past the next one.
+    "the_times_of_an_outside_period_are_in_order": ["""
+        1 outside X1 C1 10: 01:01 | 01:00-02:30, 03:20-04:50 | 05:00 -> 16 BadTimes 0
+        2 outside X1 C1 10: 00:00 | 02:30-02:30, 03:20-04:50 | 05:00 -> 16 BadTimes 0
+        3 outside X1 C1 10: 00:00 | 01:00-03:21, 03:20-04:50 | 05:00 -> 16 BadTimes 0
+        4 outside X1 C1 10: 00:00 | 01:00-02:30, 04:50-04:50 | 05:00 -> 16 BadTimes 0
+        5 outside X1 C1 10: 00:00 | 01:00-02:30, 03:20-04:50 | 04:49 -> 16 BadTimes 0
+        6 outside X1 C9 10: 00:00 | 01:00-02:30, 03:20-04:50 | 04:49 -> 16 BadTimes 0
+        7 outside X1 C1 10: 01:00 | 01:00-03:20, 03:20-05:00 | 05:00 -> accepted
+        recorded X1 C1 10: 01:00 | 01:00-03:20, 03:20-05:00 | 05:00 -> yes
+    """],
     "each_flight_departs_from_where_the_one_before_arrived": ["""
         1 plan P1 10: 11:00 | 12:00-13:00 | 13:00; 11: 11:00 | RB2/IAD/BOS 12:00-13:00, RB3/JFK/BOS 14:00-15:00 | 15:00 -> 17 BadChain 2
         2 plan P1 10: 11:00 | 12:00-13:00 | 13:00; 11: 11:00 | RB2/JFK/BOS 12:00-13:00 | 15:00 -> 17 BadChain 2
@@ -630,7 +870,7 @@ SHAPES = {
     """],
 }  # fmt: skip
 
-CASES = {**ASSIGNMENTS, **FLOWN_PERIODS, **JUDGEMENT, **REQUESTS, **BASES, **SHAPES}
+CASES = {**ASSIGNMENTS, **FLOWN_PERIODS, **JUDGEMENT, **REQUESTS, **BASES, **OUTSIDE, **SHAPES}
 
 
 @dataclass(frozen=True)
@@ -656,6 +896,12 @@ def look(book, line):
         case "planned":
             plan = order(f"plan {rest}")
             return "yes" if book.planned(plan["pairing"]) == plan["periods"] else "no"
+        case "outsides":
+            return " | ".join(book.outsides()) or "none"
+        case "recorded":
+            asked = order(f"outside {rest}")
+            wanted = {name: asked[name] for name in ("crew", "report", "release", "segments")}
+            return "yes" if book.recorded(asked["outside"]) == [wanted] else "no"
     return None
 
 

@@ -232,6 +232,7 @@ CUT = [
     (post("/requests", CANCEL, "Expect: 100-continue"), CONTINUE + response(*NO_GROUND)),
     (HIRE, response(200, ACCEPTED)),
     (post("/imports/2", ONE_PAIRING), response(200, parts(ACCEPTED))),
+    (post("/requests", body_of(3, "outside X1 C1 10: 11:00 | 12:00-19:30 | 20:00")), response(200, ACCEPTED)),
 ]
 
 # What has a body that isn't taken; the last is longer than what the system keeps of it while nobody reads.
@@ -256,6 +257,7 @@ LATE = compact({
     ],
 })  # fmt: skip
 EXCEEDED = '{"exceedances":[{"crew":"C1","section":"117.13(a)"},{"crew":"F1","section":"117.13(a)"}],"result":"accepted"}'
+SHORT_REST = '{"exceedances":[{"crew":"C1","section":"117.25(e)"}],"result":"accepted"}'
 ANOTHER_B102 = schedule([
     "plan P10 20: 06:30 | 07:30-10:30 | 11:00",
     "plan B102 21: 06:30 | 07:30-10:30 | 11:00",
@@ -325,6 +327,30 @@ ROSTER C1 captain Ada Ray
     ("11 base lax: PST8PDT,M3.2.0,M11.1.0", (422, refused(18, "BadField", field="base"))),
     ("11 hire C9 captain DEN: Lee Roy", (200, ACCEPTED)),
     ("GET /crew/C9", (200, "ROSTER C9 captain Lee Roy\nbase DEN\n")),
+    # X1 reports nine hours and a quarter after B101 is released, and then ten.
+    ("12 outside X1 C1 11: 15:00 | 15:30-17:00, 18:00-19:30 | 20:00", (200, SHORT_REST)),
+    ("12 outside X1 C1 11: 15:00 | 15:30-17:00, 18:00-19:30 | 20:00", (200, SHORT_REST)),
+    ("12 outside X1 C1 11: 15:00 | 15:30-17:00, 18:00-19:30 | 20:01", (409, refused(1, "NumberUsed"))),
+    ("13 outside X1 F1 11: 15:00 | 15:30-17:00, 18:00-19:30 | 20:00", (409, refused(22, "OutsideTaken"))),
+    ("13 outside X1 C7 11: 15:00 | 15:30-17:00, 18:00-19:30 | 20:00", (409, refused(2, "NoSuchCrew"))),
+    ("13 outside x1 C1 11: 15:00 | 15:30-17:00, 18:00-19:30 | 20:00", (422, refused(18, "BadField", field="outside"))),
+    ("13 outside X1 C1 11: 15:00 |  | 20:00", (422, refused(19, "SegmentCount", period=0))),
+    ("13 outside X1 C1 11: 15:00 | 15:30-17:00, 18:00-19:30 | 19:00", (422, refused(16, "BadTimes", period=0))),
+    (("/requests", '{"number":13,"do":"record-outside","outside":"X1","crew":"C1"}'), (422, refused(31, "BadJson", field="report"))),
+    ("GET /crew/C1", (200, """\
+ROSTER C1 captain Ada Ray
+2025-06-10T17:00Z 2025-06-11T05:45Z pairing B101/1 actual fdp 12:15 flight 3:30
+2025-06-11T15:00Z 2025-06-11T20:00Z outside X1 fdp 4:30 flight 3:00
+""")),
+    ("GET /exceedances", (200, "EXCEEDANCES 3\n7 C1 117.13(a) B101/1\n7 F1 117.13(a) B101/1\n12 C1 117.25(e) outside X1\n")),
+    ("13 outside X1 C1 11: 15:45 | 16:00-17:00, 18:00-19:30 | 20:00", (200, ACCEPTED)),
+    ("14 train G1 11: 19:59-21:00", (409, refused(11, "Overlap"))),
+    ("GET /crew/C1", (200, """\
+ROSTER C1 captain Ada Ray
+2025-06-10T17:00Z 2025-06-11T05:45Z pairing B101/1 actual fdp 12:15 flight 3:30
+2025-06-11T15:45Z 2025-06-11T20:00Z outside X1 fdp 3:45 flight 2:30
+""")),
+    ("GET /exceedances", (200, "EXCEEDANCES 3\n7 C1 117.13(a) B101/1\n7 F1 117.13(a) B101/1\n12 C1 117.25(e) outside X1\n")),
 ]  # fmt: skip
 
 

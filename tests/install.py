@@ -262,16 +262,16 @@ def try_zones(office):
 
 
 def try_members(office):
-    """The members of each of the ten commands, in turn, and those of a period and of a segment."""
+    """The members of each of the eleven commands, in turn, and those of a period and of a segment."""
     rows = re.findall(r"^\| `([a-z-]+)` \| (`[^|]+`) \|$", text("docs/FORMATS.md"), re.M)
     wanted = [(name, re.findall(r"`(\w+)`", members)) for name, members in rows]
-    office.expect("the formats have ten commands", len({name for name, _ in wanted}), 10)
+    office.expect("the formats have eleven commands", len({name for name, _ in wanted}), 11)
     page = text(MANUAL)
     for where, said in (("do --help", rosterbook("do", "--help").out), ("the manual page", plain_lines(section(page, "COMMANDS")))):
         listed = re.findall(r"^ *([a-z]+(?:-[a-z]+)?)  +((?:[a-z_]+, )*[a-z_]+)$", said, re.M)
         found = [(name, members.split(", ")) for name, members in listed if name in dict(wanted)]
         office.expect(f"the commands of {where}", found, wanted)
-        for parts in ("objects with report, release, segments", "objects with flight, from, out, to, in", "actual have out and in"):
+        for parts in ("objects with report, release, segments", "objects with flight, from, out, to, in", "actual and record-outside have out and in"):
             office.expect(f"{where}: {parts}", parts in " ".join(said.split()), True)
     office.expect("--help names the page of refusals", "REFUSALS.md" in rosterbook("--help").out, True)
     office.expect("the manual page names the page of refusals", "REFUSALS.md" in section(page, "REFUSALS"), True)

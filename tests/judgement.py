@@ -4,11 +4,11 @@
     tests/judgement.py
 
 Tables A and B are asked of `duty`, at the first and the last minute of each row, with one to eight segments, and on both sides of
-what they give. Then members fly, train and are assigned pairings at times without a pattern, and each answer of `do` is compared
-with a count, minute by minute, of docs/RULES.md ("The eight limits"): duties overlap, touch, begin at minute 0 and run for days,
-and some members have none. The members belong to three bases, and some books are of a week in which daylight saving time begins at
-one of these. The times are the same in each run. What differs is told on standard error. The last line is 'N passed, M failed',
-and the exit status 1 where M isn't 0.
+what they give. Then members fly, train, fly for another certificate holder and are assigned pairings at times without a pattern, and each
+answer of `do` is compared with a count, minute by minute, of docs/RULES.md ("The eight limits"): duties overlap, touch, begin at minute 0
+and run for days, what was flown for another holder is recorded late and anew, and some members have no pairing at first. The members
+belong to three bases, and some books are of a week in which daylight saving time begins at one of these. The times are the same in each
+run. What differs is told on standard error. The last line is 'N passed, M failed', and the exit status 1 where M isn't 0.
 """
 
 import shutil
@@ -16,7 +16,7 @@ import sys
 import tempfile
 from concurrent.futures import ProcessPoolExecutor
 from copy import deepcopy
-from dataclasses import dataclass, field
+from dataclasses import dataclass, field, replace
 from datetime import datetime, timedelta
 from itertools import accumulate, chain, compress, repeat
 from operator import sub
@@ -140,9 +140,10 @@ BASES = {"C1": "HOME", "C2": "PHX", "C3": "LON", "F1": "LON", "F2": "HOME", "F3"
 
 @dataclass(frozen=True)
 class Period:
-    """A flight duty period in force: the minute of the day of its planned report, by the clock of each base, and its times."""
+    """A flight duty period in force: the minute of the day of its planned report, by the clock of each base, and its times. One that
+    is flown for another certificate holder has no such minute."""
 
-    starts: dict = field(hash=False)
+    starts: dict | None = field(hash=False)
     report: int
     segments: tuple
     release: int
@@ -214,7 +215,10 @@ def lacks_rest(held, new, new_duties, duties, width, lacks):
 
 
 def breaks_tables(period, base):
-    """Whether a period exceeds Table A, and whether it exceeds Table B, by the clock of a base."""
+    """Whether a period exceeds Table A, and whether it exceeds Table B, by the clock of a base. What is flown for another certificate
+    holder enters neither."""
+    if period.starts is None:
+        return False, False
     start = period.starts[base]
     flight = sum(last - first for first, last in period.segments)
     return flight > table_a(start), period.last_in - period.report > table_b(start, len(period.segments))
@@ -292,14 +296,16 @@ class Draws:
 
 @dataclass
 class Model:
-    """What a book holds: the periods of each pairing, in force, its captain and first officer, and each ground duty of a member."""
+    """What a book holds: the periods of each pairing, in force, its captain and first officer, each ground duty of a member, and each
+    outside period with its member."""
 
     pairings: dict = field(default_factory=dict)
     seats: dict = field(default_factory=dict)
     trainings: list = field(default_factory=list)
+    outsides: dict = field(default_factory=dict)
 
-    def others(self, member, pairing=None, place=None):
-        """The member's duties, without a period of a pairing."""
+    def others(self, member, pairing=None, place=None, outside=None):
+        """The member's duties, without a period of a pairing, or without an outside period."""
         periods = [
             period
             for name, its in self.pairings.items()
@@ -307,7 +313,12 @@ class Model:
             for number, period in enumerate(its)
             if (name, number) != (pairing, place)
         ]
+        periods += [period for name, (who, period) in self.outsides.items() if who == member and name != outside]
         return periods + [training for who, training in self.trainings if who == member]
+
+    def without_outsides(self):
+        """A model of the same book without its outside periods."""
+        return Model({name: list(its) for name, its in self.pairings.items()}, self.seats, self.trainings)
 
     def refusal(self, member, new_duties):
         """Why the member can't have these duties too, in words, or None."""
@@ -328,6 +339,13 @@ class Model:
         if refusal is None:
             self.trainings.append((member, training))
         return refusal or "accepted"
+
+    def record(self, outside, member, period):
+        if self.outsides.get(outside, (member,))[0] != member:
+            return "22 OutsideTaken"
+        sections = broken([period], self.others(member, outside=outside), BASES[member])
+        self.outsides[outside] = member, period
+        return " ".join(["accepted", *(f"{member} {section}" for section in sections)])
 
     def fly(self, pairing, place, period):
         self.pairings[pairing][place] = period
@@ -378,13 +396,16 @@ def schedule(pairings, at):
 
 
 CLOCK = "a flown period exceeds other tables by HOME's clock"
-COUNTED = (*SECTIONS, CLOCK)
+OUTSIDE = "another answer than without outside periods"
+OWN = "an outside period breaks a section"
+ANEW = "an outside period takes the place of an earlier one, and other sections are told"
+COUNTED = (*SECTIONS, CLOCK, OUTSIDE, OWN, ANEW)
 
 
 @dataclass
 class Walk:
-    """A book, what it has to hold, how often each section was broken and the clock of the own base decided that, and the first minute
-    of its horizon."""
+    """A book, what it has to hold, how often each section was broken and the clock of the own base or an outside period decided that, and
+    the first minute of its horizon."""
 
     book: Book
     model: Model
@@ -411,24 +432,42 @@ class Walk:
         got = told(self.book.do(self.book.take_number(), command))
         return None if got == wanted else f"{command}\n    wanted: {wanted}\n    told:   {got}"
 
+    def count(self, what, wanted, otherwise):
+        """Counts that something decided an answer: there would have been another one otherwise."""
+        self.tally[what] += wanted != "accepted" and wanted != otherwise()
+
     def assign(self, pairing, member):
+        new = self.model.pairings[pairing]
         wanted = self.model.assign(pairing, member)
+        self.count(OUTSIDE, wanted, lambda: self.model.without_outsides().refusal(member, new) or "accepted")
         return self.compare({"do": "assign", "pairing": pairing, "crew": member}, wanted)
 
     def train(self, member, training):
         times = {"begin": self.at(training.begin), "end": self.at(training.end)}
         ground = f"G{len(self.model.trainings)}"
         wanted = self.model.train(member, training)
+        self.count(OUTSIDE, wanted, lambda: self.model.without_outsides().refusal(member, [training]) or "accepted")
         return self.compare({"do": "add-ground", "ground": ground, "crew": member, "task": "Simulator", **times}, wanted)
+
+    def record(self, outside, member, period):
+        before = deepcopy(self.model)
+        wanted = self.model.record(outside, member, period)
+        self.tally[OWN] += "accepted " in wanted
+        if outside in before.outsides and wanted.startswith("accepted"):
+            before.outsides["its earlier times"] = before.outsides[outside]
+            self.count(ANEW, wanted, lambda: before.record(outside, member, period))
+        return self.compare({"do": "record-outside", "outside": outside, "crew": member, **written(period, self.at)}, wanted)
 
     def fly(self, pairing, place, period):
         wanted = self.model.fly(pairing, place, period)
+        self.count(OUTSIDE, wanted, lambda: self.model.without_outsides().fly(pairing, place, period))
         at_home = breaks_tables(period, "HOME")
         self.tally[CLOCK] += sum(breaks_tables(period, BASES[member]) != at_home for member in self.model.seats[pairing])
         return self.compare({"do": "actual", "pairing": pairing, "period": place + 1, **written(period, self.at)}, wanted)
 
     def step(self, draws, scale):
-        """One command: most often a period is flown, else a ground duty added or a pairing assigned."""
+        """One command: most often a period is flown, for another certificate holder too, else a ground duty added or a pairing assigned.
+        Most outside periods have an id that is one member's alone, and many take the place of an earlier one."""
         kind = draws.below(10)
         member = draws.one_of(CAPTAINS + OFFICERS)
         free = [name for name, crew in self.model.seats.items() if crew[member in OFFICERS] is None]
@@ -438,6 +477,9 @@ class Walk:
             return self.train(member, Training(begin * scale.grid, (begin + length) * scale.grid))
         if kind < 5 and free:
             return self.assign(draws.one_of(free), member)
+        if kind < 7:
+            outside = f"X{draws.below(3)}" + (f"-{member}" if draws.below(4) else "")
+            return self.record(outside, member, replace(drawn_period(draws, scale), starts=None))
         crewed = [name for name, crew in self.model.seats.items() if None not in crew]
         pairing = draws.one_of(crewed)
         place = draws.below(len(self.model.pairings[pairing]))

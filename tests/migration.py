@@ -79,6 +79,22 @@ REPORTS = {
     """,
 }
 KEPT = (6, "assign P1 C1", ACCEPTED)
+NO_CREW = compact({"name": "NoSuchCrew", "refusal": 2, "result": "refused"})
+
+# What it answers of C1 and of exceedances with an outside period that reports nine hours and 59 minutes after P1.
+WITH_OUTSIDE = {
+    "roster C1": """
+        ROSTER C1 captain Ada Ray
+        2025-06-10T11:00Z 2025-06-11T07:30Z pairing P1/1 actual fdp 20:00 flight 10:00
+        2025-06-11T17:29Z 2025-06-11T18:30Z outside X1 fdp 1:01 flight 0:45
+        2025-06-12T08:00Z 2025-06-12T12:00Z ground G1 Simulator
+    """,
+    "exceedances": """
+        EXCEEDANCES 2
+        13 C1 117.13(a) P1/1
+        100 C1 117.25(e) outside X1
+    """,
+}
 
 # What the book of a late flight answers, and how it was asked of its members and of the flight.
 LATE_REPORTS = reports.CASES["a_late_period_is_shown_as_flown"][1]
@@ -205,6 +221,21 @@ def try_requests(desk):
     desk.expect("a new base", book.do(100, denver), Ran(0, f"{ACCEPTED}\n", ""))
     with_base = [*before, f"base DEN|{denver['zone']}", f"request 100|0|{compact(denver)}|{ACCEPTED}"]
     desk.expect_migrated("after a new base", book, sorted(with_base))
+    book = desk.first.copy()
+    line = "outside X1 C1 11: 17:29 | 17:30-18:00, 18:15-18:30 | 18:30"
+    short_rest = compact({"exceedances": [{"crew": "C1", "section": "117.25(e)"}], "result": "accepted"})
+    desk.expect("a first outside period", book.do(100, order(line)), Ran(0, f"{short_rest}\n", ""))
+    with_outside = [
+        *before, "outside X1|C1|13382969|13383030", "outside_segment X1|1|13382970|13383000", "outside_segment X1|2|13383015|13383030",
+        "exceedance 100|0|C1|8|X1|0", f"request 100|0|{compact(order(line))}|{short_rest}",
+    ]  # fmt: skip
+    desk.expect_migrated("after an outside period", book, sorted(with_outside))
+    taken = compact({"name": "OutsideTaken", "refusal": 22, "result": "refused"})
+    desk.expect("it is one member's", book.do(101, order(line.replace("C1", "C2"))), Ran(1, f"{taken}\n", ""))
+    desk.expect_reports("with an outside period", book, WITH_OUTSIDE)
+    book = desk.first.copy()
+    desk.expect("a refused outside period", book.do(100, order(line.replace("C1", "C9"))), Ran(1, f"{NO_CREW}\n", ""))
+    desk.expect_migrated("after a refused outside period", book, before)
     book = desk.first.copy()
     no_base = compact({"name": "NoSuchBase", "refusal": 20, "result": "refused"})
     desk.expect("a member of no base", book.do(100, order("hire C3 captain DEN: Cy Moe")), Ran(1, f"{no_base}\n", ""))

@@ -20,10 +20,12 @@ A line is a command, on a day of June 2025 (`10`) or of the whole year (`day-365
     train G1 20: 12:00-20:00
     excuse G1
     fly P1 1 10: 11:00 | 12:00-19:30 | 20:00
+    outside X1 C1 10: 11:00 | 12:00-19:30 | 20:00
 
-`hire` without a base leaves that member of the command out. Periods are written as `report | out-in, out-in | release`, and `+1` is the day after. Flights are RB1, RB2 and so on, from BOS
-to IAD and back in turn; a plan may name all those of a period itself, as `RB7/BOS/JFK 12:00-19:30`. A ground duty, which `train`
-adds and `excuse` cancels, is one of C1 in the simulator. Any other command is written as its JSON, `{"do":"assign", ..}`.
+`hire` without a base leaves that member of the command out. Periods are written as `report | out-in, out-in | release`, and `+1` is the
+day after. Flights are RB1, RB2 and so on, from BOS to IAD and back in turn; a plan may name all those of a period itself, as
+`RB7/BOS/JFK 12:00-19:30`. A ground duty, which `train` adds and `excuse` cancels, is one of C1 in the simulator. `outside` records a
+period that a member flew for another certificate holder. Any other command is written as its JSON, `{"do":"assign", ..}`.
 
 The tables are read by Python's own `sqlite3`, of SQLite 3.37 or newer.
 """
@@ -156,6 +158,8 @@ def order(line):
             return {"do": "cancel-ground", "ground": ground}
         case ["fly", pairing, period, day]:
             return {"do": "actual", "pairing": pairing, "period": int(period), **times(day_of(day), text)}
+        case ["outside", outside, crew, day]:
+            return {"do": "record-outside", "outside": outside, "crew": crew, **times(day_of(day), text)}
     raise ValueError(f"no line of a command: {line}")
 
 
@@ -303,10 +307,23 @@ class Book:
         return [f"{pairing} {crew.get((pairing, 0), '-')} {crew.get((pairing, 1), '-')}" for pairing in pairings]
 
     def exceedances(self):
-        """Each exceedance: number and part of its request, member, section, pairing and period."""
+        """Each exceedance: number and part of its request, member, section, and pairing and period, or an outside id and 0."""
         return [
             f"{number} {part} {crew} {SECTIONS[section - 1]} {pairing} {period}"
             for number, part, crew, section, pairing, period in self.rows("SELECT * FROM exceedance ORDER BY 1, 2, 3, 4")
+        ]
+
+    def outsides(self):
+        """Each outside period with the member who flew it."""
+        return [f"{outside} {crew}" for outside, crew in self.rows("SELECT id, crew FROM outside ORDER BY id")]
+
+    def recorded(self, outside):
+        """An outside period, as a request has it."""
+        found = "SELECT out_at, in_at FROM outside_segment WHERE outside = ? ORDER BY number"
+        segments = [{"out": instant(block_out), "in": instant(block_in)} for block_out, block_in in self.rows(found, outside)]
+        return [
+            {"crew": crew, "report": instant(report), "release": instant(release), "segments": segments}
+            for crew, report, release in self.rows("SELECT crew, report_at, release_at FROM outside WHERE id = ?", outside)
         ]
 
     def planned(self, pairing):

@@ -175,12 +175,13 @@ helps() {
     help_of duty duty ZONE REPORT TIME "$zone" "$report" 'UTC instant' Example:
     help_of init init FILE ZONE "$zone" UTC 'new or empty' 'base HOME' Example:
     help_of 'do' 'do' FILE 'JSON on standard input' '"number":1' '  add-base        base, zone' '  add-crew        crew, seat, name, base' \
-        '  actual          pairing, period, report, release, segments' '90 Store' 'Exit status'
+        '  actual          pairing, period, report, release, segments' '  record-outside  outside, crew, report, release, segments' \
+        '90 Store' 'Exit status'
     help_of import import FILE NUMBER 'CSV on standard input' 'from 1 to 9223372036854775807' '  pairing,period,report,release,flight,from,out,to,in' \
         'record 1' '90 Store' 'Exit status'
     help_of roster roster FILE CREW 'rosterbook roster roster.db C1' 'hours and minutes' 'Exit status'
     help_of pairing pairing FILE PAIRING 'rosterbook pairing roster.db B101' 'Exit status'
-    help_of exceedances exceedances FILE 'rosterbook exceedances roster.db' 'Exit status'
+    help_of exceedances exceedances FILE 'rosterbook exceedances roster.db' "'outside'" 'Exit status'
     help_of serve serve FILE PORT '--connections <N>' '[default: 1000000]' 'from 1 to 65535' 'from 1 to 1000000' \
         'rosterbook serve roster.db 8117 --connections 2' 'listening PORT' '92 Channel' '93 Network' '90 Store' 'Exit status'
 }

@@ -79,6 +79,33 @@ AT_ONE_TIME = """
     fly PB 1 20: 10:59 | 12:00-14:00 | 18:00
 """
 
+# Ground duties and outside periods at the times of P10 in AT_ONE_TIME, and others that begin or end a minute apart; one has the id of a
+# pairing, and one is of another member.
+OUTSIDE_AT_ONE_TIME = """
+    outside XB C1 20: 11:00 | 11:00-12:00, 13:00-14:30 | 15:00
+    outside XA C1 20: 11:00 | 12:00-14:00 | 15:00
+    outside P9 C1 20: 11:00 | 12:00-14:00 | 15:00
+    outside 9 C1 20: 11:00 | 12:00-14:00 | 14:59
+    outside A C1 20: 10:59 | 12:00-14:00 | 18:00
+    outside Z C1 20: 11:01 | 12:00-14:00 | 14:00
+    outside XF F1 20: 11:00 | 12:00-14:00 | 15:00
+"""
+
+# On C1's five days of flight duty, 3,600 minutes in a week, a minute more is recorded; then it is moved to another week.
+A_MINUTE_TOO_MUCH = """
+    plan P09 9: 12:00 | 13:00-15:00, 21:00-+1 00:00 | +1 00:00
+    assign P09 C1
+    plan P10 10: 12:00 | 13:00-15:00, 21:00-+1 00:00 | +1 00:00
+    assign P10 C1
+    plan P12 12: 12:00 | 13:00-15:00, 21:00-+1 00:00 | +1 00:00
+    assign P12 C1
+    plan P13 13: 12:00 | 13:00-15:00, 21:00-+1 00:00 | +1 00:00
+    assign P13 C1
+    plan P14 14: 12:00 | 13:00-15:00, 21:00-+1 00:00 | +1 00:00
+    assign P14 C1
+    114 outside X1 C1 11: 12:00 | 12:00-12:01 | 12:01
+"""
+
 CASES = {
     "a_fresh_member_has_one_line": ["", {
         "roster C1": "ROSTER C1 captain Ada Ray",
@@ -160,6 +187,90 @@ CASES = {
             2025-06-20T11:00Z 2025-06-20T15:00Z pairing P9/1 actual fdp 3:00 flight 2:00
             2025-06-20T11:00Z 2025-06-20T15:00Z ground A Übung
             2025-06-20T15:00Z 2025-06-20T16:00Z ground B a, "b"
+        """,
+    }],
+    # Periods come first, then ground duties, then outside periods, of which `9` is before all letters and ends sooner.
+    "outside_periods_at_the_time_of_other_duties": [AT_ONE_TIME + OUTSIDE_AT_ONE_TIME, {
+        "roster C1": """
+            ROSTER C1 captain Ada Ray
+            2025-06-20T10:59Z 2025-06-20T18:00Z pairing PB/1 actual fdp 3:01 flight 2:00
+            2025-06-20T10:59Z 2025-06-20T18:00Z outside A fdp 3:01 flight 2:00
+            2025-06-20T11:00Z 2025-06-20T14:30Z pairing PA/1 actual fdp 3:00 flight 2:00
+            2025-06-20T11:00Z 2025-06-20T14:59Z outside 9 fdp 3:00 flight 2:00
+            2025-06-20T11:00Z 2025-06-20T15:00Z pairing P10/1 actual fdp 3:00 flight 2:00
+            2025-06-20T11:00Z 2025-06-20T15:00Z pairing P9/1 actual fdp 3:00 flight 2:00
+            2025-06-20T11:00Z 2025-06-20T15:00Z ground A Übung
+            2025-06-20T11:00Z 2025-06-20T15:00Z outside P9 fdp 3:00 flight 2:00
+            2025-06-20T11:00Z 2025-06-20T15:00Z outside XA fdp 3:00 flight 2:00
+            2025-06-20T11:00Z 2025-06-20T15:00Z outside XB fdp 3:30 flight 2:30
+            2025-06-20T11:01Z 2025-06-20T14:00Z outside Z fdp 2:59 flight 2:00
+            2025-06-20T15:00Z 2025-06-20T16:00Z ground B a, "b"
+        """,
+    }],
+    "a_minute_of_outside_flying_too_much": [A_MINUTE_TOO_MUCH, {
+        "exceedances": """
+            EXCEEDANCES 1
+            114 C1 117.23(c)(1) outside X1
+        """,
+        "roster C1": """
+            ROSTER C1 captain Ada Ray
+            2025-06-09T12:00Z 2025-06-10T00:00Z pairing P09/1 plan fdp 12:00 flight 5:00
+            2025-06-10T12:00Z 2025-06-11T00:00Z pairing P10/1 plan fdp 12:00 flight 5:00
+            2025-06-11T12:00Z 2025-06-11T12:01Z outside X1 fdp 0:01 flight 0:01
+            2025-06-12T12:00Z 2025-06-13T00:00Z pairing P12/1 plan fdp 12:00 flight 5:00
+            2025-06-13T12:00Z 2025-06-14T00:00Z pairing P13/1 plan fdp 12:00 flight 5:00
+            2025-06-14T12:00Z 2025-06-15T00:00Z pairing P14/1 plan fdp 12:00 flight 5:00
+        """,
+        "roster F1": "ROSTER F1 first officer Zoë Roy",
+    }],
+    "an_outside_period_that_was_moved": [A_MINUTE_TOO_MUCH + """
+        115 outside X1 C1 20: 12:00 | 12:00-12:01 | 12:01
+    """, {
+        "exceedances": """
+            EXCEEDANCES 1
+            114 C1 117.23(c)(1) outside X1
+        """,
+        "roster C1": """
+            ROSTER C1 captain Ada Ray
+            2025-06-09T12:00Z 2025-06-10T00:00Z pairing P09/1 plan fdp 12:00 flight 5:00
+            2025-06-10T12:00Z 2025-06-11T00:00Z pairing P10/1 plan fdp 12:00 flight 5:00
+            2025-06-12T12:00Z 2025-06-13T00:00Z pairing P12/1 plan fdp 12:00 flight 5:00
+            2025-06-13T12:00Z 2025-06-14T00:00Z pairing P13/1 plan fdp 12:00 flight 5:00
+            2025-06-14T12:00Z 2025-06-15T00:00Z pairing P14/1 plan fdp 12:00 flight 5:00
+            2025-06-20T12:00Z 2025-06-20T12:01Z outside X1 fdp 0:01 flight 0:01
+        """,
+    }],
+    # A period of a pairing and an outside period, both named P1, exceed 117.25(e) by each other; request 3 is of the lower number.
+    "exceedances_of_a_pairing_and_of_outside_flying": ["""
+        plan P1 10: 11:00 | 12:00-19:30 | 20:00
+        assign P1 C1
+        assign P1 F1
+        4 outside P1 C1 11: 05:00 | 06:00-07:00 | 07:30
+        3 fly P1 1 10: 11:00 | 12:00-19:30 | 20:30
+    """, {
+        "exceedances": """
+            EXCEEDANCES 2
+            3 C1 117.25(e) P1/1
+            4 C1 117.25(e) outside P1
+        """,
+        "pairing P1": """
+            PAIRING P1
+            captain C1
+            first officer F1
+            1 actual report 2025-06-10T11:00Z release 2025-06-10T20:30Z
+            1.1 RB1 BOS 2025-06-10T12:00Z IAD 2025-06-10T19:30Z
+        """,
+    }],
+    # A roster has the times of an outside period as UTC, at every base.
+    "outside_flying_of_a_member_of_another_base": ["""
+        base DEN: MST7MDT,M3.2.0,M11.1.0
+        hire C9 captain DEN: Lee Roy
+        outside X1 C9 10: 11:00 | 11:00-+4 14:59 | +4 16:00
+    """, {
+        "roster C9": """
+            ROSTER C9 captain Lee Roy
+            base DEN
+            2025-06-10T11:00Z 2025-06-14T16:00Z outside X1 fdp 99:59 flight 99:59
         """,
     }],
     "a_member_of_another_base_than_home_has_a_line_of_it": ["""

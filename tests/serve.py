@@ -359,6 +359,8 @@ LIFE = (
     "20 assign B103 C1", "21 assign B103 F1", "22 assign B103 C2", "23 train G2 10: 09:00-10:00", "24 train G3 20: 12:00-20:00",
     "25 fly B103 1 12: 14:00 | 15:00-+1 04:30 | +1 05:00", "25 fly B103 1 12: 14:00 | 15:00-+1 04:30 | +1 05:00", "26 excuse G3",
     "27 cancel B102", "28 release B103 F1",
+    "29 outside X2 C1 12: 11:00 | 12:00-13:00 | 13:30", "30 outside X2 C2 15: 11:00 | 12:00-13:00 | 13:30",
+    "29 outside X2 C1 12: 11:00 | 12:00-13:00 | 13:30", "31 outside X1 C2 15: 11:00 | 12:00-13:00, 13:30-14:00 | 14:00",
 )  # fmt: skip
 
 
@@ -386,7 +388,7 @@ def try_life(desk):
         desk.expect("the end", ended, server.served(FAILED * lines))
         desk.expect("a number of failed connections", 12 <= lines <= 40, True)
     desk.expect("the tables", book.tables(), other.tables())
-    desk.expect("how many are kept", len(book.requests()), 16 + 3 + 7)
+    desk.expect("how many are kept", len(book.requests()), 17 + 3 + 9)
 
 
 def takes_turn(server, turn):

@@ -5,10 +5,11 @@
 
 Books of version 1 and of version 2 are made by plain SQL (tests/tables/version_1.sql, version_2.sql), and the program is asked: such
 with a damage, or with two, of which the first table has to be named (damages.txt), and sound ones, whose answers tell how their rows are
-read (answers.txt, and of those with a second base bases.txt). Books that the program makes are read by plain SELECTs: after each order of a story (story.txt), with the longest
-pairing, with the greatest key, and beside other tables. One of them is damaged (late.txt), and the tables of others are offered rows
-that they have to refuse (refused.txt). The SQL is that of Python's own `sqlite3`, of SQLite 3.37 or newer. What differs is told on
-standard error. The last line is 'N passed, M failed', and the exit status 1 where M isn't 0.
+read (answers.txt, of those with a second base bases.txt, and of those with outside periods outside.txt). Books that the program makes are
+read by plain SELECTs: after each order of a story (story.txt), with the longest pairing, with the greatest key, and beside other tables.
+One of them is damaged (late.txt), and the tables of others are offered rows that they have to refuse (refused.txt). The SQL is that of
+Python's own `sqlite3`, of SQLite 3.37 or newer. What differs is told on standard error. The last line is 'N passed, M failed', and the
+exit status 1 where M isn't 0.
 """
 
 import json
@@ -130,6 +131,10 @@ def order(words):
     do, *texts = words.split()
     if do == "fly":
         return {**json.loads(FLY), "pairing": texts[0], "period": int(texts[1])}
+    if do == "record-outside":
+        begin, end = (instant(int(texts.pop(2))) for _ in range(2))
+        segments = [{"out": begin, "in": end}]
+        return {"do": do, "outside": texts[0], "crew": texts[1], "report": begin, "release": end, "segments": segments}
     if do == "add-ground":
         begin = int(texts.pop())
         texts += [instant(begin), instant(begin + 1), "Drill"]
@@ -278,11 +283,15 @@ def try_damage(desk, version, statements, wanted, is_of_both):
     expect(f"version {version}: {statements}", file, lambda: ran("do", file), of_nothing(wanted))
 
 
+# F1 flies for another certificate holder a minute less than ten hours after the late period, which is request 114.
+TOO_SOON_AFTER_IT = "114 outside X1 F1 11: 17:29 | 17:30-18:00, 18:00-18:30 | 18:30"
+
+
 def try_late_book(desk):
     """Damages of a book that the program made."""
     with tempfile.TemporaryDirectory() as room:
         book = Book.made(room)
-        desk.expect("the late book", carry_out(book, MEMBERS + A_LATE_PERIOD), [])
+        desk.expect("the late book", carry_out(book, f"{MEMBERS}{A_LATE_PERIOD}{TOO_SOON_AFTER_IT}"), [])
         for statements, wanted, _ in damages("late.txt"):
             file = database(book.copy().file, statements)
             desk.expect_kept(f"late: {statements}", file, lambda: ran("do", file), of_nothing(wanted))
@@ -315,7 +324,7 @@ def try_answers(desk):
             try_answer(desk, f"version {version}: {statements}", sound(version, statements), words, wanted)
         file = database(desk.file(), sound(version))
         desk.expect("a held part", imported(file, "13", ["P4", "P5"]), "1 accepted\n2 refused 1 NumberUsed\n[1]\n")
-    for statements, words, wanted in answers("bases.txt"):
+    for statements, words, wanted in (*answers("bases.txt"), *answers("outside.txt")):
         try_answer(desk, statements, sound(2) + statements, words, wanted)
 
 

@@ -116,6 +116,7 @@ REFUSED = {
     "31 BadJson crew": [
         '{"number":1,"do":"assign","crew":1,"pairing":"p"}',
         '{"number":1,"do":"assign","pairing":"p1","crew":5}',
+        '{"number":1,"do":"record-outside","outside":"x","crew":5,"report":5}',
     ],
     "31 BadJson seat": ['{"number":1,"do":"add-crew","crew":"c","seat":"Captain"}'],
     "31 BadJson name": [
@@ -152,12 +153,32 @@ REFUSED = {
         '{"number":1,"do":"actual","pairing":"p","period":11}',
         '{"number":1,"do":"actual","pairing":"p","period":1.0}',
     ],
-    "31 BadJson report": ['{"number":1,"do":"actual","pairing":"p","period":1,"report":"2025-02-29T00:00Z"}'],
-    "31 BadJson release": ['{"number":1,"do":"actual","pairing":"p","period":1,"report":"2025-06-10T12:00Z"}'],
+    "31 BadJson report": [
+        '{"number":1,"do":"actual","pairing":"p","period":1,"report":"2025-02-29T00:00Z"}',
+        '{"number":1,"do":"record-outside","outside":"x","crew":"c","release":"2025-02-29T00:00Z","segments":[]}',
+    ],
+    "31 BadJson release": [
+        '{"number":1,"do":"actual","pairing":"p","period":1,"report":"2025-06-10T12:00Z"}',
+        '{"number":1,"do":"record-outside","outside":"x","crew":"c","report":"2025-06-10T12:00Z","release":"2025-06-10T12:00","segments":1}',
+    ],
+    "31 BadJson outside": [
+        '{"number":1,"do":"record-outside"}',
+        '{"number":1,"do":"record-outside","outside":null,"crew":5,"report":""}',
+        '{"number":1,"do":"record-outside","outside":["X1"],"crew":"C1"}',
+    ],
     "31 BadJson segments": [
         f'{{"number":1,"do":"actual","pairing":"p","period":1,{TIMES},"segments":[{{"out":"2025-06-10T12:00Z"}}]}}',
+        f'{{"number":1,"do":"record-outside","outside":"x","crew":"c",{TIMES}}}',
+        f'{{"number":1,"do":"record-outside","outside":"x","crew":"c",{TIMES},"segments":{{}}}}',
+        f'{{"number":1,"do":"record-outside","outside":"x","crew":"c",{TIMES},"segments":[{{"in":"2025-06-10T12:00Z"}}]}}',
+        f'{{"number":1,"do":"record-outside","outside":"x","crew":"c",{TIMES},"segments":[["2025-06-10T12:00Z","2025-06-10T12:30Z"]]}}',
+        f'{{"number":1,"do":"record-outside","outside":"x","crew":"c",{TIMES},"segments":[{{"out":"2025-06-10T12:00Z","in":"12:30Z"}}]}}',
     ],
-    "18 BadField crew": ['{"number":1,"do":"assign","pairing":"P1","crew":"c"}'],
+    "18 BadField crew": [
+        '{"number":1,"do":"assign","pairing":"P1","crew":"c"}',
+        f'{{"number":1,"do":"record-outside","outside":"X","crew":"c",{TIMES},"segments":[]}}',
+    ],
+    "18 BadField outside": [f'{{"number":1,"do":"record-outside","outside":"x","crew":"c",{TIMES},"segments":[]}}'],
     "18 BadField pairing": [
         '{"number":1,"do":"assign","pairing":"p","crew":"c"}',
         f'{{"number":1,"do":"actual","pairing":"p","period":1,{TIMES},"segments":[]}}',
@@ -174,6 +195,21 @@ REFUSED = {
         r'{"number":1,"do":"add-crew","crew":"C1","seat":"captain","name":"\u0001"}',
     ],
     "19 SegmentCount 1": [f'{{"number":1,"do":"actual","pairing":"P","period":1,{TIMES},"segments":[]}}'],
+    "19 SegmentCount 0": [
+        f'{{"number":1,"do":"record-outside","outside":"X","crew":"C",{TIMES},"segments":[]}}',
+        f'{{"number":1,"do":"record-outside","outside":"X","crew":"C",{TIMES},"segments":['
+        + ",".join(['{"out":"2025-06-10T12:00Z","in":"2025-06-10T12:00Z"}'] * 13) + "]}",
+    ],
+    "16 BadTimes 0": [
+        f'{{"number":1,"do":"record-outside","outside":"X","crew":"C",{TIMES},"segments":['
+        '{"out":"2025-06-10T12:00Z","in":"2025-06-10T12:00Z"}]}',
+        f'{{"number":1,"do":"record-outside","outside":"X","crew":"C",{TIMES},"segments":['
+        '{"out":"2025-06-10T12:00Z","in":"2025-06-10T13:01Z"}]}',
+    ],
+    "2 NoSuchCrew": [
+        f'{{"number":1,"do":"record-outside","outside":"X","crew":"C",{TIMES},"segments":['
+        '{"out":"2025-06-10T12:00Z","in":"2025-06-10T13:00Z"}]}',
+    ],
     "16 BadTimes 1": [
         f'{{"number":1,"do":"actual","pairing":"P","period":1,{TIMES},"segments":['
         '{"out":"2025-06-10T11:00Z","in":"2025-06-10T12:30Z"}]}',
@@ -271,6 +307,21 @@ KEPT = [
     (
         '{"number":11,"do":"add-crew","crew":"C8","seat":"captain","name":"Bo Lind","base":null,"base":"HOME"}',
         '{"crew":"C8","do":"add-crew","name":"Bo Lind","seat":"captain"}',
+    ),
+    # Its members and those of its segments in another order, instants in the second form, and members that aren't its own.
+    (
+        '{"number":12,"do":"record-outside","segments":[{"in":"2025-07-05T14:30:00Z","out":"2025-07-05T13:30Z","flight":"ZZ9"},'
+        '{"out":"2025-07-05T14:30Z","in":"2025-07-05T15:45Z"}],"release":"2025-07-05T16:00:00Z","report":"2025-07-05T13:00:00Z",'
+        '"period":0,"pairing":null,"crew":"C8","outside":"X-23456789AB"}',
+        '{"crew":"C8","do":"record-outside","outside":"X-23456789AB","release":"2025-07-05T16:00Z","report":"2025-07-05T13:00Z","segments":['
+        '{"in":"2025-07-05T14:30Z","out":"2025-07-05T13:30Z"},{"in":"2025-07-05T15:45Z","out":"2025-07-05T14:30Z"}]}',
+    ),
+    # The same one again, at other times.
+    (
+        '{"number":13,"do":"record-outside","outside":"X-23456789AB","crew":"C8","report":"2025-07-05T13:00Z","release":"2025-07-05T16:00Z",'
+        '"segments":[{"out":"2025-07-05T13:00Z","in":"2025-07-05T16:00Z"}]}',
+        '{"crew":"C8","do":"record-outside","outside":"X-23456789AB","release":"2025-07-05T16:00Z","report":"2025-07-05T13:00Z","segments":['
+        '{"in":"2025-07-05T16:00Z","out":"2025-07-05T13:00Z"}]}',
     ),
 ]  # fmt: skip
 
@@ -514,9 +565,9 @@ def try_cut_schedules(desk):
 
 
 def try_cut_requests(desk):
-    """A member, a ground duty, an actual, and a member of a base."""
+    """A member, a ground duty, an actual, a member of a base, and an outside period."""
     book = desk.empty
-    for body, _ in (KEPT[0], KEPT[2], KEPT[7], KEPT[9]):
+    for body, _ in (KEPT[0], KEPT[2], KEPT[7], KEPT[9], KEPT[11]):
         text = body.encode()
         answers = {length: told(book.send(text[:length])) for length in range(len(text))}
         desk.expect(f"cuts of {body}", {length: got for length, got in answers.items() if got != "31 BadJson body"}, {})

@@ -73,10 +73,11 @@ to 9223372036854775807, \"do\", which is one of these words, and more members:
   add-ground      ground, crew, begin, end, task
   cancel-ground   ground
   actual          pairing, period, report, release, segments
+  record-outside  outside, crew, report, release, segments
 
 All of them are required, in any order, but for base of add-crew: without it the
 base is HOME. Members of other names are ignored.
-  base, crew, pairing, ground, other_crew, other_pairing
+  base, crew, pairing, ground, outside, other_crew, other_pairing
                   an id: 1 to 12 of A-Z, 0-9 and -
   zone            a POSIX rule such as \"MST7MDT,M3.2.0,M11.1.0\"
   seat            \"captain\" or \"first officer\"
@@ -86,7 +87,7 @@ base is HOME. Members of other names are ignored.
                   a UTC instant such as \"2025-06-10T15:59Z\"
   periods         an array of 1 to 10 objects with report, release, segments
   segments        an array of 1 to 12 objects with flight, from, out, to, in;
-                  those of actual have out and in
+                  those of actual and record-outside have out and in
   flight          1 to 8 of A-Z and 0-9
   from, to        an airport: 3 or 4 of A-Z and 0-9
 
@@ -120,7 +121,8 @@ Example:
 
 Prints the member's id, seat and name, the base in a line of its own if it isn't
 HOME, and then the duties in order of time: 'plan' is as planned, 'actual' as
-flown. Times are UTC. Lengths are hours and minutes.
+flown, 'outside' as flown for another certificate holder. Times are UTC. Lengths
+are hours and minutes.
 
 Exit status: 0 done, 1 there is no such member, 2 a mistake in the command line,
 3 there is no book in the file, or the file, memory or the output fails";
@@ -141,7 +143,7 @@ Example:
 
 Prints how many there are, and a line for each: the number of the request that
 recorded it, the member, the section of 14 CFR Part 117, and the period of the
-pairing.
+pairing, or 'outside' and the id of what was flown for another holder.
 
 Exit status: 0 done, 2 a mistake in the command line, 3 there is no book in the
 file, or the file, memory or the output fails";
