@@ -3,8 +3,8 @@
 
     plain.py BOOK <LINES >ANSWERS
 
-Answers requests of JSON, a line each, as `rosterbook do` answers them, over the same tables: add-crew (of members of HOME alone),
-add-pairing, assign, release and actual. What a command needs is read by key. A member's duties are judged by sorted intervals with running
+Answers requests of JSON, a line each, as `rosterbook do` answers them, over the same tables: add-crew (of members of HOME alone, who fly
+for no other certificate holder), add-pairing, assign, release and actual. What a command needs is read by key. A member's duties are judged by sorted intervals with running
 sums. What is accepted is committed before the next line is looked at. Standard error gets the milliseconds that one took; without any line,
 what the opening took.
 """
