@@ -17,10 +17,11 @@ which definitions of `specs/` it doesn't quote, since they are of formats, of ot
 - a table below `<!-- fields of PATH: NAME -->` that doesn't have the fields of that record in turn;
 - a word by which the claim is said that isn't quoted, a section of another document that isn't there, and a crate of the kit whose words
   are used and that isn't told as trusted;
-- what a table or a list has in vain.
+- what a table or a list has in vain;
+- a number of lines on the page that isn't the number of lines that are quoted.
 
-It tells how many lines are quoted, comments aside, by the page's sections, and how many of formats what is quoted rests on. What differs
-is told on standard error. The last line is 'N passed, M failed', and the exit status 1 where M isn't 0.
+It tells how many lines are quoted, comments aside: of what the claim says, by its sections; of which runs it says so; and of formats,
+how many what is quoted rests on. What differs is told on standard error. The last line is 'N passed, M failed', and the exit status 1 where M isn't 0.
 """
 
 import re
@@ -32,7 +33,8 @@ from pathlib import Path
 
 TOP = Path(__file__).resolve().parent.parent
 PAGE = TOP / "docs/STATEMENT.md"
-CORE = ("Rules", "State", "Step", "Honesty", "Lives")
+CORE = ("Rules", "State", "Step", "Honesty", "Commands and crashes", "Whole lives")
+RUNS = "Runs"
 FORMATS = "Formats"
 CONTRACTS = "Calls"
 SCREEN = 50
@@ -511,19 +513,23 @@ def told_lines(found):
     return sum(len(item.code) for item in found)
 
 
-def tell_lines(page, found, formats):
-    """How many lines are quoted, by sections, and how many have to be believed of formats."""
+def tell_lines(desk, page, found, formats):
+    """How many lines are quoted, by sections, and how many have to be believed of formats. The page has the first numbers too."""
     sections = {section: [item for it, item in found if it == section] for section, _ in found}
     core = [section for section in sections if section in CORE]
     counts = ", ".join(f"{section.lower()} {told_lines(sections[section])}" for section in core)
     believed = [item for section in core for item in sections[section]]
     declared = told_lines(item for item in believed if not item.is_of_specs)
-    print(f"lines of the core: {told_lines(believed)} ({counts}), of which {declared} are types of the code")
+    runs = told_lines(sections.get(RUNS, []))
+    print(f"lines of the core, what the claim says: {told_lines(believed)} ({counts}), of which {declared} are types of the code")
+    print(f"lines of which runs it says so: {runs}")
+    for told in (f"{told_lines(believed)} lines of definitions, comments aside, of which {declared} are", f"[Runs](#runs): {runs} lines"):
+        desk.expect(told in re.sub(r"\s+", " ", page.text), f"the page doesn't say: {told}")
     over = [item for item in believed if len(item.code) > SCREEN]
     print(f"definitions of the core over {SCREEN} lines: {', '.join(f'{item.name} {len(item.code)}' for item in over) or 'none'}")
     quoted = told_lines(sections.get(FORMATS, []))
     print(f"lines of formats that it rests on: {quoted} quoted, and {told_lines(formats)} in {len({item.path for item in formats})} files that aren't")
-    others = [section for section in sections if section not in (*CORE, FORMATS)]
+    others = [section for section in sections if section not in (*CORE, RUNS, FORMATS)]
     print(f"lines of what is claimed: {', '.join(f'{section.lower()} {told_lines(sections[section])}' for section in others)}")
 
 
@@ -557,7 +563,7 @@ def main():
         formats = formats_below(desk, page, quoted, laws)
         try_trust(desk, page, quoted + formats)
         try_files(desk, page, quoted)
-        tell_lines(page, found, formats)
+        tell_lines(desk, page, found, formats)
     except (LookupError, OSError) as error:
         desk.expect(False, error)
     print(f"{desk.passed} passed, {desk.failed} failed")

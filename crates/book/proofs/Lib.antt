@@ -7,4 +7,7 @@ pub mod Holding
 pub mod Untouched
 pub mod Sparing
 pub mod Parts
+pub mod CommandLists
+pub mod CallLemmas
+pub mod ListLemmas
 pub mod LifeLemmas

@@ -6,4 +6,6 @@ pub mod Found
 pub mod Importing
 pub mod Sessions
 pub mod Ran
+pub mod Calls
 pub mod Lives
+pub mod Lists

@@ -5,7 +5,7 @@
 //! Worked rows: `tests/answers.py`; the rows that are left: `tests/tables.py`. Wrong bodies: `must-fail/`.
 ghost use Rattle.std.specs.Prelude.{ℕ, Option, ◌≡◌, ◌<◌, ◌⊎◌, ◌||◌, ◌↔◌, false, Err, IfErr, IfOk, IsErrAnd, IsTrue, List, None, OnOk, Some};
 ghost use Rattle.sqlite.specs.Held.{state};
-ghost use Rattle.sqlite.specs.State.{HasCleanDisk, IsUnchanged};
+ghost use Rattle.sqlite.specs.State.{HasCleanDisk};
 ghost use Rattle.command.specs.declared.exceedance.Reply.{Reply};
 ghost use Rattle.command.specs.declared.refusal.Refusal.{Refusal};
 ghost use Rattle.roster.specs.Folds.{answer_of, next};
@@ -13,16 +13,13 @@ ghost use Rattle.roster.specs.State.{State, empty};
 ghost use Rattle.roster.specs.Steps.{step_of};
 ghost use Rattle.lookup.specs.Reads.{ChangesNothing, IsCausedIfStore, IsOpen};
 ghost use Rattle.writing.specs.Commits.{AreTablesMade, IsNotMade};
-ghost use Rattle.writing.specs.Kept.{KeepBeside};
 ghost use Rattle.writing.specs.Making.{IsFree};
-ghost use Rattle.writing.specs.Outcomes.{CrashAddsNothing, CrashLeavesOnly, CrashLeavesSome, IsOutside};
-ghost use Rattle.writing.specs.Outcomes.{ShowsOnly, StaysOpen, StillShows};
-ghost use Rattle.tables.specs.Schema.{later_tables};
+ghost use Rattle.writing.specs.Outcomes.{CrashLeavesSome, IsOutside};
 ghost use Rattle.book.specs.Answered.{IsAnswered};
 ghost use Rattle.book.specs.Ran.{HasRun};
 ghost use Rattle.book.specs.Asking.{StepOutcome};
 ghost use Rattle.book.specs.Headline.{IsRefusal, MakesNoChange, SparesOthers, Untouched};
-ghost use Rattle.store.specs.Loaded.{IsOfFirst, IsNotLoaded};
+ghost use Rattle.store.specs.Loaded.{IsLoaded, IsNotLoaded};
 ghost use Rattle.store.specs.Shown.{IsShown};
 ghost use Rattle.book.specs.Kept.{HasOne, HasTables, IsDurablyAt, IsClean, Keeps, KeepsEither, HasFoundBook, StillHolds};
 ghost use Rattle.book.specs.Kept.{is_store_fault, result_of};
@@ -111,20 +108,9 @@ impl<S: Alter> Book<S> {
             (state S.Store b.held)) }
         ensures kept { (s : State) → KeepsEither (state S.Store conn) s
             → IfOk result (λ b. IsDurablyAt S.Store b s) }
-        ensures nothing_new { IfOk result (λ b. ¬ IsOfFirst (state S.Store conn)
-            → CrashAddsNothing (state S.Store conn) (state S.Store b.held)) }
-        ensures unchanged { IfOk result (λ b. IsClean S.Store b → ¬ IsOfFirst (state S.Store conn)
-            → IsUnchanged (state S.Store conn) (state S.Store b.held)) }
-        // Beside one of version 1 all else stays that was there, and nothing else is made than the tables of version 2.
-        ensures others_crash { IfOk result (λ b. IsOfFirst (state S.Store conn)
-            → CrashLeavesOnly (state S.Store b.held)
-            (KeepBeside later_tables (state S.Store conn).now)) }
-        ensures others_shown { IfOk result (λ b. IsOfFirst (state S.Store conn)
-            → ShowsOnly (state S.Store b.held)
-            (KeepBeside later_tables (state S.Store conn).now)) }
+        ensures loaded { IfOk result (λ b. (s : State)
+            × IsLoaded (state S.Store conn) (state S.Store b.held) s) }
         ensures disk { IfOk result (λ b. IsClean S.Store b → HasCleanDisk (state S.Store conn)) }
-        ensures limit { IfOk result
-            (λ b. (state S.Store b.held).step_limit ≡ (state S.Store conn).step_limit) }
 
         // A refusal: why, and that a crash leaves the book that was there, in one version or the other.
         ensures not_loaded { IfErr result
@@ -168,11 +154,10 @@ impl<S: Alter> Book<S> {
         ensures shut { IsTrue self.old.failed
             → (result ≡ Err StoreFault.Store) × (self.new ≡ self.old) }
 
-        // The disk, and that a crash leaves something.
-        ensures disk { IsClean S.Store self.new → IsClean S.Store self.old }
+        // Nothing is changed, a crash leaves something, and a fault of the store has a cause.
+        ensures unchanged { ChangesNothing (state S.Store self.old.held)
+            (state S.Store self.new.held) }
         ensures some_left { CrashLeavesSome (state S.Store self.new.held) }
-
-        // A fault of the store has a cause.
         ensures caused { self.old.failed ≡ false → IfErr result
             (IsCausedIfStore (state S.Store self.old.held) (state S.Store self.new.held)) }
 
@@ -181,19 +166,11 @@ impl<S: Alter> Book<S> {
             → IfOk result (λ roster. (shown : Option (List ℕ)) → IsShown roster what.now shown
             ↔ IsShown s what.now shown) }
 
-        // The state stays, with what the tables show and what a crash leaves.
+        // The state stays: a crash leaves it, and the tables mean it.
         ensures kept { (s : State) → IsDurablyAt S.Store self.old s
             → IsDurablyAt S.Store self.new s }
         ensures shown { (s : State) → IsDurablyAt S.Store self.old s → HasTables S.Store self.old s
             → OnOk result (HasTables S.Store self.new s) }
-        ensures still_shown { StillShows (state S.Store self.old.held)
-            (state S.Store self.new.held) }
-        ensures nothing_new { CrashAddsNothing (state S.Store self.old.held)
-            (state S.Store self.new.held) }
-        ensures still_open { result ≡ Err StoreFault.Memory
-            → StaysOpen (state S.Store self.old.held) (state S.Store self.new.held) }
-        ensures limit { (state S.Store self.new.held).step_limit
-            ≡ (state S.Store self.old.held).step_limit }
     {
         if self.failed {
             return Err(StoreFault::Store);

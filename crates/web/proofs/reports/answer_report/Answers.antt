@@ -10,4 +10,4 @@ pub returns : goal.returns
 returns g c =
     let shown = c.show-shown.ensures in
     reported_by g.S.Store c.args.book.now c.show-shown.new.self (subject c.args.report.now) c.in-Ok.what c.show-shown.result (answer_or_fault c.told_report.result)
-    c.in-Ok.ensures c.told_report.ensures shown.failed shown.shut shown.disk shown.text shown.kept shown.shown shown.still_shown shown.nothing_new shown.still_open
+    c.in-Ok.ensures c.told_report.ensures shown.failed shown.shut shown.unchanged.nothing_new.disk shown.text shown.kept shown.shown shown.unchanged.still_shown shown.unchanged.nothing_new (λ _. shown.unchanged.still_open)

@@ -3,6 +3,7 @@ use Rattle.std.specs.Prelude.{◌↔◌}
 use Rattle.sqlite.specs.Held.{state}
 use Rattle.roster.specs.State.{State}
 use Rattle.store.specs.Shown.{IsShown}
+use Rattle.lookup.proofs.Changes.{nothing_changes}
 use Rattle.book.proofs.Asked.{read_fault, shown_on, shows_it}
 use Rattle.book.proofs.States.{same_state, still_keeps}
 use Rattle.book.proofs.keeping.Book.show.Goals as goal
@@ -29,6 +30,12 @@ returns-clause-text g c = rw (← c.self.view_is) (λ s at clean.
 
 pub returns-clause-kept : goal.returns-clause-kept
 returns-clause-kept g c = rw (← c.self.view_is) (λ s at. still_keeps _ _ s c.shown-shown.ensures.unchanged.nothing_new c.shown-shown.ensures.some_left at)
+
+pub returns-then-self-clause-unchanged : goal.returns-then-self-clause-unchanged
+returns-then-self-clause-unchanged g c = nothing_changes (state g.S.Store c.args.self.now.held)
+
+pub returns-clause-unchanged : goal.returns-clause-unchanged
+returns-clause-unchanged g c = rw (← c.self.view_is) c.shown-shown.ensures.unchanged
 
 pub returns-clause-caused : goal.returns-clause-caused
 returns-clause-caused g c = rw (← c.self.view_is) (λ _.
