@@ -1,7 +1,6 @@
 -- From an exchange over a handler to one with a book.
-use Rattle.std.proofs.Common.{◌≡◌, ◌∙◌, ◌<◌, ◌⊎◌, ◌||◌, ◌++◌, ap, sym, subst, refl, inl, inr, arith, ℕ, Bool, true, false, IsTrue, List, [], ◌∷◌, length, drop, take, Option, Some, None, Result, Ok, Err, IfOk, IfErr}
+use Rattle.std.proofs.Common.{◌≡◌, ◌∙◌, ◌<◌, ◌⊎◌, ◌||◌, ap, sym, subst, refl, inl, inr, arith, ℕ, Bool, true, false, IsTrue, List, [], length, drop, take, Some, None, Result, Ok, Err, IfOk, IfErr}
 use Rattle.std.proofs.lemmas.List.{take_all}
-use Rattle.std.specs.Io.KnownBytes.{Appends}
 use Rattle.sqlite.specs.Held.{state}
 use Rattle.sqlite_trees.specs.declared.store.Store.{Ghosts}
 use Rattle.httparse.specs.Grammar.{RequestHead}
@@ -10,6 +9,7 @@ use Rattle.roster.specs.Honest.{Honest}
 use Rattle.roster.specs.State.{State}
 use Rattle.writing.specs.Kept.{KeepOthers}
 use Rattle.writing.specs.Outcomes.{CrashAddsOnly, CrashLeaves}
+use Rattle.book.specs.Calls.{IsAfterCalls}
 use Rattle.book.specs.Kept.{HasTables, IsDurablyAt, IsClean, Kept}
 use Rattle.http_message.specs.Heading.{heading}
 use Rattle.http_message.specs.Plan.{Planned, plan_for_head}
@@ -18,7 +18,7 @@ use Rattle.http_message.specs.declared.refusals.RequestFault.{RequestFault}
 use Rattle.http_message.specs.declared.refusals.RequestFault.TheVariants.{NoHead}
 use Rattle.http_exchange.specs.Exchange as exchange
 use Rattle.http_exchange.specs.Exchange.{ChannelBytes, asks, interim, unread}
-use Rattle.http_exchange.specs.Final.{IsAnswerTold, IsSent, IsFinalTold, of_answer, of_fault, of_no_memory, of_no_store}
+use Rattle.http_exchange.specs.Final.{IsAnswerTold, IsSent, IsFinalTold, of_answer, of_fault, of_no_memory}
 use Rattle.http_exchange.specs.Handler.{StatusText, HandlerRequest}
 use Rattle.http_exchange.specs.declared.exchanges.Served.{Served}
 use Rattle.http_exchange.specs.declared.exchanges.Served.TheVariants.{Answered, Nothing}
@@ -303,6 +303,10 @@ module _ {S : Type 0} (g : Ghosts S) where
     pub clean : exchange.AsksHandlerOnce handles old new → IsClean g new → IsClean g old
     clean (inl same) now = subst (λ b. IsClean g b) same now
     clean (inr (asked, (answer, it))) now = it.kept.disk now
+
+    pub calls : exchange.AsksHandlerOnce handles old new → IsAfterCalls g old new
+    calls (inl same) = ([], same)
+    calls (inr (asked, (answer, it))) = it.kept.calls
 
     pub others : exchange.AsksHandlerOnce handles old new → CrashAddsOnly (state g old.held) (state g new.held) (KeepOthers (state g old.held).now)
     others (inl same) = subst (λ b. CrashAddsOnly (state g old.held) (state g b.held) (KeepOthers (state g old.held).now)) (sym same) (record { crash = λ clean trees may. inl may })

@@ -1,5 +1,5 @@
 -- From what the book did to what is told of it.
-use Rattle.std.proofs.Common.{◌≡◌, ◌∙◌, ◌+◌, ◌||◌, ◌⊎◌, ◌↔◌, ap, sym, subst, refl, inl, inr, arith, ℕ, suc, Bool, true, false, IsTrue, List, [], ◌∷◌, length, map, take, Option, Some, None, Result, Ok, Err, IfOk, IsSome, OnErr, OnOk}
+use Rattle.std.proofs.Common.{◌≡◌, ◌∙◌, ◌+◌, ◌||◌, ◌↔◌, ap, sym, subst, refl, inl, inr, arith, ℕ, suc, Bool, true, false, IsTrue, List, [], ◌∷◌, length, map, take, Option, Some, None, Result, Ok, Err, IfOk, IsSome, OnErr, OnOk}
 use Rattle.std.proofs.lemmas.List.{take_all}
 use Rattle.sqlite.specs.Held.{state}
 use Rattle.sqlite_trees.specs.declared.store.Store.{Ghosts}
@@ -19,6 +19,7 @@ use Rattle.state_rows.specs.declared.fault.StoreFault.{StoreFault}
 use Rattle.state_rows.specs.declared.fault.StoreFault.TheVariants as fault
 use Rattle.writing.specs.Kept.{IsBookOf, KeepOthers}
 use Rattle.writing.specs.Outcomes.{CrashAddsNothing, CrashAddsOnly, CrashLeaves, StaysOpen, StillShows}
+use Rattle.book.specs.Calls.{IsAfterCalls}
 use Rattle.book.specs.Kept as kept
 use Rattle.book.specs.Kept.{Ends, HasTables, IsDurablyAt, IsClean, IsInDoubt, Kept, StillHasTables, result_of}
 use Rattle.store.specs.Shown.{IsShown}
@@ -30,9 +31,9 @@ use Rattle.http_exchange.specs.Handler as http
 use Rattle.http_exchange.specs.Handler.{StatusText, submit}
 use Rattle.http_exchange.specs.declared.handler.HandlerFault.{HandlerFault}
 use Rattle.http_exchange.specs.declared.handler.HandlerFault.TheVariants.{Store, Memory}
-use Rattle.web.specs.Acts.{Commands, IsReport, command_of, commands_of, request_answer, show_of}
+use Rattle.web.specs.Acts.{Commands, IsReport, command_of, show_of}
 use Rattle.web.specs.Answers.{TellsAnswer, command_answer, fault_answer, parts_answer}
-use Rattle.web.specs.Handling.{AreAdded, AreToldAs, IsCommandAsked, IsAskedIn, IsHandled, HoldsWhateverIsAsked, IsLeftByCommands, IsReportOf, IsReportToldAs, IsToldAs, IsUnanswered, answers_store_fault}
+use Rattle.web.specs.Handling.{AreAdded, AreToldAs, IsCommandAsked, IsAskedIn, IsHandled, HoldsWhateverIsAsked, IsLeftByCommands, IsReportOf, IsReportToldAs, IsToldAs, answers_store_fault}
 use Rattle.web.specs.Serving.{StillMeans}
 
 pub or_false : (b : Bool) → b ≡ (b || false)
@@ -68,6 +69,7 @@ module _ {S : Type 0} (g : Ghosts S) (book : Kept S) where
     disk = λ clean. clean;
     honest = λ s at honest. still_honest g book s at honest;
     others_left = record { crash = λ clean trees may. inl may };
+    calls = ([], refl);
   }
 
   -- there was no memory to ask
@@ -120,27 +122,28 @@ module _ {S : Type 0} (g : Ghosts S) (old new : Kept S) where
       → ((s : State) → IsDurablyAt g old s → Honest s → CrashLeaves (state g new.held) Honest)
       → CrashAddsOnly (state g old.held) (state g new.held) (KeepOthers (state g old.held).now)
       → (r ≡ Err fault.Memory → StaysOpen (state g old.held) (state g new.held))
+      → IsAfterCalls g old new
       → IsCommandAsked g old new asked told
-  asked_by asked (Ok a) (Ok answer) tells failed shut clean reply answered tables memory store shown honest others opened = record {
-    kept = record { failed = failed; shut = λ f. (shut f).1; disk = clean; honest = honest; others_left = others };
+  asked_by asked (Ok a) (Ok answer) tells failed shut clean reply answered tables memory store shown honest others opened calls = record {
+    kept = record { failed = failed; shut = λ f. (shut f).1; disk = clean; honest = honest; others_left = others; calls = calls };
     shut = λ f. none_answered a (shut f).0;
     done = λ s at. ((λ c. tells ∙ ap command_answer (reply s at c)), (answered s at, λ t. tables s at t));
   }
-  asked_by asked (Ok a) (Err Store) tells failed shut clean reply answered tables memory store shown honest others opened = absurd tells
-  asked_by asked (Ok a) (Err Memory) tells failed shut clean reply answered tables memory store shown honest others opened = record {
-    kept = record { failed = failed; shut = λ f. (shut f).1; disk = clean; honest = honest; others_left = others };
+  asked_by asked (Ok a) (Err Store) tells failed shut clean reply answered tables memory store shown honest others opened calls = absurd tells
+  asked_by asked (Ok a) (Err Memory) tells failed shut clean reply answered tables memory store shown honest others opened calls = record {
+    kept = record { failed = failed; shut = λ f. (shut f).1; disk = clean; honest = honest; others_left = others; calls = calls };
     shut = λ _. tt;
     done = λ s at. inr (answered s at, λ t. still_means g old new (folds.next s asked) (tables s at t));
   }
-  asked_by asked (Err fault.Store) told tells failed shut clean reply answered tables memory store shown honest others opened =
+  asked_by asked (Err fault.Store) told tells failed shut clean reply answered tables memory store shown honest others opened calls =
       subst (IsCommandAsked g old new asked) (sym tells) (record {
-        kept = record { failed = failed; shut = λ f. (shut f).1; disk = clean; honest = honest; others_left = others };
+        kept = record { failed = failed; shut = λ f. (shut f).1; disk = clean; honest = honest; others_left = others; calls = calls };
         shut = λ _. tt;
         done = λ s at. store s at refl;
       })
-  asked_by asked (Err fault.Memory) told tells failed shut clean reply answered tables memory store shown honest others opened =
+  asked_by asked (Err fault.Memory) told tells failed shut clean reply answered tables memory store shown honest others opened calls =
       subst (IsCommandAsked g old new asked) (sym tells) (record {
-        kept = record { failed = failed; shut = λ f. (shut f).1; disk = clean; honest = honest; others_left = others };
+        kept = record { failed = failed; shut = λ f. (shut f).1; disk = clean; honest = honest; others_left = others; calls = calls };
         shut = λ _. tt;
         done = λ s at. inl (memory s at refl, λ t. (shown s at t, opened refl));
       })
@@ -174,11 +177,12 @@ module _ {S : Type 0} (g : Ghosts S) (old new : Kept S) where
       → ((s : State) → IsDurablyAt g old s → Honest s → CrashLeaves (state g new.held) Honest)
       → CrashAddsOnly (state g old.held) (state g new.held) (KeepOthers (state g old.held).now)
       → (f ≡ Some fault.Memory → StaysOpen (state g old.held) (state g new.held))
+      → IsAfterCalls g old new
       → AreAdded g old new number plans told
-  added_by number plans commands answers None (Ok answer) is tells failed shut clean whole replies ends tables shown honest others opened =
+  added_by number plans commands answers None (Ok answer) is tells failed shut clean whole replies ends tables shown honest others opened calls =
       let every = whole refl in
       record {
-        kept = record { failed = failed; shut = λ f. (shut f).2; disk = clean; honest = honest; others_left = others };
+        kept = record { failed = failed; shut = λ f. (shut f).2; disk = clean; honest = honest; others_left = others; calls = calls };
         shut = λ f. let never : None ≡ Some fault.Store = (shut f).0 in absurd cc;
         done = λ s at.
             let all : take (length answers) (Replies s commands) ≡ Replies s commands = take_all (length answers) (Replies s commands) (omega (arith, every, length-replies s commands)) in (
@@ -186,9 +190,9 @@ module _ {S : Type 0} (g : Ghosts S) (old new : Kept S) where
               (subst (λ l. IsDurablyAt g new (Fold s l)) is (ends s at), λ t. subst (λ l. HasTables g new (Fold s l)) is (tables s at t refl)),
             );
       }
-  added_by number plans commands answers None (Err Store) is tells failed shut clean whole replies ends tables shown honest others opened = absurd tells
-  added_by number plans commands answers None (Err Memory) is tells failed shut clean whole replies ends tables shown honest others opened = record {
-    kept = record { failed = failed; shut = λ f. (shut f).2; disk = clean; honest = honest; others_left = others };
+  added_by number plans commands answers None (Err Store) is tells failed shut clean whole replies ends tables shown honest others opened calls = absurd tells
+  added_by number plans commands answers None (Err Memory) is tells failed shut clean whole replies ends tables shown honest others opened calls = record {
+    kept = record { failed = failed; shut = λ f. (shut f).2; disk = clean; honest = honest; others_left = others; calls = calls };
     shut = λ _. tt;
     done = λ s at.
         let all : take (length commands) commands ≡ commands = take_all (length commands) commands (omega arith) in (
@@ -198,15 +202,15 @@ module _ {S : Type 0} (g : Ghosts S) (old new : Kept S) where
               (subst (λ l. StillMeans g old new (Fold s l)) (sym all) (still_means g old new (Fold s commands) (tables s at t refl))),
         );
   }
-  added_by number plans commands answers (Some fault.Store) told is tells failed shut clean whole replies ends tables shown honest others opened =
+  added_by number plans commands answers (Some fault.Store) told is tells failed shut clean whole replies ends tables shown honest others opened calls =
       subst (AreAdded g old new number plans) (sym tells) (record {
-        kept = record { failed = failed; shut = λ f. (shut f).2; disk = clean; honest = honest; others_left = others };
+        kept = record { failed = failed; shut = λ f. (shut f).2; disk = clean; honest = honest; others_left = others; calls = calls };
         shut = λ _. tt;
         done = λ s at. (length answers, subst (λ l. IsInDoubt g new (Fold s (take (length answers) l)) (Fold s (take (length answers + 1) l))) is (ends s at));
       })
-  added_by number plans commands answers (Some fault.Memory) told is tells failed shut clean whole replies ends tables shown honest others opened =
+  added_by number plans commands answers (Some fault.Memory) told is tells failed shut clean whole replies ends tables shown honest others opened calls =
       subst (AreAdded g old new number plans) (sym tells) (record {
-        kept = record { failed = failed; shut = λ f. (shut f).2; disk = clean; honest = honest; others_left = others };
+        kept = record { failed = failed; shut = λ f. (shut f).2; disk = clean; honest = honest; others_left = others; calls = calls };
         shut = λ _. tt;
         done = λ s at. (
           length answers,
@@ -243,8 +247,9 @@ module _ {S : Type 0} (g : Ghosts S) (old new : Kept S) where
       → StillShows (state g old.held) (state g new.held)
       → CrashAddsNothing (state g old.held) (state g new.held)
       → (r ≡ Err fault.Memory → StaysOpen (state g old.held) (state g new.held))
+      → IsAfterCalls g old new
       → IsHandled g old new (http.show about) told
-  reported_by about what r told is tells failed shut clean text same tables shown left opened =
+  reported_by about what r told is tells failed shut clean text same tables shown left opened calls =
       go r told (subst (λ w. IsReportToldAs r w told) is tells) failed shut
       (λ s at c. subst (λ w. IfOk r (λ roster. (shown : Option (List ℕ)) → IsShown roster w shown ↔ IsShown s w shown)) is (text s at c)) tables opened
     where
@@ -255,6 +260,7 @@ module _ {S : Type 0} (g : Ghosts S) (old new : Kept S) where
         disk = clean;
         honest = λ s at honest. still_honest g new s (same s at) honest;
         others_left = record { crash = λ c trees may. inl (left.crash c trees may) };
+        calls = calls;
       }
 
       shows : (s : State) → HasTables g old s → StillHasTables g new s

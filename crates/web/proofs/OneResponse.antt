@@ -1,9 +1,6 @@
 -- An input has one response in a state.
-use Rattle.std.proofs.Common.{◌≡◌, ◌∙◌, ◌⊎◌, ap, sym, subst, refl, inl, inr, ℕ, Bool, List, [], Option, Some, None, Result, Ok, Err}
-use Rattle.httparse.specs.Grammar.{RequestHead}
+use Rattle.std.proofs.Common.{◌≡◌, ◌∙◌, ap, sym, subst, refl, inl, inr, ℕ, Bool, List, Option, Some, None, Result, Ok, Err}
 use Rattle.httparse.proofs.GrammarLemmas.{request_unique}
-use Rattle.duty.specs.Plans.{Plan}
-use Rattle.codec.specs.Schedule.{IsAtFault, IsSchedule}
 use Rattle.codec.proofs.OneReading.{has_no_fault, has_one_fault, is_of_one_list}
 use Rattle.stored_json.specs.declared.fault.CodecFault.TheVariants.{BadCsv}
 use Rattle.report.proofs.OneText.{one_exceedance_text, one_roster}
@@ -12,10 +9,8 @@ use Rattle.roster.specs.State.{State}
 use Rattle.store.specs.Shown.{IsShown}
 use Rattle.http_message.specs.Heading.{heading}
 use Rattle.http_message.specs.Plan.{Planned, Subject, crew, pairing, exceedances, plan_for_head}
-use Rattle.http_message.specs.declared.plan.Submission.{Submission}
 use Rattle.http_message.specs.declared.plan.Submission.TheVariants.{Command, Import}
 use Rattle.http_message.specs.declared.refusals.RequestFault.{RequestFault}
-use Rattle.http_exchange.specs.Exchange as exchange
 use Rattle.http_exchange.specs.Exchange.{asks}
 use Rattle.http_exchange.specs.Final.{Final, of_answer}
 use Rattle.http_exchange.specs.Handler as http

@@ -1,5 +1,5 @@
 -- A book over which no connection was taken.
-use Rattle.std.proofs.Common.{inl, refl}
+use Rattle.std.proofs.Common.{inl, refl, []}
 use Rattle.sqlite_trees.specs.declared.store.Store.{Ghosts}
 use Rattle.book.specs.Kept.{Kept}
 use Rattle.web.specs.Connections.{IsServedOnce}
@@ -12,4 +12,5 @@ none_served g book = record {
   disk = λ clean. clean;
   honest = λ s at honest. still_honest g book s at honest;
   others_left = record { crash = λ clean trees may. inl may };
+  calls = ([], refl);
 }

@@ -6,6 +6,7 @@ use Rattle.roster.specs.Honest.{Honest}
 use Rattle.roster.specs.State.{State}
 use Rattle.writing.specs.Kept.{KeepOthers}
 use Rattle.writing.specs.Outcomes.{CrashAddsOnly, CrashLeaves}
+use Rattle.book.specs.Calls.{IsAfterCalls}
 use Rattle.book.specs.Kept.{IsDurablyAt, IsClean, Kept}
 use Rattle.web.specs.Serving.{AsksOnce}
 
@@ -16,3 +17,5 @@ pub record IsServedOnce {S : Type 0} (g : Ghosts S) (old new : Kept S) : Type 0 
   pub disk : IsClean g new → IsClean g old
   pub honest : (s : State) → IsDurablyAt g old s → Honest s → CrashLeaves (state g new.held) Honest
   pub others_left : CrashAddsOnly (state g old.held) (state g new.held) (KeepOthers (state g old.held).now)
+  -- what was done to the book is a list of calls, whatever came over the connection
+  pub calls : IsAfterCalls g old new

@@ -17,7 +17,8 @@ use Rattle.report.specs.declared.fault.ReportFault.{ReportFault}
 use Rattle.report.specs.declared.fault.ReportFault.TheVariants as report
 use Rattle.writing.specs.Kept.{KeepOthers}
 use Rattle.writing.specs.Outcomes.{CrashAddsOnly, CrashLeaves}
-use Rattle.book.specs.Kept.{HasTables, IsDurablyAt, IsClean, IsInDoubt, Kept, StillHasTables, result_of}
+use Rattle.book.specs.Calls.{IsAfterCalls}
+use Rattle.book.specs.Kept.{HasTables, IsDurablyAt, IsClean, IsInDoubt, Kept, result_of}
 use Rattle.store.specs.Shown.{IsShown}
 use Rattle.book.specs.declared.answer.Answer as book
 use Rattle.store.specs.declared.show.Show.{Show}
@@ -105,6 +106,7 @@ module _ {S : Type 0} (g : Ghosts S) (old new : Kept S) where
     pub disk : IsClean g new → IsClean g old
     pub honest : (s : State) → IsDurablyAt g old s → Honest s → CrashLeaves (state g new.held) Honest
     pub others_left : CrashAddsOnly (state g old.held) (state g new.held) (KeepOthers (state g old.held).now)
+    pub calls : IsAfterCalls g old new
 
   -- the book was handed a request, and gave this result
   pub record IsHandled (asked : HandlerRequest) (result : Result StatusText HandlerFault) : Type 0 where

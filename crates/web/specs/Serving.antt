@@ -1,5 +1,5 @@
 -- What one exchange with a book is: the response was given, or 503 for a fault; and where the channel fails, what was asked.
-use Rattle.std.specs.Prelude.{◌≡◌, ◌⊎◌, ◌<◌, ⊤, ℕ, ◌+◌, false, IsTrue, List, [], ◌++◌, length, drop, take, Option, Some, None, Result, Ok, Err}
+use Rattle.std.specs.Prelude.{◌≡◌, ◌⊎◌, ◌<◌, ⊤, ℕ, ◌+◌, false, IsTrue, List, [], ◌++◌, length, drop, take, Option, Some, None, Ok}
 use Rattle.std.specs.Io.KnownBytes.{Appends}
 use Rattle.httparse.specs.Grammar.{RequestHead}
 use Rattle.sqlite.specs.Held.{state}

@@ -43,6 +43,8 @@ fn ask<S: Alter>(
     ensures { spec.IsCommandAsked S.Store book.old book.new (key, command.now)
         (answer_or_fault result) }
 {
+    // It has no fault, as the commands of a call have none.
+    let _made = command.instruction();
     let answer = book.ask(alloc, key, command);
     told(alloc, answer)
 }

@@ -6,6 +6,7 @@ ghost use Rattle.roster.specs.State.{State};
 ghost use Rattle.sqlite.specs.Held.{state};
 ghost use Rattle.writing.specs.Kept.{KeepOthers};
 ghost use Rattle.writing.specs.Outcomes.{CrashAddsOnly, CrashLeaves};
+ghost use Rattle.book.specs.Calls.{IsAfterCalls};
 ghost use Rattle.book.specs.Kept.{IsDurablyAt, IsClean};
 ghost use Rattle.web.specs.Serving as spec;
 
@@ -75,6 +76,9 @@ pub fn exchange<R: Read, W: Write, S: Alter>(
     // What stands beside the book in the database.
     ensures others_left { CrashAddsOnly (state S.Store book.old.held) (state S.Store book.new.held)
         (KeepOthers (state S.Store book.old.held).now) }
+
+    // What was done to the book is a list of calls, of which a life is made.
+    ensures calls { IsAfterCalls S.Store book.old book.new }
 {
     http_exchange::exchange(alloc, reader, writer, &BookHandler, book)
 }

@@ -2,7 +2,9 @@
 //! What clients send and are answered: `tests/exchanges.py`. Wrong bodies: `must-fail/`.
 ghost use Rattle.std.specs.Prelude.{◌≡◌, ◌≤◌, IfOk, length};
 ghost use Rattle.command.specs.declared.instruction.Instruction.TheVariants.{AddPairing};
+ghost use Rattle.command.specs.Instructions.{IsMade};
 ghost use Rattle.roster.specs.Folds.{import};
+ghost use Rattle.roster.specs.Laws.{AreMade};
 ghost use Rattle.http_message.specs.declared.plan.Submission.TheVariants as submission;
 ghost use Rattle.http_exchange.specs.Handler.{answer_or_fault, submit};
 ghost use Rattle.web.specs.Handling as spec;
@@ -72,7 +74,8 @@ fn commands_of(
     pairings: Vec<Pairing>,
 ) -> Result<Vec<(Key, Command)>, MemoryFault>
     requires { length pairings.items ≤ 10_000 }
-    ensures { IfOk result (λ commands. commands.items ≡ import number pairings.items) }
+    ensures import { IfOk result (λ commands. commands.items ≡ import number pairings.items) }
+    ensures made { IfOk result (λ commands. AreMade commands.items) }
 {
     let mut commands = Vec::new(alloc);
     let mut part = 1u16;
@@ -86,12 +89,17 @@ fn commands_of(
 /// Makes the command that adds a pairing.
 #[tactic(auto, unfolding(command::specs::Instructions::instruction_fault))]
 fn adding(pairing: Pairing) -> Command
-    ensures { result ≡ AddPairing pairing }
+    ensures command { result ≡ AddPairing pairing }
+    ensures made { IsMade result }
 {
     // It has no fault, and so the command has none.
     let _sound = pairing.periods();
     match Command::new(Instruction::AddPairing(pairing)) {
-        Ok(command) => command,
+        Ok(command) => {
+            // (that it is made, its own clause says)
+            let _made = command.instruction();
+            command
+        }
         Err(_fault) => unreachable!(),
     }
 }

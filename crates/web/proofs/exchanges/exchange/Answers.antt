@@ -1,4 +1,4 @@
-use Rattle.web.proofs.Exchanged.{broken_off, honest, once, served, served_shut, unchanged_if_shut}
+use Rattle.web.proofs.Exchanged.{broken_off, calls, honest, once, served, served_shut, unchanged_if_shut}
 use Rattle.web.proofs.exchanges.exchange.Goals as goal
 
 pub returns-clause-served : goal.returns-clause-served
@@ -12,6 +12,9 @@ returns-clause-once g c = λ s at. once g.S.Store s c.args.book.now c.exchange.n
 
 pub returns-clause-honest : goal.returns-clause-honest
 returns-clause-honest g c = λ s at fair. honest g.S.Store s c.args.book.now c.exchange.new.kept at c.exchange.ensures.once fair
+
+pub returns-clause-calls : goal.returns-clause-calls
+returns-clause-calls g c = calls g.S.Store c.args.book.now c.exchange.new.kept c.exchange.ensures.once
 
 pub returns-clause-shut : goal.returns-clause-shut
 returns-clause-shut g c = λ failed. (

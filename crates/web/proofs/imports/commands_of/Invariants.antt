@@ -1,4 +1,3 @@
-use Rattle.std.proofs.Common.{◌≡◌, ◌++◌, ◌+◌, ◌≤◌, length}
 use Rattle.std.specs.Vec.Iter.{into_iter_items}
 use Rattle.web.proofs.Importing.{IsSoFar}
 use Rattle.web.proofs.imports.commands_of.Given as goal
