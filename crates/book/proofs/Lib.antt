@@ -1,6 +1,7 @@
 pub mod States
 pub mod Asked
 pub mod Opened
+pub mod Left
 pub mod Runs
 pub mod SessionLemmas
 pub mod Holding

@@ -1,19 +1,61 @@
--- What is found in the files of a book.
+-- What files hold of a book: what is found in them as they are opened, and what is left of them.
+use Rattle.std.specs.Prelude.{◌≡◌, ◌⊎◌, []}
+use Rattle.sqlite_disk.specs.declared.Disk.{Ghosts}
+use Rattle.sqlite_wal.specs.Files.{outcomes}
+use Rattle.sqlite_wal.specs.Reads.{AreClean}
 use Rattle.sqlite_wal.specs.Recovery.{Image}
 use Rattle.sqlite_trees.specs.Tree.{Trees}
-use Rattle.sqlite.specs.Files.{AreFoundIn}
+use Rattle.sqlite_trees.specs.View as view
+use Rattle.sqlite.specs.Files.{AreFoundIn, HoldsDatabase, image_of, over_files}
 use Rattle.sqlite.specs.State as conn
 use Rattle.roster.specs.State.{State}
 use Rattle.store.specs.Found.{IsFoundIn}
+use Rattle.writing.specs.Kept.{HoldBookOf, HoldFirstBookOf}
 use Rattle.writing.specs.Outcomes.{HoldsNow}
-use Rattle.book.specs.Kept.{Keeps}
+use Rattle.book.specs.Kept.{IsKept, Keeps}
+use Rattle.book.specs.declared.file.FilesLeft.{FilesLeft}
+use Rattle.book.specs.declared.file.FilesLeft.TheVariants.{Closed, Unclosed}
+
+-- the two files hold the tables of a book in this state, which tables may mean, in version 1 or 2
+pub record HoldsBook (image : Image) (s : State) : Type 0 where
+  pub trees : Trees
+  pub in_files : ∥ HoldsDatabase image trees ∥₁
+  pub tables : HoldFirstBookOf trees s ⊎ HoldBookOf trees s
+  pub kept : IsKept s
+
+-- a sound book in this state is found in the files, and they hold a book in no other state
+pub record FindsBook (image : Image) (s : State) : Type 0 where
+  pub trees : Trees
+  pub in_files : AreFoundIn image trees
+  pub found : IsFoundIn s trees
+  pub only : (t : State) → HoldsBook image t → t ≡ s
 
 -- a book in some state is found in the files; it is what is shown, and a crash leaves that state
 -- and nothing else
 pub record MeansWhatIsIn (image : Image) (now : conn.State) : Type 0 where
   pub it : State
-  pub trees : Trees
-  pub in_files : AreFoundIn image trees
-  pub found : IsFoundIn it trees
+  pub finds : FindsBook image it
   pub shown : HoldsNow now it
   pub keeps : Keeps now it
+
+-- ---- What is left
+
+-- the two files hold a book in this state, and so does the database file with no log
+pub record HoldsBookAlone (image : Image) (s : State) : Type 0 where
+  pub both : HoldsBook image s
+  pub alone : HoldsBook (record image { log = [] }) s
+
+module _ {D : Type 0} {g : Ghosts D} where
+  -- the disk of the files has returned what was written
+  abbrev pub IsCleanLeft : FilesLeft D g → Type 0
+  IsCleanLeft (Closed files) = AreClean g files.log files.db
+  IsCleanLeft (Unclosed store) = view.IsClean (over_files.view store)
+
+  -- Files that were closed hold a book in this state, as they read now and after a crash. Of others
+  -- whatever is found after a crash is such a book.
+  abbrev pub LeavesBook : FilesLeft D g → State → Type 0
+  LeavesBook (Closed files) s =
+      HoldsBookAlone (image_of g files) s
+      × ((image : Image) → outcomes g files.log files.db image → HoldsBookAlone image s)
+  LeavesBook (Unclosed store) s =
+      IsKept s × ((trees : Trees) → over_files.recovers store trees → HoldBookOf trees s)

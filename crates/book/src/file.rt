@@ -7,12 +7,13 @@ ghost use Rattle.sqlite.specs.Files.{IsOpened, file_state, over_files};
 ghost use Rattle.sqlite.specs.Held.{state};
 ghost use Rattle.sqlite.specs.Start.{FindsIn};
 ghost use Rattle.sqlite.specs.State.{HasCleanDisk};
+ghost use Rattle.roster.specs.State.{State, empty};
 ghost use Rattle.writing.specs.Outcomes.{IsOutside};
-ghost use Rattle.book.specs.Kept.{IsClean, HasFoundBook};
-ghost use Rattle.book.specs.Found.{MeansWhatIsIn};
+ghost use Rattle.book.specs.Kept.{IsClean, IsDurablyAt, HasFoundBook};
+ghost use Rattle.book.specs.Found.{IsCleanLeft, LeavesBook, MeansWhatIsIn};
 
 use crate::keeping::Book;
-use sqlite::{Alter, Connection, Error, ErrorCode, FileFrom, FileStore, Start, Wary};
+use sqlite::{Alter, Connection, Error, ErrorCode, FileFrom, FileStore, Files, Start, Wary};
 use sqlite_disk::Disk;
 use std::alloc::Global;
 use std::fs::exists;
@@ -21,6 +22,23 @@ use time117::Zone;
 
 /// A book in the files of a path: the database, and its log beside it. Of a write that a crash tears nothing is supposed.
 pub type FileBook = Book<FileStore<FileFrom<Wary>>>;
+
+/// What is left of the files of a book.
+pub enum FilesLeft<D: Disk> {
+    /// The files, closed: what was committed is copied from the log into the database.
+    Closed(Files<D>),
+    /// The store over them, where that wasn't done: what was committed may stand in the log alone.
+    Unclosed(FileStore<D>),
+}
+
+impl<D: Disk + Drop> Drop for FilesLeft<D> {
+    fn drop(self) {
+        match self {
+            FilesLeft::Closed(_files) => {}
+            FilesLeft::Unclosed(_store) => {}
+        }
+    }
+}
 
 impl<S: Start> Book<FileStore<FileFrom<S>>> {
     /// Opens the file of a path and takes up the book in it, as [`Book::adopt`] does: one of version 1 becomes one of version 2.
@@ -55,17 +73,47 @@ impl FileBook {
 }
 
 impl<D: Disk + Drop> Book<FileStore<D>> {
-    /// Closes the files. What is committed stands in the log, whether or not it is copied into the database now.
-    pub fn close(self) {
-        let _ = self.into_connection().close();
+    /// Closes the files. What is committed stands in the log, whether or not it is copied into the
+    /// database now.
+    pub fn close(self) -> FilesLeft<D>
+        ensures disk { IsCleanLeft result → IsClean over_files self }
+        ensures kept { (s : State) → IsDurablyAt over_files self s → IsCleanLeft result
+            → LeavesBook result s }
+    {
+        match self.into_connection().close_files() {
+            Ok(files) => FilesLeft::Closed(files),
+            Err((_error, store)) => FilesLeft::Unclosed(store),
+        }
+    }
+
+    /// Lets go of the files as they are.
+    pub fn leave(self) -> FilesLeft<D>
+        ensures disk { IsCleanLeft result → IsClean over_files self }
+        ensures kept { (s : State) → IsDurablyAt over_files self s → IsCleanLeft result
+            → LeavesBook result s }
+    {
+        FilesLeft::Unclosed(self.into_connection().into_store())
     }
 }
 
-/// Makes an empty book of a zone in a new or empty file, as [`Book::create`] does, and closes it. A file that `sqlite` doesn't
-/// open is 90, or 91 where it finds no memory.
+/// Makes an empty book of a zone in a new or empty file, as [`Book::create`] does, and closes it.
+/// A file that `sqlite` doesn't open is 90, or 91 where it finds no memory. `start` stands for what
+/// the files hold.
+pub fn create_from<S: Start>(
+    rt: &HostRuntime,
+    path: &str,
+    zone: Zone,
+    start: S,
+) -> Result<FilesLeft<FileFrom<S>>, CreateFault>
+    ensures { IfOk result (λ left. IsCleanLeft left → LeavesBook left (empty zone)) }
+{
+    let book = created(rt.alloc(), connect(rt, path, start)?, zone)?;
+    Ok(book.close())
+}
+
+/// Makes the book in the file that is there.
 pub fn create_file(rt: &HostRuntime, path: &str, zone: Zone) -> Result<(), CreateFault> {
-    let book = created(rt.alloc(), connect(rt, path, Wary)?, zone)?;
-    book.close();
+    create_from(rt, path, zone, Wary)?;
     Ok(())
 }
 
@@ -76,6 +124,7 @@ fn created<S: Alter + Drop>(
     zone: Zone,
 ) -> Result<Book<S>, CreateFault>
     requires { IsOutside (state S.Store conn) }
+    ensures { IfOk result (λ b. IsDurablyAt S.Store b (empty zone)) }
 {
     match Book::create(alloc, conn, zone) {
         Ok(book) => Ok(book),
