@@ -2,6 +2,7 @@ pub mod Retained
 pub mod Alike
 pub mod Causes
 pub mod Answers
+pub mod Settled
 pub mod SoundParts
 pub mod Picked
 pub mod ShownParts

@@ -4,12 +4,15 @@
 ghost use Rattle.std.specs.Prelude.{◌≡◌, ◌++◌, IfErr, OnOk};
 ghost use Rattle.std.specs.FinMap as fin;
 ghost use Rattle.std.specs.Str.{bytes_eq};
-ghost use Rattle.command.specs.Keys.{key_name};
-ghost use Rattle.part.specs.Part.{Part, pairings_needed, grounds_needed, outsides_needed, judged_by, needs_member};
+ghost use Rattle.command.specs.Keys.{KeyParts, key_name};
+ghost use Rattle.part.specs.Part.{NamedPart, Part, is_one_of, judged_by, needs_member};
+ghost use Rattle.part.specs.Part.{members_named, pairings_named, grounds_named, outsides_named, pairings_needed, grounds_needed, outsides_needed};
 ghost use Rattle.roster.specs.Holding.{AreJust};
 ghost use Rattle.part.specs.Sources.{IsCaused, IsGroundOfOne, IsHeldByOne, IsOutsideOfOne, TellsOfState};
 
-use crate::named::{grounds_named, judged_in, members_wanted, outsides_named, pairings_named};
+use crate::named::{
+    grounds_named, judged_in, members_named, members_wanted, outsides_named, pairings_named,
+};
 use crate::pick::{pick_grounds, pick_members, pick_outsides, pick_pairings, pick_request};
 use crate::source::Source;
 use command::{Command, Instruction, Key, Member};
@@ -90,108 +93,6 @@ fn outsides_of_one<S: Source>(
     Ok(all)
 }
 
-/// The pairings of a part, and whose histories are judged.
-struct Plans {
-    pairings: OrdMap<PairingId, PairingEntry>,
-    judged: Vec<CrewId>,
-}
-
-/// Gathers the pairings of a part, and the members whose histories are judged.
-#[tactic(auto, using(crate::proofs::Picked::pairings_are))]
-fn gather_plans<S: Source>(
-    alloc: Global,
-    source: &mut S,
-    instruction: &Instruction,
-) -> Result<Plans, S::Fault>
-    ensures told { TellsOfState S.is_clean S.shows
-        (λ s it. (it.pairings ≡ pairings_needed s instruction.now)
-        × (it.judged.items ≡ judged_by s instruction.now)) source.old source.new result }
-    ensures left { S.stays source.old source.new }
-    ensures caused { IfErr result
-        (IsCaused S.fails S.Fault.from_gives source.old source.new) }
-    ensures serves { OnOk result (S.serves source.old source.new) }
-{
-    let mut pairings = OrdMap::new(alloc);
-    let named = pairings_named(alloc, instruction)?;
-    pick_pairings(alloc, source, &named, &mut pairings)?;
-    let judged = judged_in(alloc, instruction, &pairings)?;
-    let held = held_by_one(alloc, source, &judged)?;
-    pick_pairings(alloc, source, &held, &mut pairings)?;
-    Ok(Plans { pairings, judged })
-}
-
-/// Gathers the ground duties of a part.
-#[tactic(auto, using(crate::proofs::Picked::grounds_are))]
-fn gather_grounds<S: Source>(
-    alloc: Global,
-    source: &mut S,
-    instruction: &Instruction,
-    judged: &[CrewId],
-) -> Result<OrdMap<GroundId, Ground>, S::Fault>
-    ensures told { TellsOfState S.is_clean S.shows (λ s it. judged.now ≡ judged_by s instruction.now
-        → it ≡ grounds_needed s instruction.now) source.old source.new result }
-    ensures left { S.stays source.old source.new }
-    ensures caused { IfErr result
-        (IsCaused S.fails S.Fault.from_gives source.old source.new) }
-    ensures serves { OnOk result (S.serves source.old source.new) }
-{
-    let mut grounds = OrdMap::new(alloc);
-    let named = grounds_named(alloc, instruction)?;
-    pick_grounds(alloc, source, &named, &mut grounds)?;
-    let theirs = grounds_of_one(alloc, source, judged)?;
-    pick_grounds(alloc, source, &theirs, &mut grounds)?;
-    Ok(grounds)
-}
-
-/// Gathers the outside periods of a part.
-#[tactic(auto, using(crate::proofs::Picked::outsides_are))]
-fn gather_outsides<S: Source>(
-    alloc: Global,
-    source: &mut S,
-    instruction: &Instruction,
-    judged: &[CrewId],
-) -> Result<OrdMap<OutsideId, OutsideEntry>, S::Fault>
-    ensures told { TellsOfState S.is_clean S.shows (λ s it. judged.now ≡ judged_by s instruction.now
-        → it ≡ outsides_needed s instruction.now) source.old source.new result }
-    ensures left { S.stays source.old source.new }
-    ensures caused { IfErr result
-        (IsCaused S.fails S.Fault.from_gives source.old source.new) }
-    ensures serves { OnOk result (S.serves source.old source.new) }
-{
-    let mut outsides = OrdMap::new(alloc);
-    let named = outsides_named(alloc, instruction)?;
-    pick_outsides(alloc, source, &named, &mut outsides)?;
-    let theirs = outsides_of_one(alloc, source, judged)?;
-    pick_outsides(alloc, source, &theirs, &mut outsides)?;
-    Ok(outsides)
-}
-
-/// Gathers the members of a part.
-fn gather_members<S: Source>(
-    alloc: Global,
-    source: &mut S,
-    instruction: &Instruction,
-    pairings: &OrdMap<PairingId, PairingEntry>,
-    grounds: &OrdMap<GroundId, Ground>,
-    outsides: &OrdMap<OutsideId, OutsideEntry>,
-) -> Result<OrdMap<CrewId, Member>, S::Fault>
-    ensures told { TellsOfState S.is_clean S.shows
-        (λ s it. pairings.now ≡ pairings_needed s instruction.now
-        → grounds.now ≡ grounds_needed s instruction.now
-        → outsides.now ≡ outsides_needed s instruction.now
-        → it ≡ fin.retain_keys s.crew (needs_member s instruction.now))
-        source.old source.new result }
-    ensures left { S.stays source.old source.new }
-    ensures caused { IfErr result
-        (IsCaused S.fails S.Fault.from_gives source.old source.new) }
-    ensures serves { OnOk result (S.serves source.old source.new) }
-{
-    let mut crew = OrdMap::new(alloc);
-    let wanted = members_wanted(alloc, instruction, pairings, grounds, outsides)?;
-    pick_members(alloc, source, &wanted, &mut crew)?;
-    Ok(crew)
-}
-
 /// Gathers what the key holds.
 #[tactic(auto, using(crate::proofs::Picked::entry_is))]
 fn gather_requests<S: Source>(
@@ -206,10 +107,264 @@ fn gather_requests<S: Source>(
     ensures caused { IfErr result
         (IsCaused S.fails S.Fault.from_gives source.old source.new) }
     ensures serves { OnOk result (S.serves source.old source.new) }
+    ensures there { OnOk result (S.is_there source.new) }
 {
     let mut requests = OrdMap::new(alloc);
     pick_request(alloc, source, key, &mut requests)?;
     Ok(requests)
+}
+
+/// Gathers the members that an instruction names.
+#[tactic(auto, using(crate::proofs::Picked::names_are))]
+fn gather_crew_named<S: Source>(
+    alloc: Global,
+    source: &mut S,
+    instruction: &Instruction,
+) -> Result<OrdMap<CrewId, Member>, S::Fault>
+    ensures told { TellsOfState S.is_clean S.shows
+        (λ s it. it ≡ fin.retain_keys s.crew (is_one_of (members_named instruction.now)))
+        source.old source.new result }
+    ensures left { S.stays source.old source.new }
+    ensures caused { IfErr result
+        (IsCaused S.fails S.Fault.from_gives source.old source.new) }
+    ensures serves { OnOk result (S.serves source.old source.new) }
+{
+    let mut crew = OrdMap::new(alloc);
+    let names = members_named(alloc, instruction)?;
+    pick_members(alloc, source, &names, &mut crew)?;
+    Ok(crew)
+}
+
+/// Gathers the pairings that an instruction names.
+#[tactic(auto, using(crate::proofs::Picked::names_are))]
+fn gather_pairings_named<S: Source>(
+    alloc: Global,
+    source: &mut S,
+    instruction: &Instruction,
+) -> Result<OrdMap<PairingId, PairingEntry>, S::Fault>
+    ensures told { TellsOfState S.is_clean S.shows
+        (λ s it. it ≡ fin.retain_keys s.pairings (is_one_of (pairings_named instruction.now)))
+        source.old source.new result }
+    ensures left { S.stays source.old source.new }
+    ensures caused { IfErr result
+        (IsCaused S.fails S.Fault.from_gives source.old source.new) }
+    ensures serves { OnOk result (S.serves source.old source.new) }
+{
+    let mut pairings = OrdMap::new(alloc);
+    let names = pairings_named(alloc, instruction)?;
+    pick_pairings(alloc, source, &names, &mut pairings)?;
+    Ok(pairings)
+}
+
+/// Gathers the ground duties that an instruction names.
+#[tactic(auto, using(crate::proofs::Picked::names_are))]
+fn gather_grounds_named<S: Source>(
+    alloc: Global,
+    source: &mut S,
+    instruction: &Instruction,
+) -> Result<OrdMap<GroundId, Ground>, S::Fault>
+    ensures told { TellsOfState S.is_clean S.shows
+        (λ s it. it ≡ fin.retain_keys s.grounds (is_one_of (grounds_named instruction.now)))
+        source.old source.new result }
+    ensures left { S.stays source.old source.new }
+    ensures caused { IfErr result
+        (IsCaused S.fails S.Fault.from_gives source.old source.new) }
+    ensures serves { OnOk result (S.serves source.old source.new) }
+{
+    let mut grounds = OrdMap::new(alloc);
+    let names = grounds_named(alloc, instruction)?;
+    pick_grounds(alloc, source, &names, &mut grounds)?;
+    Ok(grounds)
+}
+
+/// Gathers the outside periods that an instruction names.
+#[tactic(auto, using(crate::proofs::Picked::names_are))]
+fn gather_outsides_named<S: Source>(
+    alloc: Global,
+    source: &mut S,
+    instruction: &Instruction,
+) -> Result<OrdMap<OutsideId, OutsideEntry>, S::Fault>
+    ensures told { TellsOfState S.is_clean S.shows
+        (λ s it. it ≡ fin.retain_keys s.outsides (is_one_of (outsides_named instruction.now)))
+        source.old source.new result }
+    ensures left { S.stays source.old source.new }
+    ensures caused { IfErr result
+        (IsCaused S.fails S.Fault.from_gives source.old source.new) }
+    ensures serves { OnOk result (S.serves source.old source.new) }
+{
+    let mut outsides = OrdMap::new(alloc);
+    let names = outsides_named(alloc, instruction)?;
+    pick_outsides(alloc, source, &names, &mut outsides)?;
+    Ok(outsides)
+}
+
+/// Gathers what an instruction names, beside what its key holds.
+pub(crate) fn gather_named<S: Source>(
+    alloc: Global,
+    source: &mut S,
+    instruction: &Instruction,
+    requests: OrdMap<Key, LoggedCommand>,
+) -> Result<Roster, S::Fault>
+    ensures told { TellsOfState S.is_clean S.shows (λ s it. (key : KeyParts)
+        → requests ≡ fin.retain_keys s.requests (bytes_eq (key_name key))
+        → it ≡ NamedPart s key instruction.now) source.old source.new result }
+    ensures left { S.stays source.old source.new }
+    ensures caused { IfErr result
+        (IsCaused S.fails S.Fault.from_gives source.old source.new) }
+    ensures serves { OnOk result (S.serves source.old source.new) }
+{
+    let bases = source.bases(alloc)?;
+    let crew = gather_crew_named(alloc, source, instruction)?;
+    let pairings = gather_pairings_named(alloc, source, instruction)?;
+    let grounds = gather_grounds_named(alloc, source, instruction)?;
+    let outsides = gather_outsides_named(alloc, source, instruction)?;
+    Ok(Roster {
+        bases,
+        crew,
+        pairings,
+        grounds,
+        outsides,
+        exceedances: OrdMap::new(alloc),
+        requests,
+    })
+}
+
+/// Adds the pairings that judged members hold to those that are named.
+fn add_pairings<S: Source>(
+    alloc: Global,
+    source: &mut S,
+    judged: &[CrewId],
+    pairings: &mut OrdMap<PairingId, PairingEntry>,
+) -> Result<(), S::Fault>
+    ensures told { TellsOfState S.is_clean S.shows (λ s _. (instruction : Instruction)
+        → judged.now ≡ judged_by s instruction
+        → pairings.old ≡ fin.retain_keys s.pairings (is_one_of (pairings_named instruction))
+        → pairings.new ≡ pairings_needed s instruction) source.old source.new result }
+    ensures left { S.stays source.old source.new }
+    ensures caused { IfErr result
+        (IsCaused S.fails S.Fault.from_gives source.old source.new) }
+    ensures serves { OnOk result (S.serves source.old source.new) }
+{
+    let theirs = held_by_one(alloc, source, judged)?;
+    pick_pairings(alloc, source, &theirs, pairings)?;
+    Ok(())
+}
+
+/// Adds the ground duties of judged members to those that are named.
+fn add_grounds<S: Source>(
+    alloc: Global,
+    source: &mut S,
+    judged: &[CrewId],
+    grounds: &mut OrdMap<GroundId, Ground>,
+) -> Result<(), S::Fault>
+    ensures told { TellsOfState S.is_clean S.shows (λ s _. (instruction : Instruction)
+        → judged.now ≡ judged_by s instruction
+        → grounds.old ≡ fin.retain_keys s.grounds (is_one_of (grounds_named instruction))
+        → grounds.new ≡ grounds_needed s instruction) source.old source.new result }
+    ensures left { S.stays source.old source.new }
+    ensures caused { IfErr result
+        (IsCaused S.fails S.Fault.from_gives source.old source.new) }
+    ensures serves { OnOk result (S.serves source.old source.new) }
+{
+    let theirs = grounds_of_one(alloc, source, judged)?;
+    pick_grounds(alloc, source, &theirs, grounds)?;
+    Ok(())
+}
+
+/// Adds the outside periods of judged members to those that are named.
+fn add_outsides<S: Source>(
+    alloc: Global,
+    source: &mut S,
+    judged: &[CrewId],
+    outsides: &mut OrdMap<OutsideId, OutsideEntry>,
+) -> Result<(), S::Fault>
+    ensures told { TellsOfState S.is_clean S.shows (λ s _. (instruction : Instruction)
+        → judged.now ≡ judged_by s instruction
+        → outsides.old ≡ fin.retain_keys s.outsides (is_one_of (outsides_named instruction))
+        → outsides.new ≡ outsides_needed s instruction) source.old source.new result }
+    ensures left { S.stays source.old source.new }
+    ensures caused { IfErr result
+        (IsCaused S.fails S.Fault.from_gives source.old source.new) }
+    ensures serves { OnOk result (S.serves source.old source.new) }
+{
+    let theirs = outsides_of_one(alloc, source, judged)?;
+    pick_outsides(alloc, source, &theirs, outsides)?;
+    Ok(())
+}
+
+/// Adds the members whom a part has to those that are named.
+fn add_members<S: Source>(
+    alloc: Global,
+    source: &mut S,
+    instruction: &Instruction,
+    pairings: &OrdMap<PairingId, PairingEntry>,
+    grounds: &OrdMap<GroundId, Ground>,
+    outsides: &OrdMap<OutsideId, OutsideEntry>,
+    crew: &mut OrdMap<CrewId, Member>,
+) -> Result<(), S::Fault>
+    ensures told { TellsOfState S.is_clean S.shows
+        (λ s _. pairings.now ≡ pairings_needed s instruction.now
+        → grounds.now ≡ grounds_needed s instruction.now
+        → outsides.now ≡ outsides_needed s instruction.now
+        → crew.old ≡ fin.retain_keys s.crew (is_one_of (members_named instruction.now))
+        → crew.new ≡ fin.retain_keys s.crew (needs_member s instruction.now))
+        source.old source.new result }
+    ensures left { S.stays source.old source.new }
+    ensures caused { IfErr result
+        (IsCaused S.fails S.Fault.from_gives source.old source.new) }
+    ensures serves { OnOk result (S.serves source.old source.new) }
+{
+    let wanted = members_wanted(alloc, instruction, pairings, grounds, outsides)?;
+    pick_members(alloc, source, &wanted, crew)?;
+    Ok(())
+}
+
+/// Adds the histories by which an instruction is judged to what it names.
+pub(crate) fn add_histories<S: Source>(
+    alloc: Global,
+    source: &mut S,
+    instruction: &Instruction,
+    named: Roster,
+) -> Result<Roster, S::Fault>
+    ensures told { TellsOfState S.is_clean S.shows (λ s it. (key : KeyParts)
+        → named ≡ NamedPart s key instruction.now → it ≡ Part s key instruction.now)
+        source.old source.new result }
+    ensures left { S.stays source.old source.new }
+    ensures caused { IfErr result
+        (IsCaused S.fails S.Fault.from_gives source.old source.new) }
+    ensures serves { OnOk result (S.serves source.old source.new) }
+{
+    let Roster {
+        bases,
+        mut crew,
+        mut pairings,
+        mut grounds,
+        mut outsides,
+        exceedances,
+        requests,
+    } = named;
+    let judged = judged_in(alloc, instruction, &pairings)?;
+    add_pairings(alloc, source, &judged, &mut pairings)?;
+    add_grounds(alloc, source, &judged, &mut grounds)?;
+    add_outsides(alloc, source, &judged, &mut outsides)?;
+    add_members(
+        alloc,
+        source,
+        instruction,
+        &pairings,
+        &grounds,
+        &outsides,
+        &mut crew,
+    )?;
+    Ok(Roster {
+        bases,
+        crew,
+        pairings,
+        grounds,
+        outsides,
+        exceedances,
+        requests,
+    })
 }
 
 /// Gathers what a command needs to be answered under its key.
@@ -228,19 +383,7 @@ pub fn gather<S: Source>(
     ensures there { OnOk result (S.is_there source.new) }
 {
     let instruction = command.instruction();
-    let bases = source.bases(alloc)?;
     let requests = gather_requests(alloc, source, key)?;
-    let Plans { pairings, judged } = gather_plans(alloc, source, instruction)?;
-    let grounds = gather_grounds(alloc, source, instruction, &judged)?;
-    let outsides = gather_outsides(alloc, source, instruction, &judged)?;
-    let crew = gather_members(alloc, source, instruction, &pairings, &grounds, &outsides)?;
-    Ok(Roster {
-        bases,
-        crew,
-        pairings,
-        grounds,
-        outsides,
-        exceedances: OrdMap::new(alloc),
-        requests,
-    })
+    let named = gather_named(alloc, source, instruction, requests)?;
+    add_histories(alloc, source, instruction, named)
 }

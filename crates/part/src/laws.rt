@@ -1,11 +1,16 @@
 //! What holds of the parts of a state. Each of these functions does nothing; its clause is a law.
 
-ghost use Rattle.part.specs.Part.{AnswersAsWhole, PartStaysSound};
+ghost use Rattle.part.specs.Part.{AnswersAsWhole, NamesSettle, PartStaysSound};
 ghost use Rattle.part.specs.Shown.{HasExceedanceText, HasMemberText, HasPairingText};
 
 /// A part answers its command as the whole state does: with the same verdict, reply and change.
 pub fn answers_as_whole()
     ensures { AnswersAsWhole }
+{}
+
+/// A verdict by what a command names, if no history can change it, is that of the whole state.
+pub fn names_settle()
+    ensures { NamesSettle }
 {}
 
 /// The part of a sound state is sound.

@@ -1,7 +1,9 @@
-//! The part of the book's state that a command needs: what it is, and how it is gathered by key.
+//! The part of the book's state that a command needs: what it is, how it is gathered by key, and how a command is judged
+//! by no more of it than that takes.
 #![tactic(auto)]
 
 mod gathering;
+mod judging;
 pub mod laws;
 mod named;
 mod pick;
@@ -9,5 +11,6 @@ mod showing;
 mod source;
 
 pub use gathering::gather;
+pub use judging::judge;
 pub use showing::{gather_exceedances, gather_member, gather_pairing};
 pub use source::Source;

@@ -25,6 +25,7 @@ pub(crate) fn pick_request<S: Source>(
     ensures caused { IfErr result
         (IsCaused S.fails S.Fault.from_gives source.old source.new) }
     ensures serves { OnOk result (S.serves source.old source.new) }
+    ensures there { OnOk result (S.is_there source.new) }
 {
     if let Some(request) = source.request(alloc, key)? {
         requests.insert(key, request)?;

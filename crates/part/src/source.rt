@@ -64,7 +64,8 @@ pub trait Source {
             (λ s found. found ≡ fin.get s.requests (key_name key)) self.old self.new result }
         ensures left { stays self.old self.new }
         ensures caused { IfErr result (fails self.old self.new) }
-        ensures serves { OnOk result (serves self.old self.new) };
+        ensures serves { OnOk result (serves self.old self.new) }
+        ensures there { OnOk result (is_there self.new) };
 
     /// Reads the member of an id.
     fn member(&mut self, alloc: Global, id: &CrewId) -> Result<Option<Member>, Self::Fault>

@@ -1,69 +1,28 @@
 use Rattle.std.proofs.lemmas.Result.{err_from_is_err_and}
-use Rattle.part.proofs.Causes.{caused_then}
+use Rattle.part.proofs.Causes.{answers_caused, caused_then, ok_as}
 use Rattle.part.proofs.gathering.gather.Goals as goal
 
-pub returns-in_err-requests-clause-left : goal.returns-in_err-requests-clause-left
-returns-in_err-requests-clause-left g c = g.S.Source.and_then _ _ _ c.bases.ensures.left c.gather_requests.ensures.left
 
-pub returns-in_err-pairings-clause-left : goal.returns-in_err-pairings-clause-left
-returns-in_err-pairings-clause-left g c =
-    g.S.Source.and_then _ _ _ c.bases.ensures.left (g.S.Source.and_then _ _ _ c.gather_requests.ensures.left c.gather_plans.ensures.left)
+pub returns-in_err-named-clause-left : goal.returns-in_err-named-clause-left
+returns-in_err-named-clause-left g c = g.S.Source.and_then _ _ _ c.gather_requests.ensures.left c.gather_named.ensures.left
 
-pub returns-in_err-grounds-clause-left : goal.returns-in_err-grounds-clause-left
-returns-in_err-grounds-clause-left g c =
-    g.S.Source.and_then _ _ _ c.bases.ensures.left (g.S.Source.and_then _ _ _ c.gather_requests.ensures.left
-    (g.S.Source.and_then _ _ _ c.gather_plans.ensures.left c.gather_grounds.ensures.left))
-
-pub returns-in_err-outsides-clause-left : goal.returns-in_err-outsides-clause-left
-returns-in_err-outsides-clause-left g c =
-    g.S.Source.and_then _ _ _ c.bases.ensures.left (g.S.Source.and_then _ _ _ c.gather_requests.ensures.left
-    (g.S.Source.and_then _ _ _ c.gather_plans.ensures.left (g.S.Source.and_then _ _ _ c.gather_grounds.ensures.left c.gather_outsides.ensures.left)))
-
-pub returns-in_err-crew-clause-left : goal.returns-in_err-crew-clause-left
-returns-in_err-crew-clause-left g c =
-    g.S.Source.and_then _ _ _ c.bases.ensures.left (g.S.Source.and_then _ _ _ c.gather_requests.ensures.left
-    (g.S.Source.and_then _ _ _ c.gather_plans.ensures.left (g.S.Source.and_then _ _ _ c.gather_grounds.ensures.left
-    (g.S.Source.and_then _ _ _ c.gather_outsides.ensures.left c.gather_members.ensures.left))))
+pub returns-in_err-named-clause-caused : goal.returns-in_err-named-clause-caused
+returns-in_err-named-clause-caused g c =
+    let p = err_from_is_err_and c.from_residual-in_err-named.result c.from_residual-in_err-named.ensures.1 in
+    rw (p.1, p.2) (caused_then g.S.Source.fails g.S.Fault.From.from_gives g.S.Source.stays g.S.Source.fails_then _ _ _ _ c.gather_requests.ensures.left c.gather_named.ensures.left c.in_err-named.ensures.caused)
 
 pub returns-clause-left : goal.returns-clause-left
-returns-clause-left g c =
-    g.S.Source.and_then _ _ _ c.bases.ensures.left (g.S.Source.and_then _ _ _ c.gather_requests.ensures.left
-    (g.S.Source.and_then _ _ _ c.gather_plans.ensures.left (g.S.Source.and_then _ _ _ c.gather_grounds.ensures.left
-    (g.S.Source.and_then _ _ _ c.gather_outsides.ensures.left c.gather_members.ensures.left))))
+returns-clause-left g c = g.S.Source.and_then _ _ _ c.gather_requests.ensures.left (g.S.Source.and_then _ _ _ c.gather_named.ensures.left c.add_histories.ensures.left)
+
+pub returns-clause-caused : goal.returns-clause-caused
+returns-clause-caused g c =
+    answers_caused g.S.Source.fails g.S.Fault.From.from_gives g.S.Source.stays g.S.Source.fails_then _ _ _ c.add_histories.result
+    (g.S.Source.and_then _ _ _ c.gather_requests.ensures.left c.gather_named.ensures.left) c.add_histories.ensures.left c.add_histories.ensures.caused
 
 pub returns-clause-serves : goal.returns-clause-serves
-returns-clause-serves g c =
-    g.S.Source.serves_then _ _ _ c.in_ok-bases.ensures.serves (g.S.Source.serves_then _ _ _ c.in_ok-requests.ensures.serves
-    (g.S.Source.serves_then _ _ _ c.in_ok-pairings.ensures.serves (g.S.Source.serves_then _ _ _ c.in_ok-grounds.ensures.serves
-    (g.S.Source.serves_then _ _ _ c.in_ok-outsides.ensures.serves c.in_ok-crew.ensures.serves))))
+returns-clause-serves g c = ok_as c.add_histories.result c.add_histories.ensures.serves (λ last.
+    g.S.Source.serves_then _ _ _ c.in_ok-requests.ensures.serves (g.S.Source.serves_then _ _ _ c.in_ok-named.ensures.serves last))
 
 pub returns-clause-there : goal.returns-clause-there
-returns-clause-there g c =
-    g.S.Source.still_there _ _ (g.S.Source.serves_then _ _ _ c.in_ok-requests.ensures.serves (g.S.Source.serves_then _ _ _ c.in_ok-pairings.ensures.serves
-    (g.S.Source.serves_then _ _ _ c.in_ok-grounds.ensures.serves
-    (g.S.Source.serves_then _ _ _ c.in_ok-outsides.ensures.serves c.in_ok-crew.ensures.serves)))) c.in_ok-bases.ensures.there
-
-pub returns-in_err-requests-clause-caused : goal.returns-in_err-requests-clause-caused
-returns-in_err-requests-clause-caused g c =
-    let p = err_from_is_err_and c.from_residual-in_err-requests.result c.from_residual-in_err-requests.ensures.1 in
-    rw (p.1, p.2) (caused_then g.S.Source.fails g.S.Fault.From.from_gives g.S.Source.stays g.S.Source.fails_then _ _ _ _ c.bases.ensures.left c.gather_requests.ensures.left c.in_err-requests.ensures.caused)
-
-pub returns-in_err-pairings-clause-caused : goal.returns-in_err-pairings-clause-caused
-returns-in_err-pairings-clause-caused g c =
-    let p = err_from_is_err_and c.from_residual-in_err-pairings.result c.from_residual-in_err-pairings.ensures.1 in
-    rw (p.1, p.2) (caused_then g.S.Source.fails g.S.Fault.From.from_gives g.S.Source.stays g.S.Source.fails_then _ _ _ _ (g.S.Source.and_then _ _ _ c.bases.ensures.left c.gather_requests.ensures.left) c.gather_plans.ensures.left c.in_err-pairings.ensures.caused)
-
-pub returns-in_err-grounds-clause-caused : goal.returns-in_err-grounds-clause-caused
-returns-in_err-grounds-clause-caused g c =
-    let p = err_from_is_err_and c.from_residual-in_err-grounds.result c.from_residual-in_err-grounds.ensures.1 in
-    rw (p.1, p.2) (caused_then g.S.Source.fails g.S.Fault.From.from_gives g.S.Source.stays g.S.Source.fails_then _ _ _ _ (g.S.Source.and_then _ _ _ c.bases.ensures.left (g.S.Source.and_then _ _ _ c.gather_requests.ensures.left c.gather_plans.ensures.left)) c.gather_grounds.ensures.left c.in_err-grounds.ensures.caused)
-
-pub returns-in_err-outsides-clause-caused : goal.returns-in_err-outsides-clause-caused
-returns-in_err-outsides-clause-caused g c =
-    let p = err_from_is_err_and c.from_residual-in_err-outsides.result c.from_residual-in_err-outsides.ensures.1 in
-    rw (p.1, p.2) (caused_then g.S.Source.fails g.S.Fault.From.from_gives g.S.Source.stays g.S.Source.fails_then _ _ _ _ (g.S.Source.and_then _ _ _ c.bases.ensures.left (g.S.Source.and_then _ _ _ c.gather_requests.ensures.left (g.S.Source.and_then _ _ _ c.gather_plans.ensures.left c.gather_grounds.ensures.left))) c.gather_outsides.ensures.left c.in_err-outsides.ensures.caused)
-
-pub returns-in_err-crew-clause-caused : goal.returns-in_err-crew-clause-caused
-returns-in_err-crew-clause-caused g c =
-    let p = err_from_is_err_and c.from_residual-in_err-crew.result c.from_residual-in_err-crew.ensures.1 in
-    rw (p.1, p.2) (caused_then g.S.Source.fails g.S.Fault.From.from_gives g.S.Source.stays g.S.Source.fails_then _ _ _ _ (g.S.Source.and_then _ _ _ c.bases.ensures.left (g.S.Source.and_then _ _ _ c.gather_requests.ensures.left (g.S.Source.and_then _ _ _ c.gather_plans.ensures.left (g.S.Source.and_then _ _ _ c.gather_grounds.ensures.left c.gather_outsides.ensures.left)))) c.gather_members.ensures.left c.in_err-crew.ensures.caused)
+returns-clause-there g c = ok_as c.add_histories.result c.add_histories.ensures.serves (λ last.
+    g.S.Source.still_there _ _ (g.S.Source.serves_then _ _ _ c.in_ok-named.ensures.serves last) c.in_ok-requests.ensures.there)

@@ -1,0 +1,153 @@
+//! The verdict on a command by a source of which no more is read than that takes. Its definition is `step_of`
+//! (`roster/specs/Steps.antt`); what is settled by names is `is_settled` (`specs/Part.antt`).
+//! Through the program: `tests/answers.py`. Wrong bodies: `must-fail/`.
+
+ghost use Rattle.std.specs.Prelude.{◌≡◌, IfErr, IfOk, IfSome, IsTrue, None, OnOk, Some};
+ghost use Rattle.std.specs.FinMap as fin;
+ghost use Rattle.command.specs.Keys.{KeyParts, key_name};
+ghost use Rattle.part.specs.Part.{NamedPart, has_histories, is_settled};
+ghost use Rattle.part.specs.Sources.{IsCaused, TellsOfState};
+ghost use Rattle.roster.specs.State.{State};
+ghost use Rattle.roster.specs.Steps.{answered, step_of};
+
+use crate::gathering::{add_histories, gather_named};
+use crate::source::Source;
+use command::{Command, Instruction, Key, Refusal};
+use roster::{LoggedCommand, Roster, Verdict};
+use std::alloc::Global;
+use values::{MemoryFault, OrdMap};
+
+/// Answers a command by what its key holds.
+fn answer_kept(kept: LoggedCommand, command: &Command) -> Verdict
+    ensures { (s : State) (key : KeyParts) → result ≡ answered s key command.now (Some kept) }
+{
+    if kept.command == *command {
+        Verdict::Repeat(kept.reply)
+    } else {
+        Verdict::Refuse(Refusal::NumberUsed)
+    }
+}
+
+/// Returns whether an instruction is judged by histories of members.
+fn has_histories(instruction: &Instruction) -> bool
+    ensures { result ≡ has_histories instruction.now }
+{
+    match instruction {
+        Instruction::Assign(..)
+        | Instruction::Swap(_)
+        | Instruction::AddGround(_)
+        | Instruction::Actual(..)
+        | Instruction::RecordOutside(..) => true,
+        Instruction::AddBase(..)
+        | Instruction::AddCrew(..)
+        | Instruction::AddPairing(_)
+        | Instruction::CancelPairing(_)
+        | Instruction::Release(..)
+        | Instruction::CancelGround(_) => false,
+    }
+}
+
+/// Returns whether no history can change a verdict by what an instruction names.
+fn is_settled(instruction: &Instruction, verdict: &Verdict) -> bool
+    ensures { result ≡ is_settled instruction.now verdict.now }
+{
+    match verdict {
+        Verdict::Refuse(Refusal::Overlap | Refusal::Limits(_) | Refusal::GroundExists) => false,
+        Verdict::Refuse(_) | Verdict::Repeat(_) => true,
+        Verdict::Accept(..) => !has_histories(instruction),
+    }
+}
+
+/// Judges a command by what it names, if that settles the verdict.
+fn settle(
+    alloc: Global,
+    named: &Roster,
+    key: Key,
+    command: &Command,
+) -> Result<Option<Verdict>, MemoryFault>
+    ensures { IfOk result (λ settled. IfSome settled
+        (λ verdict. (verdict ≡ step_of named.now key command.now)
+        × IsTrue (is_settled command.now verdict))) }
+{
+    let verdict = named.step(alloc, key, command)?;
+    if is_settled(command.instruction(), &verdict) {
+        return Ok(Some(verdict));
+    }
+    drop(verdict);
+    Ok(None)
+}
+
+/// Judges a command by what it names, and by the histories that are added to that.
+fn judge_whole<S: Source>(
+    alloc: Global,
+    source: &mut S,
+    key: Key,
+    command: &Command,
+    named: Roster,
+) -> Result<Verdict, S::Fault>
+    ensures told { TellsOfState S.is_clean S.shows
+        (λ s verdict. named ≡ NamedPart s key command.now
+        → verdict ≡ step_of s key command.now) source.old source.new result }
+    ensures left { S.stays source.old source.new }
+    ensures caused { IfErr result
+        (IsCaused S.fails S.Fault.from_gives source.old source.new) }
+    ensures serves { OnOk result (S.serves source.old source.new) }
+{
+    let part = add_histories(alloc, source, command.instruction(), named)?;
+    let verdict = part.step(alloc, key, command);
+    drop(part);
+    Ok(verdict?)
+}
+
+/// Judges a command under a free key: by what it names, and only if that doesn't settle the verdict by the histories too.
+fn judge_new<S: Source>(
+    alloc: Global,
+    source: &mut S,
+    key: Key,
+    command: &Command,
+) -> Result<Verdict, S::Fault>
+    ensures told { TellsOfState S.is_clean S.shows
+        (λ s verdict. fin.get s.requests (key_name key) ≡ None
+        → verdict ≡ step_of s key command.now) source.old source.new result }
+    ensures left { S.stays source.old source.new }
+    ensures caused { IfErr result
+        (IsCaused S.fails S.Fault.from_gives source.old source.new) }
+    ensures serves { OnOk result (S.serves source.old source.new) }
+{
+    let named = gather_named(alloc, source, command.instruction(), OrdMap::new(alloc))?;
+    let settled = settle(alloc, &named, key, command);
+    match settled {
+        Ok(None) => judge_whole(alloc, source, key, command, named),
+        Ok(Some(verdict)) => {
+            drop(named);
+            Ok(verdict)
+        }
+        Err(fault) => {
+            drop(named);
+            Err(S::Fault::from(fault))
+        }
+    }
+}
+
+/// Judges a command under its key, and reads no more than that takes: first what the key holds, then what the command
+/// names, and only if these don't settle the verdict the histories by which it is judged.
+pub fn judge<S: Source>(
+    alloc: Global,
+    source: &mut S,
+    key: Key,
+    command: &Command,
+) -> Result<Verdict, S::Fault>
+    ensures told { TellsOfState S.is_clean S.shows
+        (λ s verdict. verdict ≡ step_of s key command.now) source.old source.new result }
+    ensures left { S.stays source.old source.new }
+    ensures caused { IfErr result
+        (IsCaused S.fails S.Fault.from_gives source.old source.new) }
+    ensures serves { OnOk result (S.serves source.old source.new) }
+    ensures there { OnOk result (S.is_there source.new) }
+{
+    let held = source.request(alloc, key)?;
+    match held {
+        Some(kept) => Ok(answer_kept(kept, command)),
+        None => judge_new(alloc, source, key, command),
+    }
+}
