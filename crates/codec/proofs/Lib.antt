@@ -1,4 +1,5 @@
 pub mod BodyLemmas
+pub mod EachText
 pub mod Fronts
 pub mod Grouped
 pub mod Loop

@@ -1,5 +1,5 @@
 -- What holds of every text that a schedule is read from.
-use Rattle.std.specs.Prelude.{◌≡◌, ℕ, List}
+use Rattle.std.specs.Prelude.{◌≡◌, ◌⊎◌, ℕ, List}
 use Rattle.duty.specs.Plans.{Plan}
 use Rattle.codec.specs.Schedule.{IsAtFault, IsSchedule}
 
@@ -14,3 +14,7 @@ HasNoFault = (text : List ℕ) (plans : List Plan) (n : ℕ) → IsSchedule text
 -- a text has one record at fault at most
 abbrev pub HasOneFault : Type 0
 HasOneFault = (text : List ℕ) (n m : ℕ) → IsAtFault text n → IsAtFault text m → n ≡ m
+
+-- each text is a schedule, or has a record at fault
+abbrev pub IsScheduleOrAtFault : Type 0
+IsScheduleOrAtFault = (text : List ℕ) → ((plans : List Plan) × IsSchedule text plans) ⊎ ((n : ℕ) × IsAtFault text n)

@@ -1,17 +1,16 @@
 -- An input begins with a head, or with none: each piece of a head is there or not.
-use Rattle.std.proofs.Common.{◌≡◌, ◌∙◌, ◌⊎◌, ◌<◌, ◌≤◌, ◌+◌, inl, inr, refl, sym, ap, subst, ℕ, zero, suc, Bool, true, false, List, [], ◌∷◌, ◌++◌, length, codes, IsUtf8, arith, append_assoc, append-nil, length-append}
+use Rattle.std.proofs.Common.{◌≡◌, ◌∙◌, ◌⊎◌, ◌<◌, ◌≤◌, inl, inr, refl, sym, ap, subst, ℕ, zero, suc, Bool, true, false, List, [], ◌∷◌, ◌++◌, length, IsUtf8, arith, append_assoc, append-nil, length-append}
 use Rattle.std.specs.List.{flat_map}
 use Rattle.std.specs.Str.{is_utf8}
 use Rattle.std.proofs.lemmas.Bool.{cases_Bool, cases_eq, cases_lt, both_ways}
 use Rattle.std.proofs.lemmas.List.Elements.{All-cons, All-head, All-nil, All-tail}
 use Rattle.std.proofs.lemmas.Str.{IsUtf8-from_is_utf8, is_utf8-from_IsUtf8}
 use Rattle.httparse.specs.Grammar.{AllPass, Field, IsField, RequestHead, LineEnd, crlf, lf, is_token_byte, is_uri_byte, is_value_byte, print_end, print_field, print_request, print_version}
-use Rattle.httparse.specs.Pieces.{Begins, Blank, Bytes, FieldLine, FieldLines, Method, Newline, Piece, RequestStart, Section, Stops, Target, Text, Then, Version, Word, is_newline}
+use Rattle.httparse.specs.Pieces.{Begins, Blank, Bytes, FieldLine, FieldLines, Newline, Piece, RequestStart, Section, Stops, Target, Text, Then, Version, Word, is_newline}
 use Rattle.httparse.proofs.GrammarLemmas.{request_from_pieces, request_head, request_pieces, request_unique}
-use Rattle.httparse.proofs.PieceLemmas.{Blank_deterministic, Bytes_deterministic, IsDeterministic, Method_deterministic, Name_deterministic, NotYet_elim, NotYet_intro, RequestStart_deterministic, Section_line, Section_skip, Target_deterministic, Version_deterministic, Word_deterministic, FieldLine_parts, Then_deterministic, colon_ends_token, print_field-append, space_ends_token}
+use Rattle.httparse.proofs.PieceLemmas.{Blank_deterministic, IsDeterministic, Method_deterministic, Name_deterministic, NotYet_elim, NotYet_intro, RequestStart_deterministic, Section_line, Section_skip, Target_deterministic, Version_deterministic, Word_deterministic, FieldLine_parts, colon_ends_token, print_field-append, space_ends_token}
 use Rattle.httparse.proofs.ReadLemmas.{Blank_after, FieldLine_done}
 use Rattle.http_message.specs.Laws.{HasHeadOrNone}
-use Rattle.http_message.specs.Reading.{HasHead}
 
 -- each text begins with the piece, or doesn't
 abbrev Decides : {A : Type 0} → Piece A → Type 0
