@@ -2,7 +2,6 @@ use Rattle.std.proofs.lemmas.Result.{err_from_is_err_and}
 use Rattle.part.proofs.Causes.{answers_caused, caused_then, ok_as}
 use Rattle.part.proofs.gathering.gather.Goals as goal
 
-
 pub returns-in_err-named-clause-left : goal.returns-in_err-named-clause-left
 returns-in_err-named-clause-left g c = g.S.Source.and_then _ _ _ c.gather_requests.ensures.left c.gather_named.ensures.left
 

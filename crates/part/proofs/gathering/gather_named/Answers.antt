@@ -2,7 +2,6 @@ use Rattle.std.proofs.lemmas.Result.{err_from_is_err_and}
 use Rattle.part.proofs.Causes.{caused_then}
 use Rattle.part.proofs.gathering.gather_named.Goals as goal
 
-
 pub returns-in_err-crew-clause-left : goal.returns-in_err-crew-clause-left
 returns-in_err-crew-clause-left g c = g.S.Source.and_then _ _ _ c.bases.ensures.left c.gather_crew_named.ensures.left
 
