@@ -1,6 +1,7 @@
 #!/usr/bin/env bash
-# Times what the book reads by key for one command: for an assignment to a captain who holds 120 pairings, and for a release, both
-# refused, so that nothing is committed, on the book of 10,000 pairings and 50,000 requests (long_book.sql) and on one ten times that.
+# Times what the book reads by key for one command: for an assignment to a captain who holds 120 pairings, which all are read; for one of
+# a seat that is held, and for a release, for which none of them is. All are refused, so that nothing is committed, on the book of 10,000
+# pairings and 50,000 requests (long_book.sql) and on one ten times that.
 # They are asked of a server in turn; what HTTP costs, as a path that names nothing shows it, is taken off.
 set -eu
 top=$(cd "$(dirname "$(readlink -f "${BASH_SOURCE[0]}")")/.." && pwd)
@@ -18,14 +19,19 @@ filled() {
         -e 's/n \* 1440/n % 36000 * 1440/g' "$top/bench/long_book.sql"
 }
 
-# schedule: the pairings of the captain, one every third day, and one more, each of two segments.
+# period PAIRING DAY: a period of two segments.
+period() {
+    echo "$1,1,${2}T12:00Z,${2}T17:50Z,RB1,BOS,${2}T12:20Z,IAD,${2}T14:30Z"
+    echo "$1,1,${2}T12:00Z,${2}T17:50Z,RB2,IAD,${2}T15:20Z,BOS,${2}T17:30Z"
+}
+
+# schedule: the pairings of the captain, one every third day, one more, and O1, which overlaps the first.
 schedule() {
     echo pairing,period,report,release,flight,from,out,to,in
     for ((n = 1; n <= held + 1; n++)); do
-        day=$(date -u -d "2025-01-01 + $((3 * n)) days" +%F)
-        echo "C$n,1,${day}T12:00Z,${day}T17:50Z,RB1,BOS,${day}T12:20Z,IAD,${day}T14:30Z"
-        echo "C$n,1,${day}T12:00Z,${day}T17:50Z,RB2,IAD,${day}T15:20Z,BOS,${day}T17:30Z"
+        period "C$n" "$(date -u -d "2025-01-01 + $((3 * n)) days" +%F)"
     done
+    period O1 2025-01-04
 }
 
 # asked WORDS..: milliseconds of a request, by ask.py.
@@ -56,7 +62,8 @@ for count in 10000 100000; do
     listen book.db
     asked $held 200 /requests '{"number":91000%d,"do":"assign","pairing":"C%d","crew":"C1"}' >/dev/null
     http=$(asked 2000 404 /nothing)
-    told "$count pairings: an assignment, $held pairings held" "$(asked 300 409 /requests '{"number":92000%d,"do":"assign","pairing":"C1","crew":"C1"}')" "$http"
+    told "$count pairings: an assignment, $held pairings held" "$(asked 300 409 /requests '{"number":92000%d,"do":"assign","pairing":"O1","crew":"C1"}')" "$http"
+    told "$count pairings: an assignment of a seat that is held" "$(asked 2000 409 /requests '{"number":94000%d,"do":"assign","pairing":"C1","crew":"C1"}')" "$http"
     told "$count pairings: a release" "$(asked 2000 409 /requests "{\"number\":93000%d,\"do\":\"release\",\"pairing\":\"C$((held + 1))\",\"crew\":\"C1\"}")" "$http"
     kill "$server"
     wait "$server" 2>/dev/null || true

@@ -23,8 +23,8 @@ ghost use Rattle.store.specs.Shown.{IsShown, shown_part};
 use crate::show::{Show, gather_shown};
 use command::{Command, Key};
 use loading::{LoadFault, read_all};
-use part::gather;
-use roster::{Change, Roster};
+use part::{gather, judge};
+use roster::{Change, Roster, Verdict};
 use sqlite::{Alter, Connection};
 use state_rows::{Edition, StoreFault};
 use std::alloc::Global;
@@ -122,6 +122,32 @@ impl<S: Alter> Store<S> {
         // A connection that is live still leaves something.
         let _live = self.conn.schema();
         part
+    }
+
+    /// Judges a command under its key by the state that the tables show. It reads by key, in no transaction, and changes nothing;
+    /// it reads first what the key holds, then what the command names, and only if these don't settle the verdict the
+    /// histories by which it is judged. A store's fault is 90, want of memory 91.
+    pub fn judge(
+        &mut self,
+        alloc: Global,
+        key: Key,
+        command: &Command,
+    ) -> Result<Verdict, StoreFault>
+        ensures verdict { (s : State) → Shows (state S.Store self.old) s
+            → HasCleanDisk (state S.Store self.new)
+            → IfOk result (λ verdict. verdict ≡ step_of s key command.now) }
+
+        // As of `part`.
+        ensures unchanged { ChangesNothing (state S.Store self.old) (state S.Store self.new) }
+        ensures caused { IfErr result
+            (IsReadFault (state S.Store self.old) (state S.Store self.new)) }
+        ensures opened { OnOk result (IsOpen (state S.Store self.new)) }
+        ensures some_left { CrashLeavesSome (state S.Store self.new) }
+    {
+        let verdict = judge(alloc, self, key, command);
+        // As in `part`.
+        let _live = self.conn.schema();
+        verdict
     }
 
     /// Reads by key a roster with what the text of a member, of a pairing or of the exceedances needs, in no transaction, and
