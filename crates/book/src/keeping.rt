@@ -1,5 +1,5 @@
-//! The book: it reads the part of its state that a command needs, has the machine judge by that, and commits what is
-//! accepted.
+//! The book: it has the store judge a command by what the tables mean, of which no more is read than that takes, and
+//! commits what is accepted.
 //! What contracts see of it is `specs/Kept.antt`. What an answer and a run come to are the records of
 //! `specs/Answered.antt` and `specs/Ran.antt`, in the words of `specs/Headline.antt`.
 //! Worked rows: `tests/answers.py`; the rows that are left: `tests/tables.py`. Wrong bodies: `must-fail/`.
@@ -8,7 +8,7 @@ ghost use Rattle.sqlite.specs.Held.{state};
 ghost use Rattle.sqlite.specs.State.{HasCleanDisk};
 ghost use Rattle.command.specs.declared.exceedance.Reply.{Reply};
 ghost use Rattle.command.specs.declared.refusal.Refusal.{Refusal};
-ghost use Rattle.roster.specs.Folds.{answer_of, next};
+ghost use Rattle.roster.specs.Folds.{Asked, answer_of, next};
 ghost use Rattle.roster.specs.State.{State, empty};
 ghost use Rattle.roster.specs.Steps.{step_of};
 ghost use Rattle.lookup.specs.Reads.{ChangesNothing, IsCausedIfStore, IsOpen};
@@ -332,54 +332,51 @@ fn decide<S: Alter>(
         → OnOk result (Untouched (state S.Store store.old) (state S.Store store.new)
         ⊎ SparesOthers (state S.Store store.old) (state S.Store store.new)) }
 {
-    match store.part(alloc, key, command) {
-        Ok(part) => decide_by(alloc, store, &part, key, command),
+    match store.judge(alloc, key, command) {
+        Ok(verdict) => decide_by(alloc, store, verdict),
         Err(fault) => Err(fault),
     }
 }
 
-/// Answers the same, by a roster that answers the command as the state does that the tables mean. Whatever needs memory
-/// is made before the commit.
+/// Answers a command by the verdict on it, and keeps in the store what that accepts. Whatever needs memory is made before
+/// the commit.
 fn decide_by<S: Alter>(
     alloc: Global,
     store: &mut Store<S>,
-    part: &Roster,
-    key: Key,
-    command: &Command,
+    verdict: Verdict,
 ) -> Result<Answer, StoreFault>
     // The connection is open.
     requires opened { IsOpen (state S.Store store.old) }
 
-    // The disk, what was done, and the answer by the part.
+    // The disk, what was done, and the answer, for each state in which a command has this verdict.
     ensures disk { HasCleanDisk (state S.Store store.new)
         → HasCleanDisk (state S.Store store.old) }
-    ensures did { (s : State) → Keeps (state S.Store store.old) s
+    ensures did { (s : State) (asked : Asked) → Keeps (state S.Store store.old) s
         → StillHolds (state S.Store store.old) s → (HasCleanDisk (state S.Store store.old)
-        → step_of part.now key command.now ≡ step_of s key command.now)
-        → StepOutcome (state S.Store store.old) (state S.Store store.new) s
-        (next s (key, command.now)) result }
-    ensures reply { IfOk result (λ a. result_of a ≡ answer_of (step_of part.now key command.now)) }
+        → verdict ≡ step_of s asked.0 asked.1)
+        → StepOutcome (state S.Store store.old) (state S.Store store.new) s (next s asked)
+        result }
+    ensures reply { IfOk result (λ a. result_of a ≡ answer_of verdict) }
 
     // A repeat and a refusal change nothing.
-    ensures repeated { (reply : Reply) → step_of part.now key command.now ≡ Verdict.Repeat reply
+    ensures repeated { (reply : Reply) → verdict ≡ Verdict.Repeat reply
         → (store.new ≡ store.old) × (is_store_fault result ≡ false)
         × IfOk result (λ a. a ≡ Answer.Accepted reply) }
-    ensures turned_down { (refusal : Refusal)
-        → step_of part.now key command.now ≡ Verdict.Refuse refusal → (store.new ≡ store.old)
-        × (is_store_fault result ≡ false) × IfOk result (λ a. a ≡ Answer.Refused refusal) }
+    ensures turned_down { (refusal : Refusal) → verdict ≡ Verdict.Refuse refusal
+        → (store.new ≡ store.old) × (is_store_fault result ≡ false)
+        × IfOk result (λ a. a ≡ Answer.Refused refusal) }
     ensures refused { IfOk result (λ a. IsRefusal a → store.new ≡ store.old) }
 
     // What stands beside the book in the database.
-    ensures others_spared { (s : State) → Keeps (state S.Store store.old) s
-        → (HasCleanDisk (state S.Store store.old)
-        → step_of part.now key command.now ≡ step_of s key command.now)
+    ensures others_spared { (s : State) (asked : Asked) → Keeps (state S.Store store.old) s
+        → (HasCleanDisk (state S.Store store.old) → verdict ≡ step_of s asked.0 asked.1)
         → OnOk result ((store.new ≡ store.old)
         ⊎ SparesOthers (state S.Store store.old) (state S.Store store.new)) }
 {
-    match part.step(alloc, key, command) {
-        Ok(Verdict::Repeat(reply)) => Ok(Answer::Accepted(reply)),
-        Ok(Verdict::Refuse(refusal)) => Ok(Answer::Refused(refusal)),
-        Ok(Verdict::Accept(change, reply)) => {
+    match verdict {
+        Verdict::Repeat(reply) => Ok(Answer::Accepted(reply)),
+        Verdict::Refuse(refusal) => Ok(Answer::Refused(refusal)),
+        Verdict::Accept(change, reply) => {
             let kept = store.commit(alloc, &change);
             // (by a call: written out in each place, a change's drop takes the prover a minute)
             drop(change);
@@ -388,6 +385,5 @@ fn decide_by<S: Alter>(
                 Err(fault) => Err(fault),
             }
         }
-        Err(_) => Err(StoreFault::Memory),
     }
 }
