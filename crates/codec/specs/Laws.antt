@@ -17,4 +17,5 @@ HasOneFault = (text : List ℕ) (n m : ℕ) → IsAtFault text n → IsAtFault t
 
 -- each text is a schedule, or has a record at fault
 abbrev pub IsScheduleOrAtFault : Type 0
-IsScheduleOrAtFault = (text : List ℕ) → ((plans : List Plan) × IsSchedule text plans) ⊎ ((n : ℕ) × IsAtFault text n)
+IsScheduleOrAtFault = (text : List ℕ) →
+    ((plans : List Plan) × IsSchedule text plans) ⊎ ((n : ℕ) × IsAtFault text n)

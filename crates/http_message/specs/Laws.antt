@@ -9,4 +9,5 @@ HasOneHead = (input : List ℕ) (h other : RequestHead) (rest more : List ℕ) �
 
 -- an input begins with a head, or with none
 abbrev pub HasHeadOrNone : Type 0
-HasHeadOrNone = (input : List ℕ) → ((h : RequestHead) × (rest : List ℕ) × HasHead input h rest) ⊎ HasNoHead input
+HasHeadOrNone = (input : List ℕ) →
+    ((h : RequestHead) × (rest : List ℕ) × HasHead input h rest) ⊎ HasNoHead input

@@ -28,11 +28,9 @@ use Rattle.codec.specs.Requests.{read_request}
 use Rattle.codec.specs.Schedule.{IsAtFault, IsSchedule}
 use Rattle.codec.proofs.EachText.{is_schedule_or_at_fault}
 use Rattle.store.specs.Shown.{IsShown}
-use Rattle.http_message.specs.Heading.{heading}
-use Rattle.http_message.specs.Plan.{Planned, Subject, crew, pairing, exceedances, plan_for_head}
+use Rattle.http_message.specs.Plan.{Planned, Subject, crew, pairing, exceedances}
 use Rattle.http_message.specs.declared.plan.Submission.TheVariants.{Command, Import}
 use Rattle.http_message.specs.declared.refusals.RequestFault.{RequestFault}
-use Rattle.http_message.proofs.EachHead.{has_head_or_none}
 use Rattle.http_exchange.specs.Exchange as exchange
 use Rattle.http_exchange.specs.Exchange.{asks}
 use Rattle.http_exchange.specs.Final.{Final, of_answer, of_fault}
@@ -40,8 +38,7 @@ use Rattle.http_exchange.specs.Handler as http
 use Rattle.http_exchange.specs.Handler.{StatusText, submit}
 use Rattle.web.specs.Acts.{Asks, Commands, IsAnswer, IsReport, commands_of, request_answer, show_of}
 use Rattle.web.specs.Answers.{fault_answer, parts_answer}
-use Rattle.web.specs.Laws.{EachInputHasResponse}
-use Rattle.web.specs.Response.{IsFinal, IsResponseTo, Response, no_head}
+use Rattle.web.specs.Response.{IsFinal, IsResponseTo, Response}
 
 -- ---- Lines in an order
 
@@ -184,17 +181,9 @@ module _ (s : State) where
       let met = each_met sound asked in
       (met.commands, of_answer (Ok met.answer) is_head, (met.asks_them, (met.answer, met.told, refl)))
 
-  each_response_to : Sound s → (p : Planned) (rest : List ℕ) → (r : Response) × IsResponseTo s p rest r
+  pub each_response_to : Sound s → (p : Planned) (rest : List ℕ) → (r : Response) × IsResponseTo s p rest r
   each_response_to sound p rest =
       let done = each_final sound (asks p.step rest) p.is_head in (
         record { interim = exchange.interim p.step; final = done.1; commands = done.0; unread = Some (exchange.unread p.step rest) },
         record { interim_is = refl; final_is = done.2; unread_is = refl },
       )
-
-pub each_response : EachInputHasResponse
-each_response s input sound some = elim (has_head_or_none input) [
-  | inr none ↦ (no_head, (some, inl (none, refl)))
-  | inl (h, rest, has) ↦
-      let response = each_response_to s sound (plan_for_head (heading h)) rest in
-      (response.0, (some, inr (h, rest, has, response.1)))
-]

@@ -8,7 +8,8 @@ use Rattle.web.specs.Response.{IsResponse, Response}
 abbrev pub HasOneResponse : Type 0
 HasOneResponse = (s : State) (input : List ℕ) (r other : Response) → IsResponse s input r → IsResponse s input other → r ≡ other
 
--- in a sound state each input that isn't empty has a response: the exceedances have a text only where each stands under what it is
--- known by, as in a sound state
+-- in a sound state each input that isn't empty has a response; in a state that has an exceedance
+-- under what is no exceedance's name, a report of all exceedances would have no text
 abbrev pub EachInputHasResponse : Type 0
-EachInputHasResponse = (s : State) (input : List ℕ) → Sound s → 0 < length input → (r : Response) × IsResponse s input r
+EachInputHasResponse =
+    (s : State) (input : List ℕ) → Sound s → 0 < length input → (r : Response) × IsResponse s input r

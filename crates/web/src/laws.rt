@@ -6,7 +6,7 @@ pub fn input_has_one_response()
     ensures { HasOneResponse }
 {}
 
-/// In a state of the book each input that isn't empty has a response: each state of a book is sound.
+/// In a sound state, as each state of a book is, each input that isn't empty has a response.
 pub fn each_input_has_response()
     ensures { EachInputHasResponse }
 {}
