@@ -5,3 +5,6 @@ pub mod RefusalLemmas
 pub mod ServedInTurn
 pub mod Showing
 pub mod Stopping
+pub mod CleanBefore
+pub mod ByFiles
+pub mod Performing

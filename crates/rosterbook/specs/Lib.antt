@@ -1,5 +1,6 @@
 pub mod Asking
 pub mod Program
+pub mod ByFiles
 pub mod Refusal
 pub mod Serving
 pub mod Showing

@@ -1,6 +1,8 @@
 //! `rosterbook do`: a request on standard input, asked of a book. The definitions are in `specs/Asking.antt`.
 //! Transcripts: `tests/transcripts/requests.txt` and `all_commands.txt`. Wrong bodies: `must-fail/`.
-ghost use Rattle.std.specs.Prelude.{◌≡◌, ◌∷◌, [], ℕ, List, IfErr, IfOk, string_bytes};
+ghost use Rattle.std.specs.Prelude.{◌≡◌, ◌∷◌, [], ℕ, List, IfErr, IfOk, IsErr, IsSome, None, string_bytes};
+ghost use Rattle.sqlite_wal.specs.Files.{image_at};
+ghost use Rattle.http_exchange.specs.Exchange.{ChannelBytes};
 ghost use Rattle.roster.specs.Folds.{ReplyOrRefusal, answer_of, next};
 ghost use Rattle.roster.specs.State.{State};
 ghost use Rattle.roster.specs.Steps.{step_of};
@@ -8,14 +10,17 @@ ghost use Rattle.book.specs.Kept.{IsDurablyAt, IsClean, result_of};
 ghost use Rattle.codec.specs.Requests.{read_request};
 ghost use Rattle.web.specs.Answers.{answer_json};
 ghost use Rattle.rosterbook.specs.Asking as spec;
+ghost use Rattle.rosterbook.specs.ByFiles.{IsByBook, IsByFiles, IsDoneBy};
 
+use crate::ended::Ended;
 use crate::lines::{read_input, write_line};
 use crate::status::Status;
 use crate::stop::Stop;
-use book::{Answer, Book, FileBook};
+use book::{Answer, Book};
 use codec::{CodecFault, command_of_json, fault_to_json, refusal_to_json, reply_to_json};
 use command::{Command, Key};
-use sqlite::Alter;
+use sqlite::{Alter, FileFrom, FileStore, Start};
+use sqlite_disk::Disk;
 use std::alloc::Global;
 use std::io::{Read, Write};
 use values::MemoryFault;
@@ -28,21 +33,42 @@ pub(crate) struct Told {
 }
 
 /// Answers `rosterbook do`: opens the book, then reads a command and asks it, and closes the book.
-pub(crate) fn answer_do<R: Read, O: Write>(
+pub(crate) fn answer_do<S: Start, R: Read, O: Write>(
     rt: &HostRuntime,
     file: &str,
+    start: S,
     reader: &mut R,
     out: &mut O,
-) -> Result<Status, Stop>
-    ensures { IfOk result (λ status. (input : List ℕ) × (answer : ReplyOrRefusal)
-        × spec.IsRequestReadAndTold (R.remaining reader.old) (O.contents out.old)
-        (O.contents out.new)
-        status input answer) }
+) -> Ended<FileFrom<S>>
+    ensures done { (err : ChannelBytes) → IfOk result.done
+        (IsDoneBy (IsByFiles result.left (image_at S.Start)) (R.remaining reader.old)
+        (O.contents out.old) (O.contents out.new) err err) }
+    ensures unopened { result.left ≡ None
+        → IsErr result.done × (reader.new ≡ reader.old) × (out.new ≡ out.old) }
 {
-    let mut book = FileBook::open(rt, file)?;
-    let done = ask_json(rt.alloc(), &mut book, reader, out);
-    book.close();
-    done
+    match Book::open_from(rt, file, start) {
+        Ok(book) => ask_and_close(rt.alloc(), book, reader, out),
+        Err(fault) => Ended::unopened(Err(Stop::from(fault))),
+    }
+}
+
+/// Asks a book the command that a reader gives in JSON, and closes the book.
+fn ask_and_close<D: Disk + Drop, R: Read, O: Write>(
+    alloc: Global,
+    mut book: Book<FileStore<D>>,
+    reader: &mut R,
+    out: &mut O,
+) -> Ended<D>
+    ensures done { (err : ChannelBytes) → IfOk result.done
+        (IsDoneBy (IsByBook result.left book) (R.remaining reader.old)
+        (O.contents out.old) (O.contents out.new) err err) }
+    ensures left { IsSome result.left }
+{
+    let done = ask_json(alloc, &mut book, reader, out);
+    Ended {
+        done,
+        left: Some(book.close()),
+    }
 }
 
 /// Asks a book the command that a reader gives in JSON, and writes the line of its answer, or why it isn't read. Where the

@@ -1,39 +1,69 @@
 //! `rosterbook import`: a schedule on standard input, its pairings asked one after the other. The definitions are in
 //! `specs/Asking.antt`.
 //! Transcript: `tests/transcripts/import.txt`. Wrong bodies: `must-fail/`.
-ghost use Rattle.std.specs.Prelude.{◌≡◌, ◌≤◌, IfErr, IfOk, OnOk, length};
+ghost use Rattle.std.specs.Prelude.{◌≡◌, ◌≤◌, IfErr, IfOk, IsErr, IsSome, None, OnOk, length};
+ghost use Rattle.sqlite_wal.specs.Files.{image_at};
 ghost use Rattle.std.specs.Io.KnownBytes.{Appends};
 ghost use Rattle.book.specs.Kept.{result_of};
 ghost use Rattle.rosterbook.specs.Asking as spec;
+ghost use Rattle.rosterbook.specs.ByFiles.{IsByBook, IsByFiles, IsImportedBy};
 
+use crate::ended::Ended;
 use crate::lines::{read_input, refuse};
 use crate::status::Status;
 use crate::stop::Stop;
-use book::{Answer, Book, FileBook, Import};
+use book::{Answer, Book, Import};
 use codec::{CodecFault, RequestNumber, schedule_of_csv};
 use duty::Pairing;
-use sqlite::Alter;
+use sqlite::{Alter, FileFrom, FileStore, Start};
+use sqlite_disk::Disk;
 use std::alloc::Global;
 use std::io;
 use std::io::{Read, Write};
 
 /// Answers `rosterbook import`: opens the book, then reads a schedule and adds its pairings, and closes
 /// the book.
-pub(crate) fn answer_import<R: Read, O: Write, E: Write>(
+pub(crate) fn answer_import<S: Start, R: Read, O: Write, E: Write>(
     rt: &HostRuntime,
     file: &str,
+    start: S,
     number: RequestNumber,
     reader: &mut R,
     out: &mut O,
     err: &mut E,
-) -> Result<Status, Stop>
-    ensures { IfOk result (spec.IsImportTold (R.remaining reader.old) (O.contents out.old)
-        (O.contents out.new) (E.contents err.old) (E.contents err.new)) }
+) -> Ended<FileFrom<S>>
+    ensures done { IfOk result.done
+        (IsImportedBy (IsByFiles result.left (image_at S.Start)) number
+        (R.remaining reader.old) (O.contents out.old) (O.contents out.new)
+        (E.contents err.old) (E.contents err.new)) }
+    ensures unopened { result.left ≡ None
+        → IsErr result.done × (reader.new ≡ reader.old) × (out.new ≡ out.old) }
 {
-    let mut book = FileBook::open(rt, file)?;
-    let done = import_csv(rt.alloc(), &mut book, number, reader, out, err);
-    book.close();
-    done
+    match Book::open_from(rt, file, start) {
+        Ok(book) => import_and_close(rt.alloc(), book, number, reader, out, err),
+        Err(fault) => Ended::unopened(Err(Stop::from(fault))),
+    }
+}
+
+/// Adds the pairings of the schedule that a reader gives in CSV to a book, and closes the book.
+fn import_and_close<D: Disk + Drop, R: Read, O: Write, E: Write>(
+    alloc: Global,
+    mut book: Book<FileStore<D>>,
+    number: RequestNumber,
+    reader: &mut R,
+    out: &mut O,
+    err: &mut E,
+) -> Ended<D>
+    ensures done { IfOk result.done (IsImportedBy (IsByBook result.left book) number
+        (R.remaining reader.old) (O.contents out.old) (O.contents out.new)
+        (E.contents err.old) (E.contents err.new)) }
+    ensures left { IsSome result.left }
+{
+    let done = import_csv(alloc, &mut book, number, reader, out, err);
+    Ended {
+        done,
+        left: Some(book.close()),
+    }
 }
 
 /// Adds the pairings of the schedule that a reader gives in CSV to a book, under the parts of a number, and writes a line for

@@ -1,37 +1,68 @@
 //! `rosterbook init`: a book of a zone, made in a new or empty file.
 //! Books that are made: `tests/program.sh`. Wrong bodies: `must-fail/`.
 ghost use Rattle.std.specs.Prelude.{◌≡◌, ◌⊎◌, IfErr, IfOk, IsOk};
+ghost use Rattle.rosterbook.specs.ByFiles.{AreLeftEmpty};
 ghost use Rattle.std.specs.Io.KnownBytes.{Appends};
 ghost use Rattle.time117.specs.Local.{is_zone_text};
 ghost use Rattle.rosterbook.specs.Program as spec;
 
+use crate::ended::{Ended, done_of};
 use crate::lines::{refuse, write_line};
 use crate::status::Status;
-use book::{CreateFault, create_file};
+use book::{CreateFault, create_from};
 use period_verdict::LineFault;
+use sqlite::{FileFrom, Start};
 use std::io;
 use std::io::Write;
 use time117::{Zone, ZoneFault};
 
 /// Answers `rosterbook init`: reads the zone, makes the book and says so. An error is a writer's.
-pub(crate) fn answer_init<O: Write, E: Write>(
+pub(crate) fn answer_init<S: Start, O: Write, E: Write>(
     rt: &HostRuntime,
     file: &str,
+    start: S,
     zone: &str,
     out: &mut O,
     err: &mut E,
-) -> io::Result<Status>
-    ensures answered { IfOk result (λ status.
+) -> Ended<FileFrom<S>>
+    ensures answered { IfOk result.done (λ status.
         spec.Gives (spec.init_answer (is_zone_text zone.now)) status
         (O.contents out.old) (O.contents out.new) (E.contents err.old) (E.contents err.new)
         ⊎ ((status ≡ Status.Failed) × (out.new ≡ out.old))) }
-    ensures unmade { IfOk result (λ status. status ≡ Status.Failed
+    ensures unmade { IfOk result.done (λ status. status ≡ Status.Failed
         → spec.IsUnmade (is_zone_text zone.now) status (O.contents out.old) (O.contents out.new)
         (E.contents err.old) (E.contents err.new)) }
+    ensures made { IfOk result.done
+        (λ status. status ≡ Status.Done → AreLeftEmpty result.left zone.now) }
 {
     match Zone::read(rt.alloc(), zone) {
-        Ok(zone) => tell_made(create_file(rt, file, zone), out, err),
-        Err(fault) => refuse_zone(fault, err),
+        Ok(zone) => make_and_tell(rt, file, start, zone, out, err),
+        Err(fault) => Ended::unopened(done_of(refuse_zone(fault, err))),
+    }
+}
+
+/// Makes a book in a file, and tells how that went.
+fn make_and_tell<S: Start, O: Write, E: Write>(
+    rt: &HostRuntime,
+    file: &str,
+    start: S,
+    zone: Zone,
+    out: &mut O,
+    err: &mut E,
+) -> Ended<FileFrom<S>>
+    ensures ready { IfOk result.done (λ status.
+        (spec.Gives spec.ready status
+        (O.contents out.old) (O.contents out.new) (E.contents err.old) (E.contents err.new)
+        × AreLeftEmpty result.left zone)
+        ⊎ ((fault : CreateFault) × spec.Gives (spec.unmade fault) status (O.contents out.old)
+        (O.contents out.new) (E.contents err.old) (E.contents err.new) × (out.new ≡ out.old))) }
+{
+    match create_from(rt, file, zone, start) {
+        Ok(left) => Ended {
+            done: done_of(tell_made(Ok(()), out, err)),
+            left: Some(left),
+        },
+        Err(fault) => Ended::unopened(done_of(tell_made(Err(fault), out, err))),
     }
 }
 

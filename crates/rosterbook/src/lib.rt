@@ -3,6 +3,7 @@
 
 mod do_command;
 mod duty_command;
+mod ended;
 mod import_command;
 mod init_command;
 mod lines;
@@ -18,7 +19,7 @@ pub use console::{Action, action};
 pub use do_command::ask_json;
 pub use import_command::import_csv;
 pub use period_verdict::{LineFault, duty_line};
-pub use program::perform;
+pub use program::{Performed, perform, perform_from};
 pub use refusal::tell_refusal;
 pub use show_command::show_text;
 pub use status::Status;

@@ -4,11 +4,12 @@ ghost use Rattle.std.specs.Prelude.{◌≡◌, Err, IfErr, IfOk, Ok, OnOk, false
 ghost use Rattle.std.specs.Io.KnownBytes.{Appends};
 ghost use Rattle.rosterbook.specs.Serving as spec;
 
+use crate::ended::Ended;
 use crate::serving::{Ending, Server, serve_all};
 use crate::status::Status;
 use crate::stop::Stop;
-use book::{Book, BookFault, FileBook};
-use sqlite::{Alter, FileStore};
+use book::{Book, BookFault, FilesLeft};
+use sqlite::{Alter, FileFrom, FileStore, Start};
 use sqlite_disk::Disk;
 use std::alloc::Global;
 use std::io;
@@ -43,37 +44,57 @@ impl<S: Alter> Server for BookServer<S> {
 
 impl<D: Disk + Drop> BookServer<FileStore<D>> {
     /// Frees the port, and closes the book.
-    fn close(self) {
+    fn close(self) -> FilesLeft<D> {
         let BookServer { listener, book } = self;
         drop(listener);
-        book.close();
+        book.close()
     }
 }
 
 /// Answers `rosterbook serve`: opens the book, binds the port, then serves connections, and closes the book.
-pub(crate) fn answer_serve<O: Write, E: Write>(
+pub(crate) fn answer_serve<S: Start, O: Write, E: Write>(
     rt: &HostRuntime,
     file: &str,
+    start: S,
     port: u16,
     connections: u32,
     out: &mut O,
     err: &mut E,
-) -> Result<Status, Stop>
-    ensures { IfOk result (spec.IsServeTold port connections (O.contents out.old)
+) -> Ended<FileFrom<S>>
+    ensures { IfOk result.done (spec.IsServeTold port connections (O.contents out.old)
         (O.contents out.new) (E.contents err.old) (E.contents err.new)) }
 {
-    let book = FileBook::open(rt, file)?;
+    match Book::open_from(rt, file, start) {
+        Ok(book) => serve_and_close(rt, book, port, connections, out, err),
+        Err(fault) => Ended::unopened(Err(Stop::from(fault))),
+    }
+}
+
+/// Binds the port, serves connections by a book, and closes the book.
+fn serve_and_close<D: Disk + Drop, O: Write, E: Write>(
+    rt: &HostRuntime,
+    book: Book<FileStore<D>>,
+    port: u16,
+    connections: u32,
+    out: &mut O,
+    err: &mut E,
+) -> Ended<D>
+    ensures { IfOk result.done (spec.IsServeTold port connections (O.contents out.old)
+        (O.contents out.new) (E.contents err.old) (E.contents err.new)) }
+{
     match TcpListener::bind(rt, (Ipv4Addr::LOCALHOST, port)) {
         Ok(listener) => {
             let mut server = BookServer { listener, book };
             let done = listen(rt.alloc(), &mut server, port, connections, out, err);
-            server.close();
-            done
+            Ended {
+                done,
+                left: Some(server.close()),
+            }
         }
-        Err(_) => {
-            book.close();
-            Err(Stop::Network)
-        }
+        Err(_) => Ended {
+            done: Err(Stop::Network),
+            left: Some(book.close()),
+        },
     }
 }
 

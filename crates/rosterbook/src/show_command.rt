@@ -1,67 +1,91 @@
 //! `rosterbook roster`, `pairing` and `exceedances`: a text by what a book shows.
 //! Worked texts: `tests/reports.py`. Wrong bodies: `must-fail/`.
-ghost use Rattle.std.specs.Prelude.{◌≡◌, ◌≢◌, IfErr, IfOk, IsTrue, string_bytes};
+ghost use Rattle.std.specs.Prelude.{◌≡◌, ◌≢◌, IfErr, IfOk, IsErr, IsSome, IsTrue, None, string_bytes};
+ghost use Rattle.sqlite_wal.specs.Files.{image_at};
 ghost use Rattle.std.specs.Io.KnownBytes.{Appends};
 ghost use Rattle.report.specs.Faults.{report_fault_text};
 ghost use Rattle.roster.specs.State.{State};
 ghost use Rattle.book.specs.Kept.{IsDurablyAt, IsClean};
 ghost use Rattle.store.specs.declared.show.Show.TheVariants as show;
+ghost use Rattle.rosterbook.specs.ByFiles.{IsByBook, IsByFiles, IsShownBy};
 ghost use Rattle.rosterbook.specs.Showing as spec;
 ghost use Rattle.rosterbook.specs.Streams.{IsOfChannel, refused_line};
 
+use crate::ended::Ended;
 use crate::lines::{refuse, write_text};
 use crate::status::Status;
 use crate::stop::Stop;
-use book::{Book, BookFault, FileBook, Show};
+use book::{Book, BookFault, Show};
 use duty::{CrewId, PairingId};
 use report::{ReportFault, exceedance_text, pairing_text, roster_text};
 use roster::Roster;
-use sqlite::Alter;
+use sqlite::{Alter, FileFrom, FileStore, Start};
+use sqlite_disk::Disk;
 use std::alloc::Global;
 use std::io::Write;
 use values::{MemoryFault, Text};
 
 /// Answers `rosterbook roster`.
-pub(crate) fn answer_roster<O: Write, E: Write>(
+pub(crate) fn answer_roster<S: Start, O: Write, E: Write>(
     rt: &HostRuntime,
     file: &str,
+    start: S,
     crew: &str,
     out: &mut O,
     err: &mut E,
-) -> Result<Status, Stop>
-    ensures { IfOk result (λ status. (s : State) × spec.IsToldOf s (show.Crew crew.now) status
+) -> Ended<FileFrom<S>>
+    ensures done { IfOk result.done
+        (IsShownBy (IsByFiles result.left (image_at S.Start)) (show.Crew crew.now)
         (O.contents out.old) (O.contents out.new) (E.contents err.old) (E.contents err.new)) }
+    ensures unopened { result.left ≡ None → IsErr result.done × (out.new ≡ out.old) }
 {
-    let who = CrewId::new(copy_of(rt.alloc(), crew)?);
-    show_file(rt, file, &Show::Crew(who), out, err)
+    match copy_of(rt.alloc(), crew) {
+        Ok(who) => show_file(rt, file, start, &Show::Crew(CrewId::new(who)), out, err),
+        Err(fault) => Ended::unopened(Err(Stop::from(fault))),
+    }
 }
 
 /// Answers `rosterbook pairing`.
-pub(crate) fn answer_pairing<O: Write, E: Write>(
+pub(crate) fn answer_pairing<S: Start, O: Write, E: Write>(
     rt: &HostRuntime,
     file: &str,
+    start: S,
     pairing: &str,
     out: &mut O,
     err: &mut E,
-) -> Result<Status, Stop>
-    ensures { IfOk result (λ status. (s : State) × spec.IsToldOf s (show.Pairing pairing.now) status
+) -> Ended<FileFrom<S>>
+    ensures done { IfOk result.done
+        (IsShownBy (IsByFiles result.left (image_at S.Start)) (show.Pairing pairing.now)
         (O.contents out.old) (O.contents out.new) (E.contents err.old) (E.contents err.new)) }
+    ensures unopened { result.left ≡ None → IsErr result.done × (out.new ≡ out.old) }
 {
-    let id = PairingId::new(copy_of(rt.alloc(), pairing)?);
-    show_file(rt, file, &Show::Pairing(id), out, err)
+    match copy_of(rt.alloc(), pairing) {
+        Ok(id) => show_file(
+            rt,
+            file,
+            start,
+            &Show::Pairing(PairingId::new(id)),
+            out,
+            err,
+        ),
+        Err(fault) => Ended::unopened(Err(Stop::from(fault))),
+    }
 }
 
 /// Answers `rosterbook exceedances`.
-pub(crate) fn answer_exceedances<O: Write, E: Write>(
+pub(crate) fn answer_exceedances<S: Start, O: Write, E: Write>(
     rt: &HostRuntime,
     file: &str,
+    start: S,
     out: &mut O,
     err: &mut E,
-) -> Result<Status, Stop>
-    ensures { IfOk result (λ status. (s : State) × spec.IsToldOf s show.Exceedances status
+) -> Ended<FileFrom<S>>
+    ensures done { IfOk result.done
+        (IsShownBy (IsByFiles result.left (image_at S.Start)) show.Exceedances
         (O.contents out.old) (O.contents out.new) (E.contents err.old) (E.contents err.new)) }
+    ensures unopened { result.left ≡ None → IsErr result.done × (out.new ≡ out.old) }
 {
-    show_file(rt, file, &Show::Exceedances, out, err)
+    show_file(rt, file, start, &Show::Exceedances, out, err)
 }
 
 /// Copies a text.
@@ -71,19 +95,44 @@ fn copy_of(alloc: Global, text: &str) -> Result<Text, MemoryFault>
     Ok(Text::new(String::from_str(alloc, text)?))
 }
 
-/// Opens a book and shows it, and lets go of its files as they are: to close them would copy the log into the database.
-fn show_file<O: Write, E: Write>(
+/// Opens a book and shows it.
+fn show_file<S: Start, O: Write, E: Write>(
     rt: &HostRuntime,
     file: &str,
+    start: S,
     what: &Show,
     out: &mut O,
     err: &mut E,
-) -> Result<Status, Stop>
-    ensures { IfOk result (λ status. (s : State) × spec.IsToldOf s what.now status
+) -> Ended<FileFrom<S>>
+    ensures done { IfOk result.done
+        (IsShownBy (IsByFiles result.left (image_at S.Start)) what.now
         (O.contents out.old) (O.contents out.new) (E.contents err.old) (E.contents err.new)) }
+    ensures unopened { result.left ≡ None → IsErr result.done × (out.new ≡ out.old) }
 {
-    let mut book = FileBook::open(rt, file)?;
-    show_text(rt.alloc(), &mut book, what, out, err)
+    match Book::open_from(rt, file, start) {
+        Ok(book) => show_and_leave(rt.alloc(), book, what, out, err),
+        Err(fault) => Ended::unopened(Err(Stop::from(fault))),
+    }
+}
+
+/// Shows a book, and lets go of its files as they are: to close them would copy the log into the
+/// database.
+fn show_and_leave<D: Disk + Drop, O: Write, E: Write>(
+    alloc: Global,
+    mut book: Book<FileStore<D>>,
+    what: &Show,
+    out: &mut O,
+    err: &mut E,
+) -> Ended<D>
+    ensures done { IfOk result.done (IsShownBy (IsByBook result.left book) what.now
+        (O.contents out.old) (O.contents out.new) (E.contents err.old) (E.contents err.new)) }
+    ensures left { IsSome result.left }
+{
+    let done = show_text(alloc, &mut book, what, out, err);
+    Ended {
+        done,
+        left: Some(book.leave()),
+    }
 }
 
 /// Prints the text of a member, of a pairing or of the exceedances by what a book shows, or tells that the member or the pairing

@@ -1,6 +1,7 @@
 use Rattle.std.proofs.lemmas.Result.{IfOk-weaker}
-use Rattle.rosterbook.proofs.Answering.{imported_told}
+use Rattle.rosterbook.proofs.ByFiles.{imported_at}
 use Rattle.rosterbook.proofs.import_command.answer_import.Goals as goal
 
-pub returns : goal.returns
-returns g c = IfOk-weaker c.import_csv-done.result _ _ (λ status done. imported_told _ _ _ c.args.number _ _ _ _ _ status done) c.import_csv-done.ensures.imported
+pub returns-in-Ok-clause-done : goal.returns-in-Ok-clause-done
+returns-in-Ok-clause-done g c =
+    IfOk-weaker c.import_and_close.result.done _ _ (λ status. imported_at _ c.in-Ok.book c.in-Ok.ensures.means c.import_and_close.result.left _ _ _ _ _ status c.args.number) c.import_and_close.ensures.done
