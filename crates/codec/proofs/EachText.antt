@@ -28,7 +28,7 @@ use Rattle.codec.proofs.OneList.{has_segment, in_place, place_of}
 -- ---- The records of a text
 
 module _ (config : Config) where
-  -- what is read leaves fewer bytes, or none
+  -- what is read of a text leaves fewer bytes; of no bytes it is a last record
   fewer : (text : List ℕ) (s : State) (fields : List (List ℕ)) (field : List ℕ) (read : Read) →
       next_record config s fields field text ≡ Some read → (length text ≡ 0 → read.1 ≡ StartRecord) × (length read.2 ≤ length text) × (0 < length text → length read.2 < length text)
   unfolding next_record
@@ -148,7 +148,7 @@ record AreGroups (begun : ℕ) (plans : List Plan) : Type 0 where
   apart : each_next differ plans ≡ true
   few : begun + length plans ≤ 10_000
 
--- what stands behind a place: segments of its period, later periods of its pairing, and then other pairings
+-- what stands behind a place, grouped: segments of its period, later periods of its pairing, and then other pairings
 record IsGrouped (begun : ℕ) (before : Place) (segments : List ScheduledSegment) : Type 0 where
   here : List Segment
   later : List Fdp
@@ -173,13 +173,21 @@ same_place a b pairing period report release = λ i. record { pairing = pairing 
 not_empty : {X : Type 0} (x : X) (xs : List X) → nat_lt 0 (length (x ∷ xs)) ≡ true
 not_empty x xs = lt-ltb 0 (length (x ∷ xs)) (omega arith)
 
+-- pairings that begin with another one
 groups_apart : (p : Plan) (ps : List Plan) → BeginsElsewhere p.id ps → each_next differ ps ≡ true → each_next differ (p ∷ ps) ≡ true
 groups_apart p [] away apart = refl
 groups_apart p (q ∷ qs) away apart = rw away apart
 
--- a pairing that begins with this segment, before what is grouped behind it
-begun_here : (begun : ℕ) (s : ScheduledSegment) (rest : List ScheduledSegment) → s.place.period ≡ 1 → begun < 10_000 → IsGrouped (begun + 1) s.place rest →
-    (plans : List Plan) × (p : Plan) × (s ∷ rest ≡ schedule_segments (p ∷ plans)) × AreGroups begun (p ∷ plans) × (p.id ≡ s.place.pairing)
+-- a pairing that begins with this segment, and those that follow it
+record IsBegun (begun : ℕ) (s : ScheduledSegment) (rest : List ScheduledSegment) : Type 0 where
+  first : Plan
+  others : List Plan
+  is : s ∷ rest ≡ schedule_segments (first ∷ others)
+  groups : AreGroups begun (first ∷ others)
+  named : first.id ≡ s.place.pairing
+
+-- of what is grouped behind its first segment
+begun_here : (begun : ℕ) (s : ScheduledSegment) (rest : List ScheduledSegment) → s.place.period ≡ 1 → begun < 10_000 → IsGrouped (begun + 1) s.place rest → IsBegun begun s rest
 begun_here begun s rest first room g =
     let f = period_from s.place s.segment g.here in
     let p : Plan = record { id = s.place.pairing; periods = f ∷ g.later } in
@@ -187,18 +195,32 @@ begun_here begun s rest first room g =
     let at : s.place ≡ place_of s.place.pairing 1 f = same_place s.place (place_of s.place.pairing 1 f) refl first refl refl in
     let two : s.place.period + 1 ≡ 2 = omega (arith, first) in
     let whole : s ∷ rest ≡ period_segments s.place.pairing 1 f ++ (periods_segments s.place.pairing 2 g.later ++ schedule_segments g.plans) =
-    ap (λ t. s ∷ t) g.is ∙ (λ i. in_place (at i) s.segment ∷ (map (in_place (at i)) g.here ++ (periods_segments s.place.pairing (two i) g.later ++ schedule_segments g.plans))) in (
-      g.plans,
-      p,
-      whole ∙ sym (append_assoc (period_segments s.place.pairing 1 f) (periods_segments s.place.pairing 2 g.later) (schedule_segments g.plans)),
-      record {
+    ap (λ t. s ∷ t) g.is ∙ (λ i. in_place (at i) s.segment ∷ (map (in_place (at i)) g.here ++ (periods_segments s.place.pairing (two i) g.later ++ schedule_segments g.plans))) in
+    record {
+      first = p;
+      others = g.plans;
+      is = whole ∙ sym (append_assoc (period_segments s.place.pairing 1 f) (periods_segments s.place.pairing 2 g.later) (schedule_segments g.plans));
+      groups = record {
         shown = and_from (shows p) (list_all shows g.plans) (and_from _ _ (not_empty f g.later) (and_from _ _ (not_empty s.segment g.here) g.with_segments)) g.groups.shown;
         planned = (ap (λ fs. f ∷ fs) g.later_planned, g.groups.planned);
         apart = groups_apart p g.plans g.elsewhere g.groups.apart;
         few = omega (arith, few);
-      },
-      refl,
-    )
+      };
+      named = refl;
+    }
+
+-- behind a place of another pairing
+begun_behind : (begun : ℕ) (before : Place) (s : ScheduledSegment) (rest : List ScheduledSegment) → goes_on (Some before) s.place ≡ false → IsBegun begun s rest → IsGrouped begun before (s ∷ rest)
+begun_behind begun before s rest away b = record {
+  here = [];
+  later = [];
+  plans = b.first ∷ b.others;
+  is = b.is;
+  with_segments = refl;
+  later_planned = refl;
+  groups = b.groups;
+  elsewhere = subst (λ id. bytes_eq before.pairing id ≡ false) (sym b.named) away;
+}
 
 none_grouped : (begun : ℕ) → begun ≤ 10_000 → AreGroups begun []
 none_grouped begun room = record { shown = refl; planned = tt; apart = refl; few = omega (arith, room) }
@@ -219,17 +241,8 @@ grouped begun before (s ∷ rest) room stand = elim (cases_Bool (goes_on (Some b
       let parts = and_parts (may_begin begun s.place) _ (rw away at stand) in
       let begins = and_parts (s.place.period == 1) _ parts.0 in
       let few : begun < 10_000 = ltb-true begun 10_000 begins.1 in
-      let new = begun_here begun s rest ((Decides-eqb s.place.period 1).0 begins.0) few (grouped (begun + 1) s.place rest (omega (arith, few)) parts.1) in
-      record {
-        here = [];
-        later = [];
-        plans = new.1 ∷ new.0;
-        is = new.2;
-        with_segments = refl;
-        later_planned = refl;
-        groups = new.3;
-        elsewhere = subst (λ id. bytes_eq before.pairing id ≡ false) (sym new.4) away;
-      }
+      begun_behind begun before s rest away
+      (begun_here begun s rest ((Decides-eqb s.place.period 1).0 begins.0) few (grouped (begun + 1) s.place rest (omega (arith, few)) parts.1))
   | inl same ↦
       let parts = and_parts (is_same_or_next (Some before) s.place) _ (rw same at stand) in
       on (grouped begun s.place rest room parts.1) ((bytes_eq-Decides before.pairing s.place.pairing).0 same) parts.0
@@ -276,8 +289,8 @@ are_of (s ∷ rest) stand =
     let parts = and_parts (may_begin 0 s.place) _ stand in
     let begins = and_parts (s.place.period == 1) _ parts.0 in
     let new = begun_here 0 s rest ((Decides-eqb s.place.period 1).0 begins.0) (omega arith) (grouped 1 s.place rest (omega arith) parts.1) in
-    let few = new.3.few in
-    (new.1 ∷ new.0, (sym new.2, new.3.shown, new.3.planned, new.3.apart, omega (arith, few)))
+    let few = new.groups.few in
+    (new.first ∷ new.others, (sym new.is, new.groups.shown, new.groups.planned, new.groups.apart, omega (arith, few)))
 
 -- ---- The first that fails
 

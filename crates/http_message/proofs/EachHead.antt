@@ -60,7 +60,7 @@ newline_shortens : (end : LineEnd) (text rest : List ℕ) → Newline end text r
 newline_shortens crlf text rest is = omega (arith, ap length is)
 newline_shortens lf text rest is = omega (arith, ap length is)
 
--- what doesn't begin with an end of a line, and isn't at its end, stops the empty lines or begins with CR alone
+-- the empty lines of a text of fewer bytes than this: they end at a byte that begins no other one
 blank_within : (most : ℕ) (text : List ℕ) → length text < most → Begins Blank text ⊎ ¬ (Begins Blank text)
 blank_within zero text few = absurd (omega (arith, few))
 blank_within (suc most) text few = elim (newline_decides text) [
