@@ -10,9 +10,7 @@ ghost use Rattle.part.specs.Part.{members_named, pairings_named, grounds_named, 
 ghost use Rattle.roster.specs.Holding.{AreJust};
 ghost use Rattle.part.specs.Sources.{IsCaused, IsGroundOfOne, IsHeldByOne, IsOutsideOfOne, TellsOfState};
 
-use crate::named::{
-    grounds_named, judged_in, members_named, members_wanted, outsides_named, pairings_named,
-};
+use crate::named::{ids_named, judged_in, members_wanted};
 use crate::pick::{pick_grounds, pick_members, pick_outsides, pick_pairings, pick_request};
 use crate::source::Source;
 use command::{Command, Instruction, Key, Member};
@@ -114,90 +112,6 @@ fn gather_requests<S: Source>(
     Ok(requests)
 }
 
-/// Gathers the members that an instruction names.
-#[tactic(auto, using(crate::proofs::Picked::names_are))]
-fn gather_crew_named<S: Source>(
-    alloc: Global,
-    source: &mut S,
-    instruction: &Instruction,
-) -> Result<OrdMap<CrewId, Member>, S::Fault>
-    ensures told { TellsOfState S.is_clean S.shows
-        (λ s it. it ≡ fin.retain_keys s.crew (is_one_of (members_named instruction.now)))
-        source.old source.new result }
-    ensures left { S.stays source.old source.new }
-    ensures caused { IfErr result
-        (IsCaused S.fails S.Fault.from_gives source.old source.new) }
-    ensures serves { OnOk result (S.serves source.old source.new) }
-{
-    let mut crew = OrdMap::new(alloc);
-    let names = members_named(alloc, instruction)?;
-    pick_members(alloc, source, &names, &mut crew)?;
-    Ok(crew)
-}
-
-/// Gathers the pairings that an instruction names.
-#[tactic(auto, using(crate::proofs::Picked::names_are))]
-fn gather_pairings_named<S: Source>(
-    alloc: Global,
-    source: &mut S,
-    instruction: &Instruction,
-) -> Result<OrdMap<PairingId, PairingEntry>, S::Fault>
-    ensures told { TellsOfState S.is_clean S.shows
-        (λ s it. it ≡ fin.retain_keys s.pairings (is_one_of (pairings_named instruction.now)))
-        source.old source.new result }
-    ensures left { S.stays source.old source.new }
-    ensures caused { IfErr result
-        (IsCaused S.fails S.Fault.from_gives source.old source.new) }
-    ensures serves { OnOk result (S.serves source.old source.new) }
-{
-    let mut pairings = OrdMap::new(alloc);
-    let names = pairings_named(alloc, instruction)?;
-    pick_pairings(alloc, source, &names, &mut pairings)?;
-    Ok(pairings)
-}
-
-/// Gathers the ground duties that an instruction names.
-#[tactic(auto, using(crate::proofs::Picked::names_are))]
-fn gather_grounds_named<S: Source>(
-    alloc: Global,
-    source: &mut S,
-    instruction: &Instruction,
-) -> Result<OrdMap<GroundId, Ground>, S::Fault>
-    ensures told { TellsOfState S.is_clean S.shows
-        (λ s it. it ≡ fin.retain_keys s.grounds (is_one_of (grounds_named instruction.now)))
-        source.old source.new result }
-    ensures left { S.stays source.old source.new }
-    ensures caused { IfErr result
-        (IsCaused S.fails S.Fault.from_gives source.old source.new) }
-    ensures serves { OnOk result (S.serves source.old source.new) }
-{
-    let mut grounds = OrdMap::new(alloc);
-    let names = grounds_named(alloc, instruction)?;
-    pick_grounds(alloc, source, &names, &mut grounds)?;
-    Ok(grounds)
-}
-
-/// Gathers the outside periods that an instruction names.
-#[tactic(auto, using(crate::proofs::Picked::names_are))]
-fn gather_outsides_named<S: Source>(
-    alloc: Global,
-    source: &mut S,
-    instruction: &Instruction,
-) -> Result<OrdMap<OutsideId, OutsideEntry>, S::Fault>
-    ensures told { TellsOfState S.is_clean S.shows
-        (λ s it. it ≡ fin.retain_keys s.outsides (is_one_of (outsides_named instruction.now)))
-        source.old source.new result }
-    ensures left { S.stays source.old source.new }
-    ensures caused { IfErr result
-        (IsCaused S.fails S.Fault.from_gives source.old source.new) }
-    ensures serves { OnOk result (S.serves source.old source.new) }
-{
-    let mut outsides = OrdMap::new(alloc);
-    let names = outsides_named(alloc, instruction)?;
-    pick_outsides(alloc, source, &names, &mut outsides)?;
-    Ok(outsides)
-}
-
 /// Gathers what an instruction names, beside what its key holds.
 pub(crate) fn gather_named<S: Source>(
     alloc: Global,
@@ -213,11 +127,16 @@ pub(crate) fn gather_named<S: Source>(
         (IsCaused S.fails S.Fault.from_gives source.old source.new) }
     ensures serves { OnOk result (S.serves source.old source.new) }
 {
+    let ids = ids_named(alloc, instruction)?;
     let bases = source.bases(alloc)?;
-    let crew = gather_crew_named(alloc, source, instruction)?;
-    let pairings = gather_pairings_named(alloc, source, instruction)?;
-    let grounds = gather_grounds_named(alloc, source, instruction)?;
-    let outsides = gather_outsides_named(alloc, source, instruction)?;
+    let mut crew = OrdMap::new(alloc);
+    pick_members(alloc, source, &ids.members, &mut crew)?;
+    let mut pairings = OrdMap::new(alloc);
+    pick_pairings(alloc, source, &ids.pairings, &mut pairings)?;
+    let mut grounds = OrdMap::new(alloc);
+    pick_grounds(alloc, source, &ids.grounds, &mut grounds)?;
+    let mut outsides = OrdMap::new(alloc);
+    pick_outsides(alloc, source, &ids.outsides, &mut outsides)?;
     Ok(Roster {
         bases,
         crew,

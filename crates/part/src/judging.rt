@@ -2,9 +2,8 @@
 //! (`roster/specs/Steps.antt`); what is settled by names is `is_settled` (`specs/Part.antt`).
 //! Through the program: `tests/answers.py`. Wrong bodies: `must-fail/`.
 
-ghost use Rattle.std.specs.Prelude.{◌≡◌, IfErr, IfOk, IfSome, IsTrue, None, OnOk, Some};
-ghost use Rattle.std.specs.FinMap as fin;
-ghost use Rattle.command.specs.Keys.{KeyParts, key_name};
+ghost use Rattle.std.specs.Prelude.{◌≡◌, IfErr, IfOk, IfSome, IsTrue, OnOk, Some};
+ghost use Rattle.command.specs.Keys.{KeyParts};
 ghost use Rattle.part.specs.Part.{NamedPart, has_histories, is_settled};
 ghost use Rattle.part.specs.Sources.{IsCaused, TellsOfState};
 ghost use Rattle.roster.specs.State.{State};
@@ -99,36 +98,6 @@ fn judge_whole<S: Source>(
     Ok(verdict?)
 }
 
-/// Judges a command under a free key: by what it names, and only if that doesn't settle the verdict by the histories too.
-fn judge_new<S: Source>(
-    alloc: Global,
-    source: &mut S,
-    key: Key,
-    command: &Command,
-) -> Result<Verdict, S::Fault>
-    ensures told { TellsOfState S.is_clean S.shows
-        (λ s verdict. fin.get s.requests (key_name key) ≡ None
-        → verdict ≡ step_of s key command.now) source.old source.new result }
-    ensures left { S.stays source.old source.new }
-    ensures caused { IfErr result
-        (IsCaused S.fails S.Fault.from_gives source.old source.new) }
-    ensures serves { OnOk result (S.serves source.old source.new) }
-{
-    let named = gather_named(alloc, source, command.instruction(), OrdMap::new(alloc))?;
-    let settled = settle(alloc, &named, key, command);
-    match settled {
-        Ok(None) => judge_whole(alloc, source, key, command, named),
-        Ok(Some(verdict)) => {
-            drop(named);
-            Ok(verdict)
-        }
-        Err(fault) => {
-            drop(named);
-            Err(S::Fault::from(fault))
-        }
-    }
-}
-
 /// Judges a command under its key, and reads no more than that takes: first what the key holds, then what the command
 /// names, and only if these don't settle the verdict the histories by which it is judged.
 pub fn judge<S: Source>(
@@ -145,9 +114,20 @@ pub fn judge<S: Source>(
     ensures serves { OnOk result (S.serves source.old source.new) }
     ensures there { OnOk result (S.is_there source.new) }
 {
-    let held = source.request(alloc, key)?;
-    match held {
-        Some(kept) => Ok(answer_kept(kept, command)),
-        None => judge_new(alloc, source, key, command),
+    if let Some(kept) = source.request(alloc, key)? {
+        return Ok(answer_kept(kept, command));
+    }
+    let named = gather_named(alloc, source, command.instruction(), OrdMap::new(alloc))?;
+    let settled = settle(alloc, &named, key, command);
+    match settled {
+        Ok(None) => judge_whole(alloc, source, key, command, named),
+        Ok(Some(verdict)) => {
+            drop(named);
+            Ok(verdict)
+        }
+        Err(fault) => {
+            drop(named);
+            Err(S::Fault::from(fault))
+        }
     }
 }

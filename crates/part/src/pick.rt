@@ -33,26 +33,6 @@ pub(crate) fn pick_request<S: Source>(
     Ok(())
 }
 
-/// Sets what the source has under an id.
-pub(crate) fn pick_pairing<S: Source>(
-    alloc: Global,
-    source: &mut S,
-    id: &PairingId,
-    pairings: &mut OrdMap<PairingId, PairingEntry>,
-) -> Result<(), S::Fault>
-    ensures told { TellsOfState S.is_clean S.shows
-        (λ s _. pairings.new ≡ pick s.pairings pairings.old id.now) source.old source.new result }
-    ensures left { S.stays source.old source.new }
-    ensures caused { IfErr result
-        (IsCaused S.fails S.Fault.from_gives source.old source.new) }
-    ensures serves { OnOk result (S.serves source.old source.new) }
-{
-    if let Some(rostered) = source.pairing(alloc, id)? {
-        pairings.insert(id.try_clone(alloc)?, rostered)?;
-    }
-    Ok(())
-}
-
 /// Sets what the source has under these ids.
 pub(crate) fn pick_pairings<S: Source>(
     alloc: Global,
@@ -69,27 +49,9 @@ pub(crate) fn pick_pairings<S: Source>(
     ensures serves { OnOk result (S.serves source.old source.new) }
 {
     for id in ids {
-        pick_pairing(alloc, source, id, pairings)?;
-    }
-    Ok(())
-}
-
-/// Sets what the source has under an id.
-fn pick_ground<S: Source>(
-    alloc: Global,
-    source: &mut S,
-    id: &GroundId,
-    grounds: &mut OrdMap<GroundId, Ground>,
-) -> Result<(), S::Fault>
-    ensures told { TellsOfState S.is_clean S.shows
-        (λ s _. grounds.new ≡ pick s.grounds grounds.old id.now) source.old source.new result }
-    ensures left { S.stays source.old source.new }
-    ensures caused { IfErr result
-        (IsCaused S.fails S.Fault.from_gives source.old source.new) }
-    ensures serves { OnOk result (S.serves source.old source.new) }
-{
-    if let Some(ground) = source.ground(alloc, id)? {
-        grounds.insert(id.try_clone(alloc)?, ground)?;
+        if let Some(rostered) = source.pairing(alloc, id)? {
+            pairings.insert(id.try_clone(alloc)?, rostered)?;
+        }
     }
     Ok(())
 }
@@ -109,27 +71,9 @@ pub(crate) fn pick_grounds<S: Source>(
     ensures serves { OnOk result (S.serves source.old source.new) }
 {
     for id in ids {
-        pick_ground(alloc, source, id, grounds)?;
-    }
-    Ok(())
-}
-
-/// Sets what the source has under an id.
-fn pick_outside<S: Source>(
-    alloc: Global,
-    source: &mut S,
-    id: &OutsideId,
-    outsides: &mut OrdMap<OutsideId, OutsideEntry>,
-) -> Result<(), S::Fault>
-    ensures told { TellsOfState S.is_clean S.shows
-        (λ s _. outsides.new ≡ pick s.outsides outsides.old id.now) source.old source.new result }
-    ensures left { S.stays source.old source.new }
-    ensures caused { IfErr result
-        (IsCaused S.fails S.Fault.from_gives source.old source.new) }
-    ensures serves { OnOk result (S.serves source.old source.new) }
-{
-    if let Some(outside) = source.outside(alloc, id)? {
-        outsides.insert(id.try_clone(alloc)?, outside)?;
+        if let Some(ground) = source.ground(alloc, id)? {
+            grounds.insert(id.try_clone(alloc)?, ground)?;
+        }
     }
     Ok(())
 }
@@ -149,36 +93,14 @@ pub(crate) fn pick_outsides<S: Source>(
     ensures serves { OnOk result (S.serves source.old source.new) }
 {
     for id in ids {
-        pick_outside(alloc, source, id, outsides)?;
+        if let Some(outside) = source.outside(alloc, id)? {
+            outsides.insert(id.try_clone(alloc)?, outside)?;
+        }
     }
     Ok(())
 }
 
-/// Sets what the source has under an id, if it isn't there yet.
-#[tactic(auto, using(crate::proofs::Picked::pick_known))]
-pub(crate) fn pick_member<S: Source>(
-    alloc: Global,
-    source: &mut S,
-    id: &CrewId,
-    crew: &mut OrdMap<CrewId, Member>,
-) -> Result<(), S::Fault>
-    ensures told { TellsOfState S.is_clean S.shows (λ s _. IsPartOf crew.old s.crew
-        → crew.new ≡ pick s.crew crew.old id.now) source.old source.new result }
-    ensures left { S.stays source.old source.new }
-    ensures caused { IfErr result
-        (IsCaused S.fails S.Fault.from_gives source.old source.new) }
-    ensures serves { OnOk result (S.serves source.old source.new) }
-{
-    if crew.contains(id) {
-        return Ok(());
-    }
-    if let Some(member) = source.member(alloc, id)? {
-        crew.insert(id.try_clone(alloc)?, member)?;
-    }
-    Ok(())
-}
-
-/// Sets what the source has under these ids.
+/// Sets what the source has under these ids. A member who is there already isn't read again.
 pub(crate) fn pick_members<S: Source>(
     alloc: Global,
     source: &mut S,
@@ -193,7 +115,12 @@ pub(crate) fn pick_members<S: Source>(
     ensures serves { OnOk result (S.serves source.old source.new) }
 {
     for id in ids {
-        pick_member(alloc, source, id, crew)?;
+        if crew.contains(id) {
+            continue;
+        }
+        if let Some(member) = source.member(alloc, id)? {
+            crew.insert(id.try_clone(alloc)?, member)?;
+        }
     }
     Ok(())
 }

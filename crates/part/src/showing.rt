@@ -4,75 +4,45 @@
 ghost use Rattle.std.specs.Prelude.{◌≡◌, IfErr, OnOk};
 ghost use Rattle.std.specs.FinMap as fin;
 ghost use Rattle.std.specs.Str.{bytes_eq};
-ghost use Rattle.part.specs.Shown.{exceedances_part, is_ground_of, is_held_of, is_outside_of, member_part, pairing_part};
+ghost use Rattle.roster.specs.Holding.{AreJust, IsGroundOf, IsHeldBy, IsOutsideOf};
+ghost use Rattle.part.specs.Shown.{exceedances_part, member_part, pairing_part};
 ghost use Rattle.part.specs.Sources.{IsCaused, TellsOfState};
 
-use crate::pick::{pick_grounds, pick_member, pick_outsides, pick_pairing, pick_pairings};
+use crate::pick::{pick_grounds, pick_outsides, pick_pairings};
 use crate::source::Source;
 use command::Member;
-use duty::{CrewId, Ground, GroundId, OutsideId, PairingId};
-use roster::{OutsideEntry, PairingEntry, Roster};
+use duty::{CrewId, GroundId, OutsideId, PairingId};
+use roster::{PairingEntry, Roster};
 use std::alloc::Global;
-use values::OrdMap;
+use values::{OrdMap, TryClone};
 
-/// Gathers the pairings that a member holds.
-fn held_pairings<S: Source>(
-    alloc: Global,
-    source: &mut S,
-    who: &CrewId,
-) -> Result<OrdMap<PairingId, PairingEntry>, S::Fault>
-    ensures told { TellsOfState S.is_clean S.shows
-        (λ s it. it ≡ fin.retain_keys s.pairings (is_held_of s who.now))
-        source.old source.new result }
-    ensures left { S.stays source.old source.new }
-    ensures caused { IfErr result
-        (IsCaused S.fails S.Fault.from_gives source.old source.new) }
-    ensures serves { OnOk result (S.serves source.old source.new) }
-{
-    let mut pairings = OrdMap::new(alloc);
-    let ids = source.pairings_of(alloc, who)?;
-    pick_pairings(alloc, source, &ids, &mut pairings)?;
-    Ok(pairings)
+/// The ids of what a member holds.
+#[derive(Drop)]
+struct HeldIds {
+    pairings: Vec<PairingId>,
+    grounds: Vec<GroundId>,
+    outsides: Vec<OutsideId>,
 }
 
-/// Gathers a member's ground duties.
-fn grounds_held<S: Source>(
-    alloc: Global,
-    source: &mut S,
-    who: &CrewId,
-) -> Result<OrdMap<GroundId, Ground>, S::Fault>
+/// Reads the ids of the pairings that a member holds, and of the member's ground duties and outside periods.
+fn ids_held<S: Source>(alloc: Global, source: &mut S, who: &CrewId) -> Result<HeldIds, S::Fault>
     ensures told { TellsOfState S.is_clean S.shows
-        (λ s it. it ≡ fin.retain_keys s.grounds (is_ground_of s who.now))
-        source.old source.new result }
+        (λ s ids. AreJust (IsHeldBy s who.now) ids.pairings.items
+        × AreJust (IsGroundOf s who.now) ids.grounds.items
+        × AreJust (IsOutsideOf s who.now) ids.outsides.items) source.old source.new result }
     ensures left { S.stays source.old source.new }
     ensures caused { IfErr result
         (IsCaused S.fails S.Fault.from_gives source.old source.new) }
     ensures serves { OnOk result (S.serves source.old source.new) }
 {
-    let mut grounds = OrdMap::new(alloc);
-    let ids = source.grounds_of(alloc, who)?;
-    pick_grounds(alloc, source, &ids, &mut grounds)?;
-    Ok(grounds)
-}
-
-/// Gathers a member's outside periods.
-fn outsides_held<S: Source>(
-    alloc: Global,
-    source: &mut S,
-    who: &CrewId,
-) -> Result<OrdMap<OutsideId, OutsideEntry>, S::Fault>
-    ensures told { TellsOfState S.is_clean S.shows
-        (λ s it. it ≡ fin.retain_keys s.outsides (is_outside_of s who.now))
-        source.old source.new result }
-    ensures left { S.stays source.old source.new }
-    ensures caused { IfErr result
-        (IsCaused S.fails S.Fault.from_gives source.old source.new) }
-    ensures serves { OnOk result (S.serves source.old source.new) }
-{
-    let mut outsides = OrdMap::new(alloc);
-    let ids = source.outsides_of(alloc, who)?;
-    pick_outsides(alloc, source, &ids, &mut outsides)?;
-    Ok(outsides)
+    let pairings = source.pairings_of(alloc, who)?;
+    let grounds = source.grounds_of(alloc, who)?;
+    let outsides = source.outsides_of(alloc, who)?;
+    Ok(HeldIds {
+        pairings,
+        grounds,
+        outsides,
+    })
 }
 
 /// Gathers the member of an id, if there is one.
@@ -89,12 +59,13 @@ fn one_member<S: Source>(
     ensures serves { OnOk result (S.serves source.old source.new) }
 {
     let mut crew = OrdMap::new(alloc);
-    pick_member(alloc, source, who, &mut crew)?;
+    if let Some(member) = source.member(alloc, who)? {
+        crew.insert(who.try_clone(alloc)?, member)?;
+    }
     Ok(crew)
 }
 
 /// Gathers the pairing of an id, if there is one.
-#[tactic(auto, using(crate::proofs::Picked::entry_is))]
 fn one_pairing<S: Source>(
     alloc: Global,
     source: &mut S,
@@ -108,7 +79,9 @@ fn one_pairing<S: Source>(
     ensures serves { OnOk result (S.serves source.old source.new) }
 {
     let mut pairings = OrdMap::new(alloc);
-    pick_pairing(alloc, source, id, &mut pairings)?;
+    if let Some(rostered) = source.pairing(alloc, id)? {
+        pairings.insert(id.try_clone(alloc)?, rostered)?;
+    }
     Ok(pairings)
 }
 
@@ -128,9 +101,13 @@ pub fn gather_member<S: Source>(
 {
     let bases = source.bases(alloc)?;
     let crew = one_member(alloc, source, who)?;
-    let pairings = held_pairings(alloc, source, who)?;
-    let grounds = grounds_held(alloc, source, who)?;
-    let outsides = outsides_held(alloc, source, who)?;
+    let ids = ids_held(alloc, source, who)?;
+    let mut pairings = OrdMap::new(alloc);
+    pick_pairings(alloc, source, &ids.pairings, &mut pairings)?;
+    let mut grounds = OrdMap::new(alloc);
+    pick_grounds(alloc, source, &ids.grounds, &mut grounds)?;
+    let mut outsides = OrdMap::new(alloc);
+    pick_outsides(alloc, source, &ids.outsides, &mut outsides)?;
     Ok(Roster {
         bases,
         crew,

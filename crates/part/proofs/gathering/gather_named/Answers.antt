@@ -1,41 +1,79 @@
+use Rattle.std.proofs.Common.{sym, subst}
 use Rattle.std.proofs.lemmas.Result.{err_from_is_err_and}
 use Rattle.part.proofs.Causes.{caused_then}
+use Rattle.std.specs.FinMap as fin
+use Rattle.values.specs.Name.{name_cmp}
+use Rattle.command.specs.declared.member.Member.{Member}
+use Rattle.part.specs.Part.{members_named, pairings_named, grounds_named, outsides_named}
+use Rattle.part.specs.Sources.{IsPartOf}
+use Rattle.part.proofs.Picked.{names_are_as, none_apart}
 use Rattle.part.proofs.gathering.gather_named.Goals as goal
 
-pub returns-in_err-crew-clause-left : goal.returns-in_err-crew-clause-left
-returns-in_err-crew-clause-left g c = g.S.Source.and_then _ _ _ c.bases.ensures.left c.gather_crew_named.ensures.left
+pub returns-clause-told : goal.returns-clause-told
+returns-clause-told g c = (
+  λ clean. c.bases.ensures.told.0 (c.pick_members.ensures.told.0 (c.pick_pairings.ensures.told.0 (c.pick_grounds.ensures.told.0 (c.pick_outsides.ensures.told.0 clean)))),
+  λ clean s shows.
+      let fourth = c.pick_outsides.ensures.told.0 clean in
+      let third = c.pick_grounds.ensures.told.0 fourth in
+      let second = c.pick_pairings.ensures.told.0 third in
+      let first = c.pick_members.ensures.told.0 second in
+      let bases = c.in_ok-bases.ensures.told.1 first s shows in
+      let members = c.in_ok-pick_members.ensures.told.1 second s bases.0 in
+      let plans = c.in_ok-pick_pairings.ensures.told.1 third s members.0 in
+      let tasks = c.in_ok-pick_grounds.ensures.told.1 fourth s plans.0 in
+      let flown = c.in_ok-pick_outsides.ensures.told.1 clean s tasks.0 in
+      let none = subst (λ (m : fin.FinMap name_cmp Member). IsPartOf m s.crew) (sym c.new-crew.ensures) (none_apart s.crew) in
+      let crew = names_are_as s.crew _ _ _ _ _ c.new-crew.ensures c.in_ok-ids.ensures.members c.deref.ensures.value (members.1 none) in
+      let pairings = names_are_as s.pairings _ _ _ _ _ c.new-pairings.ensures c.in_ok-ids.ensures.pairings c.deref-2.ensures.value plans.1 in
+      let grounds = names_are_as s.grounds _ _ _ _ _ c.new-grounds.ensures c.in_ok-ids.ensures.grounds c.deref-3.ensures.value tasks.1 in
+      let outsides = names_are_as s.outsides _ _ _ _ _ c.new-outsides.ensures c.in_ok-ids.ensures.outsides c.deref-4.ensures.value flown.1 in (
+        flown.0,
+        λ key kept i. record {
+          bases = bases.1 i;
+          crew = crew i;
+          pairings = pairings i;
+          grounds = grounds i;
+          outsides = outsides i;
+          exceedances = c.new.ensures i;
+          requests = kept i;
+        },
+      ),
+)
 
-pub returns-in_err-crew-clause-caused : goal.returns-in_err-crew-clause-caused
-returns-in_err-crew-clause-caused g c =
-    let p = err_from_is_err_and c.from_residual-in_err-crew.result c.from_residual-in_err-crew.ensures.1 in
-    rw (p.1, p.2) (caused_then g.S.Source.fails g.S.Fault.From.from_gives g.S.Source.stays g.S.Source.fails_then _ _ _ _ c.bases.ensures.left c.gather_crew_named.ensures.left c.in_err-crew.ensures.caused)
+pub returns-in_err-pick_members-clause-left : goal.returns-in_err-pick_members-clause-left
+returns-in_err-pick_members-clause-left g c = g.S.Source.and_then _ _ _ c.bases.ensures.left c.pick_members.ensures.left
 
-pub returns-in_err-pairings-clause-left : goal.returns-in_err-pairings-clause-left
-returns-in_err-pairings-clause-left g c = g.S.Source.and_then _ _ _ c.bases.ensures.left (g.S.Source.and_then _ _ _ c.gather_crew_named.ensures.left c.gather_pairings_named.ensures.left)
+pub returns-in_err-pick_members-clause-caused : goal.returns-in_err-pick_members-clause-caused
+returns-in_err-pick_members-clause-caused g c =
+    let p = err_from_is_err_and c.from_residual-in_err-pick_members.result c.from_residual-in_err-pick_members.ensures.1 in
+    rw (p.1, p.2) (caused_then g.S.Source.fails g.S.Fault.From.from_gives g.S.Source.stays g.S.Source.fails_then _ _ _ _ c.bases.ensures.left c.pick_members.ensures.left c.in_err-pick_members.ensures.caused)
 
-pub returns-in_err-pairings-clause-caused : goal.returns-in_err-pairings-clause-caused
-returns-in_err-pairings-clause-caused g c =
-    let p = err_from_is_err_and c.from_residual-in_err-pairings.result c.from_residual-in_err-pairings.ensures.1 in
-    rw (p.1, p.2) (caused_then g.S.Source.fails g.S.Fault.From.from_gives g.S.Source.stays g.S.Source.fails_then _ _ _ _ (g.S.Source.and_then _ _ _ c.bases.ensures.left c.gather_crew_named.ensures.left) c.gather_pairings_named.ensures.left c.in_err-pairings.ensures.caused)
+pub returns-in_err-pick_pairings-clause-left : goal.returns-in_err-pick_pairings-clause-left
+returns-in_err-pick_pairings-clause-left g c = g.S.Source.and_then _ _ _ c.bases.ensures.left (g.S.Source.and_then _ _ _ c.pick_members.ensures.left c.pick_pairings.ensures.left)
 
-pub returns-in_err-grounds-clause-left : goal.returns-in_err-grounds-clause-left
-returns-in_err-grounds-clause-left g c = g.S.Source.and_then _ _ _ c.bases.ensures.left (g.S.Source.and_then _ _ _ c.gather_crew_named.ensures.left (g.S.Source.and_then _ _ _ c.gather_pairings_named.ensures.left c.gather_grounds_named.ensures.left))
+pub returns-in_err-pick_pairings-clause-caused : goal.returns-in_err-pick_pairings-clause-caused
+returns-in_err-pick_pairings-clause-caused g c =
+    let p = err_from_is_err_and c.from_residual-in_err-pick_pairings.result c.from_residual-in_err-pick_pairings.ensures.1 in
+    rw (p.1, p.2) (caused_then g.S.Source.fails g.S.Fault.From.from_gives g.S.Source.stays g.S.Source.fails_then _ _ _ _ (g.S.Source.and_then _ _ _ c.bases.ensures.left c.pick_members.ensures.left) c.pick_pairings.ensures.left c.in_err-pick_pairings.ensures.caused)
 
-pub returns-in_err-grounds-clause-caused : goal.returns-in_err-grounds-clause-caused
-returns-in_err-grounds-clause-caused g c =
-    let p = err_from_is_err_and c.from_residual-in_err-grounds.result c.from_residual-in_err-grounds.ensures.1 in
-    rw (p.1, p.2) (caused_then g.S.Source.fails g.S.Fault.From.from_gives g.S.Source.stays g.S.Source.fails_then _ _ _ _ (g.S.Source.and_then _ _ _ c.bases.ensures.left (g.S.Source.and_then _ _ _ c.gather_crew_named.ensures.left c.gather_pairings_named.ensures.left)) c.gather_grounds_named.ensures.left c.in_err-grounds.ensures.caused)
+pub returns-in_err-pick_grounds-clause-left : goal.returns-in_err-pick_grounds-clause-left
+returns-in_err-pick_grounds-clause-left g c = g.S.Source.and_then _ _ _ c.bases.ensures.left (g.S.Source.and_then _ _ _ c.pick_members.ensures.left (g.S.Source.and_then _ _ _ c.pick_pairings.ensures.left c.pick_grounds.ensures.left))
 
-pub returns-in_err-outsides-clause-left : goal.returns-in_err-outsides-clause-left
-returns-in_err-outsides-clause-left g c = g.S.Source.and_then _ _ _ c.bases.ensures.left (g.S.Source.and_then _ _ _ c.gather_crew_named.ensures.left (g.S.Source.and_then _ _ _ c.gather_pairings_named.ensures.left (g.S.Source.and_then _ _ _ c.gather_grounds_named.ensures.left c.gather_outsides_named.ensures.left)))
+pub returns-in_err-pick_grounds-clause-caused : goal.returns-in_err-pick_grounds-clause-caused
+returns-in_err-pick_grounds-clause-caused g c =
+    let p = err_from_is_err_and c.from_residual-in_err-pick_grounds.result c.from_residual-in_err-pick_grounds.ensures.1 in
+    rw (p.1, p.2) (caused_then g.S.Source.fails g.S.Fault.From.from_gives g.S.Source.stays g.S.Source.fails_then _ _ _ _ (g.S.Source.and_then _ _ _ c.bases.ensures.left (g.S.Source.and_then _ _ _ c.pick_members.ensures.left c.pick_pairings.ensures.left)) c.pick_grounds.ensures.left c.in_err-pick_grounds.ensures.caused)
 
-pub returns-in_err-outsides-clause-caused : goal.returns-in_err-outsides-clause-caused
-returns-in_err-outsides-clause-caused g c =
-    let p = err_from_is_err_and c.from_residual-in_err-outsides.result c.from_residual-in_err-outsides.ensures.1 in
-    rw (p.1, p.2) (caused_then g.S.Source.fails g.S.Fault.From.from_gives g.S.Source.stays g.S.Source.fails_then _ _ _ _ (g.S.Source.and_then _ _ _ c.bases.ensures.left (g.S.Source.and_then _ _ _ c.gather_crew_named.ensures.left (g.S.Source.and_then _ _ _ c.gather_pairings_named.ensures.left c.gather_grounds_named.ensures.left))) c.gather_outsides_named.ensures.left c.in_err-outsides.ensures.caused)
+pub returns-in_err-pick_outsides-clause-left : goal.returns-in_err-pick_outsides-clause-left
+returns-in_err-pick_outsides-clause-left g c = g.S.Source.and_then _ _ _ c.bases.ensures.left (g.S.Source.and_then _ _ _ c.pick_members.ensures.left (g.S.Source.and_then _ _ _ c.pick_pairings.ensures.left (g.S.Source.and_then _ _ _ c.pick_grounds.ensures.left c.pick_outsides.ensures.left)))
+
+pub returns-in_err-pick_outsides-clause-caused : goal.returns-in_err-pick_outsides-clause-caused
+returns-in_err-pick_outsides-clause-caused g c =
+    let p = err_from_is_err_and c.from_residual-in_err-pick_outsides.result c.from_residual-in_err-pick_outsides.ensures.1 in
+    rw (p.1, p.2) (caused_then g.S.Source.fails g.S.Fault.From.from_gives g.S.Source.stays g.S.Source.fails_then _ _ _ _ (g.S.Source.and_then _ _ _ c.bases.ensures.left (g.S.Source.and_then _ _ _ c.pick_members.ensures.left (g.S.Source.and_then _ _ _ c.pick_pairings.ensures.left c.pick_grounds.ensures.left))) c.pick_outsides.ensures.left c.in_err-pick_outsides.ensures.caused)
 
 pub returns-clause-left : goal.returns-clause-left
-returns-clause-left g c = g.S.Source.and_then _ _ _ c.bases.ensures.left (g.S.Source.and_then _ _ _ c.gather_crew_named.ensures.left (g.S.Source.and_then _ _ _ c.gather_pairings_named.ensures.left (g.S.Source.and_then _ _ _ c.gather_grounds_named.ensures.left c.gather_outsides_named.ensures.left)))
+returns-clause-left g c = g.S.Source.and_then _ _ _ c.bases.ensures.left (g.S.Source.and_then _ _ _ c.pick_members.ensures.left (g.S.Source.and_then _ _ _ c.pick_pairings.ensures.left (g.S.Source.and_then _ _ _ c.pick_grounds.ensures.left c.pick_outsides.ensures.left)))
 
 pub returns-clause-serves : goal.returns-clause-serves
-returns-clause-serves g c = g.S.Source.serves_then _ _ _ c.in_ok-bases.ensures.serves (g.S.Source.serves_then _ _ _ c.in_ok-crew.ensures.serves (g.S.Source.serves_then _ _ _ c.in_ok-pairings.ensures.serves (g.S.Source.serves_then _ _ _ c.in_ok-grounds.ensures.serves c.in_ok-outsides.ensures.serves)))
+returns-clause-serves g c = g.S.Source.serves_then _ _ _ c.in_ok-bases.ensures.serves (g.S.Source.serves_then _ _ _ c.in_ok-pick_members.ensures.serves (g.S.Source.serves_then _ _ _ c.in_ok-pick_pairings.ensures.serves (g.S.Source.serves_then _ _ _ c.in_ok-pick_grounds.ensures.serves c.in_ok-pick_outsides.ensures.serves)))
