@@ -132,3 +132,33 @@ module _ (it : TableName) (test : Row → Bool) (db : Database) (rows : List Row
 pub opened_ok : {A E : Type 0} (result : Result A E) (old new : State) → (HasCleanDisk new → IsUnchanged old new) → OnOk result (IsOpen new)
 opened_ok (Ok a) old new same = λ clean. (same clean).0.is_open
 opened_ok (Err fault) old new same = tt
+
+-- ---- Reads in turn
+
+-- a connection that may be read by key: no transaction is begun, the tables of a book are there, and what is shown is committed
+pub record IsReady (s : State) : Type 0 where
+  pub outside : IsOutside s
+  pub over : IsOverBook s
+  pub settled : HasCleanDisk s → IsTrue s.is_open → s.now ≡ s.committed
+
+-- a read, by the rows that it found
+abbrev pub FindsRows : TableName → (Row → Bool) → State → State → Result (List Row) StoreFault → Type 0
+FindsRows it test old new result = ReadsRows it test (λ (rows : List Row). rows) old new result
+
+module _ (it : TableName) (test : Row → Bool) (old new : State) (ready : IsReady old) (left : CrashLeavesNoMore old new) where
+  pub reads : (rows : List Row) → Read (table it) test (RecordOf it) (λ (found : List Row). found) old new (Ok rows) → FindsRows it test old new (Ok rows)
+  reads rows read = was_read it test (λ (found : List Row). found) old new left ready.outside ready.settled rows read
+
+  pub reads_not : (fault : TableFault) (told : StoreFault) → Read (table it) test (RecordOf it) (λ (found : List Row). found) old new (Err fault) → told ≡ store_fault_of fault →
+      FindsRows it test old new (Err told)
+  reads_not fault told read of_fault = not_read it test (λ (found : List Row). found) old new left ready.outside ready.settled fault told read of_fault
+
+-- so it may after a read
+pub ready_on : (it : TableName) (test : Row → Bool) (old new : State) (rows : List Row) → IsReady old → FindsRows it test old new (Ok rows) → IsReady new
+ready_on it test old new rows ready read = record {
+  outside = read.stays.outside;
+  over = over_on old new read.stays ready.over;
+  settled = λ clean opened.
+      let same = (read.told clean).0.0 in
+      same.now_is ∙ ready.settled (read.stays.nothing_new.disk clean) same.was_open ∙ sym same.committed_is;
+}

@@ -1,15 +1,11 @@
 //! A member, read by id.
 //! Through the program: `tests/answers.py`. Wrong bodies: `must-fail-more/`.
 
-ghost use Rattle.std.specs.Prelude.{◌≡◌, IfErr, IfOk, [], ◌∷◌, map};
+ghost use Rattle.std.specs.Prelude.{◌≡◌, IfErr, IfOk};
 ghost use Rattle.std.specs.FinMap as fin;
 ghost use Rattle.sqlite.specs.Held.{state};
-ghost use Rattle.sqlite_value.specs.declared.value.Value.TheVariants as value;
-ghost use Rattle.tables.specs.Records.{crew_base_row, crew_row};
-ghost use Rattle.tables.specs.Rows.{begins_with};
 ghost use Rattle.writing.specs.Outcomes.{IsOutside, IsOverBook};
-ghost use Rattle.state_rows.specs.Rows.{crew, crew_base};
-ghost use Rattle.lookup.specs.Reads.{ReadsByKey, ReadsRows, HaveNone};
+ghost use Rattle.lookup.specs.Reads.{ReadsByKey, HaveNone};
 ghost use Rattle.lookup.specs.Members.{HasFirst, ReadsMember};
 
 use command::{Member, Seat};
@@ -28,50 +24,9 @@ pub(crate) struct MemberRecords {
     pub(crate) bases: Vec<CrewBaseRecord>,
 }
 
-/// Reads the records of the members with this id.
-#[tactic(auto, using(crate::proofs::ReadLemmas::was_read, crate::proofs::ReadLemmas::not_read, crate::proofs::ReadLemmas::holds_open))]
-fn crew_rows<S: Alter>(
-    alloc: Global,
-    conn: &mut Connection<S>,
-    id: &str,
-) -> Result<Vec<CrewRecord>, StoreFault>
-    requires outside { IsOutside (state S.Store conn.old) }
-    requires over { IsOverBook (state S.Store conn.old) }
-    ensures { ReadsRows crew (begins_with (value.Text id.now ∷ []))
-        (λ found. map crew_row found.items) (state S.Store conn.old)
-        (state S.Store conn.new) result }
-{
-    // The clause of this call says that outside a transaction what is shown is committed.
-    let _settled = conn.is_autocommit();
-    match crew_by_id(alloc, conn, id) {
-        Ok(records) => Ok(records),
-        Err(fault) => Err(StoreFault::from(fault)),
-    }
-}
-
-/// Reads the records of the base of the member with this id.
-#[tactic(auto, using(crate::proofs::ReadLemmas::was_read, crate::proofs::ReadLemmas::not_read, crate::proofs::ReadLemmas::holds_open))]
-fn base_rows<S: Alter>(
-    alloc: Global,
-    conn: &mut Connection<S>,
-    id: &str,
-) -> Result<Vec<CrewBaseRecord>, StoreFault>
-    requires outside { IsOutside (state S.Store conn.old) }
-    requires over { IsOverBook (state S.Store conn.old) }
-    ensures { ReadsRows crew_base (begins_with (value.Text id.now ∷ []))
-        (λ found. map crew_base_row found.items) (state S.Store conn.old)
-        (state S.Store conn.new) result }
-{
-    // The clause of this call says that outside a transaction what is shown is committed.
-    let _settled = conn.is_autocommit();
-    match crew_base_by_crew(alloc, conn, id) {
-        Ok(records) => Ok(records),
-        Err(fault) => Err(StoreFault::from(fault)),
-    }
-}
-
-/// Reads both. Without a record of `crew` there is no member, and nothing more is read.
-#[tactic(auto, using(crate::proofs::MemberReads::no_member, crate::proofs::MemberReads::not_first, crate::proofs::MemberReads::not_second, crate::proofs::MemberReads::both_read, crate::proofs::ReadLemmas::over_on))]
+/// Reads the records of a member and of the member's base. Without a record of `crew` there is no member, and nothing more
+/// is read.
+#[tactic(auto, using(crate::proofs::ReadLemmas::holds_open))]
 fn member_rows<S: Alter>(
     alloc: Global,
     conn: &mut Connection<S>,
@@ -81,14 +36,16 @@ fn member_rows<S: Alter>(
     requires over { IsOverBook (state S.Store conn.old) }
     ensures { ReadsMember id.now (state S.Store conn.old) (state S.Store conn.new) result }
 {
-    let crew = crew_rows(alloc, conn, id)?;
+    // The clause of this call says that outside a transaction what is shown is committed.
+    let _settled = conn.is_autocommit();
+    let crew = crew_by_id(alloc, conn, id)?;
     if crew.is_empty() {
         return Ok(MemberRecords {
             crew,
             bases: Vec::new(alloc),
         });
     }
-    let bases = base_rows(alloc, conn, id)?;
+    let bases = crew_base_by_crew(alloc, conn, id)?;
     Ok(MemberRecords { crew, bases })
 }
 

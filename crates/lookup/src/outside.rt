@@ -1,14 +1,14 @@
 //! Outside periods, read by id and by member.
 //! Through the program: `tests/answers.py`. Wrong bodies: `must-fail/`.
 
-ghost use Rattle.std.specs.Prelude.{◌≡◌, IfErr, IfOk, [], ◌∷◌, map};
+ghost use Rattle.std.specs.Prelude.{◌≡◌, IfErr, IfOk, map};
 ghost use Rattle.std.specs.FinMap as fin;
 ghost use Rattle.sqlite.specs.Held.{state};
 ghost use Rattle.sqlite_value.specs.declared.value.Value.TheVariants as value;
-ghost use Rattle.tables.specs.Records.{outside_row, outside_segment_row};
-ghost use Rattle.tables.specs.Rows.{begins_with, equals_at};
+ghost use Rattle.tables.specs.Records.{outside_row};
+ghost use Rattle.tables.specs.Rows.{equals_at};
 ghost use Rattle.writing.specs.Outcomes.{IsOutside, IsOverBook};
-ghost use Rattle.state_rows.specs.Rows.{outside, outside_segment};
+ghost use Rattle.state_rows.specs.Rows.{outside};
 ghost use Rattle.roster.specs.Holding.{AreJust, IsOutsideOf};
 ghost use Rattle.lookup.specs.Reads.{ReadsByKey, ReadsRows, HaveNone};
 ghost use Rattle.lookup.specs.Outsides.{HasFirstOutside, ReadsOutside, outsides_in};
@@ -29,48 +29,6 @@ use values::{MemoryFault, TryClone};
 pub(crate) struct OutsideRecords {
     pub(crate) periods: Vec<OutsideRecord>,
     pub(crate) segments: Vec<OutsideSegmentRecord>,
-}
-
-/// Reads the records of the outside periods with this id.
-#[tactic(auto, using(crate::proofs::ReadLemmas::was_read, crate::proofs::ReadLemmas::not_read, crate::proofs::ReadLemmas::holds_open))]
-fn period_rows<S: Alter>(
-    alloc: Global,
-    conn: &mut Connection<S>,
-    id: &str,
-) -> Result<Vec<OutsideRecord>, StoreFault>
-    requires outside { IsOutside (state S.Store conn.old) }
-    requires over { IsOverBook (state S.Store conn.old) }
-    ensures { ReadsRows outside (begins_with (value.Text id.now ∷ []))
-        (λ found. map outside_row found.items) (state S.Store conn.old)
-        (state S.Store conn.new) result }
-{
-    // The clause of this call says that outside a transaction what is shown is committed.
-    let _settled = conn.is_autocommit();
-    match outside_by_id(alloc, conn, id) {
-        Ok(records) => Ok(records),
-        Err(fault) => Err(StoreFault::from(fault)),
-    }
-}
-
-/// Reads the records of the segments of the outside period with this id.
-#[tactic(auto, using(crate::proofs::ReadLemmas::was_read, crate::proofs::ReadLemmas::not_read, crate::proofs::ReadLemmas::holds_open))]
-fn segment_rows<S: Alter>(
-    alloc: Global,
-    conn: &mut Connection<S>,
-    id: &str,
-) -> Result<Vec<OutsideSegmentRecord>, StoreFault>
-    requires outside { IsOutside (state S.Store conn.old) }
-    requires over { IsOverBook (state S.Store conn.old) }
-    ensures { ReadsRows outside_segment (begins_with (value.Text id.now ∷ []))
-        (λ found. map outside_segment_row found.items) (state S.Store conn.old)
-        (state S.Store conn.new) result }
-{
-    // The clause of this call says that outside a transaction what is shown is committed.
-    let _settled = conn.is_autocommit();
-    match outside_segments_of(alloc, conn, id) {
-        Ok(records) => Ok(records),
-        Err(fault) => Err(StoreFault::from(fault)),
-    }
 }
 
 /// Reads the records of a member's outside periods.
@@ -96,7 +54,7 @@ fn crew_outside_rows<S: Alter>(
 
 /// Reads the records of an outside period and of its segments. Without a record of `outside` there is no such period, and
 /// nothing more is read.
-#[tactic(auto, using(crate::proofs::OutsideReads::no_outside, crate::proofs::OutsideReads::not_first, crate::proofs::OutsideReads::not_second, crate::proofs::OutsideReads::both_read, crate::proofs::ReadLemmas::over_on))]
+#[tactic(auto, using(crate::proofs::ReadLemmas::holds_open))]
 fn outside_rows<S: Alter>(
     alloc: Global,
     conn: &mut Connection<S>,
@@ -106,14 +64,16 @@ fn outside_rows<S: Alter>(
     requires over { IsOverBook (state S.Store conn.old) }
     ensures { ReadsOutside id.now (state S.Store conn.old) (state S.Store conn.new) result }
 {
-    let periods = period_rows(alloc, conn, id)?;
+    // The clause of this call says that outside a transaction what is shown is committed.
+    let _settled = conn.is_autocommit();
+    let periods = outside_by_id(alloc, conn, id)?;
     if periods.is_empty() {
         return Ok(OutsideRecords {
             periods,
             segments: Vec::new(alloc),
         });
     }
-    let segments = segment_rows(alloc, conn, id)?;
+    let segments = outside_segments_of(alloc, conn, id)?;
     Ok(OutsideRecords { periods, segments })
 }
 

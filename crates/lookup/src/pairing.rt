@@ -1,16 +1,12 @@
 //! A pairing with its actuals and holders, read by id.
 //! Through the program: `tests/answers.py`. Wrong bodies: `must-fail/`.
 
-ghost use Rattle.std.specs.Prelude.{◌≡◌, IfErr, IfOk, IsSome, [], ◌∷◌, map, slice_get};
+ghost use Rattle.std.specs.Prelude.{◌≡◌, IfErr, IfOk, IsSome, slice_get};
 ghost use Rattle.std.specs.FinMap as fin;
 ghost use Rattle.sqlite.specs.Held.{state};
-ghost use Rattle.sqlite_value.specs.declared.value.Value.TheVariants as value;
-ghost use Rattle.tables.specs.Records.{period_row, seat_row, segment_row};
-ghost use Rattle.tables.specs.Rows.{begins_with};
 ghost use Rattle.writing.specs.Outcomes.{IsOutside, IsOverBook};
-ghost use Rattle.state_rows.specs.Rows.{period, seat, segment};
 ghost use Rattle.loading.specs.OnePairing.{IsUntold};
-ghost use Rattle.lookup.specs.Reads.{ReadsByKey, ReadsRows};
+ghost use Rattle.lookup.specs.Reads.{ReadsByKey};
 ghost use Rattle.lookup.specs.Plans.{HoldsSeat, ReadsPlan, TellsPairing, unread_as};
 
 use duty::{CrewId, PairingId};
@@ -32,71 +28,9 @@ pub(crate) struct PlanRecords {
     pub(crate) seats: Vec<SeatRecord>,
 }
 
-/// Reads the records of the pairing's periods.
-#[tactic(auto, using(crate::proofs::ReadLemmas::was_read, crate::proofs::ReadLemmas::not_read, crate::proofs::ReadLemmas::holds_open))]
-fn period_rows<S: Alter>(
-    alloc: Global,
-    conn: &mut Connection<S>,
-    id: &str,
-) -> Result<Vec<PeriodRecord>, StoreFault>
-    requires outside { IsOutside (state S.Store conn.old) }
-    requires over { IsOverBook (state S.Store conn.old) }
-    ensures { ReadsRows period (begins_with (value.Text id.now ∷ []))
-        (λ found. map period_row found.items) (state S.Store conn.old)
-        (state S.Store conn.new) result }
-{
-    // The clause of this call says that outside a transaction what is shown is committed.
-    let _settled = conn.is_autocommit();
-    match periods_of(alloc, conn, id) {
-        Ok(records) => Ok(records),
-        Err(fault) => Err(StoreFault::from(fault)),
-    }
-}
-
-/// Reads the records of the pairing's segments.
-#[tactic(auto, using(crate::proofs::ReadLemmas::was_read, crate::proofs::ReadLemmas::not_read, crate::proofs::ReadLemmas::holds_open))]
-fn segment_rows<S: Alter>(
-    alloc: Global,
-    conn: &mut Connection<S>,
-    id: &str,
-) -> Result<Vec<SegmentRecord>, StoreFault>
-    requires outside { IsOutside (state S.Store conn.old) }
-    requires over { IsOverBook (state S.Store conn.old) }
-    ensures { ReadsRows segment (begins_with (value.Text id.now ∷ []))
-        (λ found. map segment_row found.items) (state S.Store conn.old)
-        (state S.Store conn.new) result }
-{
-    // The clause of this call says that outside a transaction what is shown is committed.
-    let _settled = conn.is_autocommit();
-    match segments_of(alloc, conn, id) {
-        Ok(records) => Ok(records),
-        Err(fault) => Err(StoreFault::from(fault)),
-    }
-}
-
-/// Reads the records of the pairing's seats that are held.
-#[tactic(auto, using(crate::proofs::ReadLemmas::was_read, crate::proofs::ReadLemmas::not_read, crate::proofs::ReadLemmas::holds_open))]
-fn seat_rows<S: Alter>(
-    alloc: Global,
-    conn: &mut Connection<S>,
-    id: &str,
-) -> Result<Vec<SeatRecord>, StoreFault>
-    requires outside { IsOutside (state S.Store conn.old) }
-    requires over { IsOverBook (state S.Store conn.old) }
-    ensures { ReadsRows seat (begins_with (value.Text id.now ∷ []))
-        (λ found. map seat_row found.items) (state S.Store conn.old)
-        (state S.Store conn.new) result }
-{
-    // The clause of this call says that outside a transaction what is shown is committed.
-    let _settled = conn.is_autocommit();
-    match seats_of(alloc, conn, id) {
-        Ok(records) => Ok(records),
-        Err(fault) => Err(StoreFault::from(fault)),
-    }
-}
-
-/// Reads all three. Without a period there is no pairing, and nothing more is read.
-#[tactic(auto, using(crate::proofs::PlanReads::no_plan, crate::proofs::PlanReads::not_first, crate::proofs::PlanReads::not_second, crate::proofs::PlanReads::not_third, crate::proofs::PlanReads::all_read, crate::proofs::ReadLemmas::over_on))]
+/// Reads the records of a pairing's periods, of their segments and of the seats that are held. Without a period there is no
+/// pairing, and nothing more is read.
+#[tactic(auto, using(crate::proofs::ReadLemmas::holds_open))]
 fn plan_rows<S: Alter>(
     alloc: Global,
     conn: &mut Connection<S>,
@@ -106,7 +40,9 @@ fn plan_rows<S: Alter>(
     requires over { IsOverBook (state S.Store conn.old) }
     ensures { ReadsPlan id.now (state S.Store conn.old) (state S.Store conn.new) result }
 {
-    let periods = period_rows(alloc, conn, id)?;
+    // The clause of this call says that outside a transaction what is shown is committed.
+    let _settled = conn.is_autocommit();
+    let periods = periods_of(alloc, conn, id)?;
     if periods.is_empty() {
         return Ok(PlanRecords {
             periods,
@@ -114,8 +50,8 @@ fn plan_rows<S: Alter>(
             seats: Vec::new(alloc),
         });
     }
-    let segments = segment_rows(alloc, conn, id)?;
-    let seats = seat_rows(alloc, conn, id)?;
+    let segments = segments_of(alloc, conn, id)?;
+    let seats = seats_of(alloc, conn, id)?;
     Ok(PlanRecords {
         periods,
         segments,
