@@ -20,10 +20,10 @@ ghost use Rattle.store.specs.Found.{IsFound};
 ghost use Rattle.store.specs.Loaded.{IsLoaded, IsNotLoaded, ShowsWhatIsLeft};
 ghost use Rattle.store.specs.Shown.{IsShown, shown_part};
 
-use crate::show::{Show, gather_shown};
+use crate::show::Show;
 use command::{Command, Key};
 use loading::{LoadFault, read_all};
-use part::{gather, judge};
+use part::{gather, gather_exceedances, gather_member, gather_pairing, judge};
 use roster::{Change, Roster, Verdict};
 use sqlite::{Alter, Connection};
 use state_rows::{Edition, StoreFault};
@@ -164,7 +164,11 @@ impl<S: Alter> Store<S> {
         ensures opened { OnOk result (IsOpen (state S.Store self.new)) }
         ensures some_left { CrashLeavesSome (state S.Store self.new) }
     {
-        let shown = gather_shown(alloc, self, what);
+        let shown = match what {
+            Show::Crew(who) => gather_member(alloc, self, who),
+            Show::Pairing(id) => gather_pairing(alloc, self, id),
+            Show::Exceedances => gather_exceedances(alloc, self),
+        };
         // As in `part`.
         let _live = self.conn.schema();
         shown
