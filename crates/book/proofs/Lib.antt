@@ -7,6 +7,7 @@ pub mod SessionLemmas
 pub mod Holding
 pub mod Untouched
 pub mod Sparing
+pub mod Decided
 pub mod Parts
 pub mod CommandLists
 pub mod CallLemmas

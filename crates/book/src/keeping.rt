@@ -18,7 +18,7 @@ ghost use Rattle.writing.specs.Outcomes.{CrashLeavesSome, IsOutside};
 ghost use Rattle.book.specs.Answered.{IsAnswered};
 ghost use Rattle.book.specs.Ran.{HasRun};
 ghost use Rattle.book.specs.Asking.{StepOutcome};
-ghost use Rattle.book.specs.Headline.{IsRefusal, MakesNoChange, SparesOthers, Untouched};
+ghost use Rattle.book.specs.Headline.{IsRefusal, SparesOthers};
 ghost use Rattle.store.specs.Loaded.{IsLoaded, IsNotLoaded};
 ghost use Rattle.store.specs.Shown.{IsShown};
 ghost use Rattle.book.specs.Kept.{HasOne, HasTables, IsDurablyAt, IsClean, Keeps, KeepsEither, HasFoundBook, StillHolds};
@@ -200,7 +200,10 @@ impl<S: Alter> Book<S> {
         if self.failed {
             return Err(StoreFault::Store);
         }
-        let answer = decide(alloc, &mut self.store, key, command);
+        let answer = match self.store.judge(alloc, key, command) {
+            Ok(verdict) => decide_by(alloc, &mut self.store, verdict),
+            Err(fault) => Err(fault),
+        };
         self.failed = is_of_store(&answer);
         answer
     }
@@ -289,53 +292,6 @@ fn is_of_store<T>(answer: &Result<T, StoreFault>) -> bool
     ensures { result ≡ is_store_fault answer.now }
 {
     matches!(answer, Err(StoreFault::Store))
-}
-
-/// Answers a command by what the tables mean, and keeps in the store what is accepted.
-fn decide<S: Alter>(
-    alloc: Global,
-    store: &mut Store<S>,
-    key: Key,
-    command: &Command,
-) -> Result<Answer, StoreFault>
-    // What was done, and the answer by the state.
-    ensures did { (s : State) → Keeps (state S.Store store.old) s
-        → StillHolds (state S.Store store.old) s
-        → StepOutcome (state S.Store store.old) (state S.Store store.new) s
-        (next s (key, command.now)) result }
-    ensures reply { (s : State) → Keeps (state S.Store store.old) s
-        → StillHolds (state S.Store store.old) s → HasCleanDisk (state S.Store store.new)
-        → IfOk result (λ a. result_of a ≡ answer_of (step_of s key command.now)) }
-
-    // A repeat and a refusal change nothing.
-    ensures repeated { (s : State) (reply : Reply) → Keeps (state S.Store store.old) s
-        → StillHolds (state S.Store store.old) s → HasCleanDisk (state S.Store store.new)
-        → step_of s key command.now ≡ Verdict.Repeat reply
-        → ChangesNothing (state S.Store store.old) (state S.Store store.new)
-        × IfOk result (λ a. a ≡ Answer.Accepted reply) }
-    ensures turned_down { (s : State) (refusal : Refusal) → Keeps (state S.Store store.old) s
-        → StillHolds (state S.Store store.old) s → HasCleanDisk (state S.Store store.new)
-        → step_of s key command.now ≡ Verdict.Refuse refusal
-        → ChangesNothing (state S.Store store.old) (state S.Store store.new)
-        × IfOk result (λ a. a ≡ Answer.Refused refusal) }
-    ensures refused { IfOk result
-        (λ a. IsRefusal a → Untouched (state S.Store store.old) (state S.Store store.new)) }
-
-    // Where it makes no change, a fault of the store has a cause.
-    ensures caused { (s : State) → Keeps (state S.Store store.old) s
-        → StillHolds (state S.Store store.old) s → MakesNoChange s (key, command.now)
-        → IfErr result (IsCausedIfStore (state S.Store store.old) (state S.Store store.new)) }
-
-    // What stands beside the book in the database.
-    ensures others_spared { (s : State) → Keeps (state S.Store store.old) s
-        → StillHolds (state S.Store store.old) s
-        → OnOk result (Untouched (state S.Store store.old) (state S.Store store.new)
-        ⊎ SparesOthers (state S.Store store.old) (state S.Store store.new)) }
-{
-    match store.judge(alloc, key, command) {
-        Ok(verdict) => decide_by(alloc, store, verdict),
-        Err(fault) => Err(fault),
-    }
 }
 
 /// Answers a command by the verdict on it, and keeps in the store what that accepts. Whatever needs memory is made before
