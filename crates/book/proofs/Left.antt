@@ -13,8 +13,9 @@ use Rattle.sqlite.specs.Files.{file_state, over_files}
 use Rattle.sqlite.specs.Held.{Held}
 use Rattle.roster.specs.State.{State}
 use Rattle.writing.specs.Kept.{HoldBookOf}
-use Rattle.book.specs.Found.{HoldsBookAlone, LeavesBook}
-use Rattle.book.specs.Kept.{IsKept, Keeps}
+use Rattle.book.specs.Found.{HoldsBookAlone, LeavesBook, LeavesByCrash, LeavesEither}
+use Rattle.book.specs.Kept.{IsClean, IsInDoubt, IsKept, Keeps, Kept}
+use Rattle.book.specs.declared.file.FilesLeft.{FilesLeft}
 use Rattle.book.specs.declared.file.FilesLeft.TheVariants.{Closed, Unclosed}
 
 held : (image : Image) (trees : Trees) (s : State) → HoldsAlone image trees → HoldBookOf trees s → IsKept s → HoldsBookAlone image s
@@ -41,3 +42,25 @@ module _ {D : Type 0} {g : Ghosts D} (c : Held (FileStore D g)) (s : State) (kee
             let book = keeps.leaves.crash before trees (quiet.outcomes trees may) in
             subst (HoldBookOf trees) book.1 book.2,
       )
+
+-- ---- By a crash
+
+module _ {D : Type 0} {g : Ghosts D} (book : Kept (FileStore D g)) where
+  pub copied_crash : SeenMayStay g → (files : Files D) → IsCopied book.held files → LeavesByCrash {D = D} {g = g} book (Closed files)
+  copied_crash stays files it = ((file_state book.held).committed.trees, stays_at book.held.store stays it.was_open, it.seen, it.left)
+
+  pub uncopied_crash : (last : FileStore D g) → view.IsQuiet over_files.view over_files.faults over_files.recovers over_files.is_shielded book.held.store last →
+      LeavesByCrash {D = D} {g = g} book (Unclosed last)
+  uncopied_crash last quiet = λ trees may. quiet.outcomes trees may
+
+  -- where a crash leaves one of two states, so do the files
+  module _ (s t : State) (doubt : IsInDoubt over_files book s t) (clean : IsClean over_files book) where
+    pub leaves_either : (left : FilesLeft D g) → LeavesByCrash book left → LeavesEither left s t
+    leaves_either (Closed files) it =
+        let found = doubt.crash clean it.0 it.1 in
+        let kept = found.1.1 in (
+          found.0,
+          found.1.0,
+          (held _ it.0 found.0 it.2 found.2 kept, λ image may. held image it.0 found.0 (it.3 image may) found.2 kept),
+        )
+    leaves_either (Unclosed last) it = λ trees may. doubt.crash clean trees (it trees may)

@@ -94,11 +94,11 @@ module _ {S : Type 0} (g : Ghosts S) where
         both_none call.answers (answers calls) first.2 rest.2,
       )
 
-  clean_before : (calls : List Call) (old new : Kept S) → AreCalls g old calls new → IsClean g new → IsClean g old
+  pub clean_before : (calls : List Call) (old new : Kept S) → AreCalls g old calls new → IsClean g new → IsClean g old
   clean_before [] old new are clean = subst (λ (b : Kept S). IsClean g b) are clean
   clean_before (call ∷ calls) old new are clean = are.1.disk (clean_before calls are.0 new are.2 clean)
 
-  abbrev Reached : State → List Call → Kept S → Type 0
+  abbrev pub Reached : State → List Call → Kept S → Type 0
   Reached s calls new = CrashLeaves (state g new.held) (either_kept (Fold s (acknowledged calls)) (Fold s (acknowledged calls ++ in_doubt calls)))
 
   -- what is said of a session whose first call met no fault of the store, by what is said of the others
@@ -125,7 +125,7 @@ module _ {S : Type 0} (g : Ghosts S) where
         ap (Fold s) (ap (λ (l : List Asked). l ++ doubted_by call) (sym (second_none (acknowledged_by call) (acknowledged calls) none))
         ∙ ap (λ (l : List Asked). (acknowledged_by call ++ acknowledged calls) ++ l) same)
 
-  reaches : (calls : List Call) (old new : Kept S) (s : State) → old.failed ≡ false → IsDurablyAt g old s → AreCalls g old calls new → Reached s calls new
+  pub reaches : (calls : List Call) (old new : Kept S) (s : State) → old.failed ≡ false → IsDurablyAt g old s → AreCalls g old calls new → Reached s calls new
   reaches [] old new s fresh at are =
       subst (λ (b : Kept S). CrashLeaves (state g b.held) (either_kept s s)) (sym are) (one_of_either (state g old.held) s s at)
   reaches (call ∷ calls) old new s fresh at are =

@@ -6,13 +6,19 @@ use Rattle.sqlite_wal.specs.Reads.{AreClean}
 use Rattle.sqlite_wal.specs.Recovery.{Image}
 use Rattle.sqlite_trees.specs.Tree.{Trees}
 use Rattle.sqlite_trees.specs.View as view
-use Rattle.sqlite.specs.Files.{AreFoundIn, HoldsDatabase, image_of, over_files}
+use Rattle.sqlite_schema.specs.declared.schema.Schema.{Schema}
+use Rattle.sqlite.specs.Closing.{HoldsAlone}
+use Rattle.sqlite.specs.Effect.{Database, IsDatabase}
+use Rattle.sqlite.specs.Files.{AreFoundIn, HoldsDatabase, file_state, image_of, over_files}
 use Rattle.sqlite.specs.State as conn
+use Rattle.sqlite_store.specs.declared.store.FileStore.{FileStore}
+use Rattle.loading.specs.Loading.{Justifies}
+use Rattle.loading.specs.declared.fault.LoadFault.{LoadFault}
 use Rattle.roster.specs.State.{State}
 use Rattle.store.specs.Found.{IsFoundIn}
 use Rattle.writing.specs.Kept.{HoldBookOf, HoldFirstBookOf}
-use Rattle.writing.specs.Outcomes.{HoldsNow}
-use Rattle.book.specs.Kept.{IsKept, Keeps}
+use Rattle.writing.specs.Outcomes.{HoldsNow, either}
+use Rattle.book.specs.Kept.{IsKept, Keeps, Kept, either_kept}
 use Rattle.book.specs.declared.file.FilesLeft.{FilesLeft}
 use Rattle.book.specs.declared.file.FilesLeft.TheVariants.{Closed, Unclosed}
 
@@ -38,6 +44,13 @@ pub record MeansWhatIsIn (image : Image) (now : conn.State) : Type 0 where
   pub shown : HoldsNow now it
   pub keeps : Keeps now it
 
+-- a database is found in the files, and this fault says what it is
+pub record IsFaultOf (image : Image) (fault : LoadFault) : Type 0 where
+  pub it : Database
+  pub in_files : AreFoundIn image it.trees
+  pub database : IsDatabase it
+  pub says : Justifies fault it
+
 -- ---- What is left
 
 -- the two files hold a book in this state, and so does the database file with no log
@@ -59,3 +72,21 @@ module _ {D : Type 0} {g : Ghosts D} where
       × ((image : Image) → outcomes g files.log files.db image → HoldsBookAlone image s)
   LeavesBook (Unclosed store) s =
       IsKept s × ((trees : Trees) → over_files.recovers store trees → HoldBookOf trees s)
+
+  -- Files that were closed hold trees that a crash of the book could leave, as they read now and
+  -- after a crash. Of others whatever is found after a crash is something that it could leave.
+  abbrev pub LeavesByCrash : Kept (FileStore D g) → FilesLeft D g → Type 0
+  LeavesByCrash book (Closed files) =
+      (trees : Trees) × (file_state book.held).may_leave trees
+      × HoldsAlone (image_of g files) trees
+      × ((image : Image) → outcomes g files.log files.db image → HoldsAlone image trees)
+  LeavesByCrash book (Unclosed store) =
+      (trees : Trees) → over_files.recovers store trees → (file_state book.held).may_leave trees
+
+  -- As `LeavesBook`, where it isn't known in which of two states the book is. (After a fault of the
+  -- store a command is done or not.)
+  abbrev pub LeavesEither : FilesLeft D g → State → State → Type 0
+  LeavesEither (Closed files) s t = (r : State) × either s t r × LeavesBook (Closed files) r
+  LeavesEither (Unclosed store) s t =
+      (trees : Trees) → over_files.recovers store trees →
+      (r : State) × either_kept s t r × HoldBookOf trees r

@@ -1,16 +1,17 @@
 //! A book in a file: only here are there paths.
 //! Through the program: `tests/program.sh`. Wrong bodies: `must-fail-more/`.
 
-ghost use Rattle.std.specs.Prelude.{◌≡◌, ◌≢◌, false, IfOk};
+ghost use Rattle.std.specs.Prelude.{◌≡◌, ◌≢◌, ◌⊎◌, false, IfErr, IfOk, IfSome, IsSome, None};
 ghost use Rattle.sqlite_wal.specs.Files.{image_at};
 ghost use Rattle.sqlite.specs.Files.{IsOpened, file_state, over_files};
 ghost use Rattle.sqlite.specs.Held.{state};
 ghost use Rattle.sqlite.specs.Start.{FindsIn};
 ghost use Rattle.sqlite.specs.State.{HasCleanDisk};
+ghost use Rattle.loading.specs.Loading.{Justifies};
 ghost use Rattle.roster.specs.State.{State, empty};
 ghost use Rattle.writing.specs.Outcomes.{IsOutside};
 ghost use Rattle.book.specs.Kept.{IsClean, IsDurablyAt, HasFoundBook};
-ghost use Rattle.book.specs.Found.{IsCleanLeft, LeavesBook, MeansWhatIsIn};
+ghost use Rattle.book.specs.Found.{IsCleanLeft, IsFaultOf, LeavesBook, LeavesByCrash, MeansWhatIsIn};
 
 use crate::keeping::Book;
 use sqlite::{Alter, Connection, Error, ErrorCode, FileFrom, FileStore, Files, Start, Wary};
@@ -40,6 +41,25 @@ impl<D: Disk + Drop> Drop for FilesLeft<D> {
     }
 }
 
+/// Why no book was taken up from files.
+#[derive(Drop)]
+pub struct NotTaken<D: Disk> {
+    /// The refusal: 40, 41, 42, 90 or 91.
+    pub fault: LoadFault,
+    /// What is left of the files, if they were opened.
+    pub left: Option<FilesLeft<D>>,
+}
+
+impl<D: Disk> NotTaken<D> {
+    /// No files were opened.
+    fn unopened(fault: LoadFault) -> NotTaken<D>
+        ensures fault { result.fault ≡ fault }
+        ensures left { result.left ≡ None }
+    {
+        NotTaken { fault, left: None }
+    }
+}
+
 impl<S: Start> Book<FileStore<FileFrom<S>>> {
     /// Opens the file of a path and takes up the book in it, as [`Book::adopt`] does: one of version 1 becomes one of version 2.
     /// A file that isn't there is no book (40), and isn't made; one that `sqlite` doesn't open is 90, or 91 where it finds no
@@ -48,17 +68,24 @@ impl<S: Start> Book<FileStore<FileFrom<S>>> {
         rt: &HostRuntime,
         path: &str,
         start: S,
-    ) -> Result<Book<FileStore<FileFrom<S>>>, LoadFault>
+    ) -> Result<Book<FileStore<FileFrom<S>>>, NotTaken<FileFrom<S>>>
         ensures fresh { IfOk result (λ b. b.failed ≡ false) }
         ensures means { IfOk result
             (λ b. IsClean over_files b → MeansWhatIsIn (image_at S.Start) (file_state b.held)) }
+
+        // A refusal: of files that aren't opened 40, 90 or 91, and of others that of what is found in them.
+        ensures unopened { IfErr result (λ it. it.left ≡ None
+            → (it.fault ≡ LoadFault.NotABook)
+            ⊎ ((fault : StoreFault) × (it.fault ≡ LoadFault.Fault fault))) }
+        ensures refused { IfErr result (λ it. IfSome it.left
+            (λ left. IsCleanLeft left → IsFaultOf (image_at S.Start) it.fault)) }
     {
         if matches!(exists(rt, path), Ok(false)) {
-            return Err(LoadFault::NotABook);
+            return Err(NotTaken::unopened(LoadFault::NotABook));
         }
         match connect(rt, path, start) {
             Ok(conn) => adopted(rt.alloc(), conn),
-            Err(fault) => Err(LoadFault::Fault(fault)),
+            Err(fault) => Err(NotTaken::unopened(LoadFault::Fault(fault))),
         }
     }
 }
@@ -68,7 +95,10 @@ impl FileBook {
     pub fn open(rt: &HostRuntime, path: &str) -> Result<FileBook, LoadFault>
         ensures fresh { IfOk result (λ b. b.failed ≡ false) }
     {
-        Book::open_from(rt, path, Wary)
+        match Book::open_from(rt, path, Wary) {
+            Ok(book) => Ok(book),
+            Err(refused) => Err(refused.fault),
+        }
     }
 }
 
@@ -79,6 +109,7 @@ impl<D: Disk + Drop> Book<FileStore<D>> {
         ensures disk { IsCleanLeft result → IsClean over_files self }
         ensures kept { (s : State) → IsDurablyAt over_files self s → IsCleanLeft result
             → LeavesBook result s }
+        ensures crash { IsCleanLeft result → LeavesByCrash self result }
     {
         match self.into_connection().close_files() {
             Ok(files) => FilesLeft::Closed(files),
@@ -91,6 +122,7 @@ impl<D: Disk + Drop> Book<FileStore<D>> {
         ensures disk { IsCleanLeft result → IsClean over_files self }
         ensures kept { (s : State) → IsDurablyAt over_files self s → IsCleanLeft result
             → LeavesBook result s }
+        ensures crash { IsCleanLeft result → LeavesByCrash self result }
     {
         FilesLeft::Unclosed(self.into_connection().into_store())
     }
@@ -132,16 +164,25 @@ fn created<S: Alter + Drop>(
     }
 }
 
-/// Adopts the book that a connection has.
-fn adopted<S: Alter + Drop>(alloc: Global, conn: Connection<S>) -> Result<Book<S>, LoadFault>
-    requires { IsOutside (state S.Store conn) }
+/// Adopts the book that a connection has. Of one that is refused the files are left as they are.
+fn adopted<D: Disk + Drop>(
+    alloc: Global,
+    conn: Connection<FileStore<D>>,
+) -> Result<Book<FileStore<D>>, NotTaken<D>>
+    requires { IsOutside (file_state conn) }
     ensures fresh { IfOk result (λ b. b.failed ≡ false) }
-    ensures means { IfOk result (λ b. HasFoundBook (state S.Store conn) (state S.Store b.held)) }
-    ensures disk { IfOk result (λ b. IsClean S.Store b → HasCleanDisk (state S.Store conn)) }
+    ensures means { IfOk result (λ b. HasFoundBook (file_state conn) (file_state b.held)) }
+    ensures disk { IfOk result (λ b. IsClean over_files b → HasCleanDisk (file_state conn)) }
+    ensures opened { IfErr result (λ it. IsSome it.left) }
+    ensures refused { IfErr result (λ it. IfSome it.left (λ left. IsCleanLeft left
+        → HasCleanDisk (file_state conn) × Justifies it.fault (file_state conn).now)) }
 {
     match Book::adopt(alloc, conn) {
         Ok(book) => Ok(book),
-        Err((fault, _conn)) => Err(fault),
+        Err((fault, conn)) => Err(NotTaken {
+            fault,
+            left: Some(FilesLeft::Unclosed(conn.into_store())),
+        }),
     }
 }
 
