@@ -1,61 +1,46 @@
-//! The number that a client gives a request, under which its command is done once.
+//! The number of a request, as the member `number` of its body.
 //! Numbers out of range: `tests/texts.py`. Wrong bodies: `must-fail-more/`.
+use request_number::RequestNumber;
 use serde_json::Value;
 use std::alloc::Global;
 use std::marker::Model;
 use stored_json::{Part, Unread};
 
-/// The number of a request, from 1 to 9,223,372,036,854,775,807.
-#[derive(Clone, Copy, Debug, PartialEq, Eq)]
-pub struct RequestNumber {
-    number: u64,
+/// The number of a request that a member of its body is: another crate's trait is implemented for a type of this crate alone.
+#[derive(Clone, Copy)]
+pub(crate) struct NumberMember {
+    number: RequestNumber,
 }
 
-impl Model for RequestNumber {
-    ghost use Rattle.std.specs.Prelude.{ℕ, ◌≤◌};
+impl Model for NumberMember {
+    ghost use Rattle.std.specs.Prelude.{ℕ};
 
     ghost Value = { ℕ };
 
     ghost view = { λ n. n.number };
 
-    ghost invariant = { λ n. (1 ≤ n.number) × (n.number ≤ 9_223_372_036_854_775_807) };
-
     ghost inverse = { λ n. record { number = n } };
 }
 
-impl RequestNumber {
-    ghost use Rattle.std.specs.Prelude.{◌≡◌, ◌≤◌, Some, None, if◌then◌else◌};
-    ghost use Rattle.duty.specs.Shape.{is_within};
+impl NumberMember {
+    ghost use Rattle.std.specs.Prelude.{◌≡◌};
 
-    /// Takes the number, if it is from 1 to 9,223,372,036,854,775,807.
-    pub fn new(number: u64) -> Option<RequestNumber>
-        ensures { result
-            ≡ (if is_within 1 9_223_372_036_854_775_807 number then Some number else None) }
-    {
-        if (1..=9_223_372_036_854_775_807).contains(&number) {
-            Some(RequestNumber { number })
-        } else {
-            None
-        }
-    }
-
-    /// Returns the number, from 1 to 9,223,372,036,854,775,807.
-    pub fn get(self) -> u64
-        ensures number { result ≡ self }
-        ensures low { 1 ≤ result }
-        ensures high { result ≤ 9_223_372_036_854_775_807 }
+    /// Returns the number.
+    pub(crate) fn get(self) -> RequestNumber
+        ensures { result ≡ self }
     {
         self.number
     }
 }
 
-impl Part for RequestNumber {
+impl Part for NumberMember {
     ghost use Rattle.codec.specs.Requests.{read_number};
 
     ghost reads = { read_number };
 
-    fn of_json(_alloc: Global, value: &Value) -> Result<RequestNumber, Unread> {
+    fn of_json(_alloc: Global, value: &Value) -> Result<NumberMember, Unread> {
         let number = value.as_u64().ok_or(Unread::Refused)?;
-        RequestNumber::new(number).ok_or(Unread::Refused)
+        let number = RequestNumber::new(number).ok_or(Unread::Refused)?;
+        Ok(NumberMember { number })
     }
 }
