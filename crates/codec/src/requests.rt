@@ -6,7 +6,7 @@ ghost use Rattle.codec.specs.Requests.{read_body, read_request};
 ghost use Rattle.stored_json.specs.declared.fault.CodecFault.TheVariants.{Memory};
 
 use crate::MOST_BYTES;
-use crate::request_number::NumberMember;
+use crate::number_member::NumberMember;
 use command::Command;
 use serde_json::Value;
 use std::alloc::Global;
