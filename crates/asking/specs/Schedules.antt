@@ -1,5 +1,5 @@
 -- What becomes of a schedule: its pairings are added in turn, and each answer is heard.
-use Rattle.std.specs.Prelude.{◌≡◌, ◌⊎◌, ⊤, ⊥, ℕ, ◌+◌, List, [], ◌∷◌, length, take, slice_get}
+use Rattle.std.specs.Prelude.{◌≡◌, ◌⊎◌, ⊤, ℕ, ◌+◌, List, [], ◌∷◌, length, take, slice_get}
 use Rattle.std.specs.Prelude.{Some, Result, Ok, Err}
 use Rattle.sqlite_trees.specs.declared.store.Store.{Ghosts}
 use Rattle.duty.specs.Plans.{Plan}

@@ -74,20 +74,26 @@ fn reported(alloc: Global, shown: Result<Roster, BookFault>, what: &Show) -> Res
     ensures { spec.ReportsShown shown what.now result }
 {
     match shown {
-        Ok(roster) => text_of(alloc, &roster, what),
+        Ok(roster) => shown_of(text_of(alloc, &roster, what)),
         Err(fault) => Err(AskFault::Book(fault)),
     }
 }
 
 /// Writes a text of a roster.
-fn text_of(alloc: Global, roster: &Roster, what: &Show) -> Result<Shown, AskFault>
-    ensures { spec.ShowsOrMemory roster.now what.now result }
+fn text_of(alloc: Global, roster: &Roster, what: &Show) -> Result<String, ReportFault>
+    ensures { spec.IsText roster.now what.now result }
 {
-    let text = match what {
+    match what {
         Show::Crew(who) => roster_text(alloc, roster, who),
         Show::Pairing(id) => pairing_text(alloc, roster, id),
         Show::Exceedances => exceedance_text(alloc, roster),
-    };
+    }
+}
+
+/// Names what is shown, by its text or why there is none.
+fn shown_of(text: Result<String, ReportFault>) -> Result<Shown, AskFault>
+    ensures { result ≡ spec.shown_of text }
+{
     match text {
         Ok(text) => Ok(Shown::Text(text)),
         Err(ReportFault::NoSuchCrew) => Ok(Shown::NoSuchCrew),

@@ -2,11 +2,12 @@
 //! Transcript: `tests/transcripts/import.txt`; of the server: `tests/exchanges.py`. Wrong bodies: `must-fail/`.
 ghost use Rattle.std.specs.Prelude.{◌≤◌, length};
 ghost use Rattle.roster.specs.Folds.{import};
+ghost use Rattle.roster.specs.Laws.{AreMade};
 ghost use Rattle.book.specs.Calls.{IsAfterCalls};
 ghost use Rattle.asking.specs.Schedules as spec;
 
 use crate::answers::AskFault;
-use book::{Answer, Book, Import};
+use book::{Answer, Book};
 use codec::{CodecFault, schedule_of_csv};
 use duty::Pairing;
 use request_number::RequestNumber;
@@ -70,22 +71,22 @@ fn ask_parts<S: Alter, L: Listener>(
     pairings: Vec<Pairing>,
     listener: &mut L,
 ) -> Result<(), ScheduleFault<L::Fault>>
-    requires { length pairings.items ≤ 10_000 }
+    requires count { length pairings.items ≤ 10_000 }
+    requires made { AreMade (import number pairings.items) }
     ensures asked { spec.ArePartsAsked S.Store L.hears book.old book.new listener.old listener.new
         (import number pairings.items) result }
     ensures calls { IsAfterCalls S.Store book.old book.new }
 {
-    let parts = pairings.len() as u16;
     let mut import = Book::<S>::import(number.get(), pairings);
     let mut part = 1u16;
-    while part <= parts {
-        let Some(answer) = import.next(alloc, book) else {
-            unreachable!();
+    while let Some(answer) = import.next(alloc, book) {
+        let answer = match answer {
+            Ok(answer) => answer,
+            Err(fault) => return Err(ScheduleFault::Ask(AskFault::Book(fault))),
         };
-        let answer = answer.map_err(|fault| ScheduleFault::Ask(AskFault::Book(fault)))?;
-        listener
-            .hear(alloc, part, &answer)
-            .map_err(ScheduleFault::Unheard)?;
+        if let Err(fault) = listener.hear(alloc, part, &answer) {
+            return Err(ScheduleFault::Unheard(fault));
+        }
         part += 1;
     }
     Ok(())
