@@ -58,14 +58,14 @@ part_made parts n a made is =
 
 -- ---- One more at the end
 
-one_answered : {S : Type 0} (g : Ghosts S) (old : Kept S) (asked : List Asked) (answers : List Answer) (now next : Kept S) (a : Asked) (answer : Answer)
+pub one_answered : {S : Type 0} (g : Ghosts S) (old : Kept S) (asked : List Asked) (answers : List Answer) (now next : Kept S) (a : Asked) (answer : Answer)
     → AreAnswered g old asked answers now → IsAnswered g now next a (Ok answer) → AreAnswered g old (asked ++ a ∷ []) (answers ++ answer ∷ []) next
 one_answered g old [] [] now next a answer same is = (next, subst (λ b. IsAnswered g b next a (Ok answer)) same is, refl)
 one_answered g old [] (x ∷ answers) now next a answer none is = absurd none
 one_answered g old (b ∷ asked) [] now next a answer none is = absurd none
 one_answered g old (b ∷ asked) (x ∷ answers) now next a answer first is = (first.0, first.1, one_answered g first.0 asked answers now next a answer first.2 is)
 
-taken_more : {A : Type 0} (xs : List A) (n : ℕ) (x : A) → slice_get xs n ≡ Some x → take (suc n) xs ≡ take n xs ++ x ∷ []
+pub taken_more : {A : Type 0} (xs : List A) (n : ℕ) (x : A) → slice_get xs n ≡ Some x → take (suc n) xs ≡ take n xs ++ x ∷ []
 taken_more [] n x is = absurd (cc)
 taken_more (y ∷ xs) zero x is = ap (λ o. o ∷ []) (search is)
 taken_more (y ∷ xs) (suc n) x is = ap (λ l. y ∷ l) (taken_more xs n x is)
