@@ -1,4 +1,4 @@
--- The numbers of imports.
+-- The numbers that requests may have.
 use Rattle.std.specs.Prelude.{ℕ, Bool, ◌&&◌, nat_le}
 
 -- from 1 to 9,223,372,036,854,775,807

@@ -1,13 +1,16 @@
-//! The number of an import in a path, as `/imports/7`.
+//! The number that a client gives a request, under which what it asks is done once.
+//! Numbers out of range: `tests/texts.py`, `tests/exchanges.py`. Wrong bodies: `must-fail-more/`.
+#![tactic(auto)]
+
 use std::marker::Model;
 
-/// The number of an import, from 1 to 9,223,372,036,854,775,807.
+/// The number of a request, from 1 to 9,223,372,036,854,775,807.
 #[derive(Clone, Copy, Debug, PartialEq, Eq)]
-pub struct ImportNumber {
+pub struct RequestNumber {
     number: u64,
 }
 
-impl Model for ImportNumber {
+impl Model for RequestNumber {
     ghost use Rattle.std.specs.Prelude.{ℕ, ◌≤◌};
 
     ghost Value = { ℕ };
@@ -19,16 +22,16 @@ impl Model for ImportNumber {
     ghost inverse = { λ n. record { number = n } };
 }
 
-impl ImportNumber {
+impl RequestNumber {
     ghost use Rattle.std.specs.Prelude.{◌≡◌, ◌≤◌, Some, None, if◌then◌else◌};
-    ghost use Rattle.http_message.specs.ImportNumbers.{is_in_range};
+    ghost use Rattle.request_number.specs.Range.{is_in_range};
 
     /// Takes the number, if it is from 1 to 9,223,372,036,854,775,807.
-    pub(crate) fn new(number: u64) -> Option<ImportNumber>
+    pub fn new(number: u64) -> Option<RequestNumber>
         ensures { result ≡ (if is_in_range number then Some number else None) }
     {
         if (1..=9_223_372_036_854_775_807).contains(&number) {
-            Some(ImportNumber { number })
+            Some(RequestNumber { number })
         } else {
             None
         }
