@@ -17,7 +17,7 @@ use command::{Command, Instruction, Key};
 use duty::Pairing;
 use http::StatusCode;
 use http_exchange::{HandlerFault, Response};
-use http_message::ImportNumber;
+use request_number::RequestNumber;
 use sqlite::Alter;
 use std::alloc::Global;
 use values::MemoryFault;
@@ -26,7 +26,7 @@ use values::MemoryFault;
 pub(crate) fn answer_schedule<S: Alter>(
     alloc: Global,
     book: &mut Book<S>,
-    number: ImportNumber,
+    number: RequestNumber,
     body: &[u8],
 ) -> Result<Response, HandlerFault>
     ensures { spec.IsHandled S.Store book.old book.new (submit (submission.Import number) body.now)
@@ -43,7 +43,7 @@ pub(crate) fn answer_schedule<S: Alter>(
 fn add_all<S: Alter>(
     alloc: Global,
     book: &mut Book<S>,
-    number: ImportNumber,
+    number: RequestNumber,
     pairings: Vec<Pairing>,
 ) -> Result<Response, HandlerFault>
     requires { length pairings.items ≤ 10_000 }
@@ -70,7 +70,7 @@ fn told_parts(alloc: Global, run: &Run) -> Result<Response, HandlerFault>
 /// Makes the commands that add pairings under the parts of a number.
 fn commands_of(
     alloc: Global,
-    number: ImportNumber,
+    number: RequestNumber,
     pairings: Vec<Pairing>,
 ) -> Result<Vec<(Key, Command)>, MemoryFault>
     requires { length pairings.items ≤ 10_000 }
