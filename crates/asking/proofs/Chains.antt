@@ -9,7 +9,9 @@ use Rattle.roster.specs.Folds.{Asked, Fold, Replies, ReplyOrRefusal, next}
 use Rattle.roster.specs.Honest.{Honest}
 use Rattle.roster.specs.Laws.{AreMade}
 use Rattle.roster.specs.State.{State}
+use Rattle.roster.proofs.KeepsHonest.{keeps_honest}
 use Rattle.roster.proofs.MadeByCommands.{stays_honest}
+use Rattle.roster.proofs.Sound.{keeps_sound}
 use Rattle.state_rows.specs.declared.fault.StoreFault.{StoreFault}
 use Rattle.state_rows.specs.declared.fault.StoreFault.TheVariants.{Store, Memory}
 use Rattle.writing.specs.Kept.{KeepOthers}
@@ -137,7 +139,7 @@ module _ {S : Type 0} (g : Ghosts S) where
     honest = λ s at honest. record {
       crash = λ clean trees may.
           let sound = (at.kept (are.disk clean)).sound in
-          (one_honest (state g new.held) (Fold s asked) (are.left s at).leaves (stays_honest s asked made sound honest)).crash clean trees may;
+          (one_honest (state g new.held) (Fold s asked) (are.left s at).leaves (stays_honest keeps_sound keeps_honest s asked made sound honest)).crash clean trees may;
     };
     others_left = spared_adds g old new are.spared;
     still_open = λ no. absurd (cc);
@@ -173,7 +175,7 @@ module _ {S : Type 0} (g : Ghosts S) where
       honest = λ s at honest. record {
         crash = λ clean trees may.
             let sound = (at.kept (was.disk (is.disk clean))).sound in
-            (is.honest (Fold s (take (length answers) asked)) (was.left s at) (stays_honest s (take (length answers) asked) (made_taken asked (length answers) made) sound honest)).crash clean trees may;
+            (is.honest (Fold s (take (length answers) asked)) (was.left s at) (stays_honest keeps_sound keeps_honest s (take (length answers) asked) (made_taken asked (length answers) made) sound honest)).crash clean trees may;
       };
       others_left = adds_then g old now new is.disk was.spared is.others_left;
       still_open = λ is_memory. spared_open g old now new is.disk was.faults was.spared (is.still_open (let same : fault ≡ Memory = cc in ap Err same));
@@ -202,8 +204,7 @@ module _ {S : Type 0} (g : Ghosts S) where
         let n = length it.answers in
         let taken : take (n + 1) parts ≡ take n parts ++ it.ends.0 ∷ [] = ap (λ k. take k parts) (add-one n) ∙ taken_more parts n it.ends.0 it.ends.1 in
         let are = one_answered g old (take n parts) it.answers it.now new it.ends.0 it.ends.2 it.answered it.ends.3 in
-        let are_taken = subst (λ l. AreAnswered g old l (it.answers ++ it.ends.2 ∷ []) new) (sym taken) are in
-        (
+        let are_taken = subst (λ l. AreAnswered g old l (it.answers ++ it.ends.2 ∷ []) new) (sym taken) are in (
           slice_get_within parts n it.ends.0 it.ends.1,
           all_answered old new (take (n + 1) parts) (it.answers ++ it.ends.2 ∷ []) (made_taken parts (n + 1) made) (chain old new (take (n + 1) parts) (it.answers ++ it.ends.2 ∷ []) are_taken),
         )

@@ -48,7 +48,7 @@ all_made number part (plan ∷ plans) planned none =
     ((unfold instruction_fault in faultless plan it.0, planned.0), all_made number (part + 1) plans planned.1 it.1)
 
 pub schedule_made : (number : ℕ) (text : List ℕ) (plans : List Plan) → IsSchedule text plans → AreMade (import number plans)
-schedule_made number text plans is = each_of (import number plans) (all_made number 1 plans is.2.2.2.0 is.3)
+schedule_made number text plans is = each_of (import number plans) (all_made number 1 plans is.2.2 is.3)
 
 -- a command of a list that is made is made
 pub part_made : (parts : List Asked) (n : ℕ) (a : Asked) → AreMade parts → slice_get parts n ≡ Some a → IsMade a.1

@@ -22,9 +22,12 @@ AreAnswered {S} g old (asked ∷ more) (answer ∷ answers) new =
 AreAnswered g old [] (answer ∷ answers) new = ⊥
 AreAnswered g old (asked ∷ more) [] new = ⊥
 
+-- that a listener was so, and was so after it heard what this part was answered, or had failed
+abbrev pub Hearing : Type 0 → Type 0 → Type 1
+Hearing L F = L → L → ℕ → ReplyOrRefusal → Result ⊤ F → Type 0
+
 -- a listener heard these answers in turn, the first as that to this part
-abbrev pub HasHeard : {L F : Type 0} → (L → L → ℕ → ReplyOrRefusal → Result ⊤ F → Type 0) →
-    L → ℕ → List Answer → L → Type 0
+abbrev pub HasHeard : {L F : Type 0} → Hearing L F → L → ℕ → List Answer → L → Type 0
 HasHeard hears old part [] new = new ≡ old
 HasHeard {L} hears old part (answer ∷ answers) new =
     (next : L) × hears old next part (result_of answer) (Ok tt)
@@ -36,35 +39,39 @@ IsUnread text result =
     ((line : ℕ) × IsAtFault text line × (result ≡ Err (Unread (BadCsv line))))
     ⊎ (result ≡ Err (Ask Memory))
 
-module _ {S L F : Type 0} (g : Ghosts S) (hears : L → L → ℕ → ReplyOrRefusal → Result ⊤ F → Type 0)
-    (old new : Kept S) (listener listener' : L) where
-  -- the end, where the book and the listener were so after these answers: there were all parts; or
-  -- the book met a fault at the next part; or the listener failed at the answer to the next part
-  abbrev pub EndsAfter : List Asked → List Answer → Kept S → L → Result ⊤ (ScheduleFault F) → Type 0
-  EndsAfter parts answers now heard (Ok _) =
-      (length answers ≡ length parts) × (new ≡ now) × (listener' ≡ heard)
-  EndsAfter parts answers now heard (Err (Ask (Book fault))) =
+module _ {S L F : Type 0} (g : Ghosts S) (hears : Hearing L F) where
+  -- the end, where the book and the listener were the first two after these answers, and are the
+  -- others: there were all parts; or the book met a fault at the next part; or the listener failed
+  -- at the answer to the next part
+  abbrev pub EndsAfter : List Asked → List Answer → Kept S × L → Kept S × L →
+      Result ⊤ (ScheduleFault F) → Type 0
+  EndsAfter parts answers (now, heard) (new, listener) (Ok _) =
+      (length answers ≡ length parts) × (new ≡ now) × (listener ≡ heard)
+  EndsAfter parts answers (now, heard) (new, listener) (Err (Ask (Book fault))) =
       (part : Asked) × (slice_get parts (length answers) ≡ Some part)
-      × IsAnswered g now new part (Err fault) × (listener' ≡ heard)
-  EndsAfter parts answers now heard (Err (Unheard fault)) =
+      × IsAnswered g now new part (Err fault) × (listener ≡ heard)
+  EndsAfter parts answers (now, heard) (new, listener) (Err (Unheard fault)) =
       (part : Asked) × (slice_get parts (length answers) ≡ Some part)
       × (answer : Answer) × IsAnswered g now new part (Ok answer)
-      × hears heard listener' (length answers + 1) (result_of answer) (Err fault)
-  EndsAfter parts answers now heard (Err (Ask Memory)) = ⊥
-  EndsAfter parts answers now heard (Err (Unread fault)) = ⊥
+      × hears heard listener (length answers + 1) (result_of answer) (Err fault)
+  EndsAfter parts answers (now, heard) (new, listener) (Err (Ask Memory)) = ⊥
+  EndsAfter parts answers (now, heard) (new, listener) (Err (Unread fault)) = ⊥
 
   -- these parts were asked in turn and each answer was heard, up to the end
-  pub record ArePartsAsked (parts : List Asked) (result : Result ⊤ (ScheduleFault F)) : Type 0 where
+  pub record ArePartsAsked (old new : Kept S) (listener listener' : L) (parts : List Asked)
+      (result : Result ⊤ (ScheduleFault F)) : Type 0 where
     pub answers : List Answer
     pub now : Kept S
     pub heard : L
     pub answered : AreAnswered g old (take (length answers) parts) answers now
     pub all_heard : HasHeard hears listener 1 answers heard
-    pub ends : EndsAfter parts answers now heard result
+    pub ends : EndsAfter parts answers (now, heard) (new, listener') result
 
   -- a text was no schedule, or there was no memory to read it, and nothing was asked; or it was a
   -- schedule, and its pairings were added under the parts of a number
-  abbrev pub IsScheduleAsked : ℕ → List ℕ → Result ⊤ (ScheduleFault F) → Type 0
-  IsScheduleAsked number text result =
+  abbrev pub IsScheduleAsked : Kept S → Kept S → L → L → ℕ → List ℕ →
+      Result ⊤ (ScheduleFault F) → Type 0
+  IsScheduleAsked old new listener listener' number text result =
       (IsUnread text result × (new ≡ old) × (listener' ≡ listener))
-      ⊎ ((plans : List Plan) × IsSchedule text plans × ArePartsAsked (import number plans) result)
+      ⊎ ((plans : List Plan) × IsSchedule text plans
+      × ArePartsAsked old new listener listener' (import number plans) result)

@@ -41,7 +41,7 @@ pub fn ask_report<S: Alter>(
     book: &mut Book<S>,
     subject: Subject<'_>,
 ) -> Result<Shown, AskFault>
-    ensures asked { spec.IsReportAsked S.Store book.old book.new (spec.show_of subject) result }
+    ensures asked { spec.IsReportAsked S.Store book.old book.new (spec.show_of subject.entry) result }
     ensures calls { IsAfterCalls S.Store book.old book.new }
 {
     let Ok(what) = shown_by(alloc, subject) else {
@@ -53,7 +53,7 @@ pub fn ask_report<S: Alter>(
 
 /// Names what a book shows for a report.
 fn shown_by(alloc: Global, subject: Subject<'_>) -> Result<Show, MemoryFault>
-    ensures { IfOk result (λ what. what ≡ spec.show_of subject) }
+    ensures { IfOk result (λ what. what ≡ spec.show_of subject.entry) }
 {
     Ok(match subject {
         Subject::Crew(id) => Show::Crew(CrewId::new(copy_of(alloc, id)?)),

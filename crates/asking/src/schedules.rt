@@ -84,7 +84,10 @@ fn ask_parts<S: Alter, L: Listener>(
             Ok(answer) => answer,
             Err(fault) => return Err(ScheduleFault::Ask(AskFault::Book(fault))),
         };
-        if let Err(fault) = listener.hear(alloc, part, &answer) {
+        let heard = listener.hear(alloc, part, &answer);
+        // (by a call: written out, an answer's drop takes the prover long)
+        drop(answer);
+        if let Err(fault) = heard {
             return Err(ScheduleFault::Unheard(fault));
         }
         part += 1;

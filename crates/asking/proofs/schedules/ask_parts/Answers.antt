@@ -28,8 +28,8 @@ loop-answer-preserved g c =
     record {
       place = (omega arith, omega (arith, slice_get_within parts (part - 1) asked.0 asked.1, length-import c.args.number c.args.pairings.items));
       next = rw was.next at moved;
-      so_far = one_more g.S.Store g.L.Listener.hears c.args.book.now c.args.listener.now parts part c.loop-answer.book c.loop-answer.listener was.so_far (part - 1) asked.0 c.in-Ok.answer c.next.new.book c.hear.new.self
-          asked.1 back answered (subst (g.L.Listener.hears _ _ part (result_of c.in-Ok.answer)) c.in_default-hear.is c.hear.ensures);
+      so_far = one_more g.S.Store g.L.Listener.hears c.args.book.now c.args.listener.now parts part c.loop-answer.book c.loop-answer.listener was.so_far (part - 1) asked.0 c.in-Ok.answer c.next.new.book c.hear-heard.new.self
+          asked.1 back answered (subst (g.L.Listener.hears _ _ part (result_of c.in-Ok.answer)) c.in_default-heard.is c.hear-heard.ensures);
       calls = then_calls g.S.Store was.calls (one_call g.S.Store (call_for_one asked.0 (Ok c.in-Ok.answer))
           (is_one_call g.S.Store asked.0 (Ok c.in-Ok.answer) (part_made parts (part - 1) asked.0 c.requires.made asked.1) answered));
     }
@@ -62,8 +62,8 @@ returns-in-Err g c =
           (is_one_call g.S.Store asked.0 (Err c.in-Err.fault) (part_made parts (part - 1) asked.0 c.requires.made asked.1) answered));
     }
 
-pub returns-in-Err-hear : goal.returns-in-Err-hear
-returns-in-Err-hear g c =
+pub returns-in-Err-heard : goal.returns-in-Err-heard
+returns-in-Err-heard g c =
     let was = c.loop-answer.invariant in
     let part = c.loop-answer.part in
     let parts = import c.args.number c.args.pairings.items in
@@ -71,8 +71,8 @@ returns-in-Err-hear g c =
     let back : part - 1 + 1 ≡ part = omega (arith, was.place.0) in
     let answered : IsAnswered g.S.Store c.loop-answer.book c.next.new.book asked.0 (Ok c.in-Ok.answer) = subst (IsAnswered g.S.Store _ _ asked.0) c.in-Ok.is asked.2 in
     record {
-      asked = one_unheard g.S.Store g.L.Listener.hears c.args.book.now c.args.listener.now parts part c.loop-answer.book c.loop-answer.listener was.so_far (part - 1) asked.0 c.in-Ok.answer c.in-Err-hear.fault c.next.new.book c.hear.new.self
-          asked.1 back answered (subst (g.L.Listener.hears _ _ part (result_of c.in-Ok.answer)) c.in-Err-hear.is c.hear.ensures);
+      asked = one_unheard g.S.Store g.L.Listener.hears c.args.book.now c.args.listener.now parts part c.loop-answer.book c.loop-answer.listener was.so_far (part - 1) asked.0 c.in-Ok.answer c.in-Err-heard.fault c.next.new.book c.hear-heard.new.self
+          asked.1 back answered (subst (g.L.Listener.hears _ _ part (result_of c.in-Ok.answer)) c.in-Err-heard.is c.hear-heard.ensures);
       calls = then_calls g.S.Store was.calls (one_call g.S.Store (call_for_one asked.0 (Ok c.in-Ok.answer))
           (is_one_call g.S.Store asked.0 (Ok c.in-Ok.answer) (part_made parts (part - 1) asked.0 c.requires.made asked.1) answered));
     }

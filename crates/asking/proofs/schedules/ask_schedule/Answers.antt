@@ -4,8 +4,8 @@ use Rattle.asking.proofs.Parts.{schedule_made}
 use Rattle.asking.specs.declared.schedules.ScheduleFault.TheVariants.{Unread}
 use Rattle.asking.proofs.schedules.ask_schedule.Goals as goal
 
-pub requires-ask_parts-clause-made : goal.requires-ask_parts-clause-made
-requires-ask_parts-clause-made g c = schedule_made c.args.number c.args.text.now c.in-Ok.pairings.items c.in-Ok.ensures.read
+pub ask_parts-requires-clause-made : goal.ask_parts-requires-clause-made
+ask_parts-requires-clause-made g c = schedule_made c.args.number c.args.text.now c.in-Ok.pairings.items c.in-Ok.ensures.read
 
 pub returns-in-Ok : goal.returns-in-Ok
 returns-in-Ok g c = record {
