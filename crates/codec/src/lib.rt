@@ -6,9 +6,9 @@ mod fault;
 mod fields;
 mod grouping;
 pub mod laws;
+mod number_member;
 mod reading;
 mod refusal_text;
-mod request_number;
 mod requests;
 mod scheduled;
 mod schedules;
@@ -17,7 +17,6 @@ mod schedules;
 pub const MOST_BYTES: usize = 1_048_576;
 
 pub use refusal_text::{fault_to_json, refusal_to_json};
-pub use request_number::RequestNumber;
 pub use requests::command_of_json;
 pub use schedules::schedule_of_csv;
 pub use stored_json::{

@@ -6,7 +6,7 @@ ghost use Rattle.codec.specs.Requests.{read_body, read_request};
 ghost use Rattle.stored_json.specs.declared.fault.CodecFault.TheVariants.{Memory};
 
 use crate::MOST_BYTES;
-use crate::request_number::RequestNumber;
+use crate::number_member::NumberMember;
 use command::Command;
 use serde_json::Value;
 use std::alloc::Global;
@@ -23,9 +23,9 @@ pub fn command_of_json(alloc: Global, body: &[u8]) -> Result<(u64, Command), Cod
         (λ fault. (fault ≡ Memory) ⊎ (read_request body.now ≡ Err fault)) }
 {
     let object = body_object(alloc, body)?;
-    let number: RequestNumber = json_field(alloc, &object, JsonField::Number)?;
+    let number: NumberMember = json_field(alloc, &object, JsonField::Number)?;
     let command = command_of(alloc, &object)?;
-    Ok((number.get(), command))
+    Ok((number.get().get(), command))
 }
 
 /// Reads the object that a request's body is.

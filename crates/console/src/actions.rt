@@ -1,6 +1,6 @@
 //! What the program is asked to do.
 
-use codec::RequestNumber;
+use request_number::RequestNumber;
 
 /// What a command line asks for.
 #[derive(Debug, PartialEq, Eq, Drop)]

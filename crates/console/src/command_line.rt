@@ -19,7 +19,7 @@ ghost use Rattle.console.specs.Plain.{is_plain, pairing_words, roster_words, ser
 
 use crate::actions::Action;
 use clap::{Arg, ArgAction, ArgMatches, Command, Error, value_parser};
-use codec::RequestNumber;
+use request_number::RequestNumber;
 use std::alloc::{AllocError, Global};
 
 const ARGUMENTS: &str = "\

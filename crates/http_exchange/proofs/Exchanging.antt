@@ -1,5 +1,5 @@
 -- What an exchange did, from what its parts did.
-use Rattle.std.proofs.Common.{◌≡◌, ◌≤◌, ◌<◌, inl, inr, ℕ, Bool, true, false, List, [], length, take, nat_lt, refl, sym, subst, arith, Some, None, Result, Ok, Err, IfOk, IfErr}
+use Rattle.std.proofs.Common.{◌≡◌, ◌≤◌, ◌<◌, ◌∙◌, ap, inl, inr, ℕ, Bool, true, false, List, [], length, take, nat_lt, refl, sym, subst, arith, Some, None, Result, Ok, Err, IfOk}
 use Rattle.std.proofs.lemmas.Bool.Decides.{nat_tests}
 use Rattle.std.specs.Io.KnownBytes.{Appends}
 use Rattle.std.proofs.KnownBytes.{Appends-nil, Appends-trans}
@@ -14,12 +14,13 @@ use Rattle.http_message.specs.declared.refusals.RequestFault.{RequestFault}
 use Rattle.http_message.specs.declared.refusals.RequestFault.TheVariants.{NoHead, CutBody}
 use Rattle.http_exchange.specs.Body.{IsWholeAt, IsCutAt}
 use Rattle.http_exchange.specs.Final.{Final, IsAnswerTold, IsSent, IsFinalTold, OrFails, of_answer, of_fault, of_no_memory}
-use Rattle.http_exchange.specs.Handler.{HandlerRequest, StatusText, submit, show}
+use Rattle.http_exchange.specs.Handler.{HandlerRequest, StatusText, submit}
 use Rattle.http_exchange.specs.declared.handler.HandlerFault.{HandlerFault}
 use Rattle.http_exchange.specs.declared.sending.ChannelFault.{ChannelFault}
 use Rattle.http_exchange.specs.declared.sending.ChannelFault.TheVariants.{Reader, Writer}
 use Rattle.http_exchange.specs.declared.exchanges.Served.TheVariants.{Answered, Nothing}
-use Rattle.http_exchange.specs.Exchange.{ChannelBytes, asks, interim, interim_bytes, receiving, AsksHandlerOnce, IsSettled, Responds, IsExchangeServed, MayHaveAsked, BreaksOff, IsExchangeBrokenOff, IsAnsweredAndWritten}
+use Rattle.http_exchange.specs.Exchange.{ChannelBytes, asks, interim, interim_bytes, receiving, IsSettled, Responds, IsExchangeServed, MayHaveAsked, BreaksOff, IsExchangeBrokenOff}
+use Rattle.http_exchange.specs.Receiving.{AsksFor, unasked}
 
 -- what was written after other bytes
 told_after : (front : List ℕ) (out mid out' : ChannelBytes) (code : ℕ) (final : Final) (is_head : Bool) → Appends out mid front → IsFinalTold [] mid out' code final is_head → IsFinalTold front out out' code final is_head
@@ -40,10 +41,46 @@ module _ {K : Type 0} (handles : K → K → HandlerRequest → Result StatusTex
   unasked_broken p None out out' old Writer is = tt
   unasked_broken p (Some rest) out out' old Writer is = may_stay (asks p.step rest) old
 
-  pub unasked : (p : Planned) (had out out' : ChannelBytes) (old : K) (IsDone : ℕ → Type 0) (r : Result ℕ ChannelFault) → OrFails r (λ code. IsDone code)
-      → IfErr r (λ fault. BreaksOff handles p had out out' old old fault)
-  unasked p had out out' old IsDone (Ok code) done = tt
-  unasked p had out out' old IsDone (Err fault) is = unasked_broken p had out out' old fault is
+  -- ---- a request that asks nothing
+
+  nothing_settled : (a : Result HandlerRequest RequestFault) (front : List ℕ) (is_head : Bool) (out out' : ChannelBytes) (old : K) (code : ℕ)
+      → IsSettled unasked a front is_head out out' tt tt code → IsSettled handles a front is_head out out' old old code
+  nothing_settled (Err fault) front is_head out out' old code is = (refl, is.1)
+  nothing_settled (Ok asked) front is_head out out' old code is = absurd is.1
+
+  pub nothing_responds : (p : Planned) (had left out out' : ChannelBytes) (old : K) (code : ℕ)
+      → Responds unasked p had left out out' tt tt code → Responds handles p had left out out' old old code
+  nothing_responds p None left out out' old code is = tt
+  nothing_responds p (Some rest) left out out' old code (inl is) =
+      inl (record { left_is = is.left_is; settled = nothing_settled (asks p.step rest) (interim p.step) p.is_head out out' old code is.settled })
+  nothing_responds p (Some rest) left out out' old code (inr is) = inr (record { left_is = is.left_is; unasked = refl; sent = is.sent })
+
+  pub nothing_broken : (p : Planned) (had out out' : ChannelBytes) (old : K) (fault : ChannelFault)
+      → BreaksOff unasked p had out out' tt tt fault → BreaksOff handles p had out out' old old fault
+  nothing_broken p had out out' old Reader is = (refl, is.1)
+  nothing_broken p None out out' old Writer is = tt
+  nothing_broken p (Some rest) out out' old Writer is = may_stay (asks p.step rest) old
+
+  -- ---- what is asked, and answered
+
+  pub answered : (p : Planned) (had left out mid out' : ChannelBytes) (old new : K) (asked : HandlerRequest) (answer : Result StatusText HandlerFault) (code : ℕ)
+      → AsksFor p had left out mid asked → handles old new asked answer → IsAnswerTold [] mid out' code answer p.is_head
+      → Responds handles p had left out out' old new code
+  answered p None left out mid out' old new asked answer code is handled told = tt
+  answered p (Some rest) left out mid out' old new asked answer code is handled told =
+      let after = answer_told_after (interim p.step) out mid out' code answer p.is_head is.interim_is told in
+      inl (record {
+        left_is = is.left_is;
+        settled = subst (λ a. IsSettled handles a (interim p.step) p.is_head out out' old new code) (sym is.whole) (answer, handled, after);
+      })
+
+  pub answer_unwritten : (p : Planned) (had left out mid out' : ChannelBytes) (old new : K) (asked : HandlerRequest) (answer : Result StatusText HandlerFault) (fault : ChannelFault)
+      → AsksFor p had left out mid asked → handles old new asked answer → fault ≡ Writer
+      → BreaksOff handles p had out out' old new fault
+  answer_unwritten p had left out mid out' old new asked answer Reader is handled never = absurd cc
+  answer_unwritten p None left out mid out' old new asked answer Writer is handled never = tt
+  answer_unwritten p (Some rest) left out mid out' old new asked answer Writer is handled never =
+      subst (λ a. MayHaveAsked handles a old new) (sym is.whole) (inr (answer, handled))
 
   -- ---- a head
 
@@ -53,24 +90,6 @@ module _ {K : Type 0} (handles : K → K → HandlerRequest → Result StatusTex
   refused fault is_head had out out' old (Err e) told = tt
   refused fault is_head None out out' old (Ok code) told = tt
   refused fault is_head (Some rest) out out' old (Ok code) told = inl (record { left_is = refl; settled = (refl, told) })
-
-  pub shown : (what : Subject) (is_head : Bool) (had out out' : ChannelBytes) (old new : K) (r : Result ℕ ChannelFault)
-      → IsAnsweredAndWritten handles (show what) out out' old new is_head r
-      → IfOk r (λ code. Responds handles (record { is_head = is_head; step = planning.show what }) had had out out' old new code)
-  shown what is_head had out out' old new (Err e) asked = tt
-  shown what is_head None out out' old new (Ok code) asked = tt
-  shown what is_head (Some rest) out out' old new (Ok code) asked = inl (record { left_is = refl; settled = asked })
-
-  pub shown_broken : (what : Subject) (is_head : Bool) (had out out' : ChannelBytes) (old new : K) (r : Result ℕ ChannelFault)
-      → IsAnsweredAndWritten handles (show what) out out' old new is_head r
-      → IfErr r (λ fault. BreaksOff handles (record { is_head = is_head; step = planning.show what }) had out out' old new fault)
-  shown_broken what is_head had out out' old new (Ok code) asked = tt
-  shown_broken what is_head had out out' old new (Err Reader) asked = let never : Reader ≡ Writer = asked.2 in absurd cc
-  shown_broken what is_head None out out' old new (Err Writer) asked = tt
-  shown_broken what is_head (Some rest) out out' old new (Err Writer) asked = inr (asked.0, asked.1)
-
-  pub asked_once : (asked : HandlerRequest) (out out' : ChannelBytes) (old new : K) (is_head : Bool) (r : Result ℕ ChannelFault) → IsAnsweredAndWritten handles asked out out' old new is_head r → AsksHandlerOnce handles old new
-  asked_once asked out out' old new is_head r it = inr (asked, (it.0, it.1))
 
   pub short : (p : Planned) (had out out' : ChannelBytes) (old : K) (r : Result ℕ ChannelFault)
       → OrFails r (λ code. IsSent [] out out' code (of_no_memory p.is_head))
@@ -88,29 +107,15 @@ module _ {K : Type 0} (handles : K → K → HandlerRequest → Result StatusTex
     cut_asks : (rest : List ℕ) → length rest < expected.length → asks (receive expected) rest ≡ Err CutBody
     cut_asks rest few = let e : nat_lt (length rest) expected.length ≡ true = grind (arith, nat_tests) in rw e refl
 
-    pub taken : (had left out mid out' : ChannelBytes) (old new : K) (body : List ℕ) (r : Result ℕ ChannelFault)
-        → Appends out mid (interim_bytes expected.continues) → IsWholeAt expected.length had left body → IsAnsweredAndWritten handles (submit expected.to body) mid out' old new is_head r
-        → IfOk r (λ code. Responds handles (receiving expected is_head) had left out out' old new code)
-    taken had left out mid out' old new body (Err e) first whole asked = tt
-    taken None left out mid out' old new body (Ok code) first whole asked = tt
-    taken (Some rest) left out mid out' old new body (Ok code) first whole asked =
-        let front = interim_bytes expected.continues in
-        let told = answer_told_after front out mid out' code asked.0 is_head first asked.2 in
-        let handled = subst (λ body. handles old new (submit expected.to body) asked.0) whole.1 asked.1 in
-        inl (record {
-          left_is = whole.2;
-          settled = subst (λ a. IsSettled handles a front is_head out out' old new code) (sym (whole_asks rest whole.0)) (asked.0, handled, told);
-        })
-
-    pub taken_broken : (had left out mid out' : ChannelBytes) (old new : K) (body : List ℕ) (r : Result ℕ ChannelFault)
-        → IsWholeAt expected.length had left body → IsAnsweredAndWritten handles (submit expected.to body) mid out' old new is_head r
-        → IfErr r (λ fault. BreaksOff handles (receiving expected is_head) had out out' old new fault)
-    taken_broken had left out mid out' old new body (Ok code) whole asked = tt
-    taken_broken had left out mid out' old new body (Err Reader) whole asked = let never : Reader ≡ Writer = asked.2 in absurd cc
-    taken_broken None left out mid out' old new body (Err Writer) whole asked = tt
-    taken_broken (Some rest) left out mid out' old new body (Err Writer) whole asked =
-        let handled = subst (λ body. handles old new (submit expected.to body) asked.0) whole.1 asked.1 in
-        subst (λ a. MayHaveAsked handles a old new) (sym (whole_asks rest whole.0)) (inr (asked.0, handled))
+    pub taken : (had left out out' : ChannelBytes) (body : List ℕ)
+        → Appends out out' (interim_bytes expected.continues) → IsWholeAt expected.length had left body
+        → AsksFor (receiving expected is_head) had left out out' (submit expected.to body)
+    taken None left out out' body first whole = tt
+    taken (Some rest) left out out' body first whole = record {
+      whole = whole_asks rest whole.0 ∙ ap (λ body. Ok (submit expected.to body)) (sym whole.1);
+      left_is = whole.2;
+      interim_is = first;
+    }
 
     -- the reader failed in the body, after the interim response
     pub body_unread : (had out out' : ChannelBytes) (old : K) → Appends out out' (interim_bytes expected.continues) → BreaksOff handles (receiving expected is_head) had out out' old old Reader

@@ -10,7 +10,7 @@ use Rattle.http_message.specs.Response.{continue_bytes}
 use Rattle.http_message.specs.declared.plan.ExpectedBody.{ExpectedBody}
 use Rattle.http_message.specs.declared.refusals.RequestFault.{RequestFault}
 use Rattle.http_message.specs.declared.refusals.RequestFault.TheVariants.{NoHead, CutBody}
-use Rattle.http_exchange.specs.Final.{IsAnswerTold, IsSent, IsFinalTold, OrFails, of_fault, of_no_memory}
+use Rattle.http_exchange.specs.Final.{IsAnswerTold, IsSent, IsFinalTold, of_fault, of_no_memory}
 use Rattle.http_exchange.specs.Handler.{HandlerRequest, StatusText, submit, show}
 use Rattle.http_exchange.specs.declared.handler.HandlerFault.{HandlerFault}
 use Rattle.http_exchange.specs.declared.sending.ChannelFault.{ChannelFault}
@@ -127,10 +127,3 @@ module _ {K : Type 0} (handles : K → K → HandlerRequest → Result StatusTex
   IsExchangeBrokenOff None out out' old new Writer = ⊤
   IsExchangeBrokenOff (Some input) out out' old new Writer =
       (new ≡ old) ⊎ ((h : RequestHead) × (rest : List ℕ) × HasHead input h rest × MayHaveAsked (asks (plan_for_head (heading h)).step rest) old new)
-
-  -- ---- asking
-
-  -- what was asked was answered, and the answer written, if the writer didn't fail
-  abbrev pub IsAnsweredAndWritten : HandlerRequest → ChannelBytes → ChannelBytes → K → K → Bool → Result ℕ ChannelFault → Type 0
-  IsAnsweredAndWritten asked out out' old new is_head result =
-      (answer : Result StatusText HandlerFault) × handles old new asked answer × OrFails result (λ code. IsAnswerTold [] out out' code answer is_head)

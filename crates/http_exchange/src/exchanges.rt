@@ -1,21 +1,14 @@
 //! One exchange: a head is read, then a body, then the handler is asked, and then its answer is written. The definitions
 //! are in `specs/Exchange.antt`.
 //! What clients send and are answered: `tests/exchanges.py`. Wrong bodies: `must-fail/`.
-ghost use Rattle.std.specs.Prelude.{◌≡◌, IfErr, IfOk, MatchResult};
-ghost use Rattle.std.specs.Io.KnownBytes.{Appends};
-ghost use Rattle.http_message.specs.Plan.{plan_for_head, planned_of};
-ghost use Rattle.http_exchange.specs.Handler.{asked};
+ghost use Rattle.std.specs.Prelude.{IfErr, IfOk};
 ghost use Rattle.http_exchange.specs.Exchange as spec;
-ghost use Rattle.http_exchange.specs.declared.sending.ChannelFault.TheVariants.{Writer};
 
-use crate::body::{BodyRead, read_body};
 use crate::handler::{Handler, Request};
-use crate::sending::{ChannelFault, send, send_answer, send_fault, send_no_memory};
+use crate::receiving::{Received, receive};
+use crate::sending::{ChannelFault, send_answer, send_fault, send_no_memory};
 use http::StatusCode;
-use http_message::{
-    Action, CONTINUE, ExpectedBody, Head, HeadRead, Plan, ReadFault, RequestFault, plan_of,
-    read_head,
-};
+use http_message::{HeadRead, ReadFault, RequestFault, read_head};
 use std::alloc::Global;
 use std::io::{Read, Write};
 
@@ -46,132 +39,21 @@ pub fn exchange<R: Read, W: Write, K, H: Handler<K>>(
         (W.contents writer.old) (W.contents writer.new) kept.old kept.new fault) }
     ensures once { spec.AsksHandlerOnce H.handles kept.old kept.new }
 {
-    match read_head(alloc, reader) {
-        Ok(HeadRead::Nothing) => Ok(Served::Nothing),
+    let head = match read_head(alloc, reader) {
+        Ok(HeadRead::Whole(head)) => head,
+        Ok(HeadRead::Nothing) => return Ok(Served::Nothing),
         Ok(HeadRead::NoHead) => {
             let status = send_fault(alloc, writer, RequestFault::NoHead, false)?;
-            Ok(Served::Answered(status))
+            return Ok(Served::Answered(status));
         }
-        Ok(HeadRead::Whole(head)) => {
-            let status = respond(alloc, reader, writer, handler, kept, &head)?;
-            Ok(Served::Answered(status))
-        }
-        Err(ReadFault::Memory) => Ok(Served::Answered(send_no_memory(writer, false)?)),
-        Err(ReadFault::Reader) => Err(ChannelFault::Reader),
-    }
-}
-
-/// Answers a request whose head was read.
-fn respond<R: Read, W: Write, K, H: Handler<K>>(
-    alloc: Global,
-    reader: &mut R,
-    writer: &mut W,
-    handler: &H,
-    kept: &mut K,
-    head: &Head,
-) -> Result<StatusCode, ChannelFault>
-    ensures answered { IfOk result (λ status.
-        spec.Responds H.handles (plan_for_head head.now) (R.remaining reader.old)
-        (R.remaining reader.new)
-        (W.contents writer.old) (W.contents writer.new) kept.old kept.new status) }
-    ensures broken { IfErr result (λ fault.
-        spec.BreaksOff H.handles (plan_for_head head.now) (R.remaining reader.old)
-        (W.contents writer.old) (W.contents writer.new) kept.old kept.new fault) }
-    ensures once { spec.AsksHandlerOnce H.handles kept.old kept.new }
-{
-    match plan_of(alloc, head) {
-        Ok(plan) => follow(alloc, reader, writer, handler, kept, &plan),
-        Err(_) => send_no_memory(writer, head.is_for_head()),
-    }
-}
-
-/// Does what is planned.
-fn follow<R: Read, W: Write, K, H: Handler<K>>(
-    alloc: Global,
-    reader: &mut R,
-    writer: &mut W,
-    handler: &H,
-    kept: &mut K,
-    plan: &Plan<'_>,
-) -> Result<StatusCode, ChannelFault>
-    ensures answered { IfOk result (λ status.
-        spec.Responds H.handles (planned_of plan.now) (R.remaining reader.old)
-        (R.remaining reader.new)
-        (W.contents writer.old) (W.contents writer.new) kept.old kept.new status) }
-    ensures broken { IfErr result (λ fault. spec.BreaksOff H.handles (planned_of plan.now)
-        (R.remaining reader.old) (W.contents writer.old) (W.contents writer.new)
-        kept.old kept.new fault) }
-    ensures once { spec.AsksHandlerOnce H.handles kept.old kept.new }
-{
-    let is_head = plan.is_head;
-    match &plan.action {
-        Action::Refuse(fault) => send_fault(alloc, writer, *fault, is_head),
-        Action::Show(report) => {
-            let request = Request::Show(*report);
-            ask(alloc, writer, handler, kept, &request, is_head)
-        }
-        Action::Receive(expected) => {
-            take_in(alloc, reader, writer, handler, kept, *expected, is_head)
-        }
-    }
-}
-
-/// Asks the handler, and writes what it answers.
-fn ask<W: Write, K, H: Handler<K>>(
-    alloc: Global,
-    writer: &mut W,
-    handler: &H,
-    kept: &mut K,
-    request: &Request<'_>,
-    is_head: bool,
-) -> Result<StatusCode, ChannelFault>
-    ensures { spec.IsAnsweredAndWritten H.handles (asked request.now) (W.contents writer.old)
-        (W.contents writer.new) kept.old kept.new is_head result }
-{
-    let answer = handler.handle(alloc, kept, request);
-    send_answer(alloc, writer, answer, is_head)
-}
-
-/// Takes in a body, and has the handler answer it. Room for the body is made before a client is told to go on.
-fn take_in<R: Read, W: Write, K, H: Handler<K>>(
-    alloc: Global,
-    reader: &mut R,
-    writer: &mut W,
-    handler: &H,
-    kept: &mut K,
-    expected: ExpectedBody,
-    is_head: bool,
-) -> Result<StatusCode, ChannelFault>
-    ensures answered { IfOk result (λ status. spec.Responds H.handles
-        (spec.receiving expected is_head) (R.remaining reader.old) (R.remaining reader.new)
-        (W.contents writer.old) (W.contents writer.new) kept.old kept.new status) }
-    ensures broken { IfErr result (λ fault. spec.BreaksOff H.handles
-        (spec.receiving expected is_head) (R.remaining reader.old)
-        (W.contents writer.old) (W.contents writer.new) kept.old kept.new fault) }
-    ensures once { spec.AsksHandlerOnce H.handles kept.old kept.new }
-{
-    let Ok(room) = Vec::with_capacity(alloc, expected.length) else {
-        return send_no_memory(writer, is_head);
+        Err(ReadFault::Memory) => return Ok(Served::Answered(send_no_memory(writer, false)?)),
+        Err(ReadFault::Reader) => return Err(ChannelFault::Reader),
     };
-    go_on(writer, expected.continues)?;
-    match read_body(reader, room, expected.length) {
-        Ok(BodyRead::Whole(body)) => {
-            let request = Request::Submit(expected.to, &body);
-            ask(alloc, writer, handler, kept, &request, is_head)
-        }
-        Ok(BodyRead::Cut) => send_fault(alloc, writer, RequestFault::CutBody, is_head),
-        Err(_) => Err(ChannelFault::Reader),
-    }
-}
-
-/// Tells a client that waits for it to go on and send the body.
-fn go_on<W: Write>(writer: &mut W, waits: bool) -> Result<(), ChannelFault>
-    ensures { MatchResult result
-        (λ _. Appends (W.contents writer.old) (W.contents writer.new) (spec.interim_bytes waits))
-        (λ fault. fault ≡ Writer) }
-{
-    if waits {
-        send(writer, CONTINUE)?;
-    }
-    Ok(())
+    let answer = match receive(alloc, reader, writer, &head)? {
+        Received::Body(to, body) => handler.handle(alloc, kept, &Request::Submit(to, &body)),
+        Received::Report(report) => handler.handle(alloc, kept, &Request::Show(report)),
+        Received::Answered(status) => return Ok(Served::Answered(status)),
+    };
+    let status = send_answer(alloc, writer, answer, head.is_for_head())?;
+    Ok(Served::Answered(status))
 }

@@ -4,6 +4,7 @@
 mod body;
 mod exchanges;
 mod handler;
+mod receiving;
 mod sending;
 
 pub use exchanges::{Served, exchange};

@@ -3,7 +3,6 @@ pub mod Reading
 pub mod Routes
 pub mod Refusals
 pub mod Fields
-pub mod ImportNumbers
 pub mod Numbers
 pub mod Target
 pub mod Plan

@@ -3,7 +3,6 @@
 
 mod fields;
 mod head;
-mod import_number;
 pub mod laws;
 mod numbers;
 mod plan;
@@ -14,7 +13,6 @@ mod routes;
 mod target;
 
 pub use head::Head;
-pub use import_number::ImportNumber;
 pub use plan::{Action, ExpectedBody, Plan, Report, Submission, plan_of};
 pub use reading::{HeadRead, ReadFault, read_byte, read_head};
 pub use refusals::{Methods, RequestFault};

@@ -6,7 +6,7 @@ ghost use Rattle.std.specs.List.{list_all};
 ghost use Rattle.std.specs.Str.Parse.{digits_value};
 ghost use Rattle.http_message.specs.Numbers as spec;
 
-use crate::import_number::ImportNumber;
+use request_number::RequestNumber;
 
 /// The most bytes of a body.
 pub(crate) const MOST_BODY: usize = 1_048_576;
@@ -56,13 +56,13 @@ fn saturated(text: &[u8]) -> usize
 }
 
 /// Reads the number of an import in a path.
-pub(crate) fn number_of_import(text: &[u8]) -> Option<ImportNumber>
+pub(crate) fn number_of_import(text: &[u8]) -> Option<RequestNumber>
     ensures { result ≡ spec.import_number text.now }
 {
     if !is_number(text) || text[0] == b'0' {
         return None;
     }
-    ImportNumber::new(saturated_long(text))
+    RequestNumber::new(saturated_long(text))
 }
 
 /// Reads the number of these digits, up to the greatest of its type.

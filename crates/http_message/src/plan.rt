@@ -5,11 +5,11 @@ ghost use Rattle.http_message.specs.Fields.{values};
 ghost use Rattle.http_message.specs.Plan as spec;
 
 use crate::head::Head;
-use crate::import_number::ImportNumber;
 use crate::numbers::{MOST_BODY, length_of, number_of_import};
 use crate::refusals::{Methods, RequestFault};
 use crate::routes::{Route, route_of};
 use crate::target::path_of;
+use request_number::RequestNumber;
 use std::alloc::Global;
 use std::str::from_utf8;
 use values::MemoryFault;
@@ -51,7 +51,7 @@ pub enum Submission {
     /// A command.
     Command,
     /// A schedule to be imported under this number.
-    Import(ImportNumber),
+    Import(RequestNumber),
 }
 
 /// What is shown.

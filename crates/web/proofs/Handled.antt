@@ -1,30 +1,46 @@
--- From what the book did to what is told of it.
-use Rattle.std.proofs.Common.{◌≡◌, ◌∙◌, ◌+◌, ◌||◌, ◌↔◌, ap, sym, subst, refl, inl, inr, arith, ℕ, suc, Bool, true, false, IsTrue, List, [], ◌∷◌, length, map, take, Option, Some, None, Result, Ok, Err, IfOk, IsSome, OnErr, OnOk}
-use Rattle.std.proofs.lemmas.List.{take_all}
+-- From what was asked of a book to the response.
+use Rattle.std.proofs.Common.{◌≡◌, ◌∙◌, ◌||◌, ◌⊎◌, ap, sym, subst, refl, inl, inr, ℕ, Bool, true, false, IsTrue, List, [], ◌∷◌, string_bytes, Option, Some, None, Result, Ok, Err, IfOk}
+use Rattle.std.specs.Bool.{⊤}
+use Rattle.std.specs.Global.{Global}
+use Rattle.std.specs.Prelude.{String}
+use Rattle.values.specs.declared.memory_fault.MemoryFault.{MemoryFault}
 use Rattle.sqlite.specs.Held.{state}
 use Rattle.sqlite_trees.specs.declared.store.Store.{Ghosts}
 use Rattle.duty.specs.Plans.{Plan}
-use Rattle.command.specs.Keys.{KeyParts}
 use Rattle.command.specs.declared.instruction.Instruction.{Instruction}
+use Rattle.command.specs.declared.refusal.Refusal.{Refusal}
+use Rattle.command.specs.declared.refusal.Refusal.TheVariants as refusals
 use Rattle.stored_json.specs.declared.fault.CodecFault.{CodecFault}
 use Rattle.stored_json.specs.declared.fault.CodecFault.TheVariants.{BadCsv}
+use Rattle.codec.specs.RefusalText.{refusal_json_text}
 use Rattle.codec.specs.Requests.{read_request}
 use Rattle.codec.specs.Schedule.{IsAtFault, IsSchedule}
 use Rattle.roster.specs.Folds as folds
-use Rattle.roster.specs.Folds.{Fold, Replies, import}
+use Rattle.roster.specs.Folds.{Replies, ReplyOrRefusal, import}
 use Rattle.roster.specs.Honest.{Honest}
 use Rattle.roster.specs.State.{State}
 use Rattle.roster.specs.Steps.{step_of}
 use Rattle.state_rows.specs.declared.fault.StoreFault.{StoreFault}
 use Rattle.state_rows.specs.declared.fault.StoreFault.TheVariants as fault
-use Rattle.writing.specs.Kept.{IsBookOf, KeepOthers}
-use Rattle.writing.specs.Outcomes.{CrashAddsNothing, CrashAddsOnly, CrashLeaves, StaysOpen, StillShows}
+use Rattle.writing.specs.Kept.{IsBookOf}
+use Rattle.writing.specs.Outcomes.{CrashLeaves}
+use Rattle.book.specs.Answered.{IsAnswered}
 use Rattle.book.specs.Calls.{IsAfterCalls}
 use Rattle.book.specs.Kept as kept
-use Rattle.book.specs.Kept.{Ends, HasTables, IsDurablyAt, IsClean, IsInDoubt, Kept, StillHasTables, result_of}
+use Rattle.book.specs.Kept.{HasTables, IsDurablyAt, IsClean, IsInDoubt, Kept, StillHasTables, result_of}
+use Rattle.book.proofs.States.{one_of_either}
 use Rattle.store.specs.Shown.{IsShown}
 use Rattle.book.specs.declared.answer.Answer as book
 use Rattle.store.specs.declared.show.Show.{Show}
+use Rattle.store.specs.declared.show.Show.TheVariants as show
+use Rattle.asking.specs.Answers.{IsOrMemory, Reports, ReportsUnread, answer_json, answer_kind, refusal_kind}
+use Rattle.asking.specs.Reports.{HasShown, IsReportAsked, ReportsShown}
+use Rattle.asking.specs.Requests.{IsDoneAsRead, IsRequestAsked, Request}
+use Rattle.asking.specs.declared.answers.AskFault.{AskFault}
+use Rattle.asking.specs.declared.answers.AskFault.TheVariants as ask
+use Rattle.asking.specs.declared.answers.JsonAnswer.{JsonAnswer}
+use Rattle.asking.specs.declared.reports.Shown.{Shown}
+use Rattle.asking.specs.declared.reports.Shown.TheVariants.{Text, NoSuchCrew, NoSuchPairing}
 use Rattle.http_message.specs.Plan.{Subject, crew, pairing, exceedances}
 use Rattle.http_message.specs.declared.plan.Submission.TheVariants.{Command, Import}
 use Rattle.http_exchange.specs.Handler as http
@@ -32,17 +48,13 @@ use Rattle.http_exchange.specs.Handler.{StatusText, submit}
 use Rattle.http_exchange.specs.declared.handler.HandlerFault.{HandlerFault}
 use Rattle.http_exchange.specs.declared.handler.HandlerFault.TheVariants.{Store, Memory}
 use Rattle.web.specs.Acts.{Commands, IsReport, command_of, show_of}
-use Rattle.web.specs.Answers.{TellsAnswer, command_answer, fault_answer, parts_answer}
-use Rattle.web.specs.Handling.{AreAdded, AreToldAs, IsCommandAsked, IsAskedIn, IsHandled, HoldsWhateverIsAsked, IsLeftByCommands, IsReportOf, IsReportToldAs, IsToldAs, answers_store_fault}
+use Rattle.web.specs.Answers.{IsInJson, IsResponseToReport, TellsAnswer, answer_status, command_answer, fault_answer, handler_fault_of, json, parts_answer, refusal_status, report_answer, response_to_command, status_of_kind}
+use Rattle.web.specs.Handling.{HoldsWhateverIsAsked, IsHandled, IsLeftByCommands, answers_store_fault}
 use Rattle.web.specs.Serving.{StillMeans}
 
 pub or_false : (b : Bool) → b ≡ (b || false)
 or_false true = refl
 or_false false = refl
-
-length-replies : (s : State) (l : Commands) → length (Replies s l) ≡ length l
-length-replies s [] = refl
-length-replies s (a ∷ l) = ap suc (length-replies (folds.next s a) l)
 
 -- ---- what is as it was
 
@@ -76,9 +88,6 @@ module _ {S : Type 0} (g : Ghosts S) (book : Kept S) where
   pub no_memory : (asked : http.HandlerRequest) → IsHandled g book book asked (Err Memory)
   no_memory asked = record { kept = unasked_kept (Err Memory) refl; shut = λ _. tt; done = λ s at. inl refl }
 
-  pub none_added : (number : ℕ) (plans : List Plan) → AreAdded g book book number plans (Err Memory)
-  none_added number plans = record { kept = unasked_kept (Err Memory) refl; shut = λ _. tt; done = λ s at. (0, at, λ has. still_means g book book s has) }
-
   -- a body that isn't read asks nothing
   pub command_unread : (body : List ℕ) (fault : CodecFault) (told : Result StatusText HandlerFault) → read_request body ≡ Err fault → TellsAnswer (fault_answer fault) told
       → IsHandled g book book (submit Command body) told
@@ -103,55 +112,162 @@ module _ {S : Type 0} (g : Ghosts S) (book : Kept S) where
   schedule_unread number body fault line (Err Store) is at_fault tells = absurd tells
   schedule_unread number body fault line (Err Memory) is at_fault tells = no_memory (submit (Import number) body)
 
+-- ---- what is told of an answer
+
+-- an answer to a command is told, or its fault
+abbrev pub IsToldAs : Result book.Answer StoreFault → Result StatusText HandlerFault → Type 0
+IsToldAs (Ok answer) told = TellsAnswer (command_answer (result_of answer)) told
+IsToldAs (Err fault) told = told ≡ Err (handler_fault_of (ask.Book fault))
+
+kind_of_refusal : (r : Refusal) → status_of_kind (refusal_kind r) ≡ refusal_status r
+kind_of_refusal refusals.NumberUsed = refl
+kind_of_refusal refusals.NoSuchCrew = refl
+kind_of_refusal refusals.CrewExists = refl
+kind_of_refusal refusals.NoSuchPairing = refl
+kind_of_refusal refusals.PairingExists = refl
+kind_of_refusal refusals.SeatTaken = refl
+kind_of_refusal refusals.WrongSeat = refl
+kind_of_refusal refusals.NotAssigned = refl
+kind_of_refusal refusals.PairingCrewed = refl
+kind_of_refusal refusals.Flown = refl
+kind_of_refusal refusals.Overlap = refl
+kind_of_refusal (refusals.Limits broken) = refl
+kind_of_refusal refusals.NoSuchDuty = refl
+kind_of_refusal refusals.GroundExists = refl
+kind_of_refusal refusals.NoSuchGround = refl
+kind_of_refusal (refusals.SegmentCount period) = refl
+kind_of_refusal refusals.NoSuchBase = refl
+kind_of_refusal refusals.BaseExists = refl
+kind_of_refusal refusals.OutsideTaken = refl
+
+status_of : (a : ReplyOrRefusal) → status_of_kind (answer_kind a) ≡ answer_status a
+status_of (Ok reply) = refl
+status_of (Err refusal) = kind_of_refusal refusal
+
+told_answer : (a : ReplyOrRefusal) (r : Result JsonAnswer AskFault) → IsOrMemory (answer_kind a) (answer_json a) r → TellsAnswer (command_answer a) (response_to_command r)
+told_answer a (Ok j) is =
+    ap (λ k. json (status_of_kind k) (string_bytes j.text)) is.0
+    ∙ ap (λ t. json (status_of_kind (answer_kind a)) t) is.1
+    ∙ ap (λ n. json n (answer_json a)) (status_of a)
+told_answer a (Err f) is = subst (λ (f : AskFault). TellsAnswer (command_answer a) (Err (handler_fault_of f))) (sym is) tt
+
+told_unread : (fault : CodecFault) (r : Result JsonAnswer AskFault) → ReportsUnread fault r → TellsAnswer (fault_answer fault) (response_to_command r)
+told_unread fault (Ok j) is = ap (λ k. json (status_of_kind k) (string_bytes j.text)) is.0 ∙ ap (λ t. json 422 t) is.1
+told_unread fault (Err f) is = subst (λ (f : AskFault). TellsAnswer (fault_answer fault) (Err (handler_fault_of f))) (sym is) tt
+
+told_as : (a : Result book.Answer StoreFault) (r : Result JsonAnswer AskFault) → Reports a r → IsToldAs a (response_to_command r)
+told_as (Ok answer) r is = told_answer (result_of answer) r is
+told_as (Err fault) r is = ap response_to_command is
+
+-- a text in JSON is told, or there is none
+pub tells_text : (status : ℕ) (r : Result (String Global) MemoryFault) (text : List ℕ) (told : Result StatusText HandlerFault) → IfOk r (λ t. string_bytes t ≡ text) → IsInJson status r told
+    → TellsAnswer (json status text) told
+tells_text status (Ok t) text told is tells = subst (TellsAnswer (json status text)) (sym tells) (ap (json status) is)
+tells_text status (Err f) text told is tells = subst (TellsAnswer (json status text)) (sym tells) tt
+
+-- ---- what is told of a report
+
+-- what a book shows, and the response
+abbrev IsReportOf : Show → Option (List ℕ) → StatusText → Type 0
+IsReportOf what (Some text) answer = answer ≡ report_answer text
+IsReportOf (show.Crew who) None answer = answer ≡ json 404 (refusal_json_text refusals.NoSuchCrew)
+IsReportOf (show.Pairing id) None answer = answer ≡ json 404 (refusal_json_text refusals.NoSuchPairing)
+IsReportOf show.Exceedances None answer = ⊥
+
+-- the report of a roster was told, if there was memory for it
+abbrev IsReported : State → Show → Result StatusText HandlerFault → Type 0
+IsReported s what (Ok answer) = (shown : Option (List ℕ)) × IsShown s what shown × IsReportOf what shown answer
+IsReported s what (Err Store) = ⊥
+IsReported s what (Err Memory) = ⊤
+
+-- what a book shows, or its fault
+abbrev IsReportToldAs : Result State StoreFault → Show → Result StatusText HandlerFault → Type 0
+IsReportToldAs (Ok roster) what told = IsReported roster what told
+IsReportToldAs (Err fault) what told = told ≡ Err (handler_fault_of (ask.Book fault))
+
+report_told : (what : Show) (shown : Result State StoreFault) (r : Result Shown AskFault) (told : Result StatusText HandlerFault) → ReportsShown shown what r → IsResponseToReport r told
+    → IsReportToldAs shown what told
+report_told what (Err fault) r told is tells = subst (λ (r : Result Shown AskFault). IsResponseToReport r told) is tells
+report_told what (Ok roster) (Ok (Text text)) told is tells = subst (IsReported roster what) (sym tells) (Some (string_bytes text), is, refl)
+report_told what (Ok roster) (Ok NoSuchCrew) (Ok answer) is tells = (None, is.0, subst (λ (w : Show). IsReportOf w None answer) (sym is.1.1) tells)
+report_told what (Ok roster) (Ok NoSuchCrew) (Err Store) is tells = tells
+report_told what (Ok roster) (Ok NoSuchCrew) (Err Memory) is tells = tt
+report_told what (Ok roster) (Ok NoSuchPairing) (Ok answer) is tells = (None, is.0, subst (λ (w : Show). IsReportOf w None answer) (sym is.1.1) tells)
+report_told what (Ok roster) (Ok NoSuchPairing) (Err Store) is tells = tells
+report_told what (Ok roster) (Ok NoSuchPairing) (Err Memory) is tells = tt
+report_told what (Ok roster) (Err f) told is tells =
+    subst (IsReported roster what) (sym (tells ∙ ap (λ (f : AskFault). Err (handler_fault_of f)) is)) tt
+
+-- ---- what was asked of a book
+
+-- there is no answer
+abbrev pub IsUnanswered : Result StatusText HandlerFault → Type 0
+IsUnanswered (Ok answer) = ⊥
+IsUnanswered (Err fault) = ⊤
+
+pub none_answered : {A P : Type 0} (a : A) → ◌≡◌ {A = Result A StoreFault} (Ok a) (Err fault.Store) → P
+none_answered a is = absurd cc
+
+module _ {S : Type 0} (g : Ghosts S) (old new : Kept S) where
+  -- a command was asked
+  abbrev IsAskedIn : State → folds.Asked → Result StatusText HandlerFault → Type 0
+  IsAskedIn s asked (Ok answer) =
+      (IsClean g new → answer ≡ command_answer (folds.answer_of (step_of s asked.0 asked.1)))
+      × (IsDurablyAt g new (folds.next s asked) × (HasTables g old s → HasTables g new (folds.next s asked)))
+  IsAskedIn s asked (Err Store) = IsInDoubt g new s (folds.next s asked)
+  IsAskedIn s asked (Err Memory) =
+      (IsDurablyAt g new s × (HasTables g old s → StillMeans g old new s))
+      ⊎ (IsDurablyAt g new (folds.next s asked) × (HasTables g old s → StillMeans g old new (folds.next s asked)))
+
+  -- a command was asked, in whichever state the book was; with what is said whatever is asked
+  record IsCommandAsked (asked : folds.Asked) (result : Result StatusText HandlerFault) : Type 0 where
+    kept : HoldsWhateverIsAsked g old new result
+    shut : IsTrue old.failed → IsUnanswered result
+    done : (s : State) → IsDurablyAt g old s → IsAskedIn s asked result
+
+  -- these pairings were added
+  abbrev pub AreAddedIn : State → Commands → Result StatusText HandlerFault → Type 0
+  AreAddedIn s commands (Ok answer) = (IsClean g new → answer ≡ parts_answer (Replies s commands)) × IsLeftByCommands g old new s commands (Ok answer)
+  AreAddedIn s commands (Err fault) = IsLeftByCommands g old new s commands (Err fault)
+
+  -- pairings were added, in whichever state the book was; with what is said whatever is asked
+  pub record AreAdded (number : ℕ) (plans : List Plan) (result : Result StatusText HandlerFault) : Type 0 where
+    pub kept : HoldsWhateverIsAsked g old new result
+    pub shut : IsTrue old.failed → IsUnanswered result
+    pub done : (s : State) → IsDurablyAt g old s → AreAddedIn s (import number plans) result
+
 module _ {S : Type 0} (g : Ghosts S) (old new : Kept S) where
   -- ---- commands
 
-  none_answered : {A P : Type 0} (a : A) → ◌≡◌ {A = Result A StoreFault} (Ok a) (Err fault.Store) → P
-  none_answered a is = absurd cc
-
-  pub asked_by : (asked : folds.Asked) (r : Result book.Answer StoreFault) (told : Result StatusText HandlerFault) → IsToldAs r told
-      → new.failed ≡ (old.failed || kept.is_store_fault r)
-      → (IsTrue old.failed → (r ≡ Err fault.Store) × (new ≡ old))
-      → (IsClean g new → IsClean g old)
-      → ((s : State) → IsDurablyAt g old s → IsClean g new → IfOk r (λ a. result_of a ≡ folds.answer_of (step_of s asked.0 asked.1)))
-      → ((s : State) → IsDurablyAt g old s → OnOk r (IsDurablyAt g new (folds.next s asked)))
-      → ((s : State) → IsDurablyAt g old s → HasTables g old s → OnOk r (HasTables g new (folds.next s asked)))
-      → ((s : State) → IsDurablyAt g old s → r ≡ Err fault.Memory → IsDurablyAt g new s)
-      → ((s : State) → IsDurablyAt g old s → r ≡ Err fault.Store → IsInDoubt g new s (folds.next s asked))
-      → ((s : State) → IsDurablyAt g old s → HasTables g old s → OnErr r (StillHasTables g new s))
-      → ((s : State) → IsDurablyAt g old s → Honest s → CrashLeaves (state g new.held) Honest)
-      → CrashAddsOnly (state g old.held) (state g new.held) (KeepOthers (state g old.held).now)
-      → (r ≡ Err fault.Memory → StaysOpen (state g old.held) (state g new.held))
-      → IsAfterCalls g old new
-      → IsCommandAsked g old new asked told
-  asked_by asked (Ok a) (Ok answer) tells failed shut clean reply answered tables memory store shown honest others opened calls = record {
-    kept = record { failed = failed; shut = λ f. (shut f).1; disk = clean; honest = honest; others_left = others; calls = calls };
-    shut = λ f. none_answered a (shut f).0;
-    done = λ s at. ((λ c. tells ∙ ap command_answer (reply s at c)), (answered s at, λ t. tables s at t));
+  asked_by : (asked : folds.Asked) (r : Result book.Answer StoreFault) (told : Result StatusText HandlerFault) → IsToldAs r told
+      → IsAnswered g old new asked r → IsAfterCalls g old new → IsCommandAsked g old new asked told
+  asked_by asked (Ok a) (Ok answer) tells it calls = record {
+    kept = record { failed = it.failed; shut = λ f. (it.shut f).1; disk = it.disk; honest = it.honest; others_left = it.others_left; calls = calls };
+    shut = λ f. none_answered a (it.shut f).0;
+    done = λ s at. ((λ c. tells ∙ ap command_answer (it.reply s at c)), (it.answered s at, λ t. it.shown s at t));
   }
-  asked_by asked (Ok a) (Err Store) tells failed shut clean reply answered tables memory store shown honest others opened calls = absurd tells
-  asked_by asked (Ok a) (Err Memory) tells failed shut clean reply answered tables memory store shown honest others opened calls = record {
-    kept = record { failed = failed; shut = λ f. (shut f).1; disk = clean; honest = honest; others_left = others; calls = calls };
+  asked_by asked (Ok a) (Err Store) tells it calls = absurd tells
+  asked_by asked (Ok a) (Err Memory) tells it calls = record {
+    kept = record { failed = it.failed; shut = λ f. (it.shut f).1; disk = it.disk; honest = it.honest; others_left = it.others_left; calls = calls };
     shut = λ _. tt;
-    done = λ s at. inr (answered s at, λ t. still_means g old new (folds.next s asked) (tables s at t));
+    done = λ s at. inr (it.answered s at, λ t. still_means g old new (folds.next s asked) (it.shown s at t));
   }
-  asked_by asked (Err fault.Store) told tells failed shut clean reply answered tables memory store shown honest others opened calls =
+  asked_by asked (Err fault.Store) told tells it calls =
       subst (IsCommandAsked g old new asked) (sym tells) (record {
-        kept = record { failed = failed; shut = λ f. (shut f).1; disk = clean; honest = honest; others_left = others; calls = calls };
+        kept = record { failed = it.failed; shut = λ f. (it.shut f).1; disk = it.disk; honest = it.honest; others_left = it.others_left; calls = calls };
         shut = λ _. tt;
-        done = λ s at. store s at refl;
+        done = λ s at. it.store s at refl;
       })
-  asked_by asked (Err fault.Memory) told tells failed shut clean reply answered tables memory store shown honest others opened calls =
+  asked_by asked (Err fault.Memory) told tells it calls =
       subst (IsCommandAsked g old new asked) (sym tells) (record {
-        kept = record { failed = failed; shut = λ f. (shut f).1; disk = clean; honest = honest; others_left = others; calls = calls };
+        kept = record { failed = it.failed; shut = λ f. (it.shut f).1; disk = it.disk; honest = it.honest; others_left = it.others_left; calls = calls };
         shut = λ _. tt;
-        done = λ s at. inl (memory s at refl, λ t. (shown s at t, opened refl));
+        done = λ s at. inl (it.memory s at refl, λ t. (it.still_shown s at t, it.still_open refl));
       })
 
-  pub command_read : (body : List ℕ) (number : ℕ) (instruction : Instruction) (key : KeyParts) (told : Result StatusText HandlerFault) → read_request body ≡ Ok (number, instruction)
-      → key ≡ record { number = number; part = 0 } → IsCommandAsked g old new (key, instruction) told → IsHandled g old new (submit Command body) told
-  command_read body number instruction key told is under it =
-      go told (subst (λ k. IsCommandAsked g old new (k, instruction) told) under it)
+  command_read : (body : List ℕ) (number : ℕ) (instruction : Instruction) (told : Result StatusText HandlerFault) → read_request body ≡ Ok (number, instruction)
+      → IsCommandAsked g old new (command_of (number, instruction)) told → IsHandled g old new (submit Command body) told
+  command_read body number instruction told is it = go told it
     where
       go : (told : Result StatusText HandlerFault) → IsCommandAsked g old new (command_of (number, instruction)) told → IsHandled g old new (submit Command body) told
       go (Ok answer) asked = record { kept = asked.kept; shut = λ f. absurd (asked.shut f); done = λ s at. let did = asked.done s at in rw is (did.0, (command_of (number, instruction) ∷ [], refl, did.1)) }
@@ -162,62 +278,22 @@ module _ {S : Type 0} (g : Ghosts S) (old new : Kept S) where
           begun s (inl (at, shown)) = (0, at, shown)
           begun s (inr (at, shown)) = (1, at, shown)
 
-  -- ---- imports
+  pub request_handled : (body : List ℕ) (r : Result JsonAnswer AskFault) → IsRequestAsked g old new body r → IsAfterCalls g old new
+      → IsHandled g old new (submit Command body) (response_to_command r)
+  request_handled body r (inr (same, is)) calls =
+      subst (λ (r : Result JsonAnswer AskFault). IsHandled g old new (submit Command body) (response_to_command r)) (sym is)
+      (subst (λ (b : Kept S). IsHandled g old b (submit Command body) (Err Memory)) (sym same) (no_memory g old (submit Command body)))
+  request_handled body r (inl done) calls = go (read_request body) refl done
+    where
+      go : (read : Request) → read_request body ≡ read → IsDoneAsRead g old new read r → IsHandled g old new (submit Command body) (response_to_command r)
+      go (Ok (number, instruction)) is asked =
+          command_read body number instruction (response_to_command r) is
+          (asked_by (command_of (number, instruction)) asked.answer (response_to_command r) (told_as asked.answer r asked.reported) asked.answered calls)
+      go (Err fault) is (same, unread) =
+          subst (λ (b : Kept S). IsHandled g old b (submit Command body) (response_to_command r)) (sym same)
+          (command_unread g old body fault (response_to_command r) is (told_unread fault r unread))
 
-  pub added_by : (number : ℕ) (plans : List Plan) (commands : Commands) (answers : List book.Answer) (f : Option StoreFault) (told : Result StatusText HandlerFault)
-      → commands ≡ import number plans → AreToldAs answers f told
-      → new.failed ≡ (old.failed || kept.is_some_store_fault f)
-      → (IsTrue old.failed → (f ≡ Some fault.Store) × (answers ≡ []) × (new ≡ old))
-      → (IsClean g new → IsClean g old)
-      → (f ≡ None → length answers ≡ length commands)
-      → ((s : State) → IsDurablyAt g old s → IsClean g new → map result_of answers ≡ take (length answers) (Replies s commands))
-      → ((s : State) → IsDurablyAt g old s → Ends (state g new.held) s commands (length answers) f)
-      → ((s : State) → IsDurablyAt g old s → HasTables g old s → f ≡ None → HasTables g new (Fold s commands))
-      → ((s : State) → IsDurablyAt g old s → HasTables g old s → IsSome f → StillHasTables g new (Fold s (take (length answers) commands)))
-      → ((s : State) → IsDurablyAt g old s → Honest s → CrashLeaves (state g new.held) Honest)
-      → CrashAddsOnly (state g old.held) (state g new.held) (KeepOthers (state g old.held).now)
-      → (f ≡ Some fault.Memory → StaysOpen (state g old.held) (state g new.held))
-      → IsAfterCalls g old new
-      → AreAdded g old new number plans told
-  added_by number plans commands answers None (Ok answer) is tells failed shut clean whole replies ends tables shown honest others opened calls =
-      let every = whole refl in
-      record {
-        kept = record { failed = failed; shut = λ f. (shut f).2; disk = clean; honest = honest; others_left = others; calls = calls };
-        shut = λ f. let never : None ≡ Some fault.Store = (shut f).0 in absurd cc;
-        done = λ s at.
-            let all : take (length answers) (Replies s commands) ≡ Replies s commands = take_all (length answers) (Replies s commands) (omega (arith, every, length-replies s commands)) in (
-              (λ c. tells ∙ ap parts_answer (replies s at c ∙ all ∙ ap (Replies s) is)),
-              (subst (λ l. IsDurablyAt g new (Fold s l)) is (ends s at), λ t. subst (λ l. HasTables g new (Fold s l)) is (tables s at t refl)),
-            );
-      }
-  added_by number plans commands answers None (Err Store) is tells failed shut clean whole replies ends tables shown honest others opened calls = absurd tells
-  added_by number plans commands answers None (Err Memory) is tells failed shut clean whole replies ends tables shown honest others opened calls = record {
-    kept = record { failed = failed; shut = λ f. (shut f).2; disk = clean; honest = honest; others_left = others; calls = calls };
-    shut = λ _. tt;
-    done = λ s at.
-        let all : take (length commands) commands ≡ commands = take_all (length commands) commands (omega arith) in (
-          length commands,
-          subst (λ l. IsDurablyAt g new (Fold s (take (length commands) l))) is (subst (λ l. IsDurablyAt g new (Fold s l)) (sym all) (ends s at)),
-          λ t. subst (λ l. StillMeans g old new (Fold s (take (length commands) l))) is
-              (subst (λ l. StillMeans g old new (Fold s l)) (sym all) (still_means g old new (Fold s commands) (tables s at t refl))),
-        );
-  }
-  added_by number plans commands answers (Some fault.Store) told is tells failed shut clean whole replies ends tables shown honest others opened calls =
-      subst (AreAdded g old new number plans) (sym tells) (record {
-        kept = record { failed = failed; shut = λ f. (shut f).2; disk = clean; honest = honest; others_left = others; calls = calls };
-        shut = λ _. tt;
-        done = λ s at. (length answers, subst (λ l. IsInDoubt g new (Fold s (take (length answers) l)) (Fold s (take (length answers + 1) l))) is (ends s at));
-      })
-  added_by number plans commands answers (Some fault.Memory) told is tells failed shut clean whole replies ends tables shown honest others opened calls =
-      subst (AreAdded g old new number plans) (sym tells) (record {
-        kept = record { failed = failed; shut = λ f. (shut f).2; disk = clean; honest = honest; others_left = others; calls = calls };
-        shut = λ _. tt;
-        done = λ s at. (
-          length answers,
-          subst (λ l. IsDurablyAt g new (Fold s (take (length answers) l))) is (ends s at),
-          λ t. subst (λ l. StillMeans g old new (Fold s (take (length answers) l))) is (shown s at t refl, opened refl),
-        );
-      })
+  -- ---- imports
 
   pub schedule_read : (number : ℕ) (body : List ℕ) (plans : List Plan) (told : Result StatusText HandlerFault) → IsSchedule body plans → AreAdded g old new number plans told
       → IsHandled g old new (submit (Import number) body) told
@@ -237,68 +313,54 @@ module _ {S : Type 0} (g : Ghosts S) (old new : Kept S) where
   is_report (pairing id) None answer is = is
   is_report exceedances None answer is = is
 
-  pub reported_by : (about : Subject) (what : Show) (r : Result State StoreFault) (told : Result StatusText HandlerFault) → what ≡ show_of about → IsReportToldAs r what told
-      → new.failed ≡ (old.failed || kept.is_store_fault r)
-      → (IsTrue old.failed → (r ≡ Err fault.Store) × (new ≡ old))
-      → (IsClean g new → IsClean g old)
-      → ((s : State) → IsDurablyAt g old s → IsClean g new → IfOk r (λ roster. (shown : Option (List ℕ)) → IsShown roster what shown ↔ IsShown s what shown))
-      → ((s : State) → IsDurablyAt g old s → IsDurablyAt g new s)
-      → ((s : State) → IsDurablyAt g old s → HasTables g old s → OnOk r (HasTables g new s))
-      → StillShows (state g old.held) (state g new.held)
-      → CrashAddsNothing (state g old.held) (state g new.held)
-      → (r ≡ Err fault.Memory → StaysOpen (state g old.held) (state g new.held))
-      → IsAfterCalls g old new
-      → IsHandled g old new (http.show about) told
-  reported_by about what r told is tells failed shut clean text same tables shown left opened calls =
-      go r told (subst (λ w. IsReportToldAs r w told) is tells) failed shut
-      (λ s at c. subst (λ w. IfOk r (λ roster. (shown : Option (List ℕ)) → IsShown roster w shown ↔ IsShown s w shown)) is (text s at c)) tables opened
-    where
-      kept_so : (told : Result StatusText HandlerFault) → new.failed ≡ (old.failed || answers_store_fault told) → (IsTrue old.failed → new ≡ old) → HoldsWhateverIsAsked g old new told
-      kept_so told failed shut = record {
-        failed = failed;
-        shut = shut;
-        disk = clean;
-        honest = λ s at honest. still_honest g new s (same s at) honest;
-        others_left = record { crash = λ c trees may. inl (left.crash c trees may) };
+  module _ (about : Subject) (calls : IsAfterCalls g old new) where
+    module _ (r : Result State StoreFault) (it : HasShown g old new (show_of about) r) where
+      kept_so : (told : Result StatusText HandlerFault) → answers_store_fault told ≡ kept.is_store_fault r → HoldsWhateverIsAsked g old new told
+      kept_so told same = record {
+        failed = it.call.failed ∙ ap (λ b. old.failed || b) (sym same);
+        shut = λ f. (it.call.shut f).1;
+        disk = it.call.unchanged.nothing_new.disk;
+        honest = λ s at honest. still_honest g new s (it.call.kept s at) honest;
+        others_left = record { crash = λ c trees may. inl (it.call.unchanged.nothing_new.crash c trees may) };
         calls = calls;
       }
 
       shows : (s : State) → HasTables g old s → StillHasTables g new s
-      shows s has = λ c is_open. let it = shown c is_open in subst (IsBookOf s) (sym it.1) (has (clean c)).1
+      shows s has = λ c is_open.
+          let now = it.call.unchanged.still_shown c is_open in
+          subst (IsBookOf s) (sym now.1) (has (it.call.unchanged.nothing_new.disk c)).1
 
-      in_doubt : (s : State) → IsDurablyAt g new s → IsInDoubt g new s s
-      in_doubt s at = record {
-        crash = λ c trees may.
-            let it = at.leaves.crash c trees may in
-            (it.0, (inl it.1, subst kept.IsKept (sym it.1) (at.kept c)), it.2);
-      }
+    reported_by : (r : Result State StoreFault) (told : Result StatusText HandlerFault) → IsReportToldAs r (show_of about) told
+        → HasShown g old new (show_of about) r → IsHandled g old new (http.show about) told
+    reported_by (Ok roster) (Ok answer) tells it = record {
+      kept = kept_so (Ok roster) it (Ok answer) refl;
+      shut = λ f. none_answered roster (it.call.shut f).0;
+      done = λ s at. (
+        (λ c. (tells.0, (it.text s at c tells.0).0 tells.1, is_report about tells.0 answer tells.2)),
+        ([], refl, (it.call.kept s at, λ t. it.tables s at t)),
+      );
+    }
+    reported_by (Ok roster) (Err Store) tells it = absurd tells
+    reported_by (Ok roster) (Err Memory) tells it = record {
+      kept = kept_so (Ok roster) it (Err Memory) refl;
+      shut = λ _. tt;
+      done = λ s at. inr ([], refl, (0, it.call.kept s at, λ t. still_means g old new s (it.tables s at t)));
+    }
+    reported_by (Err fault.Store) told tells it = subst (IsHandled g old new (http.show about)) (sym tells) (record {
+      kept = kept_so (Err fault.Store) it (Err Store) refl;
+      shut = λ _. tt;
+      done = λ s at. ([], refl, (0, one_of_either (state g new.held) s s (it.call.kept s at)));
+    })
+    reported_by (Err fault.Memory) told tells it = subst (IsHandled g old new (http.show about)) (sym tells) (record {
+      kept = kept_so (Err fault.Memory) it (Err Memory) refl;
+      shut = λ _. tt;
+      done = λ s at. inr ([], refl, (0, it.call.kept s at, λ t. (shows (Err fault.Memory) it s t, it.call.unchanged.still_open)));
+    })
 
-      go : (r : Result State StoreFault) (told : Result StatusText HandlerFault) → IsReportToldAs r (show_of about) told → new.failed ≡ (old.failed || kept.is_store_fault r)
-          → (IsTrue old.failed → (r ≡ Err fault.Store) × (new ≡ old))
-          → ((s : State) → IsDurablyAt g old s → IsClean g new → IfOk r (λ roster. (shown : Option (List ℕ)) → IsShown roster (show_of about) shown ↔ IsShown s (show_of about) shown))
-          → ((s : State) → IsDurablyAt g old s → HasTables g old s → OnOk r (HasTables g new s))
-          → (r ≡ Err fault.Memory → StaysOpen (state g old.held) (state g new.held)) → IsHandled g old new (http.show about) told
-      go (Ok roster) (Ok answer) it failed shut text tables opened = record {
-        kept = kept_so (Ok answer) failed (λ f. (shut f).1);
-        shut = λ f. none_answered roster (shut f).0;
-        done = λ s at. (
-          (λ c. (it.0, (text s at c it.0).0 it.1, is_report about it.0 answer it.2)),
-          ([], refl, (same s at, λ t. tables s at t)),
-        );
-      }
-      go (Ok roster) (Err Store) it failed shut text tables opened = absurd it
-      go (Ok roster) (Err Memory) it failed shut text tables opened = record {
-        kept = kept_so (Err Memory) failed (λ f. (shut f).1);
-        shut = λ _. tt;
-        done = λ s at. inr ([], refl, (0, same s at, λ t. still_means g old new s (tables s at t)));
-      }
-      go (Err fault.Store) told it failed shut text tables opened = subst (IsHandled g old new (http.show about)) (sym it) (record {
-        kept = kept_so (Err Store) failed (λ f. (shut f).1);
-        shut = λ _. tt;
-        done = λ s at. ([], refl, (0, in_doubt s (same s at)));
-      })
-      go (Err fault.Memory) told it failed shut text tables opened = subst (IsHandled g old new (http.show about)) (sym it) (record {
-        kept = kept_so (Err Memory) failed (λ f. (shut f).1);
-        shut = λ _. tt;
-        done = λ s at. inr ([], refl, (0, same s at, λ t. (shows s t, opened refl)));
-      })
+    pub report_handled : (r : Result Shown AskFault) (told : Result StatusText HandlerFault) → IsReportAsked g old new (show_of about) r → IsResponseToReport r told
+        → IsHandled g old new (http.show about) told
+    report_handled r told (inl asked) tells = reported_by asked.shown told (report_told (show_of about) asked.shown r told asked.reported tells) asked.has_shown
+    report_handled r told (inr (same, is)) tells =
+        let memory : told ≡ Err Memory = subst (λ (r : Result Shown AskFault). IsResponseToReport r told) is tells in
+        subst (λ (b : Kept S). IsHandled g old b (http.show about) told) (sym same)
+        (subst (IsHandled g old old (http.show about)) (sym memory) (no_memory g old (http.show about)))

@@ -1,7 +1,6 @@
 pub mod Handled
+pub mod PartsAsked
 pub mod Exchanged
-pub mod Importing
-pub mod Listing
 mod EachResponse
 mod OneResponse
 pub mod Untaken

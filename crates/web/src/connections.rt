@@ -64,37 +64,25 @@ pub fn serve_one<S: Alter>(
     let Ok((stream, _peer)) = listener.accept() else {
         return Err(ServeFault::Network);
     };
-    let served = respond(alloc, &stream, book)?;
+    limit_waits(&stream)?;
+    let (mut reader, mut writer) = (reader_of(alloc, &stream), &stream);
+    let Ok(served) = exchange(alloc, &mut reader, &mut writer, book) else {
+        return Err(ServeFault::Channel);
+    };
     // (the client has its response by then: how the connection ends changes nothing for it)
     let _ = end(&stream);
     Ok(served)
 }
 
-/// Has a book answer the request of a connection.
-#[tactic(auto, using(crate::proofs::Untaken::none_served))]
-fn respond<S: Alter>(
-    alloc: Global,
-    stream: &TcpStream,
-    book: &mut Book<S>,
-) -> Result<Served, ServeFault>
-    ensures once { IsServedOnce S.Store book.old book.new }
-    ensures failed { IfErr result (λ fault. fault ≡ ServeFault.Channel) }
+/// Has reads and writes of a connection fail that wait too long.
+fn limit_waits(stream: &TcpStream) -> Result<(), ServeFault>
+    ensures { IfErr result (λ fault. fault ≡ ServeFault.Channel) }
 {
-    if limit_waits(stream).is_err() {
+    let limit = Some(Duration::from_secs(SECONDS_TO_WAIT));
+    if stream.set_read_timeout(limit).is_err() || stream.set_write_timeout(limit).is_err() {
         return Err(ServeFault::Channel);
     }
-    let (mut reader, mut writer) = (reader_of(alloc, stream), stream);
-    match exchange(alloc, &mut reader, &mut writer, book) {
-        Ok(served) => Ok(served),
-        Err(_) => Err(ServeFault::Channel),
-    }
-}
-
-/// Has reads and writes of a connection fail that wait too long.
-fn limit_waits(stream: &TcpStream) -> io::Result<()> {
-    let limit = Duration::from_secs(SECONDS_TO_WAIT);
-    stream.set_read_timeout(Some(limit))?;
-    stream.set_write_timeout(Some(limit))
+    Ok(())
 }
 
 /// Makes a reader that asks the system for a buffer of bytes at a time; where there is no memory for one, for each

@@ -8,14 +8,17 @@ ghost use Rattle.writing.specs.Kept.{KeepOthers};
 ghost use Rattle.writing.specs.Outcomes.{CrashAddsOnly, CrashLeaves};
 ghost use Rattle.book.specs.Calls.{IsAfterCalls};
 ghost use Rattle.book.specs.Kept.{IsDurablyAt, IsClean};
+ghost use Rattle.http_message.specs.Plan.{subject};
+ghost use Rattle.asking.specs.Reports as reports;
+ghost use Rattle.web.specs.Acts.{show_of};
 ghost use Rattle.web.specs.Serving as spec;
 
-use crate::commands::answer_command;
+use crate::answers::{answered, shown};
 use crate::imports::answer_schedule;
-use crate::reports::answer_report;
+use asking::{Subject, ask_report, ask_request};
 use book::Book;
 use http_exchange::{ChannelFault, Handler, HandlerFault, Request, Response, Served};
-use http_message::Submission;
+use http_message::{Report, Submission};
 use sqlite::Alter;
 use std::alloc::Global;
 use std::io::{Read, Write};
@@ -35,12 +38,23 @@ impl<S: Alter> Handler<Book<S>> for BookHandler {
         request: &Request<'_>,
     ) -> Result<Response, HandlerFault> {
         match request {
-            Request::Submit(Submission::Command, body) => answer_command(alloc, book, body),
+            Request::Submit(Submission::Command, body) => answered(ask_request(alloc, book, body)),
             Request::Submit(Submission::Import(number), body) => {
                 answer_schedule(alloc, book, *number, body)
             }
-            Request::Show(report) => answer_report(alloc, book, report),
+            Request::Show(report) => shown(alloc, ask_report(alloc, book, subject_of(report))),
         }
+    }
+}
+
+/// Names what a report is asked of.
+fn subject_of<'a>(report: &Report<'a>) -> Subject<'a>
+    ensures { reports.show_of result ≡ show_of (subject report.now) }
+{
+    match report {
+        Report::Crew(id) => Subject::Crew(id),
+        Report::Pairing(id) => Subject::Pairing(id),
+        Report::Exceedances => Subject::Exceedances,
     }
 }
 

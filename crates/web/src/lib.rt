@@ -2,13 +2,11 @@
 #![tactic(auto)]
 
 mod answers;
-mod commands;
 mod connections;
 mod exchanges;
 mod imports;
 pub mod laws;
 mod parts;
-mod reports;
 
 pub use connections::{ServeFault, serve_one};
 pub use exchanges::exchange;

@@ -1,20 +1,39 @@
-use Rattle.std.proofs.Common.{rules, inl, inr}
+use Rattle.std.proofs.Common.{◌∙◌, sym}
 use Rattle.http_message.specs.declared.plan.Submission.TheVariants as submission
 use Rattle.http_exchange.specs.Handler.{answer_or_fault, submit}
-use Rattle.web.proofs.Handled.{no_memory, schedule_read, schedule_unread}
+use Rattle.web.proofs.Handled.{no_memory, tells_text}
+use Rattle.web.proofs.PartsAsked.{added, added_by_failed, not_read, stopped, unheard}
 use Rattle.web.proofs.imports.answer_schedule.Goals as goal
 
-pub returns-in-Ok : goal.returns-in-Ok
-returns-in-Ok g c =
-    schedule_read g.S.Store c.args.book.now c.add_all.new.book c.args.number c.args.body.now c.in-Ok.pairings.items (answer_or_fault c.add_all.result)
-    c.in-Ok.ensures.read c.add_all.ensures
+pub returns-in_default : goal.returns-in_default
+returns-in_default g c = no_memory g.S.Store c.args.book.now (submit (submission.Import c.args.number) c.args.body.now)
 
-pub returns-in-Err-Memory : goal.returns-in-Err-Memory
-returns-in-Err-Memory g c = no_memory g.S.Store c.args.book.now (submit (submission.Import c.args.number) c.args.body.now)
+pub returns-in-Ok-ask_schedule : goal.returns-in-Ok-ask_schedule
+returns-in-Ok-ask_schedule g c =
+    let it = c.in-Ok-ask_schedule.ensures in
+    added_by_failed g.S.Store c.args.book.now c.ask_schedule.new.book it.calls c.in-Ok.parts c.ask_schedule.new.listener c.args.number c.args.body.now
+    (sym c.failed.ensures ∙ c.if-failed.true) it.asked
 
-pub returns-in-Err : goal.returns-in-Err
-returns-in-Err g c =
-    elim c.in-Err.ensures.refused [
-      | inl memory ↦ absurd (search (rules, memory))
-      | inr bad ↦ schedule_unread g.S.Store c.args.book.now c.args.number c.args.body.now c.in-Err.fault bad.0 (answer_or_fault c.told_unread.result) bad.1 bad.2 c.told_unread.ensures
-    ]
+pub returns-in-Ok-2 : goal.returns-in-Ok-2
+returns-in-Ok-2 g c =
+    let it = c.in-Ok-2.ensures in
+    added g.S.Store c.args.book.now c.ask_schedule.new.book it.calls c.in-Ok.parts c.ask_schedule.new.listener c.args.number c.args.body.now
+    c.in-Ok.ensures (sym c.failed.ensures ∙ c.if-failed.false) (answer_or_fault c.in_json.result) (tells_text _ c.end.result _ (answer_or_fault c.in_json.result) c.end.ensures c.in_json.ensures) it.asked
+
+pub returns-in-Err-Unread : goal.returns-in-Err-Unread
+returns-in-Err-Unread g c =
+    let it = c.in-Err-Unread.ensures in
+    not_read g.S.Store c.args.book.now c.ask_schedule.new.book it.calls c.in-Ok.parts c.ask_schedule.new.listener c.args.number c.args.body.now
+    c.in-Err-Unread.fault (answer_or_fault c.unread.result) c.unread.ensures (rw c.in-Err-Unread.field-0-is at it.asked)
+
+pub returns-in-Err-Ask : goal.returns-in-Err-Ask
+returns-in-Err-Ask g c =
+    let it = c.in-Err-Ask.ensures in
+    rw c.fault_of.ensures (stopped g.S.Store c.args.book.now c.ask_schedule.new.book it.calls c.in-Ok.parts c.ask_schedule.new.listener c.args.number c.args.body.now
+    c.in-Err-Ask.fault (rw c.in-Err-Ask.field-0-is at it.asked))
+
+pub returns : goal.returns
+returns g c =
+    let it = c.in-Err-Unheard.ensures in
+    unheard g.S.Store c.args.book.now c.ask_schedule.new.book it.calls c.in-Ok.parts c.ask_schedule.new.listener c.args.number c.args.body.now
+    c.in-Err-Unheard.field-0-0 (rw c.in-Err-Unheard.field-0-is at it.asked)

@@ -1,0 +1,4 @@
+pub mod Answers
+pub mod Requests
+pub mod Reports
+pub mod Schedules

@@ -1,0 +1,75 @@
+-- What becomes of a call for a report: a book shows what it is asked of, and that is reported.
+use Rattle.std.specs.Prelude.{◌≡◌, ◌⊎◌, ◌↔◌, ℕ, List, string_bytes}
+use Rattle.std.specs.Prelude.{Option, Some, None, Result, Ok, Err, IfOk, OnOk, String}
+use Rattle.std.specs.Global.{Global}
+use Rattle.sqlite_trees.specs.declared.store.Store.{Ghosts}
+use Rattle.report.specs.declared.fault.ReportFault.{ReportFault}
+use Rattle.report.specs.declared.fault.ReportFault.TheVariants as report
+use Rattle.roster.specs.State.{State}
+use Rattle.state_rows.specs.declared.fault.StoreFault.{StoreFault}
+use Rattle.store.specs.Shown.{IsShown}
+use Rattle.store.specs.declared.show.Show.{Show}
+use Rattle.store.specs.declared.show.Show.TheVariants as show
+use Rattle.book.specs.Calls.{HasReported}
+use Rattle.book.specs.Kept.{HasTables, IsDurablyAt, IsClean, Kept}
+use Rattle.asking.specs.declared.answers.AskFault.{AskFault}
+use Rattle.asking.specs.declared.answers.AskFault.TheVariants.{Book, Memory}
+use Rattle.asking.specs.declared.reports.Shown.{Shown}
+use Rattle.asking.specs.declared.reports.Shown.TheVariants.{Text, NoSuchCrew, NoSuchPairing}
+use Rattle.asking.specs.declared.reports.Subject.{Subject}
+use Rattle.asking.specs.declared.reports.Subject.TheVariants.{Crew, Pairing, Exceedances}
+
+-- what a book shows for a report
+abbrev pub show_of : Subject → Show
+show_of (Crew id) = show.Crew id.now
+show_of (Pairing id) = show.Pairing id.now
+show_of Exceedances = show.Exceedances
+
+-- what is shown is that of a state: its text, or that the member or the pairing isn't there; or
+-- there is no memory for it
+abbrev pub ShowsOf : State → Show → Result Shown AskFault → Type 0
+ShowsOf s what (Ok (Text text)) = IsShown s what (Some (string_bytes text))
+ShowsOf s what (Ok NoSuchCrew) = IsShown s what None × ((who : List ℕ) × (what ≡ show.Crew who))
+ShowsOf s what (Ok NoSuchPairing) =
+    IsShown s what None × ((id : List ℕ) × (what ≡ show.Pairing id))
+ShowsOf s what (Err fault) = fault ≡ Memory
+
+-- what a book shows is reported, or a fault that it met
+abbrev pub ReportsShown : Result State StoreFault → Show → Result Shown AskFault → Type 0
+ReportsShown (Ok roster) what result = ShowsOf roster what result
+ReportsShown (Err fault) what result = result ≡ Err (Book fault)
+
+module _ {S : Type 0} (g : Ghosts S) (old new : Kept S) (what : Show) where
+  -- a book was asked to show this, and gave this roster or fault, as `Book::show` says: its text is
+  -- that of the state that the tables mean
+  pub record HasShown (shown : Result State StoreFault) : Type 0 where
+    pub call : HasReported g old new shown
+    pub text : (s : State) → IsDurablyAt g old s → IsClean g new →
+        IfOk shown (λ roster. (text : Option (List ℕ)) →
+        IsShown roster what text ↔ IsShown s what text)
+    pub tables : (s : State) → IsDurablyAt g old s → HasTables g old s →
+        OnOk shown (HasTables g new s)
+
+  -- a book was asked to show this, and what it shows is reported
+  pub record IsShowAsked (result : Result Shown AskFault) : Type 0 where
+    pub shown : Result State StoreFault
+    pub has_shown : HasShown shown
+    pub reported : ReportsShown shown what result
+
+  -- a book was asked for a report; or there was no memory to name what it shows, and it was asked
+  -- nothing
+  abbrev pub IsReportAsked : Result Shown AskFault → Type 0
+  IsReportAsked result = IsShowAsked result ⊎ ((new ≡ old) × (result ≡ Err Memory))
+
+-- ---- as the program makes it
+
+-- what is shown, by its text or why there is none
+abbrev pub shown_of : Result (String Global) ReportFault → Result Shown AskFault
+shown_of (Ok text) = Ok (Text text)
+shown_of (Err report.NoSuchCrew) = Ok NoSuchCrew
+shown_of (Err report.NoSuchPairing) = Ok NoSuchPairing
+shown_of (Err report.Memory) = Err Memory
+
+-- a text is that of a state, or there is none for this reason
+abbrev pub IsText : State → Show → Result (String Global) ReportFault → Type 0
+IsText s what text = ShowsOf s what (shown_of text)

@@ -1,0 +1,42 @@
+-- What becomes of a request: its command is asked of a book, and what the book answers is reported.
+use Rattle.std.specs.Prelude.{◌≡◌, ◌⊎◌, ℕ, List, Result, Ok, Err}
+use Rattle.sqlite_trees.specs.declared.store.Store.{Ghosts}
+use Rattle.command.specs.declared.instruction.Instruction.{Instruction}
+use Rattle.stored_json.specs.declared.fault.CodecFault.{CodecFault}
+use Rattle.codec.specs.Requests.{read_request}
+use Rattle.roster.specs.Folds.{Asked}
+use Rattle.state_rows.specs.declared.fault.StoreFault.{StoreFault}
+use Rattle.book.specs.Answered.{IsAnswered}
+use Rattle.book.specs.Kept.{Kept}
+use Rattle.book.specs.declared.answer.Answer.{Answer}
+use Rattle.asking.specs.Answers.{Reports, ReportsUnread}
+use Rattle.asking.specs.declared.answers.AskFault.{AskFault}
+use Rattle.asking.specs.declared.answers.AskFault.TheVariants.{Memory}
+use Rattle.asking.specs.declared.answers.JsonAnswer.{JsonAnswer}
+
+-- a request as `codec` reads it: a number and a command, or why it isn't read
+abbrev pub Request : Type 0
+Request = Result (ℕ × Instruction) CodecFault
+
+-- the command of a request, under part 0 of its number
+abbrev pub asked_as : ℕ × Instruction → Asked
+asked_as (number, instruction) = (record { number = number; part = 0 }, instruction)
+
+module _ {S : Type 0} (g : Ghosts S) (old new : Kept S) where
+  -- a book was asked a command, and what it answered is reported
+  pub record IsCommandAsked (asked : Asked) (result : Result JsonAnswer AskFault) : Type 0 where
+    pub answer : Result Answer StoreFault
+    pub answered : IsAnswered g old new asked answer
+    pub reported : Reports answer result
+
+  -- a book was asked the command of a request; for one that isn't read it was asked nothing, and
+  -- why it isn't read is reported
+  abbrev pub IsDoneAsRead : Request → Result JsonAnswer AskFault → Type 0
+  IsDoneAsRead (Ok asked) result = IsCommandAsked (asked_as asked) result
+  IsDoneAsRead (Err fault) result = (new ≡ old) × ReportsUnread fault result
+
+  -- a book was asked the request of a body; or there was no memory to read it, and it was asked
+  -- nothing
+  abbrev pub IsRequestAsked : List ℕ → Result JsonAnswer AskFault → Type 0
+  IsRequestAsked body result =
+      IsDoneAsRead (read_request body) result ⊎ ((new ≡ old) × (result ≡ Err Memory))

@@ -1,0 +1,103 @@
+//! Reports: a text by what a book shows. The definition is `IsReportAsked` (`specs/Reports.antt`).
+//! Worked texts: `tests/reports.py`. Wrong bodies: `must-fail/`.
+ghost use Rattle.std.specs.Prelude.{◌≡◌, IfOk};
+ghost use Rattle.book.specs.Calls.{IsAfterCalls};
+ghost use Rattle.asking.specs.Reports as spec;
+
+use crate::answers::AskFault;
+use book::{Book, BookFault, Show};
+use duty::{CrewId, PairingId};
+use report::{ReportFault, exceedance_text, pairing_text, roster_text};
+use roster::Roster;
+use sqlite::Alter;
+use std::alloc::Global;
+use values::{MemoryFault, Text};
+
+/// What a report is asked of. An id outside its shape names nothing.
+#[derive(Clone, Copy)]
+pub enum Subject<'a> {
+    /// The roster of the crew member of this id.
+    Crew(&'a str),
+    /// The pairing of this id.
+    Pairing(&'a str),
+    /// All exceedances.
+    Exceedances,
+}
+
+/// What is shown.
+#[derive(Drop)]
+pub enum Shown {
+    /// The text of the report.
+    Text(String),
+    /// There is no such crew member (2).
+    NoSuchCrew,
+    /// There is no such pairing (4).
+    NoSuchPairing,
+}
+
+/// Asks a book for the text of a member's roster, of a pairing or of the exceedances. No table is changed.
+pub fn ask_report<S: Alter>(
+    alloc: Global,
+    book: &mut Book<S>,
+    subject: Subject<'_>,
+) -> Result<Shown, AskFault>
+    ensures asked { spec.IsReportAsked S.Store book.old book.new (spec.show_of subject.entry) result }
+    ensures calls { IsAfterCalls S.Store book.old book.new }
+{
+    let Ok(what) = shown_by(alloc, subject) else {
+        return Err(AskFault::Memory);
+    };
+    let shown = book.show(alloc, &what);
+    reported(alloc, shown, &what)
+}
+
+/// Names what a book shows for a report.
+fn shown_by(alloc: Global, subject: Subject<'_>) -> Result<Show, MemoryFault>
+    ensures { IfOk result (λ what. what ≡ spec.show_of subject.entry) }
+{
+    Ok(match subject {
+        Subject::Crew(id) => Show::Crew(CrewId::new(copy_of(alloc, id)?)),
+        Subject::Pairing(id) => Show::Pairing(PairingId::new(copy_of(alloc, id)?)),
+        Subject::Exceedances => Show::Exceedances,
+    })
+}
+
+/// Copies a text.
+fn copy_of(alloc: Global, text: &str) -> Result<Text, MemoryFault>
+    ensures { IfOk result (λ copy. copy ≡ text.now) }
+{
+    Ok(Text::new(String::from_str(alloc, text)?))
+}
+
+/// Reports what a book shows.
+fn reported(alloc: Global, shown: Result<Roster, BookFault>, what: &Show) -> Result<Shown, AskFault>
+    ensures { spec.ReportsShown shown what.now result }
+{
+    match shown {
+        Ok(roster) => shown_of(text_of(alloc, &roster, what)),
+        Err(fault) => Err(AskFault::Book(fault)),
+    }
+}
+
+/// Writes a text of a roster.
+fn text_of(alloc: Global, roster: &Roster, what: &Show) -> Result<String, ReportFault>
+    ensures { spec.IsText roster.now what.now result }
+{
+    match what {
+        Show::Crew(who) => roster_text(alloc, roster, who),
+        Show::Pairing(id) => pairing_text(alloc, roster, id),
+        Show::Exceedances => exceedance_text(alloc, roster),
+    }
+}
+
+/// Names what is shown, by its text or why there is none.
+fn shown_of(text: Result<String, ReportFault>) -> Result<Shown, AskFault>
+    ensures { result ≡ spec.shown_of text }
+{
+    match text {
+        Ok(text) => Ok(Shown::Text(text)),
+        Err(ReportFault::NoSuchCrew) => Ok(Shown::NoSuchCrew),
+        Err(ReportFault::NoSuchPairing) => Ok(Shown::NoSuchPairing),
+        Err(ReportFault::Memory) => Err(AskFault::Memory),
+    }
+}

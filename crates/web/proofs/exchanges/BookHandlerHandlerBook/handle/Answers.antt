@@ -1,0 +1,21 @@
+use Rattle.std.proofs.Common.{rules}
+use Rattle.http_message.specs.Plan.{subject}
+use Rattle.http_message.specs.declared.plan.Submission.TheVariants.{Command}
+use Rattle.http_exchange.specs.Handler.{answer_or_fault, submit}
+use Rattle.web.specs.Handling.{IsHandled}
+use Rattle.web.proofs.Handled.{report_handled, request_handled}
+use Rattle.web.proofs.exchanges.BookHandlerHandlerBook.handle.Goals as goal
+
+pub returns-in-Submit-Command-default : goal.returns-in-Submit-Command-default
+returns-in-Submit-Command-default g c =
+    let here = c.in-Submit-Command-default in
+    let it = c.ask_request.ensures in
+    let did : IsHandled g.S.Store c.args.book.now c.ask_request.new.book (submit Command here.body.now) (answer_or_fault c.answered.result) =
+    rw c.answered.ensures (request_handled g.S.Store c.args.book.now c.ask_request.new.book here.body.now c.ask_request.result it.asked it.calls) in
+    search (rules, did)
+
+pub returns-in-Show : goal.returns-in-Show
+returns-in-Show g c =
+    let it = c.ask_report.ensures in
+    rw c.in-Show.is (report_handled g.S.Store c.args.book.now c.ask_report.new.book (subject c.in-Show.report) it.calls c.ask_report.result (answer_or_fault c.shown.result)
+    (rw c.subject_of.ensures at it.asked) c.shown.ensures)
