@@ -1,5 +1,5 @@
 -- What was asked of a book, from what was read of it.
-use Rattle.std.proofs.Common.{◌≡◌, ◌||◌, ◌↔◌, inl, inr, refl, subst, sym, ℕ, List, Option, Result, Ok, Err, IfOk, OnOk, IsTrue}
+use Rattle.std.proofs.Common.{◌≡◌, ◌||◌, ◌↔◌, inl, refl, subst, sym, ℕ, List, Option, Result, Ok, Err, IfOk, OnOk, IsTrue}
 use Rattle.sqlite_trees.specs.declared.store.Store.{Ghosts}
 use Rattle.sqlite.specs.Held.{state}
 use Rattle.command.specs.Keys.{KeyParts}

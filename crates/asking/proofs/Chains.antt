@@ -1,5 +1,5 @@
 -- What a chain of answers comes to: the answers of the state machine, and what is left of the book.
-use Rattle.std.proofs.Common.{◌≡◌, ◌≤◌, ◌<◌, ◌||◌, ◌∙◌, inl, ap, sym, subst, refl, arith, ℕ, suc, ◌+◌, Bool, true, false, IsTrue, List, [], ◌∷◌, ◌++◌, append-nil, append_assoc, length, length-append, map, take, slice_get, get_or, Option, Some, None, IsSome, Result, Ok, Err, add-one}
+use Rattle.std.proofs.Common.{◌≡◌, ◌≤◌, ◌<◌, ◌||◌, ◌∙◌, inl, ap, sym, subst, refl, arith, ℕ, suc, ◌+◌, Bool, true, false, IsTrue, List, [], ◌∷◌, ◌++◌, append-nil, append_assoc, length, length-append, map, take, slice_get, Option, Some, None, IsSome, Result, Ok, Err, add-one}
 use Rattle.std.specs.Bool.{⊤}
 use Rattle.std.proofs.lemmas.List.{map-append, take_all}
 use Rattle.std.proofs.lemmas.Option.{get_or_from_slice_get, slice_get_within}
@@ -24,7 +24,6 @@ use Rattle.book.proofs.Runs.{fold_more, one_honest}
 use Rattle.book.proofs.Sparing.{SameOrSpares, adds_then, spared_adds, spared_open, spared_then}
 use Rattle.asking.specs.Schedules.{AreAnswered, ArePartsAsked}
 use Rattle.asking.specs.declared.answers.AskFault.TheVariants.{Book}
-use Rattle.asking.specs.declared.schedules.ScheduleFault.{ScheduleFault}
 use Rattle.asking.specs.declared.schedules.ScheduleFault.TheVariants.{Ask, Unheard}
 use Rattle.asking.proofs.Parts.{one_answered, taken_more}
 

@@ -1,4 +1,4 @@
-use Rattle.std.proofs.Common.{◌≡◌, ◌≤◌, ◌<◌, ◌+◌, ◌-◌, ◌∙◌, Ok, Err, sym, subst, arith, refl, length}
+use Rattle.std.proofs.Common.{◌≡◌, ◌<◌, ◌+◌, ◌-◌, Ok, Err, sym, subst, arith, refl, length}
 use Rattle.std.proofs.lemmas.Option.{slice_get_within}
 use Rattle.roster.specs.Folds.{import}
 use Rattle.book.specs.Answered.{IsAnswered}
