@@ -6,7 +6,7 @@ ghost use Rattle.asking.specs.Requests as spec;
 use crate::answers::{AskFault, JsonAnswer, reported, unread};
 use book::Book;
 use codec::{CodecFault, command_of_json};
-use command::{Command, Key};
+use command::Key;
 use sqlite::Alter;
 use std::alloc::Global;
 
@@ -22,28 +22,14 @@ pub fn ask_request<S: Alter>(
 {
     match command_of_json(alloc, body) {
         Ok((number, command)) => {
-            let answer = ask(alloc, book, Key::new(number, 0), &command);
+            // It has no fault, as the commands of a call have none.
+            let _made = command.instruction();
+            let answer = book.ask(alloc, Key::new(number, 0), &command);
             // (by a call: written out, a command's drop takes the prover long)
             drop(command);
-            answer
+            reported(alloc, answer)
         }
         Err(CodecFault::Memory) => Err(AskFault::Memory),
         Err(fault) => unread(alloc, fault),
     }
-}
-
-/// Asks a book a command.
-fn ask<S: Alter>(
-    alloc: Global,
-    book: &mut Book<S>,
-    key: Key,
-    command: &Command,
-) -> Result<JsonAnswer, AskFault>
-    ensures asked { spec.IsCommandAsked S.Store book.old book.new (key, command.now) result }
-    ensures calls { IsAfterCalls S.Store book.old book.new }
-{
-    // It has no fault, as the commands of a call have none.
-    let _made = command.instruction();
-    let answer = book.ask(alloc, key, command);
-    reported(alloc, answer)
 }

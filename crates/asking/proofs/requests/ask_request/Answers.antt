@@ -1,13 +1,16 @@
 use Rattle.std.proofs.Common.{rules, inl, inr, refl}
-use Rattle.book.proofs.CallLemmas.{no_calls}
+use Rattle.book.specs.Calls.{call_for_one}
+use Rattle.book.proofs.CallLemmas.{is_one_call, no_calls, one_call}
 use Rattle.asking.proofs.Asked.{request_read, request_unread}
 use Rattle.asking.proofs.requests.ask_request.Goals as goal
 
 pub returns-in-Ok : goal.returns-in-Ok
 returns-in-Ok g c = record {
-  asked = request_read g.S.Store c.args.book.now c.ask-answer.new.book c.args.body.now c.in-Ok.number c.in-Ok.command c.new.result c.ask-answer.result
-      c.in-Ok.ensures.command c.new.ensures c.ask-answer.ensures.asked;
-  calls = c.ask-answer.ensures.calls;
+  asked = request_read g.S.Store c.args.book.now c.ask-answer.new.self c.args.body.now c.in-Ok.number c.in-Ok.command c.new.result c.reported.result
+      c.in-Ok.ensures.command c.new.ensures
+      (record { answer = c.ask-answer.result; answered = c.ask-answer.ensures; reported = c.reported.ensures });
+  calls = one_call g.S.Store (call_for_one (c.new.result, c.in-Ok.command) c.ask-answer.result)
+      (is_one_call g.S.Store (c.new.result, c.in-Ok.command) c.ask-answer.result c.instruction-made.ensures.made c.ask-answer.ensures);
 }
 
 pub returns-in-Err-Memory : goal.returns-in-Err-Memory
