@@ -1,92 +1,167 @@
--- What is answered by a book that was opened is answered by what its files held.
-use Rattle.std.proofs.Common.{inl, inr, refl, subst, sym, ℕ, Option, Some, None, Result, Ok, Err, IfOk}
-use Rattle.std.specs.Prelude.{⊤}
+-- What is answered by a book that was opened is answered by what its files held, and what is left of it is left of them.
+use Rattle.std.proofs.Common.{◌≡◌, inl, inr, refl, subst, sym, ℕ, ◌+◌, List, [], ◌∷◌, length, take, arith, Option, Some, None, Result, Ok, Err, IfOk, IfErr, IfSome}
+use Rattle.std.specs.Prelude.{⊤, false}
+use Rattle.std.proofs.lemmas.List.{take_all}
 use Rattle.sqlite_disk.specs.declared.Disk.{Ghosts}
+use Rattle.sqlite_trees.specs.declared.store.Store as store
 use Rattle.sqlite_store.specs.declared.store.FileStore.{FileStore}
 use Rattle.sqlite_wal.specs.Recovery.{Image}
 use Rattle.sqlite.specs.Files.{file_state, over_files}
-use Rattle.roster.specs.Folds.{import}
+use Rattle.sqlite.specs.Held.{state}
+use Rattle.codec.specs.Requests.{read_request}
+use Rattle.loading.specs.declared.fault.LoadFault.{LoadFault}
+use Rattle.roster.specs.Folds.{Asked, Fold, ReplyOrRefusal, import}
 use Rattle.roster.specs.State.{State}
+use Rattle.state_rows.specs.declared.fault.StoreFault.TheVariants as faults
 use Rattle.store.specs.declared.show.Show.{Show}
-use Rattle.book.specs.Found.{IsCleanLeft, LeavesBook, MeansWhatIsIn}
-use Rattle.book.specs.Kept.{IsClean, IsDurablyAt, Kept}
+use Rattle.book.specs.Calls.{IsAfterCalls}
+use Rattle.book.specs.Found.{IsCleanLeft, IsFaultOf, LeavesBook, LeavesByCrash, MeansWhatIsIn}
+use Rattle.book.specs.Kept.{IsClean, IsDurablyAt, IsInDoubt, Kept}
 use Rattle.book.specs.declared.file.FilesLeft.{FilesLeft}
+use Rattle.book.proofs.Left.{leaves_either}
+use Rattle.book.proofs.LifeLemmas as life
+use Rattle.book.proofs.States.{one_of_either}
 use Rattle.http_exchange.specs.Exchange.{ChannelBytes}
-use Rattle.rosterbook.specs.Asking.{IsImported, IsRequestAnswered}
-use Rattle.rosterbook.specs.ByFiles.{IsByBook, IsByFiles, IsDoneBy, IsImportedBy, IsShownBy}
+use Rattle.rosterbook.specs.Asking.{IsAskStopped, IsImported, IsImportStopped, IsLeftAfterAnswers, IsRequestAnswered, IsStoppedIn, Request, asked_by_request, left_by_request}
+use Rattle.rosterbook.specs.ByFiles.{AreLeftAfter, AreLeftAsFound, AreLeftByImport, AreLeftByRequest, IsByFiles, IsDoneBy, IsImportedBy, IsRefusedAs, IsSession, IsShownBy}
 use Rattle.rosterbook.specs.Showing.{IsToldOf}
 use Rattle.rosterbook.specs.declared.status.Status.{Status}
 use Rattle.rosterbook.specs.declared.stop.Stop.{Stop}
+use Rattle.rosterbook.specs.declared.stop.Stop.TheVariants.{Load, Book, Memory, Channel, Network}
 use Rattle.rosterbook.proofs.CleanBefore.{clean_before_all, clean_before_request, clean_before_same}
 
--- ---- By a book
+-- ---- After how many commands
 
-module _ {D : Type 0} {g : Ghosts D} (old new : Kept (FileStore D g)) (left : FilesLeft D g)
-    (disk : IsCleanLeft left → IsClean over_files new) (kept : (s : State) → IsDurablyAt over_files new s → IsCleanLeft left → LeavesBook left s) where
-  by_book : (Says : State → Type 0) (after : State → State) → (IsClean over_files new → IsClean over_files old) →
-      ((s : State) → IsDurablyAt over_files old s → IsClean over_files new → Says s) → ((s : State) → IsDurablyAt over_files old s → IsDurablyAt over_files new (after s)) →
-      IsByBook (Some left) old Says after
-  by_book Says after before says stays clean = (before (disk clean), λ s at. (says s at (disk clean), kept (after s) (stays s at) clean))
+module _ {S : Type 0} (g : store.Ghosts S) (new : Kept S) (s : State) where
+  abbrev IsReached : List Asked → Type 0
+  IsReached asked = (n : ℕ) × IsInDoubt g new (Fold s (take n asked)) (Fold s (take (n + 1) asked))
 
-  pub done_by : (held out out' err : ChannelBytes) (status : Status) → IsRequestAnswered over_files old new held out out' status → IsDoneBy (IsByBook (Some left) old) held out out' err err status
-  done_by held out out' err status it = record {
-    input = it.input;
-    answer = it.answer;
-    told = it.told;
-    silent = refl;
-    by = by_book _ _ (clean_before_request over_files old new _ it.left) it.answered it.left;
-  }
+  all_reached : (asked : List Asked) → IsDurablyAt g new (Fold s asked) → IsReached asked
+  all_reached asked at = (
+    length asked,
+    subst (λ (l : List Asked). IsInDoubt g new (Fold s l) (Fold s (take (length asked + 1) asked))) (sym (take_all (length asked) asked (omega arith)))
+        (one_of_either (state g new.held) (Fold s asked) _ at),
+  )
 
-  pub imported_by : (number : ℕ) (held out out' err err' : ChannelBytes) (status : Status) → IsImported over_files old new number held out out' err err' status →
-      IsImportedBy (IsByBook (Some left) old) number held out out' err err' status
-  imported_by number held out out' err err' status it = record {
-    text = it.text;
-    read = it.read;
-    told = elim it.done [
-      | inl none ↦
-          let same = none.1 in
-          inl (
-            none.0,
-            by_book (λ s. ⊤) (λ s. s) (λ clean. subst (IsClean over_files) same clean) (λ s at clean. tt)
-                (λ s at. subst (λ (b : Kept (FileStore D g)). IsDurablyAt over_files b s) (sym same) at),
-          )
-      | inr done ↦
-          let added = done.2 in
-          inr (done.0, added.answers, done.1, added.told, done.3, by_book _ _ (clean_before_all over_files old new (import number done.0) added.left) added.answered added.left)
-    ];
-  }
+  request_reached : (request : Request) → IsDurablyAt g new (left_by_request s request) → IsReached (asked_by_request request)
+  request_reached (Ok asked) at = all_reached _ at
+  request_reached (Err fault) at = all_reached [] at
 
-  pub shown_by : (what : Show) (out out' err err' : ChannelBytes) (result : Result Status Stop) → IfOk result (λ status. (s : State) × IsToldOf s what status out out' err err') →
-      ((s : State) → IsDurablyAt over_files old s → IsClean over_files new → IfOk result (λ status. IsToldOf s what status out out' err err')) →
-      ((s : State) → IsDurablyAt over_files old s → IsDurablyAt over_files new s) → IfOk result (IsShownBy (IsByBook (Some left) old) what out out' err err')
-  shown_by what out out' err err' (Ok status) some told stays = record { some = some; by = by_book _ _ (clean_before_same over_files old new stays) told stays }
-  shown_by what out out' err err' (Err stop) some told stays = tt
+  stopped_reached : (asked : List Asked) (n : ℕ) (stop : Stop) → IsLeftAfterAnswers g new s asked n stop → IsReached asked
+  stopped_reached asked n (Load fault) at = (n, one_of_either (state g new.held) _ _ at)
+  stopped_reached asked n (Book faults.Store) doubt = (n, doubt)
+  stopped_reached asked n (Book faults.Memory) at = (n, one_of_either (state g new.held) _ _ at)
+  stopped_reached asked n Memory at = (n, one_of_either (state g new.held) _ _ at)
+  stopped_reached asked n Channel at = (n, one_of_either (state g new.held) _ _ at)
+  stopped_reached asked n Network at = (n, one_of_either (state g new.held) _ _ at)
 
--- ---- By the files of the book
+-- ---- By the files of a book
 
-module _ {D : Type 0} {g : Ghosts D} (image : Image) (book : Kept (FileStore D g)) (means : IsClean over_files book → MeansWhatIsIn image (file_state book.held)) where
-  by_files : (left : Option (FilesLeft D g)) (Says : State → Type 0) (after : State → State) → IsByBook left book Says after → IsByFiles left image Says after
-  by_files None Says after by = by
-  by_files (Some it) Says after by = λ clean.
-      let so = by clean in
-      let found = means so.0 in
-      let says = so.1 found.it found.keeps in
-      (found.it, found.finds, says.0, says.1)
+module _ {D : Type 0} {g : Ghosts D} (image : Image) (old new : Kept (FileStore D g)) (left : FilesLeft D g)
+    (means : IsClean over_files old → MeansWhatIsIn image (file_state old.held)) (disk : IsCleanLeft left → IsClean over_files new) where
+  module _ (kept : (s : State) → IsDurablyAt over_files new s → IsCleanLeft left → LeavesBook left s) where
+    by_files : (Says : State → Type 0) (after : State → State) → (IsClean over_files new → IsClean over_files old) →
+        ((s : State) → IsDurablyAt over_files old s → IsClean over_files new → Says s) → ((s : State) → IsDurablyAt over_files old s → IsDurablyAt over_files new (after s)) →
+        IsByFiles (Some left) image Says after
+    by_files Says after before says stays = λ clean.
+        let found = means (before (disk clean)) in
+        (found.it, found.finds, says found.it found.keeps (disk clean), kept (after found.it) (stays found.it found.keeps) clean)
 
-  module _ (left : Option (FilesLeft D g)) (held out out' err err' : ChannelBytes) (status : Status) where
-    pub done_at : IsDoneBy (IsByBook left book) held out out' err err' status → IsDoneBy (IsByFiles left image) held out out' err err' status
-    done_at it = record { input = it.input; answer = it.answer; told = it.told; silent = it.silent; by = by_files left _ _ it.by }
+    pub done_at : (held out out' err : ChannelBytes) (status : Status) → IsRequestAnswered over_files old new held out out' status → IsDoneBy (IsByFiles (Some left) image) held out out' err err status
+    done_at held out out' err status it = record {
+      input = it.input;
+      answer = it.answer;
+      told = it.told;
+      silent = refl;
+      by = by_files _ _ (clean_before_request over_files old new _ it.left) it.answered it.left;
+    }
 
-    pub imported_at : (number : ℕ) → IsImportedBy (IsByBook left book) number held out out' err err' status → IsImportedBy (IsByFiles left image) number held out out' err err' status
-    imported_at number it = record {
+    pub imported_at : (number : ℕ) (held out out' err err' : ChannelBytes) (status : Status) → IsImported over_files old new number held out out' err err' status →
+        IsImportedBy (IsByFiles (Some left) image) number held out out' err err' status
+    imported_at number held out out' err err' status it = record {
       text = it.text;
       read = it.read;
-      told = elim it.told [
-        | inl none ↦ inl (none.0, by_files left _ _ none.1)
-        | inr done ↦ inr (done.0, done.1, done.2, done.3, done.4, by_files left _ _ done.5)
+      told = elim it.done [
+        | inl none ↦
+            let same = none.1 in
+            inl (
+              none.0,
+              by_files (λ s. ⊤) (λ s. s) (λ clean. subst (IsClean over_files) same clean) (λ s at clean. tt)
+                  (λ s at. subst (λ (b : Kept (FileStore D g)). IsDurablyAt over_files b s) (sym same) at),
+            )
+        | inr done ↦
+            let added = done.2 in
+            inr (done.0, added.answers, done.1, added.told, done.3, by_files _ _ (clean_before_all over_files old new (import number done.0) added.left) added.answered added.left)
       ];
     }
 
-  pub shown_at : (left : Option (FilesLeft D g)) (what : Show) (out out' err err' : ChannelBytes) (status : Status) →
-      IsShownBy (IsByBook left book) what out out' err err' status → IsShownBy (IsByFiles left image) what out out' err err' status
-  shown_at left what out out' err err' status it = record { some = it.some; by = by_files left _ _ it.by }
+    pub shown_at : (what : Show) (out out' err err' : ChannelBytes) (result : Result Status Stop) → IfOk result (λ status. (s : State) × IsToldOf s what status out out' err err') →
+        ((s : State) → IsDurablyAt over_files old s → IsClean over_files new → IfOk result (λ status. IsToldOf s what status out out' err err')) →
+        ((s : State) → IsDurablyAt over_files old s → IsDurablyAt over_files new s) → IfOk result (IsShownBy (IsByFiles (Some left) image) what out out' err err')
+    shown_at what out out' err err' (Ok status) some told stays = record { some = some; by = by_files _ _ (clean_before_same over_files old new stays) told stays }
+    shown_at what out out' err err' (Err stop) some told stays = tt
+
+  -- ---- Whatever the status
+
+  module _ (crash : IsCleanLeft left → LeavesByCrash new left) where
+    left_after : (asked : List Asked) → (IsClean over_files new → IsClean over_files old) → ((s : State) → IsDurablyAt over_files old s → IsReached over_files new s asked) →
+        AreLeftAfter (Some left) image asked
+    left_after asked before reaches = λ clean.
+        let is_clean = disk clean in
+        let found = means (before is_clean) in
+        let reached = reaches found.it found.keeps in
+        (found.it, found.finds, (reached.0, leaves_either new _ _ reached.1 is_clean left (crash clean)))
+
+    pub left_as_found : ((s : State) → IsDurablyAt over_files old s → IsDurablyAt over_files new s) → AreLeftAsFound (Some left) image
+    left_as_found stays = left_after [] (clean_before_same over_files old new stays) (λ s at. all_reached over_files new s [] (stays s at))
+
+    same_left : new ≡ old → AreLeftAsFound (Some left) image
+    same_left same = left_as_found (λ s at. subst (λ (b : Kept (FileStore D g)). IsDurablyAt over_files b s) (sym same) at)
+
+    left_by_stop : (asked : List Asked) (answers : List ReplyOrRefusal) (stop : Stop) → IsStoppedIn over_files old new asked answers stop → AreLeftAfter (Some left) image asked
+    left_by_stop asked answers stop it = left_after asked it.disk (λ s at. stopped_reached over_files new s asked (length answers) stop (it.left s at))
+
+    pub request_left : (held out out' : ChannelBytes) (result : Result Status Stop) → IfOk result (λ status. IsRequestAnswered over_files old new held out out' status) →
+        IfErr result (λ stop. IsAskStopped over_files old new held out out' stop) → AreLeftByRequest (Some left) image held
+    request_left held out out' (Ok status) it stopped =
+        let request = read_request it.input in
+        inr (it.input, it.told.read, left_after (asked_by_request request) (clean_before_request over_files old new request it.left) (λ s at. request_reached over_files new s request (it.left s at)))
+    request_left held out out' (Err stop) it (inl none) = inl (same_left none.unchanged)
+    request_left held out out' (Err stop) it (inr some) = inr (some.0, some.2, left_by_stop _ some.1 stop some.3)
+
+    pub import_left : (number : ℕ) (held out out' err err' : ChannelBytes) (result : Result Status Stop) →
+        IfOk result (λ status. IsImported over_files old new number held out out' err err' status) →
+        IfErr result (λ stop. IsImportStopped over_files old new number held out out' err err' stop) → AreLeftByImport (Some left) image number held
+    import_left number held out out' err err' (Ok status) it stopped = elim it.done [
+      | inl none ↦ inl (same_left none.1)
+      | inr done ↦
+          let added = done.2 in
+          let asked = import number done.0 in
+          inr (it.text, done.0, it.read, done.1, left_after asked (clean_before_all over_files old new asked added.left) (λ s at. all_reached over_files new s asked (added.left s at)))
+    ]
+    import_left number held out out' err err' (Err stop) it (inl none) = inl (same_left none.unchanged)
+    import_left number held out out' err err' (Err stop) it (inr some) = inr (some.0, some.1, some.2, some.3, left_by_stop _ some.4.answers stop some.4.asked)
+
+    -- a book that was called in turn
+    pub session : old.failed ≡ false → IsAfterCalls over_files old new → IsSession (Some left) image old new
+    session fresh after = record {
+      fresh = fresh;
+      calls = after.0;
+      called = after.1;
+      leaves = λ clean.
+          let is_clean = disk clean in
+          let found = means (life.clean_before over_files after.0 old new after.1 is_clean) in
+          let doubt = life.reaches over_files after.0 old new found.it fresh found.keeps after.1 in
+          (found.it, found.finds, found.keeps, leaves_either new _ _ doubt is_clean left (crash clean));
+    }
+
+-- ---- Where no book was taken up
+
+module _ {D : Type 0} {g : Ghosts D} (image : Image) (left : Option (FilesLeft D g)) (none : left ≡ None) where
+  pub none_left : (asked : List Asked) → AreLeftAfter left image asked
+  none_left asked = rw none tt
+
+  pub refused_as : (fault : LoadFault) (theirs refused : Option (FilesLeft D g)) (done : Result Status Stop) → refused ≡ theirs → done ≡ Err (Load fault) →
+      IfSome theirs (λ it. IsCleanLeft it → IsFaultOf image fault) → IsRefusedAs left image refused done
+  refused_as fault None refused done same is cause = rw same tt
+  refused_as fault (Some it) refused done same is cause = rw same (fault, none, is, cause)

@@ -1,8 +1,15 @@
 -- Connections that were served so far, up to one more.
-use Rattle.std.proofs.Common.{◌≡◌, ◌<◌, ℕ, ◌+◌, ◌&&◌, true, false, Bool, List, [], ◌∷◌, ◌++◌, append-nil, refl, ap, sym, subst, ◌∙◌, length-append, Ok, Err, IfOk}
+use Rattle.std.proofs.Common.{◌≡◌, ◌<◌, ℕ, ◌+◌, ◌&&◌, true, false, Bool, List, [], ◌∷◌, ◌++◌, append-nil, refl, ap, sym, subst, ◌∙◌, length-append, inl, inr, Result, Ok, Err, IfOk, IfErr}
 use Rattle.std.proofs.lemmas.List.{append_assoc}
 use Rattle.std.specs.Io.KnownBytes.{Appends}
-use Rattle.rosterbook.specs.Serving.{AllServed, CutShort, HasFailure, InTurn, Outcome, failure_line, failure_lines}
+use Rattle.sqlite_trees.specs.declared.store.Store.{Ghosts}
+use Rattle.state_rows.specs.declared.fault.StoreFault.TheVariants.{Store}
+use Rattle.book.specs.Calls.{IsAfterCalls}
+use Rattle.book.specs.Kept.{Kept}
+use Rattle.book.proofs.CallLemmas.{no_calls, then_calls}
+use Rattle.rosterbook.specs.Serving.{AllServed, CutShort, HasEnded, HasFailure, InTurn, IsServeDone, IsServeStopped, Outcome, ServesBook, failure_line, failure_lines, has_failed, port_line, status_of_serve}
+use Rattle.rosterbook.specs.declared.status.Status.{Status}
+use Rattle.rosterbook.specs.declared.stop.Stop.{Stop}
 use Rattle.http_exchange.specs.Exchange.{ChannelBytes}
 use Rattle.rosterbook.proofs.PartsAdded.{appends_both}
 use Rattle.rosterbook.proofs.RefusalLemmas.{appends_nothing}
@@ -80,3 +87,51 @@ module _ {V : Type 0} (serves : V → V → Outcome → Type 0) (fails : V → B
       failed = failing;
       lines = lines_so_far err err' err'' told told' so_far.outcomes outcome so_far.lines line;
     }
+
+-- ---- How serving ended
+
+module _ {V : Type 0} (serves : V → V → Outcome → Type 0) (fails : V → Bool) (port count : ℕ) (old new : V) (out out' err err' : ChannelBytes) where
+  ends : (told failed : Bool) → Appends out out' (port_line port) → HasEnded serves fails count old new err err' told failed →
+      IfOk (status_of_serve failed told) (IsServeDone serves fails port count old new out out' err err')
+      × IfErr (status_of_serve failed told) (IsServeStopped serves fails port count old new out out' err err')
+  ends told true listens it = (tt, inr (inr (refl, listens, (told, it))))
+  ends true false listens it = (record { ends = refl; listens = listens; served = it }, tt)
+  ends false false listens it = (tt, inr (inl (refl, listens, it)))
+
+  pub ended_as : (told failed : Bool) (done : Result Status Stop) → done ≡ status_of_serve failed told → Appends out out' (port_line port) →
+      HasEnded serves fails count old new err err' told failed →
+      IfOk done (IsServeDone serves fails port count old new out out' err err') × IfErr done (IsServeStopped serves fails port count old new out out' err err')
+  ended_as told failed done is listens it = rw is (ends told failed listens it)
+
+-- what is said of what serves is said of what it has
+module _ {V B : Type 0} (serves : V → V → Outcome → Type 0) (fails : V → Bool) (has : B → B → Outcome → Type 0) (lost : B → Bool) (of : V → B)
+    (step : (old new : V) (outcome : Outcome) → serves old new outcome → has (of old) (of new) outcome) (same : (it : V) → lost (of it) ≡ fails it) where
+  in_turn_of : (old new : V) (outcomes : List Outcome) → InTurn serves fails old new outcomes → InTurn has lost (of old) (of new) outcomes
+  in_turn_of old new [] it = ap of it
+  in_turn_of old new (outcome ∷ outcomes) (next, served, well, rest) = (of next, step old next outcome served, same next ∙ well, in_turn_of next new outcomes rest)
+
+  pub ended_of : (count : ℕ) (old new : V) (err err' : ChannelBytes) (told failed : Bool) → HasEnded serves fails count old new err err' told failed →
+      HasEnded has lost count (of old) (of new) err err' told failed
+  ended_of count old new err err' told false it =
+      record { outcomes = it.outcomes; each = it.each; served = in_turn_of old new it.outcomes it.served; lines = it.lines; untold = it.untold }
+  ended_of count old new err err' told true it = record {
+    outcomes = it.outcomes;
+    last = it.last;
+    before = of it.before;
+    fewer = it.fewer;
+    served = in_turn_of old it.before it.outcomes it.served;
+    failing = step it.before new it.last it.failing;
+    failed = same new ∙ it.failed;
+    lines = it.lines;
+  }
+
+-- a book that served connections was called
+module _ {S : Type 0} (g : Ghosts S) where
+  calls_in_turn : (old new : Kept S) (outcomes : List Outcome) → InTurn (ServesBook g) has_failed old new outcomes → IsAfterCalls g old new
+  calls_in_turn old new [] same = no_calls g same
+  calls_in_turn old new (outcome ∷ outcomes) (next, served, well, rest) = then_calls g served.0.calls (calls_in_turn next new outcomes rest)
+
+  pub calls_of_ended : (count : ℕ) (old new : Kept S) (err err' : ChannelBytes) (told failed : Bool) → HasEnded (ServesBook g) has_failed count old new err err' told failed →
+      IsAfterCalls g old new
+  calls_of_ended count old new err err' told false it = calls_in_turn old new it.outcomes it.served
+  calls_of_ended count old new err err' told true it = then_calls g (calls_in_turn old it.before it.outcomes it.served) it.failing.0.calls

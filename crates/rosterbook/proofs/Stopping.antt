@@ -22,6 +22,7 @@ use Rattle.rosterbook.specs.declared.status.Status.{Status}
 use Rattle.rosterbook.specs.declared.stop.Stop.{Stop}
 use Rattle.rosterbook.specs.declared.stop.Stop.TheVariants as stops
 use Rattle.rosterbook.specs.declared.stop.Stop.TheVariants.{Book}
+use Rattle.rosterbook.proofs.CleanBefore.{clean_before_request, clean_before_same}
 use Rattle.rosterbook.proofs.PartsAdded.{AreAsked, AreSoFar, one_asked}
 
 -- a reader or a writer doesn't fail as the book does
@@ -42,23 +43,25 @@ has_failed Memory was is failed at_store = absurd (cc)
 
 module _ {S : Type 0} (g : Ghosts S) (old now new : Kept S) (asked : List Asked) (count : ℕ) (answers : List ReplyOrRefusal) where
   -- no line was written of the last answer
-  pub untold : (stop : Stop) → IsOfChannel stop → count ≤ length asked → length answers ≡ count →
+  pub untold : (stop : Stop) → IsOfChannel stop → count ≤ length asked → length answers ≡ count → (IsClean g new → IsClean g old) →
       ((s : State) → IsDurablyAt g old s → IsClean g new → answers ≡ take count (Replies s asked)) →
       ((s : State) → IsDurablyAt g old s → IsDurablyAt g new (Fold s (take count asked))) →
       IsStoppedIn g old new asked answers stop
-  untold stop (inl is) within each answered left = subst (IsStoppedIn g old new asked answers) (sym is) (record {
+  untold stop (inl is) within each clean answered left = subst (IsStoppedIn g old new asked answers) (sym is) (record {
     told = inr (inl refl);
     few = omega (arith, each, within);
     unanswered = λ no. absurd (no_fault_of_book stops.Memory (inl refl) no);
     failed = λ no. absurd (cc);
+    disk = clean;
     answered = λ s at clean. rw each (answered s at clean);
     left = λ s at. rw each (left s at);
   })
-  untold stop (inr is) within each answered left = subst (IsStoppedIn g old new asked answers) (sym is) (record {
+  untold stop (inr is) within each clean answered left = subst (IsStoppedIn g old new asked answers) (sym is) (record {
     told = inr (inr refl);
     few = omega (arith, each, within);
     unanswered = λ no. absurd (no_fault_of_book stops.Channel (inr refl) no);
     failed = λ no. absurd (cc);
+    disk = clean;
     answered = λ s at clean. rw each (answered s at clean);
     left = λ s at. rw each (left s at);
   })
@@ -85,6 +88,7 @@ module _ {S : Type 0} (g : Ghosts S) (old now new : Kept S) (asked : List Asked)
         few = omega (arith, each, within);
         unanswered = λ is. omega (arith, each, within);
         failed = has_failed fault now.failed new.failed failed;
+        disk = λ is_clean. was.clean (clean is_clean);
         answered = λ s at is_clean. rw each (was.answered s at (clean is_clean));
         left = λ s at.
             let so_far = Fold s (take count asked) in
@@ -94,7 +98,7 @@ module _ {S : Type 0} (g : Ghosts S) (old now new : Kept S) (asked : List Asked)
 
 -- want of memory, before anything was asked
 pub unasked : {S : Type 0} (g : Ghosts S) (book : Kept S) (asked : List Asked) → IsStoppedIn g book book asked [] stops.Memory
-unasked g book asked = untold g book book book asked 0 [] stops.Memory (inl refl) (omega arith) refl (λ s at clean. refl) (λ s at. at)
+unasked g book asked = untold g book book book asked 0 [] stops.Memory (inl refl) (omega arith) refl (λ clean. clean) (λ s at clean. refl) (λ s at. at)
 
 -- what is known of the fault of a call, by which another is returned
 pub err_told : {A E : Type 0} (r : Result A E) (P Q : E → Type 0) → IsErrAnd r P → ((e : E) → P e → Q e) → IfErr r Q
@@ -115,8 +119,8 @@ answer_untold : {S : Type 0} (g : Ghosts S) (old new : Kept S) (request : Reques
     ((s : State) → IsDurablyAt g old s → IsClean g new → Answers s request answer) →
     ((s : State) → IsDurablyAt g old s → IsDurablyAt g new (left_by_request s request)) →
     (answers : List ReplyOrRefusal) × IsStoppedIn g old new (asked_by_request request) answers stop × (length answers < length (asked_by_request request) → ⊥)
-answer_untold g old new (Ok asked) answer stop which answered left = (answer ∷ [], untold g old new new (asked_by_request (Ok asked)) 1 (answer ∷ []) stop which (omega arith) refl answered left, λ fewer. absurd (omega (arith, fewer)))
-answer_untold g old new (Err fault) answer stop which answered left = ([], untold g old new new [] 0 [] stop which (omega arith) refl (λ s at is_clean. refl) left, λ fewer. absurd (omega (arith, fewer)))
+answer_untold g old new (Ok asked) answer stop which answered left = (answer ∷ [], untold g old new new (asked_by_request (Ok asked)) 1 (answer ∷ []) stop which (omega arith) refl (clean_before_request g old new (Ok asked) left) answered left, λ fewer. absurd (omega (arith, fewer)))
+answer_untold g old new (Err fault) answer stop which answered left = ([], untold g old new new [] 0 [] stop which (omega arith) refl (clean_before_same g old new left) (λ s at is_clean. refl) left, λ fewer. absurd (omega (arith, fewer)))
 
 pub asked_untold : {S : Type 0} (g : Ghosts S) (old new : Kept S) (held out out' : ChannelBytes) (input : List ℕ) (answer : ReplyOrRefusal) (stop : Stop) → IsOfChannel stop → ReadsInput held input →
     ((s : State) → IsDurablyAt g old s → IsClean g new → Answers s (read_request input) answer) →
@@ -146,6 +150,6 @@ module _ {S : Type 0} (g : Ghosts S) (old now new : Kept S) (number : ℕ) (plan
     answers = was.answers ++ result_of answer ∷ [];
     asked =
         let now_asked = one_asked g old now new parts count was.answers a (result_of answer) within at_count was.asked_so_far answered.disk answered.reply answered.answered in
-        untold g old now new parts (count + 1) _ stop which (omega (arith, within)) now_asked.each now_asked.answered now_asked.left;
+        untold g old now new parts (count + 1) _ stop which (omega (arith, within)) now_asked.each now_asked.clean now_asked.answered now_asked.left;
     printed = λ is. absurd (no_fault_of_book stop which is);
   }

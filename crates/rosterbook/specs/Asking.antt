@@ -47,6 +47,7 @@ module _ {S : Type 0} (g : Ghosts S) where
     pub few : length answers ≤ length asked
     pub unanswered : IsBookFault stop → length answers < length asked
     pub failed : stop ≡ Book Store → IsTrue new.failed
+    pub disk : IsClean g new → IsClean g old
     pub answered : (s : State) → IsDurablyAt g old s → IsClean g new → answers ≡ take (length answers) (Replies s asked)
     pub left : (s : State) → IsDurablyAt g old s → IsLeftAfterAnswers new s asked (length answers) stop
 

@@ -1,30 +1,40 @@
 -- What the program answers by the book that files hold, and what it leaves of them.
-use Rattle.std.specs.Prelude.{◌≡◌, ◌⊎◌, ⊤, ℕ, List, Option, IsSomeAnd, string_bytes}
+use Rattle.std.specs.Prelude.{◌≡◌, ◌⊎◌, ⊤, ℕ, ◌+◌, true, false, Bool, List, [], ◌++◌, take}
+use Rattle.std.specs.Prelude.{Option, None, IfSome, IsSomeAnd, Result, Err, string_bytes}
+use Rattle.std.specs.Io.KnownBytes.{Appends}
 use Rattle.sqlite_disk.specs.declared.Disk.{Ghosts}
 use Rattle.sqlite_store.specs.declared.store.FileStore.{FileStore}
 use Rattle.sqlite_wal.specs.Recovery.{Image}
 use Rattle.sqlite.specs.Files.{over_files}
 use Rattle.duty.specs.Plans.{Plan}
-use Rattle.roster.specs.Folds.{Fold, Replies, ReplyOrRefusal, import}
+use Rattle.roster.specs.Folds.{Asked, Fold, Replies, ReplyOrRefusal, import}
 use Rattle.roster.specs.State.{State, empty}
 use Rattle.codec.specs.Requests.{read_request}
 use Rattle.codec.specs.Schedule.{IsSchedule}
 use Rattle.store.specs.declared.show.Show.{Show}
 use Rattle.store.specs.declared.show.Show.TheVariants as show
-use Rattle.book.specs.Found.{FindsBook, IsCleanLeft, LeavesBook}
-use Rattle.book.specs.Kept.{IsClean, IsDurablyAt, Kept}
+use Rattle.loading.specs.Faults.{load_text}
+use Rattle.loading.specs.declared.fault.LoadFault.{LoadFault}
+use Rattle.book.specs.Calls.{AreCalls, Call}
+use Rattle.book.specs.Found.{FindsBook, IsCleanLeft, IsFaultOf, LeavesBook, LeavesEither}
+use Rattle.book.specs.Kept.{IsDurablyAt, Kept}
+use Rattle.book.specs.Lives.{acknowledged, in_doubt}
 use Rattle.book.specs.declared.file.FilesLeft.{FilesLeft}
 use Rattle.console.specs.declared.actions.Action.{Action}
 use Rattle.console.specs.declared.actions.Action.TheVariants.{Init, Do, Import}
 use Rattle.console.specs.declared.actions.Action.TheVariants.{Roster, Pairing, Exceedances}
+use Rattle.console.specs.declared.actions.Action.TheVariants.{Serve}
 use Rattle.http_exchange.specs.Exchange.{ChannelBytes}
 use Rattle.rosterbook.specs.Asking.{Answers, AreTold, IsNoSchedule, IsRequestReadAndTold}
-use Rattle.rosterbook.specs.Asking.{left_by_request}
+use Rattle.rosterbook.specs.Asking.{asked_by_request, left_by_request}
 use Rattle.rosterbook.specs.Program.{PerformsAction, exit_status}
+use Rattle.rosterbook.specs.Serving.{IsServeDone, IsServeStopped, ServesBook, has_failed}
 use Rattle.rosterbook.specs.Showing.{IsToldOf}
-use Rattle.rosterbook.specs.Streams.{ReadsInput}
+use Rattle.rosterbook.specs.Streams.{ReadsInput, refused_line}
 use Rattle.rosterbook.specs.declared.status.Status.{Status}
-use Rattle.rosterbook.specs.declared.status.Status.TheVariants.{Done}
+use Rattle.rosterbook.specs.declared.status.Status.TheVariants.{Done, Failed}
+use Rattle.rosterbook.specs.declared.stop.Stop.{Stop}
+use Rattle.rosterbook.specs.declared.stop.Stop.TheVariants.{Load, Network}
 
 -- ---- By which book
 
@@ -33,13 +43,6 @@ abbrev pub Account : Type 1
 Account = (State → Type 0) → (State → State) → Type 0
 
 module _ {D : Type 0} {g : Ghosts D} (left : Option (FilesLeft D g)) where
-  -- The answer was given by this book, of which that is left. As long as the disk returns what was
-  -- written, what is said holds of the state that the book was durably at.
-  abbrev pub IsByBook : Kept (FileStore D g) → Account
-  IsByBook book Says after = IsSomeAnd left (λ it. IsCleanLeft it →
-      IsClean over_files book
-      × ((s : State) → IsDurablyAt over_files book s → Says s × LeavesBook it (after s)))
-
   -- The answer was given by the book that files with these contents held, and that is left of them.
   -- As long as the disk returns what was written, a sound book is found in them, what is said holds
   -- of its state, and they are left with a book in the state after it.
@@ -50,6 +53,79 @@ module _ {D : Type 0} {g : Ghosts D} (left : Option (FilesLeft D g)) where
   -- The files are left with an empty book of this zone, as long as the disk returns what was written.
   abbrev pub AreLeftEmpty : List ℕ → Type 0
   AreLeftEmpty zone = IsSomeAnd left (λ it. IsCleanLeft it → LeavesBook it (empty zone))
+
+-- ---- What is left, whatever the status
+
+module _ {D : Type 0} {g : Ghosts D} where
+  -- files are left with an empty book of this zone, as long as the disk returns what was written
+  abbrev pub IsLeftEmpty : List ℕ → FilesLeft D g → Type 0
+  IsLeftEmpty zone it = IsCleanLeft it → LeavesBook it (empty zone)
+
+module _ {D : Type 0} {g : Ghosts D} (left : Option (FilesLeft D g)) (image : Image) where
+  -- If a book was taken up from files with these contents, that is left of them. As long as the
+  -- disk returns what was written, a sound book is found in them, and they are left with the state
+  -- after the first of these commands, however many; of the last one it may be open whether it is
+  -- done.
+  abbrev pub AreLeftAfter : List Asked → Type 0
+  AreLeftAfter asked = IfSome left (λ it. IsCleanLeft it →
+      (s : State) × FindsBook image s
+      × ((n : ℕ) × LeavesEither it (Fold s (take n asked)) (Fold s (take (n + 1) asked))))
+
+  -- they are left with the state that they held
+  abbrev pub AreLeftAsFound : Type 0
+  AreLeftAsFound = AreLeftAfter []
+
+  -- or with that after the command of a request that a reader has
+  abbrev pub AreLeftByRequest : ChannelBytes → Type 0
+  AreLeftByRequest held = AreLeftAsFound ⊎ ((input : List ℕ) × ReadsInput held input
+      × AreLeftAfter (asked_by_request (read_request input)))
+
+  -- or with that after the first pairings of a schedule that a reader has, as parts of this number
+  abbrev pub AreLeftByImport : ℕ → ChannelBytes → Type 0
+  AreLeftByImport number held = AreLeftAsFound
+      ⊎ ((text : List ℕ) × (plans : List Plan) × ReadsInput held text × IsSchedule text plans
+      × AreLeftAfter (import number plans))
+
+  -- A book was taken up, nothing but these calls was done to it, and it was closed. As long as the
+  -- disk returns what was written, it is the book that the files held, and they are left with all
+  -- that the calls acknowledged; of what was in work when the store failed it is open whether it is
+  -- done.
+  pub record IsSession (opened last : Kept (FileStore D g)) : Type 0 where
+    pub fresh : opened.failed ≡ false
+    pub calls : List Call
+    pub called : AreCalls over_files opened calls last
+    pub leaves : IsSomeAnd left (λ it. IsCleanLeft it →
+        (s : State) × FindsBook image s × IsDurablyAt over_files opened s
+        × LeavesEither it (Fold s (acknowledged calls)) (Fold s (acknowledged calls ++ in_doubt calls)))
+
+  -- the same of some book
+  abbrev pub HaveSession : Type 0
+  HaveSession = IfSome left (λ _.
+      (opened : Kept (FileStore D g)) × (last : Kept (FileStore D g)) × IsSession opened last)
+
+  -- `serve`: the port was told, and the book served all connections
+  abbrev pub IsServedByFiles : ℕ → ℕ → ChannelBytes → ChannelBytes → ChannelBytes → ChannelBytes →
+      Status → Type 0
+  IsServedByFiles port count out out' err err' status =
+      (opened : Kept (FileStore D g)) × (last : Kept (FileStore D g)) × IsSession opened last
+      × IsServeDone (ServesBook over_files) has_failed port count opened last out out' err err' status
+
+  -- if a book was taken up: the port wasn't bound, and nothing was done; or serving stopped so
+  abbrev pub IsServeStoppedByFiles : ℕ → ℕ → ChannelBytes → ChannelBytes → ChannelBytes →
+      ChannelBytes → Stop → Type 0
+  IsServeStoppedByFiles port count out out' err err' stop = IfSome left (λ _.
+      (opened : Kept (FileStore D g)) × (last : Kept (FileStore D g)) × IsSession opened last
+      × (((stop ≡ Network) × (last ≡ opened) × (out' ≡ out) × (err' ≡ err))
+      ⊎ IsServeStopped (ServesBook over_files) has_failed port count opened last out out' err err'
+      stop))
+
+  -- If files were opened and no book was taken up from them, that is left of them, and this stopped
+  -- the program. As long as the disk returns what was written, it is the refusal of what is found
+  -- in them.
+  abbrev pub IsRefusedAs : Option (FilesLeft D g) → Result Status Stop → Type 0
+  IsRefusedAs refused done = IfSome refused (λ it.
+      (fault : LoadFault) × (left ≡ None) × (done ≡ Err (Load fault))
+      × (IsCleanLeft it → IsFaultOf image fault))
 
 -- ---- What is answered
 
@@ -100,6 +176,8 @@ module _ {D : Type 0} {g : Ghosts D} (image : Image) (left : Option (FilesLeft D
       IsShownBy (IsByFiles left image) (show.Pairing (string_bytes id)) out out' err err' status
   PerformsByFiles (Exceedances file) status held out out' err err' =
       IsShownBy (IsByFiles left image) show.Exceedances out out' err err' status
+  PerformsByFiles (Serve file port connections) status held out out' err err' =
+      IsServedByFiles left image port connections out out' err err' status
   PerformsByFiles action status held out out' err err' =
       PerformsAction action status held out out' err err'
 
@@ -109,3 +187,23 @@ module _ {D : Type 0} {g : Ghosts D} (image : Image) (left : Option (FilesLeft D
   IsPerformedByFiles action code held out out' err err' =
       (status : Status) × (code ≡ exit_status status)
       × PerformsByFiles action status held out out' err err'
+
+  -- what is left of files from which a book was taken up, by what a reader has
+  abbrev pub LeavesFiles : Action → ChannelBytes → Type 0
+  LeavesFiles (Init file zone) held = IfSome left (IsLeftEmpty (string_bytes zone))
+  LeavesFiles (Do file) held = AreLeftByRequest left image held
+  LeavesFiles (Import file number) held = AreLeftByImport left image number held
+  LeavesFiles (Serve file port connections) held = HaveSession left image
+  LeavesFiles action held = AreLeftAsFound left image
+
+  -- No book was taken up from files that were opened, of which this is left: nothing is printed but
+  -- the line of the refusal, and that is the one of what is found in the files, as long as the disk
+  -- returns what was written.
+  pub record IsRefusedByFiles (code : ℕ) (told : Bool) (out out' err err' : ChannelBytes)
+      (it : FilesLeft D g) : Type 0 where
+    pub fault : LoadFault
+    pub ends : code ≡ exit_status Failed
+    pub untaken : left ≡ None
+    pub silent : out' ≡ out
+    pub complains : told ≡ true → Appends err err' (refused_line (load_text fault))
+    pub cause : IsCleanLeft it → IsFaultOf image fault

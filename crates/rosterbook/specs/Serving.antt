@@ -4,7 +4,11 @@ use Rattle.std.specs.Fmt.{decimal}
 use Rattle.std.specs.Io.KnownBytes.{Appends}
 use Rattle.http_exchange.specs.declared.exchanges.Served.{Served}
 use Rattle.web.specs.ServeText.{serve_text}
+use Rattle.web.specs.Connections.{IsServedOnce}
 use Rattle.web.specs.declared.connections.ServeFault.{ServeFault}
+use Rattle.web.specs.declared.connections.ServeFault.TheVariants.{Network}
+use Rattle.sqlite_trees.specs.declared.store.Store.{Ghosts}
+use Rattle.book.specs.Kept.{Kept}
 use Rattle.state_rows.specs.declared.fault.StoreFault.TheVariants.{Store}
 use Rattle.http_exchange.specs.Exchange.{ChannelBytes}
 use Rattle.rosterbook.specs.Streams.{IsOfChannel, line_end, refused_line}
@@ -80,6 +84,18 @@ module _ {V : Type 0} (serves : V → V → Outcome → Type 0) (fails : V → B
       (IsOfChannel stop × (new ≡ old) × (err' ≡ err))
       ⊎ ((stop ≡ Channel) × Appends out out' (port_line port) × AllServed count old new err err' false)
       ⊎ ((stop ≡ Book Store) × Appends out out' (port_line port) × ((told : Bool) × CutShort count old new err err' told))
+
+-- ---- Of a book
+
+-- a book served a connection, of which this came
+abbrev pub ServesBook : {S : Type 0} → Ghosts S → Kept S → Kept S → Outcome → Type 0
+ServesBook g old new outcome = IsServedOnce g old new × (outcome ≡ Err Network → new ≡ old)
+
+-- whether a book's store has failed
+abbrev pub has_failed : {S : Type 0} → Kept S → Bool
+has_failed book = book.failed
+
+-- ---- How the program ends
 
 -- how the program ends, by whether the store failed and whether all lines could be written
 abbrev pub status_of_serve : Bool → Bool → Result Status Stop

@@ -1,6 +1,6 @@
 //! `rosterbook do`: a request on standard input, asked of a book. The definitions are in `specs/Asking.antt`.
 //! Transcripts: `tests/transcripts/requests.txt` and `all_commands.txt`. Wrong bodies: `must-fail/`.
-ghost use Rattle.std.specs.Prelude.{◌≡◌, ◌∷◌, [], ℕ, List, IfErr, IfOk, IsErr, IsSome, None, string_bytes};
+ghost use Rattle.std.specs.Prelude.{◌≡◌, ◌∷◌, [], ℕ, List, IfErr, IfOk, IsErr, None, string_bytes};
 ghost use Rattle.sqlite_wal.specs.Files.{image_at};
 ghost use Rattle.http_exchange.specs.Exchange.{ChannelBytes};
 ghost use Rattle.roster.specs.Folds.{ReplyOrRefusal, answer_of, next};
@@ -10,7 +10,7 @@ ghost use Rattle.book.specs.Kept.{IsDurablyAt, IsClean, result_of};
 ghost use Rattle.codec.specs.Requests.{read_request};
 ghost use Rattle.web.specs.Answers.{answer_json};
 ghost use Rattle.rosterbook.specs.Asking as spec;
-ghost use Rattle.rosterbook.specs.ByFiles.{IsByBook, IsByFiles, IsDoneBy};
+ghost use Rattle.rosterbook.specs.ByFiles.{AreLeftByRequest, IsByFiles, IsDoneBy, IsRefusedAs};
 
 use crate::ended::Ended;
 use crate::lines::{read_input, write_line};
@@ -19,8 +19,7 @@ use crate::stop::Stop;
 use book::{Answer, Book};
 use codec::{CodecFault, command_of_json, fault_to_json, refusal_to_json, reply_to_json};
 use command::{Command, Key};
-use sqlite::{Alter, FileFrom, FileStore, Start};
-use sqlite_disk::Disk;
+use sqlite::{Alter, FileFrom, Start};
 use std::alloc::Global;
 use std::io::{Read, Write};
 use values::MemoryFault;
@@ -43,31 +42,21 @@ pub(crate) fn answer_do<S: Start, R: Read, O: Write>(
     ensures done { (err : ChannelBytes) → IfOk result.done
         (IsDoneBy (IsByFiles result.left (image_at S.Start)) (R.remaining reader.old)
         (O.contents out.old) (O.contents out.new) err err) }
+    ensures left { AreLeftByRequest result.left (image_at S.Start) (R.remaining reader.old) }
     ensures unopened { result.left ≡ None
         → IsErr result.done × (reader.new ≡ reader.old) × (out.new ≡ out.old) }
+    ensures refused { IsRefusedAs result.left (image_at S.Start) result.refused result.done }
 {
     match Book::open_from(rt, file, start) {
-        Ok(book) => ask_and_close(rt.alloc(), book, reader, out),
-        Err(fault) => Ended::unopened(Err(Stop::from(fault))),
-    }
-}
-
-/// Asks a book the command that a reader gives in JSON, and closes the book.
-fn ask_and_close<D: Disk + Drop, R: Read, O: Write>(
-    alloc: Global,
-    mut book: Book<FileStore<D>>,
-    reader: &mut R,
-    out: &mut O,
-) -> Ended<D>
-    ensures done { (err : ChannelBytes) → IfOk result.done
-        (IsDoneBy (IsByBook result.left book) (R.remaining reader.old)
-        (O.contents out.old) (O.contents out.new) err err) }
-    ensures left { IsSome result.left }
-{
-    let done = ask_json(alloc, &mut book, reader, out);
-    Ended {
-        done,
-        left: Some(book.close()),
+        Ok(mut book) => {
+            let done = ask_json(rt.alloc(), &mut book, reader, out);
+            Ended {
+                done,
+                left: Some(book.close()),
+                refused: None,
+            }
+        }
+        Err(refused) => Ended::refused(refused),
     }
 }
 

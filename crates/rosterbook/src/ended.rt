@@ -1,10 +1,11 @@
 //! How a subcommand ended, and what it left of the files of a book.
 //! Wrong bodies: `must-fail-more/`.
-ghost use Rattle.std.specs.Prelude.{◌≡◌, IfOk, None, Ok};
+ghost use Rattle.std.specs.Prelude.{◌≡◌, Err, IfOk, None, Ok};
+ghost use Rattle.rosterbook.specs.declared.stop.Stop.TheVariants.{Load};
 
 use crate::status::Status;
 use crate::stop::Stop;
-use book::FilesLeft;
+use book::{FilesLeft, NotTaken};
 use sqlite_disk::Disk;
 use std::io;
 
@@ -12,7 +13,10 @@ use std::io;
 #[derive(Drop)]
 pub(crate) struct Ended<D: Disk> {
     pub(crate) done: Result<Status, Stop>,
+    /// What is left of the files whose book was taken up.
     pub(crate) left: Option<FilesLeft<D>>,
+    /// What is left of files from which no book was taken up.
+    pub(crate) refused: Option<FilesLeft<D>>,
 }
 
 impl<D: Disk> Ended<D> {
@@ -20,8 +24,27 @@ impl<D: Disk> Ended<D> {
     pub(crate) fn unopened(done: Result<Status, Stop>) -> Ended<D>
         ensures done { result.done ≡ done }
         ensures left { result.left ≡ None }
+        ensures refused { result.refused ≡ None }
     {
-        Ended { done, left: None }
+        Ended {
+            done,
+            left: None,
+            refused: None,
+        }
+    }
+
+    /// Ends where no book was taken up.
+    pub(crate) fn refused(it: NotTaken<D>) -> Ended<D>
+        ensures done { result.done ≡ Err (Load it.fault) }
+        ensures left { result.left ≡ None }
+        ensures refused { result.refused ≡ it.left }
+    {
+        let NotTaken { fault, left } = it;
+        Ended {
+            done: Err(Stop::from(fault)),
+            left: None,
+            refused: left,
+        }
     }
 }
 

@@ -1,12 +1,12 @@
 //! `rosterbook import`: a schedule on standard input, its pairings asked one after the other. The definitions are in
 //! `specs/Asking.antt`.
 //! Transcript: `tests/transcripts/import.txt`. Wrong bodies: `must-fail/`.
-ghost use Rattle.std.specs.Prelude.{◌≡◌, ◌≤◌, IfErr, IfOk, IsErr, IsSome, None, OnOk, length};
+ghost use Rattle.std.specs.Prelude.{◌≡◌, ◌≤◌, IfErr, IfOk, IsErr, None, OnOk, length};
 ghost use Rattle.sqlite_wal.specs.Files.{image_at};
 ghost use Rattle.std.specs.Io.KnownBytes.{Appends};
 ghost use Rattle.book.specs.Kept.{result_of};
 ghost use Rattle.rosterbook.specs.Asking as spec;
-ghost use Rattle.rosterbook.specs.ByFiles.{IsByBook, IsByFiles, IsImportedBy};
+ghost use Rattle.rosterbook.specs.ByFiles.{AreLeftByImport, IsByFiles, IsImportedBy, IsRefusedAs};
 
 use crate::ended::Ended;
 use crate::lines::{read_input, refuse};
@@ -15,8 +15,7 @@ use crate::stop::Stop;
 use book::{Answer, Book, Import};
 use codec::{CodecFault, RequestNumber, schedule_of_csv};
 use duty::Pairing;
-use sqlite::{Alter, FileFrom, FileStore, Start};
-use sqlite_disk::Disk;
+use sqlite::{Alter, FileFrom, Start};
 use std::alloc::Global;
 use std::io;
 use std::io::{Read, Write};
@@ -36,33 +35,22 @@ pub(crate) fn answer_import<S: Start, R: Read, O: Write, E: Write>(
         (IsImportedBy (IsByFiles result.left (image_at S.Start)) number
         (R.remaining reader.old) (O.contents out.old) (O.contents out.new)
         (E.contents err.old) (E.contents err.new)) }
-    ensures unopened { result.left ≡ None
-        → IsErr result.done × (reader.new ≡ reader.old) × (out.new ≡ out.old) }
+    ensures left { AreLeftByImport result.left (image_at S.Start) number
+        (R.remaining reader.old) }
+    ensures unopened { result.left ≡ None → IsErr result.done × (reader.new ≡ reader.old)
+        × (out.new ≡ out.old) × (err.new ≡ err.old) }
+    ensures refused { IsRefusedAs result.left (image_at S.Start) result.refused result.done }
 {
     match Book::open_from(rt, file, start) {
-        Ok(book) => import_and_close(rt.alloc(), book, number, reader, out, err),
-        Err(fault) => Ended::unopened(Err(Stop::from(fault))),
-    }
-}
-
-/// Adds the pairings of the schedule that a reader gives in CSV to a book, and closes the book.
-fn import_and_close<D: Disk + Drop, R: Read, O: Write, E: Write>(
-    alloc: Global,
-    mut book: Book<FileStore<D>>,
-    number: RequestNumber,
-    reader: &mut R,
-    out: &mut O,
-    err: &mut E,
-) -> Ended<D>
-    ensures done { IfOk result.done (IsImportedBy (IsByBook result.left book) number
-        (R.remaining reader.old) (O.contents out.old) (O.contents out.new)
-        (E.contents err.old) (E.contents err.new)) }
-    ensures left { IsSome result.left }
-{
-    let done = import_csv(alloc, &mut book, number, reader, out, err);
-    Ended {
-        done,
-        left: Some(book.close()),
+        Ok(mut book) => {
+            let done = import_csv(rt.alloc(), &mut book, number, reader, out, err);
+            Ended {
+                done,
+                left: Some(book.close()),
+                refused: None,
+            }
+        }
+        Err(refused) => Ended::refused(refused),
     }
 }
 

@@ -1,7 +1,7 @@
 //! `rosterbook init`: a book of a zone, made in a new or empty file.
 //! Books that are made: `tests/program.sh`. Wrong bodies: `must-fail/`.
-ghost use Rattle.std.specs.Prelude.{◌≡◌, ◌⊎◌, IfErr, IfOk, IsOk};
-ghost use Rattle.rosterbook.specs.ByFiles.{AreLeftEmpty};
+ghost use Rattle.std.specs.Prelude.{◌≡◌, ◌⊎◌, IfErr, IfOk, IfSome, IsOk, None};
+ghost use Rattle.rosterbook.specs.ByFiles.{AreLeftEmpty, IsLeftEmpty};
 ghost use Rattle.std.specs.Io.KnownBytes.{Appends};
 ghost use Rattle.time117.specs.Local.{is_zone_text};
 ghost use Rattle.rosterbook.specs.Program as spec;
@@ -34,6 +34,8 @@ pub(crate) fn answer_init<S: Start, O: Write, E: Write>(
         (E.contents err.old) (E.contents err.new)) }
     ensures made { IfOk result.done
         (λ status. status ≡ Status.Done → AreLeftEmpty result.left zone.now) }
+    ensures left { IfSome result.left (IsLeftEmpty zone.now) }
+    ensures refused { result.refused ≡ None }
 {
     match Zone::read(rt.alloc(), zone) {
         Ok(zone) => make_and_tell(rt, file, start, zone, out, err),
@@ -56,11 +58,14 @@ fn make_and_tell<S: Start, O: Write, E: Write>(
         × AreLeftEmpty result.left zone)
         ⊎ ((fault : CreateFault) × spec.Gives (spec.unmade fault) status (O.contents out.old)
         (O.contents out.new) (E.contents err.old) (E.contents err.new) × (out.new ≡ out.old))) }
+    ensures left { IfSome result.left (IsLeftEmpty zone) }
+    ensures refused { result.refused ≡ None }
 {
     match create_from(rt, file, zone, start) {
         Ok(left) => Ended {
             done: done_of(tell_made(Ok(()), out, err)),
             left: Some(left),
+            refused: None,
         },
         Err(fault) => Ended::unopened(done_of(tell_made(Err(fault), out, err))),
     }

@@ -1,11 +1,14 @@
 //! How the program answers what a command line asks for, and how it ends. Its definition is `PerformsAction`
 //! (`specs/Program.antt`).
 //! Each subcommand, and outputs that fail: `tests/program.sh`. Wrong bodies: `must-fail-more/`.
-ghost use Rattle.std.specs.Prelude.{◌≡◌, ◌≢◌, IfOk, IsErr, None};
+ghost use Rattle.std.specs.Prelude.{◌≡◌, ◌≢◌, true, IfErr, IfOk, IfSome, IsErr, None};
+ghost use Rattle.std.specs.Io.KnownBytes.{Appends};
 ghost use Rattle.sqlite_wal.specs.Files.{image_at};
 ghost use Rattle.rosterbook.specs.ByFiles as by_files;
 ghost use Rattle.rosterbook.specs.Program as spec;
 ghost use Rattle.rosterbook.specs.Program.{exit_status};
+ghost use Rattle.rosterbook.specs.StopText.{stop_text};
+ghost use Rattle.rosterbook.specs.Streams.{refused_line};
 
 use crate::do_command::answer_do;
 use crate::duty_command::answer_duty;
@@ -46,8 +49,12 @@ pub fn perform<R: Read, O: Write, E: Write>(
 pub struct Performed<D: Disk> {
     /// The exit status.
     pub status: u8,
-    /// What is left of the files.
+    /// Whether the line of what stopped the program could be written, if anything did.
+    pub told: bool,
+    /// What is left of the files whose book was taken up.
     pub left: Option<FilesLeft<D>>,
+    /// What is left of files that were opened, and from which no book was taken up.
+    pub refused: Option<FilesLeft<D>>,
 }
 
 /// Does the same over files that held what `start` stands for, and hands back what is left of them.
@@ -65,63 +72,93 @@ pub fn perform_from<S: Start, R: Read, O: Write, E: Write>(
         (R.remaining reader.old) (O.contents out.old) (O.contents out.new)
         (E.contents err.old) (E.contents err.new) }
     ensures unread { result.left ≡ None → reader.new ≡ reader.old }
-{
-    let Ended { done, left } = try_perform(rt, action, start, reader, out, err);
-    Performed {
-        status: status_after(done, err) as u8,
-        left,
-    }
-}
 
-/// Answers the same, up to what stops it.
-fn try_perform<S: Start, R: Read, O: Write, E: Write>(
-    rt: &HostRuntime,
-    action: &Action,
-    start: S,
-    reader: &mut R,
-    out: &mut O,
-    err: &mut E,
-) -> Ended<FileFrom<S>>
-    ensures done { IfOk result.done
-        (λ status. status ≢ Status.Failed
-        → by_files.PerformsByFiles (image_at S.Start) result.left action.now status
-        (R.remaining reader.old) (O.contents out.old) (O.contents out.new)
+    // Whatever the status.
+    ensures left { by_files.LeavesFiles (image_at S.Start) result.left action.now
+        (R.remaining reader.old) }
+    ensures refused { IfSome result.refused (by_files.IsRefusedByFiles (image_at S.Start)
+        result.left result.status result.told (O.contents out.old) (O.contents out.new)
         (E.contents err.old) (E.contents err.new)) }
-    ensures unread { result.left ≡ None → reader.new ≡ reader.old }
 {
     match action {
         Action::Duty {
             zone,
             report,
             times,
-        } => Ended::unopened(done_of(answer_duty(rt.alloc(), zone, report, times, out, err))),
-        Action::Init { file, zone } => answer_init(rt, file, start, zone, out, err),
-        Action::Do { file } => answer_do(rt, file, start, reader, out),
-        Action::Import { file, number } => {
-            answer_import(rt, file, start, *number, reader, out, err)
+        } => {
+            let done = done_of(answer_duty(rt.alloc(), zone, report, times, out, err));
+            finish(Ended::unopened(done), err)
         }
-        Action::Roster { file, crew } => answer_roster(rt, file, start, crew, out, err),
-        Action::Pairing { file, pairing } => answer_pairing(rt, file, start, pairing, out, err),
-        Action::Exceedances { file } => answer_exceedances(rt, file, start, out, err),
+        Action::Init { file, zone } => { finish(answer_init(rt, file, start, zone, out, err), err) }
+        Action::Do { file } => finish(answer_do(rt, file, start, reader, out), err),
+        Action::Import { file, number } => finish(
+            answer_import(rt, file, start, *number, reader, out, err),
+            err,
+        ),
+        Action::Roster { file, crew } => {
+            finish(answer_roster(rt, file, start, crew, out, err), err)
+        }
+        Action::Pairing { file, pairing } => {
+            finish(answer_pairing(rt, file, start, pairing, out, err), err)
+        }
+        Action::Exceedances { file } => {
+            finish(answer_exceedances(rt, file, start, out, err), err)
+        }
         Action::Serve {
             file,
             port,
             connections,
-        } => answer_serve(rt, file, start, *port, *connections, out, err),
+        } => finish(
+            answer_serve(rt, file, start, *port, *connections, out, err),
+            err,
+        ),
     }
+}
+
+/// Ends the program with the status of what was done, and writes the line of what stopped it.
+fn finish<D: Disk, E: Write>(ended: Ended<D>, err: &mut E) -> Performed<D>
+    ensures done { IfOk ended.done
+        (λ status. (result.status ≡ exit_status status) × (err.new ≡ err.old)) }
+    ensures failed { IsErr ended.done → result.status ≡ exit_status Status.Failed }
+    ensures told { IfErr ended.done (λ stop. result.told ≡ true
+        → Appends (E.contents err.old) (E.contents err.new) (refused_line (stop_text stop))) }
+    ensures left { result.left ≡ ended.left }
+    ensures refused { result.refused ≡ ended.refused }
+{
+    let Ended {
+        done,
+        left,
+        refused,
+    } = ended;
+    let End { status, told } = end_of(done, err);
+    Performed {
+        status: status as u8,
+        told,
+        left,
+        refused,
+    }
+}
+
+/// How the program ends, and whether the line of what stopped it could be written, if anything did.
+#[derive(Clone, Copy)]
+pub(crate) struct End {
+    pub(crate) status: Status,
+    pub(crate) told: bool,
 }
 
 /// Returns the status of what was done. After what stopped it that is `Failed`, and `err` is told; where that fails
 /// too, the status alone tells it.
-pub(crate) fn status_after<E: Write>(done: Result<Status, Stop>, err: &mut E) -> Status
-    ensures failed { IsErr done → result ≡ Status.Failed }
-    ensures done { IfOk done (λ status. (status ≡ result) × (err.new ≡ err.old)) }
+pub(crate) fn end_of<E: Write>(done: Result<Status, Stop>, err: &mut E) -> End
+    ensures failed { IsErr done → result.status ≡ Status.Failed }
+    ensures done { IfOk done (λ status. (status ≡ result.status) × (err.new ≡ err.old)) }
+    ensures told { IfErr done (λ stop. result.told ≡ true
+        → Appends (E.contents err.old) (E.contents err.new) (refused_line (stop_text stop))) }
 {
     match done {
-        Ok(status) => status,
-        Err(stop) => {
-            let _ = refuse(err, &stop);
-            Status::Failed
-        }
+        Ok(status) => End { status, told: true },
+        Err(stop) => End {
+            status: Status::Failed,
+            told: refuse(err, &stop).is_ok(),
+        },
     }
 }

@@ -6,7 +6,7 @@ ghost use Rattle.clap.specs.Words.{kind_of};
 ghost use Rattle.rosterbook.specs.Program.{exit_status};
 ghost use Rattle.rosterbook.specs.Refusal.{status_of_error};
 
-use crate::program::status_after;
+use crate::program::end_of;
 use crate::status::Status;
 use crate::stop::Stop;
 use clap::Error;
@@ -24,7 +24,7 @@ pub fn tell_refusal<O: Write, E: Write>(error: &Error, out: &mut O, err: &mut E)
     ensures err { result ≡ exit_status Status.Done → err.new ≡ err.old }
 {
     let done = write_refusal(error, out, err);
-    status_after(done, err) as u8
+    end_of(done, err).status as u8
 }
 
 /// Writes the same, up to what stops it.

@@ -1,7 +1,12 @@
 //! `rosterbook serve`: a book, asked over HTTP at a port of 127.0.0.1.
 //! A server and its clients: `tests/serve.py`. Wrong bodies: `must-fail-more/`.
-ghost use Rattle.std.specs.Prelude.{◌≡◌, Err, IfErr, IfOk, Ok, OnOk, false, true};
+ghost use Rattle.std.specs.Prelude.{◌≡◌, IfErr, IfOk, IsErr, None, OnOk};
 ghost use Rattle.std.specs.Io.KnownBytes.{Appends};
+ghost use Rattle.sqlite_wal.specs.Files.{image_at};
+ghost use Rattle.sqlite.specs.Files.{over_files};
+ghost use Rattle.book.specs.Found.{IsCleanLeft, LeavesByCrash};
+ghost use Rattle.book.specs.Kept.{IsClean};
+ghost use Rattle.rosterbook.specs.ByFiles.{IsRefusedAs, IsServedByFiles, IsServeStoppedByFiles};
 ghost use Rattle.rosterbook.specs.Serving as spec;
 
 use crate::ended::Ended;
@@ -24,14 +29,11 @@ struct BookServer<S: Alter> {
 }
 
 impl<S: Alter> Server for BookServer<S> {
-    ghost use Rattle.std.specs.Prelude.{◌≡◌, Err};
-    ghost use Rattle.web.specs.Connections.{IsServedOnce};
-    ghost use Rattle.web.specs.declared.connections.ServeFault.TheVariants.{Network};
+    ghost use Rattle.rosterbook.specs.Serving.{has_failed, ServesBook};
 
-    ghost serves = { λ old new outcome. IsServedOnce S.Store old.book new.book
-        × (outcome ≡ Err Network → new.book ≡ old.book) };
+    ghost serves = { λ old new outcome. ServesBook S.Store old.book new.book outcome };
 
-    ghost fails = { λ server. server.book.failed };
+    ghost fails = { λ server. has_failed server.book };
 
     fn serve_one(&mut self, alloc: Global) -> Result<Served, ServeFault> {
         serve_one(alloc, &self.listener, &mut self.book)
@@ -44,14 +46,18 @@ impl<S: Alter> Server for BookServer<S> {
 
 impl<D: Disk + Drop> BookServer<FileStore<D>> {
     /// Frees the port, and closes the book.
-    fn close(self) -> FilesLeft<D> {
+    fn close(self) -> FilesLeft<D>
+        ensures disk { IsCleanLeft result → IsClean over_files self.book }
+        ensures crash { IsCleanLeft result → LeavesByCrash self.book result }
+    {
         let BookServer { listener, book } = self;
         drop(listener);
         book.close()
     }
 }
 
-/// Answers `rosterbook serve`: opens the book, binds the port, then serves connections, and closes the book.
+/// Answers `rosterbook serve`: opens the book, binds the port and tells it, then serves connections, and closes the book.
+/// That the line of a failed connection can't be written (92) stops the program only once all are served.
 pub(crate) fn answer_serve<S: Start, O: Write, E: Write>(
     rt: &HostRuntime,
     file: &str,
@@ -61,63 +67,41 @@ pub(crate) fn answer_serve<S: Start, O: Write, E: Write>(
     out: &mut O,
     err: &mut E,
 ) -> Ended<FileFrom<S>>
-    ensures { IfOk result.done (spec.IsServeTold port connections (O.contents out.old)
+    ensures served { IfOk result.done
+        (IsServedByFiles result.left (image_at S.Start) port connections (O.contents out.old)
         (O.contents out.new) (E.contents err.old) (E.contents err.new)) }
+    ensures stopped { IfErr result.done
+        (IsServeStoppedByFiles result.left (image_at S.Start) port connections
+        (O.contents out.old) (O.contents out.new) (E.contents err.old) (E.contents err.new)) }
+    ensures unopened { result.left ≡ None
+        → IsErr result.done × (out.new ≡ out.old) × (err.new ≡ err.old) }
+    ensures refused { IsRefusedAs result.left (image_at S.Start) result.refused result.done }
 {
-    match Book::open_from(rt, file, start) {
-        Ok(book) => serve_and_close(rt, book, port, connections, out, err),
-        Err(fault) => Ended::unopened(Err(Stop::from(fault))),
-    }
-}
-
-/// Binds the port, serves connections by a book, and closes the book.
-fn serve_and_close<D: Disk + Drop, O: Write, E: Write>(
-    rt: &HostRuntime,
-    book: Book<FileStore<D>>,
-    port: u16,
-    connections: u32,
-    out: &mut O,
-    err: &mut E,
-) -> Ended<D>
-    ensures { IfOk result.done (spec.IsServeTold port connections (O.contents out.old)
-        (O.contents out.new) (E.contents err.old) (E.contents err.new)) }
-{
-    match TcpListener::bind(rt, (Ipv4Addr::LOCALHOST, port)) {
-        Ok(listener) => {
-            let mut server = BookServer { listener, book };
-            let done = listen(rt.alloc(), &mut server, port, connections, out, err);
-            Ended {
-                done,
-                left: Some(server.close()),
-            }
-        }
-        Err(_) => Ended {
+    let book = match Book::open_from(rt, file, start) {
+        Ok(book) => book,
+        Err(refused) => return Ended::refused(refused),
+    };
+    let Ok(listener) = TcpListener::bind(rt, (Ipv4Addr::LOCALHOST, port)) else {
+        return Ended {
             done: Err(Stop::Network),
             left: Some(book.close()),
-        },
+            refused: None,
+        };
+    };
+    let mut server = BookServer { listener, book };
+    if let Err(error) = tell_port(out, port) {
+        return Ended {
+            done: Err(Stop::from(error)),
+            left: Some(server.close()),
+            refused: None,
+        };
     }
-}
-
-/// Tells the port, and serves so many connections, or fewer where the store fails. That the line of a failed connection can't be
-/// written (92) stops the program only once all are served.
-fn listen<V: Server, O: Write, E: Write>(
-    alloc: Global,
-    server: &mut V,
-    port: u16,
-    connections: u32,
-    out: &mut O,
-    err: &mut E,
-) -> Result<Status, Stop>
-    ensures served { IfOk result
-        (spec.IsServeDone V.serves V.fails port connections server.old server.new
-        (O.contents out.old)
-        (O.contents out.new) (E.contents err.old) (E.contents err.new)) }
-    ensures stopped { IfErr result
-        (spec.IsServeStopped V.serves V.fails port connections server.old server.new
-        (O.contents out.old) (O.contents out.new) (E.contents err.old) (E.contents err.new)) }
-{
-    tell_port(out, port)?;
-    status_of(serve_all(alloc, server, connections, err))
+    let ending = serve_all(rt.alloc(), &mut server, connections, err);
+    Ended {
+        done: status_of(ending),
+        left: Some(server.close()),
+        refused: None,
+    }
 }
 
 /// Tells at once which port is listened on.

@@ -1,13 +1,13 @@
 //! `rosterbook roster`, `pairing` and `exceedances`: a text by what a book shows.
 //! Worked texts: `tests/reports.py`. Wrong bodies: `must-fail/`.
-ghost use Rattle.std.specs.Prelude.{◌≡◌, ◌≢◌, IfErr, IfOk, IsErr, IsSome, IsTrue, None, string_bytes};
+ghost use Rattle.std.specs.Prelude.{◌≡◌, ◌≢◌, IfErr, IfOk, IsErr, IsTrue, None, string_bytes};
 ghost use Rattle.sqlite_wal.specs.Files.{image_at};
 ghost use Rattle.std.specs.Io.KnownBytes.{Appends};
 ghost use Rattle.report.specs.Faults.{report_fault_text};
 ghost use Rattle.roster.specs.State.{State};
 ghost use Rattle.book.specs.Kept.{IsDurablyAt, IsClean};
 ghost use Rattle.store.specs.declared.show.Show.TheVariants as show;
-ghost use Rattle.rosterbook.specs.ByFiles.{IsByBook, IsByFiles, IsShownBy};
+ghost use Rattle.rosterbook.specs.ByFiles.{AreLeftAsFound, IsByFiles, IsRefusedAs, IsShownBy};
 ghost use Rattle.rosterbook.specs.Showing as spec;
 ghost use Rattle.rosterbook.specs.Streams.{IsOfChannel, refused_line};
 
@@ -19,8 +19,7 @@ use book::{Book, BookFault, Show};
 use duty::{CrewId, PairingId};
 use report::{ReportFault, exceedance_text, pairing_text, roster_text};
 use roster::Roster;
-use sqlite::{Alter, FileFrom, FileStore, Start};
-use sqlite_disk::Disk;
+use sqlite::{Alter, FileFrom, Start};
 use std::alloc::Global;
 use std::io::Write;
 use values::{MemoryFault, Text};
@@ -37,7 +36,10 @@ pub(crate) fn answer_roster<S: Start, O: Write, E: Write>(
     ensures done { IfOk result.done
         (IsShownBy (IsByFiles result.left (image_at S.Start)) (show.Crew crew.now)
         (O.contents out.old) (O.contents out.new) (E.contents err.old) (E.contents err.new)) }
-    ensures unopened { result.left ≡ None → IsErr result.done × (out.new ≡ out.old) }
+    ensures left { AreLeftAsFound result.left (image_at S.Start) }
+    ensures unopened { result.left ≡ None
+        → IsErr result.done × (out.new ≡ out.old) × (err.new ≡ err.old) }
+    ensures refused { IsRefusedAs result.left (image_at S.Start) result.refused result.done }
 {
     match copy_of(rt.alloc(), crew) {
         Ok(who) => show_file(rt, file, start, &Show::Crew(CrewId::new(who)), out, err),
@@ -57,7 +59,10 @@ pub(crate) fn answer_pairing<S: Start, O: Write, E: Write>(
     ensures done { IfOk result.done
         (IsShownBy (IsByFiles result.left (image_at S.Start)) (show.Pairing pairing.now)
         (O.contents out.old) (O.contents out.new) (E.contents err.old) (E.contents err.new)) }
-    ensures unopened { result.left ≡ None → IsErr result.done × (out.new ≡ out.old) }
+    ensures left { AreLeftAsFound result.left (image_at S.Start) }
+    ensures unopened { result.left ≡ None
+        → IsErr result.done × (out.new ≡ out.old) × (err.new ≡ err.old) }
+    ensures refused { IsRefusedAs result.left (image_at S.Start) result.refused result.done }
 {
     match copy_of(rt.alloc(), pairing) {
         Ok(id) => show_file(
@@ -83,7 +88,10 @@ pub(crate) fn answer_exceedances<S: Start, O: Write, E: Write>(
     ensures done { IfOk result.done
         (IsShownBy (IsByFiles result.left (image_at S.Start)) show.Exceedances
         (O.contents out.old) (O.contents out.new) (E.contents err.old) (E.contents err.new)) }
-    ensures unopened { result.left ≡ None → IsErr result.done × (out.new ≡ out.old) }
+    ensures left { AreLeftAsFound result.left (image_at S.Start) }
+    ensures unopened { result.left ≡ None
+        → IsErr result.done × (out.new ≡ out.old) × (err.new ≡ err.old) }
+    ensures refused { IsRefusedAs result.left (image_at S.Start) result.refused result.done }
 {
     show_file(rt, file, start, &Show::Exceedances, out, err)
 }
@@ -95,7 +103,8 @@ fn copy_of(alloc: Global, text: &str) -> Result<Text, MemoryFault>
     Ok(Text::new(String::from_str(alloc, text)?))
 }
 
-/// Opens a book and shows it.
+/// Opens a book and shows it, and lets go of its files as they are: to close them would copy the log into
+/// the database.
 fn show_file<S: Start, O: Write, E: Write>(
     rt: &HostRuntime,
     file: &str,
@@ -107,31 +116,21 @@ fn show_file<S: Start, O: Write, E: Write>(
     ensures done { IfOk result.done
         (IsShownBy (IsByFiles result.left (image_at S.Start)) what.now
         (O.contents out.old) (O.contents out.new) (E.contents err.old) (E.contents err.new)) }
-    ensures unopened { result.left ≡ None → IsErr result.done × (out.new ≡ out.old) }
+    ensures left { AreLeftAsFound result.left (image_at S.Start) }
+    ensures unopened { result.left ≡ None
+        → IsErr result.done × (out.new ≡ out.old) × (err.new ≡ err.old) }
+    ensures refused { IsRefusedAs result.left (image_at S.Start) result.refused result.done }
 {
     match Book::open_from(rt, file, start) {
-        Ok(book) => show_and_leave(rt.alloc(), book, what, out, err),
-        Err(fault) => Ended::unopened(Err(Stop::from(fault))),
-    }
-}
-
-/// Shows a book, and lets go of its files as they are: to close them would copy the log into the
-/// database.
-fn show_and_leave<D: Disk + Drop, O: Write, E: Write>(
-    alloc: Global,
-    mut book: Book<FileStore<D>>,
-    what: &Show,
-    out: &mut O,
-    err: &mut E,
-) -> Ended<D>
-    ensures done { IfOk result.done (IsShownBy (IsByBook result.left book) what.now
-        (O.contents out.old) (O.contents out.new) (E.contents err.old) (E.contents err.new)) }
-    ensures left { IsSome result.left }
-{
-    let done = show_text(alloc, &mut book, what, out, err);
-    Ended {
-        done,
-        left: Some(book.leave()),
+        Ok(mut book) => {
+            let done = show_text(rt.alloc(), &mut book, what, out, err);
+            Ended {
+                done,
+                left: Some(book.leave()),
+                refused: None,
+            }
+        }
+        Err(refused) => Ended::refused(refused),
     }
 }
 

@@ -1,34 +1,28 @@
 //! The program `rosterbook`: hands its words and its streams to the library.
 #![tactic(auto)]
 
-use rosterbook::{Status, action, perform, tell_refusal};
-use std::io::{ErrorKind, Read, Write};
+use clap::Error;
+use rosterbook::{Action, Status, action, perform, tell_refusal};
+use std::io::{ErrorKind, Write};
 use std::process::ExitCode;
 use std::{env, io};
 
 fn main(rt: HostRuntime) -> ExitCode {
     let (mut reader, mut out, mut err) = (rt.stdin(), rt.stdout(), rt.stderr());
-    let status = match answer_words(&rt, &mut reader, &mut out, &mut err) {
-        Ok(status) => status,
+    let status = match asked(&rt) {
+        Ok(Ok(action)) => perform(&rt, &action, &mut reader, &mut out, &mut err),
+        Ok(Err(error)) => tell_refusal(&error, &mut out, &mut err),
         Err(error) => tell_unread(&error, &mut err) as u8,
     };
     ExitCode::from(status)
 }
 
-/// Answers the command line. An error says why its words could not be read.
-fn answer_words<R: Read, O: Write, E: Write>(
-    rt: &HostRuntime,
-    reader: &mut R,
-    out: &mut O,
-    err: &mut E,
-) -> io::Result<u8> {
+/// Reads what the command line asks for, or why `clap` refuses it. An error says why its words could not be read.
+fn asked(rt: &HostRuntime) -> io::Result<Result<Action, Error>> {
     let alloc = rt.alloc();
     let arguments: Vec<String> = env::args(rt)?.skip(1).collect(alloc)?;
     let words: Vec<&str> = arguments.iter().map(|word| word.as_str()).collect(alloc)?;
-    match action(alloc, &words) {
-        Ok(action) => Ok(perform(rt, &action, reader, out, err)),
-        Err(error) => Ok(tell_refusal(&error, out, err)),
-    }
+    Ok(action(alloc, &words))
 }
 
 /// Writes why the words could not be read: memory was refused, or a word is no text.

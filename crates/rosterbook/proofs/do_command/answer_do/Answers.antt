@@ -1,7 +1,19 @@
+use Rattle.std.proofs.Common.{inl, []}
 use Rattle.std.proofs.lemmas.Result.{IfOk-weaker}
-use Rattle.rosterbook.proofs.ByFiles.{done_at}
+use Rattle.rosterbook.proofs.ByFiles.{done_at, none_left, refused_as, request_left}
 use Rattle.rosterbook.proofs.do_command.answer_do.Goals as goal
 
 pub returns-in-Ok-clause-done : goal.returns-in-Ok-clause-done
 returns-in-Ok-clause-done g c err =
-    IfOk-weaker c.ask_and_close.result.done _ _ (done_at _ c.in-Ok.book c.in-Ok.ensures.means c.ask_and_close.result.left _ _ _ _ _) (c.ask_and_close.ensures.done err)
+    IfOk-weaker c.ask_json-done.result _ _ (done_at _ c.in-Ok.book c.ask_json-done.new.book c.close.result c.in-Ok.ensures.means c.close.ensures.disk c.close.ensures.kept _ _ _ err) c.ask_json-done.ensures.asked
+
+pub returns-in-Ok-clause-left : goal.returns-in-Ok-clause-left
+returns-in-Ok-clause-left g c =
+    request_left _ c.in-Ok.book c.ask_json-done.new.book c.close.result c.in-Ok.ensures.means c.close.ensures.disk c.close.ensures.crash _ _ _
+    c.ask_json-done.result c.ask_json-done.ensures.asked c.ask_json-done.ensures.stopped
+
+pub returns-in-Err-clause-left : goal.returns-in-Err-clause-left
+returns-in-Err-clause-left g c = inl (none_left _ _ c.refused.ensures.left [])
+
+pub returns-in-Err-clause-refused : goal.returns-in-Err-clause-refused
+returns-in-Err-clause-refused g c = refused_as _ _ c.refused.ensures.left c.in-Err.refused.fault c.in-Err.refused.left _ _ c.refused.ensures.refused c.refused.ensures.done c.in-Err.ensures.refused

@@ -28,6 +28,6 @@ returns-in_err-line_of-clause-stopped g c =
     err_told c.from_residual-in_err-line_of.result _ _ c.from_residual-in_err-line_of.ensures.1 (λ stop is. (
       answer ∷ [],
       subst (IsStoppedIn g.S.Store old c.ask.new.self (asked ∷ []) (answer ∷ [])) (sym is)
-          (untold g.S.Store old old c.ask.new.self (asked ∷ []) 1 (answer ∷ []) Memory (inl refl) (omega arith) refl
+          (untold g.S.Store old old c.ask.new.self (asked ∷ []) 1 (answer ∷ []) Memory (inl refl) (omega arith) refl met.disk
           (λ s at clean. ap (λ a. a ∷ []) (met.reply s at clean)) (λ s at. met.answered s at)),
     ))

@@ -1,7 +1,21 @@
+use Rattle.std.proofs.Common.{inl, []}
 use Rattle.std.proofs.lemmas.Result.{IfOk-weaker}
-use Rattle.rosterbook.proofs.ByFiles.{imported_at}
+use Rattle.rosterbook.proofs.ByFiles.{import_left, imported_at, none_left, refused_as}
 use Rattle.rosterbook.proofs.import_command.answer_import.Goals as goal
 
 pub returns-in-Ok-clause-done : goal.returns-in-Ok-clause-done
 returns-in-Ok-clause-done g c =
-    IfOk-weaker c.import_and_close.result.done _ _ (λ status. imported_at _ c.in-Ok.book c.in-Ok.ensures.means c.import_and_close.result.left _ _ _ _ _ status c.args.number) c.import_and_close.ensures.done
+    IfOk-weaker c.import_csv-done.result _ _
+    (imported_at _ c.in-Ok.book c.import_csv-done.new.book c.close.result c.in-Ok.ensures.means c.close.ensures.disk c.close.ensures.kept c.args.number _ _ _ _ _)
+    c.import_csv-done.ensures.imported
+
+pub returns-in-Ok-clause-left : goal.returns-in-Ok-clause-left
+returns-in-Ok-clause-left g c =
+    import_left _ c.in-Ok.book c.import_csv-done.new.book c.close.result c.in-Ok.ensures.means c.close.ensures.disk c.close.ensures.crash c.args.number _ _ _ _ _
+    c.import_csv-done.result c.import_csv-done.ensures.imported c.import_csv-done.ensures.stopped
+
+pub returns-in-Err-clause-left : goal.returns-in-Err-clause-left
+returns-in-Err-clause-left g c = inl (none_left _ _ c.refused.ensures.left [])
+
+pub returns-in-Err-clause-refused : goal.returns-in-Err-clause-refused
+returns-in-Err-clause-refused g c = refused_as _ _ c.refused.ensures.left c.in-Err.refused.fault c.in-Err.refused.left _ _ c.refused.ensures.refused c.refused.ensures.done c.in-Err.ensures.refused

@@ -1,7 +1,18 @@
-use Rattle.std.proofs.lemmas.Result.{IfOk-weaker}
-use Rattle.rosterbook.proofs.ByFiles.{shown_at}
+use Rattle.std.proofs.Common.{[]}
+use Rattle.rosterbook.proofs.ByFiles.{left_as_found, none_left, refused_as, shown_at}
 use Rattle.rosterbook.proofs.show_command.show_file.Goals as goal
 
 pub returns-in-Ok-clause-done : goal.returns-in-Ok-clause-done
 returns-in-Ok-clause-done g c =
-    IfOk-weaker c.show_and_leave.result.done _ _ (shown_at _ c.in-Ok.book c.in-Ok.ensures.means c.show_and_leave.result.left _ _ _ _ _) c.show_and_leave.ensures.done
+    shown_at _ c.in-Ok.book c.show_text-done.new.book c.leave.result c.in-Ok.ensures.means c.leave.ensures.disk c.leave.ensures.kept _ _ _ _ _
+    c.show_text-done.result c.show_text-done.ensures.some c.show_text-done.ensures.told c.show_text-done.ensures.kept
+
+pub returns-in-Ok-clause-left : goal.returns-in-Ok-clause-left
+returns-in-Ok-clause-left g c =
+    left_as_found _ c.in-Ok.book c.show_text-done.new.book c.leave.result c.in-Ok.ensures.means c.leave.ensures.disk c.leave.ensures.crash c.show_text-done.ensures.kept
+
+pub returns-in-Err-clause-left : goal.returns-in-Err-clause-left
+returns-in-Err-clause-left g c = none_left _ _ c.refused.ensures.left []
+
+pub returns-in-Err-clause-refused : goal.returns-in-Err-clause-refused
+returns-in-Err-clause-refused g c = refused_as _ _ c.refused.ensures.left c.in-Err.refused.fault c.in-Err.refused.left _ _ c.refused.ensures.refused c.refused.ensures.done c.in-Err.ensures.refused

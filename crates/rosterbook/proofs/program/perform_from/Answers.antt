@@ -1,0 +1,87 @@
+use Rattle.std.proofs.Common.{ap, refl, []}
+use Rattle.std.proofs.lemmas.Result.{IfOk-weaker}
+use Rattle.rosterbook.proofs.Performing.{had_session, not_for_memory, not_unmade, passed_on, performed_so, refused_finished, whatever_status}
+use Rattle.rosterbook.proofs.program.perform_from.Goals as goal
+
+pub returns-in-Do-clause-by_files : goal.returns-in-Do-clause-by_files
+returns-in-Do-clause-by_files g c =
+    performed_so _ c.answer_do.result.left c.finish-in-Do.result.left c.finish-in-Do.ensures.left g.E.Write.contents c.args.action.now _ _ _ _ c.answer_do.result.done _ c.args.err.now _
+    c.finish-in-Do.ensures.done c.finish-in-Do.ensures.failed
+    (IfOk-weaker c.answer_do.result.done _ _ (λ status told _. rw c.in-Do.is told) (c.answer_do.ensures.done _))
+
+pub returns-in-Do-clause-refused : goal.returns-in-Do-clause-refused
+returns-in-Do-clause-refused g c =
+    refused_finished _ c.answer_do.result.left c.finish-in-Do.result.left c.finish-in-Do.ensures.left c.answer_do.result.refused c.finish-in-Do.result.refused c.answer_do.result.done _ _ _ _ _ (g.E.Write.contents c.args.err.now) _
+    c.finish-in-Do.ensures.refused c.answer_do.ensures.refused
+    (λ none. let un = c.answer_do.ensures.unopened none in (ap g.O.Write.contents un.2, refl))
+    c.finish-in-Do.ensures.failed c.finish-in-Do.ensures.told
+
+pub returns-in-Import-clause-by_files : goal.returns-in-Import-clause-by_files
+returns-in-Import-clause-by_files g c =
+    performed_so _ c.answer_import.result.left c.finish-in-Import.result.left c.finish-in-Import.ensures.left g.E.Write.contents c.args.action.now _ _ _ _ c.answer_import.result.done _ c.answer_import.new.err _
+    c.finish-in-Import.ensures.done c.finish-in-Import.ensures.failed
+    (IfOk-weaker c.answer_import.result.done _ _ (λ status told _. rw c.in-Import.is told) c.answer_import.ensures.done)
+
+pub returns-in-Import-clause-refused : goal.returns-in-Import-clause-refused
+returns-in-Import-clause-refused g c =
+    refused_finished _ c.answer_import.result.left c.finish-in-Import.result.left c.finish-in-Import.ensures.left c.answer_import.result.refused c.finish-in-Import.result.refused c.answer_import.result.done _ _ _ _ _ (g.E.Write.contents c.answer_import.new.err) _
+    c.finish-in-Import.ensures.refused c.answer_import.ensures.refused
+    (λ none. let un = c.answer_import.ensures.unopened none in (ap g.O.Write.contents un.2, ap g.E.Write.contents un.3))
+    c.finish-in-Import.ensures.failed c.finish-in-Import.ensures.told
+
+pub returns-in-Roster-clause-by_files : goal.returns-in-Roster-clause-by_files
+returns-in-Roster-clause-by_files g c =
+    performed_so _ c.answer_roster.result.left c.finish-in-Roster.result.left c.finish-in-Roster.ensures.left g.E.Write.contents c.args.action.now _ _ _ _ c.answer_roster.result.done _ c.answer_roster.new.err _
+    c.finish-in-Roster.ensures.done c.finish-in-Roster.ensures.failed
+    (IfOk-weaker c.answer_roster.result.done _ _ (λ status told _. rw c.in-Roster.is told) c.answer_roster.ensures.done)
+
+pub returns-in-Roster-clause-refused : goal.returns-in-Roster-clause-refused
+returns-in-Roster-clause-refused g c =
+    refused_finished _ c.answer_roster.result.left c.finish-in-Roster.result.left c.finish-in-Roster.ensures.left c.answer_roster.result.refused c.finish-in-Roster.result.refused c.answer_roster.result.done _ _ _ _ _ (g.E.Write.contents c.answer_roster.new.err) _
+    c.finish-in-Roster.ensures.refused c.answer_roster.ensures.refused
+    (λ none. let un = c.answer_roster.ensures.unopened none in (ap g.O.Write.contents un.1, ap g.E.Write.contents un.2))
+    c.finish-in-Roster.ensures.failed c.finish-in-Roster.ensures.told
+
+pub returns-in-Pairing-clause-by_files : goal.returns-in-Pairing-clause-by_files
+returns-in-Pairing-clause-by_files g c =
+    performed_so _ c.answer_pairing.result.left c.finish-in-Pairing.result.left c.finish-in-Pairing.ensures.left g.E.Write.contents c.args.action.now _ _ _ _ c.answer_pairing.result.done _ c.answer_pairing.new.err _
+    c.finish-in-Pairing.ensures.done c.finish-in-Pairing.ensures.failed
+    (IfOk-weaker c.answer_pairing.result.done _ _ (λ status told _. rw c.in-Pairing.is told) c.answer_pairing.ensures.done)
+
+pub returns-in-Pairing-clause-refused : goal.returns-in-Pairing-clause-refused
+returns-in-Pairing-clause-refused g c =
+    refused_finished _ c.answer_pairing.result.left c.finish-in-Pairing.result.left c.finish-in-Pairing.ensures.left c.answer_pairing.result.refused c.finish-in-Pairing.result.refused c.answer_pairing.result.done _ _ _ _ _ (g.E.Write.contents c.answer_pairing.new.err) _
+    c.finish-in-Pairing.ensures.refused c.answer_pairing.ensures.refused
+    (λ none. let un = c.answer_pairing.ensures.unopened none in (ap g.O.Write.contents un.1, ap g.E.Write.contents un.2))
+    c.finish-in-Pairing.ensures.failed c.finish-in-Pairing.ensures.told
+
+pub returns-in-Exceedances-clause-by_files : goal.returns-in-Exceedances-clause-by_files
+returns-in-Exceedances-clause-by_files g c =
+    performed_so _ c.answer_exceedances.result.left c.finish-in-Exceedances.result.left c.finish-in-Exceedances.ensures.left g.E.Write.contents c.args.action.now _ _ _ _ c.answer_exceedances.result.done _ c.answer_exceedances.new.err _
+    c.finish-in-Exceedances.ensures.done c.finish-in-Exceedances.ensures.failed
+    (IfOk-weaker c.answer_exceedances.result.done _ _ (λ status told _. rw c.in-Exceedances.is told) c.answer_exceedances.ensures.done)
+
+pub returns-in-Exceedances-clause-refused : goal.returns-in-Exceedances-clause-refused
+returns-in-Exceedances-clause-refused g c =
+    refused_finished _ c.answer_exceedances.result.left c.finish-in-Exceedances.result.left c.finish-in-Exceedances.ensures.left c.answer_exceedances.result.refused c.finish-in-Exceedances.result.refused c.answer_exceedances.result.done _ _ _ _ _ (g.E.Write.contents c.answer_exceedances.new.err) _
+    c.finish-in-Exceedances.ensures.refused c.answer_exceedances.ensures.refused
+    (λ none. let un = c.answer_exceedances.ensures.unopened none in (ap g.O.Write.contents un.1, ap g.E.Write.contents un.2))
+    c.finish-in-Exceedances.ensures.failed c.finish-in-Exceedances.ensures.told
+
+pub returns-in-Serve-clause-by_files : goal.returns-in-Serve-clause-by_files
+returns-in-Serve-clause-by_files g c =
+    performed_so _ c.answer_serve.result.left c.finish-in-Serve.result.left c.finish-in-Serve.ensures.left g.E.Write.contents c.args.action.now _ _ _ _ c.answer_serve.result.done _ c.answer_serve.new.err _
+    c.finish-in-Serve.ensures.done c.finish-in-Serve.ensures.failed
+    (IfOk-weaker c.answer_serve.result.done _ _ (λ status told _. rw c.in-Serve.is told) c.answer_serve.ensures.served)
+
+pub returns-in-Serve-clause-refused : goal.returns-in-Serve-clause-refused
+returns-in-Serve-clause-refused g c =
+    refused_finished _ c.answer_serve.result.left c.finish-in-Serve.result.left c.finish-in-Serve.ensures.left c.answer_serve.result.refused c.finish-in-Serve.result.refused c.answer_serve.result.done _ _ _ _ _ (g.E.Write.contents c.answer_serve.new.err) _
+    c.finish-in-Serve.ensures.refused c.answer_serve.ensures.refused
+    (λ none. let un = c.answer_serve.ensures.unopened none in (ap g.O.Write.contents un.1, ap g.E.Write.contents un.2))
+    c.finish-in-Serve.ensures.failed c.finish-in-Serve.ensures.told
+
+pub returns-in-Serve-clause-left : goal.returns-in-Serve-clause-left
+returns-in-Serve-clause-left g c =
+    rw c.in-Serve.is (had_session _ c.answer_serve.result.left c.finish-in-Serve.result.left c.finish-in-Serve.ensures.left c.answer_serve.result.done _ _ _ _ _ _
+    c.answer_serve.ensures.served c.answer_serve.ensures.stopped)
