@@ -51,7 +51,7 @@ finished {E} contents P (Ok status) code mid new ends failed it other =
 finished contents P (Err stop) code mid new ends failed it other = absurd (other (failed refl))
 
 -- an answer, or that there was no memory for one
-pub not_for_memory : (answer : ProgramOutput) (done : Result Status Stop) (out out' err err' : ChannelBytes) →
+pub not_for_memory : {E : Type 0} (answer : ProgramOutput) (done : Result Status E) (out out' err err' : ChannelBytes) →
     IfOk done (λ status. Gives answer status out out' err err' ⊎ Gives memory_answer status out out' err err') →
     IfOk done (λ status. status ≢ Failed → Gives answer status out out' err err')
 not_for_memory answer (Ok status) out out' err err' (inl it) = λ other. it

@@ -44,14 +44,14 @@ failure_last [] outcome there = there
 failure_last (Ok served ∷ outcomes) outcome there = failure_last outcomes outcome there
 failure_last (Err fault ∷ outcomes) outcome there = tt
 
-has_failed : (outcome : Outcome) (told : Bool) → IfOk outcome (λ _. told ≡ true) → told ≡ false → HasFailure (outcome ∷ [])
-has_failed (Ok served) told fine lost = let never : true ≡ false = sym fine ∙ lost in absurd (cc)
-has_failed (Err fault) told fine lost = tt
+is_failure : (outcome : Outcome) (told : Bool) → IfOk outcome (λ _. told ≡ true) → told ≡ false → HasFailure (outcome ∷ [])
+is_failure (Ok served) told fine lost = let never : true ≡ false = sym fine ∙ lost in absurd (cc)
+is_failure (Err fault) told fine lost = tt
 
 untold_so_far : (told told' : Bool) (outcomes : List Outcome) (outcome : Outcome) → (told ≡ false → HasFailure outcomes) → IfOk outcome (λ _. told' ≡ true) →
     (told && told') ≡ false → HasFailure (outcomes ++ outcome ∷ [])
 untold_so_far false told' outcomes outcome first fine lost = failure_before outcomes (outcome ∷ []) (first refl)
-untold_so_far true told' outcomes outcome first fine lost = failure_last outcomes outcome (has_failed outcome told' fine lost)
+untold_so_far true told' outcomes outcome first fine lost = failure_last outcomes outcome (is_failure outcome told' fine lost)
 
 -- ---- One connection more
 

@@ -33,7 +33,7 @@ pub returns-in-Roster-clause-by_files : goal.returns-in-Roster-clause-by_files
 returns-in-Roster-clause-by_files g c =
     performed_so _ c.answer_roster.result.left c.finish-in-Roster.result.left c.finish-in-Roster.ensures.left g.E.Write.contents c.args.action.now _ _ _ _ c.answer_roster.result.done _ c.answer_roster.new.err _
     c.finish-in-Roster.ensures.done c.finish-in-Roster.ensures.failed
-    (IfOk-weaker c.answer_roster.result.done _ _ (λ status told _. rw c.in-Roster.is told) c.answer_roster.ensures.done)
+    (IfOk-weaker c.answer_roster.result.done _ _ (λ status told _. rw c.in-Roster.is (rw c.deref-in-Roster-2.ensures at told)) c.answer_roster.ensures.done)
 
 pub returns-in-Roster-clause-refused : goal.returns-in-Roster-clause-refused
 returns-in-Roster-clause-refused g c =
@@ -46,7 +46,7 @@ pub returns-in-Pairing-clause-by_files : goal.returns-in-Pairing-clause-by_files
 returns-in-Pairing-clause-by_files g c =
     performed_so _ c.answer_pairing.result.left c.finish-in-Pairing.result.left c.finish-in-Pairing.ensures.left g.E.Write.contents c.args.action.now _ _ _ _ c.answer_pairing.result.done _ c.answer_pairing.new.err _
     c.finish-in-Pairing.ensures.done c.finish-in-Pairing.ensures.failed
-    (IfOk-weaker c.answer_pairing.result.done _ _ (λ status told _. rw c.in-Pairing.is told) c.answer_pairing.ensures.done)
+    (IfOk-weaker c.answer_pairing.result.done _ _ (λ status told _. rw c.in-Pairing.is (rw c.deref-in-Pairing-2.ensures at told)) c.answer_pairing.ensures.done)
 
 pub returns-in-Pairing-clause-refused : goal.returns-in-Pairing-clause-refused
 returns-in-Pairing-clause-refused g c =
@@ -85,3 +85,24 @@ pub returns-in-Serve-clause-left : goal.returns-in-Serve-clause-left
 returns-in-Serve-clause-left g c =
     rw c.in-Serve.is (had_session _ c.answer_serve.result.left c.finish-in-Serve.result.left c.finish-in-Serve.ensures.left c.answer_serve.result.done _ _ _ _ _ _
     c.answer_serve.ensures.served c.answer_serve.ensures.stopped)
+
+pub returns-in-Duty-clause-by_files : goal.returns-in-Duty-clause-by_files
+returns-in-Duty-clause-by_files g c =
+    performed_so _ c.unopened.result.left c.finish.result.left c.finish.ensures.left g.E.Write.contents c.args.action.now _ _ _ _ c.unopened.result.done _ c.answer_duty.new.err _
+    c.finish.ensures.done c.finish.ensures.failed
+    (rw c.unopened.ensures.done (passed_on _ c.answer_duty.result c.done_of-done.result c.done_of-done.ensures
+    (IfOk-weaker c.answer_duty.result _ _ (λ status it other. rw c.in-Duty.is (rw (c.deref.ensures, c.deref-in-Duty.ensures, c.deref-in-Duty-2.ensures.value) at (it other)))
+    (not_for_memory _ c.answer_duty.result _ _ _ _ c.answer_duty.ensures))))
+
+pub returns-in-Init-clause-by_files : goal.returns-in-Init-clause-by_files
+returns-in-Init-clause-by_files g c =
+    performed_so _ c.answer_init.result.left c.finish-in-Init.result.left c.finish-in-Init.ensures.left g.E.Write.contents c.args.action.now _ _ _ _ c.answer_init.result.done _ c.answer_init.new.err _
+    c.finish-in-Init.ensures.done c.finish-in-Init.ensures.failed
+    (IfOk-weaker c.answer_init.result.done _ _ (λ status it other. rw c.in-Init.is (rw c.deref-in-Init-2.ensures at (it other)))
+    (not_unmade _ _ c.answer_init.result.done _ _ _ _ _ c.answer_init.ensures.answered c.answer_init.ensures.made))
+
+pub returns-in-Do-clause-left : goal.returns-in-Do-clause-left
+returns-in-Do-clause-left g c = rw (c.in-Do.is, c.finish-in-Do.ensures.left) c.answer_do.ensures.left
+
+pub returns-in-Import-clause-left : goal.returns-in-Import-clause-left
+returns-in-Import-clause-left g c = rw (c.in-Import.is, c.finish-in-Import.ensures.left) c.answer_import.ensures.left
