@@ -1,57 +1,105 @@
--- What a request and a schedule are told, from what was read of them.
-use Rattle.std.proofs.Common.{◌≡◌, ◌⊎◌, inl, inr, ℕ, List, [], ◌∷◌, refl, sym, ap, subst, Ok, Err}
+-- What a request and a schedule are told, from what was asked of a book.
+use Rattle.std.proofs.Common.{◌≡◌, ◌⊎◌, ◌∙◌, ◌++◌, inl, inr, ℕ, List, [], ◌∷◌, refl, sym, ap, subst, string_bytes, Result, Ok, Err}
 use Rattle.std.specs.Io.KnownBytes.{Appends}
 use Rattle.sqlite_trees.specs.declared.store.Store.{Ghosts}
 use Rattle.duty.specs.Plans.{Plan}
-use Rattle.command.specs.Keys.{KeyParts}
 use Rattle.command.specs.declared.instruction.Instruction.{Instruction}
-use Rattle.command.specs.declared.refusal.Refusal.TheVariants.{NumberUsed}
+use Rattle.command.specs.declared.refusal.Refusal.{Refusal}
+use Rattle.command.specs.declared.refusal.Refusal.TheVariants as refusals
+use Rattle.codec.specs.Requests.{read_request}
 use Rattle.codec.specs.Schedule.{IsAtFault, IsSchedule}
-use Rattle.roster.specs.Folds.{answer_of, next}
+use Rattle.roster.specs.Folds.{ReplyOrRefusal}
 use Rattle.roster.specs.State.{State}
-use Rattle.roster.specs.Steps.{step_of}
-use Rattle.codec.specs.RefusalText as json
 use Rattle.stored_json.specs.Texts.{codec_fault_text}
 use Rattle.stored_json.specs.declared.fault.CodecFault.{CodecFault}
 use Rattle.stored_json.specs.declared.fault.CodecFault.TheVariants.{BadCsv}
-use Rattle.book.specs.Kept.{IsDurablyAt, IsClean, Kept}
-use Rattle.roster.specs.Folds.{ReplyOrRefusal}
-use Rattle.web.specs.Answers.{answer_json}
-use Rattle.rosterbook.specs.Asking.{Answers, AreAddedAndTold, AreTold, IsImported, IsImportTold, IsNoSchedule, Request, left_by_request, status_of_answer, told_json}
+use Rattle.state_rows.specs.declared.fault.StoreFault.{StoreFault}
+use Rattle.book.specs.Answered.{IsAnswered}
+use Rattle.book.specs.Kept.{IsDurablyAt, IsClean, Kept, result_of}
+use Rattle.book.specs.declared.answer.Answer.{Answer}
+use Rattle.asking.specs.Answers.{Reports, answer_json, answer_kind, refusal_kind}
+use Rattle.asking.specs.Requests.{IsDoneAsRead, IsRequestAsked, Request, asked_as}
+use Rattle.asking.specs.declared.answers.JsonAnswer.{JsonAnswer}
 use Rattle.http_exchange.specs.Exchange.{ChannelBytes}
-use Rattle.rosterbook.specs.Streams.{ReadsInput, refused_line}
+use Rattle.rosterbook.specs.Asking.{Answers, AreAddedAndTold, AreTold, IsImported, IsImportTold, IsNoSchedule, IsRequestAnswered, left_by_request, status_of_answer, status_of_kind, told_json}
+use Rattle.rosterbook.specs.Streams.{Prints, ReadsInput, line_end, refused_line}
 use Rattle.rosterbook.specs.declared.status.Status.{Status}
 use Rattle.rosterbook.specs.declared.status.Status.TheVariants.{Refused}
 
 -- ---- `do`
 
-module _ {S : Type 0} (g : Ghosts S) (old new : Kept S) (status : Status) (line : List ℕ) where
-  abbrev IsRequestTold : Request → Type 0
-  IsRequestTold request = (answer : ReplyOrRefusal)
-      × ((status, line) ≡ told_json request answer)
+refused_kind : (r : Refusal) → status_of_kind (refusal_kind r) ≡ Refused
+refused_kind refusals.NumberUsed = refl
+refused_kind refusals.NoSuchCrew = refl
+refused_kind refusals.CrewExists = refl
+refused_kind refusals.NoSuchPairing = refl
+refused_kind refusals.PairingExists = refl
+refused_kind refusals.SeatTaken = refl
+refused_kind refusals.WrongSeat = refl
+refused_kind refusals.NotAssigned = refl
+refused_kind refusals.PairingCrewed = refl
+refused_kind refusals.Flown = refl
+refused_kind refusals.Overlap = refl
+refused_kind (refusals.Limits broken) = refl
+refused_kind refusals.NoSuchDuty = refl
+refused_kind refusals.GroundExists = refl
+refused_kind refusals.NoSuchGround = refl
+refused_kind (refusals.SegmentCount period) = refl
+refused_kind refusals.NoSuchBase = refl
+refused_kind refusals.BaseExists = refl
+refused_kind refusals.OutsideTaken = refl
+
+kind_ends : (answer : ReplyOrRefusal) → status_of_kind (answer_kind answer) ≡ status_of_answer answer
+kind_ends (Ok reply) = refl
+kind_ends (Err refusal) = refused_kind refusal
+
+module _ {S : Type 0} (g : Ghosts S) (old new : Kept S) where
+  abbrev pub IsRequestTold : Status × List ℕ → Request → Type 0
+  IsRequestTold told request = (answer : ReplyOrRefusal)
+      × (told ≡ told_json request answer)
       × ((s : State) → IsDurablyAt g old s → IsClean g new → Answers s request answer)
       × ((s : State) → IsDurablyAt g old s → IsDurablyAt g new (left_by_request s request))
 
-  pub request_answered : (request : Request) (number : ℕ) (instruction : Instruction) (key : KeyParts) (answer : ReplyOrRefusal) →
-      request ≡ Ok (number, instruction) → key ≡ record { number = number; part = 0 } → status ≡ status_of_answer answer → line ≡ answer_json answer →
-      ((s : State) → IsDurablyAt g old s → IsClean g new → answer ≡ answer_of (step_of s key instruction)) →
-      ((s : State) → IsDurablyAt g old s → IsDurablyAt g new (next s (key, instruction))) → IsRequestTold request
-  request_answered request number instruction key answer is under ends says reply left =
-      let under_key : KeyParts = record { number = number; part = 0 } in
-      subst IsRequestTold (sym is) (
-        answer,
-        rw (ends, says) refl,
-        (λ s at clean. ap (λ a. a ∷ []) (rw under at (reply s at clean))),
-        (λ s at. rw under at (left s at)),
-      )
+  command_told : (asked : ℕ × Instruction) (answered : Result Answer StoreFault) (told : JsonAnswer) → IsAnswered g old new (asked_as asked) answered → Reports answered (Ok told)
+      → IsRequestTold (status_of_kind told.kind, string_bytes told.text) (Ok asked)
+  command_told (number, instruction) (Ok answer) told is (kind, text) = (
+    result_of answer,
+    ap (λ k. (status_of_kind k, string_bytes told.text)) kind ∙ ap (λ t. (status_of_kind (answer_kind (result_of answer)), t)) text
+        ∙ ap (λ (s : Status). (s, answer_json (result_of answer))) (kind_ends (result_of answer)),
+    (λ s at clean. ap (λ a. a ∷ []) (is.reply s at clean)),
+    (λ s at. is.answered s at),
+  )
+  command_told asked (Err fault) told is never = absurd (cc)
 
-pub request_unread : {S : Type 0} (g : Ghosts S) (book : Kept S) (status : Status) (line : List ℕ) (request : Request) (fault : CodecFault) →
-    request ≡ Err fault → status ≡ Refused → line ≡ json.fault_reply fault →
-    (answer : ReplyOrRefusal)
-    × ((status, line) ≡ told_json request answer)
-    × ((s : State) → IsDurablyAt g book s → IsClean g book → Answers s request answer)
-    × ((s : State) → IsDurablyAt g book s → IsDurablyAt g book (left_by_request s request))
-request_unread g book status line request fault is ends says = rw is (Err NumberUsed, rw (ends, says) refl, (λ s at clean. tt), (λ s at. at))
+  read_told : (request : Request) (told : JsonAnswer) → IsDoneAsRead g old new request (Ok told) → IsRequestTold (status_of_kind told.kind, string_bytes told.text) request
+  read_told (Ok asked) told it = command_told asked it.answer told it.answered it.reported
+  read_told (Err fault) told (same, (kind, text)) = (
+    Err refusals.NumberUsed,
+    ap (λ k. (status_of_kind k, string_bytes told.text)) kind ∙ ap (λ t. (Refused, t)) text,
+    (λ s at clean. tt),
+    (λ s at. subst (λ (b : Kept S). IsDurablyAt g b s) (sym same) at),
+  )
+
+  -- a request that was asked, or isn't read, is told so
+  pub request_told : (body : List ℕ) (told : JsonAnswer) → IsRequestAsked g old new body (Ok told) → IsRequestTold (status_of_kind told.kind, string_bytes told.text) (read_request body)
+  request_told body told (inr (same, never)) = absurd (cc)
+  request_told body told (inl done) = read_told (read_request body) told done
+
+  -- and the line was written
+  pub request_answered : (held out out' : ChannelBytes) (input : List ℕ) (told : JsonAnswer) (status : Status) → ReadsInput held input → IsRequestAsked g old new input (Ok told)
+      → status ≡ status_of_kind told.kind → Appends out out' (string_bytes told.text ++ line_end) → IsRequestAnswered g old new held out out' status
+  request_answered held out out' input told status read asked ends written =
+      let it = request_told input told asked in
+      record {
+        input = input;
+        answer = it.0;
+        told = record {
+          read = read;
+          printed = subst (λ (l : Status × List ℕ). Prints l status out out') it.1 (ends, written);
+        };
+        answered = it.2;
+        left = it.3;
+      }
 
 -- ---- `import`
 

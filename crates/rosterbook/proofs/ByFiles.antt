@@ -22,7 +22,8 @@ use Rattle.book.proofs.Left.{leaves_either}
 use Rattle.book.proofs.LifeLemmas as life
 use Rattle.book.proofs.States.{one_of_either}
 use Rattle.http_exchange.specs.Exchange.{ChannelBytes}
-use Rattle.rosterbook.specs.Asking.{IsAskStopped, IsImported, IsImportStopped, IsLeftAfterAnswers, IsRequestAnswered, IsStoppedIn, Request, asked_by_request, left_by_request}
+use Rattle.asking.specs.Requests.{Request}
+use Rattle.rosterbook.specs.Asking.{IsAskStopped, IsImported, IsImportStopped, IsLeftAfterAnswers, IsRequestAnswered, IsStoppedIn, asked_by_request, left_by_request}
 use Rattle.rosterbook.specs.ByFiles.{AreLeftAfter, AreLeftAsFound, AreLeftByImport, AreLeftByRequest, IsByFiles, IsDoneBy, IsImportedBy, IsRefusedAs, IsSession, IsShownBy}
 use Rattle.rosterbook.specs.Showing.{IsToldOf}
 use Rattle.rosterbook.specs.declared.status.Status.{Status}

@@ -16,7 +16,8 @@ use Rattle.roster.specs.declared.change.Verdict.{Verdict}
 use Rattle.roster.specs.declared.change.Verdict.TheVariants.{Accept, Refuse, Repeat}
 use Rattle.roster.specs.declared.state.LoggedCommand.{LoggedCommand}
 use Rattle.book.specs.Kept.{IsClean, IsDurablyAt, Kept}
-use Rattle.rosterbook.specs.Asking.{Request, left_by_request}
+use Rattle.asking.specs.Requests.{Request}
+use Rattle.rosterbook.specs.Asking.{left_by_request}
 
 -- a command is kept under no key
 abbrev IsOdd : State → Type 0

@@ -1,64 +1,102 @@
 -- What is told of a book that is shown.
-use Rattle.std.proofs.Common.{◌≡◌, ◌≢◌, inl, inr, ap, refl, ℕ, List, Option, Some, None, Result, Ok, Err, IfOk, IfErr, string_bytes}
-use Rattle.std.specs.Prelude.{◌↔◌, ◌⊎◌}
-use Rattle.std.specs.FinMap as fin
-use Rattle.std.specs.Option.{option_map}
-use Rattle.std.proofs.Common.{String, Global}
-use Rattle.std.specs.Io.KnownBytes.{Appends}
+use Rattle.std.proofs.Common.{◌≡◌, inl, inr, refl, ap, sym, subst, ℕ, List, Option, Some, None, Result, Ok, Err, IfOk, IfErr, string_bytes}
+use Rattle.sqlite_trees.specs.declared.store.Store.{Ghosts}
 use Rattle.roster.specs.State.{State}
-use Rattle.report.specs.ExceedanceText.{IsExceedanceText}
-use Rattle.report.specs.Faults.{report_fault_text}
-use Rattle.report.specs.PairingText.{pairing_lines, pairing_text}
-use Rattle.report.specs.RosterText.{IsRosterText}
+use Rattle.state_rows.specs.declared.fault.StoreFault.{StoreFault}
 use Rattle.report.specs.declared.fault.ReportFault.{ReportFault}
-use Rattle.report.specs.declared.fault.ReportFault.TheVariants.{NoSuchCrew, NoSuchPairing, Memory}
+use Rattle.report.specs.declared.fault.ReportFault.TheVariants.{NoSuchCrew, NoSuchPairing}
 use Rattle.store.specs.Shown.{IsShown}
 use Rattle.store.specs.declared.show.Show.{Show}
-use Rattle.store.specs.declared.show.Show.TheVariants.{Crew, Pairing, Exceedances}
-use Rattle.rosterbook.specs.Showing.{IsAbsence, IsShownTextOrFault, IsToldOf}
+use Rattle.book.specs.Kept.{IsDurablyAt, IsClean, Kept}
+use Rattle.asking.specs.Reports.{HasShown, IsReportAsked, ReportsShown, ShowsOf}
+use Rattle.asking.specs.declared.answers.AskFault.{AskFault}
+use Rattle.asking.specs.declared.answers.AskFault.TheVariants as ask
+use Rattle.asking.specs.declared.reports.Shown.{Shown}
+use Rattle.asking.specs.declared.reports.Shown.TheVariants as shown
 use Rattle.http_exchange.specs.Exchange.{ChannelBytes}
-use Rattle.rosterbook.specs.Streams.{refused_line}
-use Rattle.rosterbook.specs.declared.status.Status.TheVariants.{Done, Refused}
-
--- ---- A text of a roster
-
-pub member_told : (r : Result (String Global) ReportFault) (s : State) (who : List ℕ)
-    → IfOk r (λ text. IsRosterText s who (string_bytes text))
-    → ((r ≡ Err NoSuchCrew) ↔ (fin.get s.crew who ≡ None))
-    → IfErr r (λ fault. (fault ≡ NoSuchCrew) ⊎ (fault ≡ Memory)) → IsShownTextOrFault s (Crew who) r
-member_told (Ok text) s who is absent fault = is
-member_told (Err fault) s who is absent (inl e) = inr (absent.0 (ap Err e), e)
-member_told (Err fault) s who is absent (inr e) = inl e
-
-pub pairing_told : (r : Result (String Global) ReportFault) (s : State) (id : List ℕ)
-    → IfOk r (λ text. pairing_text s id ≡ Some (string_bytes text))
-    → ((r ≡ Err NoSuchPairing) ↔ (fin.get s.pairings id ≡ None))
-    → IfErr r (λ fault. (fault ≡ NoSuchPairing) ⊎ (fault ≡ Memory)) → IsShownTextOrFault s (Pairing id) r
-pairing_told (Ok text) s id is absent fault = is
-pairing_told (Err fault) s id is absent (inl e) = inr (ap (option_map (pairing_lines id)) (absent.0 (ap Err e)), e)
-pairing_told (Err fault) s id is absent (inr e) = inl e
-
-pub exceedances_told : (r : Result (String Global) ReportFault) (s : State)
-    → IfOk r (λ text. IsExceedanceText s (string_bytes text)) → IfErr r (λ fault. fault ≡ Memory) → IsShownTextOrFault s Exceedances r
-exceedances_told (Ok text) s is fault = is
-exceedances_told (Err fault) s is e = inl e
-
--- what shows the same has the same text
-pub same_text : (r : Result (String Global) ReportFault) (what : Show) (roster s : State)
-    → ((shown : Option (List ℕ)) → IsShown roster what shown ↔ IsShown s what shown) → IsShownTextOrFault roster what r → IsShownTextOrFault s what r
-same_text (Ok text) what roster s same is = (same (Some (string_bytes text))).0 is
-same_text (Err fault) what roster s same (inl e) = inl e
-same_text (Err fault) what roster s same (inr is) = inr ((same None).0 is.0, is.1)
+use Rattle.rosterbook.specs.Asking.{IsBookFault, stop_of}
+use Rattle.rosterbook.specs.Showing.{IsAbsence, IsShowStopped, IsToldOf, PrintsShown}
+use Rattle.rosterbook.specs.Streams.{IsOfChannel}
+use Rattle.rosterbook.specs.declared.status.Status.{Status}
+use Rattle.rosterbook.specs.declared.stop.Stop.{Stop}
+use Rattle.rosterbook.specs.declared.stop.Stop.TheVariants as stops
+use Rattle.rosterbook.proofs.Stopping.{has_failed, no_fault_of_book}
 
 -- ---- What is printed
 
-pub text_told : (s : State) (what : Show) (text : List ℕ) (out out' err : ChannelBytes) → IsShown s what (Some text) → Appends out out' text
-    → IsToldOf s what Done out out' err err
-text_told s what text out out' err is prints = record { shown = Some text; is = is; told = (refl, prints, refl) }
+-- what is shown of a state is told of it
+shown_told : (s : State) (what : Show) (it : Shown) (status : Status) (out out' err err' : ChannelBytes) → ShowsOf s what (Ok it) → PrintsShown it status out out' err err'
+    → IsToldOf s what status out out' err err'
+shown_told s what (shown.Text text) status out out' err err' is prints = record { shown = Some (string_bytes text); is = is; told = prints }
+shown_told s what shown.NoSuchCrew status out out' err err' is prints = record {
+  shown = None;
+  is = is.0;
+  told = (prints.0, prints.1, (NoSuchCrew, subst (λ w. IsAbsence w NoSuchCrew) (sym is.1.1) refl, prints.2));
+}
+shown_told s what shown.NoSuchPairing status out out' err err' is prints = record {
+  shown = None;
+  is = is.0;
+  told = (prints.0, prints.1, (NoSuchPairing, subst (λ w. IsAbsence w NoSuchPairing) (sym is.1.1) refl, prints.2));
+}
 
-pub absence_told : (s : State) (what : Show) (fault : ReportFault) (out err err' : ChannelBytes) → fault ≢ Memory
-    → (fault ≡ Memory) ⊎ (IsShown s what None × IsAbsence what fault) → Appends err err' (refused_line (report_fault_text fault))
-    → IsToldOf s what Refused out out err err'
-absence_told s what fault out err err' other (inl e) tells = absurd (other e)
-absence_told s what fault out err err' other (inr is) tells =
-    record { shown = None; is = is.0; told = (refl, refl, (fault, is.1, tells)) }
+-- what shows the same shows the same of it
+shows_same : (roster s : State) (what : Show) (it : Shown) → ((text : Option (List ℕ)) → (IsShown roster what text → IsShown s what text)) → ShowsOf roster what (Ok it) → ShowsOf s what (Ok it)
+shows_same roster s what (shown.Text text) same is = same (Some (string_bytes text)) is
+shows_same roster s what shown.NoSuchCrew same is = (same None is.0, is.1)
+shows_same roster s what shown.NoSuchPairing same is = (same None is.0, is.1)
+
+module _ {S : Type 0} (g : Ghosts S) (old new : Kept S) (what : Show) where
+  -- ---- What was shown is told
+
+  module _ (it : Shown) (status : Status) (out out' err err' : ChannelBytes) (prints : PrintsShown it status out out' err err') where
+    some_shown : (r : Result State StoreFault) → ReportsShown r what (Ok it) → (s : State) × IsToldOf s what status out out' err err'
+    some_shown (Ok roster) is = (roster, shown_told roster what it status out out' err err' is prints)
+    some_shown (Err fault) is = absurd (cc)
+
+    pub some_told : IsReportAsked g old new what (Ok it) → (s : State) × IsToldOf s what status out out' err err'
+    some_told (inl asked) = some_shown asked.shown asked.reported
+    some_told (inr (same, is)) = absurd (cc)
+
+    state_shown : (s : State) → IsDurablyAt g old s → IsClean g new → (r : Result State StoreFault) → HasShown g old new what r → ReportsShown r what (Ok it)
+        → IsToldOf s what status out out' err err'
+    state_shown s at clean (Ok roster) has is =
+        shown_told s what it status out out' err err' (shows_same roster s what it (λ text. (has.text s at clean text).0) is) prints
+    state_shown s at clean (Err fault) has is = absurd (cc)
+
+    pub state_told : (s : State) → IsDurablyAt g old s → IsClean g new → IsReportAsked g old new what (Ok it) → IsToldOf s what status out out' err err'
+    state_told s at clean (inl asked) = state_shown s at clean asked.shown asked.has_shown asked.reported
+    state_told s at clean (inr (same, is)) = absurd (cc)
+
+  -- the book is as it was
+  pub report_kept : (r : Result Shown AskFault) → IsReportAsked g old new what r → (s : State) → IsDurablyAt g old s → IsDurablyAt g new s
+  report_kept r (inl asked) s at = asked.has_shown.call.kept s at
+  report_kept r (inr (same, is)) s at = subst (λ (b : Kept S). IsDurablyAt g b s) (sym same) at
+
+  -- ---- Where it stops
+
+  -- a writer failed, or there was no memory beside the book
+  pub not_of_book : (out out' : ChannelBytes) (stop : Stop) → IsOfChannel stop → IsShowStopped new out out' stop
+  not_of_book out out' stop (inl is) = subst (IsShowStopped new out out') (sym is) (record {
+    told = inr (inl refl);
+    silent = λ no. absurd (no_fault_of_book stops.Memory (inl refl) no);
+    failed = λ no. absurd (cc);
+  })
+  not_of_book out out' stop (inr is) = subst (IsShowStopped new out out') (sym is) (record {
+    told = inr (inr refl);
+    silent = λ no. absurd (no_fault_of_book stops.Channel (inr refl) no);
+    failed = λ no. absurd (cc);
+  })
+
+  unshown : (out : ChannelBytes) (fault : AskFault) (r : Result State StoreFault) → HasShown g old new what r → ReportsShown r what (Err fault) → IsShowStopped new out out (stop_of fault)
+  unshown out fault (Ok roster) has memory = not_of_book out out (stop_of fault) (inl (ap stop_of memory))
+  unshown out fault (Err met) has is =
+      let at_book : fault ≡ ask.Book met = cc in
+      subst (λ f. IsShowStopped new out out (stop_of f)) (sym at_book) (record {
+        told = inl (met, refl);
+        silent = λ _. refl;
+        failed = has_failed State met old.failed new.failed has.call.failed;
+      })
+
+  pub report_stopped : (out : ChannelBytes) (fault : AskFault) → IsReportAsked g old new what (Err fault) → IsShowStopped new out out (stop_of fault)
+  report_stopped out fault (inl asked) = unshown out fault asked.shown asked.has_shown asked.reported
+  report_stopped out fault (inr (same, is)) = let memory : fault ≡ ask.Memory = cc in not_of_book out out (stop_of fault) (inl (ap stop_of memory))

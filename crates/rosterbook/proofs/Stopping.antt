@@ -3,7 +3,6 @@ use Rattle.std.proofs.Common.{◌≡◌, inl, inr, ◌<◌, ◌≤◌, ℕ, ◌+
 use Rattle.std.proofs.lemmas.Option.{get_or_from_slice_get}
 use Rattle.sqlite_trees.specs.declared.store.Store.{Ghosts}
 use Rattle.duty.specs.Plans.{Plan}
-use Rattle.command.specs.Keys.{KeyParts}
 use Rattle.command.specs.declared.instruction.Instruction.{Instruction}
 use Rattle.state_rows.specs.declared.fault.StoreFault.{StoreFault}
 use Rattle.state_rows.specs.declared.fault.StoreFault.TheVariants.{Store, Memory}
@@ -15,15 +14,21 @@ use Rattle.book.specs.Kept.{IsDurablyAt, IsClean, IsInDoubt, Kept, is_store_faul
 use Rattle.book.specs.declared.answer.Answer.{Answer}
 use Rattle.book.proofs.Runs.{fold_more}
 use Rattle.roster.specs.Folds.{ReplyOrRefusal}
-use Rattle.rosterbook.specs.Asking.{Answers, AreStopped, IsAskStopped, IsLeftAfterAnswers, IsBookFault, IsStoppedIn, Request, asked_by_request, left_by_request}
+use Rattle.asking.specs.Answers.{Reports}
+use Rattle.asking.specs.Requests.{IsDoneAsRead, IsRequestAsked, Request, asked_as}
+use Rattle.asking.specs.declared.answers.AskFault.{AskFault}
+use Rattle.asking.specs.declared.answers.AskFault.TheVariants as ask
+use Rattle.asking.specs.declared.answers.JsonAnswer.{JsonAnswer}
+use Rattle.rosterbook.specs.Asking.{Answers, AreStopped, IsAskStopped, IsLeftAfterAnswers, IsBookFault, IsStoppedIn, asked_by_request, left_by_request, stop_of}
 use Rattle.http_exchange.specs.Exchange.{ChannelBytes}
 use Rattle.rosterbook.specs.Streams.{IsOfChannel, ReadsInput}
 use Rattle.rosterbook.specs.declared.status.Status.{Status}
 use Rattle.rosterbook.specs.declared.stop.Stop.{Stop}
 use Rattle.rosterbook.specs.declared.stop.Stop.TheVariants as stops
 use Rattle.rosterbook.specs.declared.stop.Stop.TheVariants.{Book}
+use Rattle.rosterbook.proofs.Answering.{request_told}
 use Rattle.rosterbook.proofs.CleanBefore.{clean_before_request, clean_before_same}
-use Rattle.rosterbook.proofs.PartsAdded.{AreAsked, AreSoFar, one_asked}
+use Rattle.rosterbook.proofs.PartsAdded.{AreAsked, AreSoFar, none_asked, one_asked}
 
 -- a reader or a writer doesn't fail as the book does
 pub no_fault_of_book : (stop : Stop) → IsOfChannel stop → IsBookFault stop → ⊥
@@ -37,9 +42,9 @@ or_true true = refl
 or_true false = refl
 
 -- the book has failed where the store has
-has_failed : (fault : StoreFault) (was is : Bool) → is ≡ (was || is_store_fault {A = Answer} (Err fault)) → Book fault ≡ Book Store → IsTrue is
-has_failed Store was is failed at_store = rw failed (or_true was)
-has_failed Memory was is failed at_store = absurd (cc)
+pub has_failed : (A : Type 0) (fault : StoreFault) (was is : Bool) → is ≡ (was || is_store_fault {A = A} (Err fault)) → Book fault ≡ Book Store → IsTrue is
+has_failed A Store was is failed at_store = rw failed (or_true was)
+has_failed A Memory was is failed at_store = absurd (cc)
 
 module _ {S : Type 0} (g : Ghosts S) (old now new : Kept S) (asked : List Asked) (count : ℕ) (answers : List ReplyOrRefusal) where
   -- no line was written of the last answer
@@ -87,7 +92,7 @@ module _ {S : Type 0} (g : Ghosts S) (old now new : Kept S) (asked : List Asked)
         told = inl (fault, refl);
         few = omega (arith, each, within);
         unanswered = λ is. omega (arith, each, within);
-        failed = has_failed fault now.failed new.failed failed;
+        failed = has_failed Answer fault now.failed new.failed failed;
         disk = λ is_clean. was.clean (clean is_clean);
         answered = λ s at is_clean. rw each (was.answered s at (clean is_clean));
         left = λ s at.
@@ -96,10 +101,6 @@ module _ {S : Type 0} (g : Ghosts S) (old now new : Kept S) (asked : List Asked)
             subst (λ n. IsLeftAfterAnswers g new s asked n (Book fault)) (sym each) (left_at fault s a more (memory so_far (was.left s at)) (store so_far (was.left s at)));
       }
 
--- want of memory, before anything was asked
-pub unasked : {S : Type 0} (g : Ghosts S) (book : Kept S) (asked : List Asked) → IsStoppedIn g book book asked [] stops.Memory
-unasked g book asked = untold g book book book asked 0 [] stops.Memory (inl refl) (omega arith) refl (λ clean. clean) (λ s at clean. refl) (λ s at. at)
-
 -- what is known of the fault of a call, by which another is returned
 pub err_told : {A E : Type 0} (r : Result A E) (P Q : E → Type 0) → IsErrAnd r P → ((e : E) → P e → Q e) → IfErr r Q
 err_told (Ok a) P Q it weaker = tt
@@ -107,12 +108,41 @@ err_told (Err e) P Q it weaker = weaker e it
 
 -- ---- `do`
 
-pub request_stopped : {S : Type 0} (g : Ghosts S) (old new : Kept S) (request : Request) (number : ℕ) (instruction : Instruction) (key : KeyParts) (answers : List ReplyOrRefusal) (stop : Stop) →
-    request ≡ Ok (number, instruction) → key ≡ record { number = number; part = 0 } → IsStoppedIn g old new ((key, instruction) ∷ []) answers stop → IsStoppedIn g old new (asked_by_request request) answers stop
-request_stopped g old new request number instruction key answers stop is under stopped =
-    let under_key : KeyParts = record { number = number; part = 0 } in
-    let at_key : IsStoppedIn g old new ((under_key, instruction) ∷ []) answers stop = subst (λ k. IsStoppedIn g old new ((k, instruction) ∷ []) answers stop) under stopped in
-    subst (λ r. IsStoppedIn g old new (asked_by_request r) answers stop) (sym is) at_key
+-- the request of a body has no answer
+module _ {S : Type 0} (g : Ghosts S) (old new : Kept S) (held out : ChannelBytes) (input : List ℕ) (read : ReadsInput held input) where
+  abbrev IsStoppedAt : Request → AskFault → Type 0
+  IsStoppedAt request fault = (answers : List ReplyOrRefusal) × IsStoppedIn g old new (asked_by_request request) answers (stop_of fault)
+
+  command_stopped : (asked : ℕ × Instruction) (answered : Result Answer StoreFault) (fault : AskFault) → IsAnswered g old new (asked_as asked) answered → Reports answered (Err fault)
+      → IsStoppedAt (Ok asked) fault
+  command_stopped (number, instruction) (Ok answer) fault is memory =
+      let asked = asked_as (number, instruction) in (
+        result_of answer ∷ [],
+        subst (λ f. IsStoppedIn g old new (asked ∷ []) (result_of answer ∷ []) (stop_of f)) (sym memory)
+            (untold g old old new (asked ∷ []) 1 (result_of answer ∷ []) stops.Memory (inl refl) (omega arith) refl is.disk
+            (λ s at clean. ap (λ a. a ∷ []) (is.reply s at clean)) (λ s at. is.answered s at)),
+      )
+  command_stopped (number, instruction) (Err met) fault is same =
+      let asked = asked_as (number, instruction) in
+      let at_book : fault ≡ ask.Book met = cc in (
+        [],
+        subst (λ f. IsStoppedIn g old new (asked ∷ []) [] (stop_of f)) (sym at_book)
+            (unanswered g old old new (asked ∷ []) 0 [] asked met (omega arith) refl (none_asked g old (asked ∷ []))
+            is.failed is.disk (λ s at which. is.memory s at (ap Err which)) (λ s at which. is.store s at (ap Err which))),
+      )
+
+  unasked : (fault : AskFault) → fault ≡ ask.Memory → new ≡ old → IsAskStopped g old new held out out (stop_of fault)
+  unasked fault memory same = inl (record { unchanged = same; silent = refl; told = inl (ap stop_of memory) })
+
+  read_stopped : (request : Request) → read_request input ≡ request → (fault : AskFault) → IsDoneAsRead g old new request (Err fault) → IsAskStopped g old new held out out (stop_of fault)
+  read_stopped (Ok asked) is fault it =
+      let stopped = subst (λ r. IsStoppedAt r fault) (sym is) (command_stopped asked it.answer fault it.answered it.reported) in
+      inr (input, stopped.0, read, stopped.1, λ _. refl)
+  read_stopped (Err unread) is fault (same, memory) = unasked fault memory same
+
+  pub request_stopped : (fault : AskFault) → IsRequestAsked g old new input (Err fault) → IsAskStopped g old new held out out (stop_of fault)
+  request_stopped fault (inr (same, is)) = unasked fault (let memory : fault ≡ ask.Memory = cc in memory) same
+  request_stopped fault (inl done) = read_stopped (read_request input) refl fault done
 
 -- the answer was not written
 answer_untold : {S : Type 0} (g : Ghosts S) (old new : Kept S) (request : Request) (answer : ReplyOrRefusal) (stop : Stop) → IsOfChannel stop →
@@ -122,11 +152,11 @@ answer_untold : {S : Type 0} (g : Ghosts S) (old new : Kept S) (request : Reques
 answer_untold g old new (Ok asked) answer stop which answered left = (answer ∷ [], untold g old new new (asked_by_request (Ok asked)) 1 (answer ∷ []) stop which (omega arith) refl (clean_before_request g old new (Ok asked) left) answered left, λ fewer. absurd (omega (arith, fewer)))
 answer_untold g old new (Err fault) answer stop which answered left = ([], untold g old new new [] 0 [] stop which (omega arith) refl (clean_before_same g old new left) (λ s at is_clean. refl) left, λ fewer. absurd (omega (arith, fewer)))
 
-pub asked_untold : {S : Type 0} (g : Ghosts S) (old new : Kept S) (held out out' : ChannelBytes) (input : List ℕ) (answer : ReplyOrRefusal) (stop : Stop) → IsOfChannel stop → ReadsInput held input →
-    ((s : State) → IsDurablyAt g old s → IsClean g new → Answers s (read_request input) answer) →
-    ((s : State) → IsDurablyAt g old s → IsDurablyAt g new (left_by_request s (read_request input))) → IsAskStopped g old new held out out' stop
-asked_untold g old new held out out' input answer stop which read answered left =
-    let it = answer_untold g old new (read_request input) answer stop which answered left in
+pub asked_untold : {S : Type 0} (g : Ghosts S) (old new : Kept S) (held out out' : ChannelBytes) (input : List ℕ) (told : JsonAnswer) (stop : Stop) → IsOfChannel stop → ReadsInput held input →
+    IsRequestAsked g old new input (Ok told) → IsAskStopped g old new held out out' stop
+asked_untold g old new held out out' input told stop which read asked =
+    let was = request_told g old new input told asked in
+    let it = answer_untold g old new (read_request input) was.0 stop which was.2 was.3 in
     inr (input, it.0, read, it.1, λ fewer. absurd (it.2 fewer))
 
 -- ---- `import`

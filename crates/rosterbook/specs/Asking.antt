@@ -6,30 +6,44 @@ use Rattle.std.specs.Io.KnownBytes.{Appends}
 use Rattle.sqlite_trees.specs.declared.store.Store.{Ghosts}
 use Rattle.duty.specs.Plans.{Plan}
 use Rattle.command.specs.Texts.{refusal_text}
-use Rattle.command.specs.declared.instruction.Instruction.{Instruction}
 use Rattle.codec.specs.Schedule.{IsAtFault, IsSchedule}
 use Rattle.roster.specs.Folds.{Asked, Fold, Replies, ReplyOrRefusal, import, next}
 use Rattle.roster.specs.State.{State}
 use Rattle.codec.specs.Requests.{read_request}
 use Rattle.codec.specs.RefusalText as json
-use Rattle.stored_json.specs.declared.fault.CodecFault.{CodecFault}
 use Rattle.state_rows.specs.declared.fault.StoreFault.{StoreFault}
 use Rattle.state_rows.specs.declared.fault.StoreFault.TheVariants.{Store}
 use Rattle.book.specs.Kept.{IsDurablyAt, IsClean, IsInDoubt, Kept}
-use Rattle.web.specs.Answers.{answer_json}
+use Rattle.asking.specs.Answers.{answer_json}
+use Rattle.asking.specs.Requests.{Request, asked_as}
+use Rattle.asking.specs.declared.answers.AnswerKind.{AnswerKind}
+use Rattle.asking.specs.declared.answers.AnswerKind.TheVariants as kind
+use Rattle.asking.specs.declared.answers.AskFault.{AskFault}
+use Rattle.asking.specs.declared.answers.AskFault.TheVariants as ask
 use Rattle.http_exchange.specs.Exchange.{ChannelBytes}
 use Rattle.rosterbook.specs.Streams.{IsOfChannel, Prints, ReadsInput, line_end, refused_line}
 use Rattle.rosterbook.specs.declared.status.Status.{Status}
 use Rattle.rosterbook.specs.declared.status.Status.TheVariants.{Done, Refused}
 use Rattle.rosterbook.specs.declared.stop.Stop.{Stop}
-use Rattle.rosterbook.specs.declared.stop.Stop.TheVariants.{Book}
+use Rattle.rosterbook.specs.declared.stop.Stop.TheVariants.{Book, Memory}
 
 -- how the program ends after an answer
 abbrev pub status_of_answer : ReplyOrRefusal → Status
 status_of_answer (Ok reply) = Done
 status_of_answer (Err refusal) = Refused
 
+-- how the program ends after an answer of this kind
+abbrev pub status_of_kind : AnswerKind → Status
+status_of_kind kind.Accepted = Done
+status_of_kind kind.Refused = Refused
+status_of_kind kind.Unfit = Refused
+
 -- ---- Where the program stops
+
+-- how the program stops where what is asked of a book has no answer
+abbrev pub stop_of : AskFault → Stop
+stop_of (ask.Book fault) = Book fault
+stop_of ask.Memory = Memory
 
 -- the book met a fault: of its store (90), or want of memory (91)
 abbrev pub IsBookFault : Stop → Type 0
@@ -59,10 +73,6 @@ pub record IsUnasked {S : Type 0} (old new : Kept S) (out out' : ChannelBytes) (
 
 -- ---- `do`
 
--- a request as `codec` reads it
-abbrev pub Request : Type 0
-Request = Result (ℕ × Instruction) CodecFault
-
 -- one that is not read is told so, and another its answer
 abbrev pub told_json : Request → ReplyOrRefusal → Status × List ℕ
 told_json (Ok asked) answer = (status_of_answer answer, answer_json answer)
@@ -72,10 +82,6 @@ told_json (Err fault) answer = (Refused, json.fault_reply fault)
 pub record IsRequestReadAndTold (held out out' : ChannelBytes) (status : Status) (input : List ℕ) (answer : ReplyOrRefusal) : Type 0 where
   pub read : ReadsInput held input
   pub printed : Prints (told_json (read_request input) answer) status out out'
-
--- the command of a request, under part 0 of its number
-abbrev pub asked_as : ℕ × Instruction → Asked
-asked_as (number, instruction) = (record { number = number; part = 0 }, instruction)
 
 -- the book's answer in a state
 abbrev pub Answers : State → Request → ReplyOrRefusal → Type 0

@@ -1,5 +1,6 @@
 //! What stops the program before its end, and the line that says so: 40 to 42, and 90 to 93.
 //! Outputs that fail: `tests/program.sh`; want of memory: `tests/allocations.py`. Wrong bodies: `must-fail-more/`.
+use asking::AskFault;
 use book::{BookFault, LoadFault};
 use std::error::Error;
 use std::{fmt, io};
@@ -59,6 +60,20 @@ impl From<BookFault> for Stop {
 
     fn from(fault: BookFault) -> Stop {
         Stop::Book(fault)
+    }
+}
+
+impl From<AskFault> for Stop {
+    ghost use Rattle.std.specs.Prelude.{◌≡◌};
+    ghost use Rattle.rosterbook.specs.Asking.{stop_of};
+
+    ghost from_gives = { λ fault stop. stop ≡ stop_of fault };
+
+    fn from(fault: AskFault) -> Stop {
+        match fault {
+            AskFault::Book(fault) => Stop::Book(fault),
+            AskFault::Memory => Stop::Memory,
+        }
     }
 }
 
