@@ -5,17 +5,16 @@ ghost use Rattle.std.specs.Prelude.{◌≡◌, ◌++◌, IfErr, OnOk};
 ghost use Rattle.std.specs.FinMap as fin;
 ghost use Rattle.std.specs.Str.{bytes_eq};
 ghost use Rattle.command.specs.Keys.{KeyParts, key_name};
-ghost use Rattle.part.specs.Part.{NamedPart, Part, is_one_of, judged_by, needs_member};
-ghost use Rattle.part.specs.Part.{members_named, pairings_named, grounds_named, outsides_named, pairings_needed, grounds_needed, outsides_needed};
+ghost use Rattle.part.specs.Part.{NamedPart, Part};
 ghost use Rattle.roster.specs.Holding.{AreJust};
 ghost use Rattle.part.specs.Sources.{IsCaused, IsGroundOfOne, IsHeldByOne, IsOutsideOfOne, TellsOfState};
 
 use crate::named::{ids_named, judged_in, members_wanted};
 use crate::pick::{pick_grounds, pick_members, pick_outsides, pick_pairings, pick_request};
 use crate::source::Source;
-use command::{Command, Instruction, Key, Member};
-use duty::{CrewId, Ground, GroundId, OutsideId, PairingId};
-use roster::{LoggedCommand, OutsideEntry, PairingEntry, Roster};
+use command::{Command, Instruction, Key};
+use duty::{CrewId, GroundId, OutsideId, PairingId};
+use roster::{LoggedCommand, Roster};
 use std::alloc::Global;
 use values::{MemoryFault, OrdMap};
 
@@ -148,96 +147,6 @@ pub(crate) fn gather_named<S: Source>(
     })
 }
 
-/// Adds the pairings that judged members hold to those that are named.
-fn add_pairings<S: Source>(
-    alloc: Global,
-    source: &mut S,
-    judged: &[CrewId],
-    pairings: &mut OrdMap<PairingId, PairingEntry>,
-) -> Result<(), S::Fault>
-    ensures told { TellsOfState S.is_clean S.shows (λ s _. (instruction : Instruction)
-        → judged.now ≡ judged_by s instruction
-        → pairings.old ≡ fin.retain_keys s.pairings (is_one_of (pairings_named instruction))
-        → pairings.new ≡ pairings_needed s instruction) source.old source.new result }
-    ensures left { S.stays source.old source.new }
-    ensures caused { IfErr result
-        (IsCaused S.fails S.Fault.from_gives source.old source.new) }
-    ensures serves { OnOk result (S.serves source.old source.new) }
-{
-    let theirs = held_by_one(alloc, source, judged)?;
-    pick_pairings(alloc, source, &theirs, pairings)?;
-    Ok(())
-}
-
-/// Adds the ground duties of judged members to those that are named.
-fn add_grounds<S: Source>(
-    alloc: Global,
-    source: &mut S,
-    judged: &[CrewId],
-    grounds: &mut OrdMap<GroundId, Ground>,
-) -> Result<(), S::Fault>
-    ensures told { TellsOfState S.is_clean S.shows (λ s _. (instruction : Instruction)
-        → judged.now ≡ judged_by s instruction
-        → grounds.old ≡ fin.retain_keys s.grounds (is_one_of (grounds_named instruction))
-        → grounds.new ≡ grounds_needed s instruction) source.old source.new result }
-    ensures left { S.stays source.old source.new }
-    ensures caused { IfErr result
-        (IsCaused S.fails S.Fault.from_gives source.old source.new) }
-    ensures serves { OnOk result (S.serves source.old source.new) }
-{
-    let theirs = grounds_of_one(alloc, source, judged)?;
-    pick_grounds(alloc, source, &theirs, grounds)?;
-    Ok(())
-}
-
-/// Adds the outside periods of judged members to those that are named.
-fn add_outsides<S: Source>(
-    alloc: Global,
-    source: &mut S,
-    judged: &[CrewId],
-    outsides: &mut OrdMap<OutsideId, OutsideEntry>,
-) -> Result<(), S::Fault>
-    ensures told { TellsOfState S.is_clean S.shows (λ s _. (instruction : Instruction)
-        → judged.now ≡ judged_by s instruction
-        → outsides.old ≡ fin.retain_keys s.outsides (is_one_of (outsides_named instruction))
-        → outsides.new ≡ outsides_needed s instruction) source.old source.new result }
-    ensures left { S.stays source.old source.new }
-    ensures caused { IfErr result
-        (IsCaused S.fails S.Fault.from_gives source.old source.new) }
-    ensures serves { OnOk result (S.serves source.old source.new) }
-{
-    let theirs = outsides_of_one(alloc, source, judged)?;
-    pick_outsides(alloc, source, &theirs, outsides)?;
-    Ok(())
-}
-
-/// Adds the members whom a part has to those that are named.
-fn add_members<S: Source>(
-    alloc: Global,
-    source: &mut S,
-    instruction: &Instruction,
-    pairings: &OrdMap<PairingId, PairingEntry>,
-    grounds: &OrdMap<GroundId, Ground>,
-    outsides: &OrdMap<OutsideId, OutsideEntry>,
-    crew: &mut OrdMap<CrewId, Member>,
-) -> Result<(), S::Fault>
-    ensures told { TellsOfState S.is_clean S.shows
-        (λ s _. pairings.now ≡ pairings_needed s instruction.now
-        → grounds.now ≡ grounds_needed s instruction.now
-        → outsides.now ≡ outsides_needed s instruction.now
-        → crew.old ≡ fin.retain_keys s.crew (is_one_of (members_named instruction.now))
-        → crew.new ≡ fin.retain_keys s.crew (needs_member s instruction.now))
-        source.old source.new result }
-    ensures left { S.stays source.old source.new }
-    ensures caused { IfErr result
-        (IsCaused S.fails S.Fault.from_gives source.old source.new) }
-    ensures serves { OnOk result (S.serves source.old source.new) }
-{
-    let wanted = members_wanted(alloc, instruction, pairings, grounds, outsides)?;
-    pick_members(alloc, source, &wanted, crew)?;
-    Ok(())
-}
-
 /// Adds the histories by which an instruction is judged to what it names.
 pub(crate) fn add_histories<S: Source>(
     alloc: Global,
@@ -263,18 +172,14 @@ pub(crate) fn add_histories<S: Source>(
         requests,
     } = named;
     let judged = judged_in(alloc, instruction, &pairings)?;
-    add_pairings(alloc, source, &judged, &mut pairings)?;
-    add_grounds(alloc, source, &judged, &mut grounds)?;
-    add_outsides(alloc, source, &judged, &mut outsides)?;
-    add_members(
-        alloc,
-        source,
-        instruction,
-        &pairings,
-        &grounds,
-        &outsides,
-        &mut crew,
-    )?;
+    let held = held_by_one(alloc, source, &judged)?;
+    pick_pairings(alloc, source, &held, &mut pairings)?;
+    let theirs = grounds_of_one(alloc, source, &judged)?;
+    pick_grounds(alloc, source, &theirs, &mut grounds)?;
+    let flown = outsides_of_one(alloc, source, &judged)?;
+    pick_outsides(alloc, source, &flown, &mut outsides)?;
+    let wanted = members_wanted(alloc, instruction, &pairings, &grounds, &outsides)?;
+    pick_members(alloc, source, &wanted, &mut crew)?;
     Ok(Roster {
         bases,
         crew,

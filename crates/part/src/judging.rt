@@ -4,7 +4,7 @@
 
 ghost use Rattle.std.specs.Prelude.{◌≡◌, IfErr, IfOk, IfSome, IsTrue, OnOk, Some};
 ghost use Rattle.command.specs.Keys.{KeyParts};
-ghost use Rattle.part.specs.Part.{NamedPart, has_histories, is_settled};
+ghost use Rattle.part.specs.Part.{has_histories, is_settled};
 ghost use Rattle.part.specs.Sources.{IsCaused, TellsOfState};
 ghost use Rattle.roster.specs.State.{State};
 ghost use Rattle.roster.specs.Steps.{answered, step_of};
@@ -76,28 +76,6 @@ fn settle(
     Ok(None)
 }
 
-/// Judges a command by what it names, and by the histories that are added to that.
-fn judge_whole<S: Source>(
-    alloc: Global,
-    source: &mut S,
-    key: Key,
-    command: &Command,
-    named: Roster,
-) -> Result<Verdict, S::Fault>
-    ensures told { TellsOfState S.is_clean S.shows
-        (λ s verdict. named ≡ NamedPart s key command.now
-        → verdict ≡ step_of s key command.now) source.old source.new result }
-    ensures left { S.stays source.old source.new }
-    ensures caused { IfErr result
-        (IsCaused S.fails S.Fault.from_gives source.old source.new) }
-    ensures serves { OnOk result (S.serves source.old source.new) }
-{
-    let part = add_histories(alloc, source, command.instruction(), named)?;
-    let verdict = part.step(alloc, key, command);
-    drop(part);
-    Ok(verdict?)
-}
-
 /// Judges a command under its key, and reads no more than that takes: first what the key holds, then what the command
 /// names, and only if these don't settle the verdict the histories by which it is judged.
 pub fn judge<S: Source>(
@@ -120,7 +98,12 @@ pub fn judge<S: Source>(
     let named = gather_named(alloc, source, command.instruction(), OrdMap::new(alloc))?;
     let settled = settle(alloc, &named, key, command);
     match settled {
-        Ok(None) => judge_whole(alloc, source, key, command, named),
+        Ok(None) => {
+            let part = add_histories(alloc, source, command.instruction(), named)?;
+            let verdict = part.step(alloc, key, command);
+            drop(part);
+            Ok(verdict?)
+        }
         Ok(Some(verdict)) => {
             drop(named);
             Ok(verdict)

@@ -4,7 +4,6 @@ use Rattle.part.proofs.Causes.{caused_then}
 use Rattle.std.specs.FinMap as fin
 use Rattle.values.specs.Name.{name_cmp}
 use Rattle.command.specs.declared.member.Member.{Member}
-use Rattle.part.specs.Part.{members_named, pairings_named, grounds_named, outsides_named}
 use Rattle.part.specs.Sources.{IsPartOf}
 use Rattle.part.proofs.Picked.{names_are_as, none_apart}
 use Rattle.part.proofs.gathering.gather_named.Goals as goal
