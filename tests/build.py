@@ -175,7 +175,7 @@ class Machine:
         """Compares the lines of a build, of whose crates so many are kept."""
         names = below_the_program()
         count = len(names)
-        begin = rf"rosterbook: proving and building the program, {count} crates: about \d+ min the first time"
+        begin = rf"rosterbook: proving and building the program, {count} crates: about \d+ min the first time \(README, Build, has a first look\)"
         tooks = ["kept"] * kept + [r"\d+ s"] * (count - kept)
         told = [crate_line(at, count, name, took, at < count) for at, (name, took) in enumerate(zip(names, tooks), 1)]
         self.matches(what, lines, [begin, *told])
