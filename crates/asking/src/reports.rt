@@ -41,7 +41,8 @@ pub fn ask_report<S: Alter>(
     book: &mut Book<S>,
     subject: Subject<'_>,
 ) -> Result<Shown, AskFault>
-    ensures asked { spec.IsReportAsked S.Store book.old book.new (spec.show_of subject.entry) result }
+    ensures asked { spec.IsReportAsked S.Store book.old book.new
+        (spec.show_of subject.entry) result }
     ensures calls { IsAfterCalls S.Store book.old book.new }
 {
     let Ok(what) = shown_by(alloc, subject) else {

@@ -7,12 +7,9 @@ use Rattle.command.specs.declared.instruction.Instruction.{Instruction}
 use Rattle.command.specs.declared.refusal.Refusal.{Refusal}
 use Rattle.command.specs.declared.refusal.Refusal.TheVariants as refusals
 use Rattle.codec.specs.Requests.{read_request}
-use Rattle.codec.specs.Schedule.{IsAtFault, IsSchedule}
+use Rattle.codec.specs.Schedule.{IsSchedule}
 use Rattle.roster.specs.Folds.{ReplyOrRefusal}
 use Rattle.roster.specs.State.{State}
-use Rattle.stored_json.specs.Texts.{codec_fault_text}
-use Rattle.stored_json.specs.declared.fault.CodecFault.{CodecFault}
-use Rattle.stored_json.specs.declared.fault.CodecFault.TheVariants.{BadCsv}
 use Rattle.state_rows.specs.declared.fault.StoreFault.{StoreFault}
 use Rattle.book.specs.Answered.{IsAnswered}
 use Rattle.book.specs.Kept.{IsDurablyAt, IsClean, Kept, result_of}
@@ -22,7 +19,7 @@ use Rattle.asking.specs.Requests.{IsDoneAsRead, IsRequestAsked, Request, asked_a
 use Rattle.asking.specs.declared.answers.JsonAnswer.{JsonAnswer}
 use Rattle.http_exchange.specs.Exchange.{ChannelBytes}
 use Rattle.rosterbook.specs.Asking.{Answers, AreAddedAndTold, AreTold, IsImported, IsImportTold, IsNoSchedule, IsRequestAnswered, left_by_request, status_of_answer, status_of_kind, told_json}
-use Rattle.rosterbook.specs.Streams.{Prints, ReadsInput, line_end, refused_line}
+use Rattle.rosterbook.specs.Streams.{Prints, ReadsInput, line_end}
 use Rattle.rosterbook.specs.declared.status.Status.{Status}
 use Rattle.rosterbook.specs.declared.status.Status.TheVariants.{Refused}
 
@@ -102,18 +99,6 @@ module _ {S : Type 0} (g : Ghosts S) (old new : Kept S) where
       }
 
 -- ---- `import`
-
-pub schedule_added : {S : Type 0} (g : Ghosts S) (old new : Kept S) (number : ℕ) (held out out' err : ChannelBytes) (status : Status) (text : List ℕ) (plans : List Plan) →
-    ReadsInput held text → IsSchedule text plans → AreAddedAndTold g old new number plans status out out' → IsImported g old new number held out out' err err status
-schedule_added g old new number held out out' err status text plans read is added = record { text = text; read = read; done = inr (plans, is, added, refl) }
-
-pub schedule_refused : {S : Type 0} (g : Ghosts S) (book : Kept S) (number : ℕ) (held out err err' : ChannelBytes) (text : List ℕ) (fault : CodecFault) (line : ℕ) →
-    ReadsInput held text → fault ≡ BadCsv line → IsAtFault text line → Appends err err' (refused_line (codec_fault_text fault)) → IsImported g book book number held out out err err' Refused
-schedule_refused g book number held out err err' text fault line read is at_fault told = record {
-  text = text;
-  read = read;
-  done = inl (record { line = line; at_fault = at_fault; ends = refl; prints = refl; complains = subst (λ f. Appends err err' (refused_line (codec_fault_text f))) is told }, refl);
-}
 
 pub imported_told : {S : Type 0} (g : Ghosts S) (old new : Kept S) (number : ℕ) (held out out' err err' : ChannelBytes) (status : Status) →
     IsImported g old new number held out out' err err' status → IsImportTold held out out' err err' status

@@ -1,25 +1,41 @@
--- The parts of an import that were told so far, up to one more.
-use Rattle.std.proofs.Common.{◌≡◌, ◌<◌, ℕ, suc, ◌+◌, append-nil, List, [], ◌∷◌, ◌++◌, length, take, get_or, slice_get, refl, ap, sym, subst, ◌∙◌, arith, Option, Some, None, Ok, length-append, IsSomeAnd, MatchOption}
+-- From the parts of a schedule that were asked and heard to what `import` tells of them.
+use Rattle.std.proofs.Common.{◌≡◌, ◌||◌, inl, inr, ℕ, ◌+◌, Bool, true, false, List, [], ◌∷◌, ◌++◌, length, map, take, refl, ap, sym, subst, ◌∙◌, arith, Some, None, Result, Ok, Err, length-append, IsTrue}
 use Rattle.std.proofs.lemmas.List.{append_assoc, length-map, take_all}
-use Rattle.std.proofs.lemmas.List.FromFn.{length-enumerate_from}
-use Rattle.std.proofs.lemmas.List.Sums.{fold-append}
-use Rattle.std.proofs.lemmas.Option.{get_or_from_slice_get}
+use Rattle.std.specs.Bool.{⊤}
 use Rattle.std.specs.Io.KnownBytes.{Appends}
-use Rattle.std.specs.List.{enumerate_from}
+use Rattle.std.specs.List.{fold}
+use Rattle.std.specs.declared.io.Error.{Error}
+use Rattle.sqlite.specs.Held.{state}
 use Rattle.sqlite_trees.specs.declared.store.Store.{Ghosts}
 use Rattle.duty.specs.Plans.{Plan}
-use Rattle.roster.specs.Folds.{Asked, Fold, Replies, import, next}
+use Rattle.stored_json.specs.Texts.{codec_fault_text}
+use Rattle.stored_json.specs.declared.fault.CodecFault.{CodecFault}
+use Rattle.stored_json.specs.declared.fault.CodecFault.TheVariants.{BadCsv}
+use Rattle.codec.specs.Schedule.{IsAtFault}
+use Rattle.roster.specs.Folds.{Asked, Replies, ReplyOrRefusal, import}
+use Rattle.roster.specs.Laws.{AreMade}
 use Rattle.roster.specs.State.{State}
-use Rattle.book.specs.Answered.{IsAnswered}
-use Rattle.book.specs.Kept.{IsDurablyAt, IsClean, Kept, result_of}
+use Rattle.state_rows.specs.declared.fault.StoreFault.{StoreFault}
+use Rattle.state_rows.specs.declared.fault.StoreFault.TheVariants.{Store, Memory}
+use Rattle.book.specs.Kept.{Ends, Kept, is_some_store_fault, result_of}
 use Rattle.book.specs.declared.answer.Answer.{Answer}
-use Rattle.book.proofs.Runs.{answer_in, fold_more, replies_more}
-use Rattle.roster.specs.Folds.{ReplyOrRefusal}
-use Rattle.rosterbook.specs.Asking.{AreAddedAndTold, part_line, part_lines, status_of_all, status_with}
+use Rattle.book.proofs.CommandLists.{replies_take}
+use Rattle.asking.specs.Schedules.{ArePartsAsked, HasHeard, IsScheduleAsked}
+use Rattle.asking.specs.declared.schedules.ScheduleFault.{ScheduleFault}
+use Rattle.asking.specs.declared.schedules.ScheduleFault.TheVariants.{Unread, Ask, Unheard}
+use Rattle.asking.specs.declared.answers.AskFault.{AskFault}
+use Rattle.asking.specs.declared.answers.AskFault.TheVariants as ask
+use Rattle.asking.proofs.Chains.{all_parts, length-replies, parts_heard, parts_to_fault}
+use Rattle.asking.proofs.Parts.{length-import, schedule_made}
 use Rattle.http_exchange.specs.Exchange.{ChannelBytes}
-use Rattle.rosterbook.specs.declared.status.Status.{Status}
-use Rattle.rosterbook.specs.declared.status.Status.TheVariants.{Done}
+use Rattle.rosterbook.specs.Asking.{AreAddedAndTold, AreStopped, IsImported, IsImportStopped, IsLeftAfterAnswers, IsPartTold, IsUnasked, part_lines, status_with, stop_of}
+use Rattle.rosterbook.specs.Streams.{IsOfChannel, ReadsInput, refused_line}
+use Rattle.rosterbook.specs.declared.import_command.PartLines.{PartLines}
+use Rattle.rosterbook.specs.declared.status.Status.TheVariants.{Done, Refused}
+use Rattle.rosterbook.specs.declared.stop.Stop.{Stop}
+use Rattle.rosterbook.specs.declared.stop.Stop.TheVariants as stops
 use Rattle.rosterbook.proofs.RefusalLemmas.{appends_nothing}
+use Rattle.rosterbook.proofs.Stopping.{no_fault_of_book, untold}
 
 -- ---- What was written
 
@@ -29,99 +45,205 @@ appends_both (Some a) None held'' xs ys first second = absurd first
 appends_both (Some a) (Some b) None xs ys first second = absurd second
 appends_both (Some a) (Some b) (Some c) xs ys first second = second ∙ ap (λ t. t ++ ys) first ∙ append_assoc a xs ys
 
-lines_more : (part : ℕ) (answers : List ReplyOrRefusal) (answer : ReplyOrRefusal) → part_lines part (answers ++ answer ∷ []) ≡ part_lines part answers ++ part_line (part + length answers) answer
-lines_more part [] answer =
-    let same : part ≡ part + 0 = omega arith in
-    append-nil (part_line part answer) ∙ ap (λ n. part_line n answer) same
-lines_more part (x ∷ answers) answer =
-    let same : part + 1 + length answers ≡ part + suc (length answers) = omega arith in
-    ap (λ t. part_line part x ++ t) (lines_more (part + 1) answers answer)
-    ∙ sym (append_assoc (part_line part x) (part_lines (part + 1) answers) (part_line (part + 1 + length answers) answer))
-    ∙ ap (λ n. part_line part x ++ part_lines (part + 1) answers ++ part_line n answer) same
+module _ {O : Type 0} (contents : O → ChannelBytes) where
+  abbrev pub Hears : PartLines O → PartLines O → ℕ → ReplyOrRefusal → Result ⊤ Error → Type 0
+  Hears old new part answer result = IsPartTold contents old new part answer result
 
--- ---- The list that an import is
+  -- the line of each answer was written by the same writer, and counted
+  record AreWritten (old new : PartLines O) (part : ℕ) (answers : List ReplyOrRefusal) : Type 0 where
+    pub same_writer : new.out.ghost_name ≡ old.out.ghost_name
+    pub printed : Appends (contents old.out.now) (contents new.out.now) (part_lines part answers)
+    pub ends : new.status ≡ fold status_with old.status answers
 
-pub length-import : (number : ℕ) (plans : List Plan) → length (import number plans) ≡ length plans
-length-import number plans = length-map (enumerate_from 1 plans) _ ∙ length-enumerate_from 1 plans
-
-length-replies : (s : State) (l : List Asked) → length (Replies s l) ≡ length l
-length-replies s [] = refl
-length-replies s (a ∷ l) = ap suc (length-replies (next s a) l)
-
--- what is said of the command at a place, where there is an answer
-pub asked_at : {A B : Type 0} (o : Option A) (result : Option B) (Q : A → B → Type 0) (answer : B) → result ≡ Some answer → MatchOption o (result ≡ None) (λ a. IsSomeAnd result (Q a)) → (a : A) × (o ≡ Some a) × Q a answer
-asked_at None result Q answer is none = absurd (cc)
-asked_at (Some a) result Q answer is said = (a, refl, rw is at said)
-
--- ---- The parts so far
-
--- so many of them were asked, and got these answers
-pub record AreAsked {S : Type 0} (g : Ghosts S) (old now : Kept S) (asked : List Asked) (count : ℕ) (answers : List ReplyOrRefusal) : Type 0 where
-  pub each : length answers ≡ count
-  pub clean : IsClean g now → IsClean g old
-  pub answered : (s : State) → IsDurablyAt g old s → IsClean g now → answers ≡ take count (Replies s asked)
-  pub left : (s : State) → IsDurablyAt g old s → IsDurablyAt g now (Fold s (take count asked))
-
--- and were told them
-pub record AreSoFar {S : Type 0} (g : Ghosts S) (old now : Kept S) (asked : List Asked) (count : ℕ) (status : Status) (out out' : ChannelBytes) : Type 0 where
-  pub answers : List ReplyOrRefusal
-  pub asked_so_far : AreAsked g old now asked count answers
-  pub printed : Appends out out' (part_lines 1 answers)
-  pub ends : status ≡ status_of_all answers
-
-pub none_asked : {S : Type 0} (g : Ghosts S) (book : Kept S) (asked : List Asked) → AreAsked g book book asked 0 []
-none_asked g book asked = record { each = refl; clean = λ clean. clean; answered = λ s at clean. refl; left = λ s at. at }
-
-pub none_yet : {S : Type 0} (g : Ghosts S) (book : Kept S) (asked : List Asked) (out : ChannelBytes) → AreSoFar g book book asked 0 Done out out
-none_yet g book asked out = record { answers = []; asked_so_far = none_asked g book asked; printed = appends_nothing out; ends = refl }
-
-module _ {S : Type 0} (g : Ghosts S) (old now new : Kept S) (asked : List Asked) (count : ℕ) where
-  pub one_asked : (answers : List ReplyOrRefusal) (a : Asked) (answer : ReplyOrRefusal) → count < length asked → slice_get asked count ≡ Some a →
-      AreAsked g old now asked count answers →
-      (IsClean g new → IsClean g now) →
-      ((s : State) → IsDurablyAt g now s → IsClean g new → answer ≡ answer_in s a) →
-      ((s : State) → IsDurablyAt g now s → IsDurablyAt g new (next s a)) →
-      AreAsked g old new asked (count + 1) (answers ++ answer ∷ [])
-  one_asked answers a answer within at_count was clean reply leaves =
-      let is_a : get_or asked count a ≡ a = get_or_from_slice_get asked count a a at_count in
+  all_written : (part : ℕ) (answers : List Answer) (old new : PartLines O) → HasHeard Hears old part answers new → AreWritten old new part (map result_of answers)
+  all_written part [] old new same = record {
+    same_writer = ap (λ (l : PartLines O). l.out.ghost_name) same;
+    printed = subst (λ (l : PartLines O). Appends (contents old.out.now) (contents l.out.now) []) (sym same) (appends_nothing (contents old.out.now));
+    ends = ap (λ (l : PartLines O). l.status) same;
+  }
+  all_written part (answer ∷ answers) old new (next, told, rest) =
+      let it = all_written (part + 1) answers next new rest in
       record {
-        each = length-append answers _ ∙ ap (λ n. n + 1) was.each;
-        clean = λ is_clean. was.clean (clean is_clean);
-        answered = λ s at is_clean.
-            let so_far = Fold s (take count asked) in
-            let replied : answer ≡ answer_in so_far a = reply so_far (was.left s at) is_clean in
-            let more : take (count + 1) (Replies s asked) ≡ take count (Replies s asked) ++ answer_in so_far a ∷ [] = rw is_a at (replies_more s asked count a within) in
-            ap (λ t. t ++ answer ∷ []) (was.answered s at (clean is_clean)) ∙ ap (λ r. take count (Replies s asked) ++ r ∷ []) replied ∙ sym more;
-        left = λ s at.
-            let so_far = Fold s (take count asked) in
-            let more : Fold s (take (count + 1) asked) ≡ next so_far a = rw is_a at (fold_more s asked count a within) in
-            rw more (leaves so_far (was.left s at));
+        same_writer = it.same_writer ∙ told.0;
+        printed = appends_both (contents old.out.now) (contents next.out.now) (contents new.out.now) _ _ told.1 it.printed;
+        ends = it.ends ∙ ap (λ s. fold status_with s (map result_of answers)) told.2;
       }
 
-  pub one_more : (status : Status) (out out' out'' : ChannelBytes) (a : Asked) (answer : Answer) → count < length asked → slice_get asked count ≡ Some a →
-      AreSoFar g old now asked count status out out' → IsAnswered g now new a (Ok answer) →
-      Appends out' out'' (part_line (count + 1) (result_of answer)) →
-      AreSoFar g old new asked (count + 1) (status_with status (result_of answer)) out out''
-  one_more status out out' out'' a answer within at_count was answered told =
-      let one_past : count + 1 ≡ 1 + length was.answers = omega (arith, was.asked_so_far.each) in
-      let line : part_line (count + 1) (result_of answer) ≡ part_line (1 + length was.answers) (result_of answer) = ap (λ n. part_line n (result_of answer)) one_past in
-      record {
-        answers = was.answers ++ result_of answer ∷ [];
-        asked_so_far = one_asked was.answers a (result_of answer) within at_count was.asked_so_far answered.disk answered.reply answered.answered;
-        printed = subst (Appends out out'') (ap (λ t. part_lines 1 was.answers ++ t) line ∙ sym (lines_more 1 was.answers (result_of answer))) (appends_both out out' out'' _ _ was.printed told);
-        ends = ap (λ s. status_with s (result_of answer)) was.ends ∙ sym (fold-append status_with Done was.answers (result_of answer ∷ []));
-      }
+-- ---- The parts of a schedule
 
-pub all_added : {S : Type 0} (g : Ghosts S) (old new : Kept S) (number : ℕ) (plans : List Plan) (status : Status) (out out' : ChannelBytes) →
-    AreSoFar g old new (import number plans) (length plans) status out out' → AreAddedAndTold g old new number plans status out out'
-all_added g old new number plans status out out' all =
-    let l = import number plans in
-    let so_far = all.asked_so_far in
-    let none_left : take (length plans) l ≡ l = rw (sym (length-import number plans)) (take_all (length l) l (omega arith)) in
-    let none_unsaid : (s : State) → take (length plans) (Replies s l) ≡ Replies s l = λ s. take_all (length plans) (Replies s l) (omega (arith, length-replies s l, length-import number plans)) in
-    record {
-      answers = all.answers;
-      told = record { each = so_far.each; printed = all.printed; ends = all.ends };
-      answered = λ s at clean. so_far.answered s at clean ∙ none_unsaid s;
-      left = λ s at. rw none_left at (so_far.left s at);
-    }
+module _ {S O : Type 0} (g : Ghosts S) (contents : O → ChannelBytes) (old new : Kept S) (begun heard : PartLines O) (number : ℕ) where
+  module _ (plans : List Plan) (made : AreMade (import number plans)) where
+    abbrev parts : List Asked
+    parts = import number plans
+
+    abbrev Asked_so : Result ⊤ (ScheduleFault Error) → Type 0
+    Asked_so result = ArePartsAsked g (Hears contents) old new begun heard parts result
+
+    written : (result : Result ⊤ (ScheduleFault Error)) (it : Asked_so result) → heard ≡ it.heard → AreWritten contents begun heard 1 (map result_of it.answers)
+    written result it same = all_written contents 1 it.answers begun heard (subst (λ (l : PartLines O). HasHeard (Hears contents) begun 1 it.answers l) (sym same) it.all_heard)
+
+    -- all were answered, and are told
+    all_added : (it : Asked_so (Ok tt)) → begun.status ≡ Done → AreAddedAndTold g old new number plans heard.status (contents begun.out.now) (contents heard.out.now)
+    all_added it begins =
+        let are = all_parts g (Hears contents) old new begun heard parts made tt it in
+        let lines = written (Ok tt) it it.ends.2 in
+        record {
+          answers = map result_of it.answers;
+          told = record {
+            each = length-map it.answers result_of ∙ it.ends.0 ∙ length-import number plans;
+            printed = lines.printed;
+            ends = lines.ends ∙ ap (λ s. fold status_with s (map result_of it.answers)) begins;
+          };
+          answered = λ s at clean. are.replies s at clean ∙ take_all (length it.answers) (Replies s parts) (omega (arith, it.ends.0, length-replies s parts));
+          left = λ s at. are.outcome s at;
+        }
+
+    left_at : (fault : StoreFault) (s : State) (n : ℕ) → Ends (state g new.held) s parts n (Some fault) → IsLeftAfterAnswers g new s parts n (stops.Book fault)
+    left_at Store s n is = is
+    left_at Memory s n is = is
+
+    failed_at : (fault : StoreFault) (was is : Bool) → is ≡ (was || is_some_store_fault (Some fault)) → stops.Book fault ≡ stops.Book Store → IsTrue is
+    failed_at Store true is same which = same
+    failed_at Store false is same which = same
+    failed_at Memory was is same which = absurd (cc)
+
+    -- the book met a fault at one
+    at_fault : (fault : StoreFault) (it : Asked_so (Err (Ask (ask.Book fault)))) → AreStopped g old new number plans (contents begun.out.now) (contents heard.out.now) (stops.Book fault)
+    at_fault fault it =
+        let are = parts_to_fault g (Hears contents) old new begun heard parts made fault it in
+        let each : length (map result_of it.answers) ≡ length it.answers = length-map it.answers result_of in
+        record {
+          answers = map result_of it.answers;
+          asked = record {
+            told = inl (fault, refl);
+            few = omega (arith, each, are.count);
+            unanswered = λ is. omega (arith, each, are.stopped refl);
+            failed = failed_at fault old.failed new.failed are.failed;
+            disk = are.disk;
+            answered = λ s at clean. rw (sym each) at (are.replies s at clean);
+            left = λ s at. subst (λ n. IsLeftAfterAnswers g new s parts n (stops.Book fault)) (sym each) (left_at fault s (length it.answers) (are.outcome s at));
+          };
+          printed = λ is. (written (Err (Ask (ask.Book fault))) it it.ends.3).printed;
+        }
+
+    -- the line of one was not written
+    at_line : (error : Error) (stop : Stop) (out' : ChannelBytes) → IsOfChannel stop → Asked_so (Err (Unheard error)) → AreStopped g old new number plans (contents begun.out.now) out' stop
+    at_line error stop out' which it =
+        let answers = it.answers ++ it.ends.2 ∷ [] in
+        let n = length it.answers in
+        let so_far = parts_heard g (Hears contents) old new begun heard parts made error it in
+        let are = so_far.1 in
+        let each : length (map result_of answers) ≡ n + 1 = length-map answers result_of ∙ length-append it.answers (it.ends.2 ∷ []) in
+        record {
+          answers = map result_of answers;
+          asked = untold g old new parts (n + 1) (map result_of answers) stop which (omega (arith, so_far.0)) each are.disk
+              (λ s at clean. are.replies s at clean
+              ∙ take_all (length answers) (Replies s (take (n + 1) parts)) (omega (arith, are.whole refl, length-replies s (take (n + 1) parts)))
+              ∙ sym (replies_take s parts (n + 1)))
+              (λ s at. are.outcome s at);
+          printed = λ is. absurd (no_fault_of_book stop which is);
+        }
+
+  -- ---- A schedule
+
+  module _ (text : List ℕ) where
+    abbrev Asked_with : Result ⊤ (ScheduleFault Error) → Type 0
+    Asked_with result = IsScheduleAsked g (Hears contents) old new begun heard number text result
+
+    -- the lines are written by the writer that was lent
+    pub same_writer : Asked_with (Ok tt) → heard.out.ghost_name ≡ begun.out.ghost_name
+    same_writer (inl (unread, same, still)) = ap (λ (l : PartLines O). l.out.ghost_name) still
+    same_writer (inr (plans, is, it)) = (written plans (schedule_made number text plans is) (Ok tt) it it.ends.2).same_writer
+
+    pub same_writer_at_fault : (fault : AskFault) → Asked_with (Err (Ask fault)) → heard.out.ghost_name ≡ begun.out.ghost_name
+    same_writer_at_fault fault (inl (unread, same, still)) = ap (λ (l : PartLines O). l.out.ghost_name) still
+    same_writer_at_fault (ask.Book fault) (inr (plans, is, it)) = (written plans (schedule_made number text plans is) (Err (Ask (ask.Book fault))) it it.ends.3).same_writer
+    same_writer_at_fault ask.Memory (inr (plans, is, it)) = absurd it.ends
+
+    record IsUnread (fault : CodecFault) : Type 0 where
+      pub line : ℕ
+      pub at_fault : IsAtFault text line
+      pub is : fault ≡ BadCsv line
+      pub unasked : new ≡ old
+      pub silent : heard ≡ begun
+
+    unread : (fault : CodecFault) → Asked_with (Err (Unread fault)) → IsUnread fault
+    unread fault (inl (inl (line, at_fault, is), same, still)) = record { line = line; at_fault = at_fault; is = let it : fault ≡ BadCsv line = cc in it; unasked = same; silent = still }
+    unread fault (inl (inr never, same, still)) = absurd (cc)
+    unread fault (inr (plans, is, it)) = absurd it.ends
+
+    pub same_writer_unread : (fault : CodecFault) → Asked_with (Err (Unread fault)) → heard.out.ghost_name ≡ begun.out.ghost_name
+    same_writer_unread fault asked = ap (λ (l : PartLines O). l.out.ghost_name) (unread fault asked).silent
+
+    module _ (held : ChannelBytes) (read : ReadsInput held text) (out' : O) where
+      module _ (is_out : out' ≡ heard.out.now) where
+        -- all its pairings were answered
+        pub imported : (err : ChannelBytes) → begun.status ≡ Done → Asked_with (Ok tt) → IsImported g old new number held (contents begun.out.now) (contents out') err err heard.status
+        imported err begins (inl (inl (line, at_fault, never), same, still)) = absurd (cc)
+        imported err begins (inl (inr never, same, still)) = absurd (cc)
+        imported err begins (inr (plans, is, it)) = record {
+          text = text;
+          read = read;
+          done = inr (
+            plans,
+            is,
+            subst (λ o. AreAddedAndTold g old new number plans heard.status (contents begun.out.now) (contents o)) (sym is_out) (all_added plans (schedule_made number text plans is) it begins),
+            refl,
+          );
+        }
+
+        -- it is none, and that was told
+        pub refused : (err err' : ChannelBytes) (fault : CodecFault) → Asked_with (Err (Unread fault)) → Appends err err' (refused_line (codec_fault_text fault))
+            → IsImported g old new number held (contents begun.out.now) (contents out') err err' Refused
+        refused err err' fault asked told =
+            let it = unread fault asked in
+            record {
+              text = text;
+              read = read;
+              done = inl (
+                record {
+                  line = it.line;
+                  at_fault = it.at_fault;
+                  ends = refl;
+                  prints = ap contents (is_out ∙ ap (λ (l : PartLines O). l.out.now) it.silent);
+                  complains = subst (λ f. Appends err err' (refused_line (codec_fault_text f))) it.is told;
+                },
+                it.unasked,
+              );
+            }
+
+        unasked : (stop : Stop) → IsOfChannel stop → new ≡ old → heard ≡ begun → IsUnasked old new (contents begun.out.now) (contents out') stop
+        unasked stop which same still = record {
+          unchanged = same;
+          silent = ap contents (is_out ∙ ap (λ (l : PartLines O). l.out.now) still);
+          told = which;
+        }
+
+        -- and it could not be told
+        pub refused_untold : (err err' : ChannelBytes) (fault : CodecFault) (stop : Stop) → IsOfChannel stop → Asked_with (Err (Unread fault))
+            → IsImportStopped g old new number held (contents begun.out.now) (contents out') err err' stop
+        refused_untold err err' fault stop which asked =
+            let it = unread fault asked in
+            inl (unasked stop which it.unasked it.silent)
+
+        -- the book met a fault, or there was no memory to read the schedule
+        pub stopped : (err : ChannelBytes) (fault : AskFault) → Asked_with (Err (Ask fault)) → IsImportStopped g old new number held (contents begun.out.now) (contents out') err err (stop_of fault)
+        stopped err fault (inl (inl (line, at_fault, never), same, still)) = absurd (cc)
+        stopped err (ask.Book fault) (inl (inr never, same, still)) = absurd (cc)
+        stopped err ask.Memory (inl (inr memory, same, still)) = inl (unasked stops.Memory (inl refl) same still)
+        stopped err ask.Memory (inr (plans, is, it)) = absurd it.ends
+        stopped err (ask.Book fault) (inr (plans, is, it)) = inr (
+          text,
+          plans,
+          read,
+          is,
+          subst (λ o. AreStopped g old new number plans (contents begun.out.now) (contents o) (stops.Book fault)) (sym is_out) (at_fault plans (schedule_made number text plans is) fault it),
+          refl,
+        )
+
+      -- a line was not written
+      pub unwritten : (err : ChannelBytes) (error : Error) (stop : Stop) → IsOfChannel stop → Asked_with (Err (Unheard error))
+          → IsImportStopped g old new number held (contents begun.out.now) (contents out') err err stop
+      unwritten err error stop which (inl (inl (line, at_fault, never), same, still)) = absurd (cc)
+      unwritten err error stop which (inl (inr never, same, still)) = absurd (cc)
+      unwritten err error stop which (inr (plans, is, it)) = inr (text, plans, read, is, at_line plans (schedule_made number text plans is) error stop (contents out') which it, refl)

@@ -1,34 +1,29 @@
 -- Where the program stops among the commands that it asks.
-use Rattle.std.proofs.Common.{◌≡◌, inl, inr, ◌<◌, ◌≤◌, ℕ, ◌+◌, ◌||◌, true, false, Bool, List, [], ◌∷◌, ◌++◌, length, take, get_or, slice_get, refl, ap, sym, subst, arith, Some, Result, Ok, Err, IfErr, IsErrAnd, IsTrue}
-use Rattle.std.proofs.lemmas.Option.{get_or_from_slice_get}
+use Rattle.std.proofs.Common.{◌≡◌, inl, inr, ◌<◌, ◌≤◌, ℕ, ◌||◌, true, false, Bool, List, [], ◌∷◌, length, take, refl, ap, sym, subst, arith, Result, Ok, Err, IfErr, IsErrAnd, IsTrue}
 use Rattle.sqlite_trees.specs.declared.store.Store.{Ghosts}
-use Rattle.duty.specs.Plans.{Plan}
 use Rattle.command.specs.declared.instruction.Instruction.{Instruction}
 use Rattle.state_rows.specs.declared.fault.StoreFault.{StoreFault}
 use Rattle.state_rows.specs.declared.fault.StoreFault.TheVariants.{Store, Memory}
 use Rattle.codec.specs.Requests.{read_request}
-use Rattle.roster.specs.Folds.{Asked, Fold, Replies, import, next}
+use Rattle.roster.specs.Folds.{Asked, Fold, Replies, next}
 use Rattle.roster.specs.State.{State}
 use Rattle.book.specs.Answered.{IsAnswered}
 use Rattle.book.specs.Kept.{IsDurablyAt, IsClean, IsInDoubt, Kept, is_store_fault, result_of}
 use Rattle.book.specs.declared.answer.Answer.{Answer}
-use Rattle.book.proofs.Runs.{fold_more}
 use Rattle.roster.specs.Folds.{ReplyOrRefusal}
 use Rattle.asking.specs.Answers.{Reports}
 use Rattle.asking.specs.Requests.{IsDoneAsRead, IsRequestAsked, Request, asked_as}
 use Rattle.asking.specs.declared.answers.AskFault.{AskFault}
 use Rattle.asking.specs.declared.answers.AskFault.TheVariants as ask
 use Rattle.asking.specs.declared.answers.JsonAnswer.{JsonAnswer}
-use Rattle.rosterbook.specs.Asking.{Answers, AreStopped, IsAskStopped, IsLeftAfterAnswers, IsBookFault, IsStoppedIn, asked_by_request, left_by_request, stop_of}
+use Rattle.rosterbook.specs.Asking.{Answers, IsAskStopped, IsLeftAfterAnswers, IsBookFault, IsStoppedIn, asked_by_request, left_by_request, stop_of}
 use Rattle.http_exchange.specs.Exchange.{ChannelBytes}
 use Rattle.rosterbook.specs.Streams.{IsOfChannel, ReadsInput}
-use Rattle.rosterbook.specs.declared.status.Status.{Status}
 use Rattle.rosterbook.specs.declared.stop.Stop.{Stop}
 use Rattle.rosterbook.specs.declared.stop.Stop.TheVariants as stops
 use Rattle.rosterbook.specs.declared.stop.Stop.TheVariants.{Book}
 use Rattle.rosterbook.proofs.Answering.{request_told}
 use Rattle.rosterbook.proofs.CleanBefore.{clean_before_request, clean_before_same}
-use Rattle.rosterbook.proofs.PartsAdded.{AreAsked, AreSoFar, none_asked, one_asked}
 
 -- a reader or a writer doesn't fail as the book does
 pub no_fault_of_book : (stop : Stop) → IsOfChannel stop → IsBookFault stop → ⊥
@@ -46,13 +41,13 @@ pub has_failed : (A : Type 0) (fault : StoreFault) (was is : Bool) → is ≡ (w
 has_failed A Store was is failed at_store = rw failed (or_true was)
 has_failed A Memory was is failed at_store = absurd (cc)
 
-module _ {S : Type 0} (g : Ghosts S) (old now new : Kept S) (asked : List Asked) (count : ℕ) (answers : List ReplyOrRefusal) where
+module _ {S : Type 0} (g : Ghosts S) (old new : Kept S) where
   -- no line was written of the last answer
-  pub untold : (stop : Stop) → IsOfChannel stop → count ≤ length asked → length answers ≡ count → (IsClean g new → IsClean g old) →
+  pub untold : (asked : List Asked) (count : ℕ) (answers : List ReplyOrRefusal) (stop : Stop) → IsOfChannel stop → count ≤ length asked → length answers ≡ count → (IsClean g new → IsClean g old) →
       ((s : State) → IsDurablyAt g old s → IsClean g new → answers ≡ take count (Replies s asked)) →
       ((s : State) → IsDurablyAt g old s → IsDurablyAt g new (Fold s (take count asked))) →
       IsStoppedIn g old new asked answers stop
-  untold stop (inl is) within each clean answered left = subst (IsStoppedIn g old new asked answers) (sym is) (record {
+  untold asked count answers stop (inl is) within each clean answered left = subst (IsStoppedIn g old new asked answers) (sym is) (record {
     told = inr (inl refl);
     few = omega (arith, each, within);
     unanswered = λ no. absurd (no_fault_of_book stops.Memory (inl refl) no);
@@ -61,7 +56,7 @@ module _ {S : Type 0} (g : Ghosts S) (old now new : Kept S) (asked : List Asked)
     answered = λ s at clean. rw each (answered s at clean);
     left = λ s at. rw each (left s at);
   })
-  untold stop (inr is) within each clean answered left = subst (IsStoppedIn g old new asked answers) (sym is) (record {
+  untold asked count answers stop (inr is) within each clean answered left = subst (IsStoppedIn g old new asked answers) (sym is) (record {
     told = inr (inr refl);
     few = omega (arith, each, within);
     unanswered = λ no. absurd (no_fault_of_book stops.Channel (inr refl) no);
@@ -71,35 +66,21 @@ module _ {S : Type 0} (g : Ghosts S) (old now new : Kept S) (asked : List Asked)
     left = λ s at. rw each (left s at);
   })
 
-  left_at : (fault : StoreFault) (s : State) (a : Asked) → Fold s (take (count + 1) asked) ≡ next (Fold s (take count asked)) a →
-      (fault ≡ Memory → IsDurablyAt g new (Fold s (take count asked))) →
-      (fault ≡ Store → IsInDoubt g new (Fold s (take count asked)) (next (Fold s (take count asked)) a)) → IsLeftAfterAnswers g new s asked count (Book fault)
-  left_at Store s a more memory store = rw more (store refl)
-  left_at Memory s a more memory store = memory refl
+  left_at : (fault : StoreFault) (s : State) (a : Asked) → (fault ≡ Memory → IsDurablyAt g new s) → (fault ≡ Store → IsInDoubt g new s (next s a)) → IsLeftAfterAnswers g new s (a ∷ []) 0 (Book fault)
+  left_at Store s a memory store = store refl
+  left_at Memory s a memory store = memory refl
 
-  -- the next met a fault
-  pub unanswered : (a : Asked) (fault : StoreFault) → count < length asked → slice_get asked count ≡ Some a →
-      AreAsked g old now asked count answers →
-      new.failed ≡ (now.failed || is_store_fault {A = Answer} (Err fault)) →
-      (IsClean g new → IsClean g now) →
-      ((s : State) → IsDurablyAt g now s → fault ≡ Memory → IsDurablyAt g new s) →
-      ((s : State) → IsDurablyAt g now s → fault ≡ Store → IsInDoubt g new s (next s a)) →
-      IsStoppedIn g old new asked answers (Book fault)
-  unanswered a fault within at_count was failed clean memory store =
-      let each = was.each in
-      let is_a : get_or asked count a ≡ a = get_or_from_slice_get asked count a a at_count in
-      record {
-        told = inl (fault, refl);
-        few = omega (arith, each, within);
-        unanswered = λ is. omega (arith, each, within);
-        failed = has_failed Answer fault now.failed new.failed failed;
-        disk = λ is_clean. was.clean (clean is_clean);
-        answered = λ s at is_clean. rw each (was.answered s at (clean is_clean));
-        left = λ s at.
-            let so_far = Fold s (take count asked) in
-            let more : Fold s (take (count + 1) asked) ≡ next so_far a = rw is_a at (fold_more s asked count a within) in
-            subst (λ n. IsLeftAfterAnswers g new s asked n (Book fault)) (sym each) (left_at fault s a more (memory so_far (was.left s at)) (store so_far (was.left s at)));
-      }
+  -- a command met a fault
+  unanswered : (a : Asked) (fault : StoreFault) → IsAnswered g old new a (Err fault) → IsStoppedIn g old new (a ∷ []) [] (Book fault)
+  unanswered a fault it = record {
+    told = inl (fault, refl);
+    few = omega arith;
+    unanswered = λ is. omega arith;
+    failed = has_failed Answer fault old.failed new.failed it.failed;
+    disk = it.disk;
+    answered = λ s at clean. refl;
+    left = λ s at. left_at fault s a (λ which. it.memory s at (ap Err which)) (λ which. it.store s at (ap Err which));
+  }
 
 -- what is known of the fault of a call, by which another is returned
 pub err_told : {A E : Type 0} (r : Result A E) (P Q : E → Type 0) → IsErrAnd r P → ((e : E) → P e → Q e) → IfErr r Q
@@ -119,16 +100,14 @@ module _ {S : Type 0} (g : Ghosts S) (old new : Kept S) (held out : ChannelBytes
       let asked = asked_as (number, instruction) in (
         result_of answer ∷ [],
         subst (λ f. IsStoppedIn g old new (asked ∷ []) (result_of answer ∷ []) (stop_of f)) (sym memory)
-            (untold g old old new (asked ∷ []) 1 (result_of answer ∷ []) stops.Memory (inl refl) (omega arith) refl is.disk
+            (untold g old new (asked ∷ []) 1 (result_of answer ∷ []) stops.Memory (inl refl) (omega arith) refl is.disk
             (λ s at clean. ap (λ a. a ∷ []) (is.reply s at clean)) (λ s at. is.answered s at)),
       )
   command_stopped (number, instruction) (Err met) fault is same =
       let asked = asked_as (number, instruction) in
       let at_book : fault ≡ ask.Book met = cc in (
         [],
-        subst (λ f. IsStoppedIn g old new (asked ∷ []) [] (stop_of f)) (sym at_book)
-            (unanswered g old old new (asked ∷ []) 0 [] asked met (omega arith) refl (none_asked g old (asked ∷ []))
-            is.failed is.disk (λ s at which. is.memory s at (ap Err which)) (λ s at which. is.store s at (ap Err which))),
+        subst (λ f. IsStoppedIn g old new (asked ∷ []) [] (stop_of f)) (sym at_book) (unanswered g old new asked met is),
       )
 
   unasked : (fault : AskFault) → fault ≡ ask.Memory → new ≡ old → IsAskStopped g old new held out out (stop_of fault)
@@ -149,8 +128,8 @@ answer_untold : {S : Type 0} (g : Ghosts S) (old new : Kept S) (request : Reques
     ((s : State) → IsDurablyAt g old s → IsClean g new → Answers s request answer) →
     ((s : State) → IsDurablyAt g old s → IsDurablyAt g new (left_by_request s request)) →
     (answers : List ReplyOrRefusal) × IsStoppedIn g old new (asked_by_request request) answers stop × (length answers < length (asked_by_request request) → ⊥)
-answer_untold g old new (Ok asked) answer stop which answered left = (answer ∷ [], untold g old new new (asked_by_request (Ok asked)) 1 (answer ∷ []) stop which (omega arith) refl (clean_before_request g old new (Ok asked) left) answered left, λ fewer. absurd (omega (arith, fewer)))
-answer_untold g old new (Err fault) answer stop which answered left = ([], untold g old new new [] 0 [] stop which (omega arith) refl (clean_before_same g old new left) (λ s at is_clean. refl) left, λ fewer. absurd (omega (arith, fewer)))
+answer_untold g old new (Ok asked) answer stop which answered left = (answer ∷ [], untold g old new (asked_by_request (Ok asked)) 1 (answer ∷ []) stop which (omega arith) refl (clean_before_request g old new (Ok asked) left) answered left, λ fewer. absurd (omega (arith, fewer)))
+answer_untold g old new (Err fault) answer stop which answered left = ([], untold g old new [] 0 [] stop which (omega arith) refl (clean_before_same g old new left) (λ s at is_clean. refl) left, λ fewer. absurd (omega (arith, fewer)))
 
 pub asked_untold : {S : Type 0} (g : Ghosts S) (old new : Kept S) (held out out' : ChannelBytes) (input : List ℕ) (told : JsonAnswer) (stop : Stop) → IsOfChannel stop → ReadsInput held input →
     IsRequestAsked g old new input (Ok told) → IsAskStopped g old new held out out' stop
@@ -158,28 +137,3 @@ asked_untold g old new held out out' input told stop which read asked =
     let was = request_told g old new input told asked in
     let it = answer_untold g old new (read_request input) was.0 stop which was.2 was.3 in
     inr (input, it.0, read, it.1, λ fewer. absurd (it.2 fewer))
-
--- ---- `import`
-
-module _ {S : Type 0} (g : Ghosts S) (old now new : Kept S) (number : ℕ) (plans : List Plan) (count : ℕ) (status : Status) (out out' : ChannelBytes) where
-  abbrev parts : List Asked
-  parts = import number plans
-
-  pub part_unanswered : (a : Asked) (fault : StoreFault) → count < length parts → slice_get parts count ≡ Some a →
-      AreSoFar g old now parts count status out out' → IsAnswered g now new a (Err fault) → AreStopped g old new number plans out out' (Book fault)
-  part_unanswered a fault within at_count was answered = record {
-    answers = was.answers;
-    asked = unanswered g old now new parts count was.answers a fault within at_count was.asked_so_far answered.failed answered.disk
-        (λ s at is. answered.memory s at (ap Err is)) (λ s at is. answered.store s at (ap Err is));
-    printed = λ is. was.printed;
-  }
-
-  pub part_untold : (out'' : ChannelBytes) (a : Asked) (answer : Answer) (stop : Stop) → IsOfChannel stop → count < length parts → slice_get parts count ≡ Some a →
-      AreSoFar g old now parts count status out out' → IsAnswered g now new a (Ok answer) → AreStopped g old new number plans out out'' stop
-  part_untold out'' a answer stop which within at_count was answered = record {
-    answers = was.answers ++ result_of answer ∷ [];
-    asked =
-        let now_asked = one_asked g old now new parts count was.answers a (result_of answer) within at_count was.asked_so_far answered.disk answered.reply answered.answered in
-        untold g old now new parts (count + 1) _ stop which (omega (arith, within)) now_asked.each now_asked.clean now_asked.answered now_asked.left;
-    printed = λ is. absurd (no_fault_of_book stop which is);
-  }

@@ -1,5 +1,5 @@
 -- What `do` and `import` make of what a reader has, and of a book.
-use Rattle.std.specs.Prelude.{◌≡◌, ◌⊎◌, ◌≤◌, ◌<◌, ⊤, ℕ, ◌+◌, List, [], ◌∷◌, ◌++◌, length, take, codes, Result, Ok, Err, IsTrue}
+use Rattle.std.specs.Prelude.{◌≡◌, ◌⊎◌, ◌≤◌, ◌<◌, ⊤, ℕ, ◌+◌, List, [], ◌∷◌, ◌++◌, length, take, codes, Result, Ok, Err, OnOk, IsTrue}
 use Rattle.std.specs.Fmt.{decimal}
 use Rattle.std.specs.List.{fold}
 use Rattle.std.specs.Io.KnownBytes.{Appends}
@@ -22,6 +22,7 @@ use Rattle.asking.specs.declared.answers.AskFault.{AskFault}
 use Rattle.asking.specs.declared.answers.AskFault.TheVariants as ask
 use Rattle.http_exchange.specs.Exchange.{ChannelBytes}
 use Rattle.rosterbook.specs.Streams.{IsOfChannel, Prints, ReadsInput, line_end, refused_line}
+use Rattle.rosterbook.specs.declared.import_command.PartLines.{PartLines}
 use Rattle.rosterbook.specs.declared.status.Status.{Status}
 use Rattle.rosterbook.specs.declared.status.Status.TheVariants.{Done, Refused}
 use Rattle.rosterbook.specs.declared.stop.Stop.{Stop}
@@ -130,6 +131,15 @@ part_lines part (answer ∷ answers) = part_line part answer ++ part_lines (part
 abbrev pub status_with : Status → ReplyOrRefusal → Status
 status_with status (Ok reply) = status
 status_with status (Err refusal) = Refused
+
+-- the line of a part was written, by the same writer, and its answer counts in how the program ends;
+-- or it could not be written
+abbrev pub IsPartTold : {O F : Type 0} → (O → ChannelBytes) → PartLines O → PartLines O → ℕ
+    → ReplyOrRefusal → Result ⊤ F → Type 0
+IsPartTold contents old new part answer result = OnOk result
+    ((new.out.ghost_name ≡ old.out.ghost_name)
+    × Appends (contents old.out.now) (contents new.out.now) (part_line part answer)
+    × (new.status ≡ status_with old.status answer))
 
 -- how the program ends after the answers of an import
 abbrev pub status_of_all : List ReplyOrRefusal → Status

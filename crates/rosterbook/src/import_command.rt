@@ -1,9 +1,10 @@
 //! `rosterbook import`: a schedule on standard input, its pairings asked one after the other. The definitions are in
 //! `specs/Asking.antt`.
 //! Transcript: `tests/transcripts/import.txt`. Wrong bodies: `must-fail/`.
-ghost use Rattle.std.specs.Prelude.{◌≡◌, ◌≤◌, IfErr, IfOk, IsErr, None, OnOk, length};
+ghost use Rattle.std.specs.Prelude.{◌≡◌, IfErr, IfOk, IsErr, None, OnOk};
 ghost use Rattle.sqlite_wal.specs.Files.{image_at};
 ghost use Rattle.std.specs.Io.KnownBytes.{Appends};
+ghost use Rattle.book.specs.Calls.{IsAfterCalls};
 ghost use Rattle.book.specs.Kept.{result_of};
 ghost use Rattle.rosterbook.specs.Asking as spec;
 ghost use Rattle.rosterbook.specs.ByFiles.{AreLeftByImport, IsByFiles, IsImportedBy, IsRefusedAs};
@@ -12,9 +13,8 @@ use crate::ended::Ended;
 use crate::lines::{read_input, refuse};
 use crate::status::Status;
 use crate::stop::Stop;
-use book::{Answer, Book, Import};
-use codec::{CodecFault, schedule_of_csv};
-use duty::Pairing;
+use asking::{Listener, ScheduleFault, ask_schedule};
+use book::{Answer, Book};
 use request_number::RequestNumber;
 use sqlite::{Alter, FileFrom, Start};
 use std::alloc::Global;
@@ -71,48 +71,48 @@ pub fn import_csv<S: Alter, R: Read, O: Write, E: Write>(
     ensures stopped { IfErr result
         (spec.IsImportStopped S.Store book.old book.new number (R.remaining reader.old)
         (O.contents out.old) (O.contents out.new) (E.contents err.old) (E.contents err.new)) }
+    ensures calls { IsAfterCalls S.Store book.old book.new }
 {
     let text = read_input(alloc, reader)?;
-    match schedule_of_csv(alloc, &text) {
-        Ok(pairings) => add_all(alloc, book, number, pairings, out),
-        Err(CodecFault::Memory) => Err(Stop::Memory),
-        Err(fault) => {
+    let mut lines = PartLines {
+        out,
+        status: Status::Done,
+    };
+    match ask_schedule(alloc, book, number, &text, &mut lines) {
+        Ok(()) => Ok(lines.status),
+        Err(ScheduleFault::Unread(fault)) => {
             refuse(err, &fault)?;
             Ok(Status::Refused)
         }
+        Err(ScheduleFault::Ask(fault)) => Err(Stop::from(fault)),
+        Err(ScheduleFault::Unheard(error)) => Err(Stop::from(error)),
     }
 }
 
-/// Adds pairings to a book.
-fn add_all<S: Alter, O: Write>(
-    alloc: Global,
-    book: &mut Book<S>,
-    number: RequestNumber,
-    pairings: Vec<Pairing>,
-    out: &mut O,
-) -> Result<Status, Stop>
-    requires { length pairings.items ≤ 10_000 }
-    ensures added { IfOk result (λ status. spec.AreAddedAndTold S.Store book.old book.new number
-        pairings.items status (O.contents out.old) (O.contents out.new)) }
-    ensures stopped { IfErr result (spec.AreStopped S.Store book.old book.new number pairings.items
-        (O.contents out.old) (O.contents out.new)) }
-{
-    let parts = pairings.len();
-    let mut import = Book::<S>::import(number.get(), pairings);
-    let mut status = Status::Done;
-    for index in 0..parts {
-        let Some(answer) = import.next(alloc, book) else {
-            unreachable!();
-        };
-        let answer = answer?;
-        tell_part(out, index + 1, &answer)?;
-        status = status_with(status, &answer);
+/// The lines of the parts so far, and how the program ends after them.
+#[derive(Drop)]
+struct PartLines<'a, O: Write> {
+    out: &'a mut O,
+    status: Status,
+}
+
+impl<'a, O: Write> Listener for PartLines<'a, O> {
+    ghost use Rattle.rosterbook.specs.Asking.{IsPartTold};
+
+    type Fault = io::Error;
+
+    ghost hears = { λ old new part answer result.
+        IsPartTold O.contents old new part answer result };
+
+    fn hear(&mut self, _alloc: Global, part: u16, answer: &Answer) -> io::Result<()> {
+        tell_part(&mut *self.out, part, answer)?;
+        self.status = status_with(self.status, answer);
+        Ok(())
     }
-    Ok(status)
 }
 
 /// Writes the line of a part at once.
-fn tell_part<O: Write>(out: &mut O, part: usize, answer: &Answer) -> io::Result<()>
+fn tell_part<O: Write>(out: &mut O, part: u16, answer: &Answer) -> io::Result<()>
     ensures { OnOk result (Appends (O.contents out.old) (O.contents out.new)
         (spec.part_line part (result_of answer.now))) }
 {

@@ -35,7 +35,7 @@ use Rattle.store.specs.declared.show.Show.{Show}
 use Rattle.store.specs.declared.show.Show.TheVariants as show
 use Rattle.asking.specs.Answers.{IsOrMemory, Reports, ReportsUnread, answer_json, answer_kind, refusal_kind}
 use Rattle.asking.specs.Reports.{HasShown, IsReportAsked, ReportsShown}
-use Rattle.asking.specs.Requests.{IsDoneAsRead, IsRequestAsked, Request}
+use Rattle.asking.specs.Requests.{IsDoneAsRead, IsRequestAsked, Request, asked_as}
 use Rattle.asking.specs.declared.answers.AskFault.{AskFault}
 use Rattle.asking.specs.declared.answers.AskFault.TheVariants as ask
 use Rattle.asking.specs.declared.answers.JsonAnswer.{JsonAnswer}
@@ -47,7 +47,7 @@ use Rattle.http_exchange.specs.Handler as http
 use Rattle.http_exchange.specs.Handler.{StatusText, submit}
 use Rattle.http_exchange.specs.declared.handler.HandlerFault.{HandlerFault}
 use Rattle.http_exchange.specs.declared.handler.HandlerFault.TheVariants.{Store, Memory}
-use Rattle.web.specs.Acts.{Commands, IsReport, command_of, show_of}
+use Rattle.web.specs.Acts.{Commands, IsReport, show_of}
 use Rattle.web.specs.Answers.{IsInJson, IsResponseToReport, TellsAnswer, answer_status, command_answer, fault_answer, handler_fault_of, json, parts_answer, refusal_status, report_answer, response_to_command, status_of_kind}
 use Rattle.web.specs.Handling.{HoldsWhateverIsAsked, IsHandled, IsLeftByCommands, answers_store_fault}
 use Rattle.web.specs.Serving.{StillMeans}
@@ -266,15 +266,15 @@ module _ {S : Type 0} (g : Ghosts S) (old new : Kept S) where
       })
 
   command_read : (body : List ℕ) (number : ℕ) (instruction : Instruction) (told : Result StatusText HandlerFault) → read_request body ≡ Ok (number, instruction)
-      → IsCommandAsked g old new (command_of (number, instruction)) told → IsHandled g old new (submit Command body) told
+      → IsCommandAsked g old new (asked_as (number, instruction)) told → IsHandled g old new (submit Command body) told
   command_read body number instruction told is it = go told it
     where
-      go : (told : Result StatusText HandlerFault) → IsCommandAsked g old new (command_of (number, instruction)) told → IsHandled g old new (submit Command body) told
-      go (Ok answer) asked = record { kept = asked.kept; shut = λ f. absurd (asked.shut f); done = λ s at. let did = asked.done s at in rw is (did.0, (command_of (number, instruction) ∷ [], refl, did.1)) }
-      go (Err Store) asked = record { kept = asked.kept; shut = λ f. (number, instruction, is); done = λ s at. rw is (command_of (number, instruction) ∷ [], refl, (0, asked.done s at)) }
-      go (Err Memory) asked = record { kept = asked.kept; shut = λ f. tt; done = λ s at. inr (rw is (command_of (number, instruction) ∷ [], refl, begun s (asked.done s at))) }
+      go : (told : Result StatusText HandlerFault) → IsCommandAsked g old new (asked_as (number, instruction)) told → IsHandled g old new (submit Command body) told
+      go (Ok answer) asked = record { kept = asked.kept; shut = λ f. absurd (asked.shut f); done = λ s at. let did = asked.done s at in rw is (did.0, (asked_as (number, instruction) ∷ [], refl, did.1)) }
+      go (Err Store) asked = record { kept = asked.kept; shut = λ f. (number, instruction, is); done = λ s at. rw is (asked_as (number, instruction) ∷ [], refl, (0, asked.done s at)) }
+      go (Err Memory) asked = record { kept = asked.kept; shut = λ f. tt; done = λ s at. inr (rw is (asked_as (number, instruction) ∷ [], refl, begun s (asked.done s at))) }
         where
-          begun : (s : State) → IsAskedIn g old new s (command_of (number, instruction)) (Err Memory) → IsLeftByCommands g old new s (command_of (number, instruction) ∷ []) (Err Memory)
+          begun : (s : State) → IsAskedIn g old new s (asked_as (number, instruction)) (Err Memory) → IsLeftByCommands g old new s (asked_as (number, instruction) ∷ []) (Err Memory)
           begun s (inl (at, shown)) = (0, at, shown)
           begun s (inr (at, shown)) = (1, at, shown)
 
@@ -288,7 +288,7 @@ module _ {S : Type 0} (g : Ghosts S) (old new : Kept S) where
       go : (read : Request) → read_request body ≡ read → IsDoneAsRead g old new read r → IsHandled g old new (submit Command body) (response_to_command r)
       go (Ok (number, instruction)) is asked =
           command_read body number instruction (response_to_command r) is
-          (asked_by (command_of (number, instruction)) asked.answer (response_to_command r) (told_as asked.answer r asked.reported) asked.answered calls)
+          (asked_by (asked_as (number, instruction)) asked.answer (response_to_command r) (told_as asked.answer r asked.reported) asked.answered calls)
       go (Err fault) is (same, unread) =
           subst (λ (b : Kept S). IsHandled g old b (submit Command body) (response_to_command r)) (sym same)
           (command_unread g old body fault (response_to_command r) is (told_unread fault r unread))

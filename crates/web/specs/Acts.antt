@@ -19,19 +19,16 @@ use Rattle.http_exchange.specs.Handler as http
 use Rattle.http_exchange.specs.Handler.{StatusText, submit}
 use Rattle.http_exchange.specs.declared.handler.HandlerFault.{HandlerFault}
 use Rattle.http_exchange.specs.declared.handler.HandlerFault.TheVariants as fault
+use Rattle.asking.specs.Requests.{asked_as}
 use Rattle.web.specs.Answers.{IsAbsent, command_answer, fault_answer, parts_answer, report_answer}
 
 -- commands under their keys
 abbrev pub Commands : Type 0
 Commands = List folds.Asked
 
--- the command of a body, under part 0 of its number
-abbrev pub command_of : ℕ × Instruction → folds.Asked
-command_of (number, instruction) = (record { number = number; part = 0 }, instruction)
-
 -- one that is read is a command, and one that isn't is none
 abbrev pub commands_of : Result (ℕ × Instruction) CodecFault → Commands
-commands_of (Ok read) = command_of read ∷ []
+commands_of (Ok read) = asked_as read ∷ []
 commands_of (Err fault) = []
 
 -- the commands that a request asks: the one of a body that is read; the parts of a schedule; of another body, and of a report, none
