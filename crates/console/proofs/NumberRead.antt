@@ -12,7 +12,7 @@ use Rattle.clap.proofs.ValueTestLemmas.{accepts-Accepts}
 use Rattle.clap.proofs.WalkLemmas.{both, one_text-rows}
 use Rattle.clap.specs.Facts.{parser_of_value, unwrap_or_range}
 use Rattle.clap.specs.Faults.{action_fault, level_fault, repeat_fault, use_fault, values_fault}
-use Rattle.clap.specs.Kinds.{range_kinds, values_kinds, value_kinds}
+use Rattle.clap.specs.Kinds.{Kinds, or_else, range_kinds, values_kinds, value_kinds}
 use Rattle.clap.specs.Matches.{ReadsOne, one_text}
 use Rattle.clap.specs.Simple.{Shape}
 use Rattle.clap.specs.Values.{is_request, read_as, refused_kind}
@@ -26,6 +26,7 @@ use Rattle.clap.specs.declared.builder.value_parser.Reading.{Reading}
 use Rattle.clap.specs.declared.builder.value_parser.Reading.TheVariants as reading
 use Rattle.clap.specs.declared.builder.value_parser.ValueParser.{ValueParser}
 use Rattle.clap.specs.declared.builder.value_parser.ValueParser.TheVariants as vp
+use Rattle.clap.specs.declared.error.kind.ErrorKind.TheVariants.{ValueValidation}
 use Rattle.clap.specs.declared.parser.matches.Found.{Found}
 use Rattle.clap.specs.declared.parser.matches.ValueSource.{ValueSource}
 use Rattle.clap.specs.declared.parser.matches.ValueSource.TheVariants.{CommandLine, DefaultValue}
@@ -70,9 +71,13 @@ written_text reading.WithoutMinus o e = absurd (true≢false (sym e))
 written_text reading.Boolish o e = absurd (true≢false (sym e))
 written_text reading.Falsey o e = absurd (true≢false (sym e))
 
+-- what a line comes to whose only number is one, or isn't
+abbrev pub number_fault : Bool → Kinds
+number_fault b = or_else (or_else (cond b [] (ValueValidation ∷ [])) []) []
+
 module _ (most : ℕ) where
   -- the text is a whole number from 1 to `most`
-  abbrev is_number : Text → Bool
+  abbrev pub is_number : Text → Bool
   is_number text = is_unsigned_in 1 most text
 
   abbrev takes_numbers : Option ValueParser → Bool
@@ -122,6 +127,13 @@ module _ (most : ℕ) where
           let bad : ⊥ = cc in
           absurd bad
       go false e = refl
+
+  -- what a number comes to that is checked at the end of the line
+  pub passes_alone : (t : Text) (n : ℕ) → number_up_to most t ≡ Some n → number_fault (is_number t) ≡ []
+  passes_alone t n e = ap number_fault (number_passes t n e)
+
+  pub fails_alone : (t : Text) → number_up_to most t ≡ None → number_fault (is_number t) ≡ ValueValidation ∷ []
+  fails_alone t e = ap number_fault (number_fails t e)
 
   is_some_number : (text : Text) → is_number text ≡ true → is_some (number_up_to most text) ≡ true
   is_some_number text e = rw e refl

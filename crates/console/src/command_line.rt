@@ -1,18 +1,17 @@
 //! The words after the program's name, read by `clap`. The definition is `command_line` (`specs/CommandLine.antt`).
 //! Command lines and help: `tests/program.sh`. Wrong bodies: `must-fail/`.
 ghost use Rattle.std.specs.Prelude.{◌≡◌, ◌∷◌, ◌⊎◌, ℕ, IfOk, IsErrAnd, IsSomeAnd, List, MatchResult, None, Option};
-ghost use Rattle.std.specs.Prelude.{Some, [], codes, false, is_some, map, option_and_then, string_bytes, true};
+ghost use Rattle.std.specs.Prelude.{Some, [], codes, false, is_some, map, string_bytes, true};
 ghost use Rattle.std.specs.List.{list_all};
 ghost use Rattle.std.specs.Option.{option_map_or};
 ghost use Rattle.clap.specs.Walk.{Text, texts};
 ghost use Rattle.clap.specs.Words.{FailsBy, HasKind, all_of, fault_of, first_of, found_of, kind_of, rows_of};
 ghost use Rattle.clap.specs.Words.{rule_of, subcommand_of, subcommand_rows_of};
 ghost use Rattle.clap.specs.declared.error.kind.ErrorKind.TheVariants.{OutOfMemory, ValueValidation};
-ghost use Rattle.console.specs.Arguments.{HasArguments, HasDo, HasDuty, HasExceedances, HasImport, HasInit};
-ghost use Rattle.console.specs.Arguments.{HasNumber, HasPairing, HasRoster, HasServe};
-ghost use Rattle.console.specs.CommandLine.{IsCommandOfApp, States, bare, command_line, do_one, duty, exceedances, import_app};
-ghost use Rattle.console.specs.CommandLine.{init, last_number, last_port, most_connections, number_up_to};
-ghost use Rattle.console.specs.CommandLine.{optional_connections, pairing, request_number, roster, serve, wanted, wanted_number};
+ghost use Rattle.console.specs.Arguments.{HasAll, HasArguments, HasNumber};
+ghost use Rattle.console.specs.CommandLine.{IsCommandOfApp, States, bare, command_line, connections, last_number, last_port};
+ghost use Rattle.console.specs.CommandLine.{most_connections, number_found, number_up_to, request_number, rule, subcommand};
+ghost use Rattle.console.specs.CommandLine.{wanted, wanted_number};
 ghost use Rattle.console.specs.Plain.{IsDo, IsDuty, IsExceedances, IsImport, IsInit, IsPairing, IsRoster, IsServe};
 ghost use Rattle.console.specs.Plain.{asked_connections, do_words, duty_words, exceedances_words, import_words, init_words};
 ghost use Rattle.console.specs.Plain.{is_plain, pairing_words, roster_words, serve_words};
@@ -291,7 +290,7 @@ fn bare_command<'a>(alloc: Global) -> Result<Command<'a>, AllocError>
 
 /// Makes the subcommand `duty`.
 fn duty_command<'a>(alloc: Global) -> Result<Command<'a>, AllocError>
-    ensures { IfOk result (IsCommandOfApp duty) }
+    ensures { IfOk result (IsCommandOfApp (subcommand (codes "duty"))) }
 {
     let zone = positional(alloc, "zone", "ZONE").help(ZONE_HELP);
     let report = positional(alloc, "report", "REPORT").help(REPORT_HELP);
@@ -308,7 +307,7 @@ fn duty_command<'a>(alloc: Global) -> Result<Command<'a>, AllocError>
 
 /// Makes the subcommand `init`.
 fn init_command<'a>(alloc: Global) -> Result<Command<'a>, AllocError>
-    ensures { IfOk result (IsCommandOfApp init) }
+    ensures { IfOk result (IsCommandOfApp (subcommand (codes "init"))) }
 {
     let file = positional(alloc, "file", "FILE").help(NEW_FILE_HELP);
     let zone = positional(alloc, "zone", "ZONE").help(ZONE_HELP);
@@ -321,7 +320,7 @@ fn init_command<'a>(alloc: Global) -> Result<Command<'a>, AllocError>
 
 /// Makes the subcommand `do`.
 fn do_command<'a>(alloc: Global) -> Result<Command<'a>, AllocError>
-    ensures { IfOk result (IsCommandOfApp do_one) }
+    ensures { IfOk result (IsCommandOfApp (subcommand (codes "do"))) }
 {
     let file = positional(alloc, "file", "FILE").help(FILE_HELP);
     Command::new(alloc, "do")
@@ -332,7 +331,7 @@ fn do_command<'a>(alloc: Global) -> Result<Command<'a>, AllocError>
 
 /// Makes the subcommand `import`.
 fn import_command<'a>(alloc: Global) -> Result<Command<'a>, AllocError>
-    ensures { IfOk result (IsCommandOfApp import_app) }
+    ensures { IfOk result (IsCommandOfApp (subcommand (codes "import"))) }
 {
     let file = positional(alloc, "file", "FILE").help(FILE_HELP);
     let number = positional(alloc, "number", "NUMBER")
@@ -347,7 +346,7 @@ fn import_command<'a>(alloc: Global) -> Result<Command<'a>, AllocError>
 
 /// Makes the subcommand `roster`.
 fn roster_command<'a>(alloc: Global) -> Result<Command<'a>, AllocError>
-    ensures { IfOk result (IsCommandOfApp roster) }
+    ensures { IfOk result (IsCommandOfApp (subcommand (codes "roster"))) }
 {
     let file = positional(alloc, "file", "FILE").help(FILE_HELP);
     let crew = positional(alloc, "crew", "CREW").help(CREW_HELP);
@@ -360,7 +359,7 @@ fn roster_command<'a>(alloc: Global) -> Result<Command<'a>, AllocError>
 
 /// Makes the subcommand `pairing`.
 fn pairing_command<'a>(alloc: Global) -> Result<Command<'a>, AllocError>
-    ensures { IfOk result (IsCommandOfApp pairing) }
+    ensures { IfOk result (IsCommandOfApp (subcommand (codes "pairing"))) }
 {
     let file = positional(alloc, "file", "FILE").help(FILE_HELP);
     let id = positional(alloc, "pairing", "PAIRING").help(PAIRING_HELP);
@@ -373,7 +372,7 @@ fn pairing_command<'a>(alloc: Global) -> Result<Command<'a>, AllocError>
 
 /// Makes the subcommand `exceedances`.
 fn exceedances_command<'a>(alloc: Global) -> Result<Command<'a>, AllocError>
-    ensures { IfOk result (IsCommandOfApp exceedances) }
+    ensures { IfOk result (IsCommandOfApp (subcommand (codes "exceedances"))) }
 {
     let file = positional(alloc, "file", "FILE").help(FILE_HELP);
     Command::new(alloc, "exceedances")
@@ -384,7 +383,7 @@ fn exceedances_command<'a>(alloc: Global) -> Result<Command<'a>, AllocError>
 
 /// Makes the subcommand `serve`.
 fn serve_command<'a>(alloc: Global) -> Result<Command<'a>, AllocError>
-    ensures { IfOk result (IsCommandOfApp serve) }
+    ensures { IfOk result (IsCommandOfApp (subcommand (codes "serve"))) }
 {
     let file = positional(alloc, "file", "FILE").help(FILE_HELP);
     Command::new(alloc, "serve")
@@ -407,7 +406,7 @@ fn port_argument<'a>(alloc: Global) -> Arg<'a>
 
 /// Makes the option for how many connections `serve` takes: 1,000,000 where it isn't given.
 fn connections_option<'a>(alloc: Global) -> Arg<'a>
-    ensures rule { rule_of result ≡ optional_connections }
+    ensures rule { rule_of result ≡ rule connections }
     ensures local { result.global ≡ false }
 {
     Arg::new(alloc, "connections")
@@ -447,7 +446,7 @@ fn action_of(alloc: Global, matches: &ArgMatches<'_>) -> Result<Action, AllocErr
 
 /// Reads the arguments of `duty`.
 fn duty_of(alloc: Global, matches: &ArgMatches<'_>) -> Result<Action, AllocError>
-    requires { HasDuty (rows_of (found_of matches.now)) }
+    requires { HasAll (codes "duty") (rows_of (found_of matches.now)) }
     ensures { IfOk result (λ a. States a (codes "duty", rows_of (found_of matches.now))) }
 {
     Ok(Action::Duty {
@@ -459,7 +458,7 @@ fn duty_of(alloc: Global, matches: &ArgMatches<'_>) -> Result<Action, AllocError
 
 /// Reads the arguments of `init`.
 fn init_of(alloc: Global, matches: &ArgMatches<'_>) -> Result<Action, AllocError>
-    requires { HasInit (rows_of (found_of matches.now)) }
+    requires { HasAll (codes "init") (rows_of (found_of matches.now)) }
     ensures { IfOk result (λ a. States a (codes "init", rows_of (found_of matches.now))) }
 {
     let file = text_of(alloc, matches, "file")?;
@@ -469,7 +468,7 @@ fn init_of(alloc: Global, matches: &ArgMatches<'_>) -> Result<Action, AllocError
 
 /// Reads the arguments of `do`.
 fn do_of(alloc: Global, matches: &ArgMatches<'_>) -> Result<Action, AllocError>
-    requires { HasDo (rows_of (found_of matches.now)) }
+    requires { HasAll (codes "do") (rows_of (found_of matches.now)) }
     ensures { IfOk result (λ a. States a (codes "do", rows_of (found_of matches.now))) }
 {
     let file = text_of(alloc, matches, "file")?;
@@ -478,7 +477,7 @@ fn do_of(alloc: Global, matches: &ArgMatches<'_>) -> Result<Action, AllocError>
 
 /// Reads the arguments of `import`.
 fn import_of(alloc: Global, matches: &ArgMatches<'_>) -> Result<Action, AllocError>
-    requires { HasImport (rows_of (found_of matches.now)) }
+    requires { HasAll (codes "import") (rows_of (found_of matches.now)) }
     ensures { IfOk result (λ a. States a (codes "import", rows_of (found_of matches.now))) }
 {
     let file = text_of(alloc, matches, "file")?;
@@ -488,7 +487,7 @@ fn import_of(alloc: Global, matches: &ArgMatches<'_>) -> Result<Action, AllocErr
 
 /// Reads the arguments of `roster`.
 fn roster_of(alloc: Global, matches: &ArgMatches<'_>) -> Result<Action, AllocError>
-    requires { HasRoster (rows_of (found_of matches.now)) }
+    requires { HasAll (codes "roster") (rows_of (found_of matches.now)) }
     ensures { IfOk result (λ a. States a (codes "roster", rows_of (found_of matches.now))) }
 {
     let file = text_of(alloc, matches, "file")?;
@@ -498,7 +497,7 @@ fn roster_of(alloc: Global, matches: &ArgMatches<'_>) -> Result<Action, AllocErr
 
 /// Reads the arguments of `pairing`.
 fn pairing_of(alloc: Global, matches: &ArgMatches<'_>) -> Result<Action, AllocError>
-    requires { HasPairing (rows_of (found_of matches.now)) }
+    requires { HasAll (codes "pairing") (rows_of (found_of matches.now)) }
     ensures { IfOk result (λ a. States a (codes "pairing", rows_of (found_of matches.now))) }
 {
     let file = text_of(alloc, matches, "file")?;
@@ -508,7 +507,7 @@ fn pairing_of(alloc: Global, matches: &ArgMatches<'_>) -> Result<Action, AllocEr
 
 /// Reads the arguments of `exceedances`.
 fn exceedances_of(alloc: Global, matches: &ArgMatches<'_>) -> Result<Action, AllocError>
-    requires { HasExceedances (rows_of (found_of matches.now)) }
+    requires { HasAll (codes "exceedances") (rows_of (found_of matches.now)) }
     ensures { IfOk result (λ a. States a (codes "exceedances", rows_of (found_of matches.now))) }
 {
     let file = text_of(alloc, matches, "file")?;
@@ -517,7 +516,7 @@ fn exceedances_of(alloc: Global, matches: &ArgMatches<'_>) -> Result<Action, All
 
 /// Reads the arguments of `serve`.
 fn serve_of(alloc: Global, matches: &ArgMatches<'_>) -> Result<Action, AllocError>
-    requires { HasServe (rows_of (found_of matches.now)) }
+    requires { HasAll (codes "serve") (rows_of (found_of matches.now)) }
     ensures { IfOk result (λ a. States a (codes "serve", rows_of (found_of matches.now))) }
 {
     let file = text_of(alloc, matches, "file")?;
@@ -533,8 +532,7 @@ fn serve_of(alloc: Global, matches: &ArgMatches<'_>) -> Result<Action, AllocErro
 /// Reads the value of an argument that is a port.
 fn port_of(matches: &ArgMatches<'_>, id: &str) -> u16
     requires { HasNumber last_port id.now (rows_of (found_of matches.now)) }
-    ensures { option_and_then (number_up_to last_port)
-        (first_of id.now (rows_of (found_of matches.now))) ≡ Some result }
+    ensures { number_found last_port id.now (rows_of (found_of matches.now)) ≡ Some result }
 {
     let port = matches.get_one::<u64>(id).unwrap();
     port as u16
@@ -543,9 +541,7 @@ fn port_of(matches: &ArgMatches<'_>, id: &str) -> u16
 /// Reads the value of an argument that is a number of connections.
 fn connections_of(matches: &ArgMatches<'_>, id: &str) -> u32
     requires { HasNumber most_connections id.now (rows_of (found_of matches.now)) }
-    ensures { option_and_then (number_up_to most_connections)
-        (first_of id.now (rows_of (found_of matches.now)))
-        ≡ Some result }
+    ensures { number_found most_connections id.now (rows_of (found_of matches.now)) ≡ Some result }
 {
     let connections = matches.get_one::<u64>(id).unwrap();
     connections as u32
@@ -554,8 +550,7 @@ fn connections_of(matches: &ArgMatches<'_>, id: &str) -> u32
 /// Reads the value of an argument that is a request's number.
 fn number_of(matches: &ArgMatches<'_>, id: &str) -> RequestNumber
     requires { HasNumber last_number id.now (rows_of (found_of matches.now)) }
-    ensures { option_and_then request_number (first_of id.now (rows_of (found_of matches.now)))
-        ≡ Some result }
+    ensures { number_found last_number id.now (rows_of (found_of matches.now)) ≡ Some result }
 {
     let number = matches.get_one::<u64>(id).unwrap();
     RequestNumber::new(number).unwrap()
