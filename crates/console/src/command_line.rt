@@ -262,15 +262,17 @@ fn read(alloc: Global, words: &[&str]) -> Result<Action, Error>
 fn command<'a>(alloc: Global) -> Result<Command<'a>, AllocError>
     ensures { IfOk result (IsCommandOfApp command_line) }
 {
-    bare_command(alloc)?
-        .subcommand(duty_command(alloc)?)?
-        .subcommand(init_command(alloc)?)?
-        .subcommand(do_command(alloc)?)?
-        .subcommand(import_command(alloc)?)?
-        .subcommand(roster_command(alloc)?)?
-        .subcommand(pairing_command(alloc)?)?
-        .subcommand(exceedances_command(alloc)?)?
-        .subcommand(serve_command(alloc)?)
+    let subcommands = vec![in alloc;
+        duty_command(alloc)?,
+        init_command(alloc)?,
+        do_command(alloc)?,
+        import_command(alloc)?,
+        roster_command(alloc)?,
+        pairing_command(alloc)?,
+        exceedances_command(alloc)?,
+        serve_command(alloc)?,
+    ]?;
+    bare_command(alloc)?.subcommands(subcommands)
 }
 
 /// Makes the program without its subcommands.
