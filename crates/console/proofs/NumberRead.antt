@@ -34,7 +34,7 @@ use Rattle.duty.specs.Shape.{is_within}
 use Rattle.console.proofs.Filled.{Filled, all_more, has_value, is_filled, is_found, row_changed}
 use Rattle.console.proofs.WalkKeeps.{found_passes, level_keeps, none_of}
 use Rattle.console.specs.Arguments.{HasNumber}
-use Rattle.console.specs.CommandLine.{last_number, number_up_to, request_number}
+use Rattle.console.specs.CommandLine.{last_number, number_found, number_up_to}
 
 abbrev is_as_written : Reading → Bool
 is_as_written reading.AsWritten = true
@@ -299,8 +299,9 @@ module _ (most : ℕ) where
           let bad : ⊥ = cc in
           absurd bad
 
-pub number_at_most : (most : ℕ) (o : Option Text) (n : ℕ) → option_and_then (number_up_to most) o ≡ Some n → n ≤ most
-number_at_most most o n e = leb-true n most (both (nat_le 1 n) _ (number_within most o n e)).1
+pub number_at_most : (most : ℕ) (id : Text) (rows : List Row) (n : ℕ) → HasNumber most id rows
+    → number_found most id rows ≡ Some n → n ≤ most
+number_at_most most id rows n has e = leb-true n most (both (nat_le 1 n) _ (number_within most (first_of id rows) n e)).1
 
 pub some_there : (r : Option ℕ) (n : ℕ) → r ≡ Some n → IsSome r
 some_there r n e = rw e refl
@@ -309,6 +310,7 @@ pub taken_there : (o r : Option ℕ) → o ≡ r → is_some o ≡ true → IsSo
 taken_there None r e some = absurd (true≢false (sym some))
 taken_there (Some n) r e some = rw (← e) refl
 
-pub number_made : (o : Option Text) (n : ℕ) (r : Option ℕ) → option_and_then request_number o ≡ Some n
+pub number_made : (id : Text) (rows : List Row) (n : ℕ) (r : Option ℕ) → HasNumber last_number id rows
+    → number_found last_number id rows ≡ Some n
     → r ≡ cond (is_within 1 last_number n) (Some n) None → r ≡ Some n
-number_made o n r e made = made ∙ rw (number_within last_number o n e) refl
+number_made id rows n r has e made = made ∙ rw (number_within last_number (first_of id rows) n e) refl

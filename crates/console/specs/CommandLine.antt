@@ -5,10 +5,11 @@ use Rattle.std.specs.Option.{option_map_or}
 use Rattle.std.specs.Str.{bytes_eq}
 use Rattle.std.specs.Str.Parse.{digits_value, without_leading_plus}
 use Rattle.clap.specs.Words.{App, Row, Rule, Text, all_of, app_of, first_of, new_app, new_rule}
-use Rattle.clap.specs.Words.{with_rule, with_subcommand}
+use Rattle.clap.specs.Words.{rule_of, with_rule, with_subcommand}
 use Rattle.clap.specs.Simple.{on_top}
 use Rattle.clap.specs.ValueTests.{is_unsigned_in}
 use Rattle.clap.specs.declared.builder.action.ArgAction.TheVariants.{Append}
+use Rattle.clap.specs.declared.builder.arg.Arg.{Arg}
 use Rattle.clap.specs.declared.builder.command.Command.{Command}
 use Rattle.clap.specs.declared.builder.command.Command.TheViews.{out-Command}
 use Rattle.clap.specs.declared.builder.value_parser.ValueParser.TheVariants.{Unsigned}
@@ -114,6 +115,13 @@ command_line = fold (λ app row. with_subcommand app (with_arguments row.0 row.1
 -- the command is built as `app` says
 abbrev pub IsCommandOfApp : App → Command → Type 0
 IsCommandOfApp app c = (app_of c ≡ app) × ((out-Command c).has_globals ≡ false)
+
+-- these are the arguments, one for one
+abbrev pub AreArguments : List Arg → List Argument → Type 0
+AreArguments [] [] = Unit {0}
+AreArguments (arg ∷ args) (a ∷ arguments) =
+    (rule_of arg ≡ rule a) × (arg.global ≡ false) × AreArguments args arguments
+AreArguments _ _ = ⊥
 
 -- ---- what an action says of the words
 

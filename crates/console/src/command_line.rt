@@ -9,7 +9,7 @@ ghost use Rattle.clap.specs.Words.{FailsBy, HasKind, all_of, fault_of, first_of,
 ghost use Rattle.clap.specs.Words.{rule_of, subcommand_of, subcommand_rows_of};
 ghost use Rattle.clap.specs.declared.error.kind.ErrorKind.TheVariants.{OutOfMemory, ValueValidation};
 ghost use Rattle.console.specs.Arguments.{HasAll, HasArguments, HasNumber};
-ghost use Rattle.console.specs.CommandLine.{IsCommandOfApp, States, bare, command_line, connections, last_number, last_port};
+ghost use Rattle.console.specs.CommandLine.{AreArguments, IsCommandOfApp, States, arguments_of, bare, command_line, connections, last_number, last_port};
 ghost use Rattle.console.specs.CommandLine.{most_connections, number_found, number_up_to, request_number, rule, subcommand};
 ghost use Rattle.console.specs.CommandLine.{wanted, wanted_number};
 ghost use Rattle.console.specs.Plain.{IsDo, IsDuty, IsExceedances, IsImport, IsInit, IsPairing, IsRoster, IsServe};
@@ -290,110 +290,121 @@ fn bare_command<'a>(alloc: Global) -> Result<Command<'a>, AllocError>
         .bin_name("rosterbook")
 }
 
+/// Makes a subcommand of its name, what help says before and after its arguments, and these in order.
+fn subcommand_of<'a>(
+    alloc: Global,
+    name: &'a str,
+    about: &'a str,
+    example: &'a str,
+    arguments: Vec<Arg<'a>>,
+) -> Result<Command<'a>, AllocError>
+    requires { AreArguments arguments.items (arguments_of name.now) }
+    ensures { IfOk result (IsCommandOfApp (subcommand name.entry.now)) }
+{
+    Command::new(alloc, name)
+        .about(about)
+        .after_help(example)
+        .args(arguments)
+}
+
 /// Makes the subcommand `duty`.
 fn duty_command<'a>(alloc: Global) -> Result<Command<'a>, AllocError>
     ensures { IfOk result (IsCommandOfApp (subcommand (codes "duty"))) }
 {
+    let about = "Judge one flight duty period by Tables A and B of 14 CFR Part 117";
     let zone = positional(alloc, "zone", "ZONE").help(ZONE_HELP);
     let report = positional(alloc, "report", "REPORT").help(REPORT_HELP);
     let times = positional(alloc, "time", "TIME")
         .action(ArgAction::Append)
         .help(TIME_HELP);
-    Command::new(alloc, "duty")
-        .about("Judge one flight duty period by Tables A and B of 14 CFR Part 117")
-        .after_help(DUTY_EXAMPLE)
-        .arg(zone)?
-        .arg(report)?
-        .arg(times)
+    let arguments = vec![in alloc; zone, report, times]?;
+    subcommand_of(alloc, "duty", about, DUTY_EXAMPLE, arguments)
 }
 
 /// Makes the subcommand `init`.
 fn init_command<'a>(alloc: Global) -> Result<Command<'a>, AllocError>
     ensures { IfOk result (IsCommandOfApp (subcommand (codes "init"))) }
 {
+    let about = "Make a book in a new or empty file";
     let file = positional(alloc, "file", "FILE").help(NEW_FILE_HELP);
     let zone = positional(alloc, "zone", "ZONE").help(ZONE_HELP);
-    Command::new(alloc, "init")
-        .about("Make a book in a new or empty file")
-        .after_help(INIT_EXAMPLE)
-        .arg(file)?
-        .arg(zone)
+    let arguments = vec![in alloc; file, zone]?;
+    subcommand_of(alloc, "init", about, INIT_EXAMPLE, arguments)
 }
 
 /// Makes the subcommand `do`.
 fn do_command<'a>(alloc: Global) -> Result<Command<'a>, AllocError>
     ensures { IfOk result (IsCommandOfApp (subcommand (codes "do"))) }
 {
+    let about = "Answer one command, which is JSON on standard input";
     let file = positional(alloc, "file", "FILE").help(FILE_HELP);
-    Command::new(alloc, "do")
-        .about("Answer one command, which is JSON on standard input")
-        .after_help(DO_EXAMPLE)
-        .arg(file)
+    let arguments = vec![in alloc; file]?;
+    subcommand_of(alloc, "do", about, DO_EXAMPLE, arguments)
 }
 
 /// Makes the subcommand `import`.
 fn import_command<'a>(alloc: Global) -> Result<Command<'a>, AllocError>
     ensures { IfOk result (IsCommandOfApp (subcommand (codes "import"))) }
 {
+    let about = "Add the pairings of a schedule, which is CSV on standard input";
     let file = positional(alloc, "file", "FILE").help(FILE_HELP);
-    let number = positional(alloc, "number", "NUMBER")
-        .help(NUMBER_HELP)
-        .value_parser(value_parser!(u64).range(1..=i64::MAX));
-    Command::new(alloc, "import")
-        .about("Add the pairings of a schedule, which is CSV on standard input")
-        .after_help(IMPORT_EXAMPLE)
-        .arg(file)?
-        .arg(number)
+    let number = number_argument(alloc);
+    let arguments = vec![in alloc; file, number]?;
+    subcommand_of(alloc, "import", about, IMPORT_EXAMPLE, arguments)
 }
 
 /// Makes the subcommand `roster`.
 fn roster_command<'a>(alloc: Global) -> Result<Command<'a>, AllocError>
     ensures { IfOk result (IsCommandOfApp (subcommand (codes "roster"))) }
 {
+    let about = "Print a member's roster: each duty, as planned or as flown";
     let file = positional(alloc, "file", "FILE").help(FILE_HELP);
     let crew = positional(alloc, "crew", "CREW").help(CREW_HELP);
-    Command::new(alloc, "roster")
-        .about("Print a member's roster: each duty, as planned or as flown")
-        .after_help(ROSTER_EXAMPLE)
-        .arg(file)?
-        .arg(crew)
+    let arguments = vec![in alloc; file, crew]?;
+    subcommand_of(alloc, "roster", about, ROSTER_EXAMPLE, arguments)
 }
 
 /// Makes the subcommand `pairing`.
 fn pairing_command<'a>(alloc: Global) -> Result<Command<'a>, AllocError>
     ensures { IfOk result (IsCommandOfApp (subcommand (codes "pairing"))) }
 {
+    let about = "Print a pairing: who flies it, its periods and segments";
     let file = positional(alloc, "file", "FILE").help(FILE_HELP);
     let id = positional(alloc, "pairing", "PAIRING").help(PAIRING_HELP);
-    Command::new(alloc, "pairing")
-        .about("Print a pairing: who flies it, its periods and segments")
-        .after_help(PAIRING_EXAMPLE)
-        .arg(file)?
-        .arg(id)
+    let arguments = vec![in alloc; file, id]?;
+    subcommand_of(alloc, "pairing", about, PAIRING_EXAMPLE, arguments)
 }
 
 /// Makes the subcommand `exceedances`.
 fn exceedances_command<'a>(alloc: Global) -> Result<Command<'a>, AllocError>
     ensures { IfOk result (IsCommandOfApp (subcommand (codes "exceedances"))) }
 {
+    let about = "Print which flown duties went over a limit, and over which";
     let file = positional(alloc, "file", "FILE").help(FILE_HELP);
-    Command::new(alloc, "exceedances")
-        .about("Print which flown duties went over a limit, and over which")
-        .after_help(EXCEEDANCES_EXAMPLE)
-        .arg(file)
+    let arguments = vec![in alloc; file]?;
+    subcommand_of(alloc, "exceedances", about, EXCEEDANCES_EXAMPLE, arguments)
 }
 
 /// Makes the subcommand `serve`.
 fn serve_command<'a>(alloc: Global) -> Result<Command<'a>, AllocError>
     ensures { IfOk result (IsCommandOfApp (subcommand (codes "serve"))) }
 {
+    let about = "Answer requests of HTTP on 127.0.0.1";
     let file = positional(alloc, "file", "FILE").help(FILE_HELP);
-    Command::new(alloc, "serve")
-        .about("Answer requests of HTTP on 127.0.0.1")
-        .after_help(SERVE_EXAMPLE)
-        .arg(file)?
-        .arg(port_argument(alloc))?
-        .arg(connections_option(alloc))
+    let port = port_argument(alloc);
+    let count = connections_option(alloc);
+    let arguments = vec![in alloc; file, port, count]?;
+    subcommand_of(alloc, "serve", about, SERVE_EXAMPLE, arguments)
+}
+
+/// Makes the argument for the number of a request.
+fn number_argument<'a>(alloc: Global) -> Arg<'a>
+    ensures rule { rule_of result ≡ wanted_number last_number (codes "number") }
+    ensures local { result.global ≡ false }
+{
+    positional(alloc, "number", "NUMBER")
+        .help(NUMBER_HELP)
+        .value_parser(value_parser!(u64).range(1..=i64::MAX))
 }
 
 /// Makes the argument for the port of `serve`.
@@ -536,8 +547,7 @@ fn port_of(matches: &ArgMatches<'_>, id: &str) -> u16
     requires { HasNumber last_port id.now (rows_of (found_of matches.now)) }
     ensures { number_found last_port id.now (rows_of (found_of matches.now)) ≡ Some result }
 {
-    let port = matches.get_one::<u64>(id).unwrap();
-    port as u16
+    whole_of(matches, id) as u16
 }
 
 /// Reads the value of an argument that is a number of connections.
@@ -545,8 +555,7 @@ fn connections_of(matches: &ArgMatches<'_>, id: &str) -> u32
     requires { HasNumber most_connections id.now (rows_of (found_of matches.now)) }
     ensures { number_found most_connections id.now (rows_of (found_of matches.now)) ≡ Some result }
 {
-    let connections = matches.get_one::<u64>(id).unwrap();
-    connections as u32
+    whole_of(matches, id) as u32
 }
 
 /// Reads the value of an argument that is a request's number.
@@ -554,8 +563,16 @@ fn number_of(matches: &ArgMatches<'_>, id: &str) -> RequestNumber
     requires { HasNumber last_number id.now (rows_of (found_of matches.now)) }
     ensures { number_found last_number id.now (rows_of (found_of matches.now)) ≡ Some result }
 {
-    let number = matches.get_one::<u64>(id).unwrap();
-    RequestNumber::new(number).unwrap()
+    RequestNumber::new(whole_of(matches, id)).unwrap()
+}
+
+/// Reads the value of an argument that is a whole number.
+fn whole_of(matches: &ArgMatches<'_>, id: &str) -> u64
+    requires { (most : ℕ) × HasNumber most id.now (rows_of (found_of matches.now)) }
+    ensures { (most : ℕ) → HasNumber most id.now (rows_of (found_of matches.now))
+        → number_found most id.now (rows_of (found_of matches.now)) ≡ Some result }
+{
+    matches.get_one::<u64>(id).unwrap()
 }
 
 /// Returns the first value of an argument that has one.
