@@ -1,7 +1,7 @@
 -- Each argument that a line gave has a value, and so has each required one of a line that met no fault.
 use Rattle.std.proofs.Common.{◌≡◌, ◌&&◌, ◌||◌, ◌==◌, ◌++◌, ℕ, Bool, cond, true, false, not, refl}
-use Rattle.std.proofs.Common.{sym, List, [], ◌∷◌, length, Option, Some, None, is_some, true≢false}
-use Rattle.std.specs.Prelude.{find, slice_get, nat_lt, option_and_then, option_map}
+use Rattle.std.proofs.Common.{sym, subst, List, [], ◌∷◌, length, Option, Some, None, is_some, true≢false}
+use Rattle.std.specs.Prelude.{find, fold, slice_get, nat_lt, option_and_then, option_map}
 use Rattle.std.specs.Option.{option_map_or}
 use Rattle.std.specs.List.{list_all, list_any}
 use Rattle.std.specs.Str.{bytes_eq}
@@ -153,11 +153,15 @@ rows_filled s words ok none =
 
 -- ---- what is required is there
 
+-- one of the rules is of this argument, and passes
+abbrev pub has_rule : (Rule → Bool) → Text → List Rule → Bool
+has_rule good id rules = list_any (λ a. bytes_eq a.id id && good a) rules
+
 -- no required argument is missing of these rows
 abbrev pub NoneMissing : List Rule → List Row → Type 0
 NoneMissing rules rows = list_any (λ a. a.required && not (is_given a.id rows)) rules ≡ false
 
-pub first_there : (a b : Bool) → (a || b) ≡ false → (a ≡ false) × (b ≡ false)
+first_there : (a b : Bool) → (a || b) ≡ false → (a ≡ false) × (b ≡ false)
 first_there true b e = absurd (true≢false e)
 first_there false b e = (refl, e)
 
@@ -188,10 +192,26 @@ checks_passed s words negates none =
     let missing = (check_none _ _ _ t).1 in
     rw negates at missing
 
--- a required argument that is not missing was given
-pub was_given : (b : Bool) → (true && not b) ≡ false → b ≡ true
-was_given true e = refl
-was_given false e = absurd (true≢false e)
+-- a required argument of rows that miss none was given
+pub wanted_given : (id : Text) (rules : List Rule) (rows : List Row) → has_rule (λ a. a.required) id rules ≡ true
+    → NoneMissing rules rows → is_given id rows ≡ true
+wanted_given id [] rows e there = absurd (true≢false (sym e))
+wanted_given id (a ∷ rest) rows e there =
+    let p = first_there _ _ there in
+    go (bytes_eq a.id id && a.required) refl e p.0 (λ has. wanted_given id rest rows has p.1)
+  where
+    given : (b : Bool) → (true && not b) ≡ false → b ≡ true
+    given true e = refl
+    given false e = absurd (true≢false e)
+
+    go : (b : Bool) → (bytes_eq a.id id && a.required) ≡ b → (b || has_rule (λ x. x.required) id rest) ≡ true
+        → (a.required && not (is_given a.id rows)) ≡ false
+        → (has_rule (λ x. x.required) id rest ≡ true → is_given id rows ≡ true) → is_given id rows ≡ true
+    go true is has here later =
+        let p = both (bytes_eq a.id id) _ is in
+        let same : a.id ≡ id = (bytes_eq-Decides a.id id).0 p.0 in
+        given _ (rw (p.1, same) at here)
+    go false is has here later = later has
 
 -- what was given has a first value
 pub given_first : (id : Text) (rows : List Row) → Filled rows → is_given id rows ≡ true
@@ -250,8 +270,34 @@ values_found id how source values (r ∷ rs) =
     go true is later = rw is refl
     go false is later = rw is later
 
+-- a row stays where another is added
+values_keep : (id new : Text) (how : Reading) (source : ValueSource) (values : List Text) (rows : List Row)
+    → is_found id rows ≡ true → is_found id (with_values new how source values rows) ≡ true
+values_keep id new how source values [] e = absurd (true≢false (sym e))
+values_keep id new how source values (r ∷ rs) e =
+    go (bytes_eq r.id new) (bytes_eq r.id id) refl e (values_keep id new how source values rs)
+  where
+    go : (b c : Bool) → bytes_eq r.id id ≡ c → is_some (cond c (Some r) (find (λ x. bytes_eq x.id id) rs)) ≡ true
+        → (is_found id rs ≡ true → is_found id (with_values new how source values rs) ≡ true)
+        → is_found id (cond b (more_values source values r ++ rs) (r ∷ with_values new how source values rs)) ≡ true
+    go true true is found later = rw is refl
+    go true false is found later = rw is found
+    go false true is found later = rw is refl
+    go false false is found later = rw is (later found)
+
+defaults_keep : (id : Text) (rules : List Rule) (rows : List Row) → is_found id rows ≡ true
+    → is_found id (fold with_default rows rules) ≡ true
+defaults_keep id [] rows found = found
+defaults_keep id (a ∷ rest) rows found = defaults_keep id rest (with_default rows a) (go (has_row a.id rows) a.defaults)
+  where
+    go : (b : Bool) (defaults : List Text)
+        → is_found id (cond b rows (default_rows a.id (reading_by a) defaults rows)) ≡ true
+    go true defaults = found
+    go false [] = found
+    go false (d ∷ ds) = values_keep id a.id (reading_by a) DefaultValue (d ∷ ds) rows found
+
 -- an argument with a default has a row, of its use or of its default
-pub default_found : (a : Rule) (rows : List Row) → has_value a.defaults ≡ true → is_found a.id (with_default rows a) ≡ true
+default_found : (a : Rule) (rows : List Row) → has_value a.defaults ≡ true → is_found a.id (with_default rows a) ≡ true
 default_found a rows some = go (has_row a.id rows) refl a.defaults some
   where
     go : (b : Bool) → has_row a.id rows ≡ b → (defaults : List Text) → has_value defaults ≡ true
@@ -260,12 +306,22 @@ default_found a rows some = go (has_row a.id rows) refl a.defaults some
     go false is [] e = absurd (true≢false (sym e))
     go false is (d ∷ ds) e = values_found a.id (reading_by a) DefaultValue (d ∷ ds) rows
 
--- one without a default has the rows stay
-pub no_default_found : (id : Text) (a : Rule) (rows : List Row) → a.defaults ≡ [] → is_found id rows ≡ true
-    → is_found id (with_default rows a) ≡ true
-no_default_found id a rows none found = go (has_row a.id rows) a.defaults none
+-- the argument has a default
+abbrev pub has_default : Rule → Bool
+has_default a = has_value a.defaults
+
+pub defaults_found : (id : Text) (rules : List Rule) (rows : List Row) → has_rule has_default id rules ≡ true
+    → is_found id (fold with_default rows rules) ≡ true
+defaults_found id [] rows e = absurd (true≢false (sym e))
+defaults_found id (a ∷ rest) rows e =
+    go (bytes_eq a.id id && has_default a) refl e (defaults_found id rest (with_default rows a))
   where
-    go : (b : Bool) (defaults : List Text) → defaults ≡ []
-        → is_found id (cond b rows (default_rows a.id (reading_by a) defaults rows)) ≡ true
-    go true defaults e = found
-    go false defaults e = rw e found
+    go : (b : Bool) → (bytes_eq a.id id && has_default a) ≡ b → (b || has_rule has_default id rest) ≡ true
+        → (has_rule has_default id rest ≡ true → is_found id (fold with_default (with_default rows a) rest) ≡ true)
+        → is_found id (fold with_default (with_default rows a) rest) ≡ true
+    go true is has later =
+        let p = both (bytes_eq a.id id) _ is in
+        let same : a.id ≡ id = (bytes_eq-Decides a.id id).0 p.0 in
+        defaults_keep id rest (with_default rows a)
+        (subst (λ (x : Text). is_found x (with_default rows a) ≡ true) same (default_found a rows p.1))
+    go false is has later = later has

@@ -12,7 +12,7 @@ use Rattle.clap.proofs.ValueTestLemmas.{accepts-Accepts}
 use Rattle.clap.proofs.WalkLemmas.{both, one_text-rows}
 use Rattle.clap.specs.Facts.{parser_of_value, unwrap_or_range}
 use Rattle.clap.specs.Faults.{action_fault, level_fault, repeat_fault, use_fault, values_fault}
-use Rattle.clap.specs.Kinds.{range_kinds, values_kinds, value_kinds}
+use Rattle.clap.specs.Kinds.{Kinds, or_else, range_kinds, values_kinds, value_kinds}
 use Rattle.clap.specs.Matches.{ReadsOne, one_text}
 use Rattle.clap.specs.Simple.{Shape}
 use Rattle.clap.specs.Values.{is_request, read_as, refused_kind}
@@ -26,6 +26,7 @@ use Rattle.clap.specs.declared.builder.value_parser.Reading.{Reading}
 use Rattle.clap.specs.declared.builder.value_parser.Reading.TheVariants as reading
 use Rattle.clap.specs.declared.builder.value_parser.ValueParser.{ValueParser}
 use Rattle.clap.specs.declared.builder.value_parser.ValueParser.TheVariants as vp
+use Rattle.clap.specs.declared.error.kind.ErrorKind.TheVariants.{ValueValidation}
 use Rattle.clap.specs.declared.parser.matches.Found.{Found}
 use Rattle.clap.specs.declared.parser.matches.ValueSource.{ValueSource}
 use Rattle.clap.specs.declared.parser.matches.ValueSource.TheVariants.{CommandLine, DefaultValue}
@@ -33,7 +34,7 @@ use Rattle.duty.specs.Shape.{is_within}
 use Rattle.console.proofs.Filled.{Filled, all_more, has_value, is_filled, is_found, row_changed}
 use Rattle.console.proofs.WalkKeeps.{found_passes, level_keeps, none_of}
 use Rattle.console.specs.Arguments.{HasNumber}
-use Rattle.console.specs.CommandLine.{last_number, number_up_to, request_number}
+use Rattle.console.specs.CommandLine.{last_number, number_found, number_up_to}
 
 abbrev is_as_written : Reading → Bool
 is_as_written reading.AsWritten = true
@@ -70,9 +71,13 @@ written_text reading.WithoutMinus o e = absurd (true≢false (sym e))
 written_text reading.Boolish o e = absurd (true≢false (sym e))
 written_text reading.Falsey o e = absurd (true≢false (sym e))
 
+-- what a line comes to whose only number is one, or isn't
+abbrev pub number_fault : Bool → Kinds
+number_fault b = or_else (or_else (cond b [] (ValueValidation ∷ [])) []) []
+
 module _ (most : ℕ) where
   -- the text is a whole number from 1 to `most`
-  abbrev is_number : Text → Bool
+  abbrev pub is_number : Text → Bool
   is_number text = is_unsigned_in 1 most text
 
   abbrev takes_numbers : Option ValueParser → Bool
@@ -122,6 +127,13 @@ module _ (most : ℕ) where
           let bad : ⊥ = cc in
           absurd bad
       go false e = refl
+
+  -- what a number comes to that is checked at the end of the line
+  pub passes_alone : (t : Text) (n : ℕ) → number_up_to most t ≡ Some n → number_fault (is_number t) ≡ []
+  passes_alone t n e = ap number_fault (number_passes t n e)
+
+  pub fails_alone : (t : Text) → number_up_to most t ≡ None → number_fault (is_number t) ≡ ValueValidation ∷ []
+  fails_alone t e = ap number_fault (number_fails t e)
 
   is_some_number : (text : Text) → is_number text ≡ true → is_some (number_up_to most text) ≡ true
   is_some_number text e = rw e refl
@@ -287,8 +299,9 @@ module _ (most : ℕ) where
           let bad : ⊥ = cc in
           absurd bad
 
-pub number_at_most : (most : ℕ) (o : Option Text) (n : ℕ) → option_and_then (number_up_to most) o ≡ Some n → n ≤ most
-number_at_most most o n e = leb-true n most (both (nat_le 1 n) _ (number_within most o n e)).1
+pub number_at_most : (most : ℕ) (id : Text) (rows : List Row) (n : ℕ) → HasNumber most id rows
+    → number_found most id rows ≡ Some n → n ≤ most
+number_at_most most id rows n has e = leb-true n most (both (nat_le 1 n) _ (number_within most (first_of id rows) n e)).1
 
 pub some_there : (r : Option ℕ) (n : ℕ) → r ≡ Some n → IsSome r
 some_there r n e = rw e refl
@@ -297,6 +310,7 @@ pub taken_there : (o r : Option ℕ) → o ≡ r → is_some o ≡ true → IsSo
 taken_there None r e some = absurd (true≢false (sym some))
 taken_there (Some n) r e some = rw (← e) refl
 
-pub number_made : (o : Option Text) (n : ℕ) (r : Option ℕ) → option_and_then request_number o ≡ Some n
+pub number_made : (id : Text) (rows : List Row) (n : ℕ) (r : Option ℕ) → HasNumber last_number id rows
+    → number_found last_number id rows ≡ Some n
     → r ≡ cond (is_within 1 last_number n) (Some n) None → r ≡ Some n
-number_made o n r e made = made ∙ rw (number_within last_number o n e) refl
+number_made id rows n r has e made = made ∙ rw (number_within last_number (first_of id rows) n e) refl

@@ -1,58 +1,35 @@
 -- What is there of a line that `clap` took, which the readers of its matches rest on.
-use Rattle.std.specs.Prelude.{◌≡◌, ◌⊎◌, ℕ, List, Option, Some, None, is_some, option_and_then, true, codes}
+use Rattle.std.specs.Prelude.{◌≡◌, ◌⊎◌, ℕ, List, [], ◌∷◌, Option, Some, None, is_some, true}
 use Rattle.clap.specs.Words.{Row, Text, all_of, first_of, one_of}
-use Rattle.console.specs.CommandLine.{last_number, last_port, most_connections, number_up_to}
+use Rattle.console.specs.CommandLine.{Argument, a_number, a_text, arguments_of, number_found}
+use Rattle.console.specs.CommandLine.{option_number, some_texts, table}
 
--- `duty` has its arguments
-pub record HasDuty (rows : List Row) : Type 0 where
-  pub zone : is_some (first_of (codes "zone") rows) ≡ true
-  pub report : is_some (first_of (codes "report") rows) ≡ true
-  pub times : is_some (all_of (codes "time") rows) ≡ true
-
--- `init` has its arguments
-pub record HasInit (rows : List Row) : Type 0 where
-  pub file : is_some (first_of (codes "file") rows) ≡ true
-  pub zone : is_some (first_of (codes "zone") rows) ≡ true
-
--- `do` has its argument
-pub record HasDo (rows : List Row) : Type 0 where
-  pub file : is_some (first_of (codes "file") rows) ≡ true
-
--- the argument has a first value, which is a whole number from 1 to `most` and is read as it was written
+-- the argument has a whole number from 1 to `most`, which is read as it was written
 pub record HasNumber (most : ℕ) (id : Text) (rows : List Row) : Type 0 where
-  pub number : is_some (option_and_then (number_up_to most) (first_of id rows)) ≡ true
+  pub number : is_some (number_found most id rows) ≡ true
   pub as_written : one_of id rows ≡ first_of id rows
 
--- `import` has its arguments
-pub record HasImport (rows : List Row) : Type 0 where
-  pub file : is_some (first_of (codes "file") rows) ≡ true
-  pub number : HasNumber last_number (codes "number") rows
+-- the argument has what is read of it
+abbrev pub Has : List Row → Argument → Type 0
+Has rows (a_text id) = is_some (first_of id rows) ≡ true
+Has rows (some_texts id) = is_some (all_of id rows) ≡ true
+Has rows (a_number most id) = HasNumber most id rows
+Has rows (option_number most default id) = HasNumber most id rows
 
--- `roster` has its arguments
-pub record HasRoster (rows : List Row) : Type 0 where
-  pub file : is_some (first_of (codes "file") rows) ≡ true
-  pub crew : is_some (first_of (codes "crew") rows) ≡ true
+abbrev pub HasEach : List Row → List Argument → Type 0
+HasEach rows [] = Unit {0}
+HasEach rows (a ∷ rest) = Has rows a × HasEach rows rest
 
--- `pairing` has its arguments
-pub record HasPairing (rows : List Row) : Type 0 where
-  pub file : is_some (first_of (codes "file") rows) ≡ true
-  pub pairing : is_some (first_of (codes "pairing") rows) ≡ true
+-- the subcommand of this name has its arguments
+abbrev pub HasAll : Text → List Row → Type 0
+HasAll name rows = HasEach rows (arguments_of name)
 
--- `exceedances` has its argument
-pub record HasExceedances (rows : List Row) : Type 0 where
-  pub file : is_some (first_of (codes "file") rows) ≡ true
-
--- `serve` has its arguments
-pub record HasServe (rows : List Row) : Type 0 where
-  pub file : is_some (first_of (codes "file") rows) ≡ true
-  pub port : HasNumber last_port (codes "port") rows
-  pub connections : HasNumber most_connections (codes "connections") rows
+-- the subcommand that was met is one of these, with its arguments
+abbrev pub IsAmong : Text × List Row → List (Text × List Argument) → Type 0
+IsAmong met [] = ⊥
+IsAmong met (row ∷ rest) = ((met.0 ≡ row.0) × HasEach met.1 row.1) ⊎ IsAmong met rest
 
 -- the subcommand that was met is one of the program's, with its arguments
 abbrev pub HasArguments : Option (Text × List Row) → Type 0
 HasArguments None = ⊥
-HasArguments (Some met) =
-    ((met.0 ≡ codes "duty") × HasDuty met.1) ⊎ (((met.0 ≡ codes "init") × HasInit met.1)
-    ⊎ (((met.0 ≡ codes "do") × HasDo met.1) ⊎ (((met.0 ≡ codes "import") × HasImport met.1)
-    ⊎ (((met.0 ≡ codes "roster") × HasRoster met.1) ⊎ (((met.0 ≡ codes "pairing") × HasPairing met.1)
-    ⊎ (((met.0 ≡ codes "exceedances") × HasExceedances met.1) ⊎ ((met.0 ≡ codes "serve") × HasServe met.1)))))))
+HasArguments (Some met) = IsAmong met table

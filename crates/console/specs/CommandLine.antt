@@ -1,25 +1,21 @@
--- The command line, as `clap` states it of a command, and what an action says of the words.
-use Rattle.std.specs.Prelude.{◌≡◌, ◌∷◌, ℕ, List, [], Option, Some, None, true, false, map, codes}
-use Rattle.std.specs.Prelude.{if◌then◌else◌, option_and_then, string_bytes}
+-- The command line as a table: what `clap` is told of it, and what an action says of the words.
+use Rattle.std.specs.Prelude.{◌≡◌, ◌∷◌, ℕ, List, [], Option, Some, None, true, false, map, find}
+use Rattle.std.specs.Prelude.{codes, fold, if◌then◌else◌, option_and_then, option_map, string_bytes}
+use Rattle.std.specs.Option.{option_map_or}
+use Rattle.std.specs.Str.{bytes_eq}
 use Rattle.std.specs.Str.Parse.{digits_value, without_leading_plus}
 use Rattle.clap.specs.Words.{App, Row, Rule, Text, all_of, app_of, first_of, new_app, new_rule}
-use Rattle.clap.specs.Words.{with_rule, with_subcommand}
+use Rattle.clap.specs.Words.{rule_of, with_rule, with_subcommand}
 use Rattle.clap.specs.Simple.{on_top}
 use Rattle.clap.specs.ValueTests.{is_unsigned_in}
 use Rattle.clap.specs.declared.builder.action.ArgAction.TheVariants.{Append}
+use Rattle.clap.specs.declared.builder.arg.Arg.{Arg}
 use Rattle.clap.specs.declared.builder.command.Command.{Command}
 use Rattle.clap.specs.declared.builder.command.Command.TheViews.{out-Command}
 use Rattle.clap.specs.declared.builder.value_parser.ValueParser.TheVariants.{Unsigned}
 use Rattle.console.specs.declared.actions.Action.{Action}
-use Rattle.console.specs.declared.actions.Action.TheVariants.{Duty, Init, Do, Import, Roster, Pairing, Exceedances, Serve}
-
--- an argument by its place that must be there, with a name in help
-abbrev pub wanted : Text → Rule
-wanted id = record (new_rule id) { required = true; value_names = 1 }
-
--- the same, once or more
-abbrev pub wanted_each : Text → Rule
-wanted_each id = record (wanted id) { action = Some Append }
+use Rattle.console.specs.declared.actions.Action.TheVariants.{Duty, Init, Do, Import}
+use Rattle.console.specs.declared.actions.Action.TheVariants.{Roster, Pairing, Exceedances, Serve}
 
 -- the greatest number of a request
 abbrev pub last_number : ℕ
@@ -33,53 +29,74 @@ last_port = 65_535
 abbrev pub most_connections : ℕ
 most_connections = 1_000_000
 
+-- an argument of a subcommand, by its name
+pub data Argument : Type 0 where
+  -- a text, by its place
+  a_text : Text → Argument
+  -- a text or more, by their places
+  some_texts : Text → Argument
+  -- a whole number from 1 to this one, by its place
+  a_number : ℕ → Text → Argument
+  -- `--NAME N`, a whole number from 1 to this one, which is read of the text here if it is left out
+  option_number : ℕ → Text → Text → Argument
+
+-- `--connections N`, which may be left out and is then 1,000,000
+abbrev pub connections : Argument
+connections = option_number most_connections (codes "1000000") (codes "connections")
+
+-- the subcommands, each with its arguments in order
+abbrev pub table : List (Text × List Argument)
+table =
+    (codes "duty", a_text (codes "zone") ∷ a_text (codes "report") ∷ some_texts (codes "time") ∷ [])
+    ∷ (codes "init", a_text (codes "file") ∷ a_text (codes "zone") ∷ [])
+    ∷ (codes "do", a_text (codes "file") ∷ [])
+    ∷ (codes "import", a_text (codes "file") ∷ a_number last_number (codes "number") ∷ [])
+    ∷ (codes "roster", a_text (codes "file") ∷ a_text (codes "crew") ∷ [])
+    ∷ (codes "pairing", a_text (codes "file") ∷ a_text (codes "pairing") ∷ [])
+    ∷ (codes "exceedances", a_text (codes "file") ∷ [])
+    ∷ (codes "serve", a_text (codes "file") ∷ a_number last_port (codes "port") ∷ connections ∷ [])
+    ∷ []
+
+-- the arguments of the subcommand of this name
+abbrev pub arguments_of : Text → List Argument
+arguments_of name = option_map_or (λ row. row.1) (find (λ row. bytes_eq row.0 name) table) []
+
+-- ---- what `clap` is told
+
+-- an argument by its place that must be there, with a name in help
+abbrev pub wanted : Text → Rule
+wanted id = record (new_rule id) { required = true; value_names = 1 }
+
+-- the same, once or more
+abbrev pub wanted_each : Text → Rule
+wanted_each id = record (wanted id) { action = Some Append }
+
 -- an argument that must be there, and be a whole number from 1 to `most`
 abbrev pub wanted_number : ℕ → Text → Rule
 wanted_number most id = record (wanted id) { parser = Some (Unsigned 1 most) }
 
--- `--connections N`, which may be left out and is then 1,000,000
-abbrev pub optional_connections : Rule
-optional_connections = record (new_rule (codes "connections")) {
-  long = Some (codes "connections");
+-- an option of a whole number from 1 to `most`, which may be left out
+abbrev pub optional_number : ℕ → Text → Text → Rule
+optional_number most default id = record (new_rule id) {
+  long = Some id;
   value_names = 1;
-  defaults = codes "1000000" ∷ [];
-  parser = Some (Unsigned 1 most_connections);
+  defaults = default ∷ [];
+  parser = Some (Unsigned 1 most);
 }
 
--- `duty ZONE REPORT TIME..`
-abbrev pub duty : App
-duty = with_rule (with_rule (with_rule (new_app (codes "duty"))
-    (wanted (codes "zone"))) (wanted (codes "report"))) (wanted_each (codes "time"))
+abbrev pub rule : Argument → Rule
+rule (a_text id) = wanted id
+rule (some_texts id) = wanted_each id
+rule (a_number most id) = wanted_number most id
+rule (option_number most default id) = optional_number most default id
 
--- `init FILE ZONE`
-abbrev pub init : App
-init = with_rule (with_rule (new_app (codes "init")) (wanted (codes "file"))) (wanted (codes "zone"))
+-- a subcommand with these arguments
+abbrev pub with_arguments : Text → List Argument → App
+with_arguments name arguments = fold (λ app a. with_rule app (rule a)) (new_app name) arguments
 
--- `do FILE`
-abbrev pub do_one : App
-do_one = with_rule (new_app (codes "do")) (wanted (codes "file"))
-
--- `import FILE NUMBER`
-abbrev pub import_app : App
-import_app = with_rule (with_rule (new_app (codes "import"))
-    (wanted (codes "file"))) (wanted_number last_number (codes "number"))
-
--- `roster FILE CREW`
-abbrev pub roster : App
-roster = with_rule (with_rule (new_app (codes "roster")) (wanted (codes "file"))) (wanted (codes "crew"))
-
--- `pairing FILE PAIRING`
-abbrev pub pairing : App
-pairing = with_rule (with_rule (new_app (codes "pairing")) (wanted (codes "file"))) (wanted (codes "pairing"))
-
--- `exceedances FILE`
-abbrev pub exceedances : App
-exceedances = with_rule (new_app (codes "exceedances")) (wanted (codes "file"))
-
--- `serve FILE PORT --connections N`
-abbrev pub serve : App
-serve = with_rule (with_rule (with_rule (new_app (codes "serve"))
-    (wanted (codes "file"))) (wanted_number last_port (codes "port"))) optional_connections
+-- the subcommand of this name
+abbrev pub subcommand : Text → App
+subcommand name = with_arguments name (arguments_of name)
 
 -- the program without its subcommands: one is wanted, and where there is no word help is shown
 abbrev pub bare : App
@@ -93,30 +110,28 @@ bare = on_top (λ s. record s {
 
 -- the program's command line
 abbrev pub command_line : App
-command_line =
-    with_subcommand (with_subcommand (with_subcommand (with_subcommand (with_subcommand (with_subcommand (with_subcommand
-    (with_subcommand bare duty.top) init.top) do_one.top) import_app.top) roster.top) pairing.top) exceedances.top) serve.top
+command_line = fold (λ app row. with_subcommand app (with_arguments row.0 row.1).top) bare table
 
 -- the command is built as `app` says
 abbrev pub IsCommandOfApp : App → Command → Type 0
 IsCommandOfApp app c = (app_of c ≡ app) × ((out-Command c).has_globals ≡ false)
 
--- `duty` was met, with these arguments
-abbrev pub MeetsDuty : Text → Text → List Text → Text × List Row → Type 0
-MeetsDuty zone report times met = (met.0 ≡ codes "duty")
-    × (first_of (codes "zone") met.1 ≡ Some zone) × (first_of (codes "report") met.1 ≡ Some report)
-    × (all_of (codes "time") met.1 ≡ Some times)
+-- these are the arguments, one for one
+abbrev pub AreArguments : List Arg → List Argument → Type 0
+AreArguments [] [] = Unit {0}
+AreArguments (arg ∷ args) (a ∷ arguments) =
+    (rule_of arg ≡ rule a) × (arg.global ≡ false) × AreArguments args arguments
+AreArguments _ _ = ⊥
 
--- `init` was met, with these arguments
-abbrev pub MeetsInit : Text → Text → Text × List Row → Type 0
-MeetsInit file zone met = (met.0 ≡ codes "init")
-    × (first_of (codes "file") met.1 ≡ Some file) × (first_of (codes "zone") met.1 ≡ Some zone)
+-- ---- what an action says of the words
 
--- `do` was met, with this argument
-abbrev pub MeetsDo : Text → Text × List Row → Type 0
-MeetsDo file met = (met.0 ≡ codes "do") × (first_of (codes "file") met.1 ≡ Some file)
+-- what is given for an argument
+pub data Value : Type 0 where
+  one : Text → Value
+  several : List Text → Value
+  whole : ℕ → Value
 
--- a whole number from 1 to `most`, of its text: digits, zeros first or none, after one plus sign or none
+-- a whole number from 1 to `most`, of its text: digits, zeros first or none, after `+` or nothing
 abbrev pub number_up_to : ℕ → Text → Option ℕ
 number_up_to most text =
     if is_unsigned_in 1 most text then Some (digits_value 10 (without_leading_plus text)) else None
@@ -125,39 +140,33 @@ number_up_to most text =
 abbrev pub request_number : Text → Option ℕ
 request_number = number_up_to last_number
 
--- `import` was met, with these arguments
-abbrev pub MeetsImport : Text → ℕ → Text × List Row → Type 0
-MeetsImport file number met = (met.0 ≡ codes "import") × (first_of (codes "file") met.1 ≡ Some file)
-    × (option_and_then request_number (first_of (codes "number") met.1) ≡ Some number)
+-- the number from 1 to `most` that was found for the argument
+abbrev pub number_found : ℕ → Text → List Row → Option ℕ
+number_found most id rows = option_and_then (number_up_to most) (first_of id rows)
 
--- `roster` was met, with these arguments
-abbrev pub MeetsRoster : Text → Text → Text × List Row → Type 0
-MeetsRoster file crew met = (met.0 ≡ codes "roster")
-    × (first_of (codes "file") met.1 ≡ Some file) × (first_of (codes "crew") met.1 ≡ Some crew)
+-- the value that was found for the argument
+abbrev pub value_of : List Row → Argument → Option Value
+value_of rows (a_text id) = option_map one (first_of id rows)
+value_of rows (some_texts id) = option_map several (all_of id rows)
+value_of rows (a_number most id) = option_map whole (number_found most id rows)
+value_of rows (option_number most default id) = option_map whole (number_found most id rows)
 
--- `pairing` was met, with these arguments
-abbrev pub MeetsPairing : Text → Text → Text × List Row → Type 0
-MeetsPairing file id met = (met.0 ≡ codes "pairing")
-    × (first_of (codes "file") met.1 ≡ Some file) × (first_of (codes "pairing") met.1 ≡ Some id)
-
--- `exceedances` was met, with this argument
-abbrev pub MeetsExceedances : Text → Text × List Row → Type 0
-MeetsExceedances file met = (met.0 ≡ codes "exceedances") × (first_of (codes "file") met.1 ≡ Some file)
-
--- `serve` was met, with these arguments
-abbrev pub MeetsServe : Text → ℕ → ℕ → Text × List Row → Type 0
-MeetsServe file port count met = (met.0 ≡ codes "serve") × (first_of (codes "file") met.1 ≡ Some file)
-    × (option_and_then (number_up_to last_port) (first_of (codes "port") met.1) ≡ Some port)
-    × (option_and_then (number_up_to most_connections) (first_of (codes "connections") met.1) ≡ Some count)
+-- the subcommand of an action, and what is given for each of its arguments
+abbrev pub asked : Action → Text × List Value
+asked (Duty zone report times) = (
+  codes "duty",
+  one (string_bytes zone) ∷ one (string_bytes report) ∷ several (map string_bytes times.items) ∷ [],
+)
+asked (Init file zone) = (codes "init", one (string_bytes file) ∷ one (string_bytes zone) ∷ [])
+asked (Do file) = (codes "do", one (string_bytes file) ∷ [])
+asked (Import file number) = (codes "import", one (string_bytes file) ∷ whole number ∷ [])
+asked (Roster file crew) = (codes "roster", one (string_bytes file) ∷ one (string_bytes crew) ∷ [])
+asked (Pairing file id) = (codes "pairing", one (string_bytes file) ∷ one (string_bytes id) ∷ [])
+asked (Exceedances file) = (codes "exceedances", one (string_bytes file) ∷ [])
+asked (Serve file port count) =
+    (codes "serve", one (string_bytes file) ∷ whole port ∷ whole count ∷ [])
 
 -- the action is the subcommand that was met, with the arguments that were found for it
 abbrev pub States : Action → Text × List Row → Type 0
-States (Duty zone report times) met =
-    MeetsDuty (string_bytes zone) (string_bytes report) (map string_bytes times.items) met
-States (Init file zone) met = MeetsInit (string_bytes file) (string_bytes zone) met
-States (Do file) met = MeetsDo (string_bytes file) met
-States (Import file number) met = MeetsImport (string_bytes file) number met
-States (Roster file crew) met = MeetsRoster (string_bytes file) (string_bytes crew) met
-States (Pairing file id) met = MeetsPairing (string_bytes file) (string_bytes id) met
-States (Exceedances file) met = MeetsExceedances (string_bytes file) met
-States (Serve file port count) met = MeetsServe (string_bytes file) port count met
+States a met = (met.0 ≡ (asked a).0)
+    × (map (value_of met.1) (arguments_of met.0) ≡ map (λ v. Some v) (asked a).1)

@@ -1,18 +1,17 @@
 //! The words after the program's name, read by `clap`. The definition is `command_line` (`specs/CommandLine.antt`).
 //! Command lines and help: `tests/program.sh`. Wrong bodies: `must-fail/`.
 ghost use Rattle.std.specs.Prelude.{◌≡◌, ◌∷◌, ◌⊎◌, ℕ, IfOk, IsErrAnd, IsSomeAnd, List, MatchResult, None, Option};
-ghost use Rattle.std.specs.Prelude.{Some, [], codes, false, is_some, map, option_and_then, string_bytes, true};
+ghost use Rattle.std.specs.Prelude.{Some, [], codes, false, is_some, map, string_bytes, true};
 ghost use Rattle.std.specs.List.{list_all};
 ghost use Rattle.std.specs.Option.{option_map_or};
 ghost use Rattle.clap.specs.Walk.{Text, texts};
 ghost use Rattle.clap.specs.Words.{FailsBy, HasKind, all_of, fault_of, first_of, found_of, kind_of, rows_of};
 ghost use Rattle.clap.specs.Words.{rule_of, subcommand_of, subcommand_rows_of};
 ghost use Rattle.clap.specs.declared.error.kind.ErrorKind.TheVariants.{OutOfMemory, ValueValidation};
-ghost use Rattle.console.specs.Arguments.{HasArguments, HasDo, HasDuty, HasExceedances, HasImport, HasInit};
-ghost use Rattle.console.specs.Arguments.{HasNumber, HasPairing, HasRoster, HasServe};
-ghost use Rattle.console.specs.CommandLine.{IsCommandOfApp, States, bare, command_line, do_one, duty, exceedances, import_app};
-ghost use Rattle.console.specs.CommandLine.{init, last_number, last_port, most_connections, number_up_to};
-ghost use Rattle.console.specs.CommandLine.{optional_connections, pairing, request_number, roster, serve, wanted, wanted_number};
+ghost use Rattle.console.specs.Arguments.{HasAll, HasArguments, HasNumber};
+ghost use Rattle.console.specs.CommandLine.{AreArguments, IsCommandOfApp, States, arguments_of, bare, command_line, connections, last_number, last_port};
+ghost use Rattle.console.specs.CommandLine.{most_connections, number_found, number_up_to, request_number, rule, subcommand};
+ghost use Rattle.console.specs.CommandLine.{wanted, wanted_number};
 ghost use Rattle.console.specs.Plain.{IsDo, IsDuty, IsExceedances, IsImport, IsInit, IsPairing, IsRoster, IsServe};
 ghost use Rattle.console.specs.Plain.{asked_connections, do_words, duty_words, exceedances_words, import_words, init_words};
 ghost use Rattle.console.specs.Plain.{is_plain, pairing_words, roster_words, serve_words};
@@ -263,15 +262,17 @@ fn read(alloc: Global, words: &[&str]) -> Result<Action, Error>
 fn command<'a>(alloc: Global) -> Result<Command<'a>, AllocError>
     ensures { IfOk result (IsCommandOfApp command_line) }
 {
-    bare_command(alloc)?
-        .subcommand(duty_command(alloc)?)?
-        .subcommand(init_command(alloc)?)?
-        .subcommand(do_command(alloc)?)?
-        .subcommand(import_command(alloc)?)?
-        .subcommand(roster_command(alloc)?)?
-        .subcommand(pairing_command(alloc)?)?
-        .subcommand(exceedances_command(alloc)?)?
-        .subcommand(serve_command(alloc)?)
+    let subcommands = vec![in alloc;
+        duty_command(alloc)?,
+        init_command(alloc)?,
+        do_command(alloc)?,
+        import_command(alloc)?,
+        roster_command(alloc)?,
+        pairing_command(alloc)?,
+        exceedances_command(alloc)?,
+        serve_command(alloc)?,
+    ]?;
+    bare_command(alloc)?.subcommands(subcommands)
 }
 
 /// Makes the program without its subcommands.
@@ -289,110 +290,121 @@ fn bare_command<'a>(alloc: Global) -> Result<Command<'a>, AllocError>
         .bin_name("rosterbook")
 }
 
+/// Makes a subcommand of its name, what help says before and after its arguments, and these in order.
+fn subcommand_of<'a>(
+    alloc: Global,
+    name: &'a str,
+    about: &'a str,
+    example: &'a str,
+    arguments: Vec<Arg<'a>>,
+) -> Result<Command<'a>, AllocError>
+    requires { AreArguments arguments.items (arguments_of name.now) }
+    ensures { IfOk result (IsCommandOfApp (subcommand name.entry.now)) }
+{
+    Command::new(alloc, name)
+        .about(about)
+        .after_help(example)
+        .args(arguments)
+}
+
 /// Makes the subcommand `duty`.
 fn duty_command<'a>(alloc: Global) -> Result<Command<'a>, AllocError>
-    ensures { IfOk result (IsCommandOfApp duty) }
+    ensures { IfOk result (IsCommandOfApp (subcommand (codes "duty"))) }
 {
+    let about = "Judge one flight duty period by Tables A and B of 14 CFR Part 117";
     let zone = positional(alloc, "zone", "ZONE").help(ZONE_HELP);
     let report = positional(alloc, "report", "REPORT").help(REPORT_HELP);
     let times = positional(alloc, "time", "TIME")
         .action(ArgAction::Append)
         .help(TIME_HELP);
-    Command::new(alloc, "duty")
-        .about("Judge one flight duty period by Tables A and B of 14 CFR Part 117")
-        .after_help(DUTY_EXAMPLE)
-        .arg(zone)?
-        .arg(report)?
-        .arg(times)
+    let arguments = vec![in alloc; zone, report, times]?;
+    subcommand_of(alloc, "duty", about, DUTY_EXAMPLE, arguments)
 }
 
 /// Makes the subcommand `init`.
 fn init_command<'a>(alloc: Global) -> Result<Command<'a>, AllocError>
-    ensures { IfOk result (IsCommandOfApp init) }
+    ensures { IfOk result (IsCommandOfApp (subcommand (codes "init"))) }
 {
+    let about = "Make a book in a new or empty file";
     let file = positional(alloc, "file", "FILE").help(NEW_FILE_HELP);
     let zone = positional(alloc, "zone", "ZONE").help(ZONE_HELP);
-    Command::new(alloc, "init")
-        .about("Make a book in a new or empty file")
-        .after_help(INIT_EXAMPLE)
-        .arg(file)?
-        .arg(zone)
+    let arguments = vec![in alloc; file, zone]?;
+    subcommand_of(alloc, "init", about, INIT_EXAMPLE, arguments)
 }
 
 /// Makes the subcommand `do`.
 fn do_command<'a>(alloc: Global) -> Result<Command<'a>, AllocError>
-    ensures { IfOk result (IsCommandOfApp do_one) }
+    ensures { IfOk result (IsCommandOfApp (subcommand (codes "do"))) }
 {
+    let about = "Answer one command, which is JSON on standard input";
     let file = positional(alloc, "file", "FILE").help(FILE_HELP);
-    Command::new(alloc, "do")
-        .about("Answer one command, which is JSON on standard input")
-        .after_help(DO_EXAMPLE)
-        .arg(file)
+    let arguments = vec![in alloc; file]?;
+    subcommand_of(alloc, "do", about, DO_EXAMPLE, arguments)
 }
 
 /// Makes the subcommand `import`.
 fn import_command<'a>(alloc: Global) -> Result<Command<'a>, AllocError>
-    ensures { IfOk result (IsCommandOfApp import_app) }
+    ensures { IfOk result (IsCommandOfApp (subcommand (codes "import"))) }
 {
+    let about = "Add the pairings of a schedule, which is CSV on standard input";
     let file = positional(alloc, "file", "FILE").help(FILE_HELP);
-    let number = positional(alloc, "number", "NUMBER")
-        .help(NUMBER_HELP)
-        .value_parser(value_parser!(u64).range(1..=i64::MAX));
-    Command::new(alloc, "import")
-        .about("Add the pairings of a schedule, which is CSV on standard input")
-        .after_help(IMPORT_EXAMPLE)
-        .arg(file)?
-        .arg(number)
+    let number = number_argument(alloc);
+    let arguments = vec![in alloc; file, number]?;
+    subcommand_of(alloc, "import", about, IMPORT_EXAMPLE, arguments)
 }
 
 /// Makes the subcommand `roster`.
 fn roster_command<'a>(alloc: Global) -> Result<Command<'a>, AllocError>
-    ensures { IfOk result (IsCommandOfApp roster) }
+    ensures { IfOk result (IsCommandOfApp (subcommand (codes "roster"))) }
 {
+    let about = "Print a member's roster: each duty, as planned or as flown";
     let file = positional(alloc, "file", "FILE").help(FILE_HELP);
     let crew = positional(alloc, "crew", "CREW").help(CREW_HELP);
-    Command::new(alloc, "roster")
-        .about("Print a member's roster: each duty, as planned or as flown")
-        .after_help(ROSTER_EXAMPLE)
-        .arg(file)?
-        .arg(crew)
+    let arguments = vec![in alloc; file, crew]?;
+    subcommand_of(alloc, "roster", about, ROSTER_EXAMPLE, arguments)
 }
 
 /// Makes the subcommand `pairing`.
 fn pairing_command<'a>(alloc: Global) -> Result<Command<'a>, AllocError>
-    ensures { IfOk result (IsCommandOfApp pairing) }
+    ensures { IfOk result (IsCommandOfApp (subcommand (codes "pairing"))) }
 {
+    let about = "Print a pairing: who flies it, its periods and segments";
     let file = positional(alloc, "file", "FILE").help(FILE_HELP);
     let id = positional(alloc, "pairing", "PAIRING").help(PAIRING_HELP);
-    Command::new(alloc, "pairing")
-        .about("Print a pairing: who flies it, its periods and segments")
-        .after_help(PAIRING_EXAMPLE)
-        .arg(file)?
-        .arg(id)
+    let arguments = vec![in alloc; file, id]?;
+    subcommand_of(alloc, "pairing", about, PAIRING_EXAMPLE, arguments)
 }
 
 /// Makes the subcommand `exceedances`.
 fn exceedances_command<'a>(alloc: Global) -> Result<Command<'a>, AllocError>
-    ensures { IfOk result (IsCommandOfApp exceedances) }
+    ensures { IfOk result (IsCommandOfApp (subcommand (codes "exceedances"))) }
 {
+    let about = "Print which flown duties went over a limit, and over which";
     let file = positional(alloc, "file", "FILE").help(FILE_HELP);
-    Command::new(alloc, "exceedances")
-        .about("Print which flown duties went over a limit, and over which")
-        .after_help(EXCEEDANCES_EXAMPLE)
-        .arg(file)
+    let arguments = vec![in alloc; file]?;
+    subcommand_of(alloc, "exceedances", about, EXCEEDANCES_EXAMPLE, arguments)
 }
 
 /// Makes the subcommand `serve`.
 fn serve_command<'a>(alloc: Global) -> Result<Command<'a>, AllocError>
-    ensures { IfOk result (IsCommandOfApp serve) }
+    ensures { IfOk result (IsCommandOfApp (subcommand (codes "serve"))) }
 {
+    let about = "Answer requests of HTTP on 127.0.0.1";
     let file = positional(alloc, "file", "FILE").help(FILE_HELP);
-    Command::new(alloc, "serve")
-        .about("Answer requests of HTTP on 127.0.0.1")
-        .after_help(SERVE_EXAMPLE)
-        .arg(file)?
-        .arg(port_argument(alloc))?
-        .arg(connections_option(alloc))
+    let port = port_argument(alloc);
+    let count = connections_option(alloc);
+    let arguments = vec![in alloc; file, port, count]?;
+    subcommand_of(alloc, "serve", about, SERVE_EXAMPLE, arguments)
+}
+
+/// Makes the argument for the number of a request.
+fn number_argument<'a>(alloc: Global) -> Arg<'a>
+    ensures rule { rule_of result ≡ wanted_number last_number (codes "number") }
+    ensures local { result.global ≡ false }
+{
+    positional(alloc, "number", "NUMBER")
+        .help(NUMBER_HELP)
+        .value_parser(value_parser!(u64).range(1..=i64::MAX))
 }
 
 /// Makes the argument for the port of `serve`.
@@ -407,7 +419,7 @@ fn port_argument<'a>(alloc: Global) -> Arg<'a>
 
 /// Makes the option for how many connections `serve` takes: 1,000,000 where it isn't given.
 fn connections_option<'a>(alloc: Global) -> Arg<'a>
-    ensures rule { rule_of result ≡ optional_connections }
+    ensures rule { rule_of result ≡ rule connections }
     ensures local { result.global ≡ false }
 {
     Arg::new(alloc, "connections")
@@ -447,7 +459,7 @@ fn action_of(alloc: Global, matches: &ArgMatches<'_>) -> Result<Action, AllocErr
 
 /// Reads the arguments of `duty`.
 fn duty_of(alloc: Global, matches: &ArgMatches<'_>) -> Result<Action, AllocError>
-    requires { HasDuty (rows_of (found_of matches.now)) }
+    requires { HasAll (codes "duty") (rows_of (found_of matches.now)) }
     ensures { IfOk result (λ a. States a (codes "duty", rows_of (found_of matches.now))) }
 {
     Ok(Action::Duty {
@@ -459,7 +471,7 @@ fn duty_of(alloc: Global, matches: &ArgMatches<'_>) -> Result<Action, AllocError
 
 /// Reads the arguments of `init`.
 fn init_of(alloc: Global, matches: &ArgMatches<'_>) -> Result<Action, AllocError>
-    requires { HasInit (rows_of (found_of matches.now)) }
+    requires { HasAll (codes "init") (rows_of (found_of matches.now)) }
     ensures { IfOk result (λ a. States a (codes "init", rows_of (found_of matches.now))) }
 {
     let file = text_of(alloc, matches, "file")?;
@@ -469,7 +481,7 @@ fn init_of(alloc: Global, matches: &ArgMatches<'_>) -> Result<Action, AllocError
 
 /// Reads the arguments of `do`.
 fn do_of(alloc: Global, matches: &ArgMatches<'_>) -> Result<Action, AllocError>
-    requires { HasDo (rows_of (found_of matches.now)) }
+    requires { HasAll (codes "do") (rows_of (found_of matches.now)) }
     ensures { IfOk result (λ a. States a (codes "do", rows_of (found_of matches.now))) }
 {
     let file = text_of(alloc, matches, "file")?;
@@ -478,7 +490,7 @@ fn do_of(alloc: Global, matches: &ArgMatches<'_>) -> Result<Action, AllocError>
 
 /// Reads the arguments of `import`.
 fn import_of(alloc: Global, matches: &ArgMatches<'_>) -> Result<Action, AllocError>
-    requires { HasImport (rows_of (found_of matches.now)) }
+    requires { HasAll (codes "import") (rows_of (found_of matches.now)) }
     ensures { IfOk result (λ a. States a (codes "import", rows_of (found_of matches.now))) }
 {
     let file = text_of(alloc, matches, "file")?;
@@ -488,7 +500,7 @@ fn import_of(alloc: Global, matches: &ArgMatches<'_>) -> Result<Action, AllocErr
 
 /// Reads the arguments of `roster`.
 fn roster_of(alloc: Global, matches: &ArgMatches<'_>) -> Result<Action, AllocError>
-    requires { HasRoster (rows_of (found_of matches.now)) }
+    requires { HasAll (codes "roster") (rows_of (found_of matches.now)) }
     ensures { IfOk result (λ a. States a (codes "roster", rows_of (found_of matches.now))) }
 {
     let file = text_of(alloc, matches, "file")?;
@@ -498,7 +510,7 @@ fn roster_of(alloc: Global, matches: &ArgMatches<'_>) -> Result<Action, AllocErr
 
 /// Reads the arguments of `pairing`.
 fn pairing_of(alloc: Global, matches: &ArgMatches<'_>) -> Result<Action, AllocError>
-    requires { HasPairing (rows_of (found_of matches.now)) }
+    requires { HasAll (codes "pairing") (rows_of (found_of matches.now)) }
     ensures { IfOk result (λ a. States a (codes "pairing", rows_of (found_of matches.now))) }
 {
     let file = text_of(alloc, matches, "file")?;
@@ -508,7 +520,7 @@ fn pairing_of(alloc: Global, matches: &ArgMatches<'_>) -> Result<Action, AllocEr
 
 /// Reads the arguments of `exceedances`.
 fn exceedances_of(alloc: Global, matches: &ArgMatches<'_>) -> Result<Action, AllocError>
-    requires { HasExceedances (rows_of (found_of matches.now)) }
+    requires { HasAll (codes "exceedances") (rows_of (found_of matches.now)) }
     ensures { IfOk result (λ a. States a (codes "exceedances", rows_of (found_of matches.now))) }
 {
     let file = text_of(alloc, matches, "file")?;
@@ -517,7 +529,7 @@ fn exceedances_of(alloc: Global, matches: &ArgMatches<'_>) -> Result<Action, All
 
 /// Reads the arguments of `serve`.
 fn serve_of(alloc: Global, matches: &ArgMatches<'_>) -> Result<Action, AllocError>
-    requires { HasServe (rows_of (found_of matches.now)) }
+    requires { HasAll (codes "serve") (rows_of (found_of matches.now)) }
     ensures { IfOk result (λ a. States a (codes "serve", rows_of (found_of matches.now))) }
 {
     let file = text_of(alloc, matches, "file")?;
@@ -533,32 +545,34 @@ fn serve_of(alloc: Global, matches: &ArgMatches<'_>) -> Result<Action, AllocErro
 /// Reads the value of an argument that is a port.
 fn port_of(matches: &ArgMatches<'_>, id: &str) -> u16
     requires { HasNumber last_port id.now (rows_of (found_of matches.now)) }
-    ensures { option_and_then (number_up_to last_port)
-        (first_of id.now (rows_of (found_of matches.now))) ≡ Some result }
+    ensures { number_found last_port id.now (rows_of (found_of matches.now)) ≡ Some result }
 {
-    let port = matches.get_one::<u64>(id).unwrap();
-    port as u16
+    whole_of(matches, id) as u16
 }
 
 /// Reads the value of an argument that is a number of connections.
 fn connections_of(matches: &ArgMatches<'_>, id: &str) -> u32
     requires { HasNumber most_connections id.now (rows_of (found_of matches.now)) }
-    ensures { option_and_then (number_up_to most_connections)
-        (first_of id.now (rows_of (found_of matches.now)))
-        ≡ Some result }
+    ensures { number_found most_connections id.now (rows_of (found_of matches.now)) ≡ Some result }
 {
-    let connections = matches.get_one::<u64>(id).unwrap();
-    connections as u32
+    whole_of(matches, id) as u32
 }
 
 /// Reads the value of an argument that is a request's number.
 fn number_of(matches: &ArgMatches<'_>, id: &str) -> RequestNumber
     requires { HasNumber last_number id.now (rows_of (found_of matches.now)) }
-    ensures { option_and_then request_number (first_of id.now (rows_of (found_of matches.now)))
-        ≡ Some result }
+    ensures { number_found last_number id.now (rows_of (found_of matches.now)) ≡ Some result }
 {
-    let number = matches.get_one::<u64>(id).unwrap();
-    RequestNumber::new(number).unwrap()
+    RequestNumber::new(whole_of(matches, id)).unwrap()
+}
+
+/// Reads the value of an argument that is a whole number.
+fn whole_of(matches: &ArgMatches<'_>, id: &str) -> u64
+    requires { (most : ℕ) × HasNumber most id.now (rows_of (found_of matches.now)) }
+    ensures { (most : ℕ) → HasNumber most id.now (rows_of (found_of matches.now))
+        → number_found most id.now (rows_of (found_of matches.now)) ≡ Some result }
+{
+    matches.get_one::<u64>(id).unwrap()
 }
 
 /// Returns the first value of an argument that has one.

@@ -1,40 +1,75 @@
-use Rattle.clap.specs.Walk.{texts}
-use Rattle.console.proofs.DoRead.{do_read}
-use Rattle.console.proofs.DutyRead.{duty_read}
-use Rattle.console.proofs.ExceedancesRead.{exceedances_read}
-use Rattle.console.proofs.ImportRead.{import_read, import_refused}
-use Rattle.console.proofs.InitRead.{init_read}
-use Rattle.console.proofs.PairingRead.{pairing_read}
-use Rattle.console.proofs.RosterRead.{roster_read}
-use Rattle.console.proofs.ServeRead.{serve_read, serve_refused}
+use Rattle.std.proofs.Common.{◌≡◌, ◌∙◌, refl, ap, ap₂, inl, inr, [], ◌∷◌, Some, None, true}
+use Rattle.std.specs.Prelude.{option_map}
+use Rattle.std.specs.List.{list_all}
+use Rattle.clap.specs.Walk.{Text}
+use Rattle.clap.specs.declared.error.kind.ErrorKind.TheVariants.{ValueValidation}
+use Rattle.console.specs.CommandLine.{last_number, last_port, most_connections, one, whole}
+use Rattle.console.specs.Plain.{is_plain}
+use Rattle.console.proofs.DutyLine.{duty_found, duty_passes}
+use Rattle.console.proofs.NumberRead.{fails_alone, number_fails, number_passes, passes_alone}
+use Rattle.console.proofs.PlainLine.{line_read, line_refused, plain_read, plain_refused}
+use Rattle.console.proofs.ServeLine.{both_kinds, either_fails, serve_found, serve_level}
 use Rattle.console.proofs.command_line.action.Goals as goal
 
+alone : (word : Text) → is_plain word ≡ true → list_all is_plain (word ∷ []) ≡ true
+alone word plain = rw plain refl
+
 pub returns-clause-duty : goal.returns-clause-duty
-returns-clause-duty c = duty_read c.read.result (texts c.args.words.now) c.read.ensures.ok c.read.ensures.refused
+returns-clause-duty c zone report time times is plain =
+    plain_read _ _ c.read.ensures.ok c.read.ensures.refused _ _ is refl _ plain
+    (duty_passes zone report time times) (duty_found zone report time times)
 
 pub returns-clause-init : goal.returns-clause-init
-returns-clause-init c = init_read c.read.result (texts c.args.words.now) c.read.ensures.ok c.read.ensures.refused
+returns-clause-init c file zone is plain =
+    plain_read _ _ c.read.ensures.ok c.read.ensures.refused _ _ is refl _ plain refl refl
 
 pub returns-clause-do_one : goal.returns-clause-do_one
-returns-clause-do_one c = do_read c.read.result (texts c.args.words.now) c.read.ensures.ok c.read.ensures.refused
+returns-clause-do_one c file is plain =
+    plain_read _ _ c.read.ensures.ok c.read.ensures.refused _ _ is refl _ (alone file plain) refl refl
 
 pub returns-clause-import : goal.returns-clause-import
-returns-clause-import c = import_read c.read.result (texts c.args.words.now) c.read.ensures.ok c.read.ensures.refused
+returns-clause-import c file number n is plain says =
+    plain_read _ _ c.read.ensures.ok c.read.ensures.refused _ _ is refl _ plain (passes_alone last_number number n says)
+    (ap (λ o. Some (one file) ∷ option_map whole o ∷ []) says)
 
 pub returns-clause-import_number : goal.returns-clause-import_number
-returns-clause-import_number c = import_refused c.read.result (texts c.args.words.now) c.read.ensures.refused
+returns-clause-import_number c file number is plain none =
+    plain_refused _ _ c.read.ensures.ok c.read.ensures.refused _ _ is refl ValueValidation plain
+    (fails_alone last_number number none)
 
 pub returns-clause-roster : goal.returns-clause-roster
-returns-clause-roster c = roster_read c.read.result (texts c.args.words.now) c.read.ensures.ok c.read.ensures.refused
+returns-clause-roster c file crew is plain =
+    plain_read _ _ c.read.ensures.ok c.read.ensures.refused _ _ is refl _ plain refl refl
 
 pub returns-clause-pairing : goal.returns-clause-pairing
-returns-clause-pairing c = pairing_read c.read.result (texts c.args.words.now) c.read.ensures.ok c.read.ensures.refused
+returns-clause-pairing c file id is plain =
+    plain_read _ _ c.read.ensures.ok c.read.ensures.refused _ _ is refl _ plain refl refl
 
 pub returns-clause-exceedances : goal.returns-clause-exceedances
-returns-clause-exceedances c = exceedances_read c.read.result (texts c.args.words.now) c.read.ensures.ok c.read.ensures.refused
+returns-clause-exceedances c file is plain =
+    plain_read _ _ c.read.ensures.ok c.read.ensures.refused _ _ is refl _ (alone file plain) refl refl
 
 pub returns-clause-serve : goal.returns-clause-serve
-returns-clause-serve c = serve_read c.read.result (texts c.args.words.now) c.read.ensures.ok c.read.ensures.refused
+returns-clause-serve c file port None p n is plain count_plain port_is count_is =
+    plain_read _ _ c.read.ensures.ok c.read.ensures.refused _ _ is refl _ plain (passes_alone last_port port p port_is)
+    (ap₂ (λ o k. Some (one file) ∷ option_map whole o ∷ option_map whole k ∷ []) port_is count_is)
+returns-clause-serve c file port (Some count) p n is plain count_plain port_is count_is =
+    line_read _ _ c.read.ensures.ok c.read.ensures.refused _ _ is refl _
+    (serve_level file port count plain count_plain
+    ∙ ap₂ both_kinds (number_passes last_port port p port_is) (number_passes most_connections count n count_is))
+    (serve_found file port count plain count_plain
+    ∙ ap₂ (λ o k. Some (one file) ∷ option_map whole o ∷ option_map whole k ∷ []) port_is count_is)
 
 pub returns-clause-serve_numbers : goal.returns-clause-serve_numbers
-returns-clause-serve_numbers c = serve_refused c.read.result (texts c.args.words.now) c.read.ensures.refused
+returns-clause-serve_numbers c file port None is plain count_plain (inl none) =
+    plain_refused _ _ c.read.ensures.ok c.read.ensures.refused _ _ is refl ValueValidation plain
+    (fails_alone last_port port none)
+returns-clause-serve_numbers c file port None is plain count_plain (inr none) =
+    let bad : ⊥ = cc in
+    absurd bad
+returns-clause-serve_numbers c file port (Some count) is plain count_plain either =
+    line_refused _ _ c.read.ensures.ok c.read.ensures.refused _ _ is refl ValueValidation
+    (serve_level file port count plain count_plain ∙ either_fails _ _ (elim either [
+      | inl none ↦ inl (number_fails last_port port none)
+      | inr none ↦ inr (number_fails most_connections count none)
+    ]))
