@@ -24,7 +24,7 @@ use Rattle.book.proofs.States.{one_of_either}
 use Rattle.http_exchange.specs.Exchange.{ChannelBytes}
 use Rattle.asking.specs.Requests.{Request}
 use Rattle.rosterbook.specs.Asking.{IsAskStopped, IsImported, IsImportStopped, IsLeftAfterAnswers, IsRequestAnswered, IsStoppedIn, asked_by_request, left_by_request}
-use Rattle.rosterbook.specs.ByFiles.{AreLeftAfter, AreLeftAsFound, AreLeftByImport, AreLeftByRequest, IsByFiles, IsDoneBy, IsImportedBy, IsRefusedAs, IsSession, IsShownBy}
+use Rattle.rosterbook.specs.ByFiles.{AreLeftAfter, AreLeftAsFound, AreLeftByImport, AreLeftByRequest, HaveSession, IsByFiles, IsDoneBy, IsImportedBy, IsRefusedAs, IsSession, IsShownBy}
 use Rattle.rosterbook.specs.Showing.{IsToldOf}
 use Rattle.rosterbook.specs.declared.status.Status.{Status}
 use Rattle.rosterbook.specs.declared.stop.Stop.{Stop}
@@ -161,6 +161,9 @@ module _ {D : Type 0} {g : Ghosts D} (image : Image) (old new : Kept (FileStore 
 module _ {D : Type 0} {g : Ghosts D} (image : Image) (left : Option (FilesLeft D g)) (none : left ≡ None) where
   pub none_left : (asked : List Asked) → AreLeftAfter left image asked
   none_left asked = rw none tt
+
+  pub no_session : HaveSession left image
+  no_session = rw none tt
 
   pub refused_as : (fault : LoadFault) (theirs refused : Option (FilesLeft D g)) (done : Result Status Stop) → refused ≡ theirs → done ≡ Err (Load fault) →
       IfSome theirs (λ it. IsCleanLeft it → IsFaultOf image fault) → IsRefusedAs left image refused done

@@ -42,6 +42,11 @@ use Rattle.rosterbook.specs.declared.stop.Stop.TheVariants.{Load, Network}
 abbrev pub Account : Type 1
 Account = (State → Type 0) → (State → State) → Type 0
 
+module _ {D : Type 0} {g : Ghosts D} where
+  -- files are left with an empty book of this zone, as long as the disk returns what was written
+  abbrev pub IsLeftEmpty : List ℕ → FilesLeft D g → Type 0
+  IsLeftEmpty zone it = IsCleanLeft it → LeavesBook it (empty zone)
+
 module _ {D : Type 0} {g : Ghosts D} (left : Option (FilesLeft D g)) where
   -- The answer was given by the book that files with these contents held, and that is left of them.
   -- As long as the disk returns what was written, a sound book is found in them, what is said holds
@@ -50,16 +55,11 @@ module _ {D : Type 0} {g : Ghosts D} (left : Option (FilesLeft D g)) where
   IsByFiles image Says after = IsSomeAnd left (λ it. IsCleanLeft it →
       (s : State) × FindsBook image s × Says s × LeavesBook it (after s))
 
-  -- The files are left with an empty book of this zone, as long as the disk returns what was written.
+  -- files are left, and with an empty book of this zone
   abbrev pub AreLeftEmpty : List ℕ → Type 0
-  AreLeftEmpty zone = IsSomeAnd left (λ it. IsCleanLeft it → LeavesBook it (empty zone))
+  AreLeftEmpty zone = IsSomeAnd left (IsLeftEmpty zone)
 
 -- ---- What is left, whatever the status
-
-module _ {D : Type 0} {g : Ghosts D} where
-  -- files are left with an empty book of this zone, as long as the disk returns what was written
-  abbrev pub IsLeftEmpty : List ℕ → FilesLeft D g → Type 0
-  IsLeftEmpty zone it = IsCleanLeft it → LeavesBook it (empty zone)
 
 module _ {D : Type 0} {g : Ghosts D} (left : Option (FilesLeft D g)) (image : Image) where
   -- If a book was taken up from files with these contents, that is left of them. As long as the
@@ -98,7 +98,7 @@ module _ {D : Type 0} {g : Ghosts D} (left : Option (FilesLeft D g)) (image : Im
         (s : State) × FindsBook image s × IsDurablyAt over_files opened s
         × LeavesEither it (Fold s (acknowledged calls)) (Fold s (acknowledged calls ++ in_doubt calls)))
 
-  -- the same of some book
+  -- if a book was taken up from the files, it had a session
   abbrev pub HaveSession : Type 0
   HaveSession = IfSome left (λ _.
       (opened : Kept (FileStore D g)) × (last : Kept (FileStore D g)) × IsSession opened last)
@@ -195,6 +195,11 @@ module _ {D : Type 0} {g : Ghosts D} (image : Image) (left : Option (FilesLeft D
   LeavesFiles (Import file number) held = AreLeftByImport left image number held
   LeavesFiles (Serve file port connections) held = HaveSession left image
   LeavesFiles action held = AreLeftAsFound left image
+
+  -- what was done to a book that was taken up from files is a session; `init` takes up none
+  abbrev pub IsSessionOf : Action → Type 0
+  IsSessionOf (Init file zone) = ⊤
+  IsSessionOf action = HaveSession left image
 
   -- No book was taken up from files that were opened, of which this is left: nothing is printed but
   -- the line of the refusal, and that is the one of what is found in the files, as long as the disk

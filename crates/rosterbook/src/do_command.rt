@@ -5,7 +5,7 @@ ghost use Rattle.sqlite_wal.specs.Files.{image_at};
 ghost use Rattle.http_exchange.specs.Exchange.{ChannelBytes};
 ghost use Rattle.book.specs.Calls.{IsAfterCalls};
 ghost use Rattle.rosterbook.specs.Asking as spec;
-ghost use Rattle.rosterbook.specs.ByFiles.{AreLeftByRequest, IsByFiles, IsDoneBy, IsRefusedAs};
+ghost use Rattle.rosterbook.specs.ByFiles.{AreLeftByRequest, HaveSession, IsByFiles, IsDoneBy, IsRefusedAs};
 
 use crate::ended::Ended;
 use crate::lines::{read_input, write_line};
@@ -29,6 +29,7 @@ pub(crate) fn answer_do<S: Start, R: Read, O: Write>(
         (IsDoneBy (IsByFiles result.left (image_at S.Start)) (R.remaining reader.old)
         (O.contents out.old) (O.contents out.new) err err) }
     ensures left { AreLeftByRequest result.left (image_at S.Start) (R.remaining reader.old) }
+    ensures session { HaveSession result.left (image_at S.Start) }
     ensures unopened { result.left ≡ None
         → IsErr result.done × (reader.new ≡ reader.old) × (out.new ≡ out.old) }
     ensures refused { IsRefusedAs result.left (image_at S.Start) result.refused result.done }

@@ -7,7 +7,7 @@ ghost use Rattle.std.specs.Io.KnownBytes.{Appends};
 ghost use Rattle.book.specs.Calls.{IsAfterCalls};
 ghost use Rattle.book.specs.Kept.{result_of};
 ghost use Rattle.rosterbook.specs.Asking as spec;
-ghost use Rattle.rosterbook.specs.ByFiles.{AreLeftByImport, IsByFiles, IsImportedBy, IsRefusedAs};
+ghost use Rattle.rosterbook.specs.ByFiles.{AreLeftByImport, HaveSession, IsByFiles, IsImportedBy, IsRefusedAs};
 
 use crate::ended::Ended;
 use crate::lines::{read_input, refuse};
@@ -38,6 +38,7 @@ pub(crate) fn answer_import<S: Start, R: Read, O: Write, E: Write>(
         (E.contents err.old) (E.contents err.new)) }
     ensures left { AreLeftByImport result.left (image_at S.Start) number
         (R.remaining reader.old) }
+    ensures session { HaveSession result.left (image_at S.Start) }
     ensures unopened { result.left ≡ None → IsErr result.done × (reader.new ≡ reader.old)
         × (out.new ≡ out.old) × (err.new ≡ err.old) }
     ensures refused { IsRefusedAs result.left (image_at S.Start) result.refused result.done }
@@ -89,7 +90,7 @@ pub fn import_csv<S: Alter, R: Read, O: Write, E: Write>(
     }
 }
 
-/// The lines of the parts so far, and how the program ends after them.
+/// Where the lines of the parts are written, and how the program ends after those so far.
 #[derive(Drop)]
 struct PartLines<'a, O: Write> {
     out: &'a mut O,

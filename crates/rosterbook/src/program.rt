@@ -76,6 +76,7 @@ pub fn perform_from<S: Start, R: Read, O: Write, E: Write>(
     // Whatever the status.
     ensures left { by_files.LeavesFiles (image_at S.Start) result.left action.now
         (R.remaining reader.old) }
+    ensures session { by_files.IsSessionOf (image_at S.Start) result.left action.now }
     ensures refused { IfSome result.refused (by_files.IsRefusedByFiles (image_at S.Start)
         result.left result.status result.told (O.contents out.old) (O.contents out.new)
         (E.contents err.old) (E.contents err.new)) }

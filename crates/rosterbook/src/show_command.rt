@@ -9,7 +9,7 @@ ghost use Rattle.book.specs.Calls.{IsAfterCalls};
 ghost use Rattle.book.specs.Kept.{IsDurablyAt, IsClean};
 ghost use Rattle.asking.specs.Reports.{show_of};
 ghost use Rattle.store.specs.declared.show.Show.TheVariants as show;
-ghost use Rattle.rosterbook.specs.ByFiles.{AreLeftAsFound, IsByFiles, IsRefusedAs, IsShownBy};
+ghost use Rattle.rosterbook.specs.ByFiles.{AreLeftAsFound, HaveSession, IsByFiles, IsRefusedAs, IsShownBy};
 ghost use Rattle.rosterbook.specs.Showing as spec;
 ghost use Rattle.rosterbook.specs.Streams.{IsOfChannel, refused_line};
 
@@ -37,6 +37,7 @@ pub(crate) fn answer_roster<S: Start, O: Write, E: Write>(
         (IsShownBy (IsByFiles result.left (image_at S.Start)) (show.Crew crew.now)
         (O.contents out.old) (O.contents out.new) (E.contents err.old) (E.contents err.new)) }
     ensures left { AreLeftAsFound result.left (image_at S.Start) }
+    ensures session { HaveSession result.left (image_at S.Start) }
     ensures unopened { result.left ≡ None
         → IsErr result.done × (out.new ≡ out.old) × (err.new ≡ err.old) }
     ensures refused { IsRefusedAs result.left (image_at S.Start) result.refused result.done }
@@ -57,6 +58,7 @@ pub(crate) fn answer_pairing<S: Start, O: Write, E: Write>(
         (IsShownBy (IsByFiles result.left (image_at S.Start)) (show.Pairing pairing.now)
         (O.contents out.old) (O.contents out.new) (E.contents err.old) (E.contents err.new)) }
     ensures left { AreLeftAsFound result.left (image_at S.Start) }
+    ensures session { HaveSession result.left (image_at S.Start) }
     ensures unopened { result.left ≡ None
         → IsErr result.done × (out.new ≡ out.old) × (err.new ≡ err.old) }
     ensures refused { IsRefusedAs result.left (image_at S.Start) result.refused result.done }
@@ -76,6 +78,7 @@ pub(crate) fn answer_exceedances<S: Start, O: Write, E: Write>(
         (IsShownBy (IsByFiles result.left (image_at S.Start)) show.Exceedances
         (O.contents out.old) (O.contents out.new) (E.contents err.old) (E.contents err.new)) }
     ensures left { AreLeftAsFound result.left (image_at S.Start) }
+    ensures session { HaveSession result.left (image_at S.Start) }
     ensures unopened { result.left ≡ None
         → IsErr result.done × (out.new ≡ out.old) × (err.new ≡ err.old) }
     ensures refused { IsRefusedAs result.left (image_at S.Start) result.refused result.done }
@@ -97,6 +100,7 @@ fn show_file<S: Start, O: Write, E: Write>(
         (IsShownBy (IsByFiles result.left (image_at S.Start)) (show_of what.entry)
         (O.contents out.old) (O.contents out.new) (E.contents err.old) (E.contents err.new)) }
     ensures left { AreLeftAsFound result.left (image_at S.Start) }
+    ensures session { HaveSession result.left (image_at S.Start) }
     ensures unopened { result.left ≡ None
         → IsErr result.done × (out.new ≡ out.old) × (err.new ≡ err.old) }
     ensures refused { IsRefusedAs result.left (image_at S.Start) result.refused result.done }

@@ -1,6 +1,6 @@
 use Rattle.std.proofs.Common.{inl, []}
 use Rattle.std.proofs.lemmas.Result.{IfOk-weaker}
-use Rattle.rosterbook.proofs.ByFiles.{import_left, imported_at, none_left, refused_as}
+use Rattle.rosterbook.proofs.ByFiles.{import_left, imported_at, no_session, none_left, refused_as, session}
 use Rattle.rosterbook.proofs.import_command.answer_import.Goals as goal
 
 pub returns-in-Ok-clause-done : goal.returns-in-Ok-clause-done
@@ -19,3 +19,13 @@ returns-in-Err-clause-left g c = inl (none_left _ _ c.refused.ensures.left [])
 
 pub returns-in-Err-clause-refused : goal.returns-in-Err-clause-refused
 returns-in-Err-clause-refused g c = refused_as _ _ c.refused.ensures.left c.in-Err.refused.fault c.in-Err.refused.left _ _ c.refused.ensures.refused c.refused.ensures.done c.in-Err.ensures.refused
+
+pub returns-in-Ok-clause-session : goal.returns-in-Ok-clause-session
+returns-in-Ok-clause-session g c = (
+  c.in-Ok.book,
+  c.import_csv-done.new.book,
+  session _ c.in-Ok.book c.import_csv-done.new.book c.close.result c.in-Ok.ensures.means c.close.ensures.disk c.close.ensures.crash c.in-Ok.ensures.fresh c.import_csv-done.ensures.calls,
+)
+
+pub returns-in-Err-clause-session : goal.returns-in-Err-clause-session
+returns-in-Err-clause-session g c = no_session _ _ c.refused.ensures.left

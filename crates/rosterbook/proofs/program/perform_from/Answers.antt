@@ -106,3 +106,23 @@ returns-in-Do-clause-left g c = rw (c.in-Do.is, c.finish-in-Do.ensures.left) c.a
 
 pub returns-in-Import-clause-left : goal.returns-in-Import-clause-left
 returns-in-Import-clause-left g c = rw (c.in-Import.is, c.finish-in-Import.ensures.left) c.answer_import.ensures.left
+
+pub returns-in-Do-clause-session : goal.returns-in-Do-clause-session
+returns-in-Do-clause-session g c = rw (c.in-Do.is, c.finish-in-Do.ensures.left) c.answer_do.ensures.session
+
+pub returns-in-Import-clause-session : goal.returns-in-Import-clause-session
+returns-in-Import-clause-session g c = rw (c.in-Import.is, c.finish-in-Import.ensures.left) c.answer_import.ensures.session
+
+pub returns-in-Roster-clause-session : goal.returns-in-Roster-clause-session
+returns-in-Roster-clause-session g c = rw (c.in-Roster.is, c.finish-in-Roster.ensures.left) c.answer_roster.ensures.session
+
+pub returns-in-Pairing-clause-session : goal.returns-in-Pairing-clause-session
+returns-in-Pairing-clause-session g c = rw (c.in-Pairing.is, c.finish-in-Pairing.ensures.left) c.answer_pairing.ensures.session
+
+pub returns-in-Exceedances-clause-session : goal.returns-in-Exceedances-clause-session
+returns-in-Exceedances-clause-session g c = rw (c.in-Exceedances.is, c.finish-in-Exceedances.ensures.left) c.answer_exceedances.ensures.session
+
+pub returns-in-Serve-clause-session : goal.returns-in-Serve-clause-session
+returns-in-Serve-clause-session g c =
+    rw c.in-Serve.is (had_session _ c.answer_serve.result.left c.finish-in-Serve.result.left c.finish-in-Serve.ensures.left c.answer_serve.result.done _ _ _ _ _ _
+    c.answer_serve.ensures.served c.answer_serve.ensures.stopped)

@@ -1,5 +1,5 @@
 use Rattle.std.proofs.Common.{[]}
-use Rattle.rosterbook.proofs.ByFiles.{left_as_found, none_left, refused_as, shown_at}
+use Rattle.rosterbook.proofs.ByFiles.{left_as_found, no_session, none_left, refused_as, session, shown_at}
 use Rattle.rosterbook.proofs.show_command.show_file.Goals as goal
 
 pub returns-in-Ok-clause-done : goal.returns-in-Ok-clause-done
@@ -16,3 +16,13 @@ returns-in-Err-clause-left g c = none_left _ _ c.refused.ensures.left []
 
 pub returns-in-Err-clause-refused : goal.returns-in-Err-clause-refused
 returns-in-Err-clause-refused g c = refused_as _ _ c.refused.ensures.left c.in-Err.refused.fault c.in-Err.refused.left _ _ c.refused.ensures.refused c.refused.ensures.done c.in-Err.ensures.refused
+
+pub returns-in-Ok-clause-session : goal.returns-in-Ok-clause-session
+returns-in-Ok-clause-session g c = (
+  c.in-Ok.book,
+  c.show_text-done.new.book,
+  session _ c.in-Ok.book c.show_text-done.new.book c.leave.result c.in-Ok.ensures.means c.leave.ensures.disk c.leave.ensures.crash c.in-Ok.ensures.fresh c.show_text-done.ensures.calls,
+)
+
+pub returns-in-Err-clause-session : goal.returns-in-Err-clause-session
+returns-in-Err-clause-session g c = no_session _ _ c.refused.ensures.left
