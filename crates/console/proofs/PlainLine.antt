@@ -87,7 +87,7 @@ known_enters name known =
     go None e = absurd (true≢false (sym e))
     go (Some s) e = refl
 
-pub first_fails : (first next : Kinds) (k : ErrorKind) → first ≡ k ∷ [] → or_else first next ≡ k ∷ []
+first_fails : (first next : Kinds) (k : ErrorKind) → first ≡ k ∷ [] → or_else first next ≡ k ∷ []
 first_fails first next k e = ap (λ kinds. or_else kinds next) e
 
 module _ (name : Text) (is_entered : Enters top name (leaf name)) (words : List Text) where

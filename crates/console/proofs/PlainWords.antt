@@ -98,8 +98,7 @@ module _ (s : Shape) (flags : list_all reads_flags s.rules ≡ true) where
       placed : (o : Option Rule) → arg_by_index s.rules w.position ≡ o → GoesOn (to_positional s.rules o word w w.held)
       placed None is = record { flags = on.flags; words = on.words }
       placed (Some a) is = record {
-        flags = rw (on.flags, plain_first _ (found_passes _ reads_flags s.rules a flags is))
-            refl;
+        flags = rw (on.flags, plain_first _ (found_passes _ reads_flags s.rules a flags is)) refl;
         words = refl;
       }
 
@@ -109,7 +108,7 @@ module _ (s : Shape) (flags : list_all reads_flags s.rules ≡ true) where
       go idle = placed (arg_by_index s.rules w.position) refl
       go positional = placed (arg_by_index s.rules w.position) refl
 
-  pub all_walked : (w : Walk) (words : List Text) → list_all is_plain words ≡ true → GoesOn w
+  all_walked : (w : Walk) (words : List Text) → list_all is_plain words ≡ true → GoesOn w
       → ◌≡◌ {A = Walk} (fold (walked s.rules []) w words) (fold (taken s) w words)
   all_walked w [] plain on = refl
   all_walked w (word ∷ rest) plain on =
@@ -117,7 +116,7 @@ module _ (s : Shape) (flags : list_all reads_flags s.rules ≡ true) where
       ap (λ (x : Walk). fold (walked s.rules []) x rest) (plain_walked w word p.0 on)
       ∙ all_walked (taken s w word) rest p.1 (goes_on w word on)
 
-  pub all_faults : (w : Walk) (words : List Text) → list_all is_plain words ≡ true → GoesOn w
+  all_faults : (w : Walk) (words : List Text) → list_all is_plain words ≡ true → GoesOn w
       → walk_fault s [] w words ≡ faults s w words
   unfolding walk_fault
   all_faults w [] plain on = refl
