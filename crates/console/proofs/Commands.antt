@@ -30,6 +30,10 @@ AreRows [] [] = Unit {0}
 AreRows (c ∷ rest) (row ∷ rows) = IsCommandOfApp (with_arguments row.0 row.1) c × AreRows rest rows
 AreRows _ _ = ⊥
 
+-- a first one, and then these
+pub also : {A B : Type 0} → A → B → A × B
+also a b = (a, b)
+
 subcommand_added : (app sub : App) (old given new : Command) → IsCommandOfApp app old → AddsSubcommand old given new
     → IsCommandOfApp sub given
     → IsCommandOfApp (with_subcommand app sub.top) new
