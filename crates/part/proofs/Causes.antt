@@ -1,5 +1,5 @@
 -- Why a gathering fails, of calls in turn.
-use Rattle.std.proofs.Common.{inl, inr, Result, Ok, Err, IfErr, IfOk, OnOk}
+use Rattle.std.proofs.Common.{inl, inr, Result, Ok, Err, IfErr, OnOk}
 use Rattle.part.specs.Sources.{IsCaused}
 
 module _ {X F M : Type 0} (fails : X → X → F → Type 0) (made : M → F → Type 0) (stays : X → X → Type 0)
@@ -13,11 +13,6 @@ module _ {X F M : Type 0} (fails : X → X → F → Type 0) (made : M → F →
   pub answers_caused : {A : Type 0} (x y z : X) (result : Result A F) → stays x y → stays y z → IfErr result (IsCaused fails made y z) → IfErr result (IsCaused fails made x z)
   answers_caused x y z (Ok a) p q caused = tt
   answers_caused x y z (Err fault) p q caused = caused_then x y z fault p q caused
-
--- what is told of an answer, in other words
-pub told_as : {A F : Type 0} (Shown : Type 0) {P Q : A → Type 0} (result : Result A F) → IfOk result (λ a. Shown × P a) → ((a : A) → P a → Q a) → IfOk result (λ a. Shown × Q a)
-told_as Shown (Ok a) told other = (told.0, other a told.1)
-told_as Shown (Err fault) told other = tt
 
 pub ok_as : {A F P Q : Type 0} (result : Result A F) → OnOk result P → (P → Q) → OnOk result Q
 ok_as (Ok a) told other = other told
