@@ -1,13 +1,11 @@
 -- What a request and a schedule are told, from what was asked of a book.
-use Rattle.std.proofs.Common.{◌≡◌, ◌⊎◌, ◌∙◌, ◌++◌, inl, inr, ℕ, List, [], ◌∷◌, refl, sym, ap, subst, string_bytes, Result, Ok, Err}
+use Rattle.std.proofs.Common.{◌≡◌, ◌∙◌, ◌++◌, inl, inr, ℕ, List, [], ◌∷◌, refl, sym, ap, subst, string_bytes, Result, Ok, Err}
 use Rattle.std.specs.Io.KnownBytes.{Appends}
 use Rattle.sqlite_trees.specs.declared.store.Store.{Ghosts}
-use Rattle.duty.specs.Plans.{Plan}
 use Rattle.command.specs.declared.instruction.Instruction.{Instruction}
 use Rattle.command.specs.declared.refusal.Refusal.{Refusal}
 use Rattle.command.specs.declared.refusal.Refusal.TheVariants as refusals
 use Rattle.codec.specs.Requests.{read_request}
-use Rattle.codec.specs.Schedule.{IsSchedule}
 use Rattle.roster.specs.Folds.{ReplyOrRefusal}
 use Rattle.roster.specs.State.{State}
 use Rattle.state_rows.specs.declared.fault.StoreFault.{StoreFault}
@@ -18,7 +16,7 @@ use Rattle.asking.specs.Answers.{Reports, answer_json, answer_kind, refusal_kind
 use Rattle.asking.specs.Requests.{IsDoneAsRead, IsRequestAsked, Request, asked_as}
 use Rattle.asking.specs.declared.answers.JsonAnswer.{JsonAnswer}
 use Rattle.http_exchange.specs.Exchange.{ChannelBytes}
-use Rattle.rosterbook.specs.Asking.{Answers, AreAddedAndTold, AreTold, IsImported, IsImportTold, IsNoSchedule, IsRequestAnswered, left_by_request, status_of_answer, status_of_kind, told_json}
+use Rattle.rosterbook.specs.Asking.{Answers, IsRequestAnswered, left_by_request, status_of_answer, status_of_kind, told_json}
 use Rattle.rosterbook.specs.Streams.{Prints, ReadsInput, line_end}
 use Rattle.rosterbook.specs.declared.status.Status.{Status}
 use Rattle.rosterbook.specs.declared.status.Status.TheVariants.{Refused}
@@ -97,17 +95,3 @@ module _ {S : Type 0} (g : Ghosts S) (old new : Kept S) where
         answered = it.2;
         left = it.3;
       }
-
--- ---- `import`
-
-pub imported_told : {S : Type 0} (g : Ghosts S) (old new : Kept S) (number : ℕ) (held out out' err err' : ChannelBytes) (status : Status) →
-    IsImported g old new number held out out' err err' status → IsImportTold held out out' err err' status
-imported_told g old new number held out out' err err' status it = record {
-  text = it.text;
-  read = it.read;
-  told = go it.done;
-} where
-  go : (IsNoSchedule it.text status out out' err err' × (new ≡ old)) ⊎ ((plans : List Plan) × IsSchedule it.text plans × AreAddedAndTold g old new number plans status out out' × (err' ≡ err)) →
-      IsNoSchedule it.text status out out' err err' ⊎ ((plans : List Plan) × (answers : List ReplyOrRefusal) × IsSchedule it.text plans × AreTold plans answers status out out' × (err' ≡ err))
-  go (inl none) = inl none.0
-  go (inr added) = inr (added.0, added.2.answers, added.1, added.2.told, added.3)
