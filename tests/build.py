@@ -27,7 +27,7 @@ PROGRAM = "crates/rosterbook_main/out/rosterbook_main"
 FILES = ("build", "rosterbook", "crates.txt", "HANDLES", "docs/ARCHITECTURE.md")
 TOOLS = ("awk", "bash", "dirname", "env", "find", "readlink")  # what ./rosterbook calls
 
-TESTS = ("book_tests", "call_tests", "failing_channel", "table_tests")  # the crates on which the program doesn't stand
+ASIDE = ("book_tests", "call_tests", "failing_channel", "nearness", "table_tests")  # the crates on which the program doesn't stand
 
 # The folder `done` beside its own has a file for each crate that is done. The files there are `pause`, how many seconds a crate takes,
 # `wrong`, a crate that isn't proved, `elsewhere`, one that another run proves, and `meanwhile`, what is run before the last line.
@@ -63,9 +63,9 @@ echo '24 passed, 0 failed'
 
 
 def below_the_program():
-    """The crates that ./rosterbook has built, by crates.txt: all but the tests."""
+    """The crates that ./rosterbook has built, by crates.txt: all but those on which it doesn't stand."""
     names = re.findall(r"^(\w+):", (TOP / "crates.txt").read_text(), re.M)
-    return [it for it in names if it not in TESTS]
+    return [it for it in names if it not in ASIDE]
 
 
 def crate_line(number, count, name, took, left):
@@ -105,7 +105,7 @@ class Machine:
         for name in FILES:
             (self.top / name).parent.mkdir(parents=True, exist_ok=True)
             shutil.copy(TOP / name, self.top / name)
-        for name in (*below_the_program(), *TESTS):
+        for name in (*below_the_program(), *ASIDE):
             for file in ("src/lib.rt", "must-fail/wrong.edit", "must-fail-more/wrong.edit"):
                 (self.top / "crates" / name / file).parent.mkdir(parents=True)
                 (self.top / "crates" / name / file).write_text("\n")
@@ -197,7 +197,7 @@ def try_all(machine):
     done = len(os.listdir(machine.room / "done"))
     machine.built("a build that goes on", machine.ran("a build that goes on", 0, "ran one two\n"), done)
     seen = (machine.room / "seen").read_text()
-    machine.expect("wrong bodies in the copy", [it for it in ("must-fail", *TESTS, "/out/") if it in seen], [])
+    machine.expect("wrong bodies in the copy", [it for it in ("must-fail", *ASIDE, "/out/") if it in seen], [])
     machine.expect("sources in the copy", seen.count("/src/lib.rt\n"), len(below_the_program()))
 
     machine.expect("a program that is built", machine.ran("a program that is built", 0, "ran one two\n"), [])

@@ -1,0 +1,5 @@
+pub mod Fullest
+pub mod Nearest
+pub mod Nearness
+pub mod Rests
+pub mod Searches
