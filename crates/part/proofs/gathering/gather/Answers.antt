@@ -1,11 +1,10 @@
 use Rattle.std.proofs.Common.{◌∙◌, ap}
 use Rattle.std.proofs.lemmas.Result.{err_from_is_err_and}
-use Rattle.std.specs.FinMap as fin
 use Rattle.command.specs.Keys.{key_name}
 use Rattle.roster.specs.State.{State}
 use Rattle.part.proofs.Causes.{caused_then}
 use Rattle.part.proofs.Picked.{entry_is}
-use Rattle.part.specs.Part.{NamedPart, Part}
+use Rattle.part.specs.Part.{Part}
 use Rattle.part.specs.Sources.{pick}
 use Rattle.part.proofs.gathering.gather.Goals as goal
 
