@@ -3,8 +3,10 @@ use Rattle.std.specs.Prelude.{◌≡◌, ◌⊎◌, ◌++◌, List, map, ℕ, Re
 use Rattle.std.specs.FinMap as fin
 use Rattle.std.specs.List.{Contains, fold, flat_map}
 use Rattle.std.specs.Option.{option_map_or}
+use Rattle.std.specs.Str.{bytes_eq}
 use Rattle.values.specs.Name.{name_cmp}
 use Rattle.duty.specs.Plans.{GroundPlan}
+use Rattle.command.specs.Keys.{KeyParts, key_name}
 use Rattle.command.specs.declared.instruction.Instruction.{Instruction}
 use Rattle.part.specs.Part.{holders, members_named}
 use Rattle.roster.specs.Holding.{IsGroundOf, IsHeldBy, IsOutsideOf}
@@ -65,3 +67,27 @@ members_wanted instruction pairings grounds outsides =
     ((members_named instruction ++ flat_map (λ row. holders row.1) (fin.entries pairings))
     ++ map (λ row. row.1.crew) (fin.entries grounds))
     ++ map (λ row. row.1.crew) (fin.entries outsides)
+
+-- the part of a state with all bases and nothing else
+abbrev pub bases_part : State → State
+bases_part s = record {
+  bases = s.bases;
+  crew = fin.empty;
+  pairings = fin.empty;
+  grounds = fin.empty;
+  outsides = fin.empty;
+  exceedances = fin.empty;
+  requests = fin.empty;
+}
+
+-- the part of a state with all bases and what a key holds, and nothing else
+abbrev pub key_part : State → KeyParts → State
+key_part s key = record {
+  bases = s.bases;
+  crew = fin.empty;
+  pairings = fin.empty;
+  grounds = fin.empty;
+  outsides = fin.empty;
+  exceedances = fin.empty;
+  requests = fin.retain_keys s.requests (bytes_eq (key_name key));
+}

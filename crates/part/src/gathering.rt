@@ -2,19 +2,17 @@
 //! Through the program: `tests/answers.py`. Wrong bodies: `must-fail/`.
 
 ghost use Rattle.std.specs.Prelude.{◌≡◌, ◌++◌, IfErr, OnOk};
-ghost use Rattle.std.specs.FinMap as fin;
-ghost use Rattle.std.specs.Str.{bytes_eq};
-ghost use Rattle.command.specs.Keys.{KeyParts, key_name};
+ghost use Rattle.command.specs.Keys.{KeyParts};
 ghost use Rattle.part.specs.Part.{NamedPart, Part};
 ghost use Rattle.roster.specs.Holding.{AreJust};
-ghost use Rattle.part.specs.Sources.{IsCaused, IsGroundOfOne, IsHeldByOne, IsOutsideOfOne, TellsOfState};
+ghost use Rattle.part.specs.Sources.{IsCaused, IsGroundOfOne, IsHeldByOne, IsOutsideOfOne, TellsOfState, bases_part, key_part};
 
 use crate::named::{ids_named, judged_in, members_wanted};
 use crate::pick::{pick_grounds, pick_members, pick_outsides, pick_pairings, pick_request};
 use crate::source::Source;
 use command::{Command, Instruction, Key};
 use duty::{CrewId, GroundId, OutsideId, PairingId};
-use roster::{LoggedCommand, Roster};
+use roster::Roster;
 use std::alloc::Global;
 use values::{MemoryFault, OrdMap};
 
@@ -90,15 +88,9 @@ fn outsides_of_one<S: Source>(
     Ok(all)
 }
 
-/// Gathers what the key holds.
-#[tactic(auto, using(crate::proofs::Picked::entry_is))]
-fn gather_requests<S: Source>(
-    alloc: Global,
-    source: &mut S,
-    key: Key,
-) -> Result<OrdMap<Key, LoggedCommand>, S::Fault>
-    ensures told { TellsOfState S.is_clean S.shows
-        (λ s it. it ≡ fin.retain_keys s.requests (bytes_eq (key_name key)))
+/// Gathers all bases, and nothing else.
+pub(crate) fn gather_bases<S: Source>(alloc: Global, source: &mut S) -> Result<Roster, S::Fault>
+    ensures told { TellsOfState S.is_clean S.shows (λ s it. it ≡ bases_part s)
         source.old source.new result }
     ensures left { S.stays source.old source.new }
     ensures caused { IfErr result
@@ -106,45 +98,39 @@ fn gather_requests<S: Source>(
     ensures serves { OnOk result (S.serves source.old source.new) }
     ensures there { OnOk result (S.is_there source.new) }
 {
-    let mut requests = OrdMap::new(alloc);
-    pick_request(alloc, source, key, &mut requests)?;
-    Ok(requests)
+    let bases = source.bases(alloc)?;
+    Ok(Roster {
+        bases,
+        crew: OrdMap::new(alloc),
+        pairings: OrdMap::new(alloc),
+        grounds: OrdMap::new(alloc),
+        outsides: OrdMap::new(alloc),
+        exceedances: OrdMap::new(alloc),
+        requests: OrdMap::new(alloc),
+    })
 }
 
-/// Gathers what an instruction names, beside what its key holds.
-pub(crate) fn gather_named<S: Source>(
+/// Adds what an instruction names to the bases and what a key holds.
+pub(crate) fn add_named<S: Source>(
     alloc: Global,
     source: &mut S,
     instruction: &Instruction,
-    requests: OrdMap<Key, LoggedCommand>,
-) -> Result<Roster, S::Fault>
-    ensures told { TellsOfState S.is_clean S.shows (λ s it. (key : KeyParts)
-        → requests ≡ fin.retain_keys s.requests (bytes_eq (key_name key))
-        → it ≡ NamedPart s key instruction.now) source.old source.new result }
+    part: &mut Roster,
+) -> Result<(), S::Fault>
+    ensures told { TellsOfState S.is_clean S.shows (λ s _. (key : KeyParts)
+        → part.old ≡ key_part s key → part.new ≡ NamedPart s key instruction.now)
+        source.old source.new result }
     ensures left { S.stays source.old source.new }
     ensures caused { IfErr result
         (IsCaused S.fails S.Fault.from_gives source.old source.new) }
     ensures serves { OnOk result (S.serves source.old source.new) }
 {
     let ids = ids_named(alloc, instruction)?;
-    let bases = source.bases(alloc)?;
-    let mut crew = OrdMap::new(alloc);
-    pick_members(alloc, source, &ids.members, &mut crew)?;
-    let mut pairings = OrdMap::new(alloc);
-    pick_pairings(alloc, source, &ids.pairings, &mut pairings)?;
-    let mut grounds = OrdMap::new(alloc);
-    pick_grounds(alloc, source, &ids.grounds, &mut grounds)?;
-    let mut outsides = OrdMap::new(alloc);
-    pick_outsides(alloc, source, &ids.outsides, &mut outsides)?;
-    Ok(Roster {
-        bases,
-        crew,
-        pairings,
-        grounds,
-        outsides,
-        exceedances: OrdMap::new(alloc),
-        requests,
-    })
+    pick_members(alloc, source, &ids.members, &mut part.crew)?;
+    pick_pairings(alloc, source, &ids.pairings, &mut part.pairings)?;
+    pick_grounds(alloc, source, &ids.grounds, &mut part.grounds)?;
+    pick_outsides(alloc, source, &ids.outsides, &mut part.outsides)?;
+    Ok(())
 }
 
 /// Adds the histories by which an instruction is judged to what it names.
@@ -152,43 +138,32 @@ pub(crate) fn add_histories<S: Source>(
     alloc: Global,
     source: &mut S,
     instruction: &Instruction,
-    named: Roster,
-) -> Result<Roster, S::Fault>
-    ensures told { TellsOfState S.is_clean S.shows (λ s it. (key : KeyParts)
-        → named ≡ NamedPart s key instruction.now → it ≡ Part s key instruction.now)
+    part: &mut Roster,
+) -> Result<(), S::Fault>
+    ensures told { TellsOfState S.is_clean S.shows (λ s _. (key : KeyParts)
+        → part.old ≡ NamedPart s key instruction.now → part.new ≡ Part s key instruction.now)
         source.old source.new result }
     ensures left { S.stays source.old source.new }
     ensures caused { IfErr result
         (IsCaused S.fails S.Fault.from_gives source.old source.new) }
     ensures serves { OnOk result (S.serves source.old source.new) }
 {
-    let Roster {
-        bases,
-        mut crew,
-        mut pairings,
-        mut grounds,
-        mut outsides,
-        exceedances,
-        requests,
-    } = named;
-    let judged = judged_in(alloc, instruction, &pairings)?;
+    let judged = judged_in(alloc, instruction, &part.pairings)?;
     let held = held_by_one(alloc, source, &judged)?;
-    pick_pairings(alloc, source, &held, &mut pairings)?;
+    pick_pairings(alloc, source, &held, &mut part.pairings)?;
     let theirs = grounds_of_one(alloc, source, &judged)?;
-    pick_grounds(alloc, source, &theirs, &mut grounds)?;
+    pick_grounds(alloc, source, &theirs, &mut part.grounds)?;
     let flown = outsides_of_one(alloc, source, &judged)?;
-    pick_outsides(alloc, source, &flown, &mut outsides)?;
-    let wanted = members_wanted(alloc, instruction, &pairings, &grounds, &outsides)?;
-    pick_members(alloc, source, &wanted, &mut crew)?;
-    Ok(Roster {
-        bases,
-        crew,
-        pairings,
-        grounds,
-        outsides,
-        exceedances,
-        requests,
-    })
+    pick_outsides(alloc, source, &flown, &mut part.outsides)?;
+    let wanted = members_wanted(
+        alloc,
+        instruction,
+        &part.pairings,
+        &part.grounds,
+        &part.outsides,
+    )?;
+    pick_members(alloc, source, &wanted, &mut part.crew)?;
+    Ok(())
 }
 
 /// Gathers what a command needs to be answered under its key.
@@ -207,7 +182,9 @@ pub fn gather<S: Source>(
     ensures there { OnOk result (S.is_there source.new) }
 {
     let instruction = command.instruction();
-    let requests = gather_requests(alloc, source, key)?;
-    let named = gather_named(alloc, source, instruction, requests)?;
-    add_histories(alloc, source, instruction, named)
+    let mut part = gather_bases(alloc, source)?;
+    pick_request(alloc, source, key, &mut part.requests)?;
+    add_named(alloc, source, instruction, &mut part)?;
+    add_histories(alloc, source, instruction, &mut part)?;
+    Ok(part)
 }

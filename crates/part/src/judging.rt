@@ -9,12 +9,12 @@ ghost use Rattle.part.specs.Sources.{IsCaused, TellsOfState};
 ghost use Rattle.roster.specs.State.{State};
 ghost use Rattle.roster.specs.Steps.{answered, step_of};
 
-use crate::gathering::{add_histories, gather_named};
+use crate::gathering::{add_histories, add_named, gather_bases};
 use crate::source::Source;
 use command::{Command, Instruction, Key, Refusal};
 use roster::{LoggedCommand, Roster, Verdict};
 use std::alloc::Global;
-use values::{MemoryFault, OrdMap};
+use values::MemoryFault;
 
 /// Answers a command by what its key holds.
 fn answer_kept(kept: LoggedCommand, command: &Command) -> Verdict
@@ -95,21 +95,29 @@ pub fn judge<S: Source>(
     if let Some(kept) = source.request(alloc, key)? {
         return Ok(answer_kept(kept, command));
     }
-    let named = gather_named(alloc, source, command.instruction(), OrdMap::new(alloc))?;
-    let settled = settle(alloc, &named, key, command);
+    let instruction = command.instruction();
+    let mut part = gather_bases(alloc, source)?;
+    if let Err(fault) = add_named(alloc, source, instruction, &mut part) {
+        drop(part);
+        return Err(fault);
+    }
+    let settled = settle(alloc, &part, key, command);
     match settled {
         Ok(None) => {
-            let part = add_histories(alloc, source, command.instruction(), named)?;
+            if let Err(fault) = add_histories(alloc, source, instruction, &mut part) {
+                drop(part);
+                return Err(fault);
+            }
             let verdict = part.step(alloc, key, command);
             drop(part);
             Ok(verdict?)
         }
         Ok(Some(verdict)) => {
-            drop(named);
+            drop(part);
             Ok(verdict)
         }
         Err(fault) => {
-            drop(named);
+            drop(part);
             Err(S::Fault::from(fault))
         }
     }

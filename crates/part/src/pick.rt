@@ -1,6 +1,8 @@
 //! Entries of a source under some ids.
 
 ghost use Rattle.std.specs.Prelude.{◌≡◌, IfErr, OnOk};
+ghost use Rattle.std.specs.FinMap as fin;
+ghost use Rattle.std.specs.Option.{option_map_or};
 ghost use Rattle.command.specs.Keys.{key_name};
 ghost use Rattle.part.specs.Sources.{IsCaused, IsPartOf, TellsOfState, picked, pick};
 
@@ -9,7 +11,23 @@ use command::{Key, Member};
 use duty::{CrewId, Ground, GroundId, OutsideId, PairingId};
 use roster::{LoggedCommand, OutsideEntry, PairingEntry};
 use std::alloc::Global;
-use values::{OrdMap, TryClone};
+use values::{MemoryFault, OrdKey, OrdMap, TryClone};
+
+/// Sets what was found under an id, if anything was.
+pub(crate) fn put_found<K: OrdKey + TryClone, V: Drop>(
+    alloc: Global,
+    map: &mut OrdMap<K, V>,
+    id: &K,
+    found: Option<V>,
+) -> Result<(), MemoryFault>
+    ensures { OnOk result (map.new
+        ≡ option_map_or (λ value. fin.insert map.old (K.name id.now) value) found map.old) }
+{
+    if let Some(value) = found {
+        map.insert(id.try_clone(alloc)?, value)?;
+    }
+    Ok(())
+}
 
 /// Sets what the source has under a key.
 pub(crate) fn pick_request<S: Source>(
@@ -33,74 +51,79 @@ pub(crate) fn pick_request<S: Source>(
     Ok(())
 }
 
-/// Sets what the source has under these ids.
+/// Sets what the source has under these ids. What is there already isn't read again.
 pub(crate) fn pick_pairings<S: Source>(
     alloc: Global,
     source: &mut S,
     ids: &[PairingId],
     pairings: &mut OrdMap<PairingId, PairingEntry>,
 ) -> Result<(), S::Fault>
-    ensures told { TellsOfState S.is_clean S.shows
-        (λ s _. pairings.new ≡ picked s.pairings pairings.old ids.now)
-        source.old source.new result }
+    ensures told { TellsOfState S.is_clean S.shows (λ s _. IsPartOf pairings.old s.pairings
+        → pairings.new ≡ picked s.pairings pairings.old ids.now) source.old source.new result }
     ensures left { S.stays source.old source.new }
     ensures caused { IfErr result
         (IsCaused S.fails S.Fault.from_gives source.old source.new) }
     ensures serves { OnOk result (S.serves source.old source.new) }
 {
     for id in ids {
-        if let Some(rostered) = source.pairing(alloc, id)? {
-            pairings.insert(id.try_clone(alloc)?, rostered)?;
+        if pairings.contains(id) {
+            continue;
         }
+        let found = source.pairing(alloc, id)?;
+        put_found(alloc, pairings, id, found)?;
     }
     Ok(())
 }
 
-/// Sets what the source has under these ids.
+/// Sets what the source has under these ids. What is there already isn't read again.
 pub(crate) fn pick_grounds<S: Source>(
     alloc: Global,
     source: &mut S,
     ids: &[GroundId],
     grounds: &mut OrdMap<GroundId, Ground>,
 ) -> Result<(), S::Fault>
-    ensures told { TellsOfState S.is_clean S.shows
-        (λ s _. grounds.new ≡ picked s.grounds grounds.old ids.now) source.old source.new result }
+    ensures told { TellsOfState S.is_clean S.shows (λ s _. IsPartOf grounds.old s.grounds
+        → grounds.new ≡ picked s.grounds grounds.old ids.now) source.old source.new result }
     ensures left { S.stays source.old source.new }
     ensures caused { IfErr result
         (IsCaused S.fails S.Fault.from_gives source.old source.new) }
     ensures serves { OnOk result (S.serves source.old source.new) }
 {
     for id in ids {
-        if let Some(ground) = source.ground(alloc, id)? {
-            grounds.insert(id.try_clone(alloc)?, ground)?;
+        if grounds.contains(id) {
+            continue;
         }
+        let found = source.ground(alloc, id)?;
+        put_found(alloc, grounds, id, found)?;
     }
     Ok(())
 }
 
-/// Sets what the source has under these ids.
+/// Sets what the source has under these ids. What is there already isn't read again.
 pub(crate) fn pick_outsides<S: Source>(
     alloc: Global,
     source: &mut S,
     ids: &[OutsideId],
     outsides: &mut OrdMap<OutsideId, OutsideEntry>,
 ) -> Result<(), S::Fault>
-    ensures told { TellsOfState S.is_clean S.shows
-        (λ s _. outsides.new ≡ picked s.outsides outsides.old ids.now) source.old source.new result }
+    ensures told { TellsOfState S.is_clean S.shows (λ s _. IsPartOf outsides.old s.outsides
+        → outsides.new ≡ picked s.outsides outsides.old ids.now) source.old source.new result }
     ensures left { S.stays source.old source.new }
     ensures caused { IfErr result
         (IsCaused S.fails S.Fault.from_gives source.old source.new) }
     ensures serves { OnOk result (S.serves source.old source.new) }
 {
     for id in ids {
-        if let Some(outside) = source.outside(alloc, id)? {
-            outsides.insert(id.try_clone(alloc)?, outside)?;
+        if outsides.contains(id) {
+            continue;
         }
+        let found = source.outside(alloc, id)?;
+        put_found(alloc, outsides, id, found)?;
     }
     Ok(())
 }
 
-/// Sets what the source has under these ids. A member who is there already isn't read again.
+/// Sets what the source has under these ids. Who is there already isn't read again.
 pub(crate) fn pick_members<S: Source>(
     alloc: Global,
     source: &mut S,
@@ -118,9 +141,8 @@ pub(crate) fn pick_members<S: Source>(
         if crew.contains(id) {
             continue;
         }
-        if let Some(member) = source.member(alloc, id)? {
-            crew.insert(id.try_clone(alloc)?, member)?;
-        }
+        let found = source.member(alloc, id)?;
+        put_found(alloc, crew, id, found)?;
     }
     Ok(())
 }

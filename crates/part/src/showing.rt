@@ -8,13 +8,13 @@ ghost use Rattle.roster.specs.Holding.{AreJust, IsGroundOf, IsHeldBy, IsOutsideO
 ghost use Rattle.part.specs.Shown.{exceedances_part, member_part, pairing_part};
 ghost use Rattle.part.specs.Sources.{IsCaused, TellsOfState};
 
-use crate::pick::{pick_grounds, pick_outsides, pick_pairings};
+use crate::pick::{pick_grounds, pick_outsides, pick_pairings, put_found};
 use crate::source::Source;
 use command::Member;
 use duty::{CrewId, GroundId, OutsideId, PairingId};
 use roster::{PairingEntry, Roster};
 use std::alloc::Global;
-use values::{OrdMap, TryClone};
+use values::OrdMap;
 
 /// The ids of what a member holds.
 #[derive(Drop)]
@@ -58,10 +58,9 @@ fn one_member<S: Source>(
         (IsCaused S.fails S.Fault.from_gives source.old source.new) }
     ensures serves { OnOk result (S.serves source.old source.new) }
 {
+    let found = source.member(alloc, who)?;
     let mut crew = OrdMap::new(alloc);
-    if let Some(member) = source.member(alloc, who)? {
-        crew.insert(who.try_clone(alloc)?, member)?;
-    }
+    put_found(alloc, &mut crew, who, found)?;
     Ok(crew)
 }
 
@@ -78,10 +77,9 @@ fn one_pairing<S: Source>(
         (IsCaused S.fails S.Fault.from_gives source.old source.new) }
     ensures serves { OnOk result (S.serves source.old source.new) }
 {
+    let found = source.pairing(alloc, id)?;
     let mut pairings = OrdMap::new(alloc);
-    if let Some(rostered) = source.pairing(alloc, id)? {
-        pairings.insert(id.try_clone(alloc)?, rostered)?;
-    }
+    put_found(alloc, &mut pairings, id, found)?;
     Ok(pairings)
 }
 
@@ -99,7 +97,6 @@ pub fn gather_member<S: Source>(
     ensures serves { OnOk result (S.serves source.old source.new) }
     ensures there { OnOk result (S.is_there source.new) }
 {
-    let bases = source.bases(alloc)?;
     let crew = one_member(alloc, source, who)?;
     let ids = ids_held(alloc, source, who)?;
     let mut pairings = OrdMap::new(alloc);
@@ -109,7 +106,7 @@ pub fn gather_member<S: Source>(
     let mut outsides = OrdMap::new(alloc);
     pick_outsides(alloc, source, &ids.outsides, &mut outsides)?;
     Ok(Roster {
-        bases,
+        bases: source.bases(alloc)?,
         crew,
         pairings,
         grounds,
@@ -133,8 +130,8 @@ pub fn gather_pairing<S: Source>(
     ensures serves { OnOk result (S.serves source.old source.new) }
     ensures there { OnOk result (S.is_there source.new) }
 {
-    let bases = source.bases(alloc)?;
     let pairings = one_pairing(alloc, source, id)?;
+    let bases = source.bases(alloc)?;
     Ok(Roster {
         bases,
         crew: OrdMap::new(alloc),

@@ -1,13 +1,8 @@
-use Rattle.std.proofs.Common.{◌∙◌, ap, sym, subst}
+use Rattle.std.proofs.Common.{◌∙◌, ap}
 use Rattle.std.proofs.lemmas.Result.{err_from_is_err_and}
-use Rattle.std.specs.FinMap as fin
-use Rattle.values.specs.Name.{name_cmp}
-use Rattle.command.specs.declared.member.Member.{Member}
 use Rattle.roster.specs.State.{State}
-use Rattle.part.specs.Part.{members_named}
-use Rattle.part.specs.Sources.{IsPartOf}
 use Rattle.part.proofs.Causes.{caused_then}
-use Rattle.part.proofs.Picked.{grounds_as, judged_same, members_are, named_part, outsides_as, pairings_as}
+use Rattle.part.proofs.Picked.{grounds_as, judged_same, members_are, outsides_as, pairings_as}
 use Rattle.part.proofs.gathering.add_histories.Goals as goal
 
 pub returns-clause-told : goal.returns-clause-told
@@ -34,9 +29,7 @@ returns-clause-told g c = (
             let pairings = pairings_as s instruction _ _ _ _ _ (ap (λ (x : State). x.pairings) named) (c.deref.ensures.value ∙ judged) held.1 c.deref-2.ensures.value plans.1 in
             let grounds = grounds_as s instruction _ _ _ _ _ (ap (λ (x : State). x.grounds) named) (c.deref-3.ensures.value ∙ judged) theirs.1 c.deref-4.ensures.value tasks.1 in
             let outsides = outsides_as s instruction _ _ _ _ _ (ap (λ (x : State). x.outsides) named) (c.deref-5.ensures.value ∙ judged) flown.1 c.deref-6.ensures.value periods.1 in
-            let crew_named = ap (λ (x : State). x.crew) named in
-            let known = subst (λ (m : fin.FinMap name_cmp Member). IsPartOf m s.crew) (sym crew_named) (named_part s.crew (members_named instruction)) in
-            let crew = members_are s instruction _ _ _ _ _ _ pairings grounds outsides crew_named (c.deref-7.ensures.value ∙ c.in_ok-wanted.ensures) (members.1 known) in
+            let crew = members_are s instruction _ _ _ _ _ _ pairings grounds outsides (ap (λ (x : State). x.crew) named) (c.deref-7.ensures.value ∙ c.in_ok-wanted.ensures) members.1 in
             λ i. record {
               bases = (named i).bases;
               crew = crew i;

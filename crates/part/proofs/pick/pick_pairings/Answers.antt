@@ -1,40 +1,48 @@
-use Rattle.std.proofs.Common.{◌≡◌, ◌+◌, ◌++◌, ◌∷◌, [], inl, rules, take}
-use Rattle.std.specs.FinMap as fin
-use Rattle.std.specs.Option.{option_map_or}
+use Rattle.std.proofs.Common.{◌≡◌, ◌∙◌, ◌+◌, ◌++◌, ◌∷◌, [], inl, sym, take}
 use Rattle.std.proofs.lemmas.Grind.{take_at_read}
 use Rattle.std.proofs.lemmas.Result.{err_from_is_err_and}
 use Rattle.part.proofs.Causes.{caused_then}
-use Rattle.part.proofs.Picked.{one_more_is}
+use Rattle.part.proofs.Picked.{known_is, one_more_is}
 use Rattle.part.proofs.pick.pick_pairings.Goals as goal
-use Rattle.part.proofs.pick.pick_pairings.Goals.{in-Some+in_ok-try_clone+in_ok-insert, in_default}
+
+-- what is there already
+pub loop-id-preserved-then-contains : goal.loop-id-preserved-then-contains
+loop-id-preserved-then-contains g c = (
+  c.loop-id.invariant.0,
+  c.loop-id.invariant.1,
+  c.loop-id.invariant.2,
+  λ clean s shows.
+      let was = c.loop-id.invariant.3 clean s shows in
+      let ids = c.args.ids.now in
+      let i = c.loop-id.id-index in
+      let id = c.id-item.result in
+      let more : take (i + 1) ids ≡ take i ids ++ id ∷ [] = rw c.id-item.is ((take_at_read ids i id c.loop-id-test.true).1) in
+      let has = sym c.contains.ensures ∙ c.if-contains.true in
+      (was.0, λ part. known_is s.pairings c.args.pairings.now c.loop-id.pairings ids i id has part (was.1 part) more),
+)
 
 pub loop-id-preserved : goal.loop-id-preserved
 loop-id-preserved g c = (
   g.S.Source.and_then _ _ _ c.loop-id.invariant.0 c.pairing.ensures.left,
-  g.S.Source.serves_then _ _ _ c.loop-id.invariant.1 c.in_ok-rostered.ensures.serves,
+  g.S.Source.serves_then _ _ _ c.loop-id.invariant.1 c.in_ok-found.ensures.serves,
   λ clean. c.loop-id.invariant.2 (c.pairing.ensures.told.0 clean),
   λ clean s shows.
       let was = c.loop-id.invariant.3 (c.pairing.ensures.told.0 clean) s shows in
-      let told = c.in_ok-rostered.ensures.told.1 clean s was.0 in
+      let told = c.in_ok-found.ensures.told.1 clean s was.0 in
       let ids = c.args.ids.now in
       let i = c.loop-id.id-index in
       let id = c.id-item.result in
-      let found = c.in_ok-rostered.field-0 in
       let more : take (i + 1) ids ≡ take i ids ++ id ∷ [] = rw c.id-item.is ((take_at_read ids i id c.loop-id-test.true).1) in
-      let put : c.match-branch-2.pairings ≡ option_map_or (λ value. fin.insert c.loop-id.pairings id value) found c.loop-id.pairings = elim c.match-branch-2.branch [
-        | in-Some+in_ok-try_clone+in_ok-insert w ↦ search rules
-        | in_default w ↦ search rules
-      ] in
-      (told.0, one_more_is s.pairings c.args.pairings.now c.loop-id.pairings c.match-branch-2.pairings ids i id found put told.1 was.1 more),
+      (told.0, λ part. one_more_is s.pairings c.args.pairings.now c.loop-id.pairings c.put_found.new.map ids i id c.in_ok-found.found c.in_ok-put_found.ensures told.1 (was.1 part) more),
 )
 
-pub returns-in_err-rostered-clause-caused : goal.returns-in_err-rostered-clause-caused
-returns-in_err-rostered-clause-caused g c =
+pub returns-in_err-found-clause-caused : goal.returns-in_err-found-clause-caused
+returns-in_err-found-clause-caused g c =
     let p = err_from_is_err_and c.from_residual.result c.from_residual.ensures.1 in
-    rw (p.1, p.2) (caused_then g.S.Source.fails g.S.Fault.From.from_gives g.S.Source.stays g.S.Source.fails_then _ _ _ _ c.loop-id.invariant.0 c.pairing.ensures.left (inl c.in_err-rostered.ensures.caused))
+    rw (p.1, p.2) (caused_then g.S.Source.fails g.S.Fault.From.from_gives g.S.Source.stays g.S.Source.fails_then _ _ _ _ c.loop-id.invariant.0 c.pairing.ensures.left (inl c.in_err-found.ensures.caused))
 
-pub returns-in_err-try_clone-clause-left : goal.returns-in_err-try_clone-clause-left
-returns-in_err-try_clone-clause-left g c = g.S.Source.and_then _ _ _ c.loop-id.invariant.0 c.pairing.ensures.left
+pub returns-in_err-found-clause-left : goal.returns-in_err-found-clause-left
+returns-in_err-found-clause-left g c = g.S.Source.and_then _ _ _ c.loop-id.invariant.0 c.pairing.ensures.left
 
-pub returns-in_err-insert-clause-left : goal.returns-in_err-insert-clause-left
-returns-in_err-insert-clause-left g c = g.S.Source.and_then _ _ _ c.loop-id.invariant.0 c.pairing.ensures.left
+pub returns-in_err-put_found-clause-left : goal.returns-in_err-put_found-clause-left
+returns-in_err-put_found-clause-left g c = g.S.Source.and_then _ _ _ c.loop-id.invariant.0 c.pairing.ensures.left
