@@ -10,7 +10,8 @@ and `new: TEXT`, where the old text stands in the file exactly once. With no `in
 A function is proved over the contracts of those that it calls, so edits of different functions are tried by one check of
 these functions, on a copy of the crate. `rt lib` first builds each library below that is missing or older than its sources; with
 --built those that are there are taken as they are, as `rt ci` left them: what it has from an earlier run on a machine is older than
-a fresh clone. The last line is 'N passed, M failed', and the exit status 1 where M isn't 0.
+a fresh clone. After the lines of a crate comes one with the seconds that its checks took. The last line is 'N passed, M failed', and
+the exit status 1 where M isn't 0.
 """
 
 import argparse
@@ -20,6 +21,7 @@ import shutil
 import subprocess
 import sys
 import tempfile
+import time
 from concurrent.futures import ThreadPoolExecutor
 from dataclasses import dataclass
 from pathlib import Path
@@ -211,8 +213,8 @@ def verdicts(words, crate, edits, kept):
 
 
 def try_crate(kit, crate, folder):
-    """Tries the crate's edits, and returns the lines to print, each with whether it tells of a refusal."""
-    lines, edits = [], []
+    """Tries the crate's edits. Returns the lines to print, each with whether it tells of a refusal, and how long that took."""
+    begun, lines, edits = time.monotonic(), [], []
     for file in sorted((crate.folder / folder).glob("*.edit")):
         try:
             edits.append(read_edit(file))
@@ -222,7 +224,7 @@ def try_crate(kit, crate, folder):
     with tempfile.TemporaryDirectory(prefix="edits-kept-") as kept:
         for those in rounds(edits):
             lines += [(is_refused, f"{edit.label}: {text}") for edit, is_refused, text in verdicts(words, crate, those, kept)]
-    return lines
+    return lines, f"{crate.name}: {len(lines)} edits in {time.monotonic() - begun:.0f} seconds"
 
 
 def main():
@@ -249,10 +251,11 @@ def main():
     # (those with most to prove first)
     chosen.sort(key=lambda it: -sum(file.stat().st_size for file in it.folder.rglob("*.antt")))
     with ThreadPoolExecutor(asked.jobs) as pool:
-        for lines in pool.map(lambda it: try_crate(kit, it, folder), chosen):
+        for lines, how_long in pool.map(lambda it: try_crate(kit, it, folder), chosen):
             for is_refused, line in lines:
                 print(line, flush=True)
                 refused, failed = refused + is_refused, failed + (not is_refused)
+            print(how_long, flush=True)
     print(f"{refused} passed, {failed} failed")
     return 1 if failed else 0
 

@@ -1,5 +1,5 @@
 -- The table `request`: what its records tell, and when it is right.
-use Rattle.std.proofs.Common.{◌≡◌, inl, inr, refl, sym, ap, subst, ◌∙◌, arith, ℕ, pos, ◌≤◌, true, List, [], ◌∷◌, ◌++◌, append_assoc, ◌↔◌, Bool, map, take, slice_get, ◌+◌, length, Option, Some, None, Result, Ok, Err, MatchResult, IsTrue, IsUtf8}
+use Rattle.std.proofs.Common.{◌≡◌, inl, inr, refl, sym, ap, subst, ◌∙◌, arith, ℕ, pos, ◌≤◌, true, List, [], ◌∷◌, ◌++◌, append_assoc, codes, ◌↔◌, Bool, map, take, slice_get, ◌+◌, length, Option, Some, None, Result, Ok, Err, MatchResult, IsTrue, IsUtf8}
 use Rattle.std.specs.FinMap as fin
 use Rattle.std.specs.List.{list_all}
 use Rattle.std.specs.Prelude.{is_some}
@@ -23,6 +23,7 @@ use Rattle.duty.specs.Shape.{home}
 use Rattle.command.specs.Keys.{KeyParts, key_name}
 use Rattle.command.specs.declared.exceedance.Reply.{Reply}
 use Rattle.command.specs.declared.instruction.Instruction.{Instruction}
+use Rattle.serde_json.proofs.OnLiterals.{serde_json_on_literals}
 use Rattle.stored_json.proofs.InstructionsBack.{kept_back}
 use Rattle.stored_json.proofs.ReplyBack.{reply_back}
 use Rattle.stored_json.specs.CommandJson.{read_kept}
@@ -89,6 +90,11 @@ pub told_otherwise : (text : List ℕ) (told : Reply) → read_reply text ≡ Ok
 told_otherwise text told read other reply same =
     let one : reply ≡ told = ok_same (sym (reply_back reply) ∙ ap read_reply same ∙ read) in
     other (ap reply_text (sym one) ∙ same)
+
+-- the text of a reply without an exceedance
+pub without_exceedance : (text : List ℕ) → text ≡ codes "{\"exceedances\":[],\"result\":\"accepted\"}" → reply_text (record { exceedances = [] }) ≡ text
+unfolding reply_text serde_json_on_literals
+without_exceedance text same = sym same
 
 -- the id of a base is that of HOME where it is tested to be
 pub is_at_home : (base : List ℕ) → IsTrue (bytes_eq base home) ↔ (base ≡ home)

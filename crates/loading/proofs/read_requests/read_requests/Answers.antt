@@ -1,4 +1,4 @@
-use Rattle.std.proofs.Common.{rules, ◌≡◌, sym, subst, Result, Err}
+use Rattle.std.proofs.Common.{rules, refl, ◌≡◌, sym, subst, Result, Err}
 use Rattle.sqlite.specs.Held.{state}
 use Rattle.roster.specs.State.{State}
 use Rattle.loading.specs.Loading.{Justifies}
@@ -18,5 +18,5 @@ returns-in_err-records-clause-read g c =
 
 pub returns-clause-read : goal.returns-clause-read
 returns-clause-read g c =
-    is_read c.args.edition c.args.roster (state g.S.Store c.args.conn.now) (state g.S.Store c.request_records.new.conn) c.requires.above c.requires.of c.in_ok-records.records.items c.deref.result.now c.add_held.result c.requires.first c.deref.ensures.value
+    is_read c.args.edition c.args.roster (state g.S.Store c.args.conn.now) (state g.S.Store c.request_records.new.conn) c.requires.above c.requires.of c.in_ok-records.records.items c.in_ok-records.records.items c.add_held.result c.requires.first refl
     c.in_ok-records.ensures.told c.request_records.ensures.left c.add_held.ensures
