@@ -14,8 +14,8 @@ use Rattle.roster.proofs.MadeByCommands.{stays_honest}
 use Rattle.roster.proofs.Sound.{keeps_sound}
 use Rattle.state_rows.specs.declared.fault.StoreFault.{StoreFault}
 use Rattle.state_rows.specs.declared.fault.StoreFault.TheVariants.{Store, Memory}
-use Rattle.writing.specs.Kept.{KeepOthers}
-use Rattle.writing.specs.Outcomes.{CrashAddsOnly, CrashLeaves, StaysOpen}
+use Rattle.writing.specs.Beside.{KeepOthers}
+use Rattle.state_rows.specs.Outcomes.{CrashAddsOnly, CrashLeaves, StaysOpen}
 use Rattle.book.specs.Answered.{IsAnswered}
 use Rattle.book.specs.Kept.{Ends, HasTables, IsDurablyAt, IsClean, Kept, StillHasTables, is_store_fault, is_some_store_fault, result_of}
 use Rattle.book.specs.declared.answer.Answer.{Answer}

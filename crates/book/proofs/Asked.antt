@@ -12,9 +12,10 @@ use Rattle.roster.specs.declared.change.Change.{Change}
 use Rattle.state_rows.specs.declared.fault.StoreFault.{StoreFault}
 use Rattle.state_rows.specs.declared.fault.StoreFault.TheVariants.{Store, Memory}
 use Rattle.lookup.specs.Reads.{ChangesNothing, IsCausedIfStore, IsOpen, IsReadFault, Shows}
-use Rattle.writing.specs.Kept.{HoldBookOf, IsBookOf, KeepOthers}
+use Rattle.state_rows.specs.Kept.{HoldBookOf, IsBookOf}
+use Rattle.writing.specs.Beside.{KeepOthers}
 use Rattle.writing.specs.Next.{IsAcceptedChange}
-use Rattle.writing.specs.Outcomes.{CrashAddsNothing, CrashAddsOnly, HoldsNow, CrashLeaves, CrashLeavesSome, StaysOpen, StillShows, either, one}
+use Rattle.state_rows.specs.Outcomes.{CrashAddsNothing, CrashAddsOnly, HoldsNow, CrashLeaves, CrashLeavesSome, StaysOpen, StillShows, either, one}
 use Rattle.book.specs.Asking.{StepOutcome, Done}
 use Rattle.book.specs.Headline.{MakesNoChange}
 use Rattle.book.specs.Kept.{HasOne, IsKept, Keeps, StillHolds, either_kept, is_store_fault}

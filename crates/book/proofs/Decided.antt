@@ -13,7 +13,7 @@ use Rattle.roster.specs.declared.change.Verdict.{Verdict}
 use Rattle.roster.specs.declared.change.Verdict.TheVariants.{Refuse, Repeat}
 use Rattle.state_rows.specs.declared.fault.StoreFault.{StoreFault}
 use Rattle.lookup.specs.Reads.{ChangesNothing, IsCausedIfStore, IsOpen, IsReadFault, Shows}
-use Rattle.writing.specs.Outcomes.{CrashLeavesSome}
+use Rattle.state_rows.specs.Outcomes.{CrashLeavesSome}
 use Rattle.book.specs.Asking.{StepOutcome}
 use Rattle.book.specs.Headline.{IsRefusal, MakesNoChange, SparesOthers, Untouched}
 use Rattle.book.specs.Kept.{Keeps, StillHolds, is_store_fault, result_of}

@@ -20,7 +20,7 @@ use Rattle.roster.specs.declared.change.Verdict.{Verdict}
 use Rattle.roster.specs.declared.change.Verdict.TheVariants.{Accept, Refuse, Repeat}
 use Rattle.state_rows.specs.declared.fault.StoreFault.{StoreFault}
 use Rattle.state_rows.specs.declared.fault.StoreFault.TheVariants.{Store, Memory}
-use Rattle.writing.specs.Outcomes.{CrashLeaves, either, one}
+use Rattle.state_rows.specs.Outcomes.{CrashLeaves, either, one}
 use Rattle.book.specs.Headline.{BreaksNoLimit, IsAcceptance, IsHeld, KeepsHeld, StaysHeld}
 use Rattle.book.specs.Kept.{Ends, Keeps, either_kept, result_of}
 use Rattle.book.specs.Sessions.{count_of, fault_of}

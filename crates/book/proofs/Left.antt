@@ -12,7 +12,7 @@ use Rattle.sqlite.specs.Closing.{HoldsAlone, IsCopied}
 use Rattle.sqlite.specs.Files.{file_state, over_files}
 use Rattle.sqlite.specs.Held.{Held}
 use Rattle.roster.specs.State.{State}
-use Rattle.writing.specs.Kept.{HoldBookOf}
+use Rattle.state_rows.specs.Kept.{HoldBookOf}
 use Rattle.book.specs.Found.{HoldsBookAlone, LeavesBook, LeavesByCrash, LeavesEither}
 use Rattle.book.specs.Kept.{IsClean, IsInDoubt, IsKept, Keeps, Kept}
 use Rattle.book.specs.declared.file.FilesLeft.{FilesLeft}

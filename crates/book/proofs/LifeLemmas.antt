@@ -15,8 +15,8 @@ use Rattle.roster.specs.Honest.{Honest}
 use Rattle.roster.specs.State.{State}
 use Rattle.state_rows.specs.declared.fault.StoreFault.{StoreFault}
 use Rattle.state_rows.specs.declared.fault.StoreFault.TheVariants.{Store, Memory}
-use Rattle.writing.specs.Kept.{HoldBookOf}
-use Rattle.writing.specs.Outcomes.{CrashLeaves, CrashLeavesSome, either}
+use Rattle.state_rows.specs.Kept.{HoldBookOf}
+use Rattle.state_rows.specs.Outcomes.{CrashLeaves, CrashLeavesSome, either}
 use Rattle.book.specs.Calls.{AreCalls, Call, IsCall}
 use Rattle.book.specs.Kept.{Ends, IsClean, IsDurablyAt, IsKept, Keeps, KeepsEither, Kept, either_kept, is_some_store_fault}
 use Rattle.book.specs.Lives.{AreDone, AreDoneInTurn, EachLifeHolds, GoesOn, IsFoundAt, IsMadeAt, IsOpenedOver, IsReopened, IsReopenedAfter, in_turn, acknowledged, acknowledged_by, answers, doubted_by, in_doubt, is_stopped}

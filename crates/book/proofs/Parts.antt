@@ -8,7 +8,7 @@ use Rattle.duty.specs.Plans.{Plan}
 use Rattle.command.specs.declared.instruction.Instruction.TheVariants.{AddPairing}
 use Rattle.roster.specs.Folds.{Asked, import, next}
 use Rattle.state_rows.specs.declared.fault.StoreFault.TheVariants.{Store, Memory}
-use Rattle.writing.specs.Outcomes.{CrashLeavesSome}
+use Rattle.state_rows.specs.Outcomes.{CrashLeavesSome}
 use Rattle.lookup.proofs.Changes.{nothing_changes}
 use Rattle.book.specs.Answered.{IsAnswered}
 use Rattle.book.specs.Importing.{Importing, part_of}

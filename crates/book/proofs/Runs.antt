@@ -7,7 +7,7 @@ use Rattle.roster.specs.State.{State}
 use Rattle.roster.specs.Steps.{step_of}
 use Rattle.state_rows.specs.declared.fault.StoreFault.{StoreFault}
 use Rattle.state_rows.specs.declared.fault.StoreFault.TheVariants.{Store, Memory}
-use Rattle.writing.specs.Outcomes.{CrashLeaves, either, one}
+use Rattle.state_rows.specs.Outcomes.{CrashLeaves, either, one}
 use Rattle.book.specs.Kept.{Keeps, either_kept}
 
 fold_suc : (s : State) (l : List Asked) (i : ℕ) (a : Asked) → i < length l → Fold s (take (suc i) l) ≡ next (Fold s (take i l)) (get_or l i a)

@@ -7,7 +7,7 @@ use Rattle.roster.specs.Folds.{Asked, Fold, Session, Stopped, next}
 use Rattle.roster.specs.State.{State}
 use Rattle.state_rows.specs.declared.fault.StoreFault.{StoreFault}
 use Rattle.state_rows.specs.declared.fault.StoreFault.TheVariants.{Store, Memory}
-use Rattle.writing.specs.Outcomes.{CrashLeaves, either}
+use Rattle.state_rows.specs.Outcomes.{CrashLeaves, either}
 use Rattle.book.specs.Kept.{Ends, IsKept, Keeps, either_kept}
 use Rattle.book.specs.Sessions.{IsAfter, count_of, fault_of}
 

@@ -10,8 +10,8 @@ use Rattle.sqlite.specs.Held.{state}
 use Rattle.sqlite.specs.State as conn
 use Rattle.sqlite.specs.State.{HasCleanDisk}
 use Rattle.roster.specs.State.{State}
-use Rattle.writing.specs.Kept.{KeepOthers}
-use Rattle.writing.specs.Outcomes.{CrashAddsOnly, HoldsNow, CrashLeavesOnly, ShowsOnly, StaysOpen}
+use Rattle.writing.specs.Beside.{KeepOthers}
+use Rattle.state_rows.specs.Outcomes.{CrashAddsOnly, HoldsNow, CrashLeavesOnly, ShowsOnly, StaysOpen}
 use Rattle.lookup.proofs.Changes.{changes_then}
 use Rattle.lookup.specs.Reads.{ChangesNothing, IsOpen}
 use Rattle.book.specs.Headline.{SparesOthers, Untouched}

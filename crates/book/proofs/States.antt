@@ -35,14 +35,14 @@ use Rattle.roster.specs.contracts.state.Roster as roster_type
 use Rattle.roster.specs.declared.change.Verdict.{Verdict}
 use Rattle.roster.specs.declared.change.Verdict.TheVariants.{Accept, Refuse, Repeat}
 use Rattle.roster.specs.declared.state.LoggedCommand.{LoggedCommand}
-use Rattle.loading.specs.SameRows.{EitherRows, HasInstants}
-use Rattle.loading.proofs.SameEditions.{database_holds_one_of_either}
-use Rattle.loading.proofs.SameStates.{database_holds_one_state}
+use Rattle.entries.specs.SameRows.{EitherRows, HasInstants}
+use Rattle.entries.proofs.SameEditions.{database_holds_one_of_either}
+use Rattle.entries.proofs.SameStates.{database_holds_one_state}
 use Rattle.state_rows.specs.Rows.{FirstRows, Rows}
 use Rattle.store.specs.Found.{IsFound}
 use Rattle.store.specs.Loaded.{CrashMayMigrate, IsLoaded}
-use Rattle.writing.specs.Kept.{IsBookOf, IsFirstBookOf, HoldBookOf, HoldFirstBookOf}
-use Rattle.writing.specs.Outcomes.{CrashAddsNothing, HoldsNow, CrashLeaves, CrashLeavesSome, either, one}
+use Rattle.state_rows.specs.Kept.{IsBookOf, IsFirstBookOf, HoldBookOf, HoldFirstBookOf}
+use Rattle.state_rows.specs.Outcomes.{CrashAddsNothing, HoldsNow, CrashLeaves, CrashLeavesSome, either, one}
 use Rattle.book.specs.Kept.{IsKept, Keeps, KeepsEither, StillHolds, either_kept}
 
 some_same : {A : Type 0} {a b : A} → Some a ≡ Some b → a ≡ b

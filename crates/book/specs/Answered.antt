@@ -14,8 +14,8 @@ use Rattle.roster.specs.declared.change.Verdict.TheVariants.{Refuse}
 use Rattle.state_rows.specs.declared.fault.StoreFault.{StoreFault}
 use Rattle.state_rows.specs.declared.fault.StoreFault.TheVariants.{Store, Memory}
 use Rattle.lookup.specs.Reads.{ChangesNothing, IsCausedIfStore}
-use Rattle.writing.specs.Kept.{KeepOthers}
-use Rattle.writing.specs.Outcomes.{CrashAddsOnly, CrashLeaves, CrashLeavesSome, StaysOpen}
+use Rattle.writing.specs.Beside.{KeepOthers}
+use Rattle.state_rows.specs.Outcomes.{CrashAddsOnly, CrashLeaves, CrashLeavesSome, StaysOpen}
 use Rattle.book.specs.Headline.{BreaksNoLimit, IsAcceptance, IsHeld, IsRefusal, KeepsHeld}
 use Rattle.book.specs.Headline.{MakesNoChange, SparesOthers, StaysHeld, Untouched}
 use Rattle.book.specs.Kept.{HasTables, IsDurablyAt, IsClean, IsInDoubt, Kept}

@@ -5,8 +5,8 @@ use Rattle.sqlite.specs.State.{HasCleanDisk}
 use Rattle.roster.specs.State.{State}
 use Rattle.state_rows.specs.declared.fault.StoreFault.{StoreFault}
 use Rattle.state_rows.specs.declared.fault.StoreFault.TheVariants.{Store, Memory}
-use Rattle.writing.specs.Kept.{KeepOthers}
-use Rattle.writing.specs.Outcomes.{CrashAddsOnly, CrashLeaves, CrashLeavesSome, HoldsNow, StaysOpen}
+use Rattle.writing.specs.Beside.{KeepOthers}
+use Rattle.state_rows.specs.Outcomes.{CrashAddsOnly, CrashLeaves, CrashLeavesSome, HoldsNow, StaysOpen}
 use Rattle.book.specs.Kept.{Keeps, StillHolds, either_kept}
 
 -- What the result of a command leaves: the tables of the state that was wanted; after want of

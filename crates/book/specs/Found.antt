@@ -6,18 +6,17 @@ use Rattle.sqlite_wal.specs.Reads.{AreClean}
 use Rattle.sqlite_wal.specs.Recovery.{Image}
 use Rattle.sqlite_trees.specs.Tree.{Trees}
 use Rattle.sqlite_trees.specs.View as view
-use Rattle.sqlite_schema.specs.declared.schema.Schema.{Schema}
 use Rattle.sqlite.specs.Closing.{HoldsAlone}
 use Rattle.sqlite.specs.Effect.{Database, IsDatabase}
 use Rattle.sqlite.specs.Files.{AreFoundIn, HoldsDatabase, file_state, image_of, over_files}
 use Rattle.sqlite.specs.State as conn
 use Rattle.sqlite_store.specs.declared.store.FileStore.{FileStore}
 use Rattle.loading.specs.Loading.{Justifies}
-use Rattle.loading.specs.declared.fault.LoadFault.{LoadFault}
+use Rattle.entries.specs.declared.fault.LoadFault.{LoadFault}
 use Rattle.roster.specs.State.{State}
 use Rattle.store.specs.Found.{IsFoundIn}
-use Rattle.writing.specs.Kept.{HoldBookOf, HoldFirstBookOf}
-use Rattle.writing.specs.Outcomes.{HoldsNow, either}
+use Rattle.state_rows.specs.Kept.{HoldBookOf, HoldFirstBookOf}
+use Rattle.state_rows.specs.Outcomes.{HoldsNow, either}
 use Rattle.book.specs.Kept.{IsKept, Keeps, Kept, either_kept}
 use Rattle.book.specs.declared.file.FilesLeft.{FilesLeft}
 use Rattle.book.specs.declared.file.FilesLeft.TheVariants.{Closed, Unclosed}

@@ -9,13 +9,13 @@ use Rattle.sqlite.specs.Held.{Held, held_code, state}
 use Rattle.roster.specs.Folds.{Asked, Fold, ReplyOrRefusal}
 use Rattle.roster.specs.Sound.{Sound}
 use Rattle.roster.specs.State.{State}
-use Rattle.loading.specs.SameRows.{HasInstants}
+use Rattle.entries.specs.SameRows.{HasInstants}
 use Rattle.state_rows.specs.declared.fault.StoreFault.{StoreFault}
 use Rattle.state_rows.specs.declared.fault.StoreFault.TheVariants.{Store, Memory}
 use Rattle.store.specs.Found.{IsFound}
-use Rattle.writing.specs.Kept.{IsBookOf}
-use Rattle.writing.specs.Outcomes.{CrashLeaves, CrashLeavesEither, CrashLeavesSome}
-use Rattle.writing.specs.Outcomes.{HoldsNow, one, either}
+use Rattle.state_rows.specs.Kept.{IsBookOf}
+use Rattle.state_rows.specs.Outcomes.{CrashLeaves, CrashLeavesEither, CrashLeavesSome}
+use Rattle.state_rows.specs.Outcomes.{HoldsNow, one, either}
 use Rattle.book.specs.declared.answer.Answer.{Answer}
 use Rattle.book.specs.declared.answer.Answer.TheVariants.{Accepted, Refused}
 

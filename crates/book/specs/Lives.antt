@@ -1,6 +1,6 @@
 -- Whole lives of a book: it is made, or found in version 1 or 2; called; stopped anywhere; taken up
 -- again over what a crash left, where an opening may be stopped too; and called again.
-use Rattle.std.specs.Prelude.{◌≡◌, ℕ, zero, suc, Bool, false, if◌then◌else◌, ◌⊎◌}
+use Rattle.std.specs.Prelude.{◌≡◌, ℕ, zero, suc, Bool, false, ◌⊎◌}
 use Rattle.std.specs.Prelude.{List, [], ◌∷◌, ◌++◌, drop, length, take}
 use Rattle.std.specs.List.{flat_map}
 use Rattle.sqlite_trees.specs.declared.store.Store.{Ghosts}
@@ -9,7 +9,7 @@ use Rattle.sqlite.specs.State.{HasCleanDisk, Opens}
 use Rattle.roster.specs.Folds.{Asked, Fold, Replies, ReplyOrRefusal}
 use Rattle.roster.specs.Honest.{Honest}
 use Rattle.roster.specs.State.{State}
-use Rattle.writing.specs.Outcomes.{CrashLeaves, CrashLeavesSome}
+use Rattle.state_rows.specs.Outcomes.{CrashLeaves, CrashLeavesSome}
 use Rattle.book.specs.Calls.{AreCalls, Call}
 use Rattle.book.specs.Kept.{IsDurablyAt, Kept, KeepsEither, is_some_store_fault}
 

@@ -7,8 +7,8 @@ use Rattle.roster.specs.Folds.{Asked, Fold, Replies, Session, Stopped}
 use Rattle.roster.specs.Honest.{Honest}
 use Rattle.roster.specs.State.{State}
 use Rattle.state_rows.specs.declared.fault.StoreFault.TheVariants.{Memory, Store}
-use Rattle.writing.specs.Kept.{KeepOthers}
-use Rattle.writing.specs.Outcomes.{CrashAddsOnly, CrashLeaves, CrashLeavesSome, StaysOpen}
+use Rattle.writing.specs.Beside.{KeepOthers}
+use Rattle.state_rows.specs.Outcomes.{CrashAddsOnly, CrashLeaves, CrashLeavesSome, StaysOpen}
 use Rattle.book.specs.Headline.{KeepsHeld, SparesOthers, Untouched}
 use Rattle.book.specs.Kept.{Ends, HasTables, IsDurablyAt, IsClean, Kept}
 use Rattle.book.specs.Kept.{StillHasTables, is_some_store_fault, result_of}

@@ -9,7 +9,7 @@ ghost use Rattle.sqlite.specs.Start.{FindsIn};
 ghost use Rattle.sqlite.specs.State.{HasCleanDisk};
 ghost use Rattle.loading.specs.Loading.{Justifies};
 ghost use Rattle.roster.specs.State.{State, empty};
-ghost use Rattle.writing.specs.Outcomes.{IsOutside};
+ghost use Rattle.state_rows.specs.Outcomes.{IsOutside};
 ghost use Rattle.book.specs.Kept.{IsClean, IsDurablyAt, HasFoundBook};
 ghost use Rattle.book.specs.Found.{IsCleanLeft, IsFaultOf, LeavesBook, LeavesByCrash, MeansWhatIsIn};
 

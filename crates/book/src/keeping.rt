@@ -3,7 +3,7 @@
 //! What contracts see of it is `specs/Kept.antt`. What an answer and a run come to are the records of
 //! `specs/Answered.antt` and `specs/Ran.antt`, in the words of `specs/Headline.antt`.
 //! Worked rows: `tests/answers.py`; the rows that are left: `tests/tables.py`. Wrong bodies: `must-fail/`.
-ghost use Rattle.std.specs.Prelude.{ℕ, Option, ◌≡◌, ◌<◌, ◌⊎◌, ◌||◌, ◌↔◌, false, Err, IfErr, IfOk, IsErrAnd, IsTrue, List, None, OnOk, Some};
+ghost use Rattle.std.specs.Prelude.{ℕ, Option, ◌≡◌, ◌⊎◌, ◌||◌, ◌↔◌, false, Err, IfErr, IfOk, IsErrAnd, IsTrue, List, None, OnOk, Some};
 ghost use Rattle.sqlite.specs.Held.{state};
 ghost use Rattle.sqlite.specs.State.{HasCleanDisk};
 ghost use Rattle.command.specs.declared.exceedance.Reply.{Reply};
@@ -14,15 +14,14 @@ ghost use Rattle.roster.specs.Steps.{step_of};
 ghost use Rattle.lookup.specs.Reads.{ChangesNothing, IsCausedIfStore, IsOpen};
 ghost use Rattle.writing.specs.Commits.{AreTablesMade, IsNotMade};
 ghost use Rattle.writing.specs.Making.{IsFree};
-ghost use Rattle.writing.specs.Outcomes.{CrashLeavesSome, IsOutside};
+ghost use Rattle.state_rows.specs.Outcomes.{CrashLeavesSome, IsOutside};
 ghost use Rattle.book.specs.Answered.{IsAnswered};
 ghost use Rattle.book.specs.Ran.{HasRun};
 ghost use Rattle.book.specs.Asking.{StepOutcome};
 ghost use Rattle.book.specs.Headline.{IsRefusal, SparesOthers};
 ghost use Rattle.store.specs.Loaded.{IsLoaded, IsNotLoaded};
 ghost use Rattle.store.specs.Shown.{IsShown};
-ghost use Rattle.book.specs.Kept.{HasOne, HasTables, IsDurablyAt, IsClean, Keeps, KeepsEither, HasFoundBook, StillHolds};
-ghost use Rattle.book.specs.Kept.{is_store_fault, result_of};
+ghost use Rattle.book.specs.Kept.{HasOne, HasTables, IsDurablyAt, IsClean, Keeps, KeepsEither, HasFoundBook, StillHolds, is_store_fault, result_of};
 
 use crate::answer::{Answer, Run};
 use command::{Command, Instruction, Key};
@@ -54,7 +53,7 @@ impl<S: Alter + Drop> Drop for Book<S> {
 impl<S: Alter> Model for Book<S> {
     ghost use Rattle.std.specs.Prelude.{◌≡◌, false};
     ghost use Rattle.sqlite.specs.Held.{state};
-    ghost use Rattle.writing.specs.Outcomes.{CrashLeavesSome};
+    ghost use Rattle.state_rows.specs.Outcomes.{CrashLeavesSome};
     ghost use Rattle.book.specs.Kept.{HasOne, Kept, kept_code};
 
     ghost Value = { Kept S };

@@ -16,9 +16,9 @@ use Rattle.roster.specs.State.{State, empty}
 use Rattle.roster.proofs.Accepted.{insert_here}
 use Rattle.state_rows.proofs.Lists.{some_same}
 use Rattle.state_rows.specs.First.{IsFirst}
-use Rattle.loading.specs.Loading.{AreBased, AreBases}
+use Rattle.entries.specs.Right.{AreBased, AreBases}
 use Rattle.loading.specs.Reading.{AreAtHome, HasNoLater}
-use Rattle.loading.specs.declared.fault.LoadFault.{LoadFault}
+use Rattle.entries.specs.declared.fault.LoadFault.{LoadFault}
 
 -- ---- HOME alone
 

@@ -14,9 +14,9 @@ use Rattle.roster.specs.State.{State}
 use Rattle.roster.specs.declared.state.DutyId.{DutyId}
 use Rattle.roster.specs.declared.state.ExceedanceId.{ExceedanceId}
 use Rattle.roster.specs.declared.state.PairingEntry.{PairingEntry}
-use Rattle.loading.specs.Loading.{IsBookRight, IsCrewRight, IsExceedance, IsGround, IsMember, IsOfEdition, IsRequestRight, IsSeated}
-use Rattle.loading.proofs.LaterTables.{one_edition}
-use Rattle.loading.proofs.SameStates.{HasAlike}
+use Rattle.entries.specs.Right.{IsBookRight, IsCrewRight, IsExceedance, IsGround, IsMember, IsOfEdition, IsRequestRight, IsSeated}
+use Rattle.entries.proofs.Editions.{one_edition}
+use Rattle.entries.proofs.SameStates.{HasAlike}
 use Rattle.state_rows.specs.Rows.{InCrew, row_of_book, row_of_member}
 use Rattle.state_rows.specs.declared.edition.Edition.TheVariants.{Second}
 

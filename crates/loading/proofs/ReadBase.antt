@@ -18,16 +18,18 @@ use Rattle.tables.specs.Records.{IsBaseRow, base_row}
 use Rattle.tables.specs.Rows.{begins_with}
 use Rattle.tables.specs.Schema.{base_table}
 use Rattle.tables.specs.declared.base.BaseRecord.{BaseRecord}
-use Rattle.loading.proofs.Ascii.{id_utf8, zone_utf8}
+use Rattle.entries.proofs.Ascii.{id_utf8, zone_utf8}
 use Rattle.loading.proofs.Homes.{zone_there}
-use Rattle.loading.proofs.LaterTables.{its_table, next_base}
-use Rattle.loading.proofs.Mapping.{all_taken, has_at, mapped_at, mapped_place, nothing_mapped, of_taken, one_more, take_next}
+use Rattle.entries.proofs.Editions.{its_table, next_base}
+use Rattle.entries.proofs.Mapping.{all_taken, has_at, mapped_at, mapped_place, nothing_mapped, of_taken, one_more, take_next}
 use Rattle.loading.proofs.Moved.{alike_itself, request_stays}
-use Rattle.loading.specs.Loading.{AreRight, IsBookRight, IsOfEdition, IsRequestRight}
-use Rattle.loading.specs.Reading.{AgreesIn, AreBasesRead, AreNoBases, AreOnce, BasesRead, Blames, HasHome, HasRows, HasStranger, IsReadAs, IsShaped, IsUnreadable, Mapped, TellsOf}
-use Rattle.loading.specs.declared.fault.LoadFault.{LoadFault}
-use Rattle.loading.specs.declared.fault.LoadFault.TheVariants.{NotABook, Version, Damaged, Fault}
-use Rattle.loading.specs.declared.fault.TableName.TheVariants as table_name
+use Rattle.entries.specs.Right.{AreRight, IsBookRight, IsOfEdition, IsRequestRight}
+use Rattle.loading.specs.Reading.{AgreesIn, AreBasesRead, AreNoBases, BasesRead, HasHome, HasRows, IsReadAs, IsShaped, IsUnreadable}
+use Rattle.entries.specs.Mapping.{AreOnce, HasStranger, Mapped, TellsOf}
+use Rattle.entries.specs.Faults.{Blames}
+use Rattle.entries.specs.declared.fault.LoadFault.{LoadFault}
+use Rattle.entries.specs.declared.fault.LoadFault.TheVariants.{NotABook, Version, Damaged, Fault}
+use Rattle.entries.specs.declared.fault.TableName.TheVariants as table_name
 use Rattle.state_rows.proofs.Lists.{some_same}
 use Rattle.state_rows.proofs.Tests.{passes}
 use Rattle.state_rows.proofs.Values.{text_is}

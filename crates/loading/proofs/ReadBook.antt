@@ -14,21 +14,22 @@ use Rattle.tables.specs.Calls.{CrashLeavesNoMore}
 use Rattle.tables.specs.Records.{IsBookRow, book_row}
 use Rattle.tables.specs.Rows.{rows_of}
 use Rattle.tables.specs.declared.book.BookRecord.{BookRecord}
-use Rattle.loading.proofs.Ascii.{zone_utf8}
 use Rattle.loading.proofs.Homes.{begun, begun_empty}
-use Rattle.loading.proofs.Mapping.{mapped_at}
+use Rattle.entries.proofs.Mapping.{mapped_at}
 use Rattle.loading.proofs.Telling.{nothing_left, unread}
 use Rattle.state_rows.proofs.Values.{text_is}
-use Rattle.loading.specs.Loading.{IsCaused, IsNoBook, IsOfOtherVersion, AreRight, IsDamaged, Justifies, named}
+use Rattle.loading.specs.Loading.{IsCaused, IsNoBook, IsOfOtherVersion, IsDamaged, Justifies, named}
+use Rattle.entries.specs.Right.{AreRight}
 use Rattle.loading.specs.Reading.{AgreesIn, ReadsAs, BlamesBook, BlamesOrFails, HasRows, IsEditionNumber, IsNoBookRow, IsOnly, IsUnreadable, book_of}
 use Rattle.state_rows.specs.Editions.{edition_number}
 use Rattle.state_rows.specs.Rows.{book, table}
 use Rattle.state_rows.specs.declared.fault.StoreFault.TheVariants.{Memory, Store}
 use Rattle.state_rows.specs.declared.edition.Edition.{Edition}
 use Rattle.state_rows.specs.declared.edition.Edition.TheVariants.{First, Second}
-use Rattle.loading.specs.declared.fault.LoadFault.{LoadFault}
-use Rattle.loading.specs.declared.fault.LoadFault.TheVariants.{NotABook, Version, Damaged, Fault}
-use Rattle.loading.specs.declared.fault.TableName.TheVariants as table_name
+use Rattle.entries.specs.declared.fault.LoadFault.{LoadFault}
+use Rattle.entries.specs.declared.fault.LoadFault.TheVariants.{NotABook, Version, Damaged, Fault}
+use Rattle.entries.specs.declared.fault.TableName.TheVariants as table_name
+use Rattle.entries.proofs.RightRows.{book_rows}
 
 -- ---- One record
 
@@ -130,7 +131,7 @@ only_rows db records it read only row = (λ h. (only.all row).0 ((read.all row).
 
 pub not_unreadable : (db : Database) → IsUnreadable book IsBookRow db → AreRight book db → ⊥
 not_unreadable db (inl none) right = none right.1.0.0
-not_unreadable db (inr x) right = x.3 (book_of right.1.0.1.0 (home_zone right.0.bases), zone_utf8 (home_zone right.0.bases) right.1.1, (right.1.0.1.1 x.0).0 x.1)
+not_unreadable db (inr x) right = x.3 (book_rows db x.0 x.1 right)
 
 not_other : (db : Database) → IsUnreadable book IsBookRow db → IsOfOtherVersion db → ⊥
 not_other db (inl none) other = none other.there

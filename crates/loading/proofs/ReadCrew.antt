@@ -1,5 +1,5 @@
 -- The table `crew`: what its records tell, and when it is right.
-use Rattle.std.proofs.Common.{◌≡◌, inl, inr, refl, sym, ap, subst, ◌∙◌, arith, ℕ, zero, suc, ◌<◌, ◌^◌, true, false, List, [], ◌∷◌, map, take, slice_get, ◌+◌, length, Option, Some, None, Result, Ok, Err, MatchResult, IsUtf8}
+use Rattle.std.proofs.Common.{◌≡◌, inl, inr, refl, sym, ap, subst, ◌∙◌, ℕ, zero, suc, true, false, List, [], ◌∷◌, map, take, slice_get, ◌+◌, length, Option, Some, None, Result, Ok, Err, MatchResult, IsUtf8}
 use Rattle.std.specs.FinMap as fin
 use Rattle.sqlite_value.specs.declared.value.Value.TheVariants.{Text}
 use Rattle.sqlite_value.specs.Order.{Row, column}
@@ -20,17 +20,21 @@ use Rattle.tables.specs.Calls.{CrashLeavesNoMore}
 use Rattle.tables.specs.Records.{IsCrewRow, crew_row}
 use Rattle.tables.specs.Rows.{begins_with}
 use Rattle.tables.specs.declared.crew.CrewRecord.{CrewRecord}
-use Rattle.loading.proofs.Ascii.{id_utf8}
 use Rattle.loading.proofs.Homes.{none_at_home, one_at_home}
-use Rattle.loading.proofs.Mapping.{all_taken, nothing_mapped, next_mapped, mapped_at, mapped_place}
+use Rattle.entries.proofs.Mapping.{all_taken, nothing_mapped, next_mapped, mapped_at, mapped_place}
 use Rattle.state_rows.proofs.Tests.{passes}
 use Rattle.state_rows.proofs.Values.{text_is, number_is}
-use Rattle.loading.proofs.Telling.{unread, of_blame, clean_before, or_fails, uncaused}
-use Rattle.loading.specs.Loading.{IsCaused, IsMember, IsRight, AreRight, IsDamaged, Justifies}
-use Rattle.loading.specs.Reading.{seat_of, AreAtHome, MembersRead, ReadsAs, Blames, BlamesOrFails, HasRows, IsUnreadable, AgreesThrough, Mapped, AreOnce, TellsOf, HasStranger}
-use Rattle.loading.specs.declared.fault.LoadFault.{LoadFault}
-use Rattle.loading.specs.declared.fault.TableName.TheVariants as table_name
+use Rattle.loading.proofs.Telling.{unread, of_blame, or_fails, uncaused}
+use Rattle.state_rows.proofs.Outcomes.{clean_before}
+use Rattle.loading.specs.Loading.{IsCaused, IsDamaged, Justifies}
+use Rattle.entries.specs.Right.{IsMember, IsRight, AreRight}
+use Rattle.loading.specs.Reading.{seat_of, AreAtHome, MembersRead, ReadsAs, BlamesOrFails, HasRows, IsUnreadable, AgreesThrough}
+use Rattle.entries.specs.Faults.{Blames}
+use Rattle.entries.specs.Mapping.{Mapped, AreOnce, TellsOf, HasStranger}
+use Rattle.entries.specs.declared.fault.LoadFault.{LoadFault}
+use Rattle.entries.specs.declared.fault.TableName.TheVariants as table_name
 use Rattle.state_rows.specs.Rows.{seat_number, row_of_member, crew, book}
+use Rattle.entries.proofs.RightRows.{crew_rows}
 
 pub seat_known : (seat : Seat) → seat_of (seat_number seat) ≡ Some seat
 seat_known Captain = refl
@@ -95,18 +99,10 @@ module _ (records : List CrewRecord) (at : ℕ) (it : CrewRecord) (there : slice
 
 -- ---- The table
 
-pub number_fits : (seat : Seat) → seat_number seat < 2 ^ 32
-number_fits Captain = omega arith
-number_fits FirstOfficer = omega arith
-
 -- where it is right, it is there, and each row is the record of a member
 pub not_unreadable : (db : Database) → IsUnreadable crew IsCrewRow db → AreRight crew db → ⊥
 not_unreadable db (inl none) right = none right.1.1.0
-not_unreadable db (inr x) right =
-    let it = (right.1.1.1 x.0).0 x.1 in
-    let at = it.0 in
-    let is = right.1.2 at.name at.value at.there in
-    x.3 (record { id = at.name; seat = seat_number at.value.seat; name = at.value.name }, id_utf8 at.name is.id_shape, number_fits at.value.seat, is.utf8, it.1)
+not_unreadable db (inr x) right = x.3 (crew_rows db x.0 x.1 right)
 
 no_stranger : (db : Database) (rows : List Row) → HasRows crew db rows → HasStranger row_of_member IsMember rows → AreRight crew db → ⊥
 no_stranger db rows read stranger right =

@@ -14,16 +14,18 @@ use Rattle.tables.specs.Records.{IsCrewBaseRow, crew_base_row}
 use Rattle.tables.specs.Rows.{begins_with}
 use Rattle.tables.specs.Schema.{crew_base_table}
 use Rattle.tables.specs.declared.crew_base.CrewBaseRecord.{CrewBaseRecord}
-use Rattle.loading.proofs.Ascii.{id_utf8}
-use Rattle.loading.proofs.LaterTables.{its_table, next_base, next_crew_base}
-use Rattle.loading.proofs.Mapping.{all_taken, nothing_mapped, next_mapped, mapped_at, mapped_place}
+use Rattle.entries.proofs.Ascii.{id_utf8}
+use Rattle.entries.proofs.Editions.{its_table, next_base, next_crew_base}
+use Rattle.entries.proofs.Mapping.{all_taken, nothing_mapped, next_mapped, mapped_at, mapped_place}
 use Rattle.loading.proofs.Moved.{request_stays}
-use Rattle.loading.proofs.SameStates.{HasAlike, bases_told, crew_told}
-use Rattle.loading.specs.Loading.{AreRight, IsBaseRight, IsOfEdition}
-use Rattle.loading.specs.Reading.{AgreesIn, AreAllPosted, AreOnce, ArePosted, AreUnposted, Blames, HasRows, HasStranger, IsPosted, IsReadAs, IsUnreadable, Mapped, PostsRead, TellsOf, row_of_posted}
-use Rattle.loading.specs.declared.fault.LoadFault.{LoadFault}
-use Rattle.loading.specs.declared.fault.LoadFault.TheVariants.{NotABook, Version, Damaged, Fault}
-use Rattle.loading.specs.declared.fault.TableName.TheVariants as table_name
+use Rattle.entries.proofs.SameStates.{HasAlike, bases_told, crew_told}
+use Rattle.entries.specs.Right.{AreRight, IsBaseRight, IsOfEdition}
+use Rattle.loading.specs.Reading.{AgreesIn, AreAllPosted, ArePosted, AreUnposted, HasRows, IsPosted, IsReadAs, IsUnreadable, PostsRead, row_of_posted}
+use Rattle.entries.specs.Mapping.{AreOnce, HasStranger, Mapped, TellsOf}
+use Rattle.entries.specs.Faults.{Blames}
+use Rattle.entries.specs.declared.fault.LoadFault.{LoadFault}
+use Rattle.entries.specs.declared.fault.LoadFault.TheVariants.{NotABook, Version, Damaged, Fault}
+use Rattle.entries.specs.declared.fault.TableName.TheVariants as table_name
 use Rattle.state_rows.proofs.Lists.{one_value}
 use Rattle.state_rows.proofs.Tests.{passes}
 use Rattle.state_rows.proofs.Values.{text_is}

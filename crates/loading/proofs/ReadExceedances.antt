@@ -1,8 +1,7 @@
 -- The table `exceedance`: what its records tell, and when it is right.
-use Rattle.std.proofs.Common.{◌≡◌, inl, inr, refl, sym, ap, subst, ◌∙◌, arith, ℕ, pos, ◌<◌, ◌≤◌, ◌^◌, true, false, List, [], ◌∷◌, map, take, slice_get, ◌+◌, length, Option, Some, None, Result, Ok, Err, MatchResult, IsUtf8}
+use Rattle.std.proofs.Common.{◌≡◌, inl, inr, refl, sym, ap, subst, ◌∙◌, arith, ℕ, pos, ◌<◌, ◌≤◌, true, false, List, [], ◌∷◌, map, take, slice_get, ◌+◌, length, Option, Some, None, Result, Ok, Err, MatchResult, IsUtf8}
 use Rattle.std.specs.FinMap as fin
 use Rattle.std.specs.Prelude.{is_some}
-use Rattle.std.proofs.lemmas.Option.{slice_get_within}
 use Rattle.values.specs.Name.{name_cmp}
 use Rattle.sqlite_value.specs.declared.value.Value.TheVariants.{Int, Text}
 use Rattle.sqlite_value.specs.Order.{Row, column}
@@ -12,7 +11,6 @@ use Rattle.sqlite.specs.State.{HasCleanDisk, IsUnchanged}
 use Rattle.sqlite.specs.State as conn
 use Rattle.limits.specs.SectionText.{section_number}
 use Rattle.limits.specs.declared.section.Section.{Section}
-use Rattle.limits.specs.declared.section.Section.TheVariants.{FlightTime, FlightDutyPeriod, FlightTime672Hours, FlightTime365Days, FlightDutyPeriods168Hours, FlightDutyPeriods672Hours, ThirtyHourRest, TenHourRest}
 use Rattle.command.specs.Keys.{KeyParts}
 use Rattle.command.specs.declared.member.Member.{Member}
 use Rattle.roster.specs.Entries.{put}
@@ -30,31 +28,31 @@ use Rattle.tables.specs.Records.{IsExceedanceRow, exceedance_row}
 use Rattle.tables.specs.Rows.{rows_of, begins_with}
 use Rattle.tables.specs.Schema.{BookTable, pairing_table, period_table, segment_table, seat_table, exceedance_table}
 use Rattle.tables.specs.declared.exceedance.ExceedanceRecord.{ExceedanceRecord}
-use Rattle.loading.proofs.Ascii.{id_utf8}
-use Rattle.loading.proofs.Duties.{IsAboveZero, duties_same}
-use Rattle.state_rows.proofs.FewPeriods.{few_periods}
-use Rattle.loading.proofs.LaterTables.{one_edition}
-use Rattle.loading.proofs.Mapping.{all_taken, nothing_mapped, next_mapped, mapped_at, mapped_place}
+use Rattle.entries.proofs.Duties.{IsAboveZero, duties_same}
+use Rattle.entries.proofs.Editions.{one_edition}
+use Rattle.entries.proofs.Mapping.{all_taken, nothing_mapped, next_mapped, mapped_at, mapped_place}
 use Rattle.loading.proofs.ReadGrounds.{crew_part, members_same}
-use Rattle.loading.proofs.SamePairings.{same_pairing}
+use Rattle.entries.proofs.SamePairings.{same_pairing}
 use Rattle.state_rows.proofs.Tests.{passes}
 use Rattle.state_rows.proofs.Values.{ids_same, int_is, text_is, number_is}
-use Rattle.loading.proofs.Telling.{unread, of_blame, clean_before, or_fails, uncaused}
-use Rattle.loading.specs.Loading.{IsCaused, IsKey, IsExceedance, IsOfEdition, IsRecorded, ArePlanned, AreSeated, name_of, IsRight, IsSeatRight, AreRight, IsDamaged, Justifies}
-use Rattle.loading.specs.Reading.{CanName, ExceedancesRead, IsDutyOf, IsExceedanceIn, IsInRange, row_of_recorded, ReadsAs, Blames, BlamesOrFails, HasRows, IsUnreadable, AgreesThrough, Mapped, AreOnce, TellsOf, HasStranger}
-use Rattle.loading.specs.declared.fault.LoadFault.{LoadFault}
-use Rattle.loading.specs.declared.fault.TableName.TheVariants as table_name
+use Rattle.loading.proofs.Telling.{unread, of_blame, or_fails, uncaused}
+use Rattle.state_rows.proofs.Outcomes.{clean_before}
+use Rattle.loading.specs.Loading.{IsCaused, IsDamaged, Justifies}
+use Rattle.entries.specs.Right.{IsKey, IsExceedance, IsOfEdition, IsRecorded, ArePlanned, AreSeated, name_of, IsRight, IsSeatRight, AreRight}
+use Rattle.loading.specs.Reading.{CanName, ExceedancesRead, IsExceedanceIn, ReadsAs, BlamesOrFails, HasRows, IsUnreadable, AgreesThrough}
+use Rattle.entries.specs.Exceedances.{IsDutyOf, IsInRange, row_of_recorded}
+use Rattle.entries.specs.Faults.{Blames}
+use Rattle.entries.specs.Mapping.{Mapped, AreOnce, TellsOf, HasStranger}
+use Rattle.entries.specs.declared.fault.LoadFault.{LoadFault}
+use Rattle.entries.specs.declared.fault.TableName.TheVariants as table_name
 use Rattle.state_rows.specs.First.{IsOfPairing}
 use Rattle.state_rows.specs.Rows.{HasJust, named_id, named_number, row_of_pairing, exceedance, ground_duty}
 use Rattle.state_rows.specs.declared.edition.Edition.{Edition}
 use Rattle.state_rows.specs.declared.edition.Edition.TheVariants.{First, Second}
+use Rattle.entries.proofs.RecordedDuties.{recorded_above, period_fits}
+use Rattle.entries.proofs.RightRows.{exceedance_rows}
 
 -- ---- One record
-
--- the number of a period with an actual is above 0
-pub recorded_above : (pairings : fin.FinMap name_cmp PairingEntry) (named : DutyId) → IsRecorded pairings named → IsAboveZero named
-recorded_above pairings (Period p) is = let n = is.number in omega (arith, n)
-recorded_above pairings (Outside id) is = tt
 
 range_above : (named : DutyId) → IsInRange named → IsAboveZero named
 range_above (Period p) is = is.0
@@ -208,26 +206,7 @@ known_here s t db a b id named is = let alike = members_same s t db (crew_part s
   of_duty = recorded_here s t db a b named is.of_duty;
 }
 
--- the number of a period with an actual has eight bits, since a pairing has few periods
-pub period_fits : (s : State) → ArePlanned s → (named : DutyId) → IsRecorded s.pairings named → named_number named < 256
-period_fits s planned (Period p) is =
-    let r = planned p.pairing is.rostered is.of_pairing in
-    let few = few_periods is.rostered.plan r.plan in
-    let within = slice_get_within is.rostered.actuals is.place (Some is.actual) is.flown in
-    omega (arith, few, within, r.places, is.number)
-period_fits s planned (Outside id) is = omega arith
-
 -- ---- The table
-
--- where it is right, each row is that of an exceedance
-pub recorded_in : (s : State) (db : Database) → IsRight exceedance s db → (row : Row) → Has (rows_of exceedance_table db) row →
-    (id : ExceedanceId) × (named : DutyId) × (row ≡ row_of_recorded id named) × IsExceedance s.crew s.pairings id named
-recorded_in s db right row here =
-    let it = (right.1.1 row).0 here in
-    let at = it.0 in
-    let known = right.2 (exceedance_name at.key at.crew at.section) at.named at.there in
-    let same : record { key = at.key; crew = at.crew; section = at.section } ≡ known.0 = ids_same _ known.0 known.1 in
-    (known.0, at.named, it.1 ∙ ap (λ (id : ExceedanceId). row_of_recorded id at.named) same, known.2)
 
 -- and what each names, one in a file of this version can name
 can_name : (s : State) (db : Database) (edition : Edition) → IsOfEdition edition db → (named : DutyId) → IsRecorded s.pairings named → (IsOfEdition First db → IsOfPairing named) → CanName edition s.pairings named
@@ -237,11 +216,18 @@ can_name s db Second of (Outside id) is first = tt
 
 named_in : (s : State) (db : Database) (edition : Edition) → IsOfEdition edition db → IsRight exceedance s db → (row : Row) → Has (rows_of exceedance_table db) row →
     (id : ExceedanceId) × (named : DutyId) × (row ≡ row_of_recorded id named) × IsExceedance s.crew s.pairings id named × CanName edition s.pairings named
-unfolding recorded_in
 named_in s db edition of right row here =
-    let at = ((right.1.1 row).0 here).0 in
-    let it = recorded_in s db right row here in
-    (it.0, it.1, it.2, it.3, can_name s db edition of it.1 it.3.of_duty (λ first. right.3 first (exceedance_name at.key at.crew at.section) at.named at.there))
+    let it = (right.1.1 row).0 here in
+    let at = it.0 in
+    let name = exceedance_name at.key at.crew at.section in
+    let known = right.2 name at.named at.there in
+    let same : record { key = at.key; crew = at.crew; section = at.section } ≡ known.0 = ids_same _ known.0 known.1 in (
+      known.0,
+      at.named,
+      it.1 ∙ ap (λ (id : ExceedanceId). row_of_recorded id at.named) same,
+      known.2,
+      can_name s db edition of at.named known.2.of_duty (λ first. right.3 first name at.named at.there),
+    )
 
 -- in version 1 it is a period of a pairing
 of_pairing : (edition : Edition) (db : Database) → IsOfEdition edition db → IsOfEdition First db → (pairings : fin.FinMap name_cmp PairingEntry) (named : DutyId) → CanName edition pairings named → IsOfPairing named
@@ -249,40 +235,9 @@ of_pairing edition db of first pairings (Period p) can = tt
 of_pairing First db of first pairings (Outside id) can = can
 of_pairing Second db of first pairings (Outside id) can = absurd (one_edition db first of)
 
--- the id of what is named is a text
-id_is_text : (s : State) (db : Database) → IsSeatRight s db → (named : DutyId) → IsRecorded s.pairings named → IsUtf8 (named_id named)
-id_is_text s db down (Period p) is = id_utf8 p.pairing (down.0.0.0.2 p.pairing is.rostered is.of_pairing)
-id_is_text s db down (Outside id) is = is
-
-section_fits : (section : Section) → section_number section < 2 ^ 32
-section_fits FlightTime = omega arith
-section_fits FlightDutyPeriod = omega arith
-section_fits FlightTime672Hours = omega arith
-section_fits FlightTime365Days = omega arith
-section_fits FlightDutyPeriods168Hours = omega arith
-section_fits FlightDutyPeriods672Hours = omega arith
-section_fits ThirtyHourRest = omega arith
-section_fits TenHourRest = omega arith
-
 pub not_unreadable : (db : Database) → IsUnreadable exceedance IsExceedanceRow db → AreRight exceedance db → ⊥
 not_unreadable db (inl none) right = none right.1.1.0
-not_unreadable db (inr x) right =
-    let it = recorded_in right.0 db right.1 x.0 x.1 in
-    let id = it.0 in
-    let named = it.1 in
-    let is = it.3 in
-    let down = right.1.0.0 in
-    let part = is.is_key.2 in
-    let fits = period_fits right.0 down.0.3 named is.of_duty in
-    x.3 (
-      record { number = pos id.key.number; part = id.key.part; crew = id.crew; section = section_number id.section; pairing = named_id named; period = named_number named },
-      omega (arith, part),
-      id_utf8 id.crew ((crew_part right.0 db down).2 id.crew is.member is.of_member).id_shape,
-      section_fits id.section,
-      id_is_text right.0 db down named is.of_duty,
-      omega (arith, fits),
-      it.2,
-    )
+not_unreadable db (inr x) right = x.3 (exceedance_rows db x.0 x.1 right)
 
 itself : (id : ExceedanceId) (p : DutyId) → begins_with (Int (pos id.key.number) ∷ Int (pos id.key.part) ∷ Text id.crew ∷ Int (pos (section_number id.section)) ∷ []) (row_of_recorded id p) ≡ true
 itself id p = passes (Int (pos id.key.number) ∷ Int (pos id.key.part) ∷ Text id.crew ∷ Int (pos (section_number id.section)) ∷ []) (row_of_recorded id p) (refl, (refl, (refl, (refl, tt))))

@@ -1,8 +1,7 @@
 -- The table `ground`: what its records tell, and when it is right.
-use Rattle.std.proofs.Common.{◌≡◌, inl, inr, refl, sym, ap, subst, ◌∙◌, arith, ℕ, ◌<◌, ◌^◌, true, false, List, [], ◌∷◌, map, take, slice_get, ◌+◌, length, Option, Some, None, Result, Ok, Err, MatchResult, IsUtf8}
+use Rattle.std.proofs.Common.{◌≡◌, inl, inr, refl, sym, ap, subst, ◌∙◌, arith, ℕ, ◌<◌, true, false, List, [], ◌∷◌, map, take, slice_get, ◌+◌, length, Option, Some, None, Result, Ok, Err, MatchResult, IsUtf8}
 use Rattle.std.specs.FinMap as fin
 use Rattle.std.specs.Prelude.{is_some}
-use Rattle.std.proofs.lemmas.Bool.{cases_Bool}
 use Rattle.std.proofs.lemmas.Bool.Decides.{nat_tests}
 use Rattle.sqlite_value.specs.declared.value.Value.TheVariants.{Text}
 use Rattle.sqlite_value.specs.Order.{Row, column}
@@ -12,7 +11,6 @@ use Rattle.sqlite.specs.State.{HasCleanDisk, IsUnchanged}
 use Rattle.sqlite.specs.State as conn
 use Rattle.duty.specs.Pairings.{ground_fault}
 use Rattle.duty.specs.Plans.{GroundPlan}
-use Rattle.duty.specs.Shape.{is_id}
 use Rattle.duty.specs.Words.{checked}
 use Rattle.duty.specs.declared.fault.DutyFault.{DutyFault}
 use Rattle.command.specs.declared.member.Member.{Member}
@@ -27,17 +25,21 @@ use Rattle.tables.specs.Calls.{CrashLeavesNoMore}
 use Rattle.tables.specs.Records.{IsGroundRow, ground_row}
 use Rattle.tables.specs.Rows.{begins_with}
 use Rattle.tables.specs.declared.ground.GroundRecord.{GroundRecord}
-use Rattle.loading.proofs.Ascii.{id_utf8}
-use Rattle.loading.proofs.Mapping.{all_taken, nothing_mapped, next_mapped, mapped_at, mapped_place}
-use Rattle.loading.proofs.SameStates.{HasAlike, crew_told}
+use Rattle.entries.proofs.Mapping.{all_taken, nothing_mapped, next_mapped, mapped_at, mapped_place}
+use Rattle.entries.proofs.SameStates.{HasAlike, crew_told}
 use Rattle.state_rows.proofs.Tests.{passes}
 use Rattle.state_rows.proofs.Values.{text_is, number_is}
-use Rattle.loading.proofs.Telling.{unread, of_blame, clean_before, or_fails, uncaused}
-use Rattle.loading.specs.Loading.{IsCaused, IsGround, IsRight, IsCrewRight, IsSeatRight, AreRight, IsDamaged, Justifies}
-use Rattle.loading.specs.Reading.{GroundsRead, ReadsAs, Blames, BlamesOrFails, HasRows, IsUnreadable, AgreesThrough, Mapped, AreOnce, TellsOf, HasStranger}
-use Rattle.loading.specs.declared.fault.LoadFault.{LoadFault}
-use Rattle.loading.specs.declared.fault.TableName.TheVariants as table_name
+use Rattle.loading.proofs.Telling.{unread, of_blame, or_fails, uncaused}
+use Rattle.state_rows.proofs.Outcomes.{clean_before}
+use Rattle.loading.specs.Loading.{IsCaused, IsDamaged, Justifies}
+use Rattle.entries.specs.Right.{IsGround, IsRight, IsCrewRight, IsSeatRight, AreRight}
+use Rattle.loading.specs.Reading.{GroundsRead, ReadsAs, BlamesOrFails, HasRows, IsUnreadable, AgreesThrough}
+use Rattle.entries.specs.Faults.{Blames}
+use Rattle.entries.specs.Mapping.{Mapped, AreOnce, TellsOf, HasStranger}
+use Rattle.entries.specs.declared.fault.LoadFault.{LoadFault}
+use Rattle.entries.specs.declared.fault.TableName.TheVariants as table_name
 use Rattle.state_rows.specs.Rows.{row_of_ground, ground_duty, seat}
+use Rattle.entries.proofs.RightRows.{ground_rows}
 
 -- ---- One record
 
@@ -138,9 +140,6 @@ module _ (records : List GroundRecord) (at : ℕ) (it : GroundRecord) (there : s
 
 -- ---- The table
 
-number_fits : (n : ℕ) → is_instant n ≡ true → n < 2 ^ 32
-number_fits n e = grind (arith, nat_tests)
-
 -- members are the same but for their bases
 pub members_same : (s t : State) (db : Database) → IsCrewRight s db → IsCrewRight t db → HasAlike t.crew s.crew
 members_same s t db a b who m e = crew_told t s (λ row it. (a.1.1 row).0 ((b.1.1 row).1 it)) who m e
@@ -157,34 +156,10 @@ known_here s t db a b id g is = let alike = members_same s t db a b g.crew is.me
   of_member = alike.there;
 }
 
--- the shapes of its ids
-ground_shapes : (g : GroundPlan) → ground_fault g ≡ None → (is_id g.id ≡ true) × (is_id g.crew ≡ true)
-unfolding ground_fault
-ground_shapes g e = elim (cases_Bool (is_id g.id)) [
-  | inl first ↦ elim (cases_Bool (is_id g.crew)) [
-    | inl second ↦ (first, second)
-    | inr other ↦ absurd (let f = rw (first, other) at e in cc)
-  ]
-  | inr other ↦ absurd (let f = rw other at e in cc)
-]
-
 -- where it is right, it is there, and each row is the record of a ground duty
 pub not_unreadable : (db : Database) → IsUnreadable ground_duty IsGroundRow db → AreRight ground_duty db → ⊥
 not_unreadable db (inl none) right = none right.1.1.0
-not_unreadable db (inr x) right =
-    let it = (right.1.1.1 x.0).0 x.1 in
-    let at = it.0 in
-    let is = right.1.2 at.name at.value at.there in
-    let shapes = ground_shapes at.value is.made in
-    x.3 (
-      record { id = at.name; crew = at.value.crew; task = at.value.task; begin_at = at.value.begin; end_at = at.value.end },
-      subst IsUtf8 is.named (id_utf8 at.value.id shapes.0),
-      id_utf8 at.value.crew shapes.1,
-      is.utf8,
-      number_fits at.value.begin is.begin,
-      number_fits at.value.end is.end,
-      it.1,
-    )
+not_unreadable db (inr x) right = x.3 (ground_rows db x.0 x.1 right)
 
 itself : (id : List ℕ) (g : GroundPlan) → begins_with (Text id ∷ []) (row_of_ground id g) ≡ true
 itself id g = passes (Text id ∷ []) (row_of_ground id g) (refl, tt)

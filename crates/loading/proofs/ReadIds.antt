@@ -8,11 +8,13 @@ use Rattle.sqlite.specs.Effect.{Database}
 use Rattle.duty.specs.Shape.{is_id}
 use Rattle.tables.specs.Records.{IsPairingRow, pairing_row}
 use Rattle.tables.specs.declared.pairing.PairingRecord.{PairingRecord}
-use Rattle.loading.proofs.Ascii.{id_utf8}
-use Rattle.loading.proofs.Mapping.{all_taken, nothing_mapped, next_mapped, mapped_at, mapped_place}
+use Rattle.entries.proofs.Ascii.{id_utf8}
+use Rattle.entries.proofs.Mapping.{all_taken, nothing_mapped, next_mapped, mapped_at, mapped_place}
 use Rattle.state_rows.proofs.Values.{text_is}
-use Rattle.loading.specs.Keyed.{Ids, IdsRead, IsId, AreIds, HasIds, row_of_id}
-use Rattle.loading.specs.Reading.{HasRows, HasStranger, IsUnreadable, Mapped}
+use Rattle.entries.specs.Keyed.{Ids}
+use Rattle.loading.specs.PlanTables.{IdsRead, IsId, AreIds, HasIds, row_of_id}
+use Rattle.loading.specs.Reading.{HasRows, IsUnreadable}
+use Rattle.entries.specs.Mapping.{HasStranger, Mapped}
 use Rattle.state_rows.specs.Rows.{pairing}
 
 -- ---- Records in turn

@@ -15,20 +15,24 @@ use Rattle.tables.specs.Records.{IsOutsideRow, outside_row}
 use Rattle.tables.specs.Rows.{begins_with, rows_of}
 use Rattle.tables.specs.Schema.{outside_table}
 use Rattle.tables.specs.declared.outside.OutsideRecord.{OutsideRecord}
-use Rattle.loading.proofs.Ascii.{id_utf8}
-use Rattle.loading.proofs.Duties.{duties_same}
-use Rattle.loading.proofs.LaterTables.{FitsOutside, its_table, next_outside}
-use Rattle.loading.proofs.Mapping.{all_taken, nothing_mapped, next_mapped, mapped_at, mapped_place}
+use Rattle.entries.proofs.Ascii.{id_utf8}
+use Rattle.entries.proofs.Duties.{duties_same}
+use Rattle.entries.proofs.Editions.{FitsOutside, its_table, next_outside}
+use Rattle.entries.proofs.Mapping.{all_taken, nothing_mapped, next_mapped, mapped_at, mapped_place}
 use Rattle.loading.proofs.ReadCrewBase.{has_value, is_there as there_is}
-use Rattle.loading.proofs.ReadExceedances.{recorded_above}
-use Rattle.loading.proofs.ReadPeriods.{number_fits}
-use Rattle.loading.proofs.SameStates.{crew_told}
-use Rattle.loading.specs.Loading.{AreOutsides, AreRight, IsCrewBaseRight, IsCrewRight, IsExceedanceRight, IsOfEdition, name_of}
-use Rattle.loading.specs.OutsideRows.{AreNoOutsides, AreOutsidesRead, AreRecorded, HasOutsides, InOutsides, IsKeyedOutside, Outsides, OutsidesRead, row_of_keyed_outside}
-use Rattle.loading.specs.Reading.{AgreesIn, AreOnce, Blames, HasRows, HasStranger, IsReadAs, IsUnreadable, Mapped, TellsOf, row_of_recorded}
-use Rattle.loading.specs.declared.fault.LoadFault.{LoadFault}
-use Rattle.loading.specs.declared.fault.LoadFault.TheVariants.{NotABook, Version, Damaged, Fault}
-use Rattle.loading.specs.declared.fault.TableName.TheVariants as table_name
+use Rattle.entries.proofs.RecordedDuties.{recorded_above}
+use Rattle.entries.proofs.RightRows.{number_fits}
+use Rattle.entries.proofs.SameStates.{crew_told}
+use Rattle.entries.specs.Right.{AreOutsides, AreRight, IsCrewBaseRight, IsCrewRight, IsExceedanceRight, IsOfEdition, name_of}
+use Rattle.loading.specs.OutsideTables.{AreNoOutsides, AreOutsidesRead, AreRecorded, HasOutsides, InOutsides, IsKeyedOutside, OutsidesRead, row_of_keyed_outside}
+use Rattle.entries.specs.OutsideRows.{Outsides}
+use Rattle.loading.specs.Reading.{AgreesIn, HasRows, IsReadAs, IsUnreadable}
+use Rattle.entries.specs.Mapping.{AreOnce, HasStranger, Mapped, TellsOf}
+use Rattle.entries.specs.Faults.{Blames}
+use Rattle.entries.specs.Exceedances.{row_of_recorded}
+use Rattle.entries.specs.declared.fault.LoadFault.{LoadFault}
+use Rattle.entries.specs.declared.fault.LoadFault.TheVariants.{NotABook, Version, Damaged, Fault}
+use Rattle.entries.specs.declared.fault.TableName.TheVariants as table_name
 use Rattle.state_rows.proofs.Tests.{passes}
 use Rattle.state_rows.proofs.Values.{text_is, number_is}
 use Rattle.state_rows.specs.Rows.{InCrew, crew_base, named_id, named_number, outside}

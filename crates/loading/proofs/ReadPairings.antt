@@ -1,52 +1,45 @@
 -- The pairings that the tables `pairing`, `period` and `segment` tell, and when these tables are right.
-use Rattle.std.proofs.Common.{◌≡◌, ◌⊎◌, ◌↔◌, inl, inr, refl, sym, ap, subst, ◌∙◌, arith, ℕ, zero, suc, ◌<◌, ◌^◌, ◌+◌, true, false, List, [], ◌∷◌, map, cond, Option, Some, None, slice_get, Result, Ok, Err, IfOk, MatchResult}
+use Rattle.std.proofs.Common.{◌≡◌, ◌↔◌, inl, inr, refl, sym, ap, subst, ◌∙◌, ℕ, true, false, List, [], ◌∷◌, map, cond, Some, None, Result, Ok, Err, IfOk, MatchResult}
 use Rattle.std.specs.FinMap as fin
 use Rattle.std.specs.Prelude.{is_some, ⊤}
-use Rattle.std.specs.Option.{option_map}
 use Rattle.std.specs.Ordering.{eq_by_cmp}
 use Rattle.std.specs.Cmp.Lexicographic.{nat_list_cmp_total}
-use Rattle.std.proofs.lemmas.Bool.{and_parts, cases_Bool}
-use Rattle.std.proofs.lemmas.Option.{slice_get_within}
+use Rattle.std.proofs.lemmas.Bool.{cases_Bool}
 use Rattle.values.specs.Name.{name_cmp, named_rows}
 use Rattle.values.proofs.Names.{alike, itself}
 use Rattle.sqlite_value.specs.Order.{Row, column}
-use Rattle.sqlite_rules.specs.Lists.{Has}
 use Rattle.sqlite.specs.Effect.{Database}
 use Rattle.sqlite.specs.State.{HasCleanDisk}
 use Rattle.sqlite.specs.State as conn
-use Rattle.duty.specs.Pairings.{are_shaped, has_shapes}
-use Rattle.duty.specs.Plans.{ActualTimes}
-use Rattle.duty.specs.declared.segment.BlockTimes.{BlockTimes}
 use Rattle.duty.specs.declared.segment.Segment.{Segment}
-use Rattle.stored_json.specs.Instants.{period_has_instants, segment_has_instants, times_have_instants}
 use Rattle.roster.specs.Entries.{put}
 use Rattle.roster.specs.State.{State}
 use Rattle.roster.specs.declared.put.Entry.TheVariants as entry
 use Rattle.roster.specs.declared.state.PairingEntry.{PairingEntry}
-use Rattle.tables.specs.Records.{IsNumberIfAny, IsSegmentRow, period_row, segment_row}
-use Rattle.tables.specs.Rows.{rows_of}
-use Rattle.tables.specs.Schema.{segment_table}
+use Rattle.tables.specs.Records.{period_row}
 use Rattle.tables.specs.declared.period.PeriodRecord.{PeriodRecord}
 use Rattle.tables.specs.declared.segment.SegmentRecord.{SegmentRecord}
-use Rattle.loading.proofs.Ascii.{id_utf8, flight_utf8, airport_utf8}
-use Rattle.loading.proofs.Entries.{Passed, none_passed, next_passed, is_there, all_passed, passed_more}
-use Rattle.state_rows.proofs.FewPeriods.{all_shaped, few_periods, few_segments}
-use Rattle.loading.proofs.Following.{has_value}
+use Rattle.entries.proofs.Entries.{Passed, none_passed, next_passed, is_there, all_passed, passed_more}
+use Rattle.entries.proofs.Following.{has_value}
 use Rattle.state_rows.proofs.Lists.{some_same}
-use Rattle.loading.proofs.PlanLemmas.{there_within}
-use Rattle.loading.proofs.PlanStates.{all_at, state_told, told_planned, periods_are, segments_are}
-use Rattle.loading.proofs.ReadPeriods.{number_fits, of_row}
+use Rattle.entries.proofs.PlanStates.{state_told, told_planned, periods_are, segments_are}
+use Rattle.loading.proofs.ReadPeriods.{of_row}
 use Rattle.loading.proofs.ReadTables.{then_saw}
-use Rattle.loading.proofs.Telling.{clean_before, of_blame, or_fails, uncaused}
+use Rattle.state_rows.proofs.Outcomes.{clean_before}
+use Rattle.loading.proofs.Telling.{of_blame, or_fails, uncaused}
 use Rattle.state_rows.proofs.Values.{text_is}
-use Rattle.loading.specs.Keyed.{Ids, AreIds, HasIds, HasPeriods, HasSegmentsOf, HasUntold, IsPairingOf, IsPeriodTable, IsSegmentOf, IsSegmentTable, PairingsRead}
-use Rattle.loading.specs.Loading.{AreRight, IsCrewRight, IsDamaged, IsPairingRight, IsPlanned, IsSegmentRight, Justifies, named}
-use Rattle.loading.specs.PlanRows.{IsPairingOfRows, PeriodRows, Periods, SegmentRows, Segments, period_name, segment_name}
-use Rattle.loading.specs.Reading.{AreFree, Blames, BlamesOrFails, HasNoHolder, AgreesThrough, ReadsAs}
-use Rattle.state_rows.specs.Rows.{At, InPeriod, InSegment, PeriodOf, SegmentOf, crew, pairing, period, segment, row_of_pairing, row_of_period, row_of_segment, times_flown}
-use Rattle.loading.specs.declared.fault.LoadFault.{LoadFault}
-use Rattle.loading.specs.declared.fault.TableName as name
-use Rattle.loading.specs.declared.fault.TableName.TheVariants as table_name
+use Rattle.entries.specs.Keyed.{Ids, IsSegmentTable}
+use Rattle.loading.specs.PlanTables.{AreIds, HasIds, HasPeriods, HasSegmentsOf, HasUntold, IsPairingOf, IsPeriodTable, PairingsRead}
+use Rattle.entries.specs.Right.{AreRight, IsCrewRight, IsPairingRight}
+use Rattle.loading.specs.Loading.{IsDamaged, Justifies, named}
+use Rattle.entries.specs.PlanRows.{IsPairingOfRows, PeriodRows, Periods, SegmentRows, Segments, period_name, segment_name}
+use Rattle.loading.specs.Reading.{AreFree, BlamesOrFails, HasNoHolder, AgreesThrough, ReadsAs}
+use Rattle.entries.specs.Faults.{Blames}
+use Rattle.state_rows.specs.Rows.{InPeriod, InSegment, crew, pairing, period, segment, row_of_pairing}
+use Rattle.entries.specs.declared.fault.LoadFault.{LoadFault}
+use Rattle.entries.specs.declared.fault.TableName as name
+use Rattle.entries.specs.declared.fault.TableName.TheVariants as table_name
+use Rattle.entries.proofs.RightRows.{segments_fit}
 
 -- ---- Pairings in turn
 
@@ -155,118 +148,6 @@ bare_known ids id =
 pub some_right : (s : State) (db : Database) → IsCrewRight s db → (ids : Ids) → HasIds db ids → IsPairingRight (record s { pairings = bare_pairings ids }) db
 some_right s db above ids has =
     kept_pairings s db above ids has (bare_pairings ids) (λ id e. sym (bare_known ids id) ∙ e) (λ id e. bare_known ids id ∙ e)
-
--- ---- The table `segment`, where it is right
-
-times_fit : (times : Option BlockTimes) → ((x : BlockTimes) → times ≡ Some x → times_have_instants x ≡ true) →
-    IsNumberIfAny (option_map (λ t. t.block_out) times) × IsNumberIfAny (option_map (λ t. t.block_in) times)
-times_fit None are = (tt, tt)
-times_fit (Some x) are = let both = and_parts _ _ (are x refl) in (number_fits x.block_out both.0, number_fits x.block_in both.1)
-
-abbrev told_segment : List ℕ → ℕ → ℕ → Segment → Option BlockTimes → SegmentRecord
-told_segment id place number it times = record {
-  pairing = id;
-  period = place + 1;
-  number = number + 1;
-  flight = it.flight;
-  origin = it.from;
-  destination = it.to;
-  out_at = it.block_out;
-  in_at = it.block_in;
-  act_out = option_map (λ t. t.block_out) times;
-  act_in = option_map (λ t. t.block_in) times;
-}
-
-module _ (t : State) (db : Database) (right : IsSegmentRight t db) where
-  module _ (at : At t.pairings) (p : PeriodOf at.value) where
-    is : IsPlanned at.name at.value
-    is = right.3 at.name at.value at.there
-
-    flown_at : (actual : Option ActualTimes) → slice_get at.value.actuals p.place ≡ Some actual → (j : ℕ) (x : BlockTimes) → times_flown actual j ≡ Some x → times_have_instants x ≡ true
-    flown_at None b j x e = absurd (cc)
-    flown_at (Some a) b j x e = all_at times_have_instants a.segments (is.actuals p.place a b).1.2 j x e
-
-    module _ (g : SegmentOf p.fdp) where
-      shapes : has_shapes g.segment ≡ true
-      shapes =
-          all_at has_shapes p.fdp.segments (all_at are_shaped at.value.plan.periods (all_shaped at.value.plan is.plan) p.place p.fdp p.planned) g.place g.segment g.planned
-
-      instants : segment_has_instants g.segment ≡ true
-      instants =
-          let all = and_parts _ _ (all_at period_has_instants at.value.plan.periods is.instants p.place p.fdp p.planned) in
-          all_at segment_has_instants p.fdp.segments all.1 g.place g.segment g.planned
-
-      period_fits : p.place + 1 < 2 ^ 32
-      period_fits =
-          let place = slice_get_within at.value.plan.periods p.place p.fdp p.planned in
-          let few = few_periods at.value.plan is.plan in
-          omega (arith, place, few)
-
-      segment_fits : g.place + 1 < 2 ^ 32
-      segment_fits =
-          let place = slice_get_within p.fdp.segments g.place g.segment g.planned in
-          let few = few_segments at.value.plan is.plan p.place p.fdp p.planned in
-          omega (arith, place, few)
-
-      is_record : IsSegmentRow (row_of_segment at.name p.place g.place g.segment (times_flown p.actual g.place))
-      is_record =
-          let codes = and_parts _ _ shapes in
-          let times = times_fit (times_flown p.actual g.place) (λ x e. flown_at p.actual p.flown g.place x e) in (
-            told_segment at.name p.place g.place g.segment (times_flown p.actual g.place),
-            id_utf8 at.name (right.0.0.2 at.name at.value at.there),
-            period_fits,
-            segment_fits,
-            flight_utf8 g.segment.flight (and_parts _ _ codes.0).0,
-            airport_utf8 g.segment.from (and_parts _ _ codes.0).1,
-            airport_utf8 g.segment.to codes.1,
-            number_fits g.segment.block_out (and_parts _ _ instants).0,
-            number_fits g.segment.block_in (and_parts _ _ instants).1,
-            times.0,
-            times.1,
-            refl,
-          )
-
-      no_gap : (place : ℕ) → g.place ≡ place → (g.place + 1 ≡ 1) ⊎ ((before : SegmentRecord) × Has (rows_of segment_table db) (segment_row before)
-          × (before.pairing ≡ at.name) × (before.period ≡ p.place + 1) × (before.number + 1 ≡ g.place + 1))
-      no_gap zero e = inl (omega (arith, e))
-      no_gap (suc j) e =
-          let number = slice_get_within p.fdp.segments g.place g.segment g.planned in
-          let before = there_within p.fdp.segments j (omega (arith, number, e)) in
-          let it : SegmentOf p.fdp = record { place = j; segment = before.0; planned = before.1 } in
-          inr (
-            told_segment at.name p.place j before.0 (times_flown p.actual j),
-            (right.2.1 (row_of_segment at.name p.place j before.0 (times_flown p.actual j))).1 (at, p, it, refl),
-            refl,
-            refl,
-            omega (arith, e),
-          )
-
-      of_period : IsSegmentOf db (row_of_segment at.name p.place g.place g.segment (times_flown p.actual g.place))
-      of_period = record {
-        it = told_segment at.name p.place g.place g.segment (times_flown p.actual g.place);
-        is = refl;
-        of_period = (
-          record {
-            pairing = at.name;
-            number = p.place + 1;
-            report_at = p.fdp.report;
-            release_at = p.fdp.release;
-            act_report = option_map (λ a. a.report) p.actual;
-            act_release = option_map (λ a. a.release) p.actual;
-          },
-          (right.1 (row_of_period at.name p.place p.fdp p.actual)).1 (at, p, refl),
-          refl,
-          refl,
-        );
-        no_gap = no_gap g.place refl;
-      }
-
-  pub segments_fit : IsSegmentTable db
-  segments_fit = (
-    right.2.0,
-    λ row h. let it = (right.2.1 row).0 h in subst IsSegmentRow (sym it.3) (is_record it.0 it.1 it.2),
-    λ row h. let it = (right.2.1 row).0 h in subst (IsSegmentOf db) (sym it.3) (of_period it.0 it.1 it.2),
-  )
 
 -- ---- Which table is the first that is damaged, and when none is
 

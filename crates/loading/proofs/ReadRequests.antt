@@ -1,5 +1,5 @@
 -- The table `request`: what its records tell, and when it is right.
-use Rattle.std.proofs.Common.{◌≡◌, inl, inr, refl, sym, ap, subst, ◌∙◌, arith, ℕ, pos, ◌≤◌, true, List, [], ◌∷◌, ◌++◌, append_assoc, codes, ◌↔◌, Bool, map, take, slice_get, ◌+◌, length, Option, Some, None, Result, Ok, Err, MatchResult, IsTrue, IsUtf8}
+use Rattle.std.proofs.Common.{◌≡◌, inl, inr, refl, sym, ap, subst, ◌∙◌, ℕ, pos, true, List, [], ◌∷◌, ◌++◌, append_assoc, ◌↔◌, Bool, map, take, slice_get, ◌+◌, length, Option, Some, None, Result, Ok, Err, MatchResult, IsTrue, IsUtf8}
 use Rattle.std.specs.FinMap as fin
 use Rattle.std.specs.List.{list_all}
 use Rattle.std.specs.Prelude.{is_some}
@@ -23,14 +23,11 @@ use Rattle.duty.specs.Shape.{home}
 use Rattle.command.specs.Keys.{KeyParts, key_name}
 use Rattle.command.specs.declared.exceedance.Reply.{Reply}
 use Rattle.command.specs.declared.instruction.Instruction.{Instruction}
-use Rattle.serde_json.proofs.OnLiterals.{serde_json_on_literals}
 use Rattle.stored_json.proofs.InstructionsBack.{kept_back}
-use Rattle.stored_json.proofs.ReplyBack.{reply_back}
 use Rattle.stored_json.specs.CommandJson.{read_kept}
 use Rattle.stored_json.specs.KeptText.{kept_text}
 use Rattle.stored_json.specs.Laws.{IsCommand}
-use Rattle.stored_json.specs.ReplyText.{reply_text, read_reply}
-use Rattle.stored_json.specs.declared.fault.CodecFault.{CodecFault}
+use Rattle.stored_json.specs.ReplyText.{reply_text}
 use Rattle.roster.specs.Entries.{put}
 use Rattle.roster.specs.State.{State}
 use Rattle.roster.specs.declared.put.Entry.{Entry}
@@ -42,35 +39,28 @@ use Rattle.tables.specs.Records.{IsRequestRow, request_row}
 use Rattle.tables.specs.Rows.{begins_with}
 use Rattle.tables.specs.declared.request.RequestRecord.{RequestRecord}
 use Rattle.loading.proofs.Homes.{requests_without_later}
-use Rattle.loading.proofs.LaterTables.{one_edition}
-use Rattle.loading.proofs.Mapping.{all_taken, nothing_mapped, next_mapped, mapped_at, mapped_place}
+use Rattle.entries.proofs.Editions.{one_edition}
+use Rattle.entries.proofs.Mapping.{all_taken, nothing_mapped, next_mapped, mapped_at, mapped_place}
 use Rattle.state_rows.proofs.Tests.{passes}
 use Rattle.state_rows.proofs.Values.{ids_same, int_is, text_is, number_is}
-use Rattle.loading.proofs.Telling.{unread, of_blame, clean_before, or_fails, uncaused}
-use Rattle.loading.specs.Loading.{IsCaused, IsKey, IsRequest, name_of, IsRight, AreRight, AreHeld, IsDamaged, IsOfEdition, Justifies}
-use Rattle.loading.specs.Reading.{AreWanting, CanKeep, HasNoLater, IsRequestIn, RequestsRead, ReadsAs, Blames, BlamesOrFails, HasRows, IsUnreadable, AgreesThrough, Mapped, AreOnce, TellsOf, HasStranger}
-use Rattle.loading.specs.declared.fault.LoadFault.{LoadFault}
-use Rattle.loading.specs.declared.fault.LoadFault.TheVariants.{NotABook, Damaged, Version, Fault}
-use Rattle.loading.specs.declared.fault.TableName.TheVariants as table_name
+use Rattle.loading.proofs.Telling.{unread, of_blame, or_fails, uncaused}
+use Rattle.state_rows.proofs.Outcomes.{clean_before}
+use Rattle.loading.specs.Loading.{IsCaused, IsDamaged, Justifies}
+use Rattle.entries.specs.Right.{IsKey, IsRequest, name_of, IsRight, AreRight, AreHeld, IsOfEdition}
+use Rattle.loading.specs.Reading.{AreWanting, CanKeep, HasNoLater, IsRequestIn, RequestsRead, ReadsAs, BlamesOrFails, HasRows, IsUnreadable, AgreesThrough}
+use Rattle.entries.specs.Faults.{Blames}
+use Rattle.entries.specs.Mapping.{Mapped, AreOnce, TellsOf, HasStranger}
+use Rattle.entries.specs.declared.fault.LoadFault.{LoadFault}
+use Rattle.entries.specs.declared.fault.LoadFault.TheVariants.{NotABook, Damaged, Version, Fault}
+use Rattle.entries.specs.declared.fault.TableName.TheVariants as table_name
 use Rattle.state_rows.specs.First.{AreOfPairings, IsOfFirst}
 use Rattle.state_rows.specs.declared.edition.Edition.{Edition}
 use Rattle.state_rows.specs.declared.edition.Edition.TheVariants.{First, Second}
 use Rattle.state_rows.specs.Rows.{RequestAt, ExceedanceAt, row_of_request, row_of_exceedance, request, exceedance}
+use Rattle.entries.proofs.KeptTexts.{ok_same, keys_same}
+use Rattle.entries.proofs.RightRows.{request_rows}
 
 -- ---- Texts
-
-ok_same : {A E : Type 0} {a b : A} → ◌≡◌ {A = Result A E} (Ok a) (Ok b) → a ≡ b
-ok_same e = cc
-
--- a text that isn't read is no command's
-pub not_kept : (text : List ℕ) (fault : CodecFault) → read_kept text ≡ Err fault → (instruction : Instruction) → IsCommand instruction → kept_text instruction ≡ text → ⊥
-not_kept text fault failed instruction is same = absurd (let f = sym failed ∙ ap read_kept (sym same) ∙ kept_back instruction is.0 is.1 in cc)
-
--- nor is one from which a command is read that is kept as another text
-pub kept_otherwise : (text : List ℕ) (command : Instruction) → read_kept text ≡ Ok command → (kept_text command ≡ text → ⊥) → (instruction : Instruction) → IsCommand instruction → kept_text instruction ≡ text → ⊥
-kept_otherwise text command read other instruction is same =
-    let one : instruction ≡ command = ok_same (sym (kept_back instruction is.0 is.1) ∙ ap read_kept same ∙ read) in
-    other (ap kept_text (sym one) ∙ same)
 
 -- nor, in a version, is that of a command that a book of it can't keep
 pub none_kept : (edition : Edition) (text : List ℕ) → ((instruction : Instruction) → IsCommand instruction → kept_text instruction ≡ text → ⊥) →
@@ -82,19 +72,6 @@ pub not_kept_in : (edition : Edition) (text : List ℕ) (command : Instruction) 
 not_kept_in edition text command made kept bad instruction is can same =
     let one : instruction ≡ command = ok_same (sym (kept_back instruction is.0 is.1) ∙ ap read_kept (same ∙ sym kept) ∙ kept_back command made.0 made.1) in
     bad (subst (CanKeep edition) one can)
-
-pub not_reply : (text : List ℕ) (fault : CodecFault) → read_reply text ≡ Err fault → (reply : Reply) → reply_text reply ≡ text → ⊥
-not_reply text fault failed reply same = absurd (let f = sym failed ∙ ap read_reply (sym same) ∙ reply_back reply in cc)
-
-pub told_otherwise : (text : List ℕ) (told : Reply) → read_reply text ≡ Ok told → (reply_text told ≡ text → ⊥) → (reply : Reply) → reply_text reply ≡ text → ⊥
-told_otherwise text told read other reply same =
-    let one : reply ≡ told = ok_same (sym (reply_back reply) ∙ ap read_reply same ∙ read) in
-    other (ap reply_text (sym one) ∙ same)
-
--- the text of a reply without an exceedance
-pub without_exceedance : (text : List ℕ) → text ≡ codes "{\"exceedances\":[],\"result\":\"accepted\"}" → reply_text (record { exceedances = [] }) ≡ text
-unfolding reply_text serde_json_on_literals
-without_exceedance text same = sym same
 
 -- the id of a base is that of HOME where it is tested to be
 pub is_at_home : (base : List ℕ) → IsTrue (bytes_eq base home) ↔ (base ≡ home)
@@ -133,12 +110,6 @@ module _ (edition : Edition) (it : RequestRecord) where
     },
   )
 
-keys_same : (a b : KeyParts) → key_name a ≡ key_name b → a ≡ b
-keys_same a b e =
-    let number : a.number ≡ b.number = cc in
-    let part : a.part ≡ b.part = cc in
-    λ i. record { number = number i; part = part i }
-
 -- ---- Records in turn
 
 pub none_read : (edition : Edition) (records : List RequestRecord) (s : State) → s.requests ≡ fin.empty → RequestsRead edition records 0 s s
@@ -169,20 +140,7 @@ module _ (edition : Edition) (records : List RequestRecord) (at : ℕ) (it : Req
 -- where it is right, it is there, and each row is the record of a command and its reply
 pub not_unreadable : (db : Database) → IsUnreadable request IsRequestRow db → AreRight request db → ⊥
 not_unreadable db (inl none) right = none right.1.1.0
-not_unreadable db (inr x) right =
-    let it = (right.1.1.1 x.0).0 x.1 in
-    let at = it.0 in
-    let known = right.1.2.0 (key_name at.key) at.kept at.there in
-    let is = known.2 in
-    let same : at.key ≡ known.0 = keys_same at.key known.0 known.1 in
-    let part : at.key.part ≤ 10_000 = subst (λ k. k.part ≤ 10_000) (sym same) is.is_key.2 in
-    x.3 (
-      record { number = pos at.key.number; part = at.key.part; command = kept_text at.kept.command; reply = reply_text at.kept.reply },
-      omega (arith, part),
-      is.utf8.0,
-      is.utf8.1,
-      it.1,
-    )
+not_unreadable db (inr x) right = x.3 (request_rows db x.0 x.1 right)
 
 itself : (key : KeyParts) (r : LoggedCommand) → begins_with (Int (pos key.number) ∷ Int (pos key.part) ∷ []) (row_of_request key r) ≡ true
 itself key r = passes (Int (pos key.number) ∷ Int (pos key.part) ∷ []) (row_of_request key r) (refl, (refl, tt))

@@ -21,15 +21,17 @@ use Rattle.roster.specs.declared.state.PairingEntry.{PairingEntry}
 use Rattle.tables.specs.Records.{seat_row}
 use Rattle.tables.specs.declared.seat.SeatRecord.{SeatRecord}
 use Rattle.state_rows.proofs.Lists.{one_value, some_same}
-use Rattle.loading.proofs.Entries.{values_pass}
-use Rattle.loading.proofs.Mapping.{mapped_at, mapped_place, of_appended, in_appended, of_taken, take_next, has_at}
+use Rattle.entries.proofs.Entries.{values_pass}
+use Rattle.entries.proofs.Mapping.{mapped_at, mapped_place, of_appended, in_appended, of_taken, take_next, has_at}
 use Rattle.loading.proofs.ReadCrew.{seat_known, number_known}
 use Rattle.state_rows.proofs.Values.{text_is, number_is}
-use Rattle.loading.specs.Reading.{seat_of, AreOnce, SeatIndex, SeatsRead, IsSeatHeldBy, IsSamePlan, AreCrewed, AreFree, AreUnseated, Blames, row_of_held, TellsOf, HasStranger}
+use Rattle.loading.specs.Reading.{seat_of, SeatIndex, SeatsRead, IsSeatHeldBy, IsSamePlan, AreCrewed, AreFree, AreUnseated, row_of_held}
+use Rattle.entries.specs.Mapping.{AreOnce, TellsOf, HasStranger}
+use Rattle.entries.specs.Faults.{Blames}
 use Rattle.state_rows.specs.Rows.{InSeat, row_of_seat}
-use Rattle.loading.specs.declared.fault.LoadFault.{LoadFault}
-use Rattle.loading.specs.declared.fault.LoadFault.TheVariants.{NotABook, Version, Damaged, Fault}
-use Rattle.loading.specs.declared.fault.TableName.TheVariants as table_name
+use Rattle.entries.specs.declared.fault.LoadFault.{LoadFault}
+use Rattle.entries.specs.declared.fault.LoadFault.TheVariants.{NotABook, Version, Damaged, Fault}
+use Rattle.entries.specs.declared.fault.TableName.TheVariants as table_name
 use Rattle.loading.specs.declared.read_seats.HeldSeat.{HeldSeat}
 
 -- ---- One record

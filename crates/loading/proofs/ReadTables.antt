@@ -5,13 +5,15 @@ use Rattle.sqlite.proofs.StateLemmas.{survives_then}
 use Rattle.sqlite.specs.Effect.{Database}
 use Rattle.sqlite.specs.State.{State, HasCleanDisk, IsUnchanged}
 use Rattle.tables.specs.Calls.{CrashLeavesNoMore, IsInOrder}
-use Rattle.loading.proofs.Telling.{clean_before, or_fails, uncaused}
+use Rattle.state_rows.proofs.Outcomes.{clean_before}
+use Rattle.loading.proofs.Telling.{or_fails, uncaused}
 use Rattle.loading.specs.Loading.{HasReadCause, IsCaused}
-use Rattle.loading.specs.Reading.{ReadsAs, HasRows, IsUnreadable, Blames, BlamesOrFails}
+use Rattle.loading.specs.Reading.{ReadsAs, HasRows, IsUnreadable, BlamesOrFails}
+use Rattle.entries.specs.Faults.{Blames}
 use Rattle.state_rows.specs.Rows.{TableName, table}
-use Rattle.loading.specs.declared.fault.LoadFault.{LoadFault}
-use Rattle.loading.specs.declared.fault.LoadFault.TheVariants.{NotABook, Version, Damaged, Fault}
-use Rattle.loading.specs.declared.fault.TableName as name
+use Rattle.entries.specs.declared.fault.LoadFault.{LoadFault}
+use Rattle.entries.specs.declared.fault.LoadFault.TheVariants.{NotABook, Version, Damaged, Fault}
+use Rattle.entries.specs.declared.fault.TableName as name
 
 -- a fault of a table, for a reason that is one for more
 pub blames_for : (its : name.TableName) (Why More : Type 0) → (Why → More) → (fault : LoadFault) → BlamesOrFails its Why fault → BlamesOrFails its More fault

@@ -5,9 +5,9 @@ use Rattle.sqlite_value.specs.Order.{Row, column}
 use Rattle.sqlite.specs.Effect.{Database}
 use Rattle.roster.specs.State.{State}
 use Rattle.roster.specs.declared.state.PairingEntry.{PairingEntry}
-use Rattle.loading.specs.Loading.{IsPlanned, IsSegmentRight}
+use Rattle.entries.specs.Right.{IsPlanned, IsSegmentRight}
 use Rattle.state_rows.specs.Rows.{TableName, table, HasJust, pairing, period, segment, row_of_pairing}
-use Rattle.loading.proofs.SamePairings.{Planned, SamePlan, same_plan}
+use Rattle.entries.proofs.SamePairings.{Planned, SamePlan, same_plan}
 use Rattle.state_rows.proofs.Values.{text_is}
 
 -- what one has another has too, if both have just the rows of a table

@@ -22,20 +22,23 @@ use Rattle.tables.specs.Calls.{CrashLeavesNoMore}
 use Rattle.tables.specs.Records.{IsSeatRow, seat_row}
 use Rattle.tables.specs.Rows.{begins_with, rows_of}
 use Rattle.tables.specs.declared.seat.SeatRecord.{SeatRecord}
-use Rattle.loading.proofs.Ascii.{id_utf8}
 use Rattle.state_rows.proofs.Lists.{same_option}
-use Rattle.loading.proofs.Mapping.{all_taken}
-use Rattle.loading.proofs.ReadCrew.{number_fits}
-use Rattle.loading.proofs.SamePairings.{holder_told}
+use Rattle.entries.proofs.Mapping.{all_taken}
+use Rattle.entries.proofs.SamePairings.{holder_told}
 use Rattle.loading.proofs.SamePlans.{beside, told}
-use Rattle.loading.proofs.SameStates.{crew_told}
-use Rattle.loading.proofs.Telling.{unread, of_blame, clean_before, or_fails, uncaused}
+use Rattle.entries.proofs.SameStates.{crew_told}
+use Rattle.loading.proofs.Telling.{unread, of_blame, or_fails, uncaused}
+use Rattle.state_rows.proofs.Outcomes.{clean_before}
 use Rattle.state_rows.proofs.Tests.{passes}
-use Rattle.loading.specs.Loading.{IsCaused, IsPlanned, IsSegmentRight, AreRight, IsDamaged, Justifies}
-use Rattle.loading.specs.Reading.{AreOnce, SeatIndex, SeatsRead, IsSeatHeldBy, IsSamePlan, AreCrewed, AreUnseated, row_of_held, ReadsAs, Blames, BlamesOrFails, HasRows, IsUnreadable, AgreesThrough, HasStranger}
+use Rattle.loading.specs.Loading.{IsCaused, IsDamaged, Justifies}
+use Rattle.entries.specs.Right.{IsPlanned, IsSegmentRight, AreRight}
+use Rattle.entries.specs.Mapping.{AreOnce, HasStranger}
+use Rattle.loading.specs.Reading.{SeatIndex, SeatsRead, IsSeatHeldBy, IsSamePlan, AreCrewed, AreUnseated, row_of_held, ReadsAs, BlamesOrFails, HasRows, IsUnreadable, AgreesThrough}
+use Rattle.entries.specs.Faults.{Blames}
 use Rattle.state_rows.specs.Rows.{table, crew, InPairing, InPeriod, InSegment, InSeat, seat_number, seat, segment}
-use Rattle.loading.specs.declared.fault.LoadFault.{LoadFault}
-use Rattle.loading.specs.declared.fault.TableName.TheVariants as table_name
+use Rattle.entries.specs.declared.fault.LoadFault.{LoadFault}
+use Rattle.entries.specs.declared.fault.TableName.TheVariants as table_name
+use Rattle.entries.proofs.RightRows.{seat_rows}
 
 -- ---- States that differ in who holds the seats
 
@@ -147,16 +150,7 @@ module _ (s : State) (m : fin.FinMap name_cmp PairingEntry) (planned : (id : Lis
 -- where it is right, it is there, and each row is the record of a seat
 pub not_unreadable : (db : Database) → IsUnreadable seat IsSeatRow db → AreRight seat db → ⊥
 not_unreadable db (inl none) right = none right.1.1.0
-not_unreadable db (inr x) right =
-    let it = (right.1.1.1 x.0).0 x.1 in
-    let at = it.0 in
-    let held = it.1 in
-    let seated = right.1.2 at.name at.value at.there in
-    let kind : (seat : Seat) → IsHolder right.0.crew seat (holder seat at.value) = λ s. elim s as (λ k. IsHolder right.0.crew k (holder k at.value)) [ Captain ↦ seated.captain | FirstOfficer ↦ seated.first_officer ] in
-    let m = kind held.seat held.crew held.held in
-    let named = right.1.0.0.0.2 at.name at.value at.there in
-    let member = right.1.0.0.0.0.2 held.crew m.0 m.1 in
-    x.3 (record { pairing = at.name; seat = seat_number held.seat; crew = held.crew }, id_utf8 at.name named, number_fits held.seat, id_utf8 held.crew member.id_shape, it.2)
+not_unreadable db (inr x) right = x.3 (seat_rows db x.0 x.1 right)
 
 itself : (at : SeatIndex) (who : List ℕ) → begins_with (Text at.pairing ∷ Int (pos (seat_number at.seat)) ∷ []) (row_of_held at who) ≡ true
 itself at who = passes (Text at.pairing ∷ Int (pos (seat_number at.seat)) ∷ []) (row_of_held at who) (refl, (refl, tt))

@@ -15,15 +15,16 @@ use Rattle.tables.specs.Rows.{rows_of, Finds, begins_with}
 use Rattle.tables.specs.Schema.{BookTable, IsOfBook}
 use Rattle.tables.specs.declared.table_fault.TableFault.{TableFault}
 use Rattle.tables.specs.declared.table_fault.TableFault.TheVariants as table_fault
-use Rattle.loading.specs.Faults.{load_fault_of}
+use Rattle.entries.specs.Faults.{load_fault_of, Blames}
 use Rattle.loading.specs.Loading.{HasReadCause, IsCaused, IsDamaged, Justifies, named}
-use Rattle.loading.specs.Reading.{ReadsAs, HasRows, IsUnreadable, Blames, BlamesOrFails}
+use Rattle.loading.specs.Reading.{ReadsAs, HasRows, IsUnreadable, BlamesOrFails}
 use Rattle.state_rows.specs.Rows.{TableName, table}
-use Rattle.loading.specs.declared.fault.LoadFault.{LoadFault}
-use Rattle.loading.specs.declared.fault.LoadFault.TheVariants.{NotABook, Version, Damaged, Fault}
+use Rattle.entries.specs.declared.fault.LoadFault.{LoadFault}
+use Rattle.entries.specs.declared.fault.LoadFault.TheVariants.{NotABook, Version, Damaged, Fault}
 use Rattle.state_rows.specs.declared.fault.StoreFault.{StoreFault}
 use Rattle.state_rows.specs.declared.fault.StoreFault.TheVariants.{Memory, Store}
-use Rattle.loading.specs.declared.fault.TableName as name
+use Rattle.entries.specs.declared.fault.TableName as name
+use Rattle.state_rows.proofs.Outcomes.{clean_before}
 
 pub nothing_left : (s : State) → CrashLeavesNoMore s s
 nothing_left s = record {
@@ -138,9 +139,6 @@ of_blame its Why db damaged NotABook blame = absurd blame
 of_blame its Why db damaged Version blame = absurd blame
 of_blame its Why db damaged (Damaged other) blame = subst (λ t. IsDamaged (named t) db) (sym blame.0) (damaged blame.1)
 of_blame its Why db damaged (Fault fault) blame = tt
-
-pub clean_before : (old new : State) → CrashLeavesNoMore old new → HasCleanDisk new → HasCleanDisk old
-clean_before old new left clean = omega (arith, left.clean)
 
 -- what records are refused for, a table is
 pub or_fails : (its : name.TableName) (Why : Type 0) (fault : LoadFault) → Blames its Why fault → BlamesOrFails its Why fault

@@ -1,11 +1,5 @@
-pub mod PlanOrder
-pub mod PlanRows
-pub mod Faults
 pub mod Loading
-pub mod SameRows
 pub mod Reading
-pub mod Keyed
-pub mod OnePairing
-pub mod OneOutside
-pub mod OutsideRows
+pub mod PlanTables
+pub mod OutsideTables
 pub mod Refusals

@@ -1,6 +1,6 @@
 -- What the functions that load a book say to one another. Of these the public clause of `read_all`
 -- names `ReadsAs` and `AgreesIn`.
-use Rattle.std.specs.Prelude.{◌≡◌, ◌⊎◌, ◌↔◌, ◌<◌, ◌≤◌, ⊤, true, false, pos, IsUtf8, ℕ, ℤ, zero, suc, List, [], ◌∷◌, map, take, length, Option, None, Some, Result, IfErr, MatchResult}
+use Rattle.std.specs.Prelude.{◌≡◌, ◌⊎◌, ◌↔◌, ◌<◌, ⊤, true, false, pos, IsUtf8, ℕ, ℤ, zero, suc, List, [], ◌∷◌, map, take, length, Option, None, Some, Result, IfErr, MatchResult}
 use Rattle.std.specs.FinMap as fin
 use Rattle.std.specs.List.{AllByRecursion}
 use Rattle.values.specs.Name.{name_cmp}
@@ -36,18 +36,22 @@ use Rattle.tables.specs.declared.exceedance.ExceedanceRecord.{ExceedanceRecord}
 use Rattle.tables.specs.declared.ground.GroundRecord.{GroundRecord}
 use Rattle.tables.specs.declared.request.RequestRecord.{RequestRecord}
 use Rattle.tables.specs.declared.seat.SeatRecord.{SeatRecord}
-use Rattle.loading.specs.Loading.{IsCaused, IsMember, IsFlown, IsGround, IsExceedance, IsRequest, AreHeld, name_of, IsRight, IsNoBook, IsOfEdition, IsOfOtherVersion}
+use Rattle.loading.specs.Loading.{IsCaused, IsNoBook, IsOfOtherVersion}
+use Rattle.entries.specs.Right.{IsMember, IsFlown, IsGround, IsExceedance, IsRequest, AreHeld, name_of, IsRight, IsOfEdition}
 use Rattle.state_rows.specs.Editions.{edition_number}
 use Rattle.state_rows.specs.First.{IsOfFirst}
-use Rattle.state_rows.specs.Rows.{TableName, book, crew, pairing, period, segment, seat, ground_duty, exceedance, request, base, crew_base, outside, outside_segment, table, row_of_member, row_of_seat, row_of_ground, row_of_exceedance, row_of_request, row_of_base, row_of_post, named_id, named_number, InSeat}
+use Rattle.state_rows.specs.Rows.{TableName, book, crew, pairing, seat, base, crew_base, outside, outside_segment, table, row_of_member, row_of_seat, row_of_ground, row_of_request, row_of_base, row_of_post, named_number, InSeat}
 use Rattle.state_rows.specs.declared.edition.Edition.{Edition}
 use Rattle.state_rows.specs.declared.edition.Edition.TheVariants.{First, Second}
 use Rattle.state_rows.specs.declared.fault.StoreFault.TheVariants.{Memory}
-use Rattle.loading.specs.declared.fault.LoadFault.{LoadFault}
-use Rattle.loading.specs.declared.fault.LoadFault.TheVariants.{NotABook, Damaged, Version, Fault}
-use Rattle.loading.specs.declared.fault.TableName as name
-use Rattle.loading.specs.declared.fault.TableName.TheVariants as its
+use Rattle.entries.specs.declared.fault.LoadFault.{LoadFault}
+use Rattle.entries.specs.declared.fault.LoadFault.TheVariants.{NotABook, Damaged, Version, Fault}
+use Rattle.entries.specs.declared.fault.TableName as name
+use Rattle.entries.specs.declared.fault.TableName.TheVariants as its
 use Rattle.time117.specs.Local.{is_zone_text}
+use Rattle.entries.specs.Right.{down_to}
+use Rattle.entries.specs.Mapping.{AreOnce, HasStranger, Mapped}
+use Rattle.entries.specs.Exceedances.{row_of_recorded}
 
 -- What a call comes to that reads the database: nothing is changed, and what its answer says is so,
 -- or it was refused for a reason. A fault of the store has a cause, and a crash leaves nothing that
@@ -71,14 +75,6 @@ abbrev pub IsUnreadable : TableName → (Row → Type 0) → Database → Type 0
 IsUnreadable it IsRecord db =
     (¬ IsOfBook (table it) db.schema) ⊎ HasNoRecord (table it) (begins_with []) IsRecord db
 
--- why records are refused: their table is damaged, and a fact holds, or the program is out of
--- memory
-abbrev pub Blames : name.TableName → Type 0 → LoadFault → Type 0
-Blames it Why NotABook = ⊥
-Blames it Why Version = ⊥
-Blames it Why (Damaged other) = (other ≡ it) × Why
-Blames it Why (Fault fault) = fault ≡ Memory
-
 -- why a table is refused: it is damaged, and a fact holds, or the store failed, or the program is
 -- out of memory
 abbrev pub BlamesOrFails : name.TableName → Type 0 → LoadFault → Type 0
@@ -86,27 +82,6 @@ BlamesOrFails it Why NotABook = ⊥
 BlamesOrFails it Why Version = ⊥
 BlamesOrFails it Why (Damaged other) = (other ≡ it) × Why
 BlamesOrFails it Why (Fault fault) = ⊤
-
--- the tables of version 1, the last first
-abbrev pub down_to_nine : List TableName
-down_to_nine =
-    request ∷ exceedance ∷ ground_duty ∷ seat ∷ segment ∷ period ∷ pairing ∷ crew ∷ book ∷ []
-
--- the tables down to this one, the last first
-abbrev pub down_to : TableName → List TableName
-down_to book = book ∷ []
-down_to crew = crew ∷ book ∷ []
-down_to pairing = pairing ∷ crew ∷ book ∷ []
-down_to period = period ∷ pairing ∷ crew ∷ book ∷ []
-down_to segment = segment ∷ period ∷ pairing ∷ crew ∷ book ∷ []
-down_to seat = seat ∷ segment ∷ period ∷ pairing ∷ crew ∷ book ∷ []
-down_to ground_duty = ground_duty ∷ seat ∷ segment ∷ period ∷ pairing ∷ crew ∷ book ∷ []
-down_to exceedance = exceedance ∷ ground_duty ∷ seat ∷ segment ∷ period ∷ pairing ∷ crew ∷ book ∷ []
-down_to request = down_to_nine
-down_to base = base ∷ down_to_nine
-down_to crew_base = crew_base ∷ base ∷ down_to_nine
-down_to outside = outside ∷ crew_base ∷ base ∷ down_to_nine
-down_to outside_segment = outside_segment ∷ outside ∷ crew_base ∷ base ∷ down_to_nine
 
 -- the book is of version 1 or 2, and its tables down to this one are right, each row under a number
 -- of its own
@@ -118,58 +93,11 @@ pub record AgreesThrough (it : TableName) (s : roster.State) (db : Database) : T
 
 -- ---- A map read from rows
 
--- an index under whose name a map has a value, and the value
-pub record Under {I V : Type 0} (name : I → List ℕ) (m : fin.FinMap name_cmp V) : Type 0 where
-  pub index : I
-  pub value : V
-  pub there : fin.get m (name index) ≡ Some value
-
--- the rows are just those of the values that the map has, and a fact holds of each value
-pub record Mapped {I V : Type 0}
-    (name : I → List ℕ) (row_of : I → V → Row) (Is : I → V → Type 0) (rows : List Row)
-    (m : fin.FinMap name_cmp V) : Type 0 where
-  pub has : (row : Row) → Has rows row → (at : Under name m) × (row ≡ row_of at.index at.value)
-  pub all : (at : Under name m) → Has rows (row_of at.index at.value)
-  pub known : (key : List ℕ) (v : V) → fin.get m key ≡ Some v → (i : I) × (key ≡ name i) × Is i v
-
--- any two rows of one index are equal
-abbrev pub AreOnce : {I V : Type 0} → (I → V → Row) → List Row → Type 0
-AreOnce {I} {V} row_of rows = (i : I) (v w : V) →
-    Has rows (row_of i v) → Has rows (row_of i w) → row_of i v ≡ row_of i w
-
--- what a row gives: a value under an index of which a fact holds, or nothing if it is the row of no
--- value of which it holds
-abbrev pub TellsOf : {I V X : Type 0} → (I → V → X → Type 0) → (I → V → Row) →
-    (I → V → Type 0) → Row → Option X → Type 0
-TellsOf {I} {V} Gives row_of Is row None = (i : I) (v : V) → row ≡ row_of i v → Is i v → ⊥
-TellsOf {I} {V} Gives row_of Is row (Some x) =
-    (i : I) × (v : V) × Gives i v x × (row ≡ row_of i v) × Is i v
-
--- some row is the row of no index with a value of which the fact holds
-pub record HasStranger {I V : Type 0}
-    (row_of : I → V → Row) (Is : I → V → Type 0) (rows : List Row) : Type 0 where
-  pub row : Row
-  pub here : Has rows row
-  pub strange : (i : I) (v : V) → row ≡ row_of i v → Is i v → ⊥
-
 -- the seat that a number means in the tables, if it means one
 abbrev pub seat_of : ℕ → Option Seat
 seat_of zero = Some Captain
 seat_of (suc zero) = Some FirstOfficer
 seat_of (suc (suc n)) = None
-
--- the number of a period is above 0, and has eight bits, as that of each period of a pairing has
-abbrev pub IsInRange : DutyId → Type 0
-IsInRange (Period p) = (1 ≤ p.number) × (p.number < 256)
-IsInRange (Outside id) = ⊤
-
--- this is the duty that the columns `pairing` and `period` of `exceedance` name: with 0 as the
--- number an outside period, and with a higher one a period of a pairing
-pub record IsDutyOf (id : List ℕ) (number : ℕ) (named : DutyId) : Type 0 where
-  pub same_id : named_id named ≡ id
-  pub same_number : named_number named ≡ number
-  pub in_range : IsInRange named
-  pub utf8 : IsUtf8 id
 
 -- an exceedance in a file of this version can name the duty: a period with an actual or, in
 -- version 2, an outside period
@@ -186,10 +114,6 @@ pub record IsExceedanceIn
   pub is : IsExceedance members pairings id named
   pub can : CanName edition pairings named
   pub fits : named_number named < 256
-
--- the row of an exceedance, with the duty that it names
-abbrev pub row_of_recorded : ExceedanceId → DutyId → Row
-row_of_recorded id named = row_of_exceedance id.key id.crew id.section named
 
 -- each of these members is at HOME
 abbrev pub AreAtHome : Crew → Type 0

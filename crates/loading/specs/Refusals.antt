@@ -2,9 +2,10 @@
 use Rattle.std.specs.Prelude.{◌≡◌, Bool, true, false}
 use Rattle.sqlite.specs.Effect.{Database}
 use Rattle.roster.specs.State.{State}
-use Rattle.loading.specs.Loading.{IsRightBook, Justifies}
-use Rattle.loading.specs.declared.fault.LoadFault.{LoadFault}
-use Rattle.loading.specs.declared.fault.LoadFault.TheVariants.{NotABook, Damaged, Version, Fault}
+use Rattle.entries.specs.Right.{IsRightBook}
+use Rattle.loading.specs.Loading.{Justifies}
+use Rattle.entries.specs.declared.fault.LoadFault.{LoadFault}
+use Rattle.entries.specs.declared.fault.LoadFault.TheVariants.{NotABook, Damaged, Version, Fault}
 
 -- the refusal says something of the database (40, 41 or 42), and reports neither a fault of the
 -- store (90) nor that the program is out of memory (91)

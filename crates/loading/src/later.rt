@@ -10,11 +10,11 @@ ghost use Rattle.loading.specs.Reading.{AgreesIn, BlamesName, HasNoLater, ReadsA
 ghost use Rattle.state_rows.specs.Rows.{request, outside_segment};
 ghost use Rattle.state_rows.specs.declared.edition.Edition.TheVariants.{Second};
 
-use crate::fault::{LoadFault, TableName};
 use crate::read_base::read_base;
 use crate::read_crew_base::read_crew_base;
 use crate::read_outside::read_outside;
 use crate::read_outside_segment::read_outside_segment;
+use entries::{LoadFault, TableName};
 use roster::Roster;
 use sqlite::{Alter, Connection};
 use state_rows::Edition;

@@ -1,4 +1,5 @@
-//! The table `base`, as it is loaded from a file of version 2. What is right is `IsBaseRight` (`specs/Loading.antt`).
+//! The table `base`, as it is loaded from a file of version 2. What is right is `IsBaseRight` (`specs/Right.antt` of
+//! `entries`).
 //! Files with such a damage: `tests/tables.py`. Wrong bodies: `must-fail-more/`.
 
 ghost use Rattle.std.specs.Prelude.{◌≡◌, ◌↔◌, length, map, IfOk, IsTrue, MatchResult};
@@ -8,13 +9,15 @@ ghost use Rattle.sqlite.specs.State.{HasCleanDisk};
 ghost use Rattle.roster.specs.Bases.{home_zone, only_home};
 ghost use Rattle.tables.specs.Records.{base_row, IsBaseRow};
 ghost use Rattle.loading.specs.Loading.{Justifies};
-ghost use Rattle.loading.specs.Reading.{AgreesIn, AreBasesRead, AreNoBases, BasesRead, Blames, BlamesOrFails, HasHome, HasRows, HasStranger, IsShaped, IsUnreadable, ReadsAs, TellsOf};
+ghost use Rattle.loading.specs.Reading.{AgreesIn, AreBasesRead, AreNoBases, BasesRead, BlamesOrFails, HasHome, HasRows, IsShaped, IsUnreadable, ReadsAs};
+ghost use Rattle.entries.specs.Faults.{Blames};
+ghost use Rattle.entries.specs.Mapping.{HasStranger, TellsOf};
 ghost use Rattle.state_rows.specs.Rows.{row_of_base, base, request};
 ghost use Rattle.state_rows.specs.declared.edition.Edition.TheVariants.{Second};
-ghost use Rattle.loading.specs.declared.fault.TableName.TheVariants as table_name;
+ghost use Rattle.entries.specs.declared.fault.TableName.TheVariants as table_name;
 
-use crate::fault::{LoadFault, TableName};
 use duty::BaseId;
+use entries::{LoadFault, TableName};
 use roster::{Entry, Roster};
 use sqlite::{Alter, Connection};
 use std::alloc::Global;

@@ -1,7 +1,7 @@
-//! The book's own row, as it is loaded. What is right is `IsBookRight` (`specs/Loading.antt`).
+//! The book's own row, as it is loaded. What is right is `IsBookRight` (`specs/Right.antt` of `entries`).
 //! Files with such a damage: `tests/tables.py`. Wrong bodies: `must-fail/`.
 
-ghost use Rattle.std.specs.Prelude.{◌≡◌, ◌↔◌, ℕ, List, map, pos, true, IfOk, IsTrue, MatchOption, MatchResult};
+ghost use Rattle.std.specs.Prelude.{◌≡◌, ◌↔◌, map, pos, true, IfOk, IsTrue, MatchOption, MatchResult};
 ghost use Rattle.std.specs.Option.{option_copied};
 ghost use Rattle.sqlite.specs.Held.{state};
 ghost use Rattle.time117.specs.Local.{is_zone_text};
@@ -13,9 +13,9 @@ ghost use Rattle.loading.specs.Loading.{Justifies};
 ghost use Rattle.loading.specs.Reading.{AgreesIn, BlamesOrFails, BlamesBook, book_of, IsEditionNumber, IsOnly, ReadsAs, HasRows, IsUnreadable};
 ghost use Rattle.state_rows.specs.Editions.{edition_number};
 ghost use Rattle.state_rows.specs.Rows.{book};
-ghost use Rattle.loading.specs.declared.fault.TableName.TheVariants as table_name;
+ghost use Rattle.entries.specs.declared.fault.TableName.TheVariants as table_name;
 
-use crate::fault::{LoadFault, TableName};
+use entries::{LoadFault, TableName};
 use roster::Roster;
 use sqlite::{Alter, Connection};
 use state_rows::{Edition, StoreFault};

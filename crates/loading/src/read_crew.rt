@@ -1,4 +1,4 @@
-//! The table `crew`, as it is loaded. What is right is `IsCrewRight` (`specs/Loading.antt`).
+//! The table `crew`, as it is loaded. What is right is `IsCrewRight` (`specs/Right.antt` of `entries`).
 //! Files with such a damage: `tests/tables.py`. Wrong bodies: `must-fail-more/`.
 
 ghost use Rattle.std.specs.Prelude.{◌≡◌, length, map, IfOk, MatchResult};
@@ -6,16 +6,18 @@ ghost use Rattle.std.specs.FinMap as fin;
 ghost use Rattle.duty.specs.Shape.{home};
 ghost use Rattle.sqlite.specs.Held.{state};
 ghost use Rattle.sqlite.specs.State.{HasCleanDisk};
-ghost use Rattle.sqlite_rules.specs.Lists.{Has};
 ghost use Rattle.tables.specs.Records.{crew_row, IsCrewRow};
-ghost use Rattle.loading.specs.Loading.{IsMember, Justifies};
-ghost use Rattle.loading.specs.Reading.{seat_of, AreAtHome, MembersRead, ReadsAs, HasRows, IsUnreadable, Blames, BlamesOrFails, AgreesThrough, TellsOf, HasStranger};
+ghost use Rattle.entries.specs.Right.{IsMember};
+ghost use Rattle.loading.specs.Loading.{Justifies};
+ghost use Rattle.loading.specs.Reading.{seat_of, AreAtHome, MembersRead, ReadsAs, HasRows, IsUnreadable, BlamesOrFails, AgreesThrough};
+ghost use Rattle.entries.specs.Faults.{Blames};
+ghost use Rattle.entries.specs.Mapping.{TellsOf, HasStranger};
 ghost use Rattle.state_rows.specs.Rows.{row_of_member, crew, book};
-ghost use Rattle.loading.specs.declared.fault.TableName.TheVariants as table_name;
+ghost use Rattle.entries.specs.declared.fault.TableName.TheVariants as table_name;
 
-use crate::fault::{LoadFault, TableName};
 use command::{Member, Seat};
 use duty::{BaseId, CrewId, is_plain_text};
+use entries::{LoadFault, TableName};
 use roster::{Entry, Roster};
 use sqlite::{Alter, Connection};
 use std::alloc::Global;

@@ -1,5 +1,5 @@
 //! The table `crew_base`, as it is loaded from a file of version 2. What is right is `IsCrewBaseRight`
-//! (`specs/Loading.antt`).
+//! (`specs/Right.antt` of `entries`).
 //! Files with such a damage: `tests/tables.py`. Wrong bodies: `must-fail-more/`.
 
 ghost use Rattle.std.specs.Prelude.{◌≡◌, ◌↔◌, length, map, IfOk, IsTrue, MatchResult};
@@ -7,14 +7,16 @@ ghost use Rattle.sqlite.specs.Held.{state};
 ghost use Rattle.sqlite.specs.State.{HasCleanDisk};
 ghost use Rattle.tables.specs.Records.{crew_base_row, IsCrewBaseRow};
 ghost use Rattle.loading.specs.Loading.{Justifies};
-ghost use Rattle.loading.specs.Reading.{AgreesIn, AreAllPosted, ArePosted, AreUnposted, Blames, BlamesOrFails, HasRows, HasStranger, IsPosted, IsUnreadable, PostsRead, ReadsAs, TellsOf, row_of_posted};
+ghost use Rattle.loading.specs.Reading.{AgreesIn, AreAllPosted, ArePosted, AreUnposted, BlamesOrFails, HasRows, IsPosted, IsUnreadable, PostsRead, ReadsAs, row_of_posted};
+ghost use Rattle.entries.specs.Faults.{Blames};
+ghost use Rattle.entries.specs.Mapping.{HasStranger, TellsOf};
 ghost use Rattle.state_rows.specs.Rows.{base, crew_base};
 ghost use Rattle.state_rows.specs.declared.edition.Edition.TheVariants.{Second};
-ghost use Rattle.loading.specs.declared.fault.TableName.TheVariants as table_name;
+ghost use Rattle.entries.specs.declared.fault.TableName.TheVariants as table_name;
 
-use crate::fault::{LoadFault, TableName};
 use command::Member;
 use duty::{BaseId, CrewId};
+use entries::{LoadFault, TableName};
 use roster::Roster;
 use sqlite::{Alter, Connection};
 use std::alloc::Global;

@@ -1,4 +1,4 @@
-//! The table `ground`, as it is loaded. What is right is `IsGroundRight` (`specs/Loading.antt`).
+//! The table `ground`, as it is loaded. What is right is `IsGroundRight` (`specs/Right.antt` of `entries`).
 //! Files with such a damage: `tests/tables.py`. Wrong bodies: `must-fail-more/`.
 
 ghost use Rattle.std.specs.Prelude.{◌≡◌, length, map, IfOk, MatchResult};
@@ -6,13 +6,16 @@ ghost use Rattle.std.specs.FinMap as fin;
 ghost use Rattle.sqlite.specs.Held.{state};
 ghost use Rattle.sqlite.specs.State.{HasCleanDisk};
 ghost use Rattle.tables.specs.Records.{ground_row, IsGroundRow};
-ghost use Rattle.loading.specs.Loading.{IsGround, Justifies};
-ghost use Rattle.loading.specs.Reading.{GroundsRead, ReadsAs, HasRows, IsUnreadable, Blames, BlamesOrFails, AgreesThrough, TellsOf, HasStranger};
+ghost use Rattle.entries.specs.Right.{IsGround};
+ghost use Rattle.loading.specs.Loading.{Justifies};
+ghost use Rattle.loading.specs.Reading.{GroundsRead, ReadsAs, HasRows, IsUnreadable, BlamesOrFails, AgreesThrough};
+ghost use Rattle.entries.specs.Faults.{Blames};
+ghost use Rattle.entries.specs.Mapping.{TellsOf, HasStranger};
 ghost use Rattle.state_rows.specs.Rows.{row_of_ground, ground_duty, seat};
-ghost use Rattle.loading.specs.declared.fault.TableName.TheVariants as table_name;
+ghost use Rattle.entries.specs.declared.fault.TableName.TheVariants as table_name;
 
-use crate::fault::{LoadFault, TableName};
 use duty::{CrewId, Ground, GroundId};
+use entries::{LoadFault, TableName};
 use roster::{Entry, Roster};
 use sqlite::{Alter, Connection};
 use std::alloc::Global;

@@ -1,22 +1,23 @@
 //! The table `outside`, as it is loaded from a file of version 2. What is right is `IsOutsideRight`
-//! (`specs/Loading.antt`).
+//! (`specs/Right.antt` of `entries`).
 //! Files with such a damage: `tests/tables.py`. Wrong bodies: `must-fail/`.
 
 ghost use Rattle.std.specs.Prelude.{◌≡◌, ◌↔◌, length, map, true, IfOk, IsTrue, MatchResult};
-ghost use Rattle.std.specs.FinMap as fin;
 ghost use Rattle.sqlite.specs.Held.{state};
 ghost use Rattle.sqlite.specs.State.{HasCleanDisk};
 ghost use Rattle.stored_json.specs.Instants.{is_instant};
 ghost use Rattle.tables.specs.Records.{outside_row, IsOutsideRow};
 ghost use Rattle.loading.specs.Loading.{Justifies};
-ghost use Rattle.loading.specs.OutsideRows.{AreNoOutsides, AreOutsidesRead, AreRecorded, HasOutsides, IsKeyedOutside, OutsidesRead, is_there, row_of_keyed_outside};
-ghost use Rattle.loading.specs.Reading.{AgreesIn, Blames, BlamesOrFails, HasRows, HasStranger, IsUnreadable, ReadsAs, TellsOf};
+ghost use Rattle.loading.specs.OutsideTables.{AreNoOutsides, AreOutsidesRead, AreRecorded, HasOutsides, IsKeyedOutside, OutsidesRead, is_there, row_of_keyed_outside};
+ghost use Rattle.loading.specs.Reading.{AgreesIn, BlamesOrFails, HasRows, IsUnreadable, ReadsAs};
+ghost use Rattle.entries.specs.Faults.{Blames};
+ghost use Rattle.entries.specs.Mapping.{HasStranger, TellsOf};
 ghost use Rattle.state_rows.specs.Rows.{crew_base, outside};
 ghost use Rattle.state_rows.specs.declared.edition.Edition.TheVariants.{Second};
-ghost use Rattle.loading.specs.declared.fault.TableName.TheVariants as table_name;
+ghost use Rattle.entries.specs.declared.fault.TableName.TheVariants as table_name;
 
-use crate::fault::{LoadFault, TableName};
 use duty::{CrewId, OutsideId};
+use entries::{LoadFault, TableName};
 use roster::{DutyId, Roster};
 use sqlite::{Alter, Connection};
 use std::alloc::Global;

@@ -1,4 +1,4 @@
-//! The table `seat`, as it is loaded. What is right is `IsSeatRight` (`specs/Loading.antt`).
+//! The table `seat`, as it is loaded. What is right is `IsSeatRight` (`specs/Right.antt` of `entries`).
 //! Files with such a damage: `tests/tables.py`. Wrong bodies: `must-fail/`.
 
 ghost use Rattle.std.specs.Prelude.{◌≡◌, ◌||◌, not, length, map, true, IfOk, IsTrue, ◌↔◌, MatchResult, Some};
@@ -9,14 +9,16 @@ ghost use Rattle.command.specs.declared.member.Member.{Member as MemberOf};
 ghost use Rattle.roster.specs.Pairings.{is_flown, is_fully_crewed};
 ghost use Rattle.tables.specs.Records.{seat_row, IsSeatRow};
 ghost use Rattle.loading.specs.Loading.{Justifies};
-ghost use Rattle.loading.specs.Reading.{AreCrewed, AreFree, AreUnseated, IsSeatHeldBy, SeatsRead, row_of_held, ReadsAs, HasRows, IsUnreadable, Blames, BlamesOrFails, AgreesThrough, TellsOf, HasStranger};
+ghost use Rattle.loading.specs.Reading.{AreCrewed, AreFree, AreUnseated, IsSeatHeldBy, SeatsRead, row_of_held, ReadsAs, HasRows, IsUnreadable, BlamesOrFails, AgreesThrough};
+ghost use Rattle.entries.specs.Faults.{Blames};
+ghost use Rattle.entries.specs.Mapping.{TellsOf, HasStranger};
 ghost use Rattle.state_rows.specs.Rows.{seat, segment};
-ghost use Rattle.loading.specs.declared.fault.TableName.TheVariants as table_name;
+ghost use Rattle.entries.specs.declared.fault.TableName.TheVariants as table_name;
 
-use crate::fault::{LoadFault, TableName};
 use crate::read_crew::seat_of_number;
 use command::Seat;
 use duty::{CrewId, PairingId};
+use entries::{LoadFault, TableName};
 use roster::{PairingEntry, Roster};
 use sqlite::{Alter, Connection};
 use std::alloc::Global;

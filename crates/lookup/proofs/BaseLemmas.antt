@@ -20,10 +20,10 @@ use Rattle.tables.specs.declared.base.BaseRecord.{BaseRecord}
 use Rattle.state_rows.specs.Rows.{table, base, outside_segment, row_of_base}
 use Rattle.state_rows.proofs.Lists.{one_value, same_map}
 use Rattle.state_rows.proofs.Values.{text_is}
-use Rattle.writing.specs.Kept.{IsBookOf}
-use Rattle.loading.proofs.Mapping.{all_taken, has_at, mapped_at, mapped_place, nothing_mapped, of_taken, one_more, take_next}
-use Rattle.loading.specs.Loading.{AreRight}
-use Rattle.loading.specs.Reading.{AreOnce, Mapped}
+use Rattle.state_rows.specs.Kept.{IsBookOf}
+use Rattle.entries.proofs.Mapping.{all_taken, has_at, mapped_at, mapped_place, nothing_mapped, of_taken, one_more, take_next}
+use Rattle.entries.specs.Right.{AreRight}
+use Rattle.entries.specs.Mapping.{AreOnce, Mapped}
 use Rattle.lookup.specs.Bases.{AreOfBases, BasesRead}
 use Rattle.lookup.proofs.ReadLemmas.{in_found, of_found}
 use Rattle.lookup.proofs.RightRows.{bases_right, no_row}

@@ -14,8 +14,8 @@ use Rattle.state_rows.specs.Rows.{outside_segment}
 use Rattle.state_rows.specs.declared.fault.StoreFault.{StoreFault}
 use Rattle.state_rows.specs.declared.fault.StoreFault.TheVariants.{Memory, Store}
 use Rattle.roster.specs.State as roster
-use Rattle.writing.specs.Kept.{IsBookOf}
-use Rattle.loading.specs.Loading.{AreRight}
+use Rattle.state_rows.specs.Kept.{IsBookOf}
+use Rattle.entries.specs.Right.{AreRight}
 use Rattle.lookup.specs.Reads.{ChangesNothing, HasStoreCause, IsCausedIfStore, IsReadFault, ReadsByKey, Shows, Stays, HaveNone}
 
 -- ---- One read

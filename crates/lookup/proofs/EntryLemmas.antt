@@ -17,7 +17,7 @@ use Rattle.stored_json.specs.KeptText.{kept_text}
 use Rattle.stored_json.specs.ReplyText.{reply_text, read_reply}
 use Rattle.stored_json.proofs.InstructionsBack.{kept_differ}
 use Rattle.stored_json.proofs.ReplyBack.{reply_back}
-use Rattle.loading.specs.SameRows.{HasInstants}
+use Rattle.entries.specs.SameRows.{HasInstants}
 use Rattle.roster.proofs.Members.{first_or_later, is_first, is_later, none_in}
 use Rattle.roster.specs.Sound.{Sound}
 use Rattle.roster.specs.State as roster
@@ -29,8 +29,8 @@ use Rattle.tables.specs.declared.request.RequestRecord.{RequestRecord}
 use Rattle.state_rows.specs.Rows.{table, ground_duty, request, row_of_ground, row_of_request, At, RequestAt}
 use Rattle.state_rows.proofs.Tests.{found, passes}
 use Rattle.state_rows.proofs.Values.{number_is, text_is}
-use Rattle.writing.specs.Kept.{IsBookOf}
-use Rattle.writing.specs.Outcomes.{CrashAddsNothing}
+use Rattle.state_rows.specs.Kept.{IsBookOf}
+use Rattle.state_rows.specs.Outcomes.{CrashAddsNothing}
 use Rattle.roster.specs.Holding.{AreJust, IsGroundOf}
 use Rattle.lookup.specs.Reads.{Shows}
 use Rattle.lookup.specs.Entries.{HasFirstRequest, HasFirstGround, ground_told, grounds_in}

@@ -23,8 +23,8 @@ use Rattle.tables.specs.Rows.{Finds, equals_at}
 use Rattle.tables.specs.declared.seat.SeatRecord.{SeatRecord}
 use Rattle.state_rows.specs.Rows.{table, seat, row_of_seat, At, HeldSeat}
 use Rattle.state_rows.proofs.Values.{text_is}
-use Rattle.writing.specs.Kept.{IsBookOf}
-use Rattle.writing.specs.Outcomes.{CrashAddsNothing}
+use Rattle.state_rows.specs.Kept.{IsBookOf}
+use Rattle.state_rows.specs.Outcomes.{CrashAddsNothing}
 use Rattle.roster.specs.Holding.{AreJust, IsHeldBy}
 use Rattle.lookup.specs.Reads.{Shows, ids_in}
 use Rattle.lookup.proofs.ReadLemmas.{in_found, of_found}

@@ -18,7 +18,7 @@ use Rattle.state_rows.specs.Rows.{table, crew, crew_base, row_of_member, row_of_
 use Rattle.state_rows.proofs.Lists.{one_value, some_same}
 use Rattle.state_rows.proofs.Tests.{found, passes}
 use Rattle.state_rows.proofs.Values.{members_same, number_is, text_is}
-use Rattle.writing.specs.Kept.{IsBookOf}
+use Rattle.state_rows.specs.Kept.{IsBookOf}
 use Rattle.lookup.specs.Members.{FindsMember, HasFirst}
 use Rattle.lookup.specs.Plans.{IfSome}
 use Rattle.lookup.specs.Reads.{HaveNone}

@@ -28,13 +28,13 @@ use Rattle.state_rows.specs.declared.fault.StoreFault.TheVariants.{Store}
 use Rattle.state_rows.proofs.Lists.{one_value, same_list, some_same}
 use Rattle.state_rows.proofs.Tests.{found, passes, IsPlain}
 use Rattle.state_rows.proofs.Values.{number_is, text_is}
-use Rattle.writing.specs.Kept.{IsBookOf}
-use Rattle.loading.specs.Loading.{AreRight}
-use Rattle.loading.specs.OneOutside.{IsOutsideToldBy, IsUntold}
-use Rattle.loading.specs.Reading.{Blames}
-use Rattle.loading.specs.declared.fault.LoadFault.{LoadFault}
-use Rattle.loading.specs.declared.fault.LoadFault.TheVariants.{NotABook, Version, Damaged, Fault}
-use Rattle.loading.specs.declared.fault.TableName.TheVariants as table_name
+use Rattle.state_rows.specs.Kept.{IsBookOf}
+use Rattle.entries.specs.Right.{AreRight}
+use Rattle.entries.specs.OneOutside.{IsOutsideToldBy, IsUntold}
+use Rattle.entries.specs.Faults.{Blames}
+use Rattle.entries.specs.declared.fault.LoadFault.{LoadFault}
+use Rattle.entries.specs.declared.fault.LoadFault.TheVariants.{NotABook, Version, Damaged, Fault}
+use Rattle.entries.specs.declared.fault.TableName.TheVariants as table_name
 use Rattle.lookup.specs.Outsides.{FindsOutside, HasFirstOutside, outsides_in}
 use Rattle.lookup.specs.Plans.{IfSome, unread_as}
 use Rattle.lookup.specs.Reads.{HaveNone}

@@ -33,17 +33,17 @@ use Rattle.state_rows.specs.Rows.{table, period, seat, segment, row_of_period, r
 use Rattle.state_rows.proofs.Lists.{one_value}
 use Rattle.state_rows.proofs.Tests.{found, passes}
 use Rattle.state_rows.proofs.Values.{text_is, number_is, seats_same}
-use Rattle.writing.specs.Kept.{IsBookOf}
-use Rattle.writing.proofs.Tables.{is_there}
-use Rattle.writing.specs.Outcomes.{CrashAddsNothing}
-use Rattle.loading.proofs.Mapping.{all_taken}
-use Rattle.loading.proofs.ReadPeriods.{names_same as period_keys_same}
-use Rattle.loading.proofs.ReadSegments.{names_same as segment_keys_same}
-use Rattle.loading.proofs.SamePairings.{SamePlan}
-use Rattle.loading.specs.Keyed.{Ids, IsKeyedPeriod, PeriodsRead, IsKeyedSegment, SegmentsRead, name_of_period, row_of_keyed_period, name_of_segment, row_of_keyed_segment}
-use Rattle.loading.specs.OnePairing.{IsToldBy}
-use Rattle.loading.specs.PlanRows.{ArePeriodsKeyed, AreSegmentsKeyed, PeriodRows, Periods, SegmentRows, Segments, period_name, segment_name}
-use Rattle.loading.specs.Reading.{AreOnce, Mapped, Under}
+use Rattle.state_rows.specs.Kept.{IsBookOf}
+use Rattle.state_rows.proofs.EachTable.{is_there}
+use Rattle.state_rows.specs.Outcomes.{CrashAddsNothing}
+use Rattle.entries.proofs.Mapping.{all_taken}
+use Rattle.entries.proofs.KeyedPeriods.{names_same as period_keys_same}
+use Rattle.entries.proofs.KeyedSegments.{names_same as segment_keys_same}
+use Rattle.entries.proofs.SamePairings.{SamePlan}
+use Rattle.entries.specs.Keyed.{Ids, IsKeyedPeriod, PeriodsRead, IsKeyedSegment, SegmentsRead, name_of_period, row_of_keyed_period, name_of_segment, row_of_keyed_segment}
+use Rattle.entries.specs.OnePairing.{IsToldBy}
+use Rattle.entries.specs.PlanRows.{ArePeriodsKeyed, AreSegmentsKeyed, PeriodRows, Periods, SegmentRows, Segments, period_name, segment_name}
+use Rattle.entries.specs.Mapping.{AreOnce, Mapped, Under}
 use Rattle.lookup.specs.Reads.{Shows}
 use Rattle.lookup.specs.Plans.{FindsPlan, HoldsSeat, IfSome, TellsPairing}
 use Rattle.lookup.specs.declared.pairing.PlanRecords.{PlanRecords}

@@ -12,12 +12,11 @@ use Rattle.tables.specs.declared.table_fault.TableFault.{TableFault}
 use Rattle.state_rows.specs.Rows.{TableName, table}
 use Rattle.state_rows.specs.Faults.{store_fault_of}
 use Rattle.state_rows.specs.declared.fault.StoreFault.{StoreFault}
-use Rattle.writing.specs.Kept.{AreStored}
-use Rattle.writing.proofs.Tables.{is_there}
+use Rattle.state_rows.specs.Kept.{AreStored}
+use Rattle.state_rows.proofs.EachTable.{is_there}
 use Rattle.tables.specs.Schema.{IsBook}
-use Rattle.writing.specs.Outcomes.{CrashAddsNothing, IsOutside, IsOverBook}
-use Rattle.writing.proofs.Committing.{unbegun_shows}
-use Rattle.loading.proofs.Telling.{clean_before}
+use Rattle.state_rows.specs.Outcomes.{CrashAddsNothing, IsOutside, IsOverBook}
+use Rattle.state_rows.proofs.Outcomes.{unbegun_shows, clean_before}
 use Rattle.lookup.proofs.Causes.{read_cause}
 use Rattle.lookup.proofs.RightRows.{RecordOf, records_of}
 use Rattle.lookup.specs.Reads.{ReadsRows, Stays, IsOpen}

@@ -29,14 +29,15 @@ use Rattle.state_rows.specs.declared.fault.StoreFault.TheVariants.{Memory, Store
 use Rattle.state_rows.proofs.Lists.{same_map}
 use Rattle.state_rows.proofs.Tests.{passes}
 use Rattle.state_rows.proofs.Values.{ids_same, int_is, sections_same, number_is, text_is}
-use Rattle.writing.specs.Kept.{IsBookOf}
-use Rattle.writing.proofs.Tables.{is_there}
-use Rattle.writing.specs.Outcomes.{IsOutside}
-use Rattle.loading.proofs.Mapping.{all_taken, nothing_mapped, next_mapped, mapped_at, mapped_place}
-use Rattle.loading.proofs.Duties.{IsAboveZero, duties_same}
-use Rattle.loading.proofs.ReadExceedances.{period_fits, recorded_above, recorded_in}
-use Rattle.loading.specs.Loading.{AreRight, IsKey, name_of}
-use Rattle.loading.specs.Reading.{AreOnce, HasStranger, IsDutyOf, IsInRange, Mapped, row_of_recorded}
+use Rattle.state_rows.specs.Kept.{IsBookOf}
+use Rattle.state_rows.proofs.EachTable.{is_there}
+use Rattle.state_rows.specs.Outcomes.{IsOutside}
+use Rattle.entries.proofs.Mapping.{all_taken, nothing_mapped, next_mapped, mapped_at, mapped_place}
+use Rattle.entries.proofs.Duties.{IsAboveZero, duties_same}
+use Rattle.entries.proofs.RecordedDuties.{period_fits, recorded_above, recorded_in}
+use Rattle.entries.specs.Right.{AreRight, IsKey, name_of}
+use Rattle.entries.specs.Mapping.{AreOnce, HasStranger, Mapped}
+use Rattle.entries.specs.Exceedances.{IsDutyOf, IsInRange, row_of_recorded}
 use Rattle.lookup.specs.Reads.{ReadsRows}
 use Rattle.lookup.specs.Recorded.{AreRead, IsNumbered, IsStrange, TellsRecorded}
 use Rattle.lookup.proofs.Causes.{read_cause, wrong_there}

@@ -19,7 +19,7 @@ use Rattle.tables.specs.declared.request.RequestRecord.{RequestRecord}
 use Rattle.state_rows.specs.Rows.{table, ground_duty, request, outside_segment}
 use Rattle.state_rows.proofs.Lists.{some_same}
 use Rattle.state_rows.proofs.Values.{number_is, text_is}
-use Rattle.loading.specs.Loading.{AreRight}
+use Rattle.entries.specs.Right.{AreRight}
 use Rattle.lookup.specs.Entries.{HasFirstGround, HasFirstRequest, HasTexts, TellsGround, ground_told}
 use Rattle.lookup.specs.Reads.{HaveNone}
 use Rattle.lookup.proofs.ReadLemmas.{of_found}

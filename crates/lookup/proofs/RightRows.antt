@@ -1,5 +1,5 @@
 -- Where the tables are right, each row is a record of its table.
-use Rattle.std.proofs.Common.{◌≡◌, inl, inr, refl, sym, ap, subst, ◌∙◌, arith, ℕ, ◌+◌, ◌<◌, ◌≤◌, ◌^◌, Bool, length, map, Option, Some, None}
+use Rattle.std.proofs.Common.{◌≡◌, inl, inr, sym, ap, subst, ◌∙◌, arith, ℕ, ◌+◌, ◌<◌, ◌≤◌, ◌^◌, Bool, length, map, Option}
 use Rattle.std.proofs.lemmas.Bool.{and_parts}
 use Rattle.std.proofs.lemmas.Option.{slice_get_within}
 use Rattle.sqlite_value.specs.Order.{Row, column}
@@ -9,25 +9,17 @@ use Rattle.sqlite.specs.Effect.{Database}
 use Rattle.duty.specs.Shape.{is_id}
 use Rattle.stored_json.specs.Instants.{is_instant, times_have_instants}
 use Rattle.roster.specs.State.{State}
-use Rattle.tables.specs.Records.{IsBaseRow, IsBookRow, IsCrewBaseRow, IsCrewRow, IsExceedanceRow, IsGroundRow, IsOutsideRow, IsOutsideSegmentRow, IsPairingRow, IsPeriodRow, IsRequestRow, IsSeatRow, IsSegmentRow, IsNumberIfAny, pairing_row}
+use Rattle.tables.specs.Records.{IsBaseRow, IsBookRow, IsCrewBaseRow, IsCrewRow, IsExceedanceRow, IsGroundRow, IsOutsideRow, IsOutsideSegmentRow, IsPairingRow, IsPeriodRow, IsRequestRow, IsSeatRow, IsSegmentRow, pairing_row}
 use Rattle.tables.specs.Rows.{HasNoRecord, cells, kept_in, rows_of}
 use Rattle.tables.specs.Schema.{BookTable, IsNameFree, base_table, crew_base_table, outside_table, outside_segment_table}
 use Rattle.state_rows.specs.Rows.{HasJust, InOutside, InOutsideSegment, TableName, table, book, crew, pairing, period, segment, seat, ground_duty, exceedance, request, base, crew_base, outside, outside_segment}
 use Rattle.state_rows.specs.declared.edition.Edition.TheVariants.{Second}
 use Rattle.state_rows.proofs.Values.{text_is}
-use Rattle.loading.specs.Loading.{AreOutsides, AreRight, IsInstantIfAny, IsOfEdition, IsRight}
-use Rattle.loading.proofs.Ascii.{id_utf8, zone_utf8}
-use Rattle.loading.proofs.LaterTables.{one_edition}
-use Rattle.loading.proofs.OneOutside.{all_at, few_segments, has_id}
-use Rattle.loading.proofs.ReadBook.{not_unreadable as no_book}
-use Rattle.loading.proofs.ReadCrew.{not_unreadable as no_member}
-use Rattle.loading.proofs.ReadExceedances.{not_unreadable as no_exceedance}
-use Rattle.loading.proofs.ReadGrounds.{not_unreadable as no_ground}
-use Rattle.loading.proofs.ReadPairings.{segments_fit}
-use Rattle.loading.proofs.ReadPeriods.{number_fits}
-use Rattle.loading.proofs.ReadRequests.{not_unreadable as no_request}
-use Rattle.loading.proofs.ReadSegments.{not_unreadable as no_segment}
-use Rattle.loading.proofs.SeatTable.{not_unreadable as no_seat}
+use Rattle.entries.specs.Right.{AreOutsides, AreRight, IsOfEdition, IsRight}
+use Rattle.entries.proofs.Ascii.{id_utf8, zone_utf8}
+use Rattle.entries.proofs.Editions.{one_edition}
+use Rattle.entries.proofs.OneOutside.{all_at, few_segments, has_id}
+use Rattle.entries.proofs.RightRows.{book_rows, crew_rows, exceedance_rows, ground_rows, number_fits, number_fits_if_any, request_rows, seat_rows, segment_rows}
 
 -- ---- The tables down to each
 
@@ -72,20 +64,16 @@ abbrev pub AreRecords : TableName → (Row → Type 0) → Type 0
 AreRecords it IsRecord = (db : Database) (test : Row → Bool) → HasNoRecord (table it) test IsRecord db → AreRight outside_segment db → ⊥
 
 book_records : AreRecords book IsBookRow
-book_records db test x right = no_book db (inr (x.0, x.1, refl, x.3)) (book_right db right)
+book_records db test x right = x.3 (book_rows db x.0 x.1 (book_right db right))
 
 crew_records : AreRecords crew IsCrewRow
-crew_records db test x right = no_member db (inr (x.0, x.1, refl, x.3)) (crew_right db right)
+crew_records db test x right = x.3 (crew_rows db x.0 x.1 (crew_right db right))
 
 pairing_records : AreRecords pairing IsPairingRow
 pairing_records db test x right =
     let r = pairings_right db right in
     let at = (r.1.1.1 x.0).0 x.1 in
     x.3 (record { id = at.0.name }, id_utf8 at.0.name (r.1.2 at.0.name at.0.value at.0.there), at.1)
-
-number_fits_if_any : (o : Option ℕ) → IsInstantIfAny o → IsNumberIfAny o
-number_fits_if_any None is = tt
-number_fits_if_any (Some n) is = number_fits n is
 
 period_records : AreRecords period IsPeriodRow
 period_records db test x right =
@@ -105,21 +93,19 @@ period_records db test x right =
     )
 
 segment_records : AreRecords segment IsSegmentRow
-segment_records db test x right =
-    let r = segments_right db right in
-    no_segment db (inr (x.0, x.1, refl, x.3)) (segments_fit r.0 db r.1)
+segment_records db test x right = x.3 (segment_rows db x.0 x.1 (segments_right db right))
 
 seat_records : AreRecords seat IsSeatRow
-seat_records db test x right = no_seat db (inr (x.0, x.1, refl, x.3)) (seats_right db right)
+seat_records db test x right = x.3 (seat_rows db x.0 x.1 (seats_right db right))
 
 ground_records : AreRecords ground_duty IsGroundRow
-ground_records db test x right = no_ground db (inr (x.0, x.1, refl, x.3)) (grounds_right db right)
+ground_records db test x right = x.3 (ground_rows db x.0 x.1 (grounds_right db right))
 
 pub exceedance_records : AreRecords exceedance IsExceedanceRow
-exceedance_records db test x right = no_exceedance db (inr (x.0, x.1, refl, x.3)) (exceedances_right db right)
+exceedance_records db test x right = x.3 (exceedance_rows db x.0 x.1 (exceedances_right db right))
 
 request_records : AreRecords request IsRequestRow
-request_records db test x right = no_request db (inr (x.0, x.1, refl, x.3)) (requests_right db right)
+request_records db test x right = x.3 (request_rows db x.0 x.1 (requests_right db right))
 
 -- where a name is free there is no row
 pub no_row : (kept : BookTable) (db : Database) (row : Row) → IsNameFree kept db.schema → Has (rows_of kept db) row → ⊥

@@ -19,19 +19,19 @@ use Rattle.state_rows.specs.Rows.{table, period, segment, outside_segment, InPer
 use Rattle.state_rows.proofs.Lists.{one_value}
 use Rattle.state_rows.proofs.Tests.{found, passes, IsPlain}
 use Rattle.state_rows.proofs.Values.{text_is, number_is}
-use Rattle.writing.specs.Kept.{IsBookOf}
-use Rattle.loading.proofs.PlanKeys.{period_names_same, segment_names_same}
-use Rattle.loading.proofs.PlanStates.{state_told}
-use Rattle.loading.proofs.ReadPairings.{segments_fit}
-use Rattle.loading.specs.Keyed.{IsKeyedPeriod, IsKeyedSegment, PeriodsRead, SegmentsRead, row_of_keyed_period, row_of_keyed_segment}
-use Rattle.loading.specs.Loading.{AreRight}
-use Rattle.loading.specs.OnePairing.{IsUntold, RefusesPairing, only}
-use Rattle.loading.specs.declared.fault.LoadFault.{LoadFault}
-use Rattle.loading.specs.declared.fault.LoadFault.TheVariants.{Damaged, Fault, NotABook, Version}
+use Rattle.state_rows.specs.Kept.{IsBookOf}
+use Rattle.entries.proofs.PlanKeys.{period_names_same, segment_names_same}
+use Rattle.entries.proofs.PlanStates.{state_told}
+use Rattle.entries.proofs.RightRows.{segments_fit}
+use Rattle.entries.specs.Keyed.{IsKeyedPeriod, IsKeyedSegment, PeriodsRead, SegmentsRead, row_of_keyed_period, row_of_keyed_segment}
+use Rattle.entries.specs.Right.{AreRight}
+use Rattle.entries.specs.OnePairing.{IsUntold, RefusesPairing, only}
+use Rattle.entries.specs.declared.fault.LoadFault.{LoadFault}
+use Rattle.entries.specs.declared.fault.LoadFault.TheVariants.{Damaged, Fault, NotABook, Version}
 use Rattle.state_rows.specs.declared.fault.StoreFault.{StoreFault}
 use Rattle.state_rows.specs.declared.fault.StoreFault.TheVariants.{Store}
-use Rattle.loading.specs.PlanRows.{AreUngapped, HasNoGaps, IsPairingOfRows, PeriodRows, Periods, SegmentRows, Segments, period_name, segment_name}
-use Rattle.loading.specs.Reading.{HasStranger}
+use Rattle.entries.specs.PlanRows.{AreUngapped, HasNoGaps, IsPairingOfRows, PeriodRows, Periods, SegmentRows, Segments, period_name, segment_name}
+use Rattle.entries.specs.Mapping.{HasStranger}
 use Rattle.lookup.proofs.OnePairing.{alone, alone_here, only_one}
 use Rattle.lookup.proofs.PlanLemmas.{once_period, once_segment, periods_just, periods_keyed, segments_just, segments_keyed}
 use Rattle.lookup.specs.Plans.{FindsPlan, IfSome, unread_as}

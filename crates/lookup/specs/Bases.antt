@@ -6,7 +6,7 @@ use Rattle.duty.specs.Shape.{home}
 use Rattle.roster.specs.Bases.{Bases}
 use Rattle.tables.specs.Records.{base_row}
 use Rattle.tables.specs.declared.base.BaseRecord.{BaseRecord}
-use Rattle.loading.specs.Reading.{AreOnce, Mapped}
+use Rattle.entries.specs.Mapping.{AreOnce, Mapped}
 use Rattle.state_rows.specs.Rows.{row_of_base}
 
 -- some records of bases are those that a book may have: one is of HOME, and the zone of each is a

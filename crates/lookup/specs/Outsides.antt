@@ -11,7 +11,7 @@ use Rattle.tables.specs.declared.outside.OutsideRecord.{OutsideRecord}
 use Rattle.tables.specs.declared.outside_segment.OutsideSegmentRecord.{OutsideSegmentRecord}
 use Rattle.state_rows.specs.Rows.{table, outside, outside_segment}
 use Rattle.state_rows.specs.declared.fault.StoreFault.{StoreFault}
-use Rattle.loading.specs.OneOutside.{IsOutsideToldBy}
+use Rattle.entries.specs.OneOutside.{IsOutsideToldBy}
 use Rattle.lookup.specs.Plans.{IfSome}
 use Rattle.lookup.specs.Reads.{IsCausedIfStore, Stays}
 use Rattle.lookup.specs.declared.outside.OutsideRecords.{OutsideRecords}

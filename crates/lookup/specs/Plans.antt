@@ -14,9 +14,9 @@ use Rattle.tables.specs.declared.segment.SegmentRecord.{SegmentRecord}
 use Rattle.state_rows.specs.Rows.{table, period, seat, segment}
 use Rattle.state_rows.specs.declared.fault.StoreFault.{StoreFault}
 use Rattle.state_rows.specs.declared.fault.StoreFault.TheVariants.{Memory, Store}
-use Rattle.loading.specs.OnePairing.{IsToldBy}
-use Rattle.loading.specs.declared.fault.LoadFault.{LoadFault}
-use Rattle.loading.specs.declared.fault.LoadFault.TheVariants.{Fault}
+use Rattle.entries.specs.OnePairing.{IsToldBy}
+use Rattle.entries.specs.declared.fault.LoadFault.{LoadFault}
+use Rattle.entries.specs.declared.fault.LoadFault.TheVariants.{Fault}
 use Rattle.lookup.specs.Reads.{IsCausedIfStore, Stays}
 use Rattle.lookup.specs.declared.pairing.PlanRecords.{PlanRecords}
 

@@ -7,16 +7,16 @@ use Rattle.sqlite.specs.State as conn
 use Rattle.sqlite.specs.State.{HasCleanDisk, IsUnchanged}
 use Rattle.roster.specs.Sound.{Sound}
 use Rattle.roster.specs.State.{State}
-use Rattle.loading.specs.Loading.{AreRight}
-use Rattle.loading.specs.SameRows.{HasInstants}
+use Rattle.entries.specs.Right.{AreRight}
+use Rattle.entries.specs.SameRows.{HasInstants}
 use Rattle.tables.specs.Calls.{HasStepLimit}
 use Rattle.tables.specs.Rows.{Finds}
 use Rattle.tables.specs.declared.seat.SeatRecord.{SeatRecord}
 use Rattle.state_rows.specs.Rows.{TableName, table, outside_segment}
 use Rattle.state_rows.specs.declared.fault.StoreFault.{StoreFault}
 use Rattle.state_rows.specs.declared.fault.StoreFault.TheVariants.{Store}
-use Rattle.writing.specs.Kept.{IsBookOf}
-use Rattle.writing.specs.Outcomes.{CrashAddsNothing, IsOutside, StaysOpen, StillShows}
+use Rattle.state_rows.specs.Kept.{IsBookOf}
+use Rattle.state_rows.specs.Outcomes.{CrashAddsNothing, IsOutside, StaysOpen, StillShows}
 
 -- a connection shows the tables of a book in this state, which is sound, while it is open
 pub record Shows (now : conn.State) (s : State) : Type 0 where

@@ -8,7 +8,7 @@ ghost use Rattle.time117.specs.Local.{is_zone_text};
 ghost use Rattle.duty.specs.Shape.{home};
 ghost use Rattle.tables.specs.Records.{base_row};
 ghost use Rattle.tables.specs.Rows.{begins_with};
-ghost use Rattle.writing.specs.Outcomes.{IsOutside, IsOverBook};
+ghost use Rattle.state_rows.specs.Outcomes.{IsOutside, IsOverBook};
 ghost use Rattle.state_rows.specs.Rows.{base, row_of_base};
 ghost use Rattle.lookup.specs.Reads.{ReadsByKey, ReadsRows};
 ghost use Rattle.lookup.specs.Bases.{AreOfBases, BasesRead};

@@ -5,14 +5,15 @@ ghost use Rattle.std.specs.Prelude.{◌≡◌, [], length, map, IfErr, IfOk};
 ghost use Rattle.sqlite.specs.Held.{state};
 ghost use Rattle.tables.specs.Records.{exceedance_row};
 ghost use Rattle.tables.specs.Rows.{begins_with};
-ghost use Rattle.loading.specs.Reading.{HasStranger, row_of_recorded};
-ghost use Rattle.writing.specs.Outcomes.{IsOutside};
+ghost use Rattle.entries.specs.Mapping.{HasStranger};
+ghost use Rattle.entries.specs.Exceedances.{row_of_recorded};
+ghost use Rattle.state_rows.specs.Outcomes.{IsOutside};
 ghost use Rattle.state_rows.specs.Rows.{exceedance};
 ghost use Rattle.lookup.specs.Reads.{ReadsByKey, ReadsRows};
 ghost use Rattle.lookup.specs.Recorded.{AreRead, IsNumbered, IsStrange, TellsRecorded};
 
 use duty::CrewId;
-use loading::{duty_of, key_of, section_of};
+use entries::{duty_of, key_of, section_of};
 use roster::{DutyId, ExceedanceId};
 use sqlite::{Alter, Connection};
 use state_rows::StoreFault;

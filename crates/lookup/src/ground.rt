@@ -7,7 +7,7 @@ ghost use Rattle.sqlite.specs.Held.{state};
 ghost use Rattle.sqlite_value.specs.declared.value.Value.TheVariants as value;
 ghost use Rattle.tables.specs.Records.{ground_row};
 ghost use Rattle.tables.specs.Rows.{begins_with, equals_at};
-ghost use Rattle.writing.specs.Outcomes.{IsOutside, IsOverBook};
+ghost use Rattle.state_rows.specs.Outcomes.{IsOutside, IsOverBook};
 ghost use Rattle.state_rows.specs.Rows.{ground_duty};
 ghost use Rattle.roster.specs.Holding.{AreJust, IsGroundOf};
 ghost use Rattle.lookup.specs.Reads.{ReadsByKey, ReadsRows, HaveNone};

@@ -6,7 +6,7 @@ ghost use Rattle.sqlite.specs.Held.{state};
 ghost use Rattle.sqlite_value.specs.declared.value.Value.TheVariants as value;
 ghost use Rattle.tables.specs.Records.{seat_row};
 ghost use Rattle.tables.specs.Rows.{equals_at};
-ghost use Rattle.writing.specs.Outcomes.{IsOutside, IsOverBook};
+ghost use Rattle.state_rows.specs.Outcomes.{IsOutside, IsOverBook};
 ghost use Rattle.state_rows.specs.Rows.{seat};
 ghost use Rattle.roster.specs.Holding.{AreJust, IsHeldBy};
 ghost use Rattle.lookup.specs.Reads.{ReadsByKey, ReadsRows, ids_in};

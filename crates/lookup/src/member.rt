@@ -4,7 +4,7 @@
 ghost use Rattle.std.specs.Prelude.{◌≡◌, IfErr, IfOk};
 ghost use Rattle.std.specs.FinMap as fin;
 ghost use Rattle.sqlite.specs.Held.{state};
-ghost use Rattle.writing.specs.Outcomes.{IsOutside, IsOverBook};
+ghost use Rattle.state_rows.specs.Outcomes.{IsOutside, IsOverBook};
 ghost use Rattle.lookup.specs.Reads.{ReadsByKey, HaveNone};
 ghost use Rattle.lookup.specs.Members.{HasFirst, ReadsMember};
 

@@ -7,7 +7,7 @@ ghost use Rattle.sqlite.specs.Held.{state};
 ghost use Rattle.sqlite_value.specs.declared.value.Value.TheVariants as value;
 ghost use Rattle.tables.specs.Records.{outside_row};
 ghost use Rattle.tables.specs.Rows.{equals_at};
-ghost use Rattle.writing.specs.Outcomes.{IsOutside, IsOverBook};
+ghost use Rattle.state_rows.specs.Outcomes.{IsOutside, IsOverBook};
 ghost use Rattle.state_rows.specs.Rows.{outside};
 ghost use Rattle.roster.specs.Holding.{AreJust, IsOutsideOf};
 ghost use Rattle.lookup.specs.Reads.{ReadsByKey, ReadsRows, HaveNone};
@@ -15,7 +15,7 @@ ghost use Rattle.lookup.specs.Outsides.{HasFirstOutside, ReadsOutside, outsides_
 
 use crate::pairing::unread;
 use duty::{CrewId, OutsideId};
-use loading::outside_of_records;
+use entries::outside_of_records;
 use roster::OutsideEntry;
 use sqlite::{Alter, Connection};
 use state_rows::StoreFault;

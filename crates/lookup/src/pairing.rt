@@ -4,13 +4,13 @@
 ghost use Rattle.std.specs.Prelude.{◌≡◌, IfErr, IfOk, IsSome, slice_get};
 ghost use Rattle.std.specs.FinMap as fin;
 ghost use Rattle.sqlite.specs.Held.{state};
-ghost use Rattle.writing.specs.Outcomes.{IsOutside, IsOverBook};
-ghost use Rattle.loading.specs.OnePairing.{IsUntold};
+ghost use Rattle.state_rows.specs.Outcomes.{IsOutside, IsOverBook};
+ghost use Rattle.entries.specs.OnePairing.{IsUntold};
 ghost use Rattle.lookup.specs.Reads.{ReadsByKey};
 ghost use Rattle.lookup.specs.Plans.{HoldsSeat, ReadsPlan, TellsPairing, unread_as};
 
 use duty::{CrewId, PairingId};
-use loading::{LoadFault, pairing_of_records};
+use entries::{LoadFault, pairing_of_records};
 use roster::PairingEntry;
 use sqlite::{Alter, Connection};
 use state_rows::StoreFault;

@@ -8,13 +8,13 @@ ghost use Rattle.sqlite_value.specs.declared.value.Value.TheVariants as value;
 ghost use Rattle.command.specs.Keys.{key_name};
 ghost use Rattle.tables.specs.Records.{request_row};
 ghost use Rattle.tables.specs.Rows.{begins_with};
-ghost use Rattle.writing.specs.Outcomes.{IsOutside, IsOverBook};
+ghost use Rattle.state_rows.specs.Outcomes.{IsOutside, IsOverBook};
 ghost use Rattle.state_rows.specs.Rows.{request};
 ghost use Rattle.lookup.specs.Reads.{ReadsByKey, ReadsRows, HaveNone};
 ghost use Rattle.lookup.specs.Entries.{HasFirstRequest};
 
 use command::Key;
-use loading::{command_of, reply_of};
+use entries::{command_of, reply_of};
 use roster::LoggedCommand;
 use sqlite::{Alter, Connection};
 use state_rows::StoreFault;

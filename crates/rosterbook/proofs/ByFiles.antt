@@ -1,5 +1,5 @@
 -- What is answered by a book that was opened is answered by what its files held, and what is left of it is left of them.
-use Rattle.std.proofs.Common.{◌≡◌, inl, inr, refl, subst, sym, ℕ, ◌+◌, List, [], ◌∷◌, length, take, arith, Option, Some, None, Result, Ok, Err, IfOk, IfErr, IfSome}
+use Rattle.std.proofs.Common.{◌≡◌, inl, inr, refl, subst, sym, ℕ, ◌+◌, List, [], length, take, arith, Option, Some, None, Result, Ok, Err, IfOk, IfErr, IfSome}
 use Rattle.std.specs.Prelude.{⊤, false}
 use Rattle.std.proofs.lemmas.List.{take_all}
 use Rattle.sqlite_disk.specs.declared.Disk.{Ghosts}
@@ -9,7 +9,7 @@ use Rattle.sqlite_wal.specs.Recovery.{Image}
 use Rattle.sqlite.specs.Files.{file_state, over_files}
 use Rattle.sqlite.specs.Held.{state}
 use Rattle.codec.specs.Requests.{read_request}
-use Rattle.loading.specs.declared.fault.LoadFault.{LoadFault}
+use Rattle.entries.specs.declared.fault.LoadFault.{LoadFault}
 use Rattle.roster.specs.Folds.{Asked, Fold, ReplyOrRefusal, import}
 use Rattle.roster.specs.State.{State}
 use Rattle.state_rows.specs.declared.fault.StoreFault.TheVariants as faults

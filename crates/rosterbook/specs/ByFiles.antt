@@ -13,8 +13,8 @@ use Rattle.codec.specs.Requests.{read_request}
 use Rattle.codec.specs.Schedule.{IsSchedule}
 use Rattle.store.specs.declared.show.Show.{Show}
 use Rattle.store.specs.declared.show.Show.TheVariants as show
-use Rattle.loading.specs.Faults.{load_text}
-use Rattle.loading.specs.declared.fault.LoadFault.{LoadFault}
+use Rattle.entries.specs.Faults.{load_text}
+use Rattle.entries.specs.declared.fault.LoadFault.{LoadFault}
 use Rattle.book.specs.Calls.{AreCalls, Call}
 use Rattle.book.specs.Found.{FindsBook, IsCleanLeft, IsFaultOf, LeavesBook, LeavesEither}
 use Rattle.book.specs.Kept.{IsDurablyAt, Kept}
@@ -22,8 +22,7 @@ use Rattle.book.specs.Lives.{acknowledged, in_doubt}
 use Rattle.book.specs.declared.file.FilesLeft.{FilesLeft}
 use Rattle.console.specs.declared.actions.Action.{Action}
 use Rattle.console.specs.declared.actions.Action.TheVariants.{Init, Do, Import}
-use Rattle.console.specs.declared.actions.Action.TheVariants.{Roster, Pairing, Exceedances}
-use Rattle.console.specs.declared.actions.Action.TheVariants.{Serve}
+use Rattle.console.specs.declared.actions.Action.TheVariants.{Roster, Pairing, Exceedances, Serve}
 use Rattle.http_exchange.specs.Exchange.{ChannelBytes}
 use Rattle.rosterbook.specs.Asking.{Answers, AreTold, IsNoSchedule, IsRequestReadAndTold}
 use Rattle.rosterbook.specs.Asking.{asked_by_request, left_by_request}

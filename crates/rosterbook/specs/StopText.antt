@@ -1,7 +1,7 @@
 -- Why the program stops before its end, as it is printed: number, name, and the table where there is one.
 use Rattle.std.specs.Prelude.{ℕ, List, codes}
 use Rattle.state_rows.specs.Faults as rows
-use Rattle.loading.specs.Faults.{load_text}
+use Rattle.entries.specs.Faults.{load_text}
 use Rattle.rosterbook.specs.declared.stop.Stop.{Stop}
 use Rattle.rosterbook.specs.declared.stop.Stop.TheVariants.{Load, Book, Memory, Channel, Network}
 

@@ -8,11 +8,13 @@ use Rattle.sqlite.specs.Held.{Held, state}
 use Rattle.sqlite.specs.State.{State, HasCleanDisk, IsLive, IsUnchanged}
 use Rattle.roster.specs.State as roster
 use Rattle.tables.specs.Calls.{CrashLeavesNoMore}
-use Rattle.loading.specs.Loading.{IsCaused, IsOfEdition, Justifies}
+use Rattle.loading.specs.Loading.{IsCaused, Justifies}
+use Rattle.entries.specs.Right.{IsOfEdition}
 use Rattle.tables.specs.Schema.{later_tables}
 use Rattle.writing.specs.Commits.{IsMigrated}
-use Rattle.writing.specs.Kept.{HoldBookOf, IsBookOf, IsFirstBookOf, KeepBeside}
-use Rattle.writing.specs.Outcomes.{CrashAddsNothing, CrashLeaves, CrashLeavesOnly, CrashLeavesSome, HoldsNow, IsOutside, IsOverBook, ShowsFirst, ShowsOnly, one}
+use Rattle.state_rows.specs.Kept.{HoldBookOf, IsBookOf, IsFirstBookOf}
+use Rattle.writing.specs.Beside.{KeepBeside}
+use Rattle.state_rows.specs.Outcomes.{CrashAddsNothing, CrashLeaves, CrashLeavesOnly, CrashLeavesSome, HoldsNow, IsOutside, IsOverBook, ShowsFirst, ShowsOnly, one}
 use Rattle.loading.specs.Reading.{AgreesIn, ReadsAs}
 use Rattle.state_rows.specs.Rows.{outside_segment}
 use Rattle.state_rows.specs.declared.edition.Edition.{Edition}
@@ -21,13 +23,13 @@ use Rattle.state_rows.specs.declared.fault.StoreFault.{StoreFault}
 use Rattle.state_rows.specs.declared.fault.StoreFault.TheVariants.{Memory, Store}
 use Rattle.writing.proofs.Ending.{of_trees}
 use Rattle.store.proofs.ReadBooks.{read_book_of, read_first_of}
-use Rattle.loading.proofs.LaterTables.{one_edition}
-use Rattle.loading.proofs.Telling.{clean_before}
-use Rattle.loading.proofs.RightSound.{right_sound, right_instants}
+use Rattle.entries.proofs.Editions.{one_edition}
+use Rattle.state_rows.proofs.Outcomes.{clean_before}
+use Rattle.entries.proofs.RightSound.{right_sound, right_instants}
 use Rattle.store.specs.Found.{IsFound}
 use Rattle.store.specs.Loaded.{CrashMayMigrate, IsLoaded, IsNotLoaded, IsOfFirst, AreMigrated, ShowsWhatIsLeft}
-use Rattle.loading.specs.declared.fault.LoadFault.{LoadFault}
-use Rattle.loading.specs.declared.fault.LoadFault.TheVariants.{Fault}
+use Rattle.entries.specs.declared.fault.LoadFault.{LoadFault}
+use Rattle.entries.specs.declared.fault.LoadFault.TheVariants.{Fault}
 
 -- ---- A book that is read whole
 

@@ -4,13 +4,13 @@ use Rattle.sqlite.specs.Effect.{Database, IsDatabase}
 use Rattle.roster.specs.State.{State}
 use Rattle.tables.specs.Rows.{IsStored}
 use Rattle.tables.specs.Schema.{IsNameFree, IsOfBook}
-use Rattle.loading.proofs.LaterTables.{one_edition}
-use Rattle.loading.specs.Loading.{IsOfEdition, IsLaterOfState, IsRight, IsTableOfState}
+use Rattle.entries.proofs.Editions.{one_edition}
+use Rattle.entries.specs.Right.{IsOfEdition, IsLaterOfState, IsRight, IsTableOfState}
 use Rattle.loading.specs.Reading.{AgreesThrough}
 use Rattle.state_rows.specs.Rows.{table, HasJust, InBookOf, InFirst, InTable, TableName, is_later, book, crew, pairing, period, segment, seat, ground_duty, exceedance, request, base, crew_base, outside, outside_segment}
 use Rattle.state_rows.specs.declared.edition.Edition.{Edition}
 use Rattle.state_rows.specs.declared.edition.Edition.TheVariants.{First, Second}
-use Rattle.writing.specs.Kept.{IsBookOf, IsFirstBookOf}
+use Rattle.state_rows.specs.Kept.{IsBookOf, IsFirstBookOf}
 
 -- the row of `book` is of the version that the database is of
 its_edition : (edition known : Edition) (s : State) (db : Database) → HasJust (table book) db (InBookOf known s) → IsOfEdition edition db → HasJust (table book) db (InBookOf edition s)

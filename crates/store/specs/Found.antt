@@ -5,9 +5,9 @@ use Rattle.sqlite_trees.specs.Tree.{Trees}
 use Rattle.sqlite.specs.Effect.{Database}
 use Rattle.roster.specs.Sound.{Sound}
 use Rattle.roster.specs.State.{State}
-use Rattle.loading.specs.Loading.{IsRightBook}
-use Rattle.loading.specs.SameRows.{HasInstants}
-use Rattle.writing.specs.Kept.{IsBookOf, IsFirstBookOf}
+use Rattle.entries.specs.Right.{IsRightBook}
+use Rattle.entries.specs.SameRows.{HasInstants}
+use Rattle.state_rows.specs.Kept.{IsBookOf, IsFirstBookOf}
 
 -- a sound book in this state is found in the database, in version 1 or in version 2
 pub record IsFound (s : State) (found : Database) : Type 0 where

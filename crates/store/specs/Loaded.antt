@@ -4,15 +4,17 @@ use Rattle.sqlite_trees.specs.Tree.{Trees}
 use Rattle.sqlite.specs.State as conn
 use Rattle.sqlite.specs.State.{HasCleanDisk, IsUnchanged}
 use Rattle.roster.specs.State.{State}
-use Rattle.loading.specs.Loading.{HasReadCause, IsOfEdition, Justifies}
-use Rattle.loading.specs.declared.fault.LoadFault.{LoadFault}
-use Rattle.loading.specs.declared.fault.LoadFault.TheVariants.{Fault}
+use Rattle.loading.specs.Loading.{HasReadCause, Justifies}
+use Rattle.entries.specs.Right.{IsOfEdition}
+use Rattle.entries.specs.declared.fault.LoadFault.{LoadFault}
+use Rattle.entries.specs.declared.fault.LoadFault.TheVariants.{Fault}
 use Rattle.state_rows.specs.declared.edition.Edition.TheVariants.{First}
 use Rattle.state_rows.specs.declared.fault.StoreFault.TheVariants.{Store}
 use Rattle.tables.specs.Schema.{later_tables}
-use Rattle.writing.specs.Kept.{HoldBookOf, IsFirstBookOf, KeepBeside}
-use Rattle.writing.specs.Outcomes.{CrashAddsNothing, CrashAddsOnly, CrashLeaves, CrashLeavesOnly}
-use Rattle.writing.specs.Outcomes.{CrashLeavesSome, HoldsNow, IsOutside, ShowsOnly, StaysOpen, one}
+use Rattle.state_rows.specs.Kept.{HoldBookOf, IsFirstBookOf}
+use Rattle.writing.specs.Beside.{KeepBeside}
+use Rattle.state_rows.specs.Outcomes.{CrashAddsNothing, CrashAddsOnly, CrashLeaves, CrashLeavesOnly}
+use Rattle.state_rows.specs.Outcomes.{CrashLeavesSome, HoldsNow, IsOutside, ShowsOnly, StaysOpen, one}
 use Rattle.store.specs.Found.{IsFound}
 
 -- the connection shows a database whose table `book` says version 1

@@ -5,7 +5,7 @@ mod show;
 mod source;
 mod store;
 
-pub use loading::{LoadFault, TableName, database_holds_one_state, rows_say_all};
+pub use entries::{LoadFault, TableName, database_holds_one_state, rows_say_all};
 pub use show::Show;
 pub use state_rows::StoreFault;
 pub use store::Store;

@@ -6,14 +6,13 @@ ghost use Rattle.sqlite.specs.State.{HasCleanDisk};
 ghost use Rattle.sqlite.specs.Held.{state};
 ghost use Rattle.roster.specs.Sound.{Sound};
 ghost use Rattle.roster.specs.State.{State, empty};
-ghost use Rattle.roster.specs.Steps.{after, step_of};
+ghost use Rattle.roster.specs.Steps.{step_of};
 ghost use Rattle.part.specs.Part.{Part};
 ghost use Rattle.lookup.specs.Reads.{ChangesNothing, IsOpen, IsReadFault, Shows};
 ghost use Rattle.writing.specs.Commits.{IsCommitted, AreTablesMade, IsNotMade};
 ghost use Rattle.loading.specs.Loading.{Justifies};
 ghost use Rattle.writing.specs.Making.{IsFree};
-ghost use Rattle.writing.specs.Outcomes.{CrashLeaves, CrashLeavesSome, CrashAddsNothing, HoldsNow, IsOutside};
-ghost use Rattle.writing.specs.Outcomes.{IsOverBook, ShowsFirst, one};
+ghost use Rattle.state_rows.specs.Outcomes.{CrashLeaves, CrashLeavesSome, CrashAddsNothing, HoldsNow, IsOutside, IsOverBook, ShowsFirst, one};
 ghost use Rattle.loading.specs.Reading.{AgreesIn, ReadsAs};
 ghost use Rattle.state_rows.specs.Rows.{outside_segment};
 ghost use Rattle.store.specs.Found.{IsFound};
@@ -22,7 +21,8 @@ ghost use Rattle.store.specs.Shown.{IsShown, shown_part};
 
 use crate::show::Show;
 use command::{Command, Key};
-use loading::{LoadFault, read_all};
+use entries::LoadFault;
+use loading::read_all;
 use part::{gather, gather_exceedances, gather_member, gather_pairing, judge};
 use roster::{Change, Roster, Verdict};
 use sqlite::{Alter, Connection};
@@ -45,7 +45,7 @@ impl<S: Alter + Drop> Drop for Store<S> {
 
 impl<S: Alter> Model for Store<S> {
     ghost use Rattle.sqlite.specs.Held.{Held, held_code, state};
-    ghost use Rattle.writing.specs.Outcomes.{IsOutside, IsOverBook};
+    ghost use Rattle.state_rows.specs.Outcomes.{IsOutside, IsOverBook};
 
     ghost Value = { Held S };
 

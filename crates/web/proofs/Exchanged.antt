@@ -7,8 +7,8 @@ use Rattle.httparse.specs.Grammar.{RequestHead}
 use Rattle.roster.specs.Folds.{Fold}
 use Rattle.roster.specs.Honest.{Honest}
 use Rattle.roster.specs.State.{State}
-use Rattle.writing.specs.Kept.{KeepOthers}
-use Rattle.writing.specs.Outcomes.{CrashAddsOnly, CrashLeaves}
+use Rattle.writing.specs.Beside.{KeepOthers}
+use Rattle.state_rows.specs.Outcomes.{CrashAddsOnly, CrashLeaves}
 use Rattle.book.specs.Calls.{IsAfterCalls}
 use Rattle.book.specs.Kept.{HasTables, IsDurablyAt, IsClean, Kept}
 use Rattle.http_message.specs.Heading.{heading}

@@ -22,8 +22,8 @@ use Rattle.roster.specs.State.{State}
 use Rattle.roster.specs.Steps.{step_of}
 use Rattle.state_rows.specs.declared.fault.StoreFault.{StoreFault}
 use Rattle.state_rows.specs.declared.fault.StoreFault.TheVariants as fault
-use Rattle.writing.specs.Kept.{IsBookOf}
-use Rattle.writing.specs.Outcomes.{CrashLeaves}
+use Rattle.state_rows.specs.Kept.{IsBookOf}
+use Rattle.state_rows.specs.Outcomes.{CrashLeaves}
 use Rattle.book.specs.Answered.{IsAnswered}
 use Rattle.book.specs.Calls.{IsAfterCalls}
 use Rattle.book.specs.Kept as kept

@@ -4,8 +4,8 @@ use Rattle.sqlite.specs.Held.{state}
 use Rattle.sqlite_trees.specs.declared.store.Store.{Ghosts}
 use Rattle.roster.specs.Honest.{Honest}
 use Rattle.roster.specs.State.{State}
-use Rattle.writing.specs.Kept.{KeepOthers}
-use Rattle.writing.specs.Outcomes.{CrashAddsOnly, CrashLeaves}
+use Rattle.writing.specs.Beside.{KeepOthers}
+use Rattle.state_rows.specs.Outcomes.{CrashAddsOnly, CrashLeaves}
 use Rattle.book.specs.Calls.{IsAfterCalls}
 use Rattle.book.specs.Kept.{IsDurablyAt, IsClean, Kept}
 use Rattle.web.specs.Serving.{AsksOnce}

@@ -1,13 +1,13 @@
 -- What a book makes of one request, as its functions say it to one another and to an exchange. No public clause names these.
-use Rattle.std.specs.Prelude.{◌≡◌, ◌⊎◌, ◌||◌, ⊤, ℕ, Bool, true, false, ◌+◌, List, [], ◌++◌, codes, nat_lt, if◌then◌else◌, string_bytes, take, Result, Ok, Err, IfOk, IsTrue}
+use Rattle.std.specs.Prelude.{◌≡◌, ◌⊎◌, ◌||◌, ⊤, ℕ, Bool, true, false, ◌+◌, List, [], ◌++◌, codes, nat_lt, string_bytes, take, Result, Ok, Err, IfOk, IsTrue}
 use Rattle.sqlite_trees.specs.declared.store.Store.{Ghosts}
 use Rattle.sqlite.specs.Held.{state}
 use Rattle.values.specs.declared.memory_fault.MemoryFault.{MemoryFault}
 use Rattle.roster.specs.Folds.{Fold, ReplyOrRefusal}
 use Rattle.roster.specs.Honest.{Honest}
 use Rattle.roster.specs.State.{State}
-use Rattle.writing.specs.Kept.{KeepOthers}
-use Rattle.writing.specs.Outcomes.{CrashAddsOnly, CrashLeaves}
+use Rattle.writing.specs.Beside.{KeepOthers}
+use Rattle.state_rows.specs.Outcomes.{CrashAddsOnly, CrashLeaves}
 use Rattle.book.specs.Calls.{IsAfterCalls}
 use Rattle.book.specs.Kept.{HasTables, IsDurablyAt, IsClean, IsInDoubt, Kept}
 use Rattle.http_exchange.specs.Handler.{StatusText, HandlerRequest}

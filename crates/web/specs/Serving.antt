@@ -6,7 +6,7 @@ use Rattle.sqlite.specs.Held.{state}
 use Rattle.sqlite_trees.specs.declared.store.Store.{Ghosts}
 use Rattle.roster.specs.Folds.{Fold}
 use Rattle.roster.specs.State.{State}
-use Rattle.writing.specs.Outcomes.{StaysOpen}
+use Rattle.state_rows.specs.Outcomes.{StaysOpen}
 use Rattle.book.specs.Kept.{HasTables, IsDurablyAt, IsInDoubt, Kept, StillHasTables}
 use Rattle.http_message.specs.Heading.{heading}
 use Rattle.http_message.specs.Plan.{Planned, plan_for_head}

@@ -13,13 +13,14 @@ use Rattle.roster.specs.Steps.{after}
 use Rattle.roster.specs.declared.change.Change.{Change}
 use Rattle.tables.specs.Calls.{Begun, Committed, IsUnchangedOrUndone as NotMade}
 use Rattle.writing.specs.Calls.{Changed, IsFit, IsReady, Wrote}
-use Rattle.writing.specs.Kept.{IsBookOf}
+use Rattle.state_rows.specs.Kept.{IsBookOf}
 use Rattle.writing.specs.Next.{IsAcceptedChange}
-use Rattle.writing.specs.Outcomes.{CrashLeaves, IsOverBook, one, either, StillShows}
+use Rattle.state_rows.specs.Outcomes.{CrashLeaves, IsOverBook, one, either, StillShows}
 use Rattle.writing.specs.Writing.{Writes}
 use Rattle.writing.proofs.Chaining.{keeps_then}
 use Rattle.writing.proofs.Effects.{written}
 use Rattle.writing.proofs.Ending.{of_trees}
+use Rattle.state_rows.proofs.Outcomes.{unbegun_shows}
 
 -- ---- At entry
 
@@ -84,14 +85,6 @@ either_leaves old last new s t Done survives holds leaves = record {
 }
 
 -- ---- The tables stay those of a book
-
-pub unbegun_shows : (old new : State) → (HasCleanDisk new → HasCleanDisk old) → (HasCleanDisk old → IsTrue old.is_open → old.now ≡ old.committed) → (HasCleanDisk new → NotMade old new) → StillShows old new
-unbegun_shows old new before settled left clean opened = elim (left clean) [
-  | inl same ↦ (same.0.was_open, same.0.now_is)
-  | inr back ↦
-      let was = back.was_open opened in
-      (was, (back.undone opened).0 ∙ sym (settled (before clean) was))
-]
 
 still_fit : (old new : State) → (HasCleanDisk new → HasCleanDisk old) → IsOverBook old → StillShows old new → IsOverBook new
 still_fit old new before over still clean opened = let it = still clean opened in subst IsFit (sym it.1) (over (before clean) it.0)

@@ -16,10 +16,11 @@ use Rattle.tables.specs.Rows.{Inserts}
 use Rattle.state_rows.specs.declared.edition.Edition.TheVariants.{Second}
 use Rattle.state_rows.specs.Rows.{At, TableName, book, crew, pairing, period, segment, seat, ground_duty, exceedance, request, base, crew_base, outside, outside_segment, InTable, Rows, row_of_base, row_of_book}
 use Rattle.writing.specs.Calls.{Changed, IsFit, Then}
-use Rattle.writing.specs.Kept.{IsBookOf}
+use Rattle.state_rows.specs.Kept.{IsBookOf}
 use Rattle.writing.specs.Making.{HasEmpty, MakesTables}
 use Rattle.writing.proofs.Sets as sets
-use Rattle.writing.proofs.Tables.{inserts_keep, is_book, just_made, no_rows, none_stored, of_all}
+use Rattle.writing.proofs.Tables.{inserts_keep, just_made, no_rows, none_stored}
+use Rattle.state_rows.proofs.EachTable.{is_book, of_all}
 
 -- ---- The base HOME
 

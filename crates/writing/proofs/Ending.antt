@@ -7,8 +7,8 @@ use Rattle.sqlite.specs.State.{State, HasCleanDisk, Survives}
 use Rattle.sqlite.specs.Held.{Held, state}
 use Rattle.roster.specs.State as roster
 use Rattle.tables.specs.Calls.{Committed}
-use Rattle.writing.specs.Kept.{IsBookOf, HoldBookOf}
-use Rattle.writing.specs.Outcomes.{CrashLeaves, CrashMayAdd, HoldsNow, IsOverBook, one}
+use Rattle.state_rows.specs.Kept.{IsBookOf, HoldBookOf}
+use Rattle.state_rows.specs.Outcomes.{CrashLeaves, CrashMayAdd, HoldsNow, IsOverBook, one}
 
 -- ---- Answers
 

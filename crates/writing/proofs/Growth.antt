@@ -16,10 +16,10 @@ use Rattle.tables.specs.Rows.{Makes, stored}
 use Rattle.tables.specs.Schema.{BookTable, IsTable, IsUnreferenced, OnlyKeysGuard, AreOnTables, table_found, table_of, book_tables}
 use Rattle.tables.proofs.Creating.{lacks_no_more}
 use Rattle.writing.specs.Calls.{IsInside, Changed, Then}
-use Rattle.writing.specs.Kept.{Adds, AddsKeys, made_in}
+use Rattle.writing.specs.Beside.{Adds, AddsKeys, made_in}
 use Rattle.writing.specs.Making.{AreUnreferenced, HasEmpty, IsFree, KeepsPlain, MakesTables}
 use Rattle.writing.proofs.Chaining.{as_change, one_call, still_inside, then_call}
-use Rattle.writing.proofs.Tables.{all_joined}
+use Rattle.state_rows.proofs.EachTable.{all_joined}
 
 abbrev IsEmptyTable : Database → BookTable → Type 0
 IsEmptyTable db t = IsTable t db.schema × (stored t db ≡ [])

@@ -3,8 +3,8 @@ use Rattle.std.proofs.Common.{inl, inr, sym, subst, arith, Result, Ok, Err, OnEr
 use Rattle.sqlite.specs.State.{State, HasCleanDisk, Survives}
 use Rattle.roster.specs.State as roster
 use Rattle.tables.specs.Calls.{Begun}
-use Rattle.writing.specs.Kept.{IsFirstBookOf}
-use Rattle.writing.specs.Outcomes.{CrashAddsNothing, CrashLeavesEither, CrashLeavesFirst, CrashMayAdd, ShowsFirst, StillShows}
+use Rattle.state_rows.specs.Kept.{IsFirstBookOf}
+use Rattle.state_rows.specs.Outcomes.{CrashAddsNothing, CrashLeavesEither, CrashLeavesFirst, CrashMayAdd, ShowsFirst, StillShows}
 
 -- once the transaction is begun, the tables are those that were found
 pub begun_first : (old begun : State) (s : roster.State) → (HasCleanDisk begun → HasCleanDisk old) → ShowsFirst old s → (HasCleanDisk begun → Begun old begun) → HasCleanDisk begun → IsFirstBookOf s begun.now

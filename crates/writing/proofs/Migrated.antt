@@ -25,7 +25,7 @@ use Rattle.state_rows.specs.declared.edition.Edition.TheVariants.{First, Second}
 use Rattle.state_rows.specs.declared.fault.StoreFault.{StoreFault}
 use Rattle.state_rows.proofs.Tests.{passes}
 use Rattle.writing.specs.Calls.{Changed, Each, IsFit, IsReady, Wrote}
-use Rattle.writing.specs.Kept.{IsBookOf, IsFirstBookOf}
+use Rattle.state_rows.specs.Kept.{IsBookOf, IsFirstBookOf}
 use Rattle.writing.specs.Migration.{AddsPost, AddsPosts, Fills, Migrates}
 use Rattle.writing.specs.Making.{AreUnreferenced, HasEmpty, MakesTables}
 use Rattle.writing.proofs.Chaining.{each_start, then_write}
@@ -33,7 +33,8 @@ use Rattle.writing.proofs.EmptyBook.{OfBases, home_row, nothing}
 use Rattle.writing.proofs.Growth.{on_tables}
 use Rattle.writing.proofs.Growing.{SomeOf, each_grows, placed, some_of}
 use Rattle.writing.proofs.Sets as sets
-use Rattle.writing.proofs.Tables.{all_of, by_edition, fit_after, inserts_keep, is_book, just_made, no_rows, none_stored, of_all, of_later, updates_keep}
+use Rattle.state_rows.proofs.EachTable.{all_of, by_edition, is_book, of_all, of_later}
+use Rattle.writing.proofs.Tables.{fit_after, inserts_keep, just_made, no_rows, none_stored, updates_keep}
 
 -- ---- The later tables are made
 

@@ -28,10 +28,11 @@ use Rattle.tables.specs.Records.{with_period_times, with_segment_times, with_ver
 use Rattle.tables.specs.Rows.{Changes, Inserts, Deletes, Updates, begins_with, kept_in, stored}
 use Rattle.tables.specs.Schema.{BookTable, IsTable, base_table, book_table, book_tables, later_tables, table_found, table_of}
 use Rattle.writing.specs.Calls.{Changed, Each, IsFit, IsReady, Then, Wrote}
-use Rattle.writing.specs.Kept.{Adds, IsFirstBookOf, IsOther, KeepBeside, KeepOthers}
+use Rattle.writing.specs.Beside.{Adds, IsOther, KeepBeside, KeepOthers}
+use Rattle.state_rows.specs.Kept.{IsFirstBookOf}
 use Rattle.writing.specs.Migration.{AddsHome, AddsPost, AddsPosts, Fills, Migrates, SetsVersion}
 use Rattle.writing.specs.Making.{MakesTables}
-use Rattle.writing.specs.Outcomes.{CrashLeavesOnly, CrashAddsOnly, ShowsOnly}
+use Rattle.state_rows.specs.Outcomes.{CrashLeavesOnly, CrashAddsOnly, ShowsOnly}
 use Rattle.state_rows.specs.Rows.{TableName, table, crew, pairing, period, segment, seat, ground_duty, exceedance, request, base, book, crew_base, outside, outside_segment, row_of_base, row_of_post, row_of_member, row_of_pairing, row_of_period, row_of_segment, row_of_seat, row_of_ground, row_of_exceedance, row_of_request, row_of_outside, row_of_outside_segment, seat_number}
 use Rattle.writing.specs.Writing.{AddsPeriods, AddsSegmentOf, AddsSegmentsOf, AddsSegments, FreesSeat, Seats, Reseats, FliesPeriod, FliesSegment, FliesSegments, Records, RecordsAll, RecordsFlown, RecordsOutsideOf, RemovesOutside, AddsOutsideRow, AddsOutsideSegment, AddsOutsideSegments, AddsOutside, Writes, WritesInstruction}
 use Rattle.writing.proofs.Migrated.{made_fit}

@@ -5,7 +5,7 @@ use Rattle.sqlite.specs.Effect.{Database}
 use Rattle.sqlite.specs.State.{State, HasCleanDisk, Shows, KeepsCommit}
 use Rattle.tables.specs.Calls.{CrashLeavesNoMore}
 use Rattle.tables.specs.Schema.{IsBook}
-use Rattle.writing.specs.Kept.{AreStored}
+use Rattle.state_rows.specs.Kept.{AreStored}
 use Rattle.state_rows.specs.declared.fault.StoreFault.{StoreFault}
 
 -- a transaction is begun

@@ -11,10 +11,10 @@ use Rattle.roster.specs.declared.change.Change.{Change}
 use Rattle.state_rows.specs.declared.fault.StoreFault.{StoreFault}
 use Rattle.state_rows.specs.declared.fault.StoreFault.TheVariants.{Memory, Store}
 use Rattle.tables.specs.Schema.{book_tables, later_tables}
-use Rattle.writing.specs.Kept.{KeepBeside, KeepOthers}
+use Rattle.writing.specs.Beside.{KeepBeside, KeepOthers}
 use Rattle.writing.specs.Making.{IsFree}
 use Rattle.writing.specs.Next.{IsAcceptedChange}
-use Rattle.writing.specs.Outcomes.{CrashAddsNothing, CrashAddsOnly, HoldsNow, IsOutside, CrashLeaves, CrashLeavesEither, CrashLeavesFirst, CrashLeavesOnly, CrashLeavesSome, CrashMayAdd, ShowsOnly, StaysOpen, StillShows, either, one}
+use Rattle.state_rows.specs.Outcomes.{CrashAddsNothing, CrashAddsOnly, HoldsNow, IsOutside, CrashLeaves, CrashLeavesEither, CrashLeavesFirst, CrashLeavesOnly, CrashLeavesSome, CrashMayAdd, ShowsOnly, StaysOpen, StillShows, either, one}
 use Rattle.writing.specs.declared.fault.CreateFault.{CreateFault}
 use Rattle.writing.specs.declared.fault.CreateFault.TheVariants.{Fault, NotEmpty}
 

@@ -1,6 +1,5 @@
 pub mod Faults
-pub mod Kept
-pub mod Outcomes
+pub mod Beside
 pub mod Calls
 pub mod Making
 pub mod Next

@@ -8,7 +8,7 @@ use Rattle.sqlite.specs.Does.{lacks_sequence}
 use Rattle.sqlite.specs.Effect.{Database}
 use Rattle.tables.specs.Schema.{BookTable, AreFree, IsTable, IsUnreferenced, OnlyKeysGuard, AreOnTables, book_tables, book_table, crew_table, pairing_table, period_table, segment_table, seat_table, ground_table, exceedance_table, request_table}
 use Rattle.tables.specs.Rows.{stored}
-use Rattle.writing.specs.Kept.{Adds}
+use Rattle.writing.specs.Beside.{Adds}
 
 -- the schema has no table with the name of a table of the book, and no foreign key that refers to
 -- one

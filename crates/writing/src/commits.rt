@@ -6,7 +6,7 @@ ghost use Rattle.sqlite.specs.Held.{state};
 ghost use Rattle.roster.specs.State.{empty};
 ghost use Rattle.writing.specs.Commits.{IsCommitted, AreTablesMade, IsNotMade};
 ghost use Rattle.writing.specs.Making.{IsFree};
-ghost use Rattle.writing.specs.Outcomes.{IsOutside, IsOverBook};
+ghost use Rattle.state_rows.specs.Outcomes.{IsOutside, IsOverBook};
 
 use crate::fault::CreateFault;
 use crate::making::{is_free, make_tables};

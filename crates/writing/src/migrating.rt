@@ -7,9 +7,9 @@ ghost use Rattle.sqlite.specs.Held.{state};
 ghost use Rattle.sqlite.specs.State.{HasCleanDisk};
 ghost use Rattle.writing.specs.Calls.{Changed, IsInside, IsReady, Wrote};
 ghost use Rattle.writing.specs.Commits.{IsMigrated};
-ghost use Rattle.writing.specs.Kept.{IsFirstBookOf};
+ghost use Rattle.state_rows.specs.Kept.{IsFirstBookOf};
 ghost use Rattle.writing.specs.Migration.{AddsHome, AddsPost, AddsPosts, Fills, Migrates, SetsVersion};
-ghost use Rattle.writing.specs.Outcomes.{IsOutside, IsOverBook, ShowsFirst};
+ghost use Rattle.state_rows.specs.Outcomes.{IsOutside, IsOverBook, ShowsFirst};
 
 use crate::making::make_later;
 use crate::records::{home_record, post_record};

@@ -6,7 +6,7 @@ ghost use Rattle.sqlite_disk.specs.Disk.{MoreFaults};
 ghost use Rattle.sqlite.specs.State.{HasCleanDisk, IsLive, KeepsCommit, Survives};
 ghost use Rattle.sqlite.specs.Held.{state};
 ghost use Rattle.tables.specs.Calls.{Committed, CrashLeavesNoMore};
-ghost use Rattle.writing.specs.Outcomes.{IsOutside};
+ghost use Rattle.state_rows.specs.Outcomes.{IsOutside};
 
 use sqlite::{Alter, Connection};
 use state_rows::StoreFault;

@@ -4,7 +4,7 @@ use Rattle.sqlite.specs.State.{HasCleanDisk}
 use Rattle.roster.specs.State.{State}
 use Rattle.loading.specs.Loading.{Justifies}
 use Rattle.loading.specs.Reading.{AgreesIn, ReadsAs}
-use Rattle.loading.specs.declared.fault.LoadFault.{LoadFault}
+use Rattle.entries.specs.declared.fault.LoadFault.{LoadFault}
 use Rattle.loading.proofs.LaterTables.{names_told}
 use Rattle.loading.proofs.ReadTables.{refused_as}
 use Rattle.state_rows.specs.Rows.{request, outside_segment}

@@ -4,11 +4,12 @@ use Rattle.sqlite.specs.Held.{state}
 use Rattle.sqlite.specs.State as conn
 use Rattle.roster.specs.State.{State}
 use Rattle.loading.specs.Loading.{Justifies}
-use Rattle.loading.specs.OutsideRows.{HasOutsides, Outsides}
+use Rattle.loading.specs.OutsideTables.{HasOutsides}
+use Rattle.entries.specs.OutsideRows.{Outsides}
 use Rattle.loading.specs.Reading.{AgreesIn, ReadsAs}
 use Rattle.state_rows.specs.Rows.{TableName, base, crew_base, outside, outside_segment}
 use Rattle.state_rows.specs.declared.edition.Edition.TheVariants.{Second}
-use Rattle.loading.specs.declared.fault.LoadFault.{LoadFault}
+use Rattle.entries.specs.declared.fault.LoadFault.{LoadFault}
 use Rattle.loading.proofs.ReadTables.{refused_as, seen_here, then_saw}
 use Rattle.loading.proofs.later.read_later_tables.Goals as goal
 

@@ -3,7 +3,7 @@ use Rattle.sqlite.specs.Held.{state}
 use Rattle.tables.specs.Records.{base_row, IsBaseRow}
 use Rattle.tables.specs.declared.base.BaseRecord.{BaseRecord}
 use Rattle.state_rows.specs.Rows.{base}
-use Rattle.loading.specs.declared.fault.TableName.TheVariants as table_name
+use Rattle.entries.specs.declared.fault.TableName.TheVariants as table_name
 use Rattle.loading.proofs.Telling.{found, stopped}
 use Rattle.loading.proofs.read_base.base_records.Goals as goal
 

@@ -3,7 +3,7 @@ use Rattle.sqlite.specs.Held.{state}
 use Rattle.tables.specs.Records.{book_row, IsBookRow}
 use Rattle.tables.specs.declared.book.BookRecord.{BookRecord}
 use Rattle.state_rows.specs.Rows.{book}
-use Rattle.loading.specs.declared.fault.TableName.TheVariants as table_name
+use Rattle.entries.specs.declared.fault.TableName.TheVariants as table_name
 use Rattle.loading.proofs.Telling.{found, stopped}
 use Rattle.loading.proofs.read_book.book_records.Goals as goal
 

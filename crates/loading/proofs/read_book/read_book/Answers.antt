@@ -4,7 +4,7 @@ use Rattle.roster.specs.State.{State}
 use Rattle.loading.specs.Loading.{Justifies}
 use Rattle.loading.specs.Reading.{ReadsAs}
 use Rattle.state_rows.specs.declared.edition.Edition.{Edition}
-use Rattle.loading.specs.declared.fault.LoadFault.{LoadFault}
+use Rattle.entries.specs.declared.fault.LoadFault.{LoadFault}
 use Rattle.loading.proofs.ReadBook.{Now, not_read, is_read}
 use Rattle.loading.proofs.read_book.read_book.Goals as goal
 

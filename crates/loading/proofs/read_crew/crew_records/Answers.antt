@@ -3,7 +3,7 @@ use Rattle.sqlite.specs.Held.{state}
 use Rattle.tables.specs.Records.{crew_row, IsCrewRow}
 use Rattle.tables.specs.declared.crew.CrewRecord.{CrewRecord}
 use Rattle.state_rows.specs.Rows.{crew}
-use Rattle.loading.specs.declared.fault.TableName.TheVariants as table_name
+use Rattle.entries.specs.declared.fault.TableName.TheVariants as table_name
 use Rattle.loading.proofs.Telling.{found, stopped}
 use Rattle.loading.proofs.read_crew.crew_records.Goals as goal
 

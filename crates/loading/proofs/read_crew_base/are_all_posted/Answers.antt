@@ -1,5 +1,5 @@
 use Rattle.std.proofs.Common.{rules, ◌≡◌, refl, sym, subst, ◌∙◌, ◌∷◌, ℕ, List}
-use Rattle.loading.proofs.Entries.{Passed, none_passed, next_passed, is_there, all_passed}
+use Rattle.entries.proofs.Entries.{Passed, none_passed, next_passed, is_there, all_passed}
 use Rattle.loading.proofs.ReadCrewBase.{has_value, is_there as there_is}
 use Rattle.loading.proofs.read_crew_base.are_all_posted.Goals as goal
 

@@ -3,7 +3,7 @@ use Rattle.sqlite.specs.Held.{state}
 use Rattle.tables.specs.Records.{crew_base_row, IsCrewBaseRow}
 use Rattle.tables.specs.declared.crew_base.CrewBaseRecord.{CrewBaseRecord}
 use Rattle.state_rows.specs.Rows.{crew_base}
-use Rattle.loading.specs.declared.fault.TableName.TheVariants as table_name
+use Rattle.entries.specs.declared.fault.TableName.TheVariants as table_name
 use Rattle.loading.proofs.Telling.{found, stopped}
 use Rattle.loading.proofs.read_crew_base.crew_base_records.Goals as goal
 

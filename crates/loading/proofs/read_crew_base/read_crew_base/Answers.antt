@@ -3,13 +3,15 @@ use Rattle.sqlite.specs.Held.{state}
 use Rattle.roster.specs.State.{State}
 use Rattle.tables.specs.Records.{IsCrewBaseRow, crew_base_row}
 use Rattle.tables.specs.declared.crew_base.CrewBaseRecord.{CrewBaseRecord}
-use Rattle.loading.specs.Loading.{AreRight, Justifies}
+use Rattle.entries.specs.Right.{AreRight}
+use Rattle.loading.specs.Loading.{Justifies}
 use Rattle.loading.specs.Reading.{AgreesIn, ArePosted, AreUnposted, IsReadAs, ReadsAs}
 use Rattle.state_rows.specs.Rows.{base, crew_base}
 use Rattle.state_rows.specs.declared.edition.Edition.TheVariants.{Second}
-use Rattle.loading.specs.declared.fault.LoadFault.{LoadFault}
-use Rattle.loading.specs.declared.fault.TableName.TheVariants as table_name
-use Rattle.loading.proofs.LaterTables.{later_told, next_crew_base}
+use Rattle.entries.specs.declared.fault.LoadFault.{LoadFault}
+use Rattle.entries.specs.declared.fault.TableName.TheVariants as table_name
+use Rattle.loading.proofs.LaterTables.{later_told}
+use Rattle.entries.proofs.Editions.{next_crew_base}
 use Rattle.loading.proofs.ReadTables.{not_read, is_read}
 use Rattle.loading.proofs.ReadCrewBase.{not_unreadable, right, wrong}
 use Rattle.loading.proofs.read_crew_base.read_crew_base.Goals as goal

@@ -3,7 +3,7 @@ use Rattle.sqlite.specs.Held.{state}
 use Rattle.tables.specs.Records.{exceedance_row, IsExceedanceRow}
 use Rattle.tables.specs.declared.exceedance.ExceedanceRecord.{ExceedanceRecord}
 use Rattle.state_rows.specs.Rows.{exceedance}
-use Rattle.loading.specs.declared.fault.TableName.TheVariants as table_name
+use Rattle.entries.specs.declared.fault.TableName.TheVariants as table_name
 use Rattle.loading.proofs.Telling.{found, stopped}
 use Rattle.loading.proofs.read_exceedances.exceedance_records.Goals as goal
 

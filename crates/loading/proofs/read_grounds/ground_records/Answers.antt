@@ -3,7 +3,7 @@ use Rattle.sqlite.specs.Held.{state}
 use Rattle.tables.specs.Records.{ground_row, IsGroundRow}
 use Rattle.tables.specs.declared.ground.GroundRecord.{GroundRecord}
 use Rattle.state_rows.specs.Rows.{ground_duty}
-use Rattle.loading.specs.declared.fault.TableName.TheVariants as table_name
+use Rattle.entries.specs.declared.fault.TableName.TheVariants as table_name
 use Rattle.loading.proofs.Telling.{found, stopped}
 use Rattle.loading.proofs.read_grounds.ground_records.Goals as goal
 

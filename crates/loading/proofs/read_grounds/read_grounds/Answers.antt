@@ -3,7 +3,7 @@ use Rattle.sqlite.specs.Held.{state}
 use Rattle.roster.specs.State.{State}
 use Rattle.loading.specs.Loading.{Justifies}
 use Rattle.loading.specs.Reading.{ReadsAs}
-use Rattle.loading.specs.declared.fault.LoadFault.{LoadFault}
+use Rattle.entries.specs.declared.fault.LoadFault.{LoadFault}
 use Rattle.loading.proofs.ReadGrounds.{Now, not_read, is_read}
 use Rattle.loading.proofs.read_grounds.read_grounds.Goals as goal
 

@@ -4,9 +4,9 @@ use Rattle.std.proofs.lemmas.Iterator.Consumers.{YieldsList-from_rest}
 use Rattle.std.proofs.lemmas.Iterator.Search.{all_from_yields_List}
 use Rattle.roster.specs.declared.state.DutyId.{DutyId}
 use Rattle.roster.specs.declared.state.ExceedanceId.{ExceedanceId}
-use Rattle.loading.specs.Loading.{name_of}
-use Rattle.loading.specs.OutsideRows.{is_there}
-use Rattle.loading.proofs.Entries.{values_pass}
+use Rattle.entries.specs.Right.{name_of}
+use Rattle.loading.specs.OutsideTables.{is_there}
+use Rattle.entries.proofs.Entries.{values_pass}
 use Rattle.loading.proofs.read_outside.are_recorded.Goals as goal
 
 pub returns : goal.returns

@@ -1,7 +1,7 @@
 use Rattle.std.proofs.Common.{rules, refl, sym, ap, subst, ◌∙◌, arith, length, ℕ}
 use Rattle.std.specs.FinMap as fin
 use Rattle.std.proofs.lemmas.Option.{slice_get_read}
-use Rattle.loading.specs.OutsideRows.{OutsidesRead}
+use Rattle.loading.specs.OutsideTables.{OutsidesRead}
 use Rattle.loading.proofs.ReadOutside.{none_read, stranger, one_read}
 use Rattle.loading.proofs.read_outside.by_ids.Goals as goal
 

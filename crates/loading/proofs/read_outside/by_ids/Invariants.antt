@@ -1,4 +1,4 @@
-use Rattle.loading.specs.OutsideRows.{OutsidesRead}
+use Rattle.loading.specs.OutsideTables.{OutsidesRead}
 use Rattle.loading.proofs.read_outside.by_ids.Given as goal
 
 abbrev pub invariant-loop-row : goal.invariant-loop-row

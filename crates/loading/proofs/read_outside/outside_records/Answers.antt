@@ -3,7 +3,7 @@ use Rattle.sqlite.specs.Held.{state}
 use Rattle.tables.specs.Records.{outside_row, IsOutsideRow}
 use Rattle.tables.specs.declared.outside.OutsideRecord.{OutsideRecord}
 use Rattle.state_rows.specs.Rows.{outside}
-use Rattle.loading.specs.declared.fault.TableName.TheVariants as table_name
+use Rattle.entries.specs.declared.fault.TableName.TheVariants as table_name
 use Rattle.loading.proofs.Telling.{found, stopped}
 use Rattle.loading.proofs.read_outside.outside_records.Goals as goal
 

@@ -2,14 +2,17 @@ use Rattle.std.proofs.Common.{rules, ◌≡◌, refl, sym, subst, Result, Err, L
 use Rattle.sqlite.specs.Held.{state}
 use Rattle.tables.specs.Records.{IsOutsideRow, outside_row}
 use Rattle.tables.specs.declared.outside.OutsideRecord.{OutsideRecord}
-use Rattle.loading.specs.Loading.{AreRight, Justifies}
-use Rattle.loading.specs.OutsideRows.{AreNoOutsides, AreOutsidesRead, HasOutsides, Outsides}
+use Rattle.entries.specs.Right.{AreRight}
+use Rattle.loading.specs.Loading.{Justifies}
+use Rattle.loading.specs.OutsideTables.{AreNoOutsides, AreOutsidesRead, HasOutsides}
+use Rattle.entries.specs.OutsideRows.{Outsides}
 use Rattle.loading.specs.Reading.{AgreesIn, IsReadAs, ReadsAs}
 use Rattle.state_rows.specs.Rows.{crew_base, outside}
 use Rattle.state_rows.specs.declared.edition.Edition.TheVariants.{Second}
-use Rattle.loading.specs.declared.fault.LoadFault.{LoadFault}
-use Rattle.loading.specs.declared.fault.TableName.TheVariants as table_name
-use Rattle.loading.proofs.LaterTables.{later_found, next_outside}
+use Rattle.entries.specs.declared.fault.LoadFault.{LoadFault}
+use Rattle.entries.specs.declared.fault.TableName.TheVariants as table_name
+use Rattle.loading.proofs.LaterTables.{later_found}
+use Rattle.entries.proofs.Editions.{next_outside}
 use Rattle.loading.proofs.ReadTables.{not_read, is_read}
 use Rattle.loading.proofs.ReadOutside.{not_unreadable, right, wrong}
 use Rattle.loading.proofs.read_outside.read_outside.Goals as goal

@@ -3,7 +3,7 @@ use Rattle.sqlite.specs.Held.{state}
 use Rattle.tables.specs.Records.{outside_segment_row, IsOutsideSegmentRow}
 use Rattle.tables.specs.declared.outside_segment.OutsideSegmentRecord.{OutsideSegmentRecord}
 use Rattle.state_rows.specs.Rows.{outside_segment}
-use Rattle.loading.specs.declared.fault.TableName.TheVariants as table_name
+use Rattle.entries.specs.declared.fault.TableName.TheVariants as table_name
 use Rattle.loading.proofs.Telling.{found, stopped}
 use Rattle.loading.proofs.read_outside_segment.outside_segment_records.Goals as goal
 

@@ -3,14 +3,16 @@ use Rattle.sqlite.specs.Held.{state}
 use Rattle.roster.specs.State.{State}
 use Rattle.tables.specs.Records.{IsOutsideSegmentRow, outside_segment_row}
 use Rattle.tables.specs.declared.outside_segment.OutsideSegmentRecord.{OutsideSegmentRecord}
-use Rattle.loading.specs.Loading.{AreRight, Justifies}
-use Rattle.loading.specs.OutsideRows.{AreOutsidesSet, AreOutsidesUnset}
+use Rattle.entries.specs.Right.{AreRight}
+use Rattle.loading.specs.Loading.{Justifies}
+use Rattle.loading.specs.OutsideTables.{AreOutsidesSet, AreOutsidesUnset}
 use Rattle.loading.specs.Reading.{AgreesIn, IsReadAs, ReadsAs}
 use Rattle.state_rows.specs.Rows.{outside, outside_segment}
 use Rattle.state_rows.specs.declared.edition.Edition.TheVariants.{Second}
-use Rattle.loading.specs.declared.fault.LoadFault.{LoadFault}
-use Rattle.loading.specs.declared.fault.TableName.TheVariants as table_name
-use Rattle.loading.proofs.LaterTables.{later_told, next_outside_segment}
+use Rattle.entries.specs.declared.fault.LoadFault.{LoadFault}
+use Rattle.entries.specs.declared.fault.TableName.TheVariants as table_name
+use Rattle.loading.proofs.LaterTables.{later_told}
+use Rattle.entries.proofs.Editions.{next_outside_segment}
 use Rattle.loading.proofs.ReadTables.{not_read, is_read}
 use Rattle.loading.proofs.ReadOutsideSegment.{not_unreadable, right, wrong}
 use Rattle.loading.proofs.read_outside_segment.read_outside_segment.Goals as goal

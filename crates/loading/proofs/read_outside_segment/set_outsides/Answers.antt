@@ -1,7 +1,8 @@
 use Rattle.std.proofs.Common.{rules, ◌≡◌, refl, inl, inr, Err}
-use Rattle.loading.specs.OutsideRows.{AreOutsidesSet, AreOutsidesUnset, AreSegmentsWanting, HasUnmade}
-use Rattle.loading.specs.declared.fault.TableName.TheVariants as table_name
-use Rattle.loading.proofs.PlanLemmas.{passed_on}
+use Rattle.loading.specs.OutsideTables.{AreOutsidesSet, AreOutsidesUnset}
+use Rattle.entries.specs.OutsideRows.{AreSegmentsWanting, HasUnmade}
+use Rattle.entries.specs.declared.fault.TableName.TheVariants as table_name
+use Rattle.entries.proofs.PlanLemmas.{passed_on}
 use Rattle.loading.proofs.read_outside_segment.set_outsides.Goals as goal
 
 pub returns-in_err-segments : goal.returns-in_err-segments

@@ -1,13 +1,13 @@
 use Rattle.std.proofs.Common.{rules, ◌≡◌, sym, subst, ◌∷◌, Result, Err, MatchResult}
 use Rattle.roster.specs.State.{State}
 use Rattle.roster.specs.declared.state.PairingEntry.{PairingEntry}
-use Rattle.loading.specs.Keyed.{HasUntold, PairingsRead}
-use Rattle.loading.specs.PlanRows.{IsPairingOfRows}
-use Rattle.loading.specs.Reading.{Blames}
-use Rattle.loading.specs.declared.fault.LoadFault.{LoadFault}
-use Rattle.loading.specs.declared.fault.TableName.TheVariants as table_name
+use Rattle.loading.specs.PlanTables.{HasUntold, PairingsRead}
+use Rattle.entries.specs.PlanRows.{IsPairingOfRows}
+use Rattle.entries.specs.Faults.{Blames}
+use Rattle.entries.specs.declared.fault.LoadFault.{LoadFault}
+use Rattle.entries.specs.declared.fault.TableName.TheVariants as table_name
 use Rattle.loading.proofs.ReadPairings.{Adding, none_added, one_added, untold, all_added}
-use Rattle.loading.proofs.PlanLemmas.{blamed}
+use Rattle.entries.proofs.PlanLemmas.{blamed}
 use Rattle.loading.proofs.read_pairings.add_pairings.Goals as goal
 
 pub loop-id-init : goal.loop-id-init

@@ -2,7 +2,7 @@ use Rattle.std.proofs.Common.{rules, ◌≡◌, refl, sym, subst, ◌∙◌, ap,
 use Rattle.std.specs.FinMap as fin
 use Rattle.std.proofs.lemmas.Option.{slice_get_read}
 use Rattle.duty.specs.Shape.{is_id}
-use Rattle.loading.specs.Keyed.{IdsRead}
+use Rattle.loading.specs.PlanTables.{IdsRead}
 use Rattle.loading.proofs.ReadIds.{none_read, stranger, one_read}
 use Rattle.loading.proofs.read_pairings.ids_of.Goals as goal
 

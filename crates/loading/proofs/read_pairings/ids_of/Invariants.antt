@@ -1,4 +1,4 @@
-use Rattle.loading.specs.Keyed.{IdsRead}
+use Rattle.loading.specs.PlanTables.{IdsRead}
 use Rattle.loading.proofs.read_pairings.ids_of.Given as goal
 
 abbrev pub invariant-loop-row : goal.invariant-loop-row

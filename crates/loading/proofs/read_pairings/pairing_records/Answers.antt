@@ -3,7 +3,7 @@ use Rattle.sqlite.specs.Held.{state}
 use Rattle.tables.specs.Records.{pairing_row, IsPairingRow}
 use Rattle.tables.specs.declared.pairing.PairingRecord.{PairingRecord}
 use Rattle.state_rows.specs.Rows.{pairing}
-use Rattle.loading.specs.declared.fault.TableName.TheVariants as table_name
+use Rattle.entries.specs.declared.fault.TableName.TheVariants as table_name
 use Rattle.loading.proofs.Telling.{found, stopped}
 use Rattle.loading.proofs.read_pairings.pairing_records.Goals as goal
 

@@ -2,11 +2,13 @@ use Rattle.std.proofs.Common.{rules, ◌≡◌, sym, subst, Result, Err, length,
 use Rattle.sqlite.specs.Held.{state}
 use Rattle.tables.specs.Records.{IsPairingRow, pairing_row}
 use Rattle.tables.specs.declared.pairing.PairingRecord.{PairingRecord}
-use Rattle.loading.specs.Keyed.{AreIds, HasIds, Ids, IdsRead, IsId, row_of_id}
-use Rattle.loading.specs.Reading.{ReadsAs, HasStranger, BlamesOrFails}
+use Rattle.loading.specs.PlanTables.{AreIds, HasIds, IdsRead, IsId, row_of_id}
+use Rattle.entries.specs.Keyed.{Ids}
+use Rattle.loading.specs.Reading.{ReadsAs, BlamesOrFails}
+use Rattle.entries.specs.Mapping.{HasStranger}
 use Rattle.state_rows.specs.Rows.{pairing}
-use Rattle.loading.specs.declared.fault.LoadFault.{LoadFault}
-use Rattle.loading.specs.declared.fault.TableName.TheVariants as table_name
+use Rattle.entries.specs.declared.fault.LoadFault.{LoadFault}
+use Rattle.entries.specs.declared.fault.TableName.TheVariants as table_name
 use Rattle.loading.proofs.ReadTables.{not_read, is_read}
 use Rattle.loading.proofs.ReadIds.{not_unreadable, strange, has_ids}
 use Rattle.loading.proofs.read_pairings.read_ids.Goals as goal

@@ -1,8 +1,8 @@
 use Rattle.std.proofs.Common.{rules, ◌≡◌, sym, subst, Ok, Err}
 use Rattle.sqlite.specs.Held.{state}
-use Rattle.loading.specs.Keyed.{HasUntold}
-use Rattle.loading.specs.Reading.{Blames}
-use Rattle.loading.specs.declared.fault.TableName.TheVariants as table_name
+use Rattle.loading.specs.PlanTables.{HasUntold}
+use Rattle.entries.specs.Faults.{Blames}
+use Rattle.entries.specs.declared.fault.TableName.TheVariants as table_name
 use Rattle.loading.proofs.ReadPairings.{Reads, SawIds, SawPeriods, SawSegments, no_ids, no_periods, no_segments, are_read, none_held}
 use Rattle.loading.proofs.read_pairings.read_pairings.Goals as goal
 

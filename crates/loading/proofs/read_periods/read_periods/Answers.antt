@@ -2,12 +2,14 @@ use Rattle.std.proofs.Common.{rules, ◌≡◌, sym, subst, Result, Err, length,
 use Rattle.sqlite.specs.Held.{state}
 use Rattle.tables.specs.Records.{IsPeriodRow, period_row}
 use Rattle.tables.specs.declared.period.PeriodRecord.{PeriodRecord}
-use Rattle.loading.specs.Keyed.{ArePeriodsWanting, ArePeriodsWhole, HasPeriods, IsPeriodTable}
-use Rattle.loading.specs.PlanRows.{AreUngapped, Periods}
-use Rattle.loading.specs.Reading.{ReadsAs, Blames, BlamesOrFails}
+use Rattle.entries.specs.Keyed.{ArePeriodsWanting, ArePeriodsWhole}
+use Rattle.loading.specs.PlanTables.{HasPeriods, IsPeriodTable}
+use Rattle.entries.specs.PlanRows.{AreUngapped, Periods}
+use Rattle.loading.specs.Reading.{ReadsAs, BlamesOrFails}
+use Rattle.entries.specs.Faults.{Blames}
 use Rattle.state_rows.specs.Rows.{period}
-use Rattle.loading.specs.declared.fault.LoadFault.{LoadFault}
-use Rattle.loading.specs.declared.fault.TableName.TheVariants as table_name
+use Rattle.entries.specs.declared.fault.LoadFault.{LoadFault}
+use Rattle.entries.specs.declared.fault.TableName.TheVariants as table_name
 use Rattle.loading.proofs.ReadTables.{not_read, is_read, if_read}
 use Rattle.loading.proofs.ReadPeriods.{not_unreadable, wanting, has_whole}
 use Rattle.loading.proofs.read_periods.read_periods.Goals as goal

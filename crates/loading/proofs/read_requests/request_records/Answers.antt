@@ -3,7 +3,7 @@ use Rattle.sqlite.specs.Held.{state}
 use Rattle.tables.specs.Records.{request_row, IsRequestRow}
 use Rattle.tables.specs.declared.request.RequestRecord.{RequestRecord}
 use Rattle.state_rows.specs.Rows.{request}
-use Rattle.loading.specs.declared.fault.TableName.TheVariants as table_name
+use Rattle.entries.specs.declared.fault.TableName.TheVariants as table_name
 use Rattle.loading.proofs.Telling.{found, stopped}
 use Rattle.loading.proofs.read_requests.request_records.Goals as goal
 

@@ -3,7 +3,7 @@ use Rattle.sqlite.specs.Held.{state}
 use Rattle.tables.specs.Records.{seat_row, IsSeatRow}
 use Rattle.tables.specs.declared.seat.SeatRecord.{SeatRecord}
 use Rattle.state_rows.specs.Rows.{seat}
-use Rattle.loading.specs.declared.fault.TableName.TheVariants as table_name
+use Rattle.entries.specs.declared.fault.TableName.TheVariants as table_name
 use Rattle.loading.proofs.Telling.{found, stopped}
 use Rattle.loading.proofs.read_seats.seat_records.Goals as goal
 

@@ -2,12 +2,14 @@ use Rattle.std.proofs.Common.{rules, ◌≡◌, sym, subst, Result, Err, length,
 use Rattle.sqlite.specs.Held.{state}
 use Rattle.tables.specs.Records.{IsSegmentRow, segment_row}
 use Rattle.tables.specs.declared.segment.SegmentRecord.{SegmentRecord}
-use Rattle.loading.specs.Keyed.{AreSegmentsWanting, AreSegmentsWhole, HasSegmentsOf, IsSegmentTable}
-use Rattle.loading.specs.PlanRows.{HasNoGaps, Segments}
-use Rattle.loading.specs.Reading.{ReadsAs, Blames, BlamesOrFails}
+use Rattle.entries.specs.Keyed.{AreSegmentsWanting, AreSegmentsWhole, IsSegmentTable}
+use Rattle.loading.specs.PlanTables.{HasSegmentsOf}
+use Rattle.entries.specs.PlanRows.{HasNoGaps, Segments}
+use Rattle.loading.specs.Reading.{ReadsAs, BlamesOrFails}
+use Rattle.entries.specs.Faults.{Blames}
 use Rattle.state_rows.specs.Rows.{segment}
-use Rattle.loading.specs.declared.fault.LoadFault.{LoadFault}
-use Rattle.loading.specs.declared.fault.TableName.TheVariants as table_name
+use Rattle.entries.specs.declared.fault.LoadFault.{LoadFault}
+use Rattle.entries.specs.declared.fault.TableName.TheVariants as table_name
 use Rattle.loading.proofs.ReadTables.{not_read, is_read, if_read}
 use Rattle.loading.proofs.ReadSegments.{not_unreadable, wanting, has_whole}
 use Rattle.loading.proofs.read_segments.read_segments.Goals as goal

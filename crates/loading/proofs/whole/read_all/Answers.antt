@@ -3,11 +3,12 @@ use Rattle.sqlite.specs.Effect.{Database}
 use Rattle.sqlite.specs.Held.{state}
 use Rattle.sqlite.specs.State as conn
 use Rattle.roster.specs.State.{State}
-use Rattle.loading.specs.Loading.{IsOfEdition, Justifies}
+use Rattle.entries.specs.Right.{IsOfEdition}
+use Rattle.loading.specs.Loading.{Justifies}
 use Rattle.loading.specs.Reading.{AgreesIn, AgreesThrough, ReadsAs}
-use Rattle.loading.specs.declared.fault.LoadFault.{LoadFault}
+use Rattle.entries.specs.declared.fault.LoadFault.{LoadFault}
 use Rattle.loading.proofs.ReadTables.{refused_as, then_saw}
-use Rattle.loading.proofs.Telling.{clean_before}
+use Rattle.state_rows.proofs.Outcomes.{clean_before}
 use Rattle.state_rows.specs.Rows.{book, outside_segment, request}
 use Rattle.state_rows.specs.declared.edition.Edition.{Edition}
 use Rattle.loading.proofs.whole.read_all.Goals as goal

@@ -5,7 +5,7 @@ use Rattle.roster.specs.State.{State}
 use Rattle.loading.specs.Loading.{Justifies}
 use Rattle.loading.specs.Reading.{AgreesThrough}
 use Rattle.state_rows.specs.Rows.{ground_duty, seat}
-use Rattle.loading.specs.declared.fault.LoadFault.{LoadFault}
+use Rattle.entries.specs.declared.fault.LoadFault.{LoadFault}
 use Rattle.loading.proofs.Homes.{duties_without_later}
 use Rattle.loading.proofs.ReadTables.{then_saw, told_as}
 use Rattle.loading.proofs.whole.read_duties.Goals as goal

@@ -2,10 +2,11 @@ use Rattle.std.proofs.Common.{◌≡◌}
 use Rattle.sqlite.specs.Effect.{Database}
 use Rattle.sqlite.specs.Held.{state}
 use Rattle.roster.specs.State.{State}
-use Rattle.loading.specs.Loading.{IsOfEdition, Justifies}
+use Rattle.entries.specs.Right.{IsOfEdition}
+use Rattle.loading.specs.Loading.{Justifies}
 use Rattle.loading.specs.Reading.{AgreesThrough}
 use Rattle.state_rows.specs.Rows.{exceedance, request}
-use Rattle.loading.specs.declared.fault.LoadFault.{LoadFault}
+use Rattle.entries.specs.declared.fault.LoadFault.{LoadFault}
 use Rattle.loading.proofs.Homes.{exceedances_without_later, records_without_later}
 use Rattle.loading.proofs.ReadTables.{still_here, then_saw}
 use Rattle.loading.proofs.whole.read_records.Goals as goal

@@ -5,7 +5,8 @@ use Rattle.roster.specs.declared.state.DutyId.{DutyId}
 use Rattle.tables.specs.Records.{exceedance_row}
 use Rattle.state_rows.specs.declared.fault.StoreFault.{StoreFault}
 use Rattle.state_rows.specs.declared.fault.StoreFault.TheVariants.{Store}
-use Rattle.loading.specs.Reading.{HasStranger, row_of_recorded}
+use Rattle.entries.specs.Mapping.{HasStranger}
+use Rattle.entries.specs.Exceedances.{row_of_recorded}
 use Rattle.std.proofs.lemmas.Option.{slice_get_read}
 use Rattle.lookup.specs.Recorded.{AreRead, IsNumbered}
 use Rattle.lookup.proofs.RecordedLemmas.{none_read, one_read, stranger_at}

@@ -5,7 +5,7 @@ use Rattle.loading.specs.Reading.{AgreesIn}
 use Rattle.state_rows.specs.Rows.{outside_segment}
 use Rattle.state_rows.specs.declared.edition.Edition.{Edition}
 use Rattle.roster.specs.State as roster
-use Rattle.loading.specs.declared.fault.LoadFault.{LoadFault}
+use Rattle.entries.specs.declared.fault.LoadFault.{LoadFault}
 use Rattle.store.specs.Loaded.{IsNotLoaded}
 use Rattle.store.proofs.Loads.{first_loaded, first_stopped, not_read, second_loaded}
 use Rattle.store.proofs.store.read_migrated.Goals as goal

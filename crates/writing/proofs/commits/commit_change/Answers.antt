@@ -5,10 +5,11 @@ use Rattle.sqlite.proofs.StateLemmas.{survives_then, survives_weaker}
 use Rattle.roster.specs.Steps.{after}
 use Rattle.roster.specs.State.{State}
 use Rattle.writing.specs.Next.{IsAcceptedChange}
-use Rattle.writing.specs.Outcomes.{CrashLeaves, one}
-use Rattle.writing.proofs.Committing.{begun_ready, begun_holds, written_holds, kept_leaves, either_leaves, ended_fit, undone_fit, none_done, over_at_end, unbegun_over, unbegun_shows, undone_shows, on_err_of, weaker}
+use Rattle.state_rows.specs.Outcomes.{CrashLeaves, one}
+use Rattle.writing.proofs.Committing.{begun_ready, begun_holds, written_holds, kept_leaves, either_leaves, ended_fit, undone_fit, none_done, over_at_end, unbegun_over, undone_shows, on_err_of, weaker}
+use Rattle.state_rows.proofs.Outcomes.{unbegun_shows}
 use Rattle.writing.proofs.Ending.{on_ok, on_err, ended_leaves, ended_now}
-use Rattle.writing.specs.Kept.{KeepOthers}
+use Rattle.writing.specs.Beside.{KeepOthers}
 use Rattle.writing.proofs.Sparing.{adds_nothing, leaves_only, may_add, shows_only, written_keeps}
 use Rattle.writing.proofs.commits.commit_change.Goals as goal
 

@@ -7,10 +7,11 @@ use Rattle.tables.specs.Schema.{book_tables}
 use Rattle.writing.specs.Making.{IsFree, HasEmpty}
 use Rattle.writing.proofs.Growth.{nothing_made}
 use Rattle.writing.proofs.EmptyBook.{made_holds}
-use Rattle.writing.proofs.Committing.{unbegun_shows, undone_shows}
+use Rattle.state_rows.proofs.Outcomes.{unbegun_shows}
+use Rattle.writing.proofs.Committing.{undone_shows}
 use Rattle.writing.proofs.Ending.{if_err, ended_leaves, ended_now, ended_over, ended_adds}
 use Rattle.writing.specs.Commits.{IsNotMade}
-use Rattle.writing.specs.Kept.{KeepBeside}
+use Rattle.writing.specs.Beside.{KeepBeside}
 use Rattle.writing.proofs.Sparing.{adds_nothing, leaves_only, made_keeps, may_add, shows_only}
 use Rattle.writing.proofs.commits.make_book.Goals as goal
 

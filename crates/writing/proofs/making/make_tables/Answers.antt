@@ -8,7 +8,7 @@ use Rattle.tables.specs.Rows.{Inserts, stored}
 use Rattle.tables.specs.Schema.{IsTable, base_table, book_table, book_tables, first_tables, later_tables}
 use Rattle.writing.specs.Calls.{Changed}
 use Rattle.writing.specs.Making.{HasEmpty, MakesTables, made_first, made_second, made_third}
-use Rattle.writing.proofs.Tables.{of_all}
+use Rattle.state_rows.proofs.EachTable.{of_all}
 use Rattle.writing.proofs.Chaining.{one_call, still_inside, then_call}
 use Rattle.writing.proofs.Growth.{as_told, made_next}
 use Rattle.writing.proofs.making.make_tables.Goals as goal

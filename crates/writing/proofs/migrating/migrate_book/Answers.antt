@@ -4,8 +4,9 @@ use Rattle.sqlite.specs.State.{HasCleanDisk}
 use Rattle.sqlite.proofs.StateLemmas.{survives_then, survives_weaker}
 use Rattle.state_rows.specs.declared.fault.StoreFault.TheVariants.{Memory}
 use Rattle.tables.specs.Schema.{later_tables}
-use Rattle.writing.specs.Kept.{KeepBeside}
-use Rattle.writing.proofs.Committing.{none_done, on_err_of, unbegun_shows, undone_shows}
+use Rattle.writing.specs.Beside.{KeepBeside}
+use Rattle.writing.proofs.Committing.{none_done, on_err_of, undone_shows}
+use Rattle.state_rows.proofs.Outcomes.{unbegun_shows}
 use Rattle.writing.proofs.Ending.{on_err, on_ok, ended_adds, ended_leaves, ended_now, ended_over}
 use Rattle.writing.proofs.Migrated.{migrated_holds}
 use Rattle.writing.proofs.Leaving.{added_nothing, begun_first, either_left, first_again, first_stays, may_add_nothing}

@@ -5,7 +5,7 @@ use Rattle.roster.specs.Folds.{Asked, Stopped, answer_of, next}
 use Rattle.roster.specs.State.{State}
 use Rattle.roster.specs.Steps.{step_of}
 use Rattle.state_rows.specs.declared.fault.StoreFault.TheVariants.{Memory, Store}
-use Rattle.writing.specs.Outcomes.{CrashLeaves}
+use Rattle.state_rows.specs.Outcomes.{CrashLeaves}
 use Rattle.book.specs.Kept.{Keeps, either_kept, result_of}
 use Rattle.book.proofs.Runs.{honest_left}
 use Rattle.book.proofs.States.{honest_next, same_state}

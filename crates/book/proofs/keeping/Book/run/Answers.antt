@@ -7,7 +7,7 @@ use Rattle.roster.specs.Honest.{Honest}
 use Rattle.roster.specs.State.{State}
 use Rattle.state_rows.specs.declared.fault.StoreFault.{StoreFault}
 use Rattle.state_rows.specs.declared.fault.StoreFault.TheVariants.{Store, Memory}
-use Rattle.writing.specs.Outcomes.{HoldsNow, CrashLeaves}
+use Rattle.state_rows.specs.Outcomes.{HoldsNow, CrashLeaves}
 use Rattle.book.specs.Kept.{Ends, IsDurablyAt, Keeps, result_of}
 use Rattle.book.proofs.Holding.{ends_held}
 use Rattle.book.proofs.States.{honest_next, one_of_either, shows_still}

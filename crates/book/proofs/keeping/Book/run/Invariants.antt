@@ -5,7 +5,7 @@ use Rattle.roster.specs.Folds.{Fold, Replies}
 use Rattle.roster.specs.Honest.{Honest}
 use Rattle.roster.specs.Sound.{Sound}
 use Rattle.roster.specs.State.{State}
-use Rattle.writing.specs.Outcomes.{CrashLeavesSome}
+use Rattle.state_rows.specs.Outcomes.{CrashLeavesSome}
 use Rattle.book.specs.Kept.{HasTables, IsDurablyAt, IsClean, result_of}
 use Rattle.book.proofs.Sparing.{SameOrSpares}
 use Rattle.book.proofs.keeping.Book.run.Given as goal

@@ -1,0 +1,7 @@
+use Rattle.std.proofs.Common.{◌≡◌, ◌<◌, ℕ, Some, slice_get}
+use Rattle.tables.specs.declared.outside_segment.OutsideSegmentRecord.{OutsideSegmentRecord}
+use Rattle.entries.specs.OneOutside.{IsSegmentAmong}
+use Rattle.entries.proofs.one_outside.check_all.Given as goal
+
+abbrev pub invariant-loop-row : goal.invariant-loop-row
+invariant-loop-row l = (i : ℕ) (it : OutsideSegmentRecord) → i < l.row-index → slice_get l.segments i ≡ Some it → IsSegmentAmong l.id l.all it

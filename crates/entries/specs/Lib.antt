@@ -1,0 +1,11 @@
+pub mod Right
+pub mod Mapping
+pub mod Exceedances
+pub mod Faults
+pub mod SameRows
+pub mod PlanOrder
+pub mod PlanRows
+pub mod Keyed
+pub mod OnePairing
+pub mod OneOutside
+pub mod OutsideRows

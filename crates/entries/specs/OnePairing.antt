@@ -1,0 +1,42 @@
+-- What is read of one pairing, from the records of its periods and segments.
+use Rattle.std.specs.Prelude.{◌⊎◌, ⊤, ℕ, List, length}
+use Rattle.std.specs.FinMap as fin
+use Rattle.roster.specs.declared.state.PairingEntry.{PairingEntry}
+use Rattle.tables.specs.declared.period.PeriodRecord.{PeriodRecord}
+use Rattle.tables.specs.declared.segment.SegmentRecord.{SegmentRecord}
+use Rattle.entries.specs.Keyed.{ArePeriodsWanting, ArePeriodsWhole, PeriodsRead}
+use Rattle.entries.specs.Keyed.{AreSegmentsWanting, AreSegmentsWhole, Ids, SegmentsRead}
+use Rattle.entries.specs.PlanRows.{Periods, Segments, IsPairingOfRows}
+use Rattle.entries.specs.declared.fault.LoadFault.{LoadFault}
+use Rattle.entries.specs.declared.fault.LoadFault.TheVariants.{Fault}
+
+-- the records of periods and segments, each by its key, say this pairing of an id
+pub record IsToldBy
+    (id : List ℕ) (periods : List PeriodRecord) (segments : List SegmentRecord) (r : PairingEntry)
+    : Type 0 where
+  pub ids : Ids
+  pub by_number : Periods
+  pub by_numbers : Segments
+  pub periods_read : PeriodsRead ids periods (length periods) by_number
+  pub segments_read : SegmentsRead by_number segments (length segments) by_numbers
+  pub told : IsPairingOfRows by_number by_numbers id r
+
+-- this id alone
+abbrev pub only : List ℕ → Ids
+only id = fin.insert fin.empty id tt
+
+-- Why records tell of no pairing under an id: a period has no key of it, or the periods leave a
+-- gap; a segment has no key of one of the periods, or the segments leave a gap; or no pairing has
+-- them.
+abbrev pub IsUntold : List ℕ → List PeriodRecord → List SegmentRecord → Type 0
+IsUntold id periods segments =
+    ArePeriodsWanting (only id) periods (length periods)
+    ⊎ ((m : Periods) × ArePeriodsWhole (only id) periods (length periods) m
+    × (AreSegmentsWanting m segments (length segments)
+    ⊎ ((n : Segments) × AreSegmentsWhole m segments (length segments) n
+    × ((r : PairingEntry) → IsPairingOfRows m n id r → ⊥))))
+
+-- what a refusal of the records of one pairing says: a fault (90, 91) says nothing of them
+abbrev pub RefusesPairing : List ℕ → List PeriodRecord → List SegmentRecord → LoadFault → Type 0
+RefusesPairing id periods segments (Fault fault) = ⊤
+RefusesPairing id periods segments _ = IsUntold id periods segments

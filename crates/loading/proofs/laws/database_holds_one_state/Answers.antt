@@ -1,5 +1,0 @@
-use Rattle.loading.proofs.SameStates.{database_holds_one_state}
-use Rattle.loading.proofs.laws.database_holds_one_state.Goals as goal
-
-pub returns : goal.returns
-returns c = database_holds_one_state

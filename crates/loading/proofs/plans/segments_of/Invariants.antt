@@ -1,7 +1,0 @@
-use Rattle.std.specs.Prelude.{◌≡◌, length}
-use Rattle.loading.specs.PlanRows.{EachBeside, HasRowOf}
-use Rattle.loading.proofs.plans.segments_of.Given as goal
-
-abbrev pub invariant-loop-place : goal.invariant-loop-place
-invariant-loop-place l =
-    (length l.planned.items ≡ l.place) × (length l.flown.items ≡ l.place) × EachBeside (HasRowOf l.rows.segments l.id l.period) l.planned.items l.flown.items

@@ -1,8 +1,0 @@
-use Rattle.std.specs.FinMap as fin
-use Rattle.loading.specs.Keyed.{Follows}
-use Rattle.loading.specs.OutsideRows.{name_of_segment, outside_segment_name}
-use Rattle.loading.proofs.Entries.{Passed}
-use Rattle.loading.proofs.read_outside_segment.are_ungapped.Given as goal
-
-abbrev pub invariant-loop-key : goal.invariant-loop-key
-invariant-loop-key l = Passed name_of_segment (λ key. Follows (λ number. fin.get l.segments (outside_segment_name key.outside number)) key.number) l.segments l.key-iterator

@@ -1,5 +1,0 @@
-use Rattle.std.proofs.Common.{rules, refl, inr}
-use Rattle.loading.proofs.read_periods.all_by_keys.Goals as goal
-
-pub returns-then-not-branch : goal.returns-then-not-branch
-returns-then-not-branch c = (refl, inr (c.in_ok-periods.periods, c.in_ok-periods.ensures, search rules))

@@ -1,5 +1,0 @@
-use Rattle.loading.specs.Keyed.{PeriodsRead}
-use Rattle.loading.proofs.read_periods.by_keys.Given as goal
-
-abbrev pub invariant-loop-row : goal.invariant-loop-row
-invariant-loop-row l = PeriodsRead l.ids l.records l.row-index l.periods

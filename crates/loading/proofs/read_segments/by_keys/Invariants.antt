@@ -1,5 +1,0 @@
-use Rattle.loading.specs.Keyed.{SegmentsRead}
-use Rattle.loading.proofs.read_segments.by_keys.Given as goal
-
-abbrev pub invariant-loop-row : goal.invariant-loop-row
-invariant-loop-row l = SegmentsRead l.periods l.records l.row-index l.segments

@@ -1,0 +1,69 @@
+-- What trees keep beside the tables of a book.
+use Rattle.std.specs.Prelude.{◌≡◌, ◌≢◌, ◌⊎◌, ◌++◌, ◌+◌, ℕ, false, List, [], ◌∷◌, codes}
+use Rattle.sqlite_rules.specs.Lists.{Has}
+use Rattle.sqlite_schema.specs.declared.schema.Index.{Index}
+use Rattle.sqlite_schema.specs.declared.schema.Schema.{Schema}
+use Rattle.sqlite_schema.specs.declared.schema.Table.{Table}
+use Rattle.sqlite_trees.specs.Tree.{Trees}
+use Rattle.sqlite_catalog.specs.Change.{automatics, created}
+use Rattle.sqlite.specs.Does.{lacks_sequence}
+use Rattle.sqlite.specs.Effect.{Database, IsDatabase}
+use Rattle.tables.specs.Schema.{BookTable, IsTable, table_of}
+use Rattle.tables.specs.Rows.{stored}
+use Rattle.state_rows.specs.Rows.{TableName, table}
+
+-- ---- Other tables
+
+-- no table of a book has this name
+abbrev pub IsOther : List ℕ → Type 0
+IsOther name = (it : TableName) → name ≢ (table it).name
+
+-- the trees list the schema of this database, and each table that isn't of the book has the rows
+-- that it has in the database
+pub record KeepOthers (db : Database) (trees : Trees) : Type 0 where
+  pub database : IsDatabase (record { schema = db.schema; trees = trees })
+  pub others : (t : Table) → Has db.schema.tables t → IsOther t.name →
+      trees t.tree ≡ db.trees t.tree
+
+-- ---- What is made beside other tables
+
+-- a schema in which these tables are made, one after the other
+abbrev pub made_in : Schema → List BookTable → Schema
+made_in schema [] = schema
+made_in schema (t ∷ ts) = made_in (created schema (table_of t 0)) ts
+
+-- behind the indexes that were there stand those of the keys of these tables, table by table, and
+-- no others
+abbrev pub AddsKeys : List BookTable → List Index → List Index → Type 0
+AddsKeys [] old new = new ≡ old
+AddsKeys (t ∷ ts) old new =
+    (tree : ℕ) × AddsKeys ts (old ++ automatics (table_of t tree) 0 (tree + 1) t.keys) new
+
+-- one of these tables has this name
+abbrev pub IsNameOf : List BookTable → List ℕ → Type 0
+IsNameOf tables name = (t : BookTable) × Has tables t × (name ≡ t.name)
+
+-- Of two schemas the second has all that the first has, and these tables with the indexes of their
+-- keys, and nothing else, but for `sqlite_sequence` where an AUTOINCREMENT lacks it.
+pub record Adds (tables : List BookTable) (old new : Schema) : Type 0 where
+  -- each table of before is declared as it was, and each other one is made
+  pub kept : (t : Table) → Has old.tables t → Has new.tables t
+  pub no_more : (t : Table) → Has new.tables t →
+      Has old.tables t ⊎ (IsNameOf tables t.name ⊎ (t.name ≡ codes "sqlite_sequence"))
+  pub indexes : AddsKeys tables old.indexes new.indexes
+  pub views : new.views ≡ old.views
+  -- where no AUTOINCREMENT lacks its table, just these tables are made, in this order
+  pub made : lacks_sequence old ≡ false → new ≡ made_in old tables
+
+-- The trees, by the schema that they list, have all tables, views and indexes of this database, and
+-- beside them these tables, and nothing else is made. Each table that isn't of the book has the
+-- rows that it has in the database.
+pub record KeepBeside (tables : List BookTable) (db : Database) (trees : Trees) : Type 0 where
+  pub schema : Schema
+  pub database : IsDatabase (record { schema = schema; trees = trees })
+  pub adds : Adds tables db.schema schema
+  pub others : (t : Table) → Has db.schema.tables t → IsOther t.name →
+      trees t.tree ≡ db.trees t.tree
+  -- each table that is declared as the tables of a book are declared, under another name
+  pub plain : (t : BookTable) → IsTable t db.schema → IsOther t.name →
+      IsTable t schema × (stored t (record { schema = schema; trees = trees }) ≡ stored t db)
