@@ -1,7 +1,7 @@
 #!/usr/bin/env python3
 """Tries wrong bodies, each of which the prover must refuse.
 
-    tests/edits.py [--more] [--built] [--jobs N] [CRATE..]
+    tests/edits.py [--more] [--built] [--jobs N] [--beside LOG --libraries FOLDER] [CRATE..]
 
 An edit is a file crates/CRATE/must-fail/NAME.edit, or with --more crates/CRATE/must-fail-more/NAME.edit. Its lines are `in: FUNCTION`,
 the function that must be refused, as a check prints it below its crate; `file: PATH`, in the crate; and pairs of `old: TEXT`
@@ -10,17 +10,24 @@ and `new: TEXT`, where the old text stands in the file exactly once. With no `in
 A function is proved over the contracts of those that it calls, so edits of different functions are tried by one check of
 these functions, on a copy of the crate. `rt lib` first builds each library below that is missing or older than its sources; with
 --built those that are there are taken as they are, as `rt ci` left them: what it has from an earlier run on a machine is older than
-a fresh clone. After the lines of a crate comes one with the seconds that its checks took. The last line is 'N passed, M failed', and
-the exit status 1 where M isn't 0.
+a fresh clone. With --beside the edits of a crate are tried while `rt ci` proves the crates above it in the copy of the repository that
+--libraries names. LOG is what `rt ci` says meanwhile, and at last the line `rt ci has ended`: the libraries that it names as proved are
+there. Until it ends, few edits are tried at once, with the least share of the processors, and only while memory is left; one that is
+killed for memory is tried again at the end.
+
+After the lines of a crate comes one with the seconds that its checks took. The last line is 'N passed, M failed', and the exit status 1
+where M isn't 0.
 """
 
 import argparse
+import contextlib
 import os
 import re
 import shutil
 import subprocess
 import sys
 import tempfile
+import threading
 import time
 from concurrent.futures import ThreadPoolExecutor
 from dataclasses import dataclass
@@ -28,6 +35,9 @@ from pathlib import Path
 
 TOP = Path(__file__).resolve().parent.parent
 PARTS = ("src", "specs", "proofs")
+LIGHTLY = ("nice", "-n", "19", "sh", "-c", 'echo 1000 >/proc/self/oom_score_adj; exec "$@"', "sh")  # the first to be killed for memory
+ROOM = 6_000_000  # how many kB have to be free for a check beside `rt ci`
+ENDED = "rt ci has ended\n"  # the last line of what it says
 
 
 @dataclass(frozen=True)
@@ -35,6 +45,7 @@ class Crate:
     name: str
     ours: tuple  # its libraries of this repository
     kits: tuple  # its libraries of the kit
+    libraries: Path  # the repository in which the libraries are built
 
     @property
     def folder(self):
@@ -42,7 +53,7 @@ class Crate:
 
     @property
     def library(self):
-        return self.folder / "out" / "rlib" / f"{self.name}.rlib"
+        return self.libraries / "crates" / self.name / "out" / "rlib" / f"{self.name}.rlib"
 
     def below(self):
         """The crates of this repository that it stands on, lowest first."""
@@ -73,6 +84,46 @@ class BadEdit(Exception):
     """Why an edit can't be tried."""
 
 
+class Alone:
+    """When a check may begin, and how it is run: at once, with all that the machine has."""
+
+    @contextlib.contextmanager
+    def turn(self, crate):
+        yield ()
+
+
+class Beside:
+    """When a check may begin beside `rt ci`, and how it is run: once the libraries below are there, lightly until `rt ci` has ended."""
+
+    def __init__(self, log):
+        self.log = log
+        self.turns = threading.Semaphore(max(1, len(os.sched_getaffinity(0)) // 2))
+
+    def has_ended(self):
+        return self.log.read_text(errors="replace").endswith(ENDED)
+
+    def may_begin(self, crate):
+        proved = set(re.findall(r"^rt: (\w+) (?:proved$|is kept: )", self.log.read_text(errors="replace"), re.M))
+        return all(low.name in proved for low in crate.below()) and memory_left() > ROOM
+
+    @contextlib.contextmanager
+    def turn(self, crate):
+        while not self.has_ended():
+            if self.may_begin(crate) and self.turns.acquire(blocking=False):
+                try:
+                    yield LIGHTLY
+                finally:
+                    self.turns.release()
+                return
+            time.sleep(2)
+        yield ()
+
+
+def memory_left():
+    """How many kB of memory are free."""
+    return int(re.search(r"^MemAvailable: +(\d+) kB$", Path("/proc/meminfo").read_text(), re.M)[1])
+
+
 def newest(path):
     """When the path, or what is newest in it, was written."""
     if path.is_file():
@@ -80,8 +131,8 @@ def newest(path):
     return max((it.stat().st_mtime for it in path.rglob("*") if it.is_file()), default=0)
 
 
-def crates():
-    """The crates of crates.txt, by name."""
+def crates(libraries):
+    """The crates of crates.txt, by name, lowest first. Their libraries are built in this copy of the repository."""
     lines = [line.split("#")[0].strip() for line in (TOP / "crates.txt").read_text().splitlines()]
     listed = {name.strip(): libraries.split() for name, libraries in (line.split(":") for line in lines if line)}
     made = {}
@@ -89,7 +140,7 @@ def crates():
     def make(name):
         if name not in made:
             ours = tuple(make(it) for it in listed[name] if it in listed)
-            made[name] = Crate(name, ours, tuple(it for it in listed[name] if it not in listed))
+            made[name] = Crate(name, ours, tuple(it for it in listed[name] if it not in listed), libraries)
         return made[name]
 
     for name in listed:
@@ -158,7 +209,7 @@ def words_of_check(kit, crate):
     return [*words, "--antt-project", f"{kit}/rattle/logic/antt-project.json", "--logic-built", f"{kit}/logic_built", "--links", f"{crate.name}="]
 
 
-def try_round(words, crate, edits, kept):
+def try_round(words, crate, edits, kept, when):
     """Checks a copy of the crate with these edits, and returns what it said, or why they can't be tried."""
     with tempfile.TemporaryDirectory(prefix="edits-") as room:
         room = Path(room)
@@ -168,8 +219,15 @@ def try_round(words, crate, edits, kept):
         for edit in edits:
             apply(edit, room)
         only = [word for edit in edits for name in edit.functions for word in ("--only", name)]
-        ran = subprocess.run([*words, *only, "--incremental", kept], cwd=room, stdin=subprocess.DEVNULL, capture_output=True, text=True, errors="replace")
-        return ran.stdout + ran.stderr
+        while True:
+            with when.turn(crate) as lightly:
+                ran = subprocess.run(
+                    [*lightly, *words, *only, "--incremental", kept], cwd=room, stdin=subprocess.DEVNULL, capture_output=True, text=True, errors="replace"
+                )
+            if not lightly or ran.returncode >= 0:
+                return ran.stdout + ran.stderr
+            while not when.has_ended():
+                time.sleep(2)
 
 
 def refusal(said, crate, name):
@@ -185,17 +243,17 @@ def refusal(said, crate, name):
     return error[2] if error else ""
 
 
-def verdicts(words, crate, edits, kept):
+def verdicts(words, crate, edits, kept, when):
     """Tries edits of one round, and yields of each whether it was refused, and what there is to say."""
     try:
-        said = try_round(words, crate, edits, kept)
+        said = try_round(words, crate, edits, kept, when)
     except BadEdit as why:
         said = f"error: {why}"
     is_whole = not edits[0].functions
     if not re.search(r"^logic=not-proved" if is_whole else r"^only=\d+ proved=\d+", said, re.M):
         if len(edits) > 1:
             for edit in edits:
-                yield from verdicts(words, crate, [edit], kept)
+                yield from verdicts(words, crate, [edit], kept, when)
             return
         is_proved = is_whole and re.search(r"^logic=proved", said, re.M)
         first = next((line for line in said.splitlines() if "error" in line), said.strip()[-300:])
@@ -206,13 +264,13 @@ def verdicts(words, crate, edits, kept):
         if is_whole or all(found.values()):
             yield edit, True, f"refused: {'; '.join(found.values())}" if found else "refused"
         elif len(edits) > 1:
-            yield from verdicts(words, crate, [edit], kept)
+            yield from verdicts(words, crate, [edit], kept, when)
         else:
             unsaid = [name for name, why in found.items() if not why]
             yield edit, False, f"NOT REFUSED: nothing was said against {', '.join(unsaid)}"
 
 
-def try_crate(kit, crate, folder):
+def try_crate(kit, crate, folder, when):
     """Tries the crate's edits. Returns the lines to print, each with whether it tells of a refusal, and how long that took."""
     begun, lines, edits = time.monotonic(), [], []
     for file in sorted((crate.folder / folder).glob("*.edit")):
@@ -223,7 +281,7 @@ def try_crate(kit, crate, folder):
     words = words_of_check(kit, crate)
     with tempfile.TemporaryDirectory(prefix="edits-kept-") as kept:
         for those in rounds(edits):
-            lines += [(is_refused, f"{edit.label}: {text}") for edit, is_refused, text in verdicts(words, crate, those, kept)]
+            lines += [(is_refused, f"{edit.label}: {text}") for edit, is_refused, text in verdicts(words, crate, those, kept, when)]
     return lines, f"{crate.name}: {len(lines)} edits in {time.monotonic() - begun:.0f} seconds"
 
 
@@ -232,26 +290,30 @@ def main():
     asked.add_argument("--more", action="store_true", help="try crates/CRATE/must-fail-more")
     asked.add_argument("--built", action="store_true", help="take the libraries that are there as they are")
     asked.add_argument("--jobs", type=int, default=len(os.sched_getaffinity(0)), help="how many crates to try at once")
+    asked.add_argument("--beside", metavar="LOG", type=Path, help="try them while rt ci runs, which says this")
+    asked.add_argument("--libraries", metavar="FOLDER", type=Path, default=TOP, help="the copy of the repository that has the libraries")
     asked.add_argument("crates", nargs="*", metavar="CRATE")
     asked = asked.parse_args()
     folder = "must-fail-more" if asked.more else "must-fail"
     rt = shutil.which("rt") or sys.exit("tests/edits.py: put the command rt of the Rattle kit on the PATH")
     kit = Path(rt).resolve().parent.parent
-    known = crates()
+    known = crates(asked.libraries.resolve())
     for name in asked.crates:
         if name not in known or not (known[name].folder / folder).is_dir():
             sys.exit(f"tests/edits.py: there is no folder crates/{name}/{folder}")
     chosen = [it for it in known.values() if (it.folder / folder).is_dir() and (it.name in asked.crates or not asked.crates)]
-    for crate in dict.fromkeys(low for it in chosen for low in it.below()):
+    for crate in dict.fromkeys(low for it in chosen for low in it.below()) if not asked.beside else ():
         is_built = crate.library.exists() if asked.built else crate.is_built()
         if not is_built and subprocess.run([rt, "lib"], cwd=crate.folder).returncode:
             sys.exit(f"tests/edits.py: {crate.name} could not be built")
 
     refused = failed = 0
-    # (those with most to prove first)
-    chosen.sort(key=lambda it: -sum(file.stat().st_size for file in it.folder.rglob("*.antt")))
+    # (those with most to prove first; beside `rt ci` those that it proves first)
+    if not asked.beside:
+        chosen.sort(key=lambda it: -sum(file.stat().st_size for file in it.folder.rglob("*.antt")))
+    when = Beside(asked.beside) if asked.beside else Alone()
     with ThreadPoolExecutor(asked.jobs) as pool:
-        for lines, how_long in pool.map(lambda it: try_crate(kit, it, folder), chosen):
+        for lines, how_long in pool.map(lambda it: try_crate(kit, it, folder, when), chosen):
             for is_refused, line in lines:
                 print(line, flush=True)
                 refused, failed = refused + is_refused, failed + (not is_refused)
