@@ -1,5 +1,5 @@
 -- What a book makes of one request, as its functions say it to one another and to an exchange. No public clause names these.
-use Rattle.std.specs.Prelude.{◌≡◌, ◌⊎◌, ◌||◌, ⊤, ℕ, Bool, true, false, ◌+◌, List, [], ◌++◌, codes, nat_lt, string_bytes, take, Result, Ok, Err, IfOk, IsTrue}
+use Rattle.std.specs.Prelude.{◌≡◌, ◌⊎◌, ◌||◌, ⊤, ℕ, Bool, true, false, ◌+◌, List, [], ◌++◌, codes, nat_lt, if◌then◌else◌, string_bytes, take, Result, Ok, Err, IfOk, IsTrue}
 use Rattle.sqlite_trees.specs.declared.store.Store.{Ghosts}
 use Rattle.sqlite.specs.Held.{state}
 use Rattle.values.specs.declared.memory_fault.MemoryFault.{MemoryFault}
