@@ -1,0 +1,5 @@
+pub mod Joining
+pub mod LeftOut
+pub mod OneNearness
+pub mod OneText
+pub mod TextRules

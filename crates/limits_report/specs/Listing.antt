@@ -1,0 +1,45 @@
+-- How the duties of a member are listed, for private clauses alone: nothing here has to be read to
+-- know what the crate promises.
+use Rattle.std.specs.Prelude.{◌≡◌, ℕ, Bool, false, not, List, ◌++◌, map, drop, ℤ, ◌≤ℤ◌, IsTrue, Option, Some, None}
+use Rattle.std.specs.List.{filter, flat_map}
+use Rattle.duty.specs.declared.duty_in_force.DutyInForce.{DutyInForce}
+use Rattle.limits.specs.Judgement.{all_sections}
+use Rattle.nearness.specs.Nearness.{IsNearness}
+use Rattle.nearness.specs.declared.all_limits.Nearness.{Nearness}
+use Rattle.roster.specs.Places.{Place, Placed, the_pairing}
+use Rattle.limits_report.specs.LimitsText.{place_text, section_line}
+use Rattle.limits_report.specs.declared.named_duties.NamedDuty.{NamedDuty}
+
+-- a duty with the name of its place
+abbrev pub named : Placed → NamedDuty
+named p = record { name = place_text p.0; duty = p.1 }
+
+-- the names of the duties of a list
+abbrev pub names_of : List NamedDuty → List (List ℕ)
+names_of list = map (λ d. d.name) list
+
+-- the duties of a list without their names
+abbrev pub times_of : List NamedDuty → List DutyInForce
+times_of list = map (λ d. d.duty) list
+
+-- the place is a period of the pairing, if there is one
+abbrev pub is_of : Option (List ℕ) → Place → Bool
+is_of (Some id) place = the_pairing id place
+is_of None place = false
+
+-- the duties of a list with their names, but for the periods of the pairing
+abbrev pub all_but : Option (List ℕ) → List Placed → List NamedDuty
+all_but out placed = map named (filter (λ p. not (is_of out p.0)) placed)
+
+-- the set has a minute from `start` on
+pub record HasFrom (set : ℤ → Bool) (start : ℤ) : Type 0 where
+  pub minute : ℤ
+  pub from_start : start ≤ℤ minute
+  pub member : IsTrue (set minute)
+
+-- the text of a list of duties, of which those from `others` on are new: the first line, and a line
+-- for each section
+pub record IsTextOf (list : List NamedDuty) (others : ℕ) (first text : List ℕ) : Type 0 where
+  pub nearness : Nearness
+  pub nearest : IsNearness (times_of list) (times_of (drop others list)) others nearness
+  pub is : text ≡ first ++ flat_map (section_line (names_of list) nearness) all_sections
