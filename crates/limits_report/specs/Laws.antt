@@ -3,6 +3,7 @@ use Rattle.std.specs.Prelude.{◌≡◌, ◌↔◌, ℕ, false, List, ◌++◌, 
 use Rattle.std.specs.FinMap as fin
 use Rattle.std.specs.List.{filter}
 use Rattle.std.specs.Option.{option_map_or}
+use Rattle.command.specs.declared.member.Member.{Member}
 use Rattle.limits.specs.Judgement.{Broken, all_sections}
 use Rattle.limits.specs.Rules.{Rule}
 use Rattle.limits.specs.declared.section.Section.{Section}
@@ -11,7 +12,7 @@ use Rattle.roster.specs.Pairings.{holds}
 use Rattle.roster.specs.Places.{duties, no_place, others, the_pairing}
 use Rattle.roster.specs.Refusals.{broken_by, duties_of}
 use Rattle.roster.specs.State.{State}
-use Rattle.limits_report.specs.LimitsText.{IsLimitsText, IsJudgedText, Judged}
+use Rattle.limits_report.specs.LimitsText.{IsLimitsText, IsJudgedText, Judged, judged}
 
 -- the sections whose lines end in `exceeds`, in their order
 abbrev pub exceeding : {of : Judged} {first text : List ℕ} → IsJudgedText of first text →
@@ -39,6 +40,12 @@ ExceedsIsRefused = (s : State) (who id text : List ℕ) (is : IsLimitsText s who
     option_map_or (holds who) (fin.get s.pairings id) false ≡ false →
     broken_by who (others s who no_place) (duties_of s who id)
     ≡ map (λ section. record { crew = who; section = section }) (exceeding is.told)
+
+-- a member who is there has a text, with each pairing that is there and without one
+abbrev pub EachHasText : Type 0
+EachHasText = (s : State) (who : List ℕ) (pairing : Option (List ℕ)) (member : Member) (of : Judged) →
+    fin.get s.crew who ≡ Some member → judged s who pairing ≡ Some of →
+    (text : List ℕ) × IsLimitsText s who pairing text
 
 -- a member has one text at most, with each pairing or without one
 abbrev pub HasOneText : Type 0

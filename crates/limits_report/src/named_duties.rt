@@ -2,13 +2,12 @@
 //! Wrong bodies: `must-fail/`.
 ghost use Rattle.std.specs.Prelude.{◌≡◌, ◌++◌, ℕ, IfOk, OnOk, map};
 ghost use Rattle.std.specs.Option.{option_copied};
-ghost use Rattle.roster.specs.Pairings.{periods_in_force};
 ghost use Rattle.roster.specs.Places.{period, periods_at, periods_of, grounds_of, outsides_of, history_of};
 ghost use Rattle.limits_report.specs.LimitsText.{place_text};
 ghost use Rattle.limits_report.specs.Listing.{all_but, is_of, named, times_of};
 
-use duty::{CrewId, DutyInForce, Fdp, History, PairingId, Span};
-use roster::{PairingEntry, Roster, in_force};
+use duty::{CrewId, DutyInForce, History, PairingId, Span};
+use roster::{PairingEntry, Roster};
 use std::alloc::Global;
 use time117::Zone;
 use values::{MemoryFault, Text, TryClone};
@@ -78,7 +77,7 @@ pub(crate) fn add_pairing(
     ensures { OnOk result (list.new.items
         ≡ list.old.items ++ map named (periods_at zone.now (id.now, rostered.now))) }
 {
-    let fdps = periods_in_force(alloc, rostered)?;
+    let fdps = rostered.periods_in_force(alloc)?;
     for (index, fdp) in fdps.iter().enumerate() {
         list.push(NamedDuty {
             name: period_name(alloc, id, index + 1)?,
@@ -86,22 +85,6 @@ pub(crate) fn add_pairing(
         })?;
     }
     Ok(())
-}
-
-/// Copies the periods of a pairing in turn, with their times in force.
-fn periods_in_force(alloc: Global, rostered: &PairingEntry) -> Result<Vec<Fdp>, MemoryFault>
-    ensures { IfOk result (λ fdps. fdps.items ≡ periods_in_force rostered.now) }
-{
-    let mut fdps = Vec::new(alloc);
-    for (period, actual) in rostered
-        .plan
-        .periods()
-        .iter()
-        .zip(rostered.actuals.as_slice())
-    {
-        fdps.push(in_force(alloc, period, actual)?)?;
-    }
-    Ok(fdps)
 }
 
 /// Names a period by its pairing and its number.

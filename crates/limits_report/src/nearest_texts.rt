@@ -1,7 +1,6 @@
 //! What is nearest to a limit, as it is printed.
 //! Wrong bodies: `must-fail/`.
 ghost use Rattle.std.specs.Prelude.{◌≡◌, ◌<ℤ◌, IfOk, IfSome, IfNone, pos, string_bytes};
-ghost use Rattle.time117.specs.Instant.{written};
 ghost use Rattle.duty.specs.Minutes.{minutes_in};
 ghost use Rattle.limits_report.specs.LimitsText as spec;
 ghost use Rattle.limits_report.specs.Listing.{HasFrom, names_of};
@@ -10,6 +9,7 @@ use crate::hours::WideHours;
 use crate::named_duties::NamedDuty;
 use duty::{History, Kind};
 use nearness::{FullestWindow, MeasuredPeriod};
+use report::instant;
 use std::alloc::Global;
 use time117::Minute;
 use values::MemoryFault;
@@ -112,17 +112,6 @@ fn first_minute_text(
         Some(minute) => instant(alloc, minute),
         None => Ok(String::from_str(alloc, "before 2000-01-01T00:00Z")?),
     }
-}
-
-/// Writes an instant as `YYYY-MM-DDThh:mmZ`.
-fn instant(alloc: Global, minute: Minute) -> Result<String, MemoryFault>
-    ensures { IfOk result (λ text. string_bytes text ≡ written minute) }
-{
-    // The clause of this call says that the minute is in range: so what is written is UTF-8.
-    let _in_range = minute.number();
-    let mut text = Vec::new(alloc);
-    minute.write(&mut text)?;
-    Ok(String::from_utf8(text).unwrap())
 }
 
 /// Writes the window that is nearest to a limit on minutes of that kind; no minutes where there is none.

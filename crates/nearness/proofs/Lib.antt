@@ -1,3 +1,5 @@
+pub mod EachNearness
+pub mod Extremes
 pub mod FreeTime
 pub mod Measured
 pub mod PeriodRules

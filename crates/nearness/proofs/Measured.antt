@@ -21,7 +21,7 @@ counts_one TableB duty fdp a b x y = x ∙ sym y
 counts_one ThirtyHours duty fdp a b x y = let l = y.longest a x.runs in let h = x.longest b y.runs in omega arith
 counts_one TenHours duty fdp a b x y = let l = y.longest a x.within x.is_free in let h = x.longest b y.within y.is_free in omega arith
 
-same_fdp : (a b : FdpTimes) → Some (Fdp a) ≡ Some (Fdp b) → a ≡ b
+pub same_fdp : (a b : FdpTimes) → Some (Fdp a) ≡ Some (Fdp b) → a ≡ b
 same_fdp a b e = cc
 
 same_number : (a b : ℕ) → Some a ≡ Some b → a ≡ b

@@ -23,7 +23,7 @@ pub record AreYearsTried (all new : List Span) (best : Window) (from to first la
       IsAsGood all 525_600 best ((d + 1) * 1_440)
 
 -- a year that reaches a natural minute ends with a natural number of days
-year_end : (day : ℤ) (minute : ℕ) → (day *ℤ pos 1_440) ≤ℤ pos minute → pos minute <ℤ (day *ℤ pos 1_440 +ℤ pos 525_600) →
+pub year_end : (day : ℤ) (minute : ℕ) → (day *ℤ pos 1_440) ≤ℤ pos minute → pos minute <ℤ (day *ℤ pos 1_440 +ℤ pos 525_600) →
     (days : ℕ) × (day *ℤ pos 1_440 ≡ pos (days * 1_440) -ℤ pos 525_600) × (day ≡ pos days -ℤ pos 365) × (minute < days * 1_440) ×
     (days * 1_440 ≤ minute + 525_600)
 year_end (pos n) minute from to = (n + 365, omega (arith, ints), omega (arith, ints), omega (arith, ints), omega (arith, ints))

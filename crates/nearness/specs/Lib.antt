@@ -1,4 +1,5 @@
 pub mod Fullest
+pub mod Laws
 pub mod Nearest
 pub mod Nearness
 pub mod Rests

@@ -2,6 +2,7 @@
 #![tactic(auto)]
 
 mod all_limits;
+pub mod laws;
 mod periods;
 mod rests;
 mod windows;

@@ -3,7 +3,7 @@
 
 mod exceedances;
 mod fault;
-mod instant;
+mod instants;
 pub mod laws;
 mod line;
 mod member_lines;
@@ -12,5 +12,6 @@ mod periods;
 
 pub use exceedances::exceedance_text;
 pub use fault::ReportFault;
+pub use instants::instant;
 pub use member_lines::roster_text;
 pub use pairing_lines::pairing_text;

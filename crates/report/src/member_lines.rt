@@ -9,7 +9,7 @@ ghost use Rattle.report.specs.RosterText as spec;
 ghost use Rattle.report.specs.Periods.{word};
 
 use crate::fault::ReportFault;
-use crate::instant::instant;
+use crate::instants::instant;
 use crate::line::{Line, Place, in_order, text_of};
 use crate::periods::{PeriodInForce, periods_of};
 use command::Member;

@@ -5,7 +5,7 @@ ghost use Rattle.std.specs.FinMap as fin;
 ghost use Rattle.report.specs.PairingText as spec;
 
 use crate::fault::ReportFault;
-use crate::instant::instant;
+use crate::instants::instant;
 use crate::periods::{PeriodInForce, periods_of};
 use duty::{CrewId, PairingId, Segment};
 use roster::{PairingEntry, Roster};

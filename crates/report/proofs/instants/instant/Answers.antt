@@ -2,7 +2,7 @@ use Rattle.std.proofs.Common.{◌≡◌, ◌<◌, ◌++◌, ap, ◌∙◌, arith
 use Rattle.std.specs.Str.{IsUtf8}
 use Rattle.time117.specs.Instant.{written}
 use Rattle.time117.proofs.AsciiInstants.{IsUtf8-written}
-use Rattle.limits_report.proofs.nearest_texts.instant.Goals as goal
+use Rattle.report.proofs.instants.instant.Goals as goal
 
 pub unwrap-requires : goal.unwrap-requires
 unwrap-requires c =
