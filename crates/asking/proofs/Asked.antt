@@ -1,5 +1,5 @@
 -- What was asked of a book, from what was read of it.
-use Rattle.std.proofs.Common.{◌≡◌, ◌||◌, ◌↔◌, inl, refl, subst, sym, ℕ, List, Option, Result, Ok, Err, IfOk, OnOk, IsTrue}
+use Rattle.std.proofs.Common.{◌≡◌, ◌||◌, ◌↔◌, inl, refl, subst, sym, ℕ, List, Result, Ok, Err, IfOk, OnOk, IsTrue}
 use Rattle.sqlite_trees.specs.declared.store.Store.{Ghosts}
 use Rattle.sqlite.specs.Held.{state}
 use Rattle.command.specs.Keys.{KeyParts}
@@ -10,7 +10,7 @@ use Rattle.roster.specs.State.{State}
 use Rattle.state_rows.specs.declared.fault.StoreFault.{StoreFault}
 use Rattle.state_rows.specs.declared.fault.StoreFault.TheVariants.{Store}
 use Rattle.lookup.specs.Reads.{ChangesNothing}
-use Rattle.store.specs.Shown.{IsShown}
+use Rattle.store.specs.Shown.{Absence, IsShown}
 use Rattle.store.specs.declared.show.Show.{Show}
 use Rattle.book.specs.Kept.{HasTables, IsDurablyAt, IsClean, Kept, is_store_fault}
 use Rattle.asking.specs.Answers.{ReportsUnread}
@@ -39,7 +39,7 @@ module _ {S : Type 0} (g : Ghosts S) (old new : Kept S) (what : Show) where
       → (IsTrue old.failed → (shown ≡ Err Store) × (new ≡ old))
       → ChangesNothing (state g old.held) (state g new.held)
       → ((s : State) → IsDurablyAt g old s → IsDurablyAt g new s)
-      → ((s : State) → IsDurablyAt g old s → IsClean g new → IfOk shown (λ roster. (text : Option (List ℕ)) → IsShown roster what text ↔ IsShown s what text))
+      → ((s : State) → IsDurablyAt g old s → IsClean g new → IfOk shown (λ roster. (text : Result (List ℕ) Absence) → IsShown roster what text ↔ IsShown s what text))
       → ((s : State) → IsDurablyAt g old s → HasTables g old s → OnOk shown (HasTables g new s))
       → HasShown g old new what shown
   has_shown shown failed shut unchanged kept text tables = record {

@@ -1,13 +1,14 @@
 -- What becomes of a call for a report: a book shows what it is asked of, and that is reported.
 use Rattle.std.specs.Prelude.{◌≡◌, ◌⊎◌, ◌↔◌, ℕ, List, string_bytes}
-use Rattle.std.specs.Prelude.{Option, Some, None, Result, Ok, Err, IfOk, OnOk, String}
+use Rattle.std.specs.Prelude.{Result, Ok, Err, IfOk, OnOk, String}
 use Rattle.std.specs.Global.{Global}
+use Rattle.std.specs.Option.{option_copied}
 use Rattle.sqlite_trees.specs.declared.store.Store.{Ghosts}
 use Rattle.report.specs.declared.fault.ReportFault.{ReportFault}
 use Rattle.report.specs.declared.fault.ReportFault.TheVariants as report
 use Rattle.roster.specs.State.{State}
 use Rattle.state_rows.specs.declared.fault.StoreFault.{StoreFault}
-use Rattle.store.specs.Shown.{IsShown}
+use Rattle.store.specs.Shown.{Absence, no_crew, no_pairing, IsShown}
 use Rattle.store.specs.declared.show.Show.{Show}
 use Rattle.store.specs.declared.show.Show.TheVariants as show
 use Rattle.book.specs.Calls.{HasReported}
@@ -17,21 +18,24 @@ use Rattle.asking.specs.declared.answers.AskFault.TheVariants.{Book, Memory}
 use Rattle.asking.specs.declared.reports.Shown.{Shown}
 use Rattle.asking.specs.declared.reports.Shown.TheVariants.{Text, NoSuchCrew, NoSuchPairing}
 use Rattle.asking.specs.declared.reports.Subject.{Subject}
-use Rattle.asking.specs.declared.reports.Subject.TheVariants.{Crew, Pairing, Exceedances}
+use Rattle.asking.specs.declared.reports.Subject.TheVariants.{Crew, Limits, Pairing, Exceedances}
 
 -- what a book shows for a report
 abbrev pub show_of : Subject → Show
 show_of (Crew id) = show.Crew id.now
+show_of (Limits crew with) = show.Limits crew.now (option_copied with)
 show_of (Pairing id) = show.Pairing id.now
 show_of Exceedances = show.Exceedances
 
--- what is shown is that of a state: its text, or that the member or the pairing isn't there; or
--- there is no memory for it
+-- what is shown: a text, or that the member or the pairing isn't there
+abbrev pub text_shown : Shown → Result (List ℕ) Absence
+text_shown (Text text) = Ok (string_bytes text)
+text_shown NoSuchCrew = Err no_crew
+text_shown NoSuchPairing = Err no_pairing
+
+-- what is shown is that of a state; or there is no memory for it
 abbrev pub ShowsOf : State → Show → Result Shown AskFault → Type 0
-ShowsOf s what (Ok (Text text)) = IsShown s what (Some (string_bytes text))
-ShowsOf s what (Ok NoSuchCrew) = IsShown s what None × ((who : List ℕ) × (what ≡ show.Crew who))
-ShowsOf s what (Ok NoSuchPairing) =
-    IsShown s what None × ((id : List ℕ) × (what ≡ show.Pairing id))
+ShowsOf s what (Ok shown) = IsShown s what (text_shown shown)
 ShowsOf s what (Err fault) = fault ≡ Memory
 
 -- what a book shows is reported, or a fault that it met
@@ -45,7 +49,7 @@ module _ {S : Type 0} (g : Ghosts S) (old new : Kept S) (what : Show) where
   pub record HasShown (shown : Result State StoreFault) : Type 0 where
     pub call : HasReported g old new shown
     pub text : (s : State) → IsDurablyAt g old s → IsClean g new →
-        IfOk shown (λ roster. (text : Option (List ℕ)) →
+        IfOk shown (λ roster. (text : Result (List ℕ) Absence) →
         IsShown roster what text ↔ IsShown s what text)
     pub tables : (s : State) → IsDurablyAt g old s → HasTables g old s →
         OnOk shown (HasTables g new s)

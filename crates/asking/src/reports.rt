@@ -1,12 +1,14 @@
 //! Reports: a text by what a book shows. The definition is `IsReportAsked` (`specs/Reports.antt`).
 //! Worked texts: `tests/reports.py`. Wrong bodies: `must-fail/`.
 ghost use Rattle.std.specs.Prelude.{◌≡◌, IfOk};
+ghost use Rattle.std.specs.Option.{option_copied};
 ghost use Rattle.book.specs.Calls.{IsAfterCalls};
 ghost use Rattle.asking.specs.Reports as spec;
 
 use crate::answers::AskFault;
 use book::{Book, BookFault, Show};
 use duty::{CrewId, PairingId};
+use limits_report::limits_text;
 use report::{ReportFault, exceedance_text, pairing_text, roster_text};
 use roster::Roster;
 use sqlite::Alter;
@@ -18,6 +20,14 @@ use values::{MemoryFault, Text};
 pub enum Subject<'a> {
     /// The roster of the crew member of this id.
     Crew(&'a str),
+    /// How near the duties of a crew member are to each limit, with the periods of a pairing as if the member held it, if
+    /// one is named.
+    Limits {
+        /// The id of the crew member.
+        crew: &'a str,
+        /// The id of the pairing.
+        with: Option<&'a str>,
+    },
     /// The pairing of this id.
     Pairing(&'a str),
     /// All exceedances.
@@ -35,7 +45,7 @@ pub enum Shown {
     NoSuchPairing,
 }
 
-/// Asks a book for the text of a member's roster, of a pairing or of the exceedances. No table is changed.
+/// Asks a book for the text of a member's roster, of a member's limits, of a pairing or of the exceedances. No table is changed.
 pub fn ask_report<S: Alter>(
     alloc: Global,
     book: &mut Book<S>,
@@ -58,8 +68,22 @@ fn shown_by(alloc: Global, subject: Subject<'_>) -> Result<Show, MemoryFault>
 {
     Ok(match subject {
         Subject::Crew(id) => Show::Crew(CrewId::new(copy_of(alloc, id)?)),
+        Subject::Limits { crew, with } => Show::Limits {
+            crew: CrewId::new(copy_of(alloc, crew)?),
+            with: named_by(alloc, with)?,
+        },
         Subject::Pairing(id) => Show::Pairing(PairingId::new(copy_of(alloc, id)?)),
         Subject::Exceedances => Show::Exceedances,
+    })
+}
+
+/// Copies the id of a pairing, if one is named.
+fn named_by(alloc: Global, id: Option<&str>) -> Result<Option<PairingId>, MemoryFault>
+    ensures { IfOk result (λ named. named ≡ option_copied id.entry) }
+{
+    Ok(match id {
+        Some(id) => Some(PairingId::new(copy_of(alloc, id)?)),
+        None => None,
     })
 }
 
@@ -86,6 +110,7 @@ fn text_of(alloc: Global, roster: &Roster, what: &Show) -> Result<String, Report
 {
     match what {
         Show::Crew(who) => roster_text(alloc, roster, who),
+        Show::Limits { crew, with } => limits_text(alloc, roster, crew, with.as_ref()),
         Show::Pairing(id) => pairing_text(alloc, roster, id),
         Show::Exceedances => exceedance_text(alloc, roster),
     }

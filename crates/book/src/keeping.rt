@@ -3,7 +3,7 @@
 //! What contracts see of it is `specs/Kept.antt`. What an answer and a run come to are the records of
 //! `specs/Answered.antt` and `specs/Ran.antt`, in the words of `specs/Headline.antt`.
 //! Worked rows: `tests/answers.py`; the rows that are left: `tests/tables.py`. Wrong bodies: `must-fail/`.
-ghost use Rattle.std.specs.Prelude.{ℕ, Option, ◌≡◌, ◌⊎◌, ◌||◌, ◌↔◌, false, Err, IfErr, IfOk, IsErrAnd, IsTrue, List, None, OnOk, Some};
+ghost use Rattle.std.specs.Prelude.{ℕ, Result, ◌≡◌, ◌⊎◌, ◌||◌, ◌↔◌, false, Err, IfErr, IfOk, IsErrAnd, IsTrue, List, None, OnOk, Some};
 ghost use Rattle.sqlite.specs.Held.{state};
 ghost use Rattle.sqlite.specs.State.{HasCleanDisk};
 ghost use Rattle.command.specs.declared.exceedance.Reply.{Reply};
@@ -20,7 +20,7 @@ ghost use Rattle.book.specs.Ran.{HasRun};
 ghost use Rattle.book.specs.Asking.{StepOutcome};
 ghost use Rattle.book.specs.Headline.{IsRefusal, SparesOthers};
 ghost use Rattle.store.specs.Loaded.{IsLoaded, IsNotLoaded};
-ghost use Rattle.store.specs.Shown.{IsShown};
+ghost use Rattle.store.specs.Shown.{Absence, IsShown};
 ghost use Rattle.book.specs.Kept.{HasOne, HasTables, IsDurablyAt, IsClean, Keeps, KeepsEither, HasFoundBook, StillHolds, is_store_fault, result_of};
 
 use crate::answer::{Answer, Run};
@@ -144,8 +144,8 @@ impl<S: Alter> Book<S> {
         self.failed
     }
 
-    /// Reads a roster with at least what the text of a member, of a pairing or of the exceedances needs: that text of
-    /// it is the text of the state that the tables mean. No table is changed. After want of memory (91) the call may be
+    /// Reads a roster with at least what the text of a member, of a member's limits, of a pairing or of the exceedances
+    /// needs: that text of it is the text of the state that the tables mean. No table is changed. After want of memory (91) the call may be
     /// made again; after a fault of the store (90) each later call answers 90.
     pub fn show(&mut self, alloc: Global, what: &Show) -> Result<Roster, StoreFault>
         // Whether it has failed: a book that has answers 90 and does nothing.
@@ -162,8 +162,8 @@ impl<S: Alter> Book<S> {
 
         // The text, by the state that the tables mean.
         ensures text { (s : State) → IsDurablyAt S.Store self.old s → IsClean S.Store self.new
-            → IfOk result (λ roster. (shown : Option (List ℕ)) → IsShown roster what.now shown
-            ↔ IsShown s what.now shown) }
+            → IfOk result (λ roster. (shown : Result (List ℕ) Absence)
+            → IsShown roster what.now shown ↔ IsShown s what.now shown) }
 
         // The state stays: a crash leaves it, and the tables mean it.
         ensures kept { (s : State) → IsDurablyAt S.Store self.old s

@@ -82,12 +82,48 @@ ROSTER C1 captain Ada Ray
 2025-06-12T11:00Z 2025-06-12T20:00Z pairing P2/1 plan fdp 8:30 flight 7:30
 2025-06-13T04:00Z 2025-06-13T07:30Z outside X1 fdp 3:00 flight 2:00
 2025-06-20T12:00Z 2025-06-20T20:00Z ground G1 Simulator
+LIMITS C1 captain Ada Ray
+117.11(a)(1) 7:30 of 9:00 P2/1 within
+117.13(a) 8:30 of 14:00 P2/1 within
+117.23(b)(1) 9:30 of 100:00 from 2025-05-16T07:00Z within
+117.23(b)(2) 9:30 of 1000:00 from 2024-06-14T00:00Z within
+117.23(c)(1) 11:30 of 60:00 from 2025-06-06T07:00Z within
+117.23(c)(2) 11:30 of 190:00 from 2025-05-16T07:00Z within
+117.25(b) 151:00 of 30:00 outside X1 within
+117.25(e) 8:00 of 10:00 outside X1 exceeds
 ROSTER C2 captain Bo Lind
 2025-06-10T11:00Z 2025-06-11T07:30Z pairing P1/1 actual fdp 20:00 flight 10:00
+LIMITS C2 captain Bo Lind
+117.11(a)(1) 10:00 of 9:00 P1/1 exceeds
+117.13(a) 20:00 of 14:00 P1/1 exceeds
+117.23(b)(1) 10:00 of 100:00 from 2025-05-14T07:00Z within
+117.23(b)(2) 10:00 of 1000:00 from 2024-06-12T00:00Z within
+117.23(c)(1) 20:00 of 60:00 from 2025-06-04T07:00Z within
+117.23(c)(2) 20:00 of 190:00 from 2025-05-14T07:00Z within
+117.25(b) 168:00 of 30:00 P1/1 within
+117.25(e) 168:00 of 10:00 P1/1 within
 ROSTER D1 captain Lee Roy
 base DEN
+LIMITS D1 captain Lee Roy
+117.11(a)(1) - within
+117.13(a) - within
+117.23(b)(1) 0:00 of 100:00 within
+117.23(b)(2) 0:00 of 1000:00 within
+117.23(c)(1) 0:00 of 60:00 within
+117.23(c)(2) 0:00 of 190:00 within
+117.25(b) - of 30:00 within
+117.25(e) - of 10:00 within
 ROSTER F1 first officer Zoë Roy
 2025-06-10T11:00Z 2025-06-11T07:30Z pairing P1/1 actual fdp 20:00 flight 10:00
+LIMITS F1 first officer Zoë Roy
+117.11(a)(1) 10:00 of 9:00 P1/1 exceeds
+117.13(a) 20:00 of 14:00 P1/1 exceeds
+117.23(b)(1) 10:00 of 100:00 from 2025-05-14T07:00Z within
+117.23(b)(2) 10:00 of 1000:00 from 2024-06-12T00:00Z within
+117.23(c)(1) 20:00 of 60:00 from 2025-06-04T07:00Z within
+117.23(c)(2) 20:00 of 190:00 from 2025-05-14T07:00Z within
+117.25(b) 168:00 of 30:00 P1/1 within
+117.25(e) 168:00 of 10:00 P1/1 within
 PAIRING P1
 captain C2
 first officer F1

@@ -20,7 +20,8 @@ use Rattle.console.proofs.WalkKeeps.{none_of}
 use Rattle.console.proofs.Filled.{Filled, NoneMissing, check_none, checks_passed, defaults_found, given_all, given_first}
 use Rattle.console.proofs.Filled.{given_found, has_default, has_rule, rows_filled, takes_one, wanted_given}
 use Rattle.console.proofs.NumberRead.{is_checked, number_there, rows_read}
-use Rattle.console.specs.CommandLine.{Argument, a_number, a_text, command_line, option_number, some_texts, table}
+use Rattle.console.specs.CommandLine.{Argument, a_number, a_text, command_line, option_number, option_text, some_texts}
+use Rattle.console.specs.CommandLine.{table}
 use Rattle.console.specs.Arguments.{Has, HasArguments, HasEach, IsAmong}
 
 -- these rules have the argument be there
@@ -29,6 +30,7 @@ fits_one rules (a_text id) = has_rule (λ a. a.required) id rules
 fits_one rules (some_texts id) = has_rule (λ a. a.required) id rules
 fits_one rules (a_number most id) = has_rule (λ a. a.required) id rules && list_all (is_checked id most) rules
 fits_one rules (option_number most default id) = has_rule has_default id rules && list_all (is_checked id most) rules
+fits_one rules (option_text id) = true
 
 -- the subcommand is that of this row, and has its arguments be there
 abbrev fits : Shape → Text × List Argument → Bool
@@ -57,6 +59,7 @@ module _ (s : Shape) (words : List Text) (none : level_fault s [] nothing_held w
       let p = both (has_rule has_default id s.rules) _ e in
       number_there id most rows (rows_read id most s words p.1 none) filled
       (defaults_found id s.rules (settled s.rules (walk s.rules [] nothing_held words).held).rows p.0)
+  has_one (option_text id) filled there e = tt
 
   has_each : (arguments : List Argument) → Filled rows → NoneMissing s.rules rows
       → list_all (fits_one s.rules) arguments ≡ true → HasEach rows arguments

@@ -21,6 +21,10 @@ pub text_read : (f : Found) (id : Text) (o : Option (Bor Text)) (x : Bor Text)
     → first_of id (rows_of f) ≡ Some x.now
 text_read f id o x got is = sym (first_value-rows f id) ∙ (sym got ∙ ap (option_map (λ s. s.now)) is)
 
+pub no_text_read : (f : Found) (id : Text) (o : Option (Bor Text)) → option_map (λ s. s.now) o ≡ first_value f id
+    → o ≡ None → first_of id (rows_of f) ≡ None
+no_text_read f id o got is = sym (first_value-rows f id) ∙ (sym got ∙ ap (option_map (λ s. s.now)) is)
+
 pub texts_there : (f : Found) (id : Text) (o : Option (Bor (List (Bor Text))))
     → option_map (λ s. texts s.now) o ≡ option_map raw_values (matched_of f id)
     → is_some (all_of id (rows_of f)) ≡ true → IsSome o

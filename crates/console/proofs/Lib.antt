@@ -3,7 +3,9 @@ pub mod DutyLine
 pub mod Entered
 pub mod Filled
 pub mod Getters
+pub mod LimitsLine
 pub mod NumberRead
+pub mod OptionLine
 pub mod PlainLine
 pub mod PlainWords
 pub mod ServeLine

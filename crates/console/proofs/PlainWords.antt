@@ -92,7 +92,7 @@ module _ (s : Shape) (flags : list_all reads_flags s.rules ≡ true) where
       (past _ _ (no_word_fault s w.waiting word w.held is)
       ∙ ap (λ (p : Held × Step). step_fault s w.position p.0 p.1) (plain_met s w w.waiting word is))
 
-  goes_on : (w : Walk) (word : Text) → GoesOn w → GoesOn (taken s w word)
+  pub goes_on : (w : Walk) (word : Text) → GoesOn w → GoesOn (taken s w word)
   goes_on w word on = go w.waiting
     where
       placed : (o : Option Rule) → arg_by_index s.rules w.position ≡ o → GoesOn (to_positional s.rules o word w w.held)

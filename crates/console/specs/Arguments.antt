@@ -2,19 +2,20 @@
 use Rattle.std.specs.Prelude.{◌≡◌, ◌⊎◌, ℕ, List, [], ◌∷◌, Option, Some, None, is_some, true}
 use Rattle.clap.specs.Words.{Row, Text, all_of, first_of, one_of}
 use Rattle.console.specs.CommandLine.{Argument, a_number, a_text, arguments_of, number_found}
-use Rattle.console.specs.CommandLine.{option_number, some_texts, table}
+use Rattle.console.specs.CommandLine.{option_number, option_text, some_texts, table}
 
 -- the argument has a whole number from 1 to `most`, which is read as it was written
 pub record HasNumber (most : ℕ) (id : Text) (rows : List Row) : Type 0 where
   pub number : is_some (number_found most id rows) ≡ true
   pub as_written : one_of id rows ≡ first_of id rows
 
--- the argument has what is read of it
+-- the argument has what is read of it: an option of a text may have nothing
 abbrev pub Has : List Row → Argument → Type 0
 Has rows (a_text id) = is_some (first_of id rows) ≡ true
 Has rows (some_texts id) = is_some (all_of id rows) ≡ true
 Has rows (a_number most id) = HasNumber most id rows
 Has rows (option_number most default id) = HasNumber most id rows
+Has rows (option_text id) = Unit {0}
 
 abbrev pub HasEach : List Row → List Argument → Type 0
 HasEach rows [] = Unit {0}

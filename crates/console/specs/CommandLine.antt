@@ -15,7 +15,7 @@ use Rattle.clap.specs.declared.builder.command.Command.TheViews.{out-Command}
 use Rattle.clap.specs.declared.builder.value_parser.ValueParser.TheVariants.{Unsigned}
 use Rattle.console.specs.declared.actions.Action.{Action}
 use Rattle.console.specs.declared.actions.Action.TheVariants.{Duty, Init, Do, Import}
-use Rattle.console.specs.declared.actions.Action.TheVariants.{Roster, Pairing, Exceedances, Serve}
+use Rattle.console.specs.declared.actions.Action.TheVariants.{Roster, Pairing, Limits, Exceedances, Serve}
 
 -- the greatest number of a request
 abbrev pub last_number : ℕ
@@ -39,6 +39,8 @@ pub data Argument : Type 0 where
   a_number : ℕ → Text → Argument
   -- `--NAME N`, a whole number from 1 to this one, which is read of the text here if it is left out
   option_number : ℕ → Text → Text → Argument
+  -- `--NAME TEXT`, a text, which may be left out
+  option_text : Text → Argument
 
 -- `--connections N`, which may be left out and is then 1,000,000
 abbrev pub connections : Argument
@@ -53,6 +55,10 @@ table =
     ∷ (codes "import", a_text (codes "file") ∷ a_number last_number (codes "number") ∷ [])
     ∷ (codes "roster", a_text (codes "file") ∷ a_text (codes "crew") ∷ [])
     ∷ (codes "pairing", a_text (codes "file") ∷ a_text (codes "pairing") ∷ [])
+    ∷ (
+      codes "limits",
+      a_text (codes "file") ∷ a_text (codes "crew") ∷ option_text (codes "with") ∷ [],
+    )
     ∷ (codes "exceedances", a_text (codes "file") ∷ [])
     ∷ (codes "serve", a_text (codes "file") ∷ a_number last_port (codes "port") ∷ connections ∷ [])
     ∷ []
@@ -75,11 +81,13 @@ wanted_each id = record (wanted id) { action = Some Append }
 abbrev pub wanted_number : ℕ → Text → Rule
 wanted_number most id = record (wanted id) { parser = Some (Unsigned 1 most) }
 
+-- an option with a value, which may be left out
+abbrev pub optional : Text → Rule
+optional id = record (new_rule id) { long = Some id; value_names = 1 }
+
 -- an option of a whole number from 1 to `most`, which may be left out
 abbrev pub optional_number : ℕ → Text → Text → Rule
-optional_number most default id = record (new_rule id) {
-  long = Some id;
-  value_names = 1;
+optional_number most default id = record (optional id) {
   defaults = default ∷ [];
   parser = Some (Unsigned 1 most);
 }
@@ -89,6 +97,7 @@ rule (a_text id) = wanted id
 rule (some_texts id) = wanted_each id
 rule (a_number most id) = wanted_number most id
 rule (option_number most default id) = optional_number most default id
+rule (option_text id) = optional id
 
 -- a subcommand with these arguments
 abbrev pub with_arguments : Text → List Argument → App
@@ -130,6 +139,7 @@ pub data Value : Type 0 where
   one : Text → Value
   several : List Text → Value
   whole : ℕ → Value
+  maybe : Option Text → Value
 
 -- a whole number from 1 to `most`, of its text: digits, zeros first or none, after `+` or nothing
 abbrev pub number_up_to : ℕ → Text → Option ℕ
@@ -150,6 +160,7 @@ value_of rows (a_text id) = option_map one (first_of id rows)
 value_of rows (some_texts id) = option_map several (all_of id rows)
 value_of rows (a_number most id) = option_map whole (number_found most id rows)
 value_of rows (option_number most default id) = option_map whole (number_found most id rows)
+value_of rows (option_text id) = Some (maybe (first_of id rows))
 
 -- the subcommand of an action, and what is given for each of its arguments
 abbrev pub asked : Action → Text × List Value
@@ -162,6 +173,10 @@ asked (Do file) = (codes "do", one (string_bytes file) ∷ [])
 asked (Import file number) = (codes "import", one (string_bytes file) ∷ whole number ∷ [])
 asked (Roster file crew) = (codes "roster", one (string_bytes file) ∷ one (string_bytes crew) ∷ [])
 asked (Pairing file id) = (codes "pairing", one (string_bytes file) ∷ one (string_bytes id) ∷ [])
+asked (Limits file crew id) = (
+  codes "limits",
+  one (string_bytes file) ∷ one (string_bytes crew) ∷ maybe (option_map string_bytes id) ∷ [],
+)
 asked (Exceedances file) = (codes "exceedances", one (string_bytes file) ∷ [])
 asked (Serve file port count) =
     (codes "serve", one (string_bytes file) ∷ whole port ∷ whole count ∷ [])

@@ -2,7 +2,7 @@
 use Rattle.std.specs.Prelude.{◌≡◌, ◌==◌, ℕ, Bool, true, not, List, [], ◌∷◌, Option, Some, None}
 use Rattle.std.specs.Prelude.{codes}
 use Rattle.clap.specs.Walk.{Text}
-use Rattle.console.specs.CommandLine.{asked, most_connections, number_up_to, one, several, whole}
+use Rattle.console.specs.CommandLine.{asked, maybe, most_connections, number_up_to, one, several, whole}
 use Rattle.console.specs.declared.actions.Action.{Action}
 
 -- a word that begins with no hyphen (45)
@@ -57,6 +57,15 @@ pairing_words file id = codes "pairing" ∷ file ∷ id ∷ []
 -- the action is `pairing` with exactly these arguments
 abbrev pub IsPairing : Text → Text → Action → Type 0
 IsPairing file id a = asked a ≡ (codes "pairing", one file ∷ one id ∷ [])
+
+-- `limits FILE CREW`, and `--with PAIRING` where a pairing is given
+abbrev pub limits_words : Text → Text → Option Text → List Text
+limits_words file crew None = codes "limits" ∷ file ∷ crew ∷ []
+limits_words file crew (Some id) = codes "limits" ∷ file ∷ crew ∷ codes "--with" ∷ id ∷ []
+
+-- the action is `limits` with exactly these arguments
+abbrev pub IsLimits : Text → Text → Option Text → Action → Type 0
+IsLimits file crew id a = asked a ≡ (codes "limits", one file ∷ one crew ∷ maybe id ∷ [])
 
 -- `exceedances FILE`
 abbrev pub exceedances_words : Text → List Text

@@ -47,6 +47,15 @@ pub enum Action {
         /// The id of the pairing.
         pairing: String,
     },
+    /// `limits FILE CREW --with PAIRING`: print how near a member's duties are to each of the eight limits.
+    Limits {
+        /// The path of the book's file.
+        file: String,
+        /// The id of the member.
+        crew: String,
+        /// The id of a pairing that is judged as if the member held it, if there is one.
+        with: Option<String>,
+    },
     /// `exceedances FILE`: print the exceedances.
     Exceedances {
         /// The path of the book's file.

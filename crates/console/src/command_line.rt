@@ -1,7 +1,7 @@
 //! The words after the program's name, read by `clap`. The definition is `command_line` (`specs/CommandLine.antt`).
 //! Command lines and help: `tests/program.sh`. Wrong bodies: `must-fail/`.
 ghost use Rattle.std.specs.Prelude.{◌≡◌, ◌∷◌, ◌⊎◌, ℕ, IfOk, IsErrAnd, IsSomeAnd, List, MatchResult, None, Option};
-ghost use Rattle.std.specs.Prelude.{Some, [], codes, false, is_some, map, string_bytes, true};
+ghost use Rattle.std.specs.Prelude.{Some, [], codes, false, is_some, map, option_map, string_bytes, true};
 ghost use Rattle.std.specs.List.{list_all};
 ghost use Rattle.std.specs.Option.{option_map_or};
 ghost use Rattle.clap.specs.Walk.{Text, texts};
@@ -10,11 +10,11 @@ ghost use Rattle.clap.specs.Words.{rule_of, subcommand_of, subcommand_rows_of};
 ghost use Rattle.clap.specs.declared.error.kind.ErrorKind.TheVariants.{OutOfMemory, ValueValidation};
 ghost use Rattle.console.specs.Arguments.{HasAll, HasArguments, HasNumber};
 ghost use Rattle.console.specs.CommandLine.{AreArguments, IsCommandOfApp, States, arguments_of, bare, command_line, connections, last_number, last_port};
-ghost use Rattle.console.specs.CommandLine.{most_connections, number_found, number_up_to, request_number, rule, subcommand};
+ghost use Rattle.console.specs.CommandLine.{most_connections, number_found, number_up_to, optional, request_number, rule, subcommand};
 ghost use Rattle.console.specs.CommandLine.{wanted, wanted_number};
-ghost use Rattle.console.specs.Plain.{IsDo, IsDuty, IsExceedances, IsImport, IsInit, IsPairing, IsRoster, IsServe};
+ghost use Rattle.console.specs.Plain.{IsDo, IsDuty, IsExceedances, IsImport, IsInit, IsLimits, IsPairing, IsRoster, IsServe};
 ghost use Rattle.console.specs.Plain.{asked_connections, do_words, duty_words, exceedances_words, import_words, init_words};
-ghost use Rattle.console.specs.Plain.{is_plain, pairing_words, roster_words, serve_words};
+ghost use Rattle.console.specs.Plain.{is_plain, limits_words, pairing_words, roster_words, serve_words};
 
 use crate::actions::Action;
 use clap::{Arg, ArgAction, ArgMatches, Command, Error, value_parser};
@@ -136,6 +136,24 @@ their segments: 'plan' is as planned, 'actual' as flown. Times are UTC.
 Exit status: 0 done, 1 there is no such pairing, 2 a mistake in the command
 line, 3 there is no book in the file, or the file, memory or the output fails";
 
+const LIMITS_EXAMPLE: &str = "\
+Example:
+  rosterbook limits roster.db C1 --with B102
+
+Prints the member's id, seat and name, and then a line for each of the eight
+limits. It says what is nearest to the limit: the section of 14 CFR Part 117,
+how much of how much in hours and minutes, the flight duty period or the first
+minute of the window where that is, and 'exceeds' or 'within'. The last two
+lines are of rest, of which there must be at least so much. Times are UTC.
+
+With --with the pairing is judged beside the member's other duties, as if the
+member held it, and nothing is kept. The lines with 'exceeds' are the sections
+for which an assignment of it would be refused with 12 Limits.
+
+Exit status: 0 done, also where a limit is exceeded, 1 there is no such member
+or pairing, 2 a mistake in the command line, 3 there is no book in the file, or
+the file, memory or the output fails";
+
 const EXCEEDANCES_EXAMPLE: &str = "\
 Example:
   rosterbook exceedances roster.db
@@ -173,6 +191,10 @@ a whole number from 1 to 9223372036854775807";
 const CREW_HELP: &str = "Id of the crew member";
 
 const PAIRING_HELP: &str = "Id of the pairing";
+
+const WITH_HELP: &str = "\
+Id of a pairing to judge as if the member held it too;
+nothing is kept";
 
 const PORT_HELP: &str = "\
 Port of 127.0.0.1 to listen on,
@@ -224,6 +246,10 @@ pub fn action(alloc: Global, words: &[&str]) -> Result<Action, Error>
     ensures pairing { (file id : Text) → texts words.now ≡ pairing_words file id
         → list_all is_plain (file ∷ id ∷ []) ≡ true
         → MatchResult result (IsPairing file id) (λ e. kind_of e ≡ OutOfMemory) }
+    ensures limits { (file crew : Text) (id : Option Text)
+        → texts words.now ≡ limits_words file crew id
+        → list_all is_plain (file ∷ crew ∷ []) ≡ true → option_map_or is_plain id true ≡ true
+        → MatchResult result (IsLimits file crew id) (λ e. kind_of e ≡ OutOfMemory) }
     ensures exceedances { (file : Text) → texts words.now ≡ exceedances_words file
         → is_plain file ≡ true
         → MatchResult result (IsExceedances file) (λ e. kind_of e ≡ OutOfMemory) }
@@ -269,6 +295,7 @@ fn command<'a>(alloc: Global) -> Result<Command<'a>, AllocError>
         import_command(alloc)?,
         roster_command(alloc)?,
         pairing_command(alloc)?,
+        limits_command(alloc)?,
         exceedances_command(alloc)?,
         serve_command(alloc)?,
     ]?;
@@ -375,6 +402,18 @@ fn pairing_command<'a>(alloc: Global) -> Result<Command<'a>, AllocError>
     subcommand_of(alloc, "pairing", about, PAIRING_EXAMPLE, arguments)
 }
 
+/// Makes the subcommand `limits`.
+fn limits_command<'a>(alloc: Global) -> Result<Command<'a>, AllocError>
+    ensures { IfOk result (IsCommandOfApp (subcommand (codes "limits"))) }
+{
+    let about = "Print how near a member's duties are to each of the eight limits";
+    let file = positional(alloc, "file", "FILE").help(FILE_HELP);
+    let crew = positional(alloc, "crew", "CREW").help(CREW_HELP);
+    let with = with_option(alloc);
+    let arguments = vec![in alloc; file, crew, with]?;
+    subcommand_of(alloc, "limits", about, LIMITS_EXAMPLE, arguments)
+}
+
 /// Makes the subcommand `exceedances`.
 fn exceedances_command<'a>(alloc: Global) -> Result<Command<'a>, AllocError>
     ensures { IfOk result (IsCommandOfApp (subcommand (codes "exceedances"))) }
@@ -430,6 +469,17 @@ fn connections_option<'a>(alloc: Global) -> Arg<'a>
         .value_parser(value_parser!(u64).range(1..=1_000_000))
 }
 
+/// Makes the option for a pairing that `limits` judges as if it were held.
+fn with_option<'a>(alloc: Global) -> Arg<'a>
+    ensures rule { rule_of result ≡ optional (codes "with") }
+    ensures local { result.global ≡ false }
+{
+    Arg::new(alloc, "with")
+        .long("with")
+        .value_name("PAIRING")
+        .help(WITH_HELP)
+}
+
 /// Makes an argument by its place that must be there.
 fn positional<'a>(alloc: Global, id: &'a str, value_name: &'a str) -> Arg<'a>
     ensures rule { rule_of result ≡ wanted id.entry.now }
@@ -451,6 +501,7 @@ fn action_of(alloc: Global, matches: &ArgMatches<'_>) -> Result<Action, AllocErr
         "import" => import_of(alloc, arguments),
         "roster" => roster_of(alloc, arguments),
         "pairing" => pairing_of(alloc, arguments),
+        "limits" => limits_of(alloc, arguments),
         "exceedances" => exceedances_of(alloc, arguments),
         "serve" => serve_of(alloc, arguments),
         _ => unreachable!(),
@@ -518,6 +569,17 @@ fn pairing_of(alloc: Global, matches: &ArgMatches<'_>) -> Result<Action, AllocEr
     Ok(Action::Pairing { file, pairing })
 }
 
+/// Reads the arguments of `limits`.
+fn limits_of(alloc: Global, matches: &ArgMatches<'_>) -> Result<Action, AllocError>
+    requires { HasAll (codes "limits") (rows_of (found_of matches.now)) }
+    ensures { IfOk result (λ a. States a (codes "limits", rows_of (found_of matches.now))) }
+{
+    let file = text_of(alloc, matches, "file")?;
+    let crew = text_of(alloc, matches, "crew")?;
+    let with = optional_text_of(alloc, matches, "with")?;
+    Ok(Action::Limits { file, crew, with })
+}
+
 /// Reads the arguments of `exceedances`.
 fn exceedances_of(alloc: Global, matches: &ArgMatches<'_>) -> Result<Action, AllocError>
     requires { HasAll (codes "exceedances") (rows_of (found_of matches.now)) }
@@ -582,6 +644,21 @@ fn text_of(alloc: Global, matches: &ArgMatches<'_>, id: &str) -> Result<String, 
         (λ s. first_of id.now (rows_of (found_of matches.now)) ≡ Some (string_bytes s)) }
 {
     String::from_str(alloc, matches.get_str(id).unwrap())
+}
+
+/// Returns the first value of an argument, if it has one.
+fn optional_text_of(
+    alloc: Global,
+    matches: &ArgMatches<'_>,
+    id: &str,
+) -> Result<Option<String>, AllocError>
+    ensures { IfOk result
+        (λ o. first_of id.now (rows_of (found_of matches.now)) ≡ option_map string_bytes o) }
+{
+    match matches.get_str(id) {
+        Some(text) => Ok(Some(String::from_str(alloc, text)?)),
+        None => Ok(None),
+    }
 }
 
 /// Returns the values of an argument that was used.

@@ -1,15 +1,16 @@
 -- What the router finds is what the table of paths says.
-use Rattle.std.proofs.Common.{◌≡◌, ◌<◌, ◌-◌, ℕ, zero, suc, Bool, true, false, ◌&&◌, ◌==◌, cond, List, [], ◌∷◌, ◌++◌, length, drop, refl, sym, ap, ◌∙◌, subst, arith, Option, Some, None, codes, bytes_eq, option_map, ◌||◌, if◌then◌else◌, nat_lt, append-nil, get_or, Fits, w8}
+use Rattle.std.proofs.Common.{◌≡◌, ◌<◌, ◌-◌, ℕ, zero, suc, Bool, true, false, ◌&&◌, ◌==◌, cond, List, [], ◌∷◌, ◌++◌, length, drop, refl, sym, ap, ◌∙◌, subst, arith, Option, Some, None, codes, bytes_eq, option_map, ◌||◌, if◌then◌else◌, nat_lt, get_or, Fits, w8, ltb, nat_eq, length-append}
 use Rattle.std.proofs.lemmas.Bool.Decides.{nat_tests}
-use Rattle.std.proofs.lemmas.Slice.Eq.{bytes_eq-Decides}
-use Rattle.std.proofs.Math.Seq.{drop-append_seam, drop-length}
+use Rattle.std.proofs.lemmas.Bool.{lt-ltb}
+use Rattle.std.specs.Cmp.Lexicographic.{pointwise, bytes_decides}
+use Rattle.std.proofs.Math.Seq.{drop-append_seam}
 use Rattle.std.specs.List.{list_any, list_all}
 use Rattle.matchit.specs.Rows.{RowsOf}
 use Rattle.matchit.specs.Router.{RouteOf}
-use Rattle.matchit.specs.Seek.{seek, step, own, or_else, first, param_step, has_slash}
+use Rattle.matchit.specs.Seek.{seek, step, own, or_else, first, param_step, has_slash, segment, cuts}
 use Rattle.http_message.specs.declared.routes.Route.{Route}
-use Rattle.http_message.specs.declared.routes.Route.TheVariants.{Requests, Import, Crew, Pairing, Exceedances}
-use Rattle.http_message.specs.Routes.{route_of_path, route_table, name, exactly, id_after, is_path_id, first_or_other, route_with_id}
+use Rattle.http_message.specs.declared.routes.Route.TheVariants.{Requests, Import, Crew, Pairing, Exceedances, Limits, LimitsWith}
+use Rattle.http_message.specs.Routes.{Place, requests, import, crew, pairing, exceedances, limits, place_of_path, route_table, exactly, id_after, ids_after, at_slash, both_ids, is_path_id, first_or_other}
 
 -- ---- a walk over rows of any keys
 
@@ -38,11 +39,8 @@ module _ {K : Type 0} where
   literal_step rows b p no_param no_rest =
       simp (no_param, no_rest, param_none (b ∷ p), seek_none (((param_step {K = K} [] (b ∷ p)).0) - 1) p, or_none)
 
-  hit : K → Option (List ℕ) → Option K
-  hit k o = option_map (λ _. k) o
-
 -- bytes, which are less than the tokens of parameters
-abbrev IsText : List ℕ → Type 0
+abbrev pub IsText : List ℕ → Type 0
 IsText [] = Unit {0}
 IsText (b ∷ w) = (b < 256) × IsText w
 
@@ -51,17 +49,18 @@ slashes [] = refl
 slashes (b ∷ p) = elim (b == 47) as (λ v. cond v true (has_slash p) ≡ (v || list_any (λ b. b == 47) p)) [ true ↦ refl | false ↦ slashes p ]
 
 module _ {K : Type 0} where
-  seek_exactly : (w p : List ℕ) (k : K) → IsText w → seek 0 ((w, k) ∷ []) p ≡ option_map (λ _. k) (exactly w p)
+  seek_exactly : (w p : List ℕ) (k : K) (place : Place) → IsText w → seek 0 ((w, k) ∷ []) p ≡ option_map (λ _. k) (exactly w place p)
   unfolding seek
-  seek_exactly [] [] k t = refl
-  seek_exactly [] (b ∷ p) k t = literal_step (([], k) ∷ []) b p refl refl ∙ seek_none 0 p
-  seek_exactly (a ∷ w) [] k t = refl
-  seek_exactly (a ∷ w) (b ∷ p) k t =
+  seek_exactly [] [] k place t = refl
+  seek_exactly [] (b ∷ p) k place t = literal_step (([], k) ∷ []) b p refl refl ∙ seek_none 0 p
+  seek_exactly (a ∷ w) [] k place t = refl
+  seek_exactly (a ∷ w) (b ∷ p) k place t =
       let e : (a == 256) ≡ false = let h = t.0 in grind (arith, nat_tests) in
       let f : (a == 257) ≡ false = let h = t.0 in grind (arith, nat_tests) in
-      literal_step ((a ∷ w, k) ∷ []) b p (rw e refl) (rw f refl) ∙ by (a == b) refl (seek_exactly w p k t.1)
+      literal_step ((a ∷ w, k) ∷ []) b p (rw e refl) (rw f refl) ∙ by (a == b) refl (seek_exactly w p k place t.1)
     where
-      by : (v : Bool) → (a == b) ≡ v → seek 0 ((w, k) ∷ []) p ≡ option_map (λ _. k) (exactly w p) → seek 0 (step b ((a ∷ w, k) ∷ [])) p ≡ option_map (λ _. k) (exactly (a ∷ w) (b ∷ p))
+      by : (v : Bool) → (a == b) ≡ v → seek 0 ((w, k) ∷ []) p ≡ option_map (λ _. k) (exactly w place p)
+          → seek 0 (step b ((a ∷ w, k) ∷ [])) p ≡ option_map (λ _. k) (exactly (a ∷ w) place (b ∷ p))
       by true e ih = rw e ih
       by false e ih = rw e (seek_none 0 p)
 
@@ -102,188 +101,343 @@ module _ {K : Type 0} where
       by true e ih = rw e ih
       by false e ih = rw e (seek_none 0 p)
 
+-- ---- two ids
+
+-- a text is cut at its first slash, or has none
+abbrev pub IsCut : List ℕ → Option (List ℕ × List ℕ) → Type 0
+IsCut text None = has_slash text ≡ false
+IsCut text (Some parts) = (text ≡ parts.0 ++ 47 ∷ parts.1) × (has_slash parts.0 ≡ false)
+
+pub cut_at_slash : (text : List ℕ) → IsCut text (at_slash text)
+cut_at_slash [] = refl
+cut_at_slash (b ∷ text) = by (b == 47) refl (at_slash text) (cut_at_slash text)
+  where
+    by : (v : Bool) → (b == 47) ≡ v → (o : Option (List ℕ × List ℕ)) → IsCut text o
+        → IsCut (b ∷ text) (if v then Some ([], text) else option_map (λ parts. (b ∷ parts.0, parts.1)) o)
+    by true e o is = let same : b ≡ 47 = grind (arith, nat_tests) in (ap (λ b. b ∷ text) same, refl)
+    by false e None is = rw e is
+    by false e (Some parts) is = (ap (λ t. b ∷ t) is.0, rw e is.1)
+
+-- what holds of a text without a slash holds of what follows its first byte
+tail_has_none : (b : ℕ) (text : List ℕ) → has_slash (b ∷ text) ≡ false → ((b == 47) ≡ false) × (has_slash text ≡ false)
+tail_has_none b text none = by (b == 47) none
+  where
+    by : (v : Bool) → cond v true (has_slash text) ≡ false → (v ≡ false) × (has_slash text ≡ false)
+    by true none = absurd cc
+    by false none = (refl, none)
+
+pub segment_at_slash : (a rest : List ℕ) → has_slash a ≡ false → segment (a ++ 47 ∷ rest) ≡ a ++ 47 ∷ []
+segment_at_slash [] rest none = refl
+segment_at_slash (b ∷ a) rest none =
+    let tail = tail_has_none b a none in
+    rw tail.0 (ap (λ t. b ∷ t) (segment_at_slash a rest tail.1))
+
+slash_stands : (a rest : List ℕ) → has_slash (a ++ 47 ∷ rest) ≡ true
+slash_stands [] rest = refl
+slash_stands (b ∷ a) rest = elim (b == 47) as (λ v. cond v true (has_slash (a ++ 47 ∷ rest)) ≡ true) [ true ↦ refl | false ↦ slash_stands a rest ]
+
+whole_segment : (text : List ℕ) → has_slash text ≡ false → segment text ≡ text
+whole_segment [] none = refl
+whole_segment (b ∷ text) none =
+    let tail = tail_has_none b text none in
+    rw tail.0 (ap (λ t. b ∷ t) (whole_segment text tail.1))
+
+none_further : (n : ℕ) (text : List ℕ) → has_slash text ≡ false → has_slash (drop n text) ≡ false
+none_further zero text none = none
+none_further (suc n) [] none = refl
+none_further (suc n) (b ∷ text) none = none_further n text (tail_has_none b text none).1
+
+-- a segment with a slash at its end, and with something in front of it, is cut there
+cuts_before : (b : ℕ) (a : List ℕ) → cuts (b ∷ a ++ 47 ∷ []) (47 ∷ []) ≡ true
+cuts_before b a =
+    let n : length (b ∷ a ++ 47 ∷ []) - 1 ≡ length (b ∷ a) = omega (arith, length-append (b ∷ a) (47 ∷ [])) in
+    let long : ltb 1 (length (b ∷ a ++ 47 ∷ [])) ≡ true = lt-ltb _ _ (omega (arith, length-append (b ∷ a) (47 ∷ []))) in
+    rw (long, n, drop-append_seam (b ∷ a) (47 ∷ [])) refl
+
+-- one without a slash isn't
+cuts_nowhere : (text : List ℕ) → has_slash text ≡ false → cuts text (47 ∷ []) ≡ false
+cuts_nowhere text none = by (ltb 1 (length text)) (pointwise nat_eq (47 ∷ []) (drop (length text - 1) text)) refl
+  where
+    by : (v w : Bool) → pointwise nat_eq (47 ∷ []) (drop (length text - 1) text) ≡ w → (v && w) ≡ false
+    by false w e = refl
+    by true false e = refl
+    by true true e =
+        let is : 47 ∷ [] ≡ drop (length text - 1) text = (bytes_decides (47 ∷ []) (drop (length text - 1) text)).0 e in
+        let there : true ≡ has_slash (drop (length text - 1) text) = ap has_slash is in
+        let not = none_further (length text - 1) text none in
+        absurd cc
+
+no_id : (path : List ℕ) → has_slash path ≡ true → id_after [] path ≡ None
+no_id [] there = refl
+no_id (b ∷ p) there = rw (← slashes (b ∷ p), there) refl
+
+one_id : (b : ℕ) (p : List ℕ) → has_slash (b ∷ p) ≡ false → id_after [] (b ∷ p) ≡ Some (b ∷ p)
+one_id b p none = rw (← slashes (b ∷ p), none) refl
+
+text_after : (a rest : List ℕ) → IsText (a ++ 47 ∷ rest) → IsText rest
+text_after [] rest t = t.1
+text_after (b ∷ a) rest t = text_after a rest t.1
+
+module _ {K : Type 0} where
+  seek_past : (a : List ℕ) (rows : RowsOf K) (path : List ℕ) → seek (length a) rows (a ++ path) ≡ seek 0 rows path
+  unfolding seek
+  seek_past [] rows path = refl
+  seek_past (b ∷ a) rows path = seek_past a rows path
+
+  -- what may follow the first id: another one, or nothing
+  abbrev after_first : K → K → RowsOf K
+  after_first k m = (47 ∷ 256 ∷ [], k) ∷ ([], m) ∷ []
+
+  -- the same with the parameter of the first
+  abbrev from_first : K → K → RowsOf K
+  from_first k m = (256 ∷ 47 ∷ 256 ∷ [], k) ∷ (256 ∷ [], m) ∷ []
+
+  -- a walk by a parameter at the start of a path whose first byte is gone
+  abbrev walk_on : ℕ × RowsOf K → List ℕ → Option K
+  walk_on step p = seek (step.0 - 1) step.1 p
+
+  ids_step : (path : List ℕ) (k m : K) (v : Bool) → cuts (segment path) (47 ∷ []) ≡ v
+      → param_step (after_first k m) path ≡ cond {A = ℕ × RowsOf K} v (length (segment path) - 1, (47 ∷ 256 ∷ [], k) ∷ []) (cond (has_slash path) (0, []) (length path, after_first k m))
+  unfolding param_step
+  ids_step path k m true e = rw e refl
+  ids_step path k m false e = rw e refl
+
+  -- a path with no slash is one id
+  ids_whole : (b : ℕ) (p : List ℕ) (k m : K) → has_slash (b ∷ p) ≡ false → walk_on (param_step (after_first k m) (b ∷ p)) p ≡ Some m
+  ids_whole b p k m none =
+      let e : cuts (segment (b ∷ p)) (47 ∷ []) ≡ false = rw (whole_segment (b ∷ p) none) (cuts_nowhere (b ∷ p) none) in
+      let n : suc (length p) - 1 ≡ length p = omega arith in
+      rw (ids_step (b ∷ p) k m false e, none, n) (seek_all p (after_first k m))
+
+  -- one that begins with a slash has none
+  ids_none : (p : List ℕ) (k m : K) → walk_on (param_step (after_first k m) (47 ∷ p)) p ≡ None
+  ids_none p k m = rw (ids_step (47 ∷ p) k m false refl) (seek_none 0 p)
+
+  -- else the first id ends at the first slash
+  ids_first : (b : ℕ) (a rest : List ℕ) (k m : K) → has_slash (b ∷ a) ≡ false → IsText rest
+      → walk_on (param_step (after_first k m) (b ∷ a ++ 47 ∷ rest)) (a ++ 47 ∷ rest) ≡ option_map (λ _. k) (id_after [] rest)
+  ids_first b a rest k m none t =
+      let s : segment (b ∷ a ++ 47 ∷ rest) ≡ b ∷ a ++ 47 ∷ [] = segment_at_slash (b ∷ a) rest none in
+      let e : cuts (segment (b ∷ a ++ 47 ∷ rest)) (47 ∷ []) ≡ true = rw s (cuts_before b a) in
+      let n : length (segment (b ∷ a ++ 47 ∷ rest)) - 1 - 1 ≡ length a = omega (arith, ap length s, length-append (b ∷ a) (47 ∷ [])) in
+      rw (ids_step (b ∷ a ++ 47 ∷ rest) k m true e, n)
+      (seek_past a ((47 ∷ 256 ∷ [], k) ∷ []) (47 ∷ rest) ∙ seek_param (47 ∷ []) (47 ∷ rest) k (omega arith, tt) (omega arith, t))
+
+  ids_two : (b : ℕ) (a rest : List ℕ) (k m : K) → has_slash (b ∷ a) ≡ false → IsText rest
+      → walk_on (param_step (after_first k m) (b ∷ a ++ 47 ∷ rest)) (a ++ 47 ∷ rest)
+      ≡ or_else (option_map (λ _. m) (id_after [] (b ∷ a ++ 47 ∷ rest))) (option_map (λ _. k) (both_ids (Some (b ∷ a, rest))))
+  ids_two b a rest k m none t =
+      rw (ids_first b a rest k m none t, no_id (b ∷ a ++ 47 ∷ rest) (slash_stands (b ∷ a) rest), ← slashes (b ∷ a), none)
+      (elim (is_path_id rest) as (λ v. option_map (λ _. k) (if v then Some rest else None) ≡ option_map {T = List ℕ × List ℕ} (λ _. k) (if v then Some (b ∷ a, rest) else None)) [ true ↦ refl | false ↦ refl ])
+
+  -- a parameter, and one that may follow it, take an id or two
+  seek_ids : (b : ℕ) (p : List ℕ) (k m : K) → IsText (b ∷ p)
+      → seek 0 (from_first k m) (b ∷ p) ≡ or_else (option_map (λ _. m) (id_after [] (b ∷ p))) (option_map (λ _. k) (ids_after [] (b ∷ p)))
+  unfolding seek
+  seek_ids b p k m t =
+      let e : (256 == b) ≡ false = let small = t.0 in grind (arith, nat_tests) in
+      rw (e, seek_none 0 p) (or_none (walk_on (param_step (after_first k m) (b ∷ p)) p) ∙ by (at_slash (b ∷ p)) (cut_at_slash (b ∷ p)))
+    where
+      by : (o : Option (List ℕ × List ℕ)) → IsCut (b ∷ p) o
+          → walk_on (param_step (after_first k m) (b ∷ p)) p ≡ or_else (option_map (λ _. m) (id_after [] (b ∷ p))) (option_map (λ _. k) (both_ids o))
+      by None none = rw (ids_whole b p k m none, one_id b p none) refl
+      by (Some ([], rest)) is =
+          let same : 47 ≡ b = let all = is.0 in cc in
+          subst (λ b. walk_on (param_step (after_first k m) (b ∷ p)) p ≡ or_else (option_map (λ _. m) (id_after [] (b ∷ p))) None) same (ids_none p k m)
+      by (Some (c ∷ a, rest)) is =
+          let first : c ≡ b = let all = is.0 in cc in
+          let more : a ++ 47 ∷ rest ≡ p = let all = is.0 in cc in
+          let here = ids_two c a rest k m is.1 (text_after a rest (subst IsText (sym more) t.1)) in
+          subst (λ p. walk_on (param_step (after_first k m) (b ∷ p)) p ≡ or_else (option_map (λ _. m) (id_after [] (b ∷ p))) (option_map (λ _. k) (both_ids (Some (c ∷ a, rest))))) more
+          (subst (λ b. walk_on (param_step (after_first k m) (b ∷ (a ++ 47 ∷ rest))) (a ++ 47 ∷ rest) ≡ or_else (option_map (λ _. m) (id_after [] (b ∷ (a ++ 47 ∷ rest)))) (option_map (λ _. k) (both_ids (Some (c ∷ a, rest))))) first here)
+
+  seek_one_or_two : (w p : List ℕ) (k m : K) → IsText w → IsText p
+      → seek 0 ((w ++ 256 ∷ 47 ∷ 256 ∷ [], k) ∷ (w ++ 256 ∷ [], m) ∷ []) p ≡ or_else (option_map (λ _. m) (id_after w p)) (option_map (λ _. k) (ids_after w p))
+  unfolding seek
+  seek_one_or_two [] [] k m t u = refl
+  seek_one_or_two [] (b ∷ p) k m t u = seek_ids b p k m u
+  seek_one_or_two (a ∷ w) [] k m t u = refl
+  seek_one_or_two (a ∷ w) (b ∷ p) k m t u =
+      let e : (a == 256) ≡ false = let h = t.0 in grind (arith, nat_tests) in
+      let f : (a == 257) ≡ false = let h = t.0 in grind (arith, nat_tests) in
+      literal_step ((a ∷ w ++ 256 ∷ 47 ∷ 256 ∷ [], k) ∷ (a ∷ w ++ 256 ∷ [], m) ∷ []) b p (rw e refl) (rw f refl) ∙ by (a == b) refl (seek_one_or_two w p k m t.1 u.1)
+    where
+      by : (v : Bool) → (a == b) ≡ v
+          → seek 0 ((w ++ 256 ∷ 47 ∷ 256 ∷ [], k) ∷ (w ++ 256 ∷ [], m) ∷ []) p ≡ or_else (option_map (λ _. m) (id_after w p)) (option_map (λ _. k) (ids_after w p))
+          → seek 0 (step b ((a ∷ w ++ 256 ∷ 47 ∷ 256 ∷ [], k) ∷ (a ∷ w ++ 256 ∷ [], m) ∷ [])) p ≡ or_else (option_map (λ _. m) (id_after (a ∷ w) (b ∷ p))) (option_map (λ _. k) (ids_after (a ∷ w) (b ∷ p)))
+      by true e ih = rw e ih
+      by false e ih = rw e (seek_none 0 p)
+
 -- ---- the table
 
-after_slash : RowsOf (RouteOf Route)
-after_slash = step 47 route_table
-
-abbrev Found : Type 0
+abbrev pub Found : Type 0
 Found = Option (RouteOf Route)
 
-abbrev row_of : Route → RouteOf Route
-row_of Requests = (get_or route_table 4 (codes "", record { pattern = []; text = []; names = []; value = Requests })).1
-row_of Import = (get_or route_table 2 (codes "", record { pattern = []; text = []; names = []; value = Requests })).1
+abbrev pub row_of : Route → RouteOf Route
 row_of Crew = (get_or route_table 0 (codes "", record { pattern = []; text = []; names = []; value = Requests })).1
-row_of Pairing = (get_or route_table 3 (codes "", record { pattern = []; text = []; names = []; value = Requests })).1
 row_of Exceedances = (get_or route_table 1 (codes "", record { pattern = []; text = []; names = []; value = Requests })).1
+row_of Import = (get_or route_table 2 (codes "", record { pattern = []; text = []; names = []; value = Requests })).1
+row_of Pairing = (get_or route_table 3 (codes "", record { pattern = []; text = []; names = []; value = Requests })).1
+row_of LimitsWith = (get_or route_table 4 (codes "", record { pattern = []; text = []; names = []; value = Requests })).1
+row_of Limits = (get_or route_table 5 (codes "", record { pattern = []; text = []; names = []; value = Requests })).1
+row_of Requests = (get_or route_table 6 (codes "", record { pattern = []; text = []; names = []; value = Requests })).1
 
-abbrev named : Option (Route × List ℕ) → Found
-named o = option_map (λ found. row_of found.0) o
+abbrev pub route_to : Place → Route
+route_to requests = Requests
+route_to (import number) = Import
+route_to (crew id) = Crew
+route_to (pairing id) = Pairing
+route_to exceedances = Exceedances
+route_to (limits id None) = Limits
+route_to (limits id (Some other)) = LimitsWith
 
--- the rest of a path after its slash
-abbrev rest_place : List ℕ → Option (Route × List ℕ)
-rest_place p =
-    first_or_other (route_with_id Requests (exactly (codes "requests") p))
-    (first_or_other (route_with_id Import (id_after (codes "imports/") p))
-    (first_or_other (route_with_id Crew (id_after (codes "crew/") p))
-    (first_or_other (route_with_id Pairing (id_after (codes "pairings/") p))
-    (route_with_id Exceedances (exactly (codes "exceedances") p)))))
+-- the row that leads to a place
+abbrev pub row_to : Option Place → Found
+row_to place = option_map (λ place. row_of (route_to place)) place
 
-text : (w : List ℕ) → list_all (λ b. nat_lt b 256) w ≡ true → IsText w
-text [] e = tt
-text (b ∷ w) e = let parts = both (nat_lt b 256) (list_all (λ b. nat_lt b 256) w) e in (let h = parts.0 in grind (arith, nat_tests), text w parts.1)
+pub is_text : (w : List ℕ) → list_all (λ b. nat_lt b 256) w ≡ true → IsText w
+is_text [] e = tt
+is_text (b ∷ w) e = let parts = both (nat_lt b 256) (list_all (λ b. nat_lt b 256) w) e in (let h = parts.0 in grind (arith, nat_tests), is_text w parts.1)
   where
     both : (x y : Bool) → (x && y) ≡ true → (x ≡ true) × (y ≡ true)
     both true y e = (refl, e)
     both false y e = absurd cc
 
-named_at : (r : Route) (o : Option (List ℕ)) → option_map (λ _. row_of r) o ≡ named (route_with_id r o)
-named_at r None = refl
-named_at r (Some id) = refl
-
 none_after : {A : Type 0} (o : Option A) → first_or_other o None ≡ o
 none_after None = refl
 none_after (Some a) = refl
 
-split : (c : ℕ) (p : List ℕ) → IsText p → seek 0 (step c (step 47 route_table)) p ≡ named (rest_place (c ∷ p))
+exactly_to : (w p : List ℕ) (place : Place) → IsText w → seek 0 ((w, row_of (route_to place)) ∷ []) p ≡ row_to (exactly w place p)
+exactly_to w p place t =
+    seek_exactly w p (row_of (route_to place)) place t
+    ∙ elim (bytes_eq w p) as (λ v. option_map (λ _. row_of (route_to place)) (if v then Some place else None) ≡ row_to (if v then Some place else None)) [ true ↦ refl | false ↦ refl ]
+
+made_to : {A : Type 0} (make : A → Place) (route : Route) (o : Option A) → ((a : A) → route_to (make a) ≡ route) → option_map (λ _. row_of route) o ≡ row_to (option_map make o)
+made_to make route None leads = refl
+made_to make route (Some a) leads = ap (λ r. Some (row_of r)) (sym (leads a))
+
+either_to : (a b : Option Place) → or_else (row_to a) (row_to b) ≡ row_to (first_or_other a b)
+either_to None b = refl
+either_to (Some a) b = refl
+
+-- the limits of a member, alone or with a pairing, where this stands before the ids
+abbrev limits_after : List ℕ → List ℕ → Option Place
+limits_after front p = first_or_other (option_map (λ id. limits id None) (id_after front p)) (option_map (λ ids. limits ids.0 (Some ids.1)) (ids_after front p))
+
+limits_to : (w p : List ℕ) → IsText w → IsText p → seek 0 ((w ++ 256 ∷ 47 ∷ 256 ∷ [], row_of LimitsWith) ∷ (w ++ 256 ∷ [], row_of Limits) ∷ []) p ≡ row_to (limits_after w p)
+limits_to w p t u =
+    seek_one_or_two w p (row_of LimitsWith) (row_of Limits) t u
+    ∙ cong2 (made_to (λ id. limits id None) Limits (id_after w p) (λ _. refl)) (made_to (λ ids. limits ids.0 (Some ids.1)) LimitsWith (ids_after w p) (λ _. refl))
+    ∙ either_to _ _
+  where
+    cong2 : {a b c d : Found} → a ≡ b → c ≡ d → or_else a c ≡ or_else b d
+    cong2 e f = rw (e, f) refl
+
+-- what begins with `/r`
+abbrev after_r : List ℕ → Option Place
+after_r p = first_or_other (exactly (codes "equests") requests p) (limits_after (codes "eports/limits/") p)
+
+under_req : (c : ℕ) (p : List ℕ) → IsText p → seek 0 (step c (step 101 (step 114 (step 47 route_table)))) p ≡ row_to (after_r (101 ∷ c ∷ p))
+under_req c p t = by112 (112 == c) refl
+  where
+    by113 : (v : Bool) → (113 == c) ≡ v → (112 == c) ≡ false → seek 0 (step c (step 101 (step 114 (step 47 route_table)))) p ≡ row_to (after_r (101 ∷ c ∷ p))
+    by113 true e f =
+        let is : 113 ≡ c = grind (arith, nat_tests) in
+        subst (λ c. seek 0 (step c (step 101 (step 114 (step 47 route_table)))) p ≡ row_to (after_r (101 ∷ c ∷ p))) is
+        (exactly_to (codes "uests") p requests (is_text (codes "uests") refl) ∙ ap row_to (sym (none_after (exactly (codes "uests") requests p))))
+    by113 false e f = rw (e, f) (seek_none 0 p)
+
+    by112 : (v : Bool) → (112 == c) ≡ v → seek 0 (step c (step 101 (step 114 (step 47 route_table)))) p ≡ row_to (after_r (101 ∷ c ∷ p))
+    by112 true e =
+        let is : 112 ≡ c = grind (arith, nat_tests) in
+        subst (λ c. seek 0 (step c (step 101 (step 114 (step 47 route_table)))) p ≡ row_to (after_r (101 ∷ c ∷ p))) is
+        (limits_to (codes "orts/limits/") p (is_text (codes "orts/limits/") refl) t)
+    by112 false e = by113 (113 == c) refl e
+
+under_re : (p : List ℕ) → IsText p → seek 0 (step 101 (step 114 (step 47 route_table))) p ≡ row_to (after_r (101 ∷ p))
+unfolding seek
+under_re [] t = refl
+under_re (c ∷ p) t = literal_step (step 101 (step 114 (step 47 route_table))) c p refl refl ∙ under_req c p t.1
+
+under_r : (p : List ℕ) → IsText p → seek 0 (step 114 (step 47 route_table)) p ≡ row_to (after_r p)
+unfolding seek
+under_r [] t = refl
+under_r (c ∷ p) t = literal_step (step 114 (step 47 route_table)) c p refl refl ∙ by (101 == c) refl
+  where
+    by : (v : Bool) → (101 == c) ≡ v → seek 0 (step c (step 114 (step 47 route_table))) p ≡ row_to (after_r (c ∷ p))
+    by true e =
+        let is : 101 ≡ c = grind (arith, nat_tests) in
+        subst (λ c. seek 0 (step c (step 114 (step 47 route_table))) p ≡ row_to (after_r (c ∷ p))) is (under_re p t.1)
+    by false e = rw e (seek_none 0 p)
+
+-- the rest of a path after its slash
+abbrev rest_place : List ℕ → Option Place
+rest_place p =
+    first_or_other (exactly (codes "requests") requests p)
+    (first_or_other (option_map import (id_after (codes "imports/") p))
+    (first_or_other (option_map crew (id_after (codes "crew/") p))
+    (first_or_other (option_map pairing (id_after (codes "pairings/") p))
+    (first_or_other (exactly (codes "exceedances") exceedances p)
+    (limits_after (codes "reports/limits/") p)))))
+
+-- an id after these bytes leads to a place
+id_to : (w p : List ℕ) (make : List ℕ → Place) (route : Route) → IsText w → IsText p → ((id : List ℕ) → route_to (make id) ≡ route)
+    → seek 0 ((w ++ 256 ∷ [], row_of route) ∷ []) p ≡ row_to (option_map make (id_after w p))
+id_to w p make route t u leads = seek_param w p (row_of route) t u ∙ made_to make route (id_after w p) leads
+
+split : (c : ℕ) (p : List ℕ) → IsText p → seek 0 (step c (step 47 route_table)) p ≡ row_to (rest_place (c ∷ p))
 split c p t = by99 (99 == c) refl
   where
-    by114 : (v : Bool) → (114 == c) ≡ v → (99 == c) ≡ false → (101 == c) ≡ false → (105 == c) ≡ false → (112 == c) ≡ false → seek 0 (step c (step 47 route_table)) p ≡ named (rest_place (c ∷ p))
+    by114 : (v : Bool) → (114 == c) ≡ v → (99 == c) ≡ false → (101 == c) ≡ false → (105 == c) ≡ false → (112 == c) ≡ false → seek 0 (step c (step 47 route_table)) p ≡ row_to (rest_place (c ∷ p))
     by114 true e f g h i =
         let is : 114 ≡ c = grind (arith, nat_tests) in
-        subst (λ c. seek 0 (step c (step 47 route_table)) p ≡ named (rest_place (c ∷ p))) is
-        (seek_exactly (codes "equests") p (row_of Requests) (text (codes "equests") refl) ∙ named_at Requests (exactly (codes "equests") p) ∙ ap named (sym (none_after (route_with_id Requests (exactly (codes "equests") p)))))
+        subst (λ c. seek 0 (step c (step 47 route_table)) p ≡ row_to (rest_place (c ∷ p))) is (under_r p t)
     by114 false e f g h i = rw (e, f, g, h, i) (seek_none 0 p)
 
-    by112 : (v : Bool) → (112 == c) ≡ v → (99 == c) ≡ false → (101 == c) ≡ false → (105 == c) ≡ false → seek 0 (step c (step 47 route_table)) p ≡ named (rest_place (c ∷ p))
+    by112 : (v : Bool) → (112 == c) ≡ v → (99 == c) ≡ false → (101 == c) ≡ false → (105 == c) ≡ false → seek 0 (step c (step 47 route_table)) p ≡ row_to (rest_place (c ∷ p))
     by112 true e f g h =
         let is : 112 ≡ c = grind (arith, nat_tests) in
-        subst (λ c. seek 0 (step c (step 47 route_table)) p ≡ named (rest_place (c ∷ p))) is
-        (seek_param (codes "airings/") p (row_of Pairing) (text (codes "airings/") refl) t ∙ named_at Pairing (id_after (codes "airings/") p) ∙ ap named (sym (none_after (route_with_id Pairing (id_after (codes "airings/") p)))))
+        subst (λ c. seek 0 (step c (step 47 route_table)) p ≡ row_to (rest_place (c ∷ p))) is
+        (id_to (codes "airings/") p pairing Pairing (is_text (codes "airings/") refl) t (λ _. refl) ∙ ap row_to (sym (none_after (option_map pairing (id_after (codes "airings/") p)))))
     by112 false e f g h = by114 (114 == c) refl f g h e
 
-    by105 : (v : Bool) → (105 == c) ≡ v → (99 == c) ≡ false → (101 == c) ≡ false → seek 0 (step c (step 47 route_table)) p ≡ named (rest_place (c ∷ p))
+    by105 : (v : Bool) → (105 == c) ≡ v → (99 == c) ≡ false → (101 == c) ≡ false → seek 0 (step c (step 47 route_table)) p ≡ row_to (rest_place (c ∷ p))
     by105 true e f g =
         let is : 105 ≡ c = grind (arith, nat_tests) in
-        subst (λ c. seek 0 (step c (step 47 route_table)) p ≡ named (rest_place (c ∷ p))) is
-        (seek_param (codes "mports/") p (row_of Import) (text (codes "mports/") refl) t ∙ named_at Import (id_after (codes "mports/") p) ∙ ap named (sym (none_after (route_with_id Import (id_after (codes "mports/") p)))))
+        subst (λ c. seek 0 (step c (step 47 route_table)) p ≡ row_to (rest_place (c ∷ p))) is
+        (id_to (codes "mports/") p import Import (is_text (codes "mports/") refl) t (λ _. refl) ∙ ap row_to (sym (none_after (option_map import (id_after (codes "mports/") p)))))
     by105 false e f g = by112 (112 == c) refl f g e
 
-    by101 : (v : Bool) → (101 == c) ≡ v → (99 == c) ≡ false → seek 0 (step c (step 47 route_table)) p ≡ named (rest_place (c ∷ p))
+    by101 : (v : Bool) → (101 == c) ≡ v → (99 == c) ≡ false → seek 0 (step c (step 47 route_table)) p ≡ row_to (rest_place (c ∷ p))
     by101 true e f =
         let is : 101 ≡ c = grind (arith, nat_tests) in
-        subst (λ c. seek 0 (step c (step 47 route_table)) p ≡ named (rest_place (c ∷ p))) is
-        (seek_exactly (codes "xceedances") p (row_of Exceedances) (text (codes "xceedances") refl) ∙ named_at Exceedances (exactly (codes "xceedances") p))
+        subst (λ c. seek 0 (step c (step 47 route_table)) p ≡ row_to (rest_place (c ∷ p))) is
+        (exactly_to (codes "xceedances") p exceedances (is_text (codes "xceedances") refl) ∙ ap row_to (sym (none_after (exactly (codes "xceedances") exceedances p))))
     by101 false e f = by105 (105 == c) refl f e
 
-    by99 : (v : Bool) → (99 == c) ≡ v → seek 0 (step c (step 47 route_table)) p ≡ named (rest_place (c ∷ p))
+    by99 : (v : Bool) → (99 == c) ≡ v → seek 0 (step c (step 47 route_table)) p ≡ row_to (rest_place (c ∷ p))
     by99 true e =
         let is : 99 ≡ c = grind (arith, nat_tests) in
-        subst (λ c. seek 0 (step c (step 47 route_table)) p ≡ named (rest_place (c ∷ p))) is
-        (seek_param (codes "rew/") p (row_of Crew) (text (codes "rew/") refl) t ∙ named_at Crew (id_after (codes "rew/") p) ∙ ap named (sym (none_after (route_with_id Crew (id_after (codes "rew/") p)))))
+        subst (λ c. seek 0 (step c (step 47 route_table)) p ≡ row_to (rest_place (c ∷ p))) is
+        (id_to (codes "rew/") p crew Crew (is_text (codes "rew/") refl) t (λ _. refl) ∙ ap row_to (sym (none_after (option_map crew (id_after (codes "rew/") p)))))
     by99 false e = by101 (101 == c) refl e
 
-under_slash : (p : List ℕ) → IsText p → seek 0 (step 47 route_table) p ≡ named (rest_place p)
+under_slash : (p : List ℕ) → IsText p → seek 0 (step 47 route_table) p ≡ row_to (rest_place p)
 unfolding seek
 under_slash [] t = refl
 under_slash (c ∷ p) t = literal_step (step 47 route_table) c p refl refl ∙ split c p t.1
 
-pub table_found : (path : List ℕ) → IsText path → first route_table path ≡ named (route_of_path path)
+pub table_found : (path : List ℕ) → IsText path → first route_table path ≡ row_to (place_of_path path)
 unfolding seek
 table_found [] t = refl
 table_found (b ∷ p) t = literal_step route_table b p refl refl ∙ by (47 == b) refl
   where
-    by : (v : Bool) → (47 == b) ≡ v → seek 0 (step b route_table) p ≡ named (route_of_path (b ∷ p))
+    by : (v : Bool) → (47 == b) ≡ v → seek 0 (step b route_table) p ≡ row_to (place_of_path (b ∷ p))
     by true e =
         let is : 47 ≡ b = grind (arith, nat_tests) in
-        subst (λ b. seek 0 (step b route_table) p ≡ named (route_of_path (b ∷ p))) is (under_slash p t.1)
+        subst (λ b. seek 0 (step b route_table) p ≡ row_to (place_of_path (b ∷ p))) is (under_slash p t.1)
     by false e = rw e (seek_none 0 p)
-
--- ---- what stands after the name
-
-abbrev pub Agrees : List ℕ → Found → Option (Route × List ℕ) → Type 0
-Agrees path None o = o ≡ None
-Agrees path (Some m) o = (o ≡ Some (m.value, drop (length (name m.value)) path)) × (path ≡ name m.value ++ drop (length (name m.value)) path)
 
 pub text_of : (p : List ℕ) → ((k : ℕ) → Fits w8 (get_or p k 0)) → IsText p
 text_of [] h = tt
 text_of (b ∷ p) h = (let first = h 0 in omega arith, text_of p (λ k. h (suc k)))
-
-abbrev Good : List ℕ → Option (Route × List ℕ) → Type 0
-Good path o = (r : Route × List ℕ) → o ≡ Some r → (r.1 ≡ drop (length (name r.0)) path) × (path ≡ name r.0 ++ drop (length (name r.0)) path)
-
-good_first : (path : List ℕ) (a b : Option (Route × List ℕ)) → Good path a → Good path b → Good path (first_or_other a b)
-good_first path None b p q = q
-good_first path (Some x) b p q = p
-
-id_stands : (front path id : List ℕ) → id_after front path ≡ Some id → path ≡ front ++ id
-id_stands [] path id e = by (is_path_id path) refl e
-  where
-    by : (v : Bool) → is_path_id path ≡ v → (if v then Some path else None) ≡ Some id → path ≡ id
-    by true f e = cc
-    by false f e = absurd cc
-id_stands (a ∷ front) [] id e = absurd cc
-id_stands (a ∷ front) (b ∷ path) id e = by (a == b) refl e (id_stands front path id)
-  where
-    by : (v : Bool) → (a == b) ≡ v → (if v then id_after front path else None) ≡ Some id → (id_after front path ≡ Some id → path ≡ front ++ id) → b ∷ path ≡ a ∷ front ++ id
-    by true f e ih = let is : a ≡ b = grind (arith, nat_tests) in let rest = ih e in cc
-    by false f e ih = absurd cc
-
-name_stands : (text path id : List ℕ) → exactly text path ≡ Some id → (path ≡ text) × (id ≡ [])
-name_stands text path id e = by (bytes_eq text path) refl e
-  where
-    by : (v : Bool) → bytes_eq text path ≡ v → (if v then Some [] else None) ≡ Some id → (path ≡ text) × (id ≡ [])
-    by true f e = let same : text ≡ path = (bytes_eq-Decides text path).0 f in let nil : [] ≡ id = cc in (sym same, sym nil)
-    by false f e = absurd cc
-
-good_id : (path front : List ℕ) (route : Route) → name route ≡ front → Good path (route_with_id route (id_after front path))
-good_id path front route n r e = by (id_after front path) refl e
-  where
-    by : (o : Option (List ℕ)) → id_after front path ≡ o → route_with_id route o ≡ Some r → (r.1 ≡ drop (length (name r.0)) path) × (path ≡ name r.0 ++ drop (length (name r.0)) path)
-    by None f e = absurd cc
-    by (Some id) f e =
-        let is = id_stands front path id f in
-        let here : (route, id) ≡ r = cc in
-        subst (λ r. (r.1 ≡ drop (length (name r.0)) path) × (path ≡ name r.0 ++ drop (length (name r.0)) path)) here
-        (rw (n, is) (sym (drop-append_seam front id)), rw (n, is) (ap (λ t. front ++ t) (sym (drop-append_seam front id))))
-
-good_name : (path text : List ℕ) (route : Route) → name route ≡ text → Good path (route_with_id route (exactly text path))
-good_name path text route n r e = by (exactly text path) refl e
-  where
-    by : (o : Option (List ℕ)) → exactly text path ≡ o → route_with_id route o ≡ Some r → (r.1 ≡ drop (length (name r.0)) path) × (path ≡ name r.0 ++ drop (length (name r.0)) path)
-    by None f e = absurd cc
-    by (Some id) f e =
-        let is = name_stands text path id f in
-        let here : (route, id) ≡ r = cc in
-        let nil : drop (length text) text ≡ [] = drop-length text in
-        subst (λ r. (r.1 ≡ drop (length (name r.0)) path) × (path ≡ name r.0 ++ drop (length (name r.0)) path)) here
-        (rw (n, is.0, is.1) (sym nil), rw (n, is.0, nil) (sym (append-nil text)))
-
-good_place : (path : List ℕ) → Good path (route_of_path path)
-good_place path =
-    good_first path _ _ (good_name path (codes "/requests") Requests refl)
-    (good_first path _ _ (good_id path (codes "/imports/") Import refl)
-    (good_first path _ _ (good_id path (codes "/crew/") Crew refl)
-    (good_first path _ _ (good_id path (codes "/pairings/") Pairing refl)
-    (good_name path (codes "/exceedances") Exceedances refl))))
-
-value_is : (r : Route) → (row_of r).value ≡ r
-value_is Requests = refl
-value_is Import = refl
-value_is Crew = refl
-value_is Pairing = refl
-value_is Exceedances = refl
-
-agrees : (path : List ℕ) (o : Option (Route × List ℕ)) → Good path o → Agrees path (named o) o
-agrees path None good = refl
-agrees path (Some r) good =
-    let g = good r refl in
-    subst (λ v. (Some r ≡ Some (v, drop (length (name v)) path)) × (path ≡ name v ++ drop (length (name v)) path)) (sym (value_is r.0)) (ap (λ id. Some (r.0, id)) g.0, g.1)
-
-pub routed : (path : List ℕ) → IsText path → Agrees path (first route_table path) (route_of_path path)
-routed path t = subst (λ f. Agrees path f (route_of_path path)) (sym (table_found path t)) (agrees path (route_of_path path) (good_place path))
-
-pub routed_by : (router : RowsOf (RouteOf Route)) (path : List ℕ) (found : Found) → router ≡ route_table → first router path ≡ found → ((k : ℕ) → Fits w8 (get_or path k 0)) → Agrees path found (route_of_path path)
-routed_by router path found is answer bytes =
-    let a : first route_table path ≡ found = subst (λ t. first t path ≡ found) is answer in
-    subst (λ f. Agrees path f (route_of_path path)) a (routed path (text_of path bytes))

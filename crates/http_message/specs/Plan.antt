@@ -1,13 +1,12 @@
 -- What a head asks for: each check in its order, the first that applies.
-use Rattle.std.specs.Prelude.{ℕ, Bool, ◌&&◌, ◌||◌, not, List, [], ◌∷◌, length, codes, bytes_eq, if◌then◌else◌, ◌==◌, nat_lt, Option, Some, None}
+use Rattle.std.specs.Prelude.{ℕ, Bool, ◌&&◌, ◌||◌, not, List, [], ◌∷◌, length, codes, bytes_eq, if◌then◌else◌, ◌==◌, nat_lt, Option, Some, None, option_map}
 use Rattle.std.specs.Str.{is_utf8}
 use Rattle.http_message.specs.Fields.{values, has}
 use Rattle.http_message.specs.Heading.{Heading}
 use Rattle.http_message.specs.Numbers.{body_length_of, import_number}
-use Rattle.http_message.specs.Routes.{route_of_path}
+use Rattle.http_message.specs.Routes.{Place, place_of_path}
+use Rattle.http_message.specs.Routes as place
 use Rattle.http_message.specs.Target.{path_of}
-use Rattle.http_message.specs.declared.routes.Route.{Route}
-use Rattle.http_message.specs.declared.routes.Route.TheVariants as route
 use Rattle.http_message.specs.declared.refusals.RequestFault.{RequestFault}
 use Rattle.http_message.specs.declared.refusals.RequestFault.TheVariants.{NotOneHost, TransferCoding, NoResource, NoMethod, NoLength, BadLength, TooLong}
 use Rattle.http_message.specs.declared.refusals.Methods.TheVariants as methods
@@ -20,10 +19,11 @@ use Rattle.http_message.specs.declared.plan.Submission.TheVariants.{Command, Imp
 use Rattle.http_message.specs.declared.plan.Report.{Report}
 use Rattle.http_message.specs.declared.plan.Report.TheVariants as report
 
--- what a report is on: a crew member, a pairing, or all exceedances
+-- what a report is on: a crew member, a pairing, all exceedances, or a member's limits, alone or with a pairing
 pub data Subject : Type 0 where
   crew pairing : List ℕ → Subject
   exceedances : Subject
+  limits : (crew : List ℕ) → (pairing : Option (List ℕ)) → Subject
 
 -- to refuse, to receive a body, or to show a report
 pub data Step : Type 0 where
@@ -78,17 +78,18 @@ module _ (h : Heading) where
   imported (Some number) = posted (Import number)
 
   -- what each resource is asked for
-  abbrev pub step_of_route : Option (Route × List ℕ) → Step
-  step_of_route None = refuse NoResource
-  step_of_route (Some (route.Requests, id)) = posted Command
-  step_of_route (Some (route.Import, id)) = imported (import_number id)
-  step_of_route (Some (route.Crew, id)) = shown (crew id)
-  step_of_route (Some (route.Pairing, id)) = shown (pairing id)
-  step_of_route (Some (route.Exceedances, id)) = shown exceedances
+  abbrev pub step_of_place : Option Place → Step
+  step_of_place None = refuse NoResource
+  step_of_place (Some place.requests) = posted Command
+  step_of_place (Some (place.import number)) = imported (import_number number)
+  step_of_place (Some (place.crew id)) = shown (crew id)
+  step_of_place (Some (place.pairing id)) = shown (pairing id)
+  step_of_place (Some place.exceedances) = shown exceedances
+  step_of_place (Some (place.limits id with)) = shown (limits id with)
 
   -- the resource of a path that is UTF-8
   abbrev pub at_path : List ℕ → Step
-  at_path path = if is_utf8 path then step_of_route (route_of_path path) else refuse NoResource
+  at_path path = if is_utf8 path then step_of_place (place_of_path path) else refuse NoResource
 
   -- ---- from the first check on: the host, a transfer coding, the path
 
@@ -114,6 +115,7 @@ abbrev pub subject : Report → Subject
 subject (report.Crew id) = crew id.now
 subject (report.Pairing id) = pairing id.now
 subject report.Exceedances = exceedances
+subject (report.Limits id with) = limits id.now (option_map (λ id. id.now) with)
 
 -- an action as contracts see it
 abbrev pub step : Action → Step

@@ -1,10 +1,20 @@
 -- The resources of a book, by their paths.
-use Rattle.std.specs.Prelude.{ℕ, Bool, false, not, List, [], ◌∷◌, ◌++◌, codes, bytes_eq, if◌then◌else◌, ◌==◌, Option, Some, None, option_map}
+use Rattle.std.specs.Prelude.{ℕ, Bool, false, ◌&&◌, not, List, [], ◌∷◌, ◌++◌, codes, bytes_eq, if◌then◌else◌, ◌==◌, Option, Some, None, option_map}
 use Rattle.std.specs.List.{list_any}
+use Rattle.matchit.specs.declared.params.Params.{Params}
+use Rattle.matchit.specs.Params as matched
 use Rattle.matchit.specs.Rows.{RowsOf}
 use Rattle.matchit.specs.Router.{RouteOf}
+use Rattle.http_message.specs.declared.routes.Resource.{Resource}
+use Rattle.http_message.specs.declared.routes.Resource.TheVariants as resource
 use Rattle.http_message.specs.declared.routes.Route.{Route}
-use Rattle.http_message.specs.declared.routes.Route.TheVariants.{Requests, Import, Crew, Pairing, Exceedances}
+use Rattle.http_message.specs.declared.routes.Route.TheVariants.{Requests, Import, Crew, Pairing, Exceedances, Limits, LimitsWith}
+
+-- what a path names: commands, an import, a member's roster, a pairing, the exceedances, or a member's limits, alone or with a pairing
+pub data Place : Type 0 where
+  requests exceedances : Place
+  import crew pairing : List ℕ → Place
+  limits : List ℕ → Option (List ℕ) → Place
 
 -- an id in a path is one or more bytes without a slash
 abbrev pub is_path_id : List ℕ → Bool
@@ -17,37 +27,71 @@ id_after [] path = if is_path_id path then Some path else None
 id_after (a ∷ front) [] = None
 id_after (a ∷ front) (b ∷ path) = if a == b then id_after front path else None
 
+-- what stands before the first slash of a text, and after it
+abbrev pub at_slash : List ℕ → Option (List ℕ × List ℕ)
+at_slash [] = None
+at_slash (b ∷ text) = if b == 47 then Some ([], text) else option_map (λ parts. (b ∷ parts.0, parts.1)) (at_slash text)
+
+-- two texts, if both are ids
+abbrev pub both_ids : Option (List ℕ × List ℕ) → Option (List ℕ × List ℕ)
+both_ids None = None
+both_ids (Some (a, b)) = if is_path_id a && is_path_id b then Some (a, b) else None
+
+-- the two ids, with a slash between them, that follow these bytes
+abbrev pub ids_after : List ℕ → List ℕ → Option (List ℕ × List ℕ)
+ids_after [] path = both_ids (at_slash path)
+ids_after (a ∷ front) [] = None
+ids_after (a ∷ front) (b ∷ path) = if a == b then ids_after front path else None
+
 -- the first, if it is there, else the other
 abbrev pub first_or_other : {A : Type 0} → Option A → Option A → Option A
 first_or_other (Some a) other = Some a
 first_or_other None other = other
 
--- the path is these bytes
-abbrev pub exactly : List ℕ → List ℕ → Option (List ℕ)
-exactly name path = if bytes_eq name path then Some [] else None
+-- this place, if the path is these bytes
+abbrev pub exactly : List ℕ → Place → List ℕ → Option Place
+exactly name place path = if bytes_eq name path then Some place else None
 
--- a resource with its id, if there is one
-abbrev pub route_with_id : Route → Option (List ℕ) → Option (Route × List ℕ)
-route_with_id route id = option_map (λ id. (route, id)) id
+-- what a path names by the table of paths
+abbrev pub place_of_path : List ℕ → Option Place
+place_of_path path =
+    first_or_other (exactly (codes "/requests") requests path)
+    (first_or_other (option_map import (id_after (codes "/imports/") path))
+    (first_or_other (option_map crew (id_after (codes "/crew/") path))
+    (first_or_other (option_map pairing (id_after (codes "/pairings/") path))
+    (first_or_other (exactly (codes "/exceedances") exceedances path)
+    (first_or_other (option_map (λ id. limits id None) (id_after (codes "/reports/limits/") path))
+    (option_map (λ ids. limits ids.0 (Some ids.1)) (ids_after (codes "/reports/limits/") path)))))))
 
--- what a path names by the table of paths, and the id or the number in it
-abbrev pub route_of_path : List ℕ → Option (Route × List ℕ)
-route_of_path path =
-    first_or_other (route_with_id Requests (exactly (codes "/requests") path))
-    (first_or_other (route_with_id Import (id_after (codes "/imports/") path))
-    (first_or_other (route_with_id Crew (id_after (codes "/crew/") path))
-    (first_or_other (route_with_id Pairing (id_after (codes "/pairings/") path))
-    (route_with_id Exceedances (exactly (codes "/exceedances") path)))))
+-- a resource as contracts see it
+abbrev pub place : Resource → Place
+place resource.Requests = requests
+place (resource.Import number) = import number.now
+place (resource.Crew id) = crew id.now
+place (resource.Pairing id) = pairing id.now
+place resource.Exceedances = exceedances
+place (resource.Limits id with) = limits id.now (option_map (λ id. id.now) with)
 
 -- ---- What the router says to itself
 
--- the path before the id
-abbrev pub name : Route → List ℕ
-name Requests = codes "/requests"
-name Import = codes "/imports/"
-name Crew = codes "/crew/"
-name Pairing = codes "/pairings/"
-name Exceedances = codes "/exceedances"
+-- the parameters of a route that a path matched: each name, with what it took of the path
+abbrev pub taken : Params → List (List ℕ × List ℕ)
+taken params = matched.walk params.pattern.now params.text.now params.path.now params.names.now 0 0
+
+-- the limits of a member with a pairing, if both ids were taken
+abbrev pub limits_with : Option (List ℕ) → Option (List ℕ) → Option Place
+limits_with None other = None
+limits_with (Some id) other = option_map (λ other. limits id (Some other)) other
+
+-- what a route leads to, by what its parameters took
+abbrev pub place_by : Route → List (List ℕ × List ℕ) → Option Place
+place_by Requests taken = Some requests
+place_by Import taken = option_map import (matched.named (codes "number") taken)
+place_by Crew taken = option_map crew (matched.named (codes "id") taken)
+place_by Pairing taken = option_map pairing (matched.named (codes "id") taken)
+place_by Exceedances taken = Some exceedances
+place_by Limits taken = option_map (λ id. limits id None) (matched.named (codes "crew") taken)
+place_by LimitsWith taken = limits_with (matched.named (codes "crew") taken) (matched.named (codes "pairing") taken)
 
 -- a row of the router's table: a pattern, its text, where its names stand in the text, and the route
 abbrev pub row : List ℕ → List ℕ → List (ℕ × ℕ) → Route → List ℕ × RouteOf Route
@@ -60,5 +104,7 @@ route_table =
     ∷ row (codes "/exceedances") (codes "/exceedances") [] Exceedances
     ∷ row (codes "/imports/" ++ 256 ∷ []) (codes "/imports/{number}") ((10, 16) ∷ []) Import
     ∷ row (codes "/pairings/" ++ 256 ∷ []) (codes "/pairings/{id}") ((11, 13) ∷ []) Pairing
+    ∷ row (codes "/reports/limits/" ++ 256 ∷ 47 ∷ 256 ∷ []) (codes "/reports/limits/{crew}/{pairing}") ((17, 21) ∷ (24, 31) ∷ []) LimitsWith
+    ∷ row (codes "/reports/limits/" ++ 256 ∷ []) (codes "/reports/limits/{crew}") ((17, 21) ∷ []) Limits
     ∷ row (codes "/requests") (codes "/requests") [] Requests
     ∷ []

@@ -3,11 +3,12 @@
 ghost use Rattle.std.specs.Prelude.{◌≡◌, IfOk, Some, codes, length};
 ghost use Rattle.http_message.specs.Fields.{values};
 ghost use Rattle.http_message.specs.Plan as spec;
+ghost use Rattle.http_message.specs.Routes.{place};
 
 use crate::head::Head;
 use crate::numbers::{MOST_BODY, length_of, number_of_import};
 use crate::refusals::{Methods, RequestFault};
-use crate::routes::{Route, route_of};
+use crate::routes::{Resource, resource_of};
 use crate::target::path_of;
 use request_number::RequestNumber;
 use std::alloc::Global;
@@ -63,6 +64,13 @@ pub enum Report<'h> {
     Pairing(&'h str),
     /// All exceedances.
     Exceedances,
+    /// How near the duties of the crew member of this id are to each limit.
+    Limits {
+        /// The id.
+        crew: &'h str,
+        /// The id of a pairing, if they are judged as if the member held it too.
+        with: Option<&'h str>,
+    },
 }
 
 /// Decides what a head asks for. Each check comes after those before it in `specs/Plan.antt`.
@@ -105,25 +113,26 @@ fn placed<'h>(alloc: Global, head: &'h Head, path: &'h [u8]) -> Result<Action<'h
     let Ok(path) = from_utf8(path) else {
         return Ok(Action::Refuse(RequestFault::NoResource));
     };
-    let Some((route, id)) = route_of(alloc, path)? else {
+    let Some(resource) = resource_of(alloc, path)? else {
         return Ok(Action::Refuse(RequestFault::NoResource));
     };
-    Ok(routed(head, route, id))
+    Ok(routed(head, resource))
 }
 
 /// Decides what a resource is asked for.
-fn routed<'h>(head: &'h Head, route: Route, id: &'h str) -> Action<'h>
-    ensures { spec.step result ≡ spec.step_of_route head.now (Some (route, id.now)) }
+fn routed<'h>(head: &'h Head, resource: Resource<'h>) -> Action<'h>
+    ensures { spec.step result ≡ spec.step_of_place head.now (Some (place resource.entry)) }
 {
-    match route {
-        Route::Requests => posted(head, Submission::Command),
-        Route::Import => match number_of_import(id.as_bytes()) {
+    match resource {
+        Resource::Requests => posted(head, Submission::Command),
+        Resource::Import(number) => match number_of_import(number.as_bytes()) {
             Some(number) => posted(head, Submission::Import(number)),
             None => Action::Refuse(RequestFault::NoResource),
         },
-        Route::Crew => shown(head, Report::Crew(id)),
-        Route::Pairing => shown(head, Report::Pairing(id)),
-        Route::Exceedances => shown(head, Report::Exceedances),
+        Resource::Crew(id) => shown(head, Report::Crew(id)),
+        Resource::Pairing(id) => shown(head, Report::Pairing(id)),
+        Resource::Exceedances => shown(head, Report::Exceedances),
+        Resource::Limits { crew, with } => shown(head, Report::Limits { crew, with }),
     }
 }
 

@@ -1,31 +1,55 @@
-//! The resources of a book, by their paths. The definition is `route_of_path` (`specs/Routes.antt`).
-//! What clients send: `tests/exchanges.py`. Wrong bodies: `must-fail-more/`.
-ghost use Rattle.std.specs.Prelude.{◌≡◌, ◌++◌, IfOk, drop, length, option_map};
+//! The resources of a book, by their paths. The definition is `place_of_path` (`specs/Routes.antt`).
+//! What clients send: `tests/exchanges.py`. Wrong bodies: `must-fail/` and `must-fail-more/`.
+ghost use Rattle.std.specs.Prelude.{◌≡◌, IfOk, option_map};
+ghost use Rattle.matchit.specs.Params.{AllText};
 ghost use Rattle.http_message.specs.Routes as spec;
 
-use matchit::{InsertError, Router};
+use matchit::{InsertError, Params, Router};
 use std::alloc::Global;
 use values::MemoryFault;
 
-/// What a path names.
-#[derive(Clone, Copy, PartialEq, Eq)]
-pub enum Route {
+/// What a path names, with the ids or the number in it.
+#[derive(Clone, Copy)]
+pub enum Resource<'p> {
     /// Commands.
     Requests,
-    /// The import of a number.
-    Import,
-    /// A member's roster.
-    Crew,
-    /// A pairing.
-    Pairing,
+    /// The import of this number.
+    Import(&'p str),
+    /// The roster of the member of this id.
+    Crew(&'p str),
+    /// The pairing of this id.
+    Pairing(&'p str),
     /// The exceedances.
     Exceedances,
+    /// How near the duties of the member of this id are to each limit, alone or with a pairing.
+    Limits {
+        crew: &'p str,
+        with: Option<&'p str>,
+    },
 }
 
-/// Finds what a path names, and the id or the number in it.
-pub fn route_of<'p>(alloc: Global, path: &'p str) -> Result<Option<(Route, &'p str)>, MemoryFault>
-    ensures { IfOk result
-        (λ it. option_map (λ found. (found.0, found.1.now)) it ≡ spec.route_of_path path.now) }
+/// The routes to them.
+#[derive(Clone, Copy, PartialEq, Eq)]
+pub enum Route {
+    /// To commands.
+    Requests,
+    /// To imports.
+    Import,
+    /// To rosters.
+    Crew,
+    /// To pairings.
+    Pairing,
+    /// To the exceedances.
+    Exceedances,
+    /// To what is nearest to each limit of a member's duties.
+    Limits,
+    /// To the same with a pairing.
+    LimitsWith,
+}
+
+/// Finds what a path names.
+pub fn resource_of(alloc: Global, path: &str) -> Result<Option<Resource<'_>>, MemoryFault>
+    ensures { IfOk result (λ it. option_map spec.place it ≡ spec.place_of_path path.now) }
 {
     let Ok(router) = router(alloc) else {
         return Err(MemoryFault);
@@ -33,32 +57,30 @@ pub fn route_of<'p>(alloc: Global, path: &'p str) -> Result<Option<(Route, &'p s
     let Ok(found) = router.at(path) else {
         return Ok(None);
     };
-    let route = *found.value;
-    Ok(Some((route, id_of(route, path))))
+    Ok(named(*found.value, &found.params))
 }
 
-/// Returns what stands in the path of a resource after its name.
-fn id_of(route: Route, path: &str) -> &str
-    requires { path.now ≡ spec.name route ++ drop (length (spec.name route)) path.now }
-    ensures { result.now ≡ drop (length (spec.name route)) path.now }
+/// Names a resource by what its route took from a path.
+fn named<'p>(route: Route, params: &Params<'_, 'p>) -> Option<Resource<'p>>
+    ensures { AllText (spec.taken params.now)
+        → option_map spec.place result ≡ spec.place_by route (spec.taken params.now) }
 {
-    match path.strip_prefix(name_of(route)) {
-        Some(id) => id,
-        None => unreachable!(),
-    }
-}
-
-/// Returns what the path of a resource is before its id.
-fn name_of(route: Route) -> &'static str
-    ensures { result.now ≡ spec.name route }
-{
-    match route {
-        Route::Requests => "/requests",
-        Route::Import => "/imports/",
-        Route::Crew => "/crew/",
-        Route::Pairing => "/pairings/",
-        Route::Exceedances => "/exceedances",
-    }
+    let resource = match route {
+        Route::Requests => Resource::Requests,
+        Route::Import => Resource::Import(params.get("number")?),
+        Route::Crew => Resource::Crew(params.get("id")?),
+        Route::Pairing => Resource::Pairing(params.get("id")?),
+        Route::Exceedances => Resource::Exceedances,
+        Route::Limits => Resource::Limits {
+            crew: params.get("crew")?,
+            with: None,
+        },
+        Route::LimitsWith => Resource::Limits {
+            crew: params.get("crew")?,
+            with: Some(params.get("pairing")?),
+        },
+    };
+    Some(resource)
 }
 
 /// Makes the table of the resources.
@@ -71,5 +93,7 @@ fn router(alloc: Global) -> Result<Router<Route>, InsertError>
     router.insert("/crew/{id}", Route::Crew)?;
     router.insert("/pairings/{id}", Route::Pairing)?;
     router.insert("/exceedances", Route::Exceedances)?;
+    router.insert("/reports/limits/{crew}", Route::Limits)?;
+    router.insert("/reports/limits/{crew}/{pairing}", Route::LimitsWith)?;
     Ok(router)
 }

@@ -7,3 +7,4 @@ pub mod SoundParts
 pub mod Picked
 pub mod ShownParts
 pub mod ShownTexts
+pub mod LimitsTexts

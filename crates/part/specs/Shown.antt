@@ -1,8 +1,9 @@
 -- The parts of a state that are shown.
-use Rattle.std.specs.Prelude.{◌≡◌, ◌↔◌, false, ℕ, Bool, List}
+use Rattle.std.specs.Prelude.{◌≡◌, ◌↔◌, false, ◌||◌, ℕ, Bool, List, Option, Some, None}
 use Rattle.std.specs.FinMap as fin
 use Rattle.std.specs.Option.{option_map_or}
 use Rattle.std.specs.Str.{bytes_eq}
+use Rattle.limits_report.specs.LimitsText.{IsLimitsText, judged}
 use Rattle.report.specs.ExceedanceText.{IsExceedanceText}
 use Rattle.report.specs.PairingText.{pairing_text}
 use Rattle.report.specs.RosterText.{IsRosterText}
@@ -46,6 +47,18 @@ pairing_part s id = record {
   requests = fin.empty;
 }
 
+-- the member holds a seat of the pairing with this id, or it is the one that is named, if one is
+abbrev pub is_held_or_named : State → List ℕ → (named : Option (List ℕ)) → List ℕ → Bool
+is_held_or_named s who None id = is_held_of s who id
+is_held_or_named s who (Some other) id = is_held_of s who id || bytes_eq other id
+
+-- the part of a state that the limits of a member need: the member's part, and the pairing that is
+-- named, if one is, whoever holds it
+abbrev pub limits_part : State → List ℕ → (named : Option (List ℕ)) → State
+limits_part s who named = record (member_part s who) {
+  pairings = fin.retain_keys s.pairings (is_held_or_named s who named);
+}
+
 -- the part of a state with its exceedances alone
 abbrev pub exceedances_part : State → State
 exceedances_part s = record {
@@ -66,6 +79,15 @@ abbrev pub HasMemberText : Type 0
 HasMemberText = (s : State) (who : List ℕ) →
     (fin.get (member_part s who).crew who ≡ fin.get s.crew who)
     × ((text : List ℕ) → IsRosterText (member_part s who) who text ↔ IsRosterText s who text)
+
+-- the limits of a member are those of their part, with a pairing or without one: the same member, the
+-- same duties that are judged, and the same text
+abbrev pub HasLimitsText : Type 0
+HasLimitsText = (s : State) (who : List ℕ) (named : Option (List ℕ)) →
+    (fin.get (limits_part s who named).crew who ≡ fin.get s.crew who)
+    × (judged (limits_part s who named) who named ≡ judged s who named)
+    × ((text : List ℕ) → IsLimitsText (limits_part s who named) who named text
+    ↔ IsLimitsText s who named text)
 
 -- the text of a pairing is that of the part with the pairing alone
 abbrev pub HasPairingText : Type 0

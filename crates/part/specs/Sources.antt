@@ -1,5 +1,5 @@
 -- What a source that is read by key says of the state that it shows.
-use Rattle.std.specs.Prelude.{◌≡◌, ◌⊎◌, ◌++◌, List, map, ℕ, Result, IfOk, Some}
+use Rattle.std.specs.Prelude.{◌≡◌, ◌⊎◌, ◌++◌, List, map, ℕ, Option, Result, IfOk, Some}
 use Rattle.std.specs.FinMap as fin
 use Rattle.std.specs.List.{Contains, fold, flat_map}
 use Rattle.std.specs.Option.{option_map_or}
@@ -40,6 +40,12 @@ abbrev pub picked :
     {V : Type 0} → fin.FinMap name_cmp V → fin.FinMap name_cmp V → List (List ℕ)
     → fin.FinMap name_cmp V
 picked from to ids = fold (pick from) to ids
+
+-- a map with what another has under the id that is named, if one is
+abbrev pub pick_named :
+    {V : Type 0} → fin.FinMap name_cmp V → (named : Option (List ℕ)) → fin.FinMap name_cmp V
+    → fin.FinMap name_cmp V
+pick_named from named to = option_map_or (pick from to) named to
 
 -- what the first map has under an id, the second has there too
 abbrev pub IsPartOf : {V : Type 0} → fin.FinMap name_cmp V → fin.FinMap name_cmp V → Type 0

@@ -1,7 +1,7 @@
 //! What holds of the parts of a state. Each of these functions does nothing; its clause is a law.
 
 ghost use Rattle.part.specs.Part.{AnswersAsWhole, NamesSettle, PartStaysSound};
-ghost use Rattle.part.specs.Shown.{HasExceedanceText, HasMemberText, HasPairingText};
+ghost use Rattle.part.specs.Shown.{HasExceedanceText, HasLimitsText, HasMemberText, HasPairingText};
 
 /// A part answers its command as the whole state does: with the same verdict, reply and change.
 pub fn answers_as_whole()
@@ -21,6 +21,11 @@ pub fn part_is_sound()
 /// A member's text is that of the member's part.
 pub fn part_has_member_text()
     ensures { HasMemberText }
+{}
+
+/// The text of a member's limits is that of their part.
+pub fn part_has_limits_text()
+    ensures { HasLimitsText }
 {}
 
 /// A pairing's text is that of the pairing's part.

@@ -1,12 +1,13 @@
-//! What is shown of a member, of a pairing or of the exceedances, gathered from a source.
+//! What is shown of a member, of a member's limits, of a pairing or of the exceedances, gathered from a source.
 //! Through the program: `tests/reports.py`. Wrong bodies: `must-fail/`.
 
 ghost use Rattle.std.specs.Prelude.{◌≡◌, IfErr, OnOk};
 ghost use Rattle.std.specs.FinMap as fin;
+ghost use Rattle.std.specs.Option.{option_copied};
 ghost use Rattle.std.specs.Str.{bytes_eq};
 ghost use Rattle.roster.specs.Holding.{AreJust, IsGroundOf, IsHeldBy, IsOutsideOf};
-ghost use Rattle.part.specs.Shown.{exceedances_part, member_part, pairing_part};
-ghost use Rattle.part.specs.Sources.{IsCaused, TellsOfState};
+ghost use Rattle.part.specs.Shown.{exceedances_part, limits_part, member_part, pairing_part};
+ghost use Rattle.part.specs.Sources.{IsCaused, TellsOfState, pick_named};
 
 use crate::pick::{pick_grounds, pick_outsides, pick_pairings, put_found};
 use crate::source::Source;
@@ -114,6 +115,50 @@ pub fn gather_member<S: Source>(
         exceedances: OrdMap::new(alloc),
         requests: OrdMap::new(alloc),
     })
+}
+
+/// Adds what the source has under the id that is named, if one is.
+fn add_named_pairing<S: Source>(
+    alloc: Global,
+    source: &mut S,
+    named: Option<&PairingId>,
+    pairings: &mut OrdMap<PairingId, PairingEntry>,
+) -> Result<(), S::Fault>
+    ensures told { TellsOfState S.is_clean S.shows (λ s _.
+        pairings.new ≡ pick_named s.pairings (option_copied named.entry) pairings.old)
+        source.old source.new result }
+    ensures left { S.stays source.old source.new }
+    ensures caused { IfErr result
+        (IsCaused S.fails S.Fault.from_gives source.old source.new) }
+    ensures serves { OnOk result (S.serves source.old source.new) }
+{
+    if let Some(id) = named {
+        let found = source.pairing(alloc, id)?;
+        put_found(alloc, pairings, id, found)?;
+    }
+    Ok(())
+}
+
+/// Gathers what the limits of a member need: the member as `gather_member` does, and the pairing that is named, if one
+/// is.
+pub fn gather_limits<S: Source>(
+    alloc: Global,
+    source: &mut S,
+    who: &CrewId,
+    named: Option<&PairingId>,
+) -> Result<Roster, S::Fault>
+    ensures told { TellsOfState S.is_clean S.shows
+        (λ s it. it ≡ limits_part s who.now (option_copied named.entry))
+        source.old source.new result }
+    ensures left { S.stays source.old source.new }
+    ensures caused { IfErr result
+        (IsCaused S.fails S.Fault.from_gives source.old source.new) }
+    ensures serves { OnOk result (S.serves source.old source.new) }
+    ensures there { OnOk result (S.is_there source.new) }
+{
+    let mut roster = gather_member(alloc, source, who)?;
+    add_named_pairing(alloc, source, named, &mut roster.pairings)?;
+    Ok(roster)
 }
 
 /// Gathers a pairing alone.

@@ -1,21 +1,17 @@
 -- What is told of a book that is shown.
-use Rattle.std.proofs.Common.{◌≡◌, inl, inr, refl, ap, sym, subst, ℕ, List, Option, Some, None, Result, Ok, Err, IfOk, IfErr, string_bytes}
+use Rattle.std.proofs.Common.{◌≡◌, inl, inr, refl, ap, sym, subst, Result, Ok, Err}
 use Rattle.sqlite_trees.specs.declared.store.Store.{Ghosts}
 use Rattle.roster.specs.State.{State}
 use Rattle.state_rows.specs.declared.fault.StoreFault.{StoreFault}
-use Rattle.report.specs.declared.fault.ReportFault.{ReportFault}
-use Rattle.report.specs.declared.fault.ReportFault.TheVariants.{NoSuchCrew, NoSuchPairing}
-use Rattle.store.specs.Shown.{IsShown}
 use Rattle.store.specs.declared.show.Show.{Show}
 use Rattle.book.specs.Kept.{IsDurablyAt, IsClean, Kept}
-use Rattle.asking.specs.Reports.{HasShown, IsReportAsked, ReportsShown, ShowsOf}
+use Rattle.asking.specs.Reports.{HasShown, IsReportAsked, ReportsShown, ShowsOf, text_shown}
 use Rattle.asking.specs.declared.answers.AskFault.{AskFault}
 use Rattle.asking.specs.declared.answers.AskFault.TheVariants as ask
 use Rattle.asking.specs.declared.reports.Shown.{Shown}
-use Rattle.asking.specs.declared.reports.Shown.TheVariants as shown
 use Rattle.http_exchange.specs.Exchange.{ChannelBytes}
 use Rattle.rosterbook.specs.Asking.{IsBookFault, stop_of}
-use Rattle.rosterbook.specs.Showing.{IsAbsence, IsShowStopped, IsToldOf, PrintsShown}
+use Rattle.rosterbook.specs.Showing.{IsShowStopped, IsToldOf, PrintsShown}
 use Rattle.rosterbook.specs.Streams.{IsOfChannel}
 use Rattle.rosterbook.specs.declared.status.Status.{Status}
 use Rattle.rosterbook.specs.declared.stop.Stop.{Stop}
@@ -27,23 +23,7 @@ use Rattle.rosterbook.proofs.Stopping.{has_failed, no_fault_of_book}
 -- what is shown of a state is told of it
 shown_told : (s : State) (what : Show) (it : Shown) (status : Status) (out out' err err' : ChannelBytes) → ShowsOf s what (Ok it) → PrintsShown it status out out' err err'
     → IsToldOf s what status out out' err err'
-shown_told s what (shown.Text text) status out out' err err' is prints = record { shown = Some (string_bytes text); is = is; told = prints }
-shown_told s what shown.NoSuchCrew status out out' err err' is prints = record {
-  shown = None;
-  is = is.0;
-  told = (prints.0, prints.1, (NoSuchCrew, subst (λ w. IsAbsence w NoSuchCrew) (sym is.1.1) refl, prints.2));
-}
-shown_told s what shown.NoSuchPairing status out out' err err' is prints = record {
-  shown = None;
-  is = is.0;
-  told = (prints.0, prints.1, (NoSuchPairing, subst (λ w. IsAbsence w NoSuchPairing) (sym is.1.1) refl, prints.2));
-}
-
--- what shows the same shows the same of it
-shows_same : (roster s : State) (what : Show) (it : Shown) → ((text : Option (List ℕ)) → (IsShown roster what text → IsShown s what text)) → ShowsOf roster what (Ok it) → ShowsOf s what (Ok it)
-shows_same roster s what (shown.Text text) same is = same (Some (string_bytes text)) is
-shows_same roster s what shown.NoSuchCrew same is = (same None is.0, is.1)
-shows_same roster s what shown.NoSuchPairing same is = (same None is.0, is.1)
+shown_told s what it status out out' err err' is prints = record { shown = text_shown it; is = is; told = prints }
 
 module _ {S : Type 0} (g : Ghosts S) (old new : Kept S) (what : Show) where
   -- ---- What was shown is told
@@ -60,7 +40,7 @@ module _ {S : Type 0} (g : Ghosts S) (old new : Kept S) (what : Show) where
     state_shown : (s : State) → IsDurablyAt g old s → IsClean g new → (r : Result State StoreFault) → HasShown g old new what r → ReportsShown r what (Ok it)
         → IsToldOf s what status out out' err err'
     state_shown s at clean (Ok roster) has is =
-        shown_told s what it status out out' err err' (shows_same roster s what it (λ text. (has.text s at clean text).0) is) prints
+        shown_told s what it status out out' err err' ((has.text s at clean (text_shown it)).0 is) prints
     state_shown s at clean (Err fault) has is = absurd (cc)
 
     pub state_told : (s : State) → IsDurablyAt g old s → IsClean g new → IsReportAsked g old new what (Ok it) → IsToldOf s what status out out' err err'

@@ -1,6 +1,6 @@
 -- What the program answers by the book that files hold, and what it leaves of them.
 use Rattle.std.specs.Prelude.{◌≡◌, ◌⊎◌, ⊤, ℕ, ◌+◌, true, false, Bool, List, [], ◌++◌, take}
-use Rattle.std.specs.Prelude.{Option, None, IfSome, IsSomeAnd, Result, Err, string_bytes}
+use Rattle.std.specs.Prelude.{Option, None, IfSome, IsSomeAnd, Result, Err, option_map, string_bytes}
 use Rattle.std.specs.Io.KnownBytes.{Appends}
 use Rattle.sqlite_disk.specs.declared.Disk.{Ghosts}
 use Rattle.sqlite_store.specs.declared.store.FileStore.{FileStore}
@@ -22,7 +22,7 @@ use Rattle.book.specs.Lives.{acknowledged, in_doubt}
 use Rattle.book.specs.declared.file.FilesLeft.{FilesLeft}
 use Rattle.console.specs.declared.actions.Action.{Action}
 use Rattle.console.specs.declared.actions.Action.TheVariants.{Init, Do, Import}
-use Rattle.console.specs.declared.actions.Action.TheVariants.{Roster, Pairing, Exceedances, Serve}
+use Rattle.console.specs.declared.actions.Action.TheVariants.{Roster, Limits, Pairing, Exceedances, Serve}
 use Rattle.http_exchange.specs.Exchange.{ChannelBytes}
 use Rattle.rosterbook.specs.Asking.{Answers, AreTold, IsNoSchedule, IsRequestReadAndTold}
 use Rattle.rosterbook.specs.Asking.{asked_by_request, left_by_request}
@@ -171,6 +171,8 @@ module _ {D : Type 0} {g : Ghosts D} (image : Image) (left : Option (FilesLeft D
       IsImportedBy (IsByFiles left image) number held out out' err err' status
   PerformsByFiles (Roster file crew) status held out out' err err' =
       IsShownBy (IsByFiles left image) (show.Crew (string_bytes crew)) out out' err err' status
+  PerformsByFiles (Limits file crew with) status held out out' err err' =
+      IsShownBy (IsByFiles left image) (show.Limits (string_bytes crew) (option_map string_bytes with)) out out' err err' status
   PerformsByFiles (Pairing file id) status held out out' err err' =
       IsShownBy (IsByFiles left image) (show.Pairing (string_bytes id)) out out' err err' status
   PerformsByFiles (Exceedances file) status held out out' err err' =

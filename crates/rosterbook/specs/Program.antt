@@ -1,5 +1,5 @@
 -- What the program answers: its exit status, and what it writes to standard output and standard error.
-use Rattle.std.specs.Prelude.{◌≡◌, ◌⊎◌, ℕ, Bool, true, false, List, [], ◌++◌, codes, map, string_bytes, Result, Ok, Err}
+use Rattle.std.specs.Prelude.{◌≡◌, ◌⊎◌, ℕ, Bool, true, false, List, [], ◌++◌, codes, map, string_bytes, option_map, Result, Ok, Err}
 use Rattle.std.specs.Io.KnownBytes.{Appends}
 use Rattle.time117.specs.Local.{is_zone_text}
 use Rattle.roster.specs.Folds.{ReplyOrRefusal}
@@ -15,7 +15,7 @@ use Rattle.writing.specs.Faults.{create_text}
 use Rattle.writing.specs.declared.fault.CreateFault.{CreateFault}
 use Rattle.period_verdict.specs.Verdict.{Line, line_of}
 use Rattle.console.specs.declared.actions.Action.{Action}
-use Rattle.console.specs.declared.actions.Action.TheVariants.{Duty, Init, Do, Import, Roster, Pairing, Exceedances, Serve}
+use Rattle.console.specs.declared.actions.Action.TheVariants.{Duty, Init, Do, Import, Roster, Limits, Pairing, Exceedances, Serve}
 use Rattle.period_verdict.specs.declared.fault.LineFault.{LineFault}
 use Rattle.period_verdict.specs.declared.fault.LineFault.TheVariants.{Zone, Memory}
 use Rattle.rosterbook.specs.declared.status.Status.{Status}
@@ -86,6 +86,7 @@ PerformsAction (Do file) status held out out' err err' =
     (input : List ℕ) × (answer : ReplyOrRefusal) × IsRequestReadAndTold held out out' status input answer × (err' ≡ err)
 PerformsAction (Import file number) status held out out' err err' = IsImportTold held out out' err err' status
 PerformsAction (Roster file crew) status held out out' err err' = (s : State) × IsToldOf s (show.Crew (string_bytes crew)) status out out' err err'
+PerformsAction (Limits file crew with) status held out out' err err' = (s : State) × IsToldOf s (show.Limits (string_bytes crew) (option_map string_bytes with)) status out out' err err'
 PerformsAction (Pairing file id) status held out out' err err' = (s : State) × IsToldOf s (show.Pairing (string_bytes id)) status out out' err err'
 PerformsAction (Exceedances file) status held out out' err err' = (s : State) × IsToldOf s show.Exceedances status out out' err err'
 PerformsAction (Serve file port connections) status held out out' err err' = IsServeTold port connections out out' err err' status

@@ -17,7 +17,7 @@ use crate::import_command::answer_import;
 use crate::init_command::answer_init;
 use crate::lines::refuse;
 use crate::serve_command::answer_serve;
-use crate::show_command::{answer_exceedances, answer_pairing, answer_roster};
+use crate::show_command::{answer_exceedances, answer_limits, answer_pairing, answer_roster};
 use crate::status::Status;
 use crate::stop::Stop;
 use book::FilesLeft;
@@ -99,6 +99,10 @@ pub fn perform_from<S: Start, R: Read, O: Write, E: Write>(
         Action::Roster { file, crew } => {
             finish(answer_roster(rt, file, start, crew, out, err), err)
         }
+        Action::Limits { file, crew, with } => finish(
+            answer_limits(rt, file, start, crew, with.as_deref(), out, err),
+            err,
+        ),
         Action::Pairing { file, pairing } => {
             finish(answer_pairing(rt, file, start, pairing, out, err), err)
         }

@@ -1,6 +1,7 @@
-//! `rosterbook roster`, `pairing` and `exceedances`: a text by what a book shows.
+//! `rosterbook roster`, `limits`, `pairing` and `exceedances`: a text by what a book shows.
 //! Worked texts: `tests/reports.py`. Wrong bodies: `must-fail/`.
 ghost use Rattle.std.specs.Prelude.{◌≡◌, IfErr, IfOk, IsErr, None};
+ghost use Rattle.std.specs.Option.{option_copied};
 ghost use Rattle.sqlite_wal.specs.Files.{image_at};
 ghost use Rattle.std.specs.Io.KnownBytes.{Appends};
 ghost use Rattle.report.specs.Faults.{report_fault_text};
@@ -43,6 +44,28 @@ pub(crate) fn answer_roster<S: Start, O: Write, E: Write>(
     ensures refused { IsRefusedAs result.left (image_at S.Start) result.refused result.done }
 {
     show_file(rt, file, start, Subject::Crew(crew), out, err)
+}
+
+/// Answers `rosterbook limits`.
+pub(crate) fn answer_limits<S: Start, O: Write, E: Write>(
+    rt: &HostRuntime,
+    file: &str,
+    start: S,
+    crew: &str,
+    with: Option<&str>,
+    out: &mut O,
+    err: &mut E,
+) -> Ended<FileFrom<S>>
+    ensures done { IfOk result.done (IsShownBy (IsByFiles result.left (image_at S.Start))
+        (show.Limits crew.now (option_copied with.entry)) (O.contents out.old)
+        (O.contents out.new) (E.contents err.old) (E.contents err.new)) }
+    ensures left { AreLeftAsFound result.left (image_at S.Start) }
+    ensures session { HaveSession result.left (image_at S.Start) }
+    ensures unopened { result.left ≡ None
+        → IsErr result.done × (out.new ≡ out.old) × (err.new ≡ err.old) }
+    ensures refused { IsRefusedAs result.left (image_at S.Start) result.refused result.done }
+{
+    show_file(rt, file, start, Subject::Limits { crew, with }, out, err)
 }
 
 /// Answers `rosterbook pairing`.
@@ -118,7 +141,7 @@ fn show_file<S: Start, O: Write, E: Write>(
     }
 }
 
-/// Prints the text of a member, of a pairing or of the exceedances by what a book shows, or tells that the member or the pairing
+/// Prints the text of a member, of a member's limits, of a pairing or of the exceedances by what a book shows, or tells that the member or the pairing
 /// isn't there (2, 4). An id outside its shape names nothing. The book is as it was.
 pub fn show_text<S: Alter, O: Write, E: Write>(
     alloc: Global,

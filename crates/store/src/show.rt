@@ -8,6 +8,13 @@ use duty::{CrewId, PairingId};
 pub enum Show {
     /// A member's roster.
     Crew(CrewId),
+    /// How near a member's duties are to each limit, with the periods of a pairing as if the member held it, if one is named.
+    Limits {
+        /// The id of the member.
+        crew: CrewId,
+        /// The id of the pairing.
+        with: Option<PairingId>,
+    },
     /// A pairing.
     Pairing(PairingId),
     /// The exceedances.

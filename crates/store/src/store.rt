@@ -1,7 +1,7 @@
 //! The tables of a book as a state: made, loaded, read by key, and changed by commits. What these come to are the
 //! records of `writing/specs/Commits.antt` and of `specs/Loaded.antt`.
 //! Through the program: `tests/tables.py`. Wrong bodies: `must-fail/`.
-ghost use Rattle.std.specs.Prelude.{ℕ, List, Option, ◌≡◌, ◌↔◌, IfOk, IfErr, IsErrAnd, OnOk, Err};
+ghost use Rattle.std.specs.Prelude.{ℕ, List, Result, ◌≡◌, ◌↔◌, IfOk, IfErr, IsErrAnd, OnOk, Err};
 ghost use Rattle.sqlite.specs.State.{HasCleanDisk};
 ghost use Rattle.sqlite.specs.Held.{state};
 ghost use Rattle.roster.specs.Sound.{Sound};
@@ -17,13 +17,13 @@ ghost use Rattle.loading.specs.Reading.{AgreesIn, ReadsAs};
 ghost use Rattle.state_rows.specs.Rows.{outside_segment};
 ghost use Rattle.store.specs.Found.{IsFound};
 ghost use Rattle.store.specs.Loaded.{IsLoaded, IsNotLoaded, ShowsWhatIsLeft};
-ghost use Rattle.store.specs.Shown.{IsShown, shown_part};
+ghost use Rattle.store.specs.Shown.{Absence, IsShown, shown_part};
 
 use crate::show::Show;
 use command::{Command, Key};
 use entries::LoadFault;
 use loading::read_all;
-use part::{gather, gather_exceedances, gather_member, gather_pairing, judge};
+use part::{gather, gather_exceedances, gather_limits, gather_member, gather_pairing, judge};
 use roster::{Change, Roster, Verdict};
 use sqlite::{Alter, Connection};
 use state_rows::{Edition, StoreFault};
@@ -150,14 +150,15 @@ impl<S: Alter> Store<S> {
         verdict
     }
 
-    /// Reads by key a roster with what the text of a member, of a pairing or of the exceedances needs, in no transaction, and
-    /// changes nothing. A store's fault is 90, want of memory 91.
+    /// Reads by key a roster with what the text of a member, of a member's limits, of a pairing or of the exceedances needs, in no
+    /// transaction, and changes nothing. A store's fault is 90, want of memory 91.
     pub fn shown(&mut self, alloc: Global, what: &Show) -> Result<Roster, StoreFault>
         ensures part { (s : State) → Shows (state S.Store self.old) s
             → HasCleanDisk (state S.Store self.new) → IfOk result (λ r. r ≡ shown_part s what.now) }
         ensures text { (s : State) → Shows (state S.Store self.old) s
             → HasCleanDisk (state S.Store self.new) → IfOk result (λ roster.
-            (text : Option (List ℕ)) → IsShown roster what.now text ↔ IsShown s what.now text) }
+            (text : Result (List ℕ) Absence) → IsShown roster what.now text
+            ↔ IsShown s what.now text) }
         ensures unchanged { ChangesNothing (state S.Store self.old) (state S.Store self.new) }
         ensures caused { IfErr result
             (IsReadFault (state S.Store self.old) (state S.Store self.new)) }
@@ -166,6 +167,7 @@ impl<S: Alter> Store<S> {
     {
         let shown = match what {
             Show::Crew(who) => gather_member(alloc, self, who),
+            Show::Limits { crew, with } => gather_limits(alloc, self, crew, with.as_ref()),
             Show::Pairing(id) => gather_pairing(alloc, self, id),
             Show::Exceedances => gather_exceedances(alloc, self),
         };

@@ -1,5 +1,5 @@
 -- Each input has a response in a sound state: whatever it asks is answered.
-use Rattle.std.proofs.Common.{◌≡◌, ◌⊎◌, ◌+◌, inl, inr, refl, sym, ap₂, subst, ℕ, zero, suc, Bool, false, List, [], ◌∷◌, ◌++◌, length, get_or, Contains, Option, Some, None, Result, Ok, Err, arith}
+use Rattle.std.proofs.Common.{◌≡◌, ◌⊎◌, ◌+◌, inl, inr, refl, sym, ap₂, subst, ℕ, zero, suc, Bool, false, List, [], ◌∷◌, ◌++◌, length, get_or, Contains, Option, Some, None, IsSome, Result, Ok, Err, arith}
 use Rattle.std.specs.Prelude.{⊤}
 use Rattle.std.specs.Cmp.{IsStrictWeakOrder}
 use Rattle.std.specs.FinMap as fin
@@ -18,6 +18,8 @@ use Rattle.roster.specs.State.{State, exceedance_name}
 use Rattle.roster.specs.declared.state.DutyId.{DutyId}
 use Rattle.roster.specs.declared.state.ExceedanceId.{ExceedanceId}
 use Rattle.roster.proofs.Members.{from_rows, is_first, is_later}
+use Rattle.limits_report.specs.LimitsText.{Judged, judged}
+use Rattle.limits_report.proofs.EachText.{each_text}
 use Rattle.report.specs.ExceedanceText.{ExceedanceEntry, IsExceedanceText, exceedances_header, line}
 use Rattle.report.specs.Lines.{IsInOrder, key_of}
 use Rattle.report.specs.PairingText.{pairing_text}
@@ -27,8 +29,8 @@ use Rattle.stored_json.specs.declared.fault.CodecFault.TheVariants.{BadCsv}
 use Rattle.codec.specs.Requests.{read_request}
 use Rattle.codec.specs.Schedule.{IsAtFault, IsSchedule}
 use Rattle.codec.proofs.EachText.{is_schedule_or_at_fault}
-use Rattle.store.specs.Shown.{IsShown}
-use Rattle.http_message.specs.Plan.{Planned, Subject, crew, pairing, exceedances}
+use Rattle.store.specs.Shown.{Absence, no_crew, no_pairing, IsShown}
+use Rattle.http_message.specs.Plan.{Planned, Subject, crew, limits, pairing, exceedances}
 use Rattle.http_message.specs.declared.plan.Submission.TheVariants.{Command, Import}
 use Rattle.http_message.specs.declared.refusals.RequestFault.{RequestFault}
 use Rattle.http_exchange.specs.Exchange as exchange
@@ -36,8 +38,8 @@ use Rattle.http_exchange.specs.Exchange.{asks}
 use Rattle.http_exchange.specs.Final.{Final, of_answer, of_fault}
 use Rattle.http_exchange.specs.Handler as http
 use Rattle.http_exchange.specs.Handler.{StatusText, submit}
-use Rattle.web.specs.Acts.{Asks, Commands, IsAnswer, IsReport, commands_of, request_answer, show_of}
-use Rattle.web.specs.Answers.{fault_answer, parts_answer}
+use Rattle.web.specs.Acts.{Asks, Commands, IsAnswer, commands_of, request_answer, show_of}
+use Rattle.web.specs.Answers.{fault_answer, parts_answer, report_answer}
 use Rattle.web.specs.Response.{IsFinal, IsResponseTo, Response}
 
 -- ---- Lines in an order
@@ -130,22 +132,28 @@ module _ (s : State) where
     asks_them : Asks asked commands
     told : IsAnswer s asked answer
 
-  -- what a report shows, and its answer
-  abbrev IsReported : Subject → Type 0
-  IsReported what = (shown : Option (List ℕ)) × (answer : StatusText) × IsShown s (show_of what) shown × IsReport what shown answer
+  -- what a report shows
+  abbrev Reports : Subject → Type 0
+  Reports what = (shown : Result (List ℕ) Absence) × IsShown s (show_of what) shown
 
-  crew_report : (id : List ℕ) (member : Option Member) → fin.get s.crew id ≡ member → IsReported (crew id)
-  crew_report id None none = (None, _, none, refl)
-  crew_report id (Some member) there = let text = roster_text s id member there in (Some text.0, _, text.1, refl)
+  crew_report : (id : List ℕ) (member : Option Member) → fin.get s.crew id ≡ member → Reports (crew id)
+  crew_report id None none = (Err no_crew, none)
+  crew_report id (Some member) there = let text = roster_text s id member there in (Ok text.0, text.1)
 
-  pairing_report : (id : List ℕ) (shown : Option (List ℕ)) → pairing_text s id ≡ shown → IsReported (pairing id)
-  pairing_report id None is = (None, _, is, refl)
-  pairing_report id (Some text) is = (Some text, _, is, refl)
+  limits_report : (id : List ℕ) (named : Option (List ℕ)) (member : Option Member) (of : Option Judged) → fin.get s.crew id ≡ member → judged s id named ≡ of → Reports (limits id named)
+  limits_report id named None of none is = (Err no_crew, none)
+  limits_report id named (Some member) None there none = (Err no_pairing, (subst IsSome (sym there) refl, none))
+  limits_report id named (Some member) (Some of) there are = let text = each_text s id named member of there are in (Ok text.0, text.1)
 
-  each_report : Sound s → (what : Subject) → IsReported what
+  pairing_report : (id : List ℕ) (text : Option (List ℕ)) → pairing_text s id ≡ text → Reports (pairing id)
+  pairing_report id None is = (Err no_pairing, is)
+  pairing_report id (Some text) is = (Ok text, is)
+
+  each_report : Sound s → (what : Subject) → Reports what
   each_report sound (crew id) = crew_report id (fin.get s.crew id) refl
+  each_report sound (limits id named) = limits_report id named (fin.get s.crew id) (judged s id named) refl refl
   each_report sound (pairing id) = pairing_report id (pairing_text s id) refl
-  each_report sound exceedances = let text = exceedance_text s sound in (Some text.0, _, text.1, refl)
+  each_report sound exceedances = let text = exceedance_text s sound in (Ok text.0, text.1)
 
   met_import : (number : ℕ) (body : List ℕ) → ((plans : List Plan) × IsSchedule body plans) ⊎ ((n : ℕ) × IsAtFault body n) → IsMet (submit (Import number) body)
   met_import number body (inl (plans, is)) = record {
@@ -171,7 +179,7 @@ module _ (s : State) where
   each_met sound (submit (Import number) body) = met_import number body (is_schedule_or_at_fault body)
   each_met sound (http.show what) =
       let report = each_report sound what in
-      record { commands = []; answer = report.1; asks_them = refl; told = (report.0, report.2, report.3) }
+      record { commands = []; answer = report_answer report.0; asks_them = refl; told = (report.0, report.1, refl) }
 
   -- ---- The response
 

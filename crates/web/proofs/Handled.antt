@@ -1,5 +1,5 @@
 -- From what was asked of a book to the response.
-use Rattle.std.proofs.Common.{◌≡◌, ◌∙◌, ◌||◌, ◌⊎◌, ap, sym, subst, refl, inl, inr, ℕ, Bool, true, false, IsTrue, List, [], ◌∷◌, string_bytes, Option, Some, None, Result, Ok, Err, IfOk}
+use Rattle.std.proofs.Common.{◌≡◌, ◌∙◌, ◌||◌, ◌⊎◌, ap, sym, subst, refl, inl, inr, ℕ, Bool, true, false, IsTrue, List, [], ◌∷◌, string_bytes, Result, Ok, Err, IfOk}
 use Rattle.std.specs.Bool.{⊤}
 use Rattle.std.specs.Global.{Global}
 use Rattle.std.specs.Prelude.{String}
@@ -12,7 +12,6 @@ use Rattle.command.specs.declared.refusal.Refusal.{Refusal}
 use Rattle.command.specs.declared.refusal.Refusal.TheVariants as refusals
 use Rattle.stored_json.specs.declared.fault.CodecFault.{CodecFault}
 use Rattle.stored_json.specs.declared.fault.CodecFault.TheVariants.{BadCsv}
-use Rattle.codec.specs.RefusalText.{refusal_json_text}
 use Rattle.codec.specs.Requests.{read_request}
 use Rattle.codec.specs.Schedule.{IsAtFault, IsSchedule}
 use Rattle.roster.specs.Folds as folds
@@ -29,10 +28,9 @@ use Rattle.book.specs.Calls.{IsAfterCalls}
 use Rattle.book.specs.Kept as kept
 use Rattle.book.specs.Kept.{HasTables, IsDurablyAt, IsClean, IsInDoubt, Kept, StillHasTables, result_of}
 use Rattle.book.proofs.States.{one_of_either}
-use Rattle.store.specs.Shown.{IsShown}
+use Rattle.store.specs.Shown.{Absence, no_crew, no_pairing, IsShown}
 use Rattle.book.specs.declared.answer.Answer as book
 use Rattle.store.specs.declared.show.Show.{Show}
-use Rattle.store.specs.declared.show.Show.TheVariants as show
 use Rattle.asking.specs.Answers.{IsOrMemory, Reports, ReportsUnread, answer_json, answer_kind, refusal_kind}
 use Rattle.asking.specs.Reports.{HasShown, IsReportAsked, ReportsShown}
 use Rattle.asking.specs.Requests.{IsDoneAsRead, IsRequestAsked, Request, asked_as}
@@ -41,13 +39,13 @@ use Rattle.asking.specs.declared.answers.AskFault.TheVariants as ask
 use Rattle.asking.specs.declared.answers.JsonAnswer.{JsonAnswer}
 use Rattle.asking.specs.declared.reports.Shown.{Shown}
 use Rattle.asking.specs.declared.reports.Shown.TheVariants.{Text, NoSuchCrew, NoSuchPairing}
-use Rattle.http_message.specs.Plan.{Subject, crew, pairing, exceedances}
+use Rattle.http_message.specs.Plan.{Subject}
 use Rattle.http_message.specs.declared.plan.Submission.TheVariants.{Command, Import}
 use Rattle.http_exchange.specs.Handler as http
 use Rattle.http_exchange.specs.Handler.{StatusText, submit}
 use Rattle.http_exchange.specs.declared.handler.HandlerFault.{HandlerFault}
 use Rattle.http_exchange.specs.declared.handler.HandlerFault.TheVariants.{Store, Memory}
-use Rattle.web.specs.Acts.{Commands, IsReport, show_of}
+use Rattle.web.specs.Acts.{Commands, show_of}
 use Rattle.web.specs.Answers.{IsInJson, IsResponseToReport, TellsAnswer, answer_status, command_answer, fault_answer, handler_fault_of, json, parts_answer, refusal_status, report_answer, response_to_command, status_of_kind}
 use Rattle.web.specs.Handling.{HoldsWhateverIsAsked, IsHandled, IsLeftByCommands, answers_store_fault}
 use Rattle.web.specs.Serving.{StillMeans}
@@ -167,16 +165,9 @@ tells_text status (Err f) text told is tells = subst (TellsAnswer (json status t
 
 -- ---- what is told of a report
 
--- what a book shows, and the response
-abbrev IsReportOf : Show → Option (List ℕ) → StatusText → Type 0
-IsReportOf what (Some text) answer = answer ≡ report_answer text
-IsReportOf (show.Crew who) None answer = answer ≡ json 404 (refusal_json_text refusals.NoSuchCrew)
-IsReportOf (show.Pairing id) None answer = answer ≡ json 404 (refusal_json_text refusals.NoSuchPairing)
-IsReportOf show.Exceedances None answer = ⊥
-
 -- the report of a roster was told, if there was memory for it
 abbrev IsReported : State → Show → Result StatusText HandlerFault → Type 0
-IsReported s what (Ok answer) = (shown : Option (List ℕ)) × IsShown s what shown × IsReportOf what shown answer
+IsReported s what (Ok answer) = (shown : Result (List ℕ) Absence) × IsShown s what shown × (answer ≡ report_answer shown)
 IsReported s what (Err Store) = ⊥
 IsReported s what (Err Memory) = ⊤
 
@@ -188,11 +179,11 @@ IsReportToldAs (Err fault) what told = told ≡ Err (handler_fault_of (ask.Book 
 report_told : (what : Show) (shown : Result State StoreFault) (r : Result Shown AskFault) (told : Result StatusText HandlerFault) → ReportsShown shown what r → IsResponseToReport r told
     → IsReportToldAs shown what told
 report_told what (Err fault) r told is tells = subst (λ (r : Result Shown AskFault). IsResponseToReport r told) is tells
-report_told what (Ok roster) (Ok (Text text)) told is tells = subst (IsReported roster what) (sym tells) (Some (string_bytes text), is, refl)
-report_told what (Ok roster) (Ok NoSuchCrew) (Ok answer) is tells = (None, is.0, subst (λ (w : Show). IsReportOf w None answer) (sym is.1.1) tells)
+report_told what (Ok roster) (Ok (Text text)) told is tells = subst (IsReported roster what) (sym tells) (Ok (string_bytes text), is, refl)
+report_told what (Ok roster) (Ok NoSuchCrew) (Ok answer) is tells = (Err no_crew, is, tells)
 report_told what (Ok roster) (Ok NoSuchCrew) (Err Store) is tells = tells
 report_told what (Ok roster) (Ok NoSuchCrew) (Err Memory) is tells = tt
-report_told what (Ok roster) (Ok NoSuchPairing) (Ok answer) is tells = (None, is.0, subst (λ (w : Show). IsReportOf w None answer) (sym is.1.1) tells)
+report_told what (Ok roster) (Ok NoSuchPairing) (Ok answer) is tells = (Err no_pairing, is, tells)
 report_told what (Ok roster) (Ok NoSuchPairing) (Err Store) is tells = tells
 report_told what (Ok roster) (Ok NoSuchPairing) (Err Memory) is tells = tt
 report_told what (Ok roster) (Err f) told is tells =
@@ -307,12 +298,6 @@ module _ {S : Type 0} (g : Ghosts S) (old new : Kept S) where
 
   -- ---- reports
 
-  is_report : (about : Subject) (shown : Option (List ℕ)) (answer : StatusText) → IsReportOf (show_of about) shown answer → IsReport about shown answer
-  is_report about (Some text) answer is = is
-  is_report (crew id) None answer is = is
-  is_report (pairing id) None answer is = is
-  is_report exceedances None answer is = is
-
   module _ (about : Subject) (calls : IsAfterCalls g old new) where
     module _ (r : Result State StoreFault) (it : HasShown g old new (show_of about) r) where
       kept_so : (told : Result StatusText HandlerFault) → answers_store_fault told ≡ kept.is_store_fault r → HoldsWhateverIsAsked g old new told
@@ -336,7 +321,7 @@ module _ {S : Type 0} (g : Ghosts S) (old new : Kept S) where
       kept = kept_so (Ok roster) it (Ok answer) refl;
       shut = λ f. none_answered roster (it.call.shut f).0;
       done = λ s at. (
-        (λ c. (tells.0, (it.text s at c tells.0).0 tells.1, is_report about tells.0 answer tells.2)),
+        (λ c. (tells.0, (it.text s at c tells.0).0 tells.1, tells.2)),
         ([], refl, (it.call.kept s at, λ t. it.tables s at t)),
       );
     }

@@ -1,22 +1,24 @@
 -- An input has one response in a state.
-use Rattle.std.proofs.Common.{◌≡◌, ◌∙◌, ap, sym, subst, refl, inl, inr, ℕ, Bool, List, Option, Some, None, Result, Ok, Err}
+use Rattle.std.proofs.Common.{◌≡◌, ◌∙◌, ap, sym, subst, refl, inl, inr, ℕ, Bool, List, Option, Result, Ok, Err, IsSome}
+use Rattle.std.proofs.lemmas.Option.{same_Some}
 use Rattle.httparse.proofs.GrammarLemmas.{request_unique}
 use Rattle.codec.proofs.OneReading.{has_no_fault, has_one_fault, is_of_one_list}
 use Rattle.stored_json.specs.declared.fault.CodecFault.TheVariants.{BadCsv}
+use Rattle.limits_report.proofs.OneText.{one_text as one_limits_text}
 use Rattle.report.proofs.OneText.{one_exceedance_text, one_roster}
 use Rattle.roster.specs.Folds.{Replies, import}
 use Rattle.roster.specs.State.{State}
-use Rattle.store.specs.Shown.{IsShown}
+use Rattle.store.specs.Shown.{Absence, no_crew, no_pairing, IsShown}
 use Rattle.http_message.specs.Heading.{heading}
-use Rattle.http_message.specs.Plan.{Planned, Subject, crew, pairing, exceedances, plan_for_head}
+use Rattle.http_message.specs.Plan.{Planned, Subject, crew, limits, pairing, exceedances, plan_for_head}
 use Rattle.http_message.specs.declared.plan.Submission.TheVariants.{Command, Import}
 use Rattle.http_message.specs.declared.refusals.RequestFault.{RequestFault}
 use Rattle.http_exchange.specs.Exchange.{asks}
 use Rattle.http_exchange.specs.Final.{Final, of_answer}
 use Rattle.http_exchange.specs.Handler as http
 use Rattle.http_exchange.specs.Handler.{StatusText, submit}
-use Rattle.web.specs.Acts.{Asks, Commands, IsAnswer, IsReport, show_of}
-use Rattle.web.specs.Answers.{fault_answer, parts_answer}
+use Rattle.web.specs.Acts.{Asks, Commands, IsAnswer, show_of}
+use Rattle.web.specs.Answers.{fault_answer, parts_answer, report_answer}
 use Rattle.web.specs.Laws.{HasOneResponse}
 use Rattle.web.specs.Response.{IsFinal, IsResponseTo, Response}
 
@@ -44,27 +46,39 @@ module _ (s : State) where
   one_schedule_answer number body a b (inr (line, at_fault, told)) (inr (line', at_fault', told')) =
       told ∙ ap (λ n. fault_answer (BadCsv n)) (has_one_fault body line line' at_fault at_fault') ∙ sym told'
 
-  one_text : (what : Subject) (a b : Option (List ℕ)) → IsShown s (show_of what) a → IsShown s (show_of what) b → a ≡ b
-  one_text (crew id) (Some a) (Some b) is is' = ap Some (one_roster s id a b is is')
-  one_text (crew id) (Some a) None is is' = let never = sym is.is_there ∙ is' in absurd cc
-  one_text (crew id) None (Some b) is is' = let never = sym is'.is_there ∙ is in absurd cc
-  one_text (crew id) None None is is' = refl
-  one_text (pairing id) a b is is' = sym is ∙ is'
-  one_text exceedances (Some a) (Some b) is is' = ap Some (one_exceedance_text s a b is is')
-  one_text exceedances (Some a) None is is' = absurd is'
-  one_text exceedances None b is is' = absurd is
-
-  one_report : (what : Subject) (shown : Option (List ℕ)) (a b : StatusText) → IsReport what shown a → IsReport what shown b → a ≡ b
-  one_report what (Some text) a b is is' = is ∙ sym is'
-  one_report (crew id) None a b is is' = is ∙ sym is'
-  one_report (pairing id) None a b is is' = is ∙ sym is'
-  one_report exceedances None a b is is' = absurd is
+  one_text : (what : Subject) (a b : Result (List ℕ) Absence) → IsShown s (show_of what) a → IsShown s (show_of what) b → a ≡ b
+  one_text (crew id) (Ok a) (Ok b) is is' = ap Ok (one_roster s id a b is is')
+  one_text (crew id) (Ok a) (Err no_crew) is is' = let never = sym is.is_there ∙ is' in absurd cc
+  one_text (crew id) (Ok a) (Err no_pairing) is is' = absurd is'
+  one_text (crew id) (Err no_crew) (Ok b) is is' = let never = sym is'.is_there ∙ is in absurd cc
+  one_text (crew id) (Err no_crew) (Err no_crew) is is' = refl
+  one_text (crew id) (Err no_crew) (Err no_pairing) is is' = absurd is'
+  one_text (crew id) (Err no_pairing) b is is' = absurd is
+  one_text (limits id named) (Ok a) (Ok b) is is' = ap Ok (one_limits_text s id named a b is is')
+  one_text (limits id named) (Ok a) (Err no_crew) is is' = let never = sym is.is_there ∙ is' in absurd cc
+  one_text (limits id named) (Ok a) (Err no_pairing) is is' = let never = sym is.are_judged ∙ is'.1 in absurd cc
+  one_text (limits id named) (Err no_crew) (Ok b) is is' = let never = sym is'.is_there ∙ is in absurd cc
+  one_text (limits id named) (Err no_crew) (Err no_crew) is is' = refl
+  one_text (limits id named) (Err no_crew) (Err no_pairing) is is' = let never = subst IsSome is is'.0 in absurd cc
+  one_text (limits id named) (Err no_pairing) (Ok b) is is' = let never = sym is'.are_judged ∙ is.1 in absurd cc
+  one_text (limits id named) (Err no_pairing) (Err no_crew) is is' = let never = subst IsSome is' is.0 in absurd cc
+  one_text (limits id named) (Err no_pairing) (Err no_pairing) is is' = refl
+  one_text (pairing id) (Ok a) (Ok b) is is' = ap Ok (same_Some a b (sym is ∙ is'))
+  one_text (pairing id) (Ok a) (Err no_crew) is is' = absurd is'
+  one_text (pairing id) (Ok a) (Err no_pairing) is is' = let never = sym is ∙ is' in absurd cc
+  one_text (pairing id) (Err no_crew) b is is' = absurd is
+  one_text (pairing id) (Err no_pairing) (Ok b) is is' = let never = sym is ∙ is' in absurd cc
+  one_text (pairing id) (Err no_pairing) (Err no_crew) is is' = absurd is'
+  one_text (pairing id) (Err no_pairing) (Err no_pairing) is is' = refl
+  one_text exceedances (Ok a) (Ok b) is is' = ap Ok (one_exceedance_text s a b is is')
+  one_text exceedances (Ok a) (Err absence) is is' = absurd is'
+  one_text exceedances (Err absence) b is is' = absurd is
 
   one_answer : (asked : http.HandlerRequest) (a b : StatusText) → IsAnswer s asked a → IsAnswer s asked b → a ≡ b
   one_answer (submit Command body) a b is is' = is ∙ sym is'
   one_answer (submit (Import number) body) a b is is' = one_schedule_answer number body a b is is'
   one_answer (http.show what) a b (shown, is, told) (shown', is', told') =
-      one_report what shown' a b (subst (λ t. IsReport what t a) (one_text what shown shown' is is') told) told'
+      told ∙ ap report_answer (one_text what shown shown' is is') ∙ sym told'
 
   -- ---- the response
 

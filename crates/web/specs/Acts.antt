@@ -1,5 +1,5 @@
 -- What a request comes to in a book: the commands that it asks, and what it is answered.
-use Rattle.std.specs.Prelude.{◌≡◌, ◌⊎◌, ⊤, ℕ, List, [], ◌∷◌, Option, Some, None, Result, Ok, Err}
+use Rattle.std.specs.Prelude.{◌≡◌, ◌⊎◌, ⊤, ℕ, List, [], ◌∷◌, Result, Ok, Err}
 use Rattle.duty.specs.Plans.{Plan}
 use Rattle.command.specs.declared.instruction.Instruction.{Instruction}
 use Rattle.stored_json.specs.declared.fault.CodecFault.{CodecFault}
@@ -10,17 +10,17 @@ use Rattle.roster.specs.Folds as folds
 use Rattle.roster.specs.Folds.{Replies, import}
 use Rattle.roster.specs.State.{State}
 use Rattle.roster.specs.Steps.{step_of}
-use Rattle.store.specs.Shown.{IsShown}
+use Rattle.store.specs.Shown.{Absence, IsShown}
 use Rattle.store.specs.declared.show.Show.{Show}
 use Rattle.store.specs.declared.show.Show.TheVariants as show
-use Rattle.http_message.specs.Plan.{Subject, crew, pairing, exceedances}
+use Rattle.http_message.specs.Plan.{Subject, crew, limits, pairing, exceedances}
 use Rattle.http_message.specs.declared.plan.Submission.TheVariants.{Command, Import}
 use Rattle.http_exchange.specs.Handler as http
 use Rattle.http_exchange.specs.Handler.{StatusText, submit}
 use Rattle.http_exchange.specs.declared.handler.HandlerFault.{HandlerFault}
 use Rattle.http_exchange.specs.declared.handler.HandlerFault.TheVariants as fault
 use Rattle.asking.specs.Requests.{asked_as}
-use Rattle.web.specs.Answers.{IsAbsent, command_answer, fault_answer, parts_answer, report_answer}
+use Rattle.web.specs.Answers.{command_answer, fault_answer, parts_answer, report_answer}
 
 -- commands under their keys
 abbrev pub Commands : Type 0
@@ -42,13 +42,9 @@ Asks (http.show what) commands = commands ≡ []
 -- what a book shows for a report
 abbrev pub show_of : Subject → Show
 show_of (crew id) = show.Crew id
+show_of (limits id named) = show.Limits id named
 show_of (pairing id) = show.Pairing id
 show_of exceedances = show.Exceedances
-
--- the text of a report, or that there is none
-abbrev pub IsReport : Subject → Option (List ℕ) → StatusText → Type 0
-IsReport what (Some text) answer = answer ≡ report_answer text
-IsReport what None answer = IsAbsent what answer
 
 module _ (s : State) where
   -- the answer to a body that is read is the book's to its command, and another is told why it isn't
@@ -62,7 +58,8 @@ module _ (s : State) where
   IsAnswer (submit (Import number) body) answer =
       ((plans : List Plan) × IsSchedule body plans × (answer ≡ parts_answer (Replies s (import number plans))))
       ⊎ ((line : ℕ) × IsAtFault body line × (answer ≡ fault_answer (BadCsv line)))
-  IsAnswer (http.show what) answer = (shown : Option (List ℕ)) × IsShown s (show_of what) shown × IsReport what shown answer
+  IsAnswer (http.show what) answer =
+      (shown : Result (List ℕ) Absence) × IsShown s (show_of what) shown × (answer ≡ report_answer shown)
 
 -- ---- a book that has failed
 

@@ -53,6 +53,10 @@ fn subject_of<'a>(report: &Report<'a>) -> Subject<'a>
 {
     match report {
         Report::Crew(id) => Subject::Crew(id),
+        Report::Limits { crew, with } => Subject::Limits {
+            crew: *crew,
+            with: *with,
+        },
         Report::Pairing(id) => Subject::Pairing(id),
         Report::Exceedances => Subject::Exceedances,
     }

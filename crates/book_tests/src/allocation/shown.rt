@@ -1,8 +1,9 @@
-//! All that a book shows of two members and two pairings, and its exceedances, as one text.
+//! All that a book shows of two members and two pairings, a member's limits, and its exceedances, as one text.
 
 use crate::fault::Untold;
 use book::{Book, Show};
 use duty::{CrewId, PairingId};
+use limits_report::limits_text;
 use report::{exceedance_text, pairing_text, roster_text};
 use sqlite::Alter;
 use std::alloc::Global;
@@ -12,13 +13,15 @@ use values::Text;
 #[derive(Clone, Copy)]
 enum Report {
     Member(&'static str),
+    Limits(&'static str, &'static str),
     Pairing(&'static str),
     Exceedances,
 }
 
-const REPORTS: [Report; 5] = [
+const REPORTS: [Report; 6] = [
     Report::Member("C1"),
     Report::Member("F1"),
+    Report::Limits("C1", "P20"),
     Report::Pairing("P10"),
     Report::Pairing("P20"),
     Report::Exceedances,
@@ -28,6 +31,10 @@ const REPORTS: [Report; 5] = [
 fn show_of(alloc: Global, report: Report) -> Result<Show, Untold> {
     Ok(match report {
         Report::Member(id) => Show::Crew(CrewId::new(Text::new(String::from_str(alloc, id)?))),
+        Report::Limits(id, with) => Show::Limits {
+            crew: CrewId::new(Text::new(String::from_str(alloc, id)?)),
+            with: Some(PairingId::new(Text::new(String::from_str(alloc, with)?))),
+        },
         Report::Pairing(id) => {
             Show::Pairing(PairingId::new(Text::new(String::from_str(alloc, id)?)))
         }
@@ -42,6 +49,7 @@ fn text_of<S: Alter>(alloc: Global, book: &mut Book<S>, what: &Show) -> Result<S
     };
     let text = match what {
         Show::Crew(who) => roster_text(alloc, &roster, who),
+        Show::Limits { crew, with } => limits_text(alloc, &roster, crew, with.as_ref()),
         Show::Pairing(id) => pairing_text(alloc, &roster, id),
         Show::Exceedances => exceedance_text(alloc, &roster),
     };

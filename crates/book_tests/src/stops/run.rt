@@ -126,7 +126,13 @@ fn shows_nothing<S: Alter>(alloc: Global, book: &mut Book<S>) -> Result<bool, Un
     let shows_no_crew = shows_no(alloc, book, Show::Crew(crew));
     let pairing = PairingId::new(Text::new(String::from_str(alloc, "P10")?));
     let shows_no_pairing = shows_no(alloc, book, Show::Pairing(pairing));
-    Ok(shows_no_crew && shows_no_pairing && shows_no(alloc, book, Show::Exceedances))
+    let limits = Show::Limits {
+        crew: CrewId::new(Text::new(String::from_str(alloc, "C1")?)),
+        with: None,
+    };
+    let shows_no_limits = shows_no(alloc, book, limits);
+    let shows_no_exceedances = shows_no(alloc, book, Show::Exceedances);
+    Ok(shows_no_crew && shows_no_limits && shows_no_pairing && shows_no_exceedances)
 }
 
 /// Whether each command is answered 90.

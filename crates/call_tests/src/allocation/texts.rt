@@ -7,6 +7,7 @@ use crate::requests::{REQUESTS, requests};
 use codec::schedule_of_csv;
 use command::Command;
 use duty::{CrewId, Pairing, PairingId};
+use limits_report::limits_text;
 use report::{ReportFault, exceedance_text, pairing_text, roster_text};
 use roster::Roster;
 use std::alloc::Global;
@@ -45,10 +46,11 @@ pub fn canonical(alloc: Global, told: &mut Told) -> Result<String, Fault> {
 
 // ---- Reports.
 
-/// One of the three reports.
+/// One of the four reports.
 #[derive(Clone, Copy)]
 enum Report<'a> {
     Member(&'a CrewId),
+    Limits(&'a CrewId),
     Pairing(&'a PairingId),
     Exceedances,
 }
@@ -56,6 +58,7 @@ enum Report<'a> {
 fn report_once(alloc: Global, roster: &Roster, report: Report<'_>) -> Result<String, ReportFault> {
     match report {
         Report::Member(who) => roster_text(alloc, roster, who),
+        Report::Limits(who) => limits_text(alloc, roster, who, None),
         Report::Pairing(id) => pairing_text(alloc, roster, id),
         Report::Exceedances => exceedance_text(alloc, roster),
     }
@@ -85,6 +88,7 @@ fn reports(alloc: Global, told: &mut Told, roster: &Roster) -> Result<String, Fa
     let mut text = String::new(alloc);
     for (who, _member) in roster.crew.iter() {
         add_report(alloc, told, roster, Report::Member(who), &mut text)?;
+        add_report(alloc, told, roster, Report::Limits(who), &mut text)?;
     }
     for (id, _rostered) in roster.pairings.iter() {
         add_report(alloc, told, roster, Report::Pairing(id), &mut text)?;

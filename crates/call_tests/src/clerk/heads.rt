@@ -36,6 +36,16 @@ GET //crew/C9 HTTP/1.1|Host: x|| => 404 0
 GET /crew/C9/x HTTP/1.1|Host: x|| => 404 0 
 GET /exceedances/ HTTP/1.1|Host: x|| => 404 0 
 GET /pairings/P1 HTTP/1.1|Host: x|Content-Length: 3||abc => 200 3 pairing P1
+GET /reports/limits/C1 HTTP/1.1|Host: x|| => 200 0 limits C1
+HEAD /reports/limits/C1/P1 HTTP/1.1|Host: x|| => 200 0 limits C1 with P1
+GET /reports/limits/%20/é?with=P2 HTTP/1.1|Host: x|| => 200 0 limits %20 with é
+GET /reports/limits HTTP/1.1|Host: x|| => 404 0 
+GET /reports/limits/ HTTP/1.1|Host: x|| => 404 0 
+GET /reports/limits//P1 HTTP/1.1|Host: x|| => 404 0 
+GET /reports/limits/C1/ HTTP/1.1|Host: x|| => 404 0 
+GET /reports/limits/C1/P1/ HTTP/1.1|Host: x|| => 404 0 
+GET /reports/limits/C1/P1/2 HTTP/1.1|Host: x|| => 404 0 
+POST /reports/limits/C1/P1 HTTP/1.1|Host: x|| => 405 0 
 get /exceedances HTTP/1.1|Host: x|| => 405 0 
 POST /crew/C9 HTTP/1.1|Host: x|| => 405 0 
 GET /imports/1 HTTP/1.1|Host: x|| => 405 0 

@@ -42,6 +42,10 @@ fn noted(alloc: Global, request: &Request<'_>) -> Result<String, AllocError> {
         Request::Show(Report::Crew(id)) => format!(in alloc; "crew {id}"),
         Request::Show(Report::Pairing(id)) => format!(in alloc; "pairing {id}"),
         Request::Show(Report::Exceedances) => String::from_str(alloc, "exceedances"),
+        Request::Show(Report::Limits { crew, with }) => match with {
+            Some(pairing) => format!(in alloc; "limits {crew} with {pairing}"),
+            None => format!(in alloc; "limits {crew}"),
+        },
     }
 }
 

@@ -6,6 +6,7 @@ use Rattle.clap.specs.declared.error.kind.ErrorKind.TheVariants.{ValueValidation
 use Rattle.console.specs.CommandLine.{last_number, last_port, most_connections, one, whole}
 use Rattle.console.specs.Plain.{is_plain}
 use Rattle.console.proofs.DutyLine.{duty_found, duty_passes}
+use Rattle.console.proofs.LimitsLine.{limits_found, limits_level}
 use Rattle.console.proofs.NumberRead.{fails_alone, number_fails, number_passes, passes_alone}
 use Rattle.console.proofs.PlainLine.{line_read, line_refused, plain_read, plain_refused}
 use Rattle.console.proofs.ServeLine.{both_kinds, either_fails, serve_found, serve_level}
@@ -44,6 +45,13 @@ returns-clause-roster c file crew is plain =
 pub returns-clause-pairing : goal.returns-clause-pairing
 returns-clause-pairing c file id is plain =
     plain_read _ _ c.read.ensures.ok c.read.ensures.refused _ _ is refl _ plain refl refl
+
+pub returns-clause-limits : goal.returns-clause-limits
+returns-clause-limits c file crew None is plain id_plain =
+    plain_read _ _ c.read.ensures.ok c.read.ensures.refused _ _ is refl _ plain refl refl
+returns-clause-limits c file crew (Some id) is plain id_plain =
+    line_read _ _ c.read.ensures.ok c.read.ensures.refused _ _ is refl _ (limits_level file crew id plain id_plain)
+    (limits_found file crew id plain id_plain)
 
 pub returns-clause-exceedances : goal.returns-clause-exceedances
 returns-clause-exceedances c file is plain =

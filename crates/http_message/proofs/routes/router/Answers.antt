@@ -9,4 +9,6 @@ returns c =
     let d = c.in_ok-insert-3.ensures in
     let e = c.in_ok-insert-4.ensures in
     let f = c.in_ok-insert-5.ensures in
-    rw (e.1, d.1, b.1, a.1, c.new-router.ensures) at f.1
+    let g = c.in_ok-insert-6.ensures in
+    let h = c.in_ok-insert-7.ensures in
+    rw (g.1, f.1, e.1, d.1, b.1, a.1, c.new-router.ensures) at h.1

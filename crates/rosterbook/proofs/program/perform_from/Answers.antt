@@ -35,12 +35,25 @@ returns-in-Roster-clause-by_files g c =
     c.finish-in-Roster.ensures.done c.finish-in-Roster.ensures.failed
     (IfOk-weaker c.answer_roster.result.done _ _ (λ status told _. rw c.in-Roster.is (rw c.deref-in-Roster-2.ensures at told)) c.answer_roster.ensures.done)
 
+pub returns-in-Limits-clause-by_files : goal.returns-in-Limits-clause-by_files
+returns-in-Limits-clause-by_files g c =
+    performed_so _ c.answer_limits.result.left c.finish-in-Limits.result.left c.finish-in-Limits.ensures.left g.E.Write.contents c.args.action.now _ _ _ _ c.answer_limits.result.done _ c.answer_limits.new.err _
+    c.finish-in-Limits.ensures.done c.finish-in-Limits.ensures.failed
+    (IfOk-weaker c.answer_limits.result.done _ _ (λ status told _. rw c.in-Limits.is (rw (c.deref-in-Limits-2.ensures, c.as_deref.ensures.value) at told)) c.answer_limits.ensures.done)
+
 pub returns-in-Roster-clause-refused : goal.returns-in-Roster-clause-refused
 returns-in-Roster-clause-refused g c =
     refused_finished _ c.answer_roster.result.left c.finish-in-Roster.result.left c.finish-in-Roster.ensures.left c.answer_roster.result.refused c.finish-in-Roster.result.refused c.answer_roster.result.done _ _ _ _ _ (g.E.Write.contents c.answer_roster.new.err) _
     c.finish-in-Roster.ensures.refused c.answer_roster.ensures.refused
     (λ none. let un = c.answer_roster.ensures.unopened none in (ap g.O.Write.contents un.1, ap g.E.Write.contents un.2))
     c.finish-in-Roster.ensures.failed c.finish-in-Roster.ensures.told
+
+pub returns-in-Limits-clause-refused : goal.returns-in-Limits-clause-refused
+returns-in-Limits-clause-refused g c =
+    refused_finished _ c.answer_limits.result.left c.finish-in-Limits.result.left c.finish-in-Limits.ensures.left c.answer_limits.result.refused c.finish-in-Limits.result.refused c.answer_limits.result.done _ _ _ _ _ (g.E.Write.contents c.answer_limits.new.err) _
+    c.finish-in-Limits.ensures.refused c.answer_limits.ensures.refused
+    (λ none. let un = c.answer_limits.ensures.unopened none in (ap g.O.Write.contents un.1, ap g.E.Write.contents un.2))
+    c.finish-in-Limits.ensures.failed c.finish-in-Limits.ensures.told
 
 pub returns-in-Pairing-clause-by_files : goal.returns-in-Pairing-clause-by_files
 returns-in-Pairing-clause-by_files g c =
@@ -115,6 +128,9 @@ returns-in-Import-clause-session g c = rw (c.in-Import.is, c.finish-in-Import.en
 
 pub returns-in-Roster-clause-session : goal.returns-in-Roster-clause-session
 returns-in-Roster-clause-session g c = rw (c.in-Roster.is, c.finish-in-Roster.ensures.left) c.answer_roster.ensures.session
+
+pub returns-in-Limits-clause-session : goal.returns-in-Limits-clause-session
+returns-in-Limits-clause-session g c = rw (c.in-Limits.is, c.finish-in-Limits.ensures.left) c.answer_limits.ensures.session
 
 pub returns-in-Pairing-clause-session : goal.returns-in-Pairing-clause-session
 returns-in-Pairing-clause-session g c = rw (c.in-Pairing.is, c.finish-in-Pairing.ensures.left) c.answer_pairing.ensures.session

@@ -1,8 +1,8 @@
-use Rattle.std.proofs.Common.{subst, ℕ, List, Option, IfOk}
+use Rattle.std.proofs.Common.{subst, ℕ, List, Result, IfOk}
 use Rattle.std.specs.Prelude.{◌↔◌}
 use Rattle.sqlite.specs.Held.{state}
 use Rattle.roster.specs.State.{State}
-use Rattle.store.specs.Shown.{IsShown}
+use Rattle.store.specs.Shown.{Absence, IsShown}
 use Rattle.lookup.proofs.Changes.{nothing_changes}
 use Rattle.book.proofs.Asked.{read_fault, shown_on, shows_it}
 use Rattle.book.proofs.States.{same_state, still_keeps}
@@ -25,7 +25,7 @@ returns-clause-text g c = rw (← c.self.view_is) (λ s at clean.
     let one = c.self.invariant.1 c.if-self.false in
     let before = c.shown-shown.ensures.unchanged.nothing_new.disk clean in
     let same = same_state (state g.S.Store c.self.inside.store) one.it s one.keeps at before in
-    subst (λ (x : State). IfOk c.shown-shown.result (λ roster. (shown : Option (List ℕ)) → IsShown roster c.args.what.now shown ↔ IsShown x c.args.what.now shown)) same
+    subst (λ (x : State). IfOk c.shown-shown.result (λ roster. (shown : Result (List ℕ) Absence) → IsShown roster c.args.what.now shown ↔ IsShown x c.args.what.now shown)) same
     (c.shown-shown.ensures.text one.it (shows_it (state g.S.Store c.self.inside.store) one.it one.keeps one.shown before) clean))
 
 pub returns-clause-kept : goal.returns-clause-kept

@@ -7,7 +7,7 @@ use Rattle.store.specs.Shown.{shown_part}
 use Rattle.store.proofs.Parting.{is_told, read_fault}
 use Rattle.store.proofs.ShownLemmas.{texts_shown}
 use Rattle.store.proofs.store.Store.shown.Goals as goal
-use Rattle.store.proofs.store.Store.shown.Goals.{in-Crew, in-Pairing, in-Exceedances}
+use Rattle.store.proofs.store.Store.shown.Goals.{in-Crew, in-Limits, in-Pairing, in-Exceedances}
 
 pub returns-clause-part : goal.returns-clause-part
 returns-clause-part g c =
@@ -15,6 +15,7 @@ returns-clause-part g c =
     let new = state g.S.Store c.match-what.self in
     let told : HasCleanDisk new → (s : State) → Shows old s → IfOk c.match-what.shown (λ roster. Shows new s × (roster ≡ shown_part s c.args.what.now)) = elim c.match-what.branch [
       | in-Crew w ↦ rw (w.shown-is, w.self-is, w.in-Crew.is) w.gather_member-shown.ensures.told.1
+      | in-Limits w ↦ rw (w.shown-is, w.self-is, w.in-Limits.is) (rw w.as_ref.ensures.value at w.gather_limits-shown.ensures.told.1)
       | in-Pairing w ↦ rw (w.shown-is, w.self-is, w.in-Pairing.is) w.gather_pairing-shown.ensures.told.1
       | in-Exceedances w ↦ rw (w.shown-is, w.self-is, w.in-Exceedances.is) w.gather_exceedances-shown.ensures.told.1
     ] in
@@ -28,6 +29,7 @@ returns-clause-caused g c =
     let old = state g.S.Store c.args.self.now in
     let caused : IfErr c.match-what.shown (IsReadFault old (state g.S.Store c.match-what.self)) = elim c.match-what.branch [
       | in-Crew w ↦ rw (w.shown-is, w.self-is) (read_fault _ old (state g.S.Store w.gather_member-shown.new.source) w.gather_member-shown.result w.gather_member-shown.ensures.caused)
+      | in-Limits w ↦ rw (w.shown-is, w.self-is) (read_fault _ old (state g.S.Store w.gather_limits-shown.new.source) w.gather_limits-shown.result w.gather_limits-shown.ensures.caused)
       | in-Pairing w ↦ rw (w.shown-is, w.self-is) (read_fault _ old (state g.S.Store w.gather_pairing-shown.new.source) w.gather_pairing-shown.result w.gather_pairing-shown.ensures.caused)
       | in-Exceedances w ↦ rw (w.shown-is, w.self-is) (read_fault _ old (state g.S.Store w.gather_exceedances-shown.new.source) w.gather_exceedances-shown.result w.gather_exceedances-shown.ensures.caused)
     ] in
