@@ -85,6 +85,31 @@ ROSTER C1 captain Ada Ray
 2025-06-20T12:00Z 2025-06-20T13:00Z ground G1 Simulator
 """
 
+LIMITS = """\
+LIMITS C1 captain Ada Ray
+117.11(a)(1) 7:30 of 9:00 P4/1 within
+117.13(a) 14:30 of 14:00 P1/1 exceeds
+117.23(b)(1) 10:00 of 100:00 from 2025-05-20T19:30Z within
+117.23(b)(2) 10:00 of 1000:00 from 2024-06-18T00:00Z within
+117.23(c)(1) 14:30 of 60:00 from 2025-06-04T01:30Z within
+117.23(c)(2) 23:00 of 190:00 from 2025-05-20T19:30Z within
+117.25(b) 153:00 of 30:00 P4/1 within
+117.25(e) 153:00 of 10:00 P4/1 within
+"""
+
+# P2 begins nine hours after C1 is released from P1.
+WITH_P2 = """\
+LIMITS C1 captain Ada Ray with P2
+117.11(a)(1) 2:00 of 9:00 P2/1 within
+117.13(a) 3:00 of 14:00 P2/1 within
+117.23(b)(1) 12:00 of 100:00 from 2025-05-20T19:30Z within
+117.23(b)(2) 12:00 of 1000:00 from 2024-06-18T00:00Z within
+117.23(c)(1) 17:30 of 60:00 from 2025-06-04T14:00Z within
+117.23(c)(2) 26:00 of 190:00 from 2025-05-20T19:30Z within
+117.25(b) 140:30 of 30:00 P4/1 within
+117.25(e) 9:00 of 10:00 P2/1 exceeds
+"""
+
 PAIRING = """\
 PAIRING P1
 captain C1
@@ -212,12 +237,15 @@ CASES = {
     "roster_of_a_base": Call("roster BOOK C9", "", Ran(0, AT_DENVER, "")),
     "roster_with_outside": Call("roster BOOK F1", "", Ran(0, OUTSIDE_TOO, "")),
     "roster_of_version_1": Call("roster BOOK C1", "", Ran(0, ROSTER, ""), is_first=True),
+    "limits": Call("limits BOOK C1", "", Ran(0, LIMITS, "")),
+    "limits_with": Call("limits BOOK C1 --with P2", "", Ran(0, WITH_P2, "")),
     "pairing": Call("pairing BOOK P1", "", Ran(0, PAIRING, "")),
     "exceedances": Call("exceedances BOOK", "", Ran(0, EXCEEDANCES, "")),
     "duty": Call(PERIOD, "", Ran(0, WITHIN, ""), stride=5),
     "serve_accepted": Exchange(request_of("20 assign P3 C1"), response(200, ACCEPTED)),
     "serve_refused": Exchange(request_of("20 assign P2 C1"), response(409, TOO_SOON)),
     "serve_roster": Exchange(get("/crew/C1"), response(200, ROSTER)),
+    "serve_limits": Exchange(get("/reports/limits/C1/P2"), response(200, WITH_P2)),
 }
 
 # ---- How it is tried.

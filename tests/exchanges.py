@@ -179,6 +179,10 @@ ANSWERS = [
     (get("/crew/C234567890123"), NO_CREW),
     (get("/pairings/P9"), NO_PAIRING),
     (get("/pairings/p9"), NO_PAIRING),
+    (get("/reports/limits/C9"), NO_CREW),
+    (get("/reports/limits/c9"), NO_CREW),
+    (get("/reports/limits/C9/P9"), NO_CREW),
+    (get("http://a.b/reports/limits/C9/P9?x=/y"), NO_CREW),
     (get("/"), 404),
     (get("/crew"), 404),
     (get("/crew/"), 404),
@@ -186,6 +190,14 @@ ANSWERS = [
     (get("//crew/C9"), 404),
     (get("/exceedances/"), 404),
     (get("/Exceedances"), 404),
+    (get("/reports"), 404),
+    (get("/reports/limits"), 404),
+    (get("/reports/limits/"), 404),
+    (get("/reports/limits/C9/"), 404),
+    (get("/reports/limits//P9"), 404),
+    (get("/reports/limits/C9/P9/"), 404),
+    (get("/reports/limits/C9/P9/1"), 404),
+    (get("/reports/crew/C9"), 404),
     (post("/imports/0", HEADER), 404),
     (post("/imports/01", HEADER), 404),
     (post("/imports/+1", HEADER), 404),
@@ -222,6 +234,9 @@ OTHER_METHODS = [
     ("/crew/C1", "get", "GET, HEAD"),
     ("/pairings/B101", "DELETE", "GET, HEAD"),
     ("/exceedances", "OPTIONS", "GET, HEAD"),
+    ("/reports/limits/C1", "POST", "GET, HEAD"),
+    ("/reports/limits/C1/B101", "POST", "GET, HEAD"),
+    ("/reports/limits/C1/B101", "head", "GET, HEAD"),
 ]
 
 # What is ended after each of its bytes but the last, and how it is answered whole.
@@ -267,6 +282,7 @@ TORN = "\ufeff" + HEADER.replace("\n", "\r\n") + "P1,1,2025-06-10T11:00Z,2025-06
 
 HOUR = [
     ("GET /crew/C1", NO_CREW),
+    ("GET /reports/limits/C1", NO_CREW),
     ("1 hire C1 captain: Ada Ray", (200, ACCEPTED)),
     ("2 hire F1 first-officer: Zoë Roy", (200, ACCEPTED)),
     ("1 hire C1 captain: Ada Ray", (200, ACCEPTED)),
@@ -281,6 +297,34 @@ HOUR = [
     (("/imports/7", JUNE.replace("B103,2", "B103,3")), (422, refused(30, "BadCsv", line=7))),
     ("4 assign B101 C1", (200, ACCEPTED)),
     ("5 assign B101 F1", (200, ACCEPTED)),
+    # B101 is the one duty of C1. It reports at 13:00 in the zone of the book, and is on blocks at 00:45Z, by which each window ends.
+    ("GET /reports/limits/C1", (200, """\
+LIMITS C1 captain Ada Ray
+117.11(a)(1) 3:30 of 9:00 B101/1 within
+117.13(a) 7:45 of 12:00 B101/1 within
+117.23(b)(1) 3:30 of 100:00 from 2025-05-14T00:45Z within
+117.23(b)(2) 3:30 of 1000:00 from 2024-06-12T00:00Z within
+117.23(c)(1) 7:45 of 60:00 from 2025-06-04T00:45Z within
+117.23(c)(2) 7:45 of 190:00 from 2025-05-14T00:45Z within
+117.25(b) 168:00 of 30:00 B101/1 within
+117.25(e) 168:00 of 10:00 B101/1 within
+""")),
+    # With B102, which reports at 06:45 there, nine hours and a half after B101 is released, and is on blocks at 19:00Z.
+    ("GET /reports/limits/C1/B102", (200, """\
+LIMITS C1 captain Ada Ray with B102
+117.11(a)(1) 3:30 of 9:00 B102/1 within
+117.13(a) 8:15 of 13:00 B102/1 within
+117.23(b)(1) 7:00 of 100:00 from 2025-05-14T19:00Z within
+117.23(b)(2) 7:00 of 1000:00 from 2024-06-12T00:00Z within
+117.23(c)(1) 16:00 of 60:00 from 2025-06-04T19:00Z within
+117.23(c)(2) 16:00 of 190:00 from 2025-05-14T19:00Z within
+117.25(b) 150:15 of 30:00 B102/1 within
+117.25(e) 9:30 of 10:00 B102/1 exceeds
+""")),
+    ("GET /reports/limits/C1/B999", NO_PAIRING),
+    ("GET /reports/limits/C1/b102", NO_PAIRING),
+    ("GET /reports/limits/C9/B102", NO_CREW),
+    ("GET /reports/limits/C9/B999", NO_CREW),
     ("6 assign B102 C1", (409, refused(12, "Limits", limits=[{"crew": "C1", "section": "117.25(e)"}]))),
     ("6 assign B103 C9", (409, refused(2, "NoSuchCrew"))),
     ("GET /pairings/B102", (200, """\

@@ -237,7 +237,7 @@ def tree(folder):
 
 def try_names(office):
     named, page = of_help(), text(MANUAL)
-    office.expect("--help has all subcommands", len(named.arguments) >= 8 and all(named.options.values()), True)
+    office.expect("--help has all subcommands", len(named.arguments) >= 9 and all(named.options.values()), True)
     options = lambda name: " [OPTIONS]" if set(named.options[name]) - {*OF_ALL} else ""
     usage = [" ".join([f"rosterbook {name}{options(name)}", *words]) for name, words in named.arguments.items()]
     office.expect("the synopsis", of_synopsis(page), usage)
@@ -294,12 +294,14 @@ def try_bash(office, folder, wanted_zones):
     for name in names:
         first = wanted_zones if name == "duty" else ["book.db", "folder"]
         office.expect(f"{name} and a blank", sorted(ask(name, "")), sorted(first))
-        more = ["--connections"] if name == "serve" else []
+        more = {"limits": ["--with"], "serve": ["--connections"]}.get(name, [])
         office.expect(f"{name} -", ask(name, "-"), [*more, *options])
     office.expect("init FILE", ask("init", "new.db", "M"), [it for it in wanted_zones if it.startswith("M")])
     office.expect("a third word of init", ask("init", "new.db", "UTC0", ""), [])
     office.expect("serve --connections 9", sorted(ask("serve", "--connections", "9", "")), ["book.db", "folder"])
     office.expect("serve --connections", ask("serve", "--connections", ""), [])
+    office.expect("limits --with B102", sorted(ask("limits", "--with", "B102", "")), ["book.db", "folder"])
+    office.expect("limits --with", ask("limits", "--with", ""), [])
     office.expect("a port", ask("serve", "book.db", ""), [])
     office.expect("no subcommand", ask("rest", ""), [])
     said = subprocess.run(["bash", "-c", f"source {TOP / BASH} && complete -p rosterbook"], capture_output=True, text=True).stdout
@@ -320,6 +322,8 @@ def try_zsh(office, folder):
         ("do bo", "do book.db "),
         ("serve --c", "serve --connections "),
         ("serve --connections 9 bo", "serve --connections 9 book.db "),
+        ("limits --w", "limits --with "),
+        ("limits --with B102 bo", "limits --with B102 book.db "),
         ("do book.db --h", "do book.db --help "),
         ("--v", "--version "),
         ("rest b", "rest b"),

@@ -7,8 +7,10 @@ Tables A and B are asked of `duty`, at the first and the last minute of each row
 what they give. Then members fly, train, fly for another certificate holder and are assigned pairings at times without a pattern, and each
 answer of `do` is compared with a count, minute by minute, of docs/RULES.md ("The eight limits"): duties overlap, touch, begin at minute 0
 and run for days, what was flown for another holder is recorded late and anew, and some members have no pairing at first. The members
-belong to three bases, and some books are of a week in which daylight saving time begins at one of these. The times are the same in each
-run. What differs is told on standard error. The last line is 'N passed, M failed', and the exit status 1 where M isn't 0.
+belong to three bases, and some books are of a week in which daylight saving time begins at one of these. In between, what `limits` prints
+of a member, with a pairing or without one, is compared with such a count of what is nearest to each limit (docs/FORMATS.md, "Limits"). The
+times are the same in each run. What differs is told on standard error. The last line is 'N passed, M failed', and the exit status 1 where M
+isn't 0.
 """
 
 import shutil
@@ -187,17 +189,23 @@ def days(found):
     return [found[first : first + DAY] for first in range(0, len(found), DAY)]
 
 
-def is_over(held, new, width, most):
-    """Whether some window of this width, of minutes or of days, meets a new minute and holds more than `most`. Of each minute or day it
-    is told how many minutes it holds, and with 1 or 0 whether it has a new one."""
-    if 1 not in new or sum(held) <= most:
-        return False
+def fullest(held, new, width):
+    """The most that a window of this width, of minutes or of days, holds of those that meet a new minute, and where the first one that
+    holds as much begins. Of each minute or day it is told how many minutes it holds, and with 1 or 0 whether it has a new one; some has."""
     first, end = max(new.find(1) - width, 0), new.rfind(1) + 1 + width  # of all windows that meet a new minute
     sums = []
     for found in (held[first:end], new[first:end]):
         before = list(accumulate(chain(repeat(0, width), found, repeat(0, width)), initial=0))
-        sums.append(map(sub, before[width:], before))
-    return max(compress(*sums), default=0) > most
+        sums.append(list(map(sub, before[width:], before)))
+    most, place = max(compress(*sums)), -1
+    while place < 0 or not sums[1][place]:
+        place = sums[0].index(most, place + 1)
+    return most, first - width + place
+
+
+def is_over(held, new, width, most):
+    """Whether some window of this width meets a new minute and holds more than `most`."""
+    return 1 in new and sum(held) > most and fullest(held, new, width)[0] > most
 
 
 def before(found, report, width):
@@ -249,6 +257,97 @@ def overlap(new_duties, others):
     end = max(last for duty in [*new_duties, *others] for _, last in duty_spans(duty))
     one, other = (int.from_bytes(minutes(duties, duty_spans, end), "big") for duties in (new_duties, others))
     return one & other != 0
+
+
+# ---- What is nearest to each limit, of a history: a list of duties with their names, in order.
+
+
+@dataclass(frozen=True)
+class Nearest:
+    """What is nearest to a limit: how much of how much there is, where, if it is anywhere, and whether that exceeds the limit; and whether
+    it is the first of several that are as near."""
+
+    amount: str
+    where: str = ""
+    is_over: bool = False
+    is_of_several: bool = False
+
+    @property
+    def line(self):
+        return f"{self.amount}{self.where} {'exceeds' if self.is_over else 'within'}"
+
+
+def length_of(minutes, limit):
+    return f"{clock(minutes)} of {clock(limit)}"
+
+
+def first_of_least(rows, otherwise):
+    """The first period with the least left to a limit. A row has what is left, how much of how much there is, and the period's name."""
+    if not rows:
+        return Nearest(otherwise)
+    left, amount, name = min(rows, key=lambda row: row[0])
+    return Nearest(amount, f" {name}", left < 0, [row[0] for row in rows].count(left) > 1)
+
+
+def of_table(periods, measure):
+    """What is nearest to a table, of periods with their names. Of a period it is measured what the table counts and what it gives."""
+    measured = [(*measure(period), name) for name, period in periods if period.starts is not None]
+    return first_of_least([(given - counted, length_of(counted, given), name) for counted, given, name in measured], "-")
+
+
+def of_rests(periods, rest, least):
+    """The period with the least rest, of those with their names and the minutes before the report, where so much is wanted."""
+    measured = [(rest(held), name) for name, held in periods]
+    return first_of_least([(found - least, length_of(found, least), name) for found, name in measured], f"- of {clock(least)}")
+
+
+def of_windows(held, new, width, most, instant_of):
+    """The window of this width that holds the most, of those that meet a new minute, where `most` is allowed. Of the minute or the day with
+    which it begins it is told the instant."""
+    if 1 not in new:
+        return Nearest(length_of(0, most))
+    found, start = fullest(held, new, width)
+    return Nearest(length_of(found, most), f" from {instant_of(start)}", found > most)
+
+
+def longest_rest(held):
+    """How many of these minutes in a row are without duty, at most."""
+    return max(len(run) for run in held.split(b"\1"))
+
+
+def rest_at_the_end(held):
+    """How many of these minutes are without duty, back from the last one."""
+    return len(held) - len(held.rstrip(b"\0"))
+
+
+def nearest(new, others, base, first):
+    """What is nearest to each limit, in order, of what new duties of a member of this base touch, beside the others: both with their names.
+    Minutes are counted from this one after 2000-01-01T00:00Z on."""
+    new_duties = [duty for _, duty in new]
+    duties = [*(duty for _, duty in others), *new_duties]
+    end = max((last for duty in duties for _, last in duty_spans(duty)), default=0)
+    flight, period, duty = (minutes(duties, spans, end) for spans in (flight_spans, period_spans, duty_spans))
+    new_flight, new_period, new_duty = (minutes(new_duties, spans, end) for spans in (flight_spans, period_spans, duty_spans))
+    old_periods, new_periods = ([(name, it) for name, it in some if isinstance(it, Period)] for some in (others, new))
+
+    def before_reports(width):
+        """The 168 hours before the report of each period that is new, or that has new duty minutes in the last `width` of them."""
+        touched = [(name, it) for name, it in old_periods if 1 in before(new_duty, it.report, width)]
+        return [(name, before(duty, it.report, 168 * 60)) for name, it in touched + new_periods]
+
+    at_minute = lambda minute: instant(first + minute) if first + minute >= 0 else "before 2000-01-01T00:00Z"
+    at_day = lambda day: at_minute(day * DAY)
+    flown_days, new_days = [day.count(1) for day in days(flight)], bytes(1 in day for day in days(new_flight))
+    return (
+        of_table(new_periods, lambda it: (sum(last - out for out, last in it.segments), table_a(it.starts[base]))),
+        of_table(new_periods, lambda it: (it.last_in - it.report, table_b(it.starts[base], len(it.segments)))),
+        of_windows(flight, new_flight, 672 * 60, 100 * 60, at_minute),
+        of_windows(flown_days, new_days, 365, 1_000 * 60, at_day),
+        of_windows(period, new_period, 168 * 60, 60 * 60, at_minute),
+        of_windows(period, new_period, 672 * 60, 190 * 60, at_minute),
+        of_rests(before_reports(168 * 60), longest_rest, 30 * 60),
+        of_rests(before_reports(10 * 60), rest_at_the_end, 10 * 60),
+    )
 
 
 # ---- Books of members who fly, train and are assigned pairings at times without a pattern.
@@ -316,6 +415,26 @@ class Model:
         periods += [period for name, (who, period) in self.outsides.items() if who == member and name != outside]
         return periods + [training for who, training in self.trainings if who == member]
 
+    def named(self, pairing):
+        """The periods of a pairing, with their names."""
+        return [(f"{pairing}/{number}", period) for number, period in enumerate(self.pairings[pairing], 1)]
+
+    def held(self, member):
+        """The pairings that a member holds."""
+        return [name for name, crew in self.seats.items() if member in crew]
+
+    def history(self, member, pairing=None):
+        """The member's duties with their names, in the order of a history, without the periods of a pairing."""
+        periods = [period for name in sorted(self.held(member)) if name != pairing for period in self.named(name)]
+        grounds = [("a ground duty", training) for who, training in self.trainings if who == member]
+        outsides = [(f"outside {name}", period) for name, (who, period) in sorted(self.outsides.items()) if who == member]
+        return periods + grounds + outsides
+
+    def nearest(self, member, pairing, first):
+        """What is nearest to each limit of a member, without a pairing or as if the member held it."""
+        new, others = (self.history(member), []) if pairing is None else (self.named(pairing), self.history(member, pairing))
+        return nearest(new, others, BASES[member], first)
+
     def without_outsides(self):
         """A model of the same book without its outside periods."""
         return Model({name: list(its) for name, its in self.pairings.items()}, self.seats, self.trainings)
@@ -378,6 +497,12 @@ def short_period(first, report, segments):
     return Period(clocks(first + report), report, times, report + segments)
 
 
+def two_short_periods(draws, scale):
+    """A short period, and another one a day later."""
+    report = draws.below(scale.horizon) * scale.grid
+    return [short_period(scale.first, time, draws.below(3) + 1) for time in (report, report + DAY)]
+
+
 def written(period, at):
     """The times of a period, as an actual has them."""
     segments = [{"out": at(block_out), "in": at(block_in)} for block_out, block_in in period.segments]
@@ -399,7 +524,16 @@ CLOCK = "a flown period exceeds other tables by HOME's clock"
 OUTSIDE = "another answer than without outside periods"
 OWN = "an outside period breaks a section"
 ANEW = "an outside period takes the place of an earlier one, and other sections are told"
-COUNTED = (*SECTIONS, CLOCK, OUTSIDE, OWN, ANEW)
+LIMITS = tuple(f"the limits: {section} {word}" for section in SECTIONS for word in ("within", "exceeds"))
+ALL = "the limits: of all duties of a member"
+HELD = "the limits: with a pairing that the member holds"
+NOT_HELD = "the limits: with a pairing that the member doesn't hold"
+REFUSED = "the limits: with a pairing that was refused"
+TOUCHED = "the limits: another period than the pairing's has the least rest"
+SEVERAL = "the limits: several periods are as near"
+EARLY = "the limits: a window begins before the year 2000"
+NOTHING = "the limits: there is nothing to name"
+COUNTED = (*SECTIONS, CLOCK, OUTSIDE, OWN, ANEW, *LIMITS, ALL, HELD, NOT_HELD, REFUSED, TOUCHED, SEVERAL, EARLY, NOTHING)
 
 
 @dataclass
@@ -440,7 +574,11 @@ class Walk:
         new = self.model.pairings[pairing]
         wanted = self.model.assign(pairing, member)
         self.count(OUTSIDE, wanted, lambda: self.model.without_outsides().refusal(member, new) or "accepted")
-        return self.compare({"do": "assign", "pairing": pairing, "crew": member}, wanted)
+        difference = self.compare({"do": "assign", "pairing": pairing, "crew": member}, wanted)
+        if difference or not wanted.startswith("12 "):
+            return difference
+        self.tally[REFUSED] += 1
+        return self.limits(member, pairing, wanted)
 
     def train(self, member, training):
         times = {"begin": self.at(training.begin), "end": self.at(training.end)}
@@ -464,6 +602,38 @@ class Walk:
         at_home = breaks_tables(period, "HOME")
         self.tally[CLOCK] += sum(breaks_tables(period, BASES[member]) != at_home for member in self.model.seats[pairing])
         return self.compare({"do": "actual", "pairing": pairing, "period": place + 1, **written(period, self.at)}, wanted)
+
+    def limits(self, member, pairing, refusal=None):
+        """What `limits` prints otherwise than it should, or None. Where the pairing was refused to the member, what exceeds a limit has to be
+        what the refusal tells."""
+        found = dict(zip(SECTIONS, self.model.nearest(member, pairing, self.first)))
+        for section, it in found.items():
+            self.tally[f"the limits: {section} {'exceeds' if it.is_over else 'within'}"] += 1
+            self.tally[TOUCHED] += pairing is not None and "117.25" in section and not it.where.startswith(f" {pairing}/")
+            self.tally[SEVERAL] += it.is_of_several
+            self.tally[EARLY] += "before" in it.where
+            self.tally[NOTHING] += not it.where
+        exceeding = " ".join(["12 Limits", *(f"{member} {section}" for section, it in found.items() if it.is_over)])
+        if refusal not in (None, exceeding):
+            return f"limits {member} {pairing}\n    refused: {refusal}\n    exceeds: {exceeding}"
+        seat_and_name = "first officer Bo Lind" if member in OFFICERS else "captain Ada Ray"
+        words, end = (["--with", pairing], f" with {pairing}") if pairing else ([], "")
+        lines = [f"LIMITS {member} {seat_and_name}{end}", *(f"{section} {it.line}" for section, it in found.items())]
+        wanted = Ran(0, "".join(f"{line}\n" for line in lines), "")
+        got = rosterbook("limits", self.book.file, member, *words)
+        return None if got == wanted else f"limits {member} {pairing}\n    wanted: {wanted}\n    told:   {got}"
+
+    def look(self, draws):
+        """What `limits` prints otherwise than it should of some member, or None: without a pairing, with one that the member holds, or with
+        another one."""
+        member = draws.one_of(CAPTAINS + OFFICERS)
+        held = self.model.held(member)
+        others = [name for name in self.model.pairings if name not in held]
+        what, pairings = draws.one_of([(ALL, [None]), (HELD, held), (NOT_HELD, others)])
+        if not pairings:
+            return None
+        self.tally[what] += 1
+        return self.limits(member, draws.one_of(pairings))
 
     def step(self, draws, scale):
         """One command: most often a period is flown, for another certificate holder too, else a ground duty added or a pairing assigned.
@@ -505,14 +675,12 @@ def crewed_book(room, draws, scale, tally):
     return walk, next((it for it in found if it), None)
 
 
-def first_difference(walk, draws, scale):
-    """What the first answer that differs from the count is, or None."""
+def first_difference(walk, draws, looks, scale):
+    """What the first answer that differs from the count is, or None. In between limits are looked at, by draws of their own."""
     near = {f"NEAR{place}": [drawn_period(draws, scale)] for place in range(4)}
-    short = lambda: short_period(scale.first, draws.below(scale.horizon) * scale.grid, draws.below(3) + 1)
-    later = {f"LATER{place}": [short()] for place in range(4)}
-    walk.add(near | later)
+    walk.add(near | {f"LATER{place}": two_short_periods(draws, scale) for place in range(4)})
     for _ in range(scale.steps):
-        difference = walk.step(draws, scale)
+        difference = walk.step(draws, scale) or looks.below(3) == 0 and walk.look(looks)
         if difference:
             return difference
     return None
@@ -522,7 +690,7 @@ def walked(start, number, scale):
     """The first difference in a copy of a book, by draws of its own, and how often each section was broken."""
     walk = start.copy()
     walk.tally = dict.fromkeys(COUNTED, 0)
-    difference = first_difference(walk, Draws(117 + number), scale)
+    difference = first_difference(walk, Draws(117 + number), Draws(70_000 + number), scale)
     shutil.rmtree(walk.book.folder)
     return difference, walk.tally
 

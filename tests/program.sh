@@ -127,6 +127,9 @@ command_lines() {
     missing '<CREW>' roster "$room/unmade"
     missing $'<FILE>\n<PAIRING>' pairing
     missing '<PAIRING>' pairing "$room/unmade"
+    missing $'<FILE>\n<CREW>' limits
+    missing '<CREW>' limits "$room/unmade"
+    missing '<CREW>' limits "$room/unmade" --with P1
     missing '<FILE>' exceedances
     missing $'<FILE>\n<PORT>' serve
     missing '<PORT>' serve "$room/unmade"
@@ -139,6 +142,11 @@ command_lines() {
     unexpected import "$room/unmade" -1
     unexpected roster "$room/unmade" C1 C2
     unexpected pairing "$room/unmade" P1 P2
+    unexpected limits "$room/unmade" C1 P1
+    unexpected limits "$room/unmade" C1 --with P1 P2
+    unexpected limits "$room/unmade" C1 --with -1
+    unexpected limits "$room/unmade" C1 --wit
+    unexpected roster "$room/unmade" C1 --with
     unexpected exceedances "$room/unmade" C1
     unexpected serve "$room/unmade" 8117 1
     unexpected serve "$room/unmade" -1
@@ -165,12 +173,16 @@ command_lines() {
         serve "$room/unmade" 8117 --connections
     case_of connections_twice 2 '' $'error: the argument \'--connections <N>\' cannot be used multiple times\n*' \
         serve "$room/unmade" 8117 --connections 1 --connections 1
+    case_of with_no_pairing 2 '' $'error: a value is required for \'--with <PAIRING>\' but none was supplied\n*' \
+        limits "$room/unmade" C1 --with
+    case_of with_twice 2 '' $'error: the argument \'--with <PAIRING>\' cannot be used multiple times\n*' \
+        limits "$room/unmade" C1 --with P1 --with P2
     holds unmade [ ! -e "$room/unmade" ]
 }
 
 helps() {
     case_of help 0 'The roster book*' '' --help
-    help_of '' duty init 'do' import roster pairing exceedances serve FILE ZONE NUMBER PORT CREW PAIRING REPORT TIME "$zone" "$report" \
+    help_of '' duty init 'do' import roster pairing limits exceedances serve FILE ZONE NUMBER PORT CREW PAIRING REPORT TIME "$zone" "$report" \
         REFUSALS.md 'man rosterbook'
     help_of duty duty ZONE REPORT TIME "$zone" "$report" 'UTC instant' Example:
     help_of init init FILE ZONE "$zone" UTC 'new or empty' 'base HOME' Example:
@@ -181,6 +193,8 @@ helps() {
         'record 1' '90 Store' 'Exit status'
     help_of roster roster FILE CREW 'rosterbook roster roster.db C1' 'hours and minutes' 'Exit status'
     help_of pairing pairing FILE PAIRING 'rosterbook pairing roster.db B101' 'Exit status'
+    help_of limits limits FILE CREW '--with <PAIRING>' 'rosterbook limits roster.db C1 --with B102' "'exceeds' or 'within'" '12 Limits' \
+        'Exit status'
     help_of exceedances exceedances FILE 'rosterbook exceedances roster.db' "'outside'" 'Exit status'
     help_of serve serve FILE PORT '--connections <N>' '[default: 1000000]' 'from 1 to 65535' 'from 1 to 1000000' \
         'rosterbook serve roster.db 8117 --connections 2' 'listening PORT' '92 Channel' '93 Network' '90 Store' 'Exit status'

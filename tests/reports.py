@@ -4,7 +4,7 @@
     tests/reports.py [NAME..]
 
 A case is a few lines, which tests/office.py has, each of which has to be accepted, on a book of the captain C1 and the first
-officer F1; and what `roster`, `pairing` and `exceedances` then print, by their words. No report may change a byte of the book's
+officer F1; and what `roster`, `limits`, `pairing` and `exceedances` then print, by their words. No report may change a byte of the book's
 file, nor of what its log holds. What differs is told on standard error. The last line is 'N passed, M failed', and the exit
 status 1 where M isn't 0.
 """
@@ -15,7 +15,7 @@ import tempfile
 from contextlib import closing
 from pathlib import Path
 
-from office import Book, Ran, build, order, rosterbook, told
+from office import Book, Ran, build, compact, order, rosterbook, told
 
 # A log with a frame has its header's 32 bytes, the frame's 24 and a page. One without is written anew where a book is opened.
 WITH_A_FRAME = 32 + 24 + 4096
@@ -310,6 +310,319 @@ CASES = {
     }],
 }  # fmt: skip
 
+# ---- How near a member is to each limit.
+
+NOTHING = """
+    117.11(a)(1) - within
+    117.13(a) - within
+    117.23(b)(1) 0:00 of 100:00 within
+    117.23(b)(2) 0:00 of 1000:00 within
+    117.23(c)(1) 0:00 of 60:00 within
+    117.23(c)(2) 0:00 of 190:00 within
+    117.25(b) - of 30:00 within
+    117.25(e) - of 10:00 within
+"""
+
+# The captain of docs/FORMATS.md: two hours and a half of B102 would begin 9:30 after a morning on the ground.
+OF_THE_FORMATS = """
+    {"do":"add-ground","ground":"G1","crew":"C1","begin":"2025-06-08T09:00Z","end":"2025-06-08T12:00Z","task":"Simulator"}
+    plan B101 10: 11:00 | 12:00-18:00, 19:00-19:30 | 20:00
+    assign B101 C1
+    outside X1 C1 12: 10:00 | 11:00-13:00 | 13:30
+    plan B102 8: 21:30 | 22:00-23:00, 23:30-+1 01:00 | +1 01:30
+"""
+
+# An outside period of fifteen hours of flight, nine hours after P1.
+OUTSIDE_AFTER_P1 = ONE_PAIRING + """
+    outside X1 C1 11: 05:00 | 05:00-20:00 | 20:00
+"""
+
+LIMITS = {
+    "limits_of_a_member_without_duties": ["", {
+        "limits C1": "LIMITS C1 captain Ada Ray" + NOTHING,
+        "limits F1": "LIMITS F1 first officer Zoë Roy" + NOTHING,
+    }],
+    # A ground duty is no flight duty period, but takes rest from one.
+    "limits_of_a_member_with_ground_duties_alone": ["""
+        train G1 10: 00:00-02:00
+        train G2 12: 00:00-23:00
+        plan P1 10: 11:00 | 12:00-19:30 | 20:00
+    """, {
+        "limits C1": "LIMITS C1 captain Ada Ray" + NOTHING,
+        "limits C1 --with P1": """
+            LIMITS C1 captain Ada Ray with P1
+            117.11(a)(1) 7:30 of 9:00 P1/1 within
+            117.13(a) 8:30 of 14:00 P1/1 within
+            117.23(b)(1) 7:30 of 100:00 from 2025-05-13T19:30Z within
+            117.23(b)(2) 7:30 of 1000:00 from 2024-06-11T00:00Z within
+            117.23(c)(1) 8:30 of 60:00 from 2025-06-03T19:30Z within
+            117.23(c)(2) 8:30 of 190:00 from 2025-05-13T19:30Z within
+            117.25(b) 157:00 of 30:00 P1/1 within
+            117.25(e) 9:00 of 10:00 P1/1 exceeds
+        """,
+    }],
+    "limits_as_the_formats_have_them": [OF_THE_FORMATS, {
+        "limits C1": """
+            LIMITS C1 captain Ada Ray
+            117.11(a)(1) 6:30 of 9:00 B101/1 within
+            117.13(a) 8:30 of 14:00 B101/1 within
+            117.23(b)(1) 8:30 of 100:00 from 2025-05-15T13:00Z within
+            117.23(b)(2) 8:30 of 1000:00 from 2024-06-13T00:00Z within
+            117.23(c)(1) 11:30 of 60:00 from 2025-06-05T13:00Z within
+            117.23(c)(2) 11:30 of 190:00 from 2025-05-15T13:00Z within
+            117.25(b) 71:00 of 30:00 outside X1 within
+            117.25(e) 38:00 of 10:00 outside X1 within
+        """,
+        "limits C1 --with B102": """
+            LIMITS C1 captain Ada Ray with B102
+            117.11(a)(1) 2:30 of 9:00 B102/1 within
+            117.13(a) 3:30 of 12:00 B102/1 within
+            117.23(b)(1) 11:00 of 100:00 from 2025-05-15T13:00Z within
+            117.23(b)(2) 11:00 of 1000:00 from 2024-06-13T00:00Z within
+            117.23(c)(1) 15:00 of 60:00 from 2025-06-05T13:00Z within
+            117.23(c)(2) 15:00 of 190:00 from 2025-05-15T13:00Z within
+            117.25(b) 71:00 of 30:00 outside X1 within
+            117.25(e) 9:30 of 10:00 B102/1 exceeds
+        """,
+    }],
+    # X1 enters neither table, and is named for its rest. P1, held already, is judged beside it.
+    "limits_with_an_outside_period": [OUTSIDE_AFTER_P1, {
+        "limits C1": """
+            LIMITS C1 captain Ada Ray
+            117.11(a)(1) 7:30 of 9:00 P1/1 within
+            117.13(a) 8:30 of 14:00 P1/1 within
+            117.23(b)(1) 22:30 of 100:00 from 2025-05-14T20:00Z within
+            117.23(b)(2) 22:30 of 1000:00 from 2024-06-12T00:00Z within
+            117.23(c)(1) 23:30 of 60:00 from 2025-06-04T20:00Z within
+            117.23(c)(2) 23:30 of 190:00 from 2025-05-14T20:00Z within
+            117.25(b) 150:00 of 30:00 outside X1 within
+            117.25(e) 9:00 of 10:00 outside X1 exceeds
+        """,
+        "limits C1 --with P1": """
+            LIMITS C1 captain Ada Ray with P1
+            117.11(a)(1) 7:30 of 9:00 P1/1 within
+            117.13(a) 8:30 of 14:00 P1/1 within
+            117.23(b)(1) 22:30 of 100:00 from 2025-05-14T20:00Z within
+            117.23(b)(2) 22:30 of 1000:00 from 2024-06-12T00:00Z within
+            117.23(c)(1) 23:30 of 60:00 from 2025-06-04T20:00Z within
+            117.23(c)(2) 23:30 of 190:00 from 2025-05-14T20:00Z within
+            117.25(b) 150:00 of 30:00 outside X1 within
+            117.25(e) 9:00 of 10:00 outside X1 exceeds
+        """,
+        "limits F1": "LIMITS F1 first officer Zoë Roy" + NOTHING,
+    }],
+    # Members who fly for others alone. One window begins with the year 2000; if the block-in is a minute earlier, none does.
+    "limits_of_the_first_days": ["""
+        {"do":"record-outside","outside":"X1","crew":"F1","report":"2000-01-07T16:00Z","release":"2000-01-08T00:30Z","segments":[{"out":"2000-01-07T17:00Z","in":"2000-01-08T00:00Z"}]}
+        {"do":"record-outside","outside":"X2","crew":"C1","report":"2000-01-07T16:00Z","release":"2000-01-08T00:30Z","segments":[{"out":"2000-01-07T17:00Z","in":"2000-01-07T23:59Z"}]}
+    """, {
+        "limits F1": """
+            LIMITS F1 first officer Zoë Roy
+            117.11(a)(1) - within
+            117.13(a) - within
+            117.23(b)(1) 7:00 of 100:00 from before 2000-01-01T00:00Z within
+            117.23(b)(2) 7:00 of 1000:00 from before 2000-01-01T00:00Z within
+            117.23(c)(1) 8:00 of 60:00 from 2000-01-01T00:00Z within
+            117.23(c)(2) 8:00 of 190:00 from before 2000-01-01T00:00Z within
+            117.25(b) 168:00 of 30:00 outside X1 within
+            117.25(e) 168:00 of 10:00 outside X1 within
+        """,
+        "limits C1": """
+            LIMITS C1 captain Ada Ray
+            117.11(a)(1) - within
+            117.13(a) - within
+            117.23(b)(1) 6:59 of 100:00 from before 2000-01-01T00:00Z within
+            117.23(b)(2) 6:59 of 1000:00 from before 2000-01-01T00:00Z within
+            117.23(c)(1) 7:59 of 60:00 from before 2000-01-01T00:00Z within
+            117.23(c)(2) 7:59 of 190:00 from before 2000-01-01T00:00Z within
+            117.25(b) 168:00 of 30:00 outside X2 within
+            117.25(e) 168:00 of 10:00 outside X2 within
+        """,
+    }],
+    # Half an hour of P13A and P13B is counted once, so there are sixty hours of flight duty in a week. With P13A what exceeds a limit is what
+    # was recorded of C1. F1 doesn't hold P13B.
+    "limits_of_a_late_period": [A_LATE_PERIOD, {
+        "limits C1": """
+            LIMITS C1 captain Ada Ray
+            117.11(a)(1) 8:00 of 9:00 P13A/1 within
+            117.13(a) 20:00 of 14:00 P13A/1 exceeds
+            117.23(b)(1) 26:30 of 100:00 from 2025-05-14T10:30Z within
+            117.23(b)(2) 26:30 of 1000:00 from 2024-06-12T00:00Z within
+            117.23(c)(1) 60:00 of 60:00 from 2025-06-04T10:30Z within
+            117.23(c)(2) 60:00 of 190:00 from 2025-05-14T10:30Z within
+            117.25(b) 53:30 of 30:00 P13B/1 within
+            117.25(e) 0:00 of 10:00 P13B/1 exceeds
+        """,
+        "limits C1 --with P13A": """
+            LIMITS C1 captain Ada Ray with P13A
+            117.11(a)(1) 8:00 of 9:00 P13A/1 within
+            117.13(a) 20:00 of 14:00 P13A/1 exceeds
+            117.23(b)(1) 26:30 of 100:00 from 2025-05-14T10:30Z within
+            117.23(b)(2) 26:30 of 1000:00 from 2024-06-12T00:00Z within
+            117.23(c)(1) 60:00 of 60:00 from 2025-06-04T10:30Z within
+            117.23(c)(2) 60:00 of 190:00 from 2025-05-14T10:30Z within
+            117.25(b) 53:30 of 30:00 P13B/1 within
+            117.25(e) 0:00 of 10:00 P13B/1 exceeds
+        """,
+        "limits F1 --with P13B": """
+            LIMITS F1 first officer Zoë Roy with P13B
+            117.11(a)(1) 3:00 of 8:00 P13B/1 within
+            117.13(a) 4:00 of 9:00 P13B/1 within
+            117.23(b)(1) 11:00 of 100:00 from 2025-05-14T10:30Z within
+            117.23(b)(2) 11:00 of 1000:00 from 2024-06-12T00:00Z within
+            117.23(c)(1) 23:30 of 60:00 from 2025-06-04T10:30Z within
+            117.23(c)(2) 23:30 of 190:00 from 2025-05-14T10:30Z within
+            117.25(b) 148:30 of 30:00 P13B/1 within
+            117.25(e) 0:00 of 10:00 P13B/1 exceeds
+        """,
+    }],
+    # Five periods are as near as P09 to Table A, and three have as little rest as P10. With P09, which C1 holds, the rest before P10 isn't
+    # looked at, since P09 ends twelve hours before it. With P30 the week of 60:01 isn't, but its hours are in the 28 days.
+    "limits_in_a_week_with_a_minute_too_much": [A_MINUTE_TOO_MUCH + """
+        plan P30 30: 11:00 | 12:00-19:30 | 20:00
+    """, {
+        "limits C1": """
+            LIMITS C1 captain Ada Ray
+            117.11(a)(1) 5:00 of 9:00 P09/1 within
+            117.13(a) 12:00 of 14:00 P09/1 within
+            117.23(b)(1) 25:01 of 100:00 from 2025-05-18T00:00Z within
+            117.23(b)(2) 25:01 of 1000:00 from 2024-06-15T00:00Z within
+            117.23(c)(1) 60:01 of 60:00 from 2025-06-08T00:00Z exceeds
+            117.23(c)(2) 60:01 of 190:00 from 2025-05-18T00:00Z within
+            117.25(b) 48:00 of 30:00 P14/1 within
+            117.25(e) 12:00 of 10:00 P10/1 within
+        """,
+        "limits C1 --with P09": """
+            LIMITS C1 captain Ada Ray with P09
+            117.11(a)(1) 5:00 of 9:00 P09/1 within
+            117.13(a) 12:00 of 14:00 P09/1 within
+            117.23(b)(1) 25:01 of 100:00 from 2025-05-18T00:00Z within
+            117.23(b)(2) 25:01 of 1000:00 from 2024-06-15T00:00Z within
+            117.23(c)(1) 60:01 of 60:00 from 2025-06-08T00:00Z exceeds
+            117.23(c)(2) 60:01 of 190:00 from 2025-05-18T00:00Z within
+            117.25(b) 48:00 of 30:00 P14/1 within
+            117.25(e) 168:00 of 10:00 P09/1 within
+        """,
+        "limits C1 --with P30": """
+            LIMITS C1 captain Ada Ray with P30
+            117.11(a)(1) 7:30 of 9:00 P30/1 within
+            117.13(a) 8:30 of 14:00 P30/1 within
+            117.23(b)(1) 32:31 of 100:00 from 2025-06-02T19:30Z within
+            117.23(b)(2) 32:31 of 1000:00 from 2024-07-01T00:00Z within
+            117.23(c)(1) 8:30 of 60:00 from 2025-06-23T19:30Z within
+            117.23(c)(2) 68:31 of 190:00 from 2025-06-02T19:30Z within
+            117.25(b) 168:00 of 30:00 P30/1 within
+            117.25(e) 168:00 of 10:00 P30/1 within
+        """,
+    }],
+    # P10 is the first in the order of ids. PB reports a minute before the others, and takes their rest.
+    "limits_of_duties_at_one_time": [AT_ONE_TIME, {
+        "limits C1": """
+            LIMITS C1 captain Ada Ray
+            117.11(a)(1) 2:00 of 9:00 P10/1 within
+            117.13(a) 3:01 of 14:00 PB/1 within
+            117.23(b)(1) 2:00 of 100:00 from 2025-05-23T14:00Z within
+            117.23(b)(2) 2:00 of 1000:00 from 2024-06-21T00:00Z within
+            117.23(c)(1) 3:01 of 60:00 from 2025-06-13T14:00Z within
+            117.23(c)(2) 3:01 of 190:00 from 2025-05-23T14:00Z within
+            117.25(b) 167:59 of 30:00 P10/1 within
+            117.25(e) 0:00 of 10:00 P10/1 exceeds
+        """,
+    }],
+    # Neither P0 nor X1 has a minute of rest before it. P0, which C1 holds, comes first among all duties, and last with `--with`.
+    "limits_with_the_periods_of_the_pairing_last": ["""
+        plan P0 10: 10:59 | 12:00-19:30 | 20:00
+        assign P0 C1
+        outside X0 C1 10: 10:00 | 10:00-11:30 | 11:30
+        outside X1 C1 10: 11:00 | 12:00-13:00 | 14:00
+    """, {
+        "limits C1": """
+            LIMITS C1 captain Ada Ray
+            117.11(a)(1) 7:30 of 9:00 P0/1 within
+            117.13(a) 8:31 of 13:00 P0/1 within
+            117.23(b)(1) 9:00 of 100:00 from 2025-05-13T19:30Z within
+            117.23(b)(2) 9:00 of 1000:00 from 2024-06-11T00:00Z within
+            117.23(c)(1) 9:30 of 60:00 from 2025-06-03T19:30Z within
+            117.23(c)(2) 9:30 of 190:00 from 2025-05-13T19:30Z within
+            117.25(b) 167:00 of 30:00 outside X1 within
+            117.25(e) 0:00 of 10:00 P0/1 exceeds
+        """,
+        "limits C1 --with P0": """
+            LIMITS C1 captain Ada Ray with P0
+            117.11(a)(1) 7:30 of 9:00 P0/1 within
+            117.13(a) 8:31 of 13:00 P0/1 within
+            117.23(b)(1) 9:00 of 100:00 from 2025-05-13T19:30Z within
+            117.23(b)(2) 9:00 of 1000:00 from 2024-06-11T00:00Z within
+            117.23(c)(1) 9:30 of 60:00 from 2025-06-03T19:30Z within
+            117.23(c)(2) 9:30 of 190:00 from 2025-05-13T19:30Z within
+            117.25(b) 167:00 of 30:00 outside X1 within
+            117.25(e) 0:00 of 10:00 outside X1 exceeds
+        """,
+    }],
+    # P2 overlaps P1, and C2 has the captain's seat. The limits are told all the same.
+    "limits_with_a_pairing_that_overlaps": [ONE_PAIRING + """
+        plan P2 10: 10:00 | 15:00-16:00 | 21:00
+        {"do":"add-crew","crew":"C2","seat":"captain","name":"Bo Lind"}
+        assign P2 C2
+    """, {
+        "limits C1 --with P2": """
+            LIMITS C1 captain Ada Ray with P2
+            117.11(a)(1) 1:00 of 9:00 P2/1 within
+            117.13(a) 6:00 of 13:00 P2/1 within
+            117.23(b)(1) 7:30 of 100:00 from 2025-05-13T19:30Z within
+            117.23(b)(2) 7:30 of 1000:00 from 2024-06-11T00:00Z within
+            117.23(c)(1) 9:30 of 60:00 from 2025-06-03T19:30Z within
+            117.23(c)(2) 9:30 of 190:00 from 2025-05-13T19:30Z within
+            117.25(b) 167:00 of 30:00 P1/1 within
+            117.25(e) 0:00 of 10:00 P1/1 exceeds
+        """,
+    }],
+    # The clock of the member's base: noon at HOME, ten in Denver.
+    "limits_by_the_clock_of_the_base": ["""
+        base DEN: MST7MDT,M3.2.0,M11.1.0
+        hire C9 captain DEN: Lee Roy
+        plan P1 10: 16:00 | 16:30-20:30, +1 01:29-+1 05:59 | +1 06:30
+        assign P1 C9
+    """, {
+        "limits C9": """
+            LIMITS C9 captain Lee Roy
+            117.11(a)(1) 8:30 of 9:00 P1/1 within
+            117.13(a) 13:59 of 14:00 P1/1 within
+            117.23(b)(1) 8:30 of 100:00 from 2025-05-14T05:59Z within
+            117.23(b)(2) 8:30 of 1000:00 from 2024-06-12T00:00Z within
+            117.23(c)(1) 13:59 of 60:00 from 2025-06-04T05:59Z within
+            117.23(c)(2) 13:59 of 190:00 from 2025-05-14T05:59Z within
+            117.25(b) 168:00 of 30:00 P1/1 within
+            117.25(e) 168:00 of 10:00 P1/1 within
+        """,
+        "limits C1 --with P1": """
+            LIMITS C1 captain Ada Ray with P1
+            117.11(a)(1) 8:30 of 9:00 P1/1 within
+            117.13(a) 13:59 of 13:00 P1/1 exceeds
+            117.23(b)(1) 8:30 of 100:00 from 2025-05-14T05:59Z within
+            117.23(b)(2) 8:30 of 1000:00 from 2024-06-12T00:00Z within
+            117.23(c)(1) 13:59 of 60:00 from 2025-06-04T05:59Z within
+            117.23(c)(2) 13:59 of 190:00 from 2025-05-14T05:59Z within
+            117.25(b) 168:00 of 30:00 P1/1 within
+            117.25(e) 168:00 of 10:00 P1/1 within
+        """,
+    }],
+    # The periods of a pairing are named by their numbers, and have the times at which they were flown.
+    "limits_of_a_pairing_of_two_periods": [SWAPPED, {
+        "limits C1": """
+            LIMITS C1 captain Ada Ray
+            117.11(a)(1) 2:00 of 9:00 P3/1 within
+            117.13(a) 3:30 of 14:00 P3/2 within
+            117.23(b)(1) 3:30 of 100:00 from 2025-05-17T14:00Z within
+            117.23(b)(2) 3:30 of 1000:00 from 2024-06-15T00:00Z within
+            117.23(c)(1) 6:30 of 60:00 from 2025-06-07T14:00Z within
+            117.23(c)(2) 6:30 of 190:00 from 2025-05-17T14:00Z within
+            117.25(b) 120:00 of 30:00 P3/1 within
+            117.25(e) 44:00 of 10:00 P3/1 within
+        """,
+    }],
+}  # fmt: skip
+
 
 def lines_of(page):
     return [line for line in map(str.strip, page.splitlines()) if line]
@@ -378,16 +691,71 @@ def two_hundred_periods(room):
         for day, plan in zip(days, plans)
     ]
     text = "".join(f"{line}\n" for line in ["ROSTER C1 captain Ada Ray", *lines])
-    return bad + differs(book, ["roster", "C1"], Ran(0, text, ""))
+    bad += differs(book, ["roster", "C1"], Ran(0, text, ""))
+    # Each window that holds the most is looked for from the first one on; P101 is the first by its id with another rest than P1.
+    return bad + differs(book, ["limits", "C1"], Ran(0, text_of("""
+        LIMITS C1 captain Ada Ray
+        117.11(a)(1) 1:00 of 9:00 P1/1 within
+        117.13(a) 2:00 of 13:00 P1/1 within
+        117.23(b)(1) 14:00 of 100:00 from 2024-12-30T13:00Z within
+        117.23(b)(2) 183:00 of 1000:00 from 2025-01-01T00:00Z within
+        117.23(c)(1) 8:00 of 60:00 from 2024-12-31T13:00Z within
+        117.23(c)(2) 28:00 of 190:00 from 2024-12-30T13:00Z within
+        117.25(b) 45:30 of 30:00 P101/1 within
+        117.25(e) 45:30 of 10:00 P101/1 within
+    """), ""))  # fmt: skip
+
+
+def busy(begin, end):
+    """Has C1 on the ground between these times of June."""
+    times = {"begin": f"2025-06-{begin}Z", "end": f"2025-06-{end}Z"}
+    return compact({"do": "add-ground", "ground": "G1", "crew": "C1", "task": "Course", **times})
+
+
+P1 = "plan P1 10: 11:00 | 12:00-19:30 | 20:00"
+WEEK = [f"outside X{day} C1 {day}: 12:00 | 13:00-+1 00:00 | +1 00:00" for day in (10, 11, 12, 13)]
+
+# What C1 is asked, and the words of `limits` with the line that it has then: what a limit allows, and a minute too much or too little.
+EDGES = (
+    (["plan P1 10: 11:00 | 12:00-21:00 | 21:00"], "--with P1", "117.11(a)(1) 9:00 of 9:00 P1/1 within"),
+    (["plan P1 10: 11:00 | 12:00-21:01 | 21:01"], "--with P1", "117.11(a)(1) 9:01 of 9:00 P1/1 exceeds"),
+    (["plan P1 10: 11:00 | 12:00-14:00, 23:00-+1 01:00 | +1 01:00"], "--with P1", "117.13(a) 14:00 of 14:00 P1/1 within"),
+    (["plan P1 10: 11:00 | 12:00-14:00, 23:00-+1 01:01 | +1 01:01"], "--with P1", "117.13(a) 14:01 of 14:00 P1/1 exceeds"),
+    (["outside X1 C1 10: 11:00 | 11:00-+4 15:00 | +4 15:00"], "", "117.23(b)(1) 100:00 of 100:00 from 2025-05-17T15:00Z within"),
+    (["outside X1 C1 10: 11:00 | 11:00-+4 15:01 | +4 15:01"], "", "117.23(b)(1) 100:01 of 100:00 from 2025-05-17T15:01Z exceeds"),
+    (["outside X1 C1 10: 11:00 | 11:00-+42 03:00 | +42 03:00"], "", "117.23(b)(2) 1000:00 of 1000:00 from 2024-07-23T00:00Z within"),
+    (["outside X1 C1 10: 11:00 | 11:00-+42 03:01 | +42 03:01"], "", "117.23(b)(2) 1000:01 of 1000:00 from 2024-07-23T00:00Z exceeds"),
+    ([*WEEK, "outside X1 C1 15: 12:00 | 13:00-+1 00:00 | +1 00:00"], "", "117.23(c)(1) 60:00 of 60:00 from 2025-06-09T00:00Z within"),
+    ([*WEEK, "outside X1 C1 15: 11:59 | 13:00-+1 00:00 | +1 00:00"], "", "117.23(c)(1) 60:01 of 60:00 from 2025-06-09T00:00Z exceeds"),
+    (["outside X1 C1 10: 11:00 | 12:00-+8 09:00 | +8 09:00"], "", "117.23(c)(2) 190:00 of 190:00 from 2025-05-21T09:00Z within"),
+    (["outside X1 C1 10: 10:59 | 12:00-+8 09:00 | +8 09:00"], "", "117.23(c)(2) 190:01 of 190:00 from 2025-05-21T09:00Z exceeds"),
+    ([P1, busy("03T11:00", "09T05:00")], "--with P1", "117.25(b) 30:00 of 30:00 P1/1 within"),
+    ([P1, busy("04T16:59", "09T05:01")], "--with P1", "117.25(b) 29:59 of 30:00 P1/1 exceeds"),
+    ([P1, busy("09T05:01", "10T01:00")], "--with P1", "117.25(e) 10:00 of 10:00 P1/1 within"),
+    ([P1, busy("09T05:01", "10T01:01")], "--with P1", "117.25(e) 9:59 of 10:00 P1/1 exceeds"),
+)  # fmt: skip
+
+
+def each_limit_is_reached_and_exceeded(room):
+    empty = Book.made(room)
+    bad = carry_out(empty, MEMBERS)
+    for lines, words, wanted in EDGES:
+        book = empty.copy()
+        bad += carry_out(book, "\n".join(lines))
+        ran, is_same = shown(book, ["limits", book.file, "C1", *words.split()])
+        bad += [] if wanted in ran.out.splitlines() and is_same else [f"{lines}: no line {wanted} in {ran}"]
+    return bad
 
 
 def whoever_is_not_there_is_refused(room):
     book = Book.made(room)
     bad = carry_out(book, MEMBERS + ONE_PAIRING)
     for who in ("C9", "c1", "P1", "", "C1 ", "É", "C" * 13):
-        bad += differs(book, ["roster", who], Ran(1, "", "refused 2 NoSuchCrew\n"))
+        for words in (["roster", who], ["limits", who], ["limits", who, "--with", "P1"], ["limits", who, "--with", "P9"]):
+            bad += differs(book, words, Ran(1, "", "refused 2 NoSuchCrew\n"))
     for pairing in ("P9", "p1", "C1", "", "P1/1"):
         bad += differs(book, ["pairing", pairing], Ran(1, "", "refused 4 NoSuchPairing\n"))
+        bad += differs(book, ["limits", "C1", "--with", pairing], Ran(1, "", "refused 4 NoSuchPairing\n"))
     return bad
 
 
@@ -397,7 +765,7 @@ def no_book_is_no_report(room):
     with closing(sqlite3.connect(folder / "other.db")) as tables:
         tables.execute("CREATE TABLE other (x)")
         tables.commit()
-    for words in (["roster", "C1"], ["pairing", "P1"], ["exceedances"]):
+    for words in (["roster", "C1"], ["limits", "C1"], ["limits", "C1", "--with", "P1"], ["pairing", "P1"], ["exceedances"]):
         for name, wanted in (("none.db", "refused 40 NotABook\n"), ("other.db", "refused 40 NotABook\n")):
             ran = rosterbook(words[0], folder / name, *words[1:])
             bad += [] if ran == Ran(3, "", wanted) else [f"{words} of {name}: {ran}"]
@@ -427,13 +795,15 @@ def a_log_stays_as_it_is(room):
     return bad + differs(left, ["roster", "C1"], Ran(0, "ROSTER C1 captain Ann Oh\n", ""))
 
 
-OTHERS = (two_hundred_periods, whoever_is_not_there_is_refused, no_book_is_no_report, a_log_stays_as_it_is)
+OTHERS = (
+    two_hundred_periods, each_limit_is_reached_and_exceeded, whoever_is_not_there_is_refused, no_book_is_no_report, a_log_stays_as_it_is,
+)  # fmt: skip
 
 
 def main(names):
     if not build():
         return 3
-    cases = {name: (tried, *case) for name, case in CASES.items()} | {case.__name__: (case,) for case in OTHERS}
+    cases = {name: (tried, *case) for name, case in (CASES | LIMITS).items()} | {case.__name__: (case,) for case in OTHERS}
     failed = 0
     with tempfile.TemporaryDirectory() as room:
         for name in names or cases:
