@@ -1,0 +1,4 @@
+pub mod InOrder
+pub mod EachOrder
+pub mod EachText
+pub mod OneText

@@ -1,0 +1,81 @@
+-- The pairings of a state as a text, a line each.
+use Rattle.std.specs.Prelude.{◌≡◌, ℕ, ◌-◌, Bool, true, not, List, ◌∷◌, ◌++◌, map, length, codes, slice_get, if◌then◌else◌}
+use Rattle.std.specs.Fmt.{decimal}
+use Rattle.std.specs.FinMap as fin
+use Rattle.std.specs.List.{filter, flat_map}
+use Rattle.std.specs.List.Sorted.{IsPermutation, IsSorted}
+use Rattle.std.specs.Option.{option_map_or}
+use Rattle.values.specs.Name.{name_cmp}
+use Rattle.time117.specs.Instant.{written}
+use Rattle.roster.specs.Pairings.{is_flown, is_fully_crewed, periods_in_force}
+use Rattle.roster.specs.State.{State}
+use Rattle.roster.specs.declared.state.PairingEntry.{PairingEntry}
+use Rattle.report.specs.PairingText.{holder_text}
+use Rattle.list_report.specs.declared.pairings.Listed.{Listed}
+use Rattle.list_report.specs.declared.pairings.Listed.TheVariants as listed
+use Rattle.list_report.specs.declared.row.Row.{Row}
+
+-- ---- The line of a pairing
+
+-- the report of the first period of a pairing, which is period 1: that of the period's actual, if
+-- it has one, else the planned one. It is minute 0 without a period, but each pairing of a sound
+-- state has one
+abbrev pub first_report : PairingEntry → ℕ
+first_report r = option_map_or (λ p. p.report) (slice_get (periods_in_force r) 0) 0
+
+-- the release of the last period of a pairing, by the numbers of the periods: that of the period's
+-- actual, if it has one, else the planned one. It is minute 0 without a period, but each pairing of
+-- a sound state has one
+abbrev pub last_release : PairingEntry → ℕ
+last_release r =
+    let periods = periods_in_force r in
+    option_map_or (λ p. p.release) (slice_get periods (length periods - 1)) 0
+
+-- the word for whether some period of a pairing has an actual
+abbrev pub word : PairingEntry → List ℕ
+word r = if is_flown r then codes "flown" else codes "plan"
+
+-- the line of a pairing: its id, from when to when it goes, whether it is flown, and who holds its
+-- seats, the captain's first
+abbrev pub pairing_line : List ℕ × PairingEntry → List ℕ
+pairing_line (id, r) =
+    (id ++ codes " " ++ written (first_report r) ++ codes " " ++ written (last_release r))
+    ++ (codes " " ++ word r)
+    ++ codes " " ++ holder_text r.captain ++ codes " " ++ holder_text r.first_officer ++ codes "\n"
+
+-- ---- The rows
+
+-- a pairing is listed: each one is among all, and one with a free seat among the open ones
+abbrev pub is_listed : Listed → PairingEntry → Bool
+is_listed listed.All r = true
+is_listed listed.Open r = not (is_fully_crewed r)
+
+-- a pairing as a row: its line, and the first report and the id, by which it has its place
+abbrev pub row_of : List ℕ × PairingEntry → Row
+row_of (id, r) = record { report = first_report r; id = id; line = pairing_line (id, r) }
+
+-- the rows of the pairings of a state that are listed
+abbrev pub rows_of : State → (which : Listed) → List Row
+rows_of s which = map row_of (filter (λ entry. is_listed which entry.1) (fin.entries s.pairings))
+
+-- what puts a row in its place: the first report, then the id in byte order
+abbrev pub key_of : Row → List ℕ
+key_of row = row.report ∷ row.id
+
+-- the same rows, in the order of first reports, and of ids where these are the same
+pub record IsInOrder (rows sorted : List Row) : Type 0 where
+  pub same : IsPermutation rows sorted
+  pub order : IsSorted (λ a b. name_cmp (key_of a) (key_of b)) sorted
+
+-- ---- The text
+
+-- the first line, with the number of the pairings that are listed
+abbrev pub pairings_header : (count : ℕ) → List ℕ
+pairings_header count = codes "PAIRINGS " ++ decimal count ++ codes "\n"
+
+-- the text of a state's pairings, all of them or the open ones: their number, and the line of each
+-- in turn, in the order of their first reports, and of their ids where these are the same
+pub record IsPairingsText (s : State) (which : Listed) (text : List ℕ) : Type 0 where
+  pub rows : List Row
+  pub in_order : IsInOrder (rows_of s which) rows
+  pub is : text ≡ pairings_header (length rows) ++ flat_map (λ row. row.line) rows
