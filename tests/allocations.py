@@ -8,8 +8,8 @@ loaded into. A case is one call of the program on a copy of one book, or one exc
 one of its first calls for memory refused, then with one that comes some calls later, and so on; with each of its last calls, which are
 those of a commit and of an answer; and with one more, which isn't made. With --all each call is refused in turn. Each of these runs
 
-- ends as a run that has all memory, or with 91, or with 90 where it commits; an import has printed the lines of its first parts then.
-  A client has the whole answer, or the whole 503 of 91 or 90, or nothing, where its connection failed (92);
+- ends as a run that has all memory, or with 91, or with 90 where it commits; an import, and commands one a line, have printed the lines of
+  their first parts then. A client has the whole answer, or the whole 503 of 91 or 90, or nothing, where its connection failed (92);
 - leaves the rows that a run with all memory leaves, or where it was stopped those of the parts that were told, or of one more;
 - is made again with all memory, and then is answered and leaves all rows as a run that had all memory at once. An `init` that had
   made its book is refused with 43.
@@ -31,7 +31,7 @@ from dataclasses import dataclass, field
 from pathlib import Path
 
 import tables
-from exchanges import ACCEPTED, MEMORY, STORE, body_of, get, refused, request_of, response
+from exchanges import ACCEPTED, MEMORY, STORE, body_of, check, get, refused, request_of, response
 from office import ZONE, Book, Ran, build, rosterbook, schedule
 from refusing import Memory, folder, has_compiler
 from reports import carry_out
@@ -118,6 +118,27 @@ first officer F1
 1.1 RB1 BOS 2025-06-10T23:00Z IAD 2025-06-11T01:30Z
 """
 
+MEMBERS = """\
+MEMBERS 3
+C1 captain HOME Ada Ray
+C9 captain DEN Lee Roy
+F1 first officer HOME Zoë Roy
+"""
+
+PAIRINGS = """\
+PAIRINGS 4
+P1 2025-06-10T11:00Z 2025-06-11T02:00Z flown C1 F1
+P2 2025-06-11T11:00Z 2025-06-11T14:30Z plan - -
+P3 2025-06-13T11:00Z 2025-06-14T16:00Z plan - -
+P4 2025-06-17T11:00Z 2025-06-17T20:00Z plan C1 F1
+"""
+
+OPEN = """\
+PAIRINGS 2
+P2 2025-06-11T11:00Z 2025-06-11T14:30Z plan - -
+P3 2025-06-13T11:00Z 2025-06-14T16:00Z plan - -
+"""
+
 EXCEEDANCES = """\
 EXCEEDANCES 3
 12 C1 117.13(a) P1/1
@@ -142,6 +163,10 @@ PLANS = [
 ]
 PARTS = "1 accepted\n2 refused 5 PairingExists\n3 accepted\n"
 
+# Commands one a line, whose second one is refused.
+LINES = ["20 assign P3 C1", "21 assign P2 C1", "22 hire C8 captain DEN: Bo Lind"]
+REPLIES = f"{ACCEPTED}\n{TOO_SOON}\n{ACCEPTED}\n"
+
 # A period of fourteen hours, and its verdict.
 PERIOD = f"duty {ZONE} 2025-06-10T15:59Z 2025-06-10T16:30Z 2025-06-10T20:30Z 2025-06-11T01:29Z 2025-06-11T05:59Z"
 WITHIN = "report 11:59 segments 2 fdp 14:00 of 14:00 flight 8:30 of 9:00 within\n"
@@ -158,7 +183,7 @@ class Call:
     answer: Ran
     is_made: bool = True  # whether the book is there before
     is_first: bool = False  # whether it is of version 1 before
-    fronts: tuple = ()  # of an import: its schedule up to each of its pairings but the last
+    fronts: tuple = ()  # of an import, and of lines: what is given up to each of its parts but the last
     stride: int = STRIDE
 
     def run(self, book, given=None, **options):
@@ -216,10 +241,19 @@ class Exchange:
         return self.answer
 
 
-def asked(line, status, text):
+def bodies(lines):
+    """The bodies of lines with their numbers, one a line."""
+    return "".join(f"{body_of(int(number), command)}\n" for number, _, command in (line.partition(" ") for line in lines))
+
+
+def asked(line, status, text, words="do BOOK"):
     """The call of `do` that asks a line with its number, and how it ends."""
-    number, _, command = line.partition(" ")
-    return Call("do BOOK", body_of(int(number), command), Ran(status, f"{text}\n", ""))
+    return Call(words, bodies([line]), Ran(status, f"{text}\n", ""))
+
+
+def asked_in_lines(words):
+    """The call of `do` that asks the lines, and how it ends."""
+    return Call(words, bodies(LINES), Ran(1, REPLIES, ""), fronts=(bodies(LINES[:1]), bodies(LINES[:2])))
 
 
 CASES = {
@@ -232,6 +266,9 @@ CASES = {
     "do_hire": asked("20 hire C8 captain DEN: Bo Lind", 0, ACCEPTED),
     "do_outside": asked(OUTSIDE_ANEW, 0, TOO_LITTLE_REST),
     "do_outside_of_another": asked("20 outside X1 C1 24: 11:00 | 12:00-14:00 | 17:00", 1, TAKEN),
+    "do_checked": asked(LATE, 0, BOTH_LATE, "do BOOK --dry-run"),
+    "do_lines": asked_in_lines("do BOOK --lines"),
+    "do_lines_checked": asked_in_lines("do BOOK --lines --dry-run"),
     "import": Call("import BOOK 500", schedule(PLANS), Ran(1, PARTS, ""), fronts=(schedule(PLANS[:1]), schedule(PLANS[:2]))),
     "roster": Call("roster BOOK C1", "", Ran(0, ROSTER, "")),
     "roster_of_a_base": Call("roster BOOK C9", "", Ran(0, AT_DENVER, "")),
@@ -241,11 +278,16 @@ CASES = {
     "limits_with": Call("limits BOOK C1 --with P2", "", Ran(0, WITH_P2, "")),
     "pairing": Call("pairing BOOK P1", "", Ran(0, PAIRING, "")),
     "exceedances": Call("exceedances BOOK", "", Ran(0, EXCEEDANCES, "")),
+    "members": Call("members BOOK", "", Ran(0, MEMBERS, "")),
+    "pairings": Call("pairings BOOK", "", Ran(0, PAIRINGS, "")),
+    "pairings_open": Call("pairings BOOK --open", "", Ran(0, OPEN, "")),
     "duty": Call(PERIOD, "", Ran(0, WITHIN, ""), stride=5),
     "serve_accepted": Exchange(request_of("20 assign P3 C1"), response(200, ACCEPTED)),
     "serve_refused": Exchange(request_of("20 assign P2 C1"), response(409, TOO_SOON)),
+    "serve_checked": Exchange(request_of(check("20 assign P3 C1")), response(200, ACCEPTED)),
     "serve_roster": Exchange(get("/crew/C1"), response(200, ROSTER)),
     "serve_limits": Exchange(get("/reports/limits/C1/P2"), response(200, WITH_P2)),
+    "serve_open": Exchange(get("/reports/open"), response(200, OPEN)),
 }
 
 # ---- How it is tried.

@@ -16,6 +16,7 @@ a command, as tests/office.py has it, or a look into the tables of the book:
     outsides -> X1 C1               each outside period with the member who flew it
     recorded X1 C1 10: .. -> yes    whether the outside period is kept with this member and these times alone
 
+Each command is checked before it is asked (`do --dry-run`): it has to be told the same, and no table and no byte of the file may change.
 Of a page that begins with the line `import` all others are pairings of one schedule. What differs is told on standard error.
 The last line is 'N passed, M failed', and the exit status 1 where M isn't 0.
 """
@@ -25,7 +26,7 @@ import sys
 import tempfile
 from dataclasses import dataclass
 
-from office import Book, build, compact, order
+from office import Book, build, compact, order, told
 
 MEMBERS = """
     hire C1 captain: Ada Ray
@@ -905,13 +906,32 @@ def look(book, line):
     return None
 
 
+def kept(book):
+    """The rows of each table, and then the bytes of the file, which reading the rows may have changed."""
+    return book.tables(), book.file.read_bytes()
+
+
+def checked(book, number, line):
+    """What a command is told when it is only checked, under a number."""
+    tables, content = kept(book)
+    words = told(book.check(number, order(line)))
+    return words if (book.file.read_bytes(), book.tables()) == (content, tables) else f"{words}, and the book is changed"
+
+
+def take_command(book, number, line):
+    """What a command is told under a number, where it is told the same when it is checked before."""
+    before = checked(book, number, line)
+    found = book.ask(number, line)
+    return found if before == found.replace("repeated", "accepted", 1) else f"{found}, but checked before: {before}"
+
+
 def take_line(book, line):
     """What the line is told otherwise than it should be, or None."""
     asked, _, wanted = line.partition(" -> ")
     number, _, command = asked.partition(" ")
     found = look(book, asked)
     if found is None:
-        found = book.ask(int(number), command) if number.isdigit() else book.settle(asked)
+        found = take_command(book, int(number), command) if number.isdigit() else take_command(book, book.take_number(), asked)
     wanted = " ".join(wanted.split()) or "accepted"
     return None if found == wanted else f"{asked}\n    wanted: {wanted}\n    told:   {found}"
 
@@ -919,8 +939,8 @@ def take_line(book, line):
 def take_page(book, page):
     lines = [line.strip() for line in page.split("\n") if line.strip()]
     if lines[0] == "import":
-        told = book.settle_all(lines[1:])
-        return [] if told == "accepted" else [f"import\n    told:   {told}"]
+        found = book.settle_all(lines[1:])
+        return [] if found == "accepted" else [f"import\n    told:   {found}"]
     found = [take_line(book, line) for line in lines]
     return [it for it in found if it]
 

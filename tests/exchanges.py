@@ -37,6 +37,12 @@ def body_of(number, line):
     return compact({"number": number, **order(line)})
 
 
+def check(asked):
+    """A line of tests/office.py with its number, as what is only checked."""
+    number, _, line = asked.partition(" ")
+    return "/checks", body_of(int(number), line)
+
+
 def request_of(asked):
     """What is asked in short: a path of POST with its body, `GET` and a path, or a line of tests/office.py with its number."""
     if isinstance(asked, tuple):
@@ -198,6 +204,23 @@ ANSWERS = [
     (get("/reports/limits/C9/P9/"), 404),
     (get("/reports/limits/C9/P9/1"), 404),
     (get("/reports/crew/C9"), 404),
+    (get("/reports/members"), (200, "MEMBERS 0\n")),
+    (get("/reports/pairings?open"), (200, "PAIRINGS 0\n")),
+    (get("http://a.b/reports/open"), (200, "PAIRINGS 0\n")),
+    (get("/reports/member"), 404),
+    (get("/reports/members/"), 404),
+    (get("/reports/members/C1"), 404),
+    (get("/reports/pairings/B101"), 404),
+    (get("/reports/opened"), 404),
+    (get("/reports/p"), 404),
+    (post("/checks", CANCEL), NO_GROUND),
+    (post("/checks?", CANCEL), NO_GROUND),
+    (post("/checks", ""), NO_BODY),
+    (post("/checks/", CANCEL), 404),
+    (post("/checks/1", CANCEL), 404),
+    (post("/check", CANCEL), 404),
+    (post("/chec", CANCEL), 404),
+    (get("/c"), 404),
     (post("/imports/0", HEADER), 404),
     (post("/imports/01", HEADER), 404),
     (post("/imports/+1", HEADER), 404),
@@ -228,6 +251,8 @@ OTHER_METHODS = [
     ("/requests", "HEAD", "POST"),
     ("/requests", "post", "POST"),
     ("/requests", "A-METHOD-OF-MORE-THAN-FIFTEEN-BYTES", "POST"),
+    ("/checks", "GET", "POST"),
+    ("/checks", "PUT", "POST"),
     ("/imports/3", "PUT", "POST"),
     ("/imports/3", "HEAD", "POST"),
     ("/crew/C1", "POST", "GET, HEAD"),
@@ -235,6 +260,9 @@ OTHER_METHODS = [
     ("/pairings/B101", "DELETE", "GET, HEAD"),
     ("/exceedances", "OPTIONS", "GET, HEAD"),
     ("/reports/limits/C1", "POST", "GET, HEAD"),
+    ("/reports/members", "POST", "GET, HEAD"),
+    ("/reports/pairings", "PUT", "GET, HEAD"),
+    ("/reports/open", "POST", "GET, HEAD"),
     ("/reports/limits/C1/B101", "POST", "GET, HEAD"),
     ("/reports/limits/C1/B101", "head", "GET, HEAD"),
 ]
@@ -245,6 +273,7 @@ CUT = [
     (get("/exceedances"), response(*NONE_EXCEEDED)),
     (post("/requests", CANCEL), response(*NO_GROUND)),
     (post("/requests", CANCEL, "Expect: 100-continue"), CONTINUE + response(*NO_GROUND)),
+    (post("/checks", body_of(1, "hire C1 captain: Ada Ray")), response(200, ACCEPTED)),
     (HIRE, response(200, ACCEPTED)),
     (post("/imports/2", ONE_PAIRING), response(200, parts(ACCEPTED))),
     (post("/requests", body_of(3, "outside X1 C1 10: 11:00 | 12:00-19:30 | 20:00")), response(200, ACCEPTED)),
@@ -283,11 +312,22 @@ TORN = "\ufeff" + HEADER.replace("\n", "\r\n") + "P1,1,2025-06-10T11:00Z,2025-06
 HOUR = [
     ("GET /crew/C1", NO_CREW),
     ("GET /reports/limits/C1", NO_CREW),
+    # What is only checked is answered, and not done.
+    (check("1 hire C1 captain: Ada Ray"), (200, ACCEPTED)),
+    (check("1 hire C1 captain: Ada Ray"), (200, ACCEPTED)),
+    (check("1 hire C2 captain: Bo Lind"), (200, ACCEPTED)),
+    ("GET /crew/C1", NO_CREW),
     ("1 hire C1 captain: Ada Ray", (200, ACCEPTED)),
     ("2 hire F1 first-officer: Zoë Roy", (200, ACCEPTED)),
     ("1 hire C1 captain: Ada Ray", (200, ACCEPTED)),
     ("1 hire C2 captain: Bo Lind", (409, refused(1, "NumberUsed"))),
     ("9 hire C1 captain: Ada Ray", (409, refused(3, "CrewExists"))),
+    (check("1 hire C1 captain: Ada Ray"), (200, ACCEPTED)),
+    (check("1 hire C2 captain: Bo Lind"), (409, refused(1, "NumberUsed"))),
+    (check("9 hire C1 captain: Ada Ray"), (409, refused(3, "CrewExists"))),
+    (check("0 hire C3 captain: Bo Lind"), (422, refused(31, "BadJson", field="number"))),
+    (check("9 plan p1"), (422, refused(18, "BadField", field="pairing"))),
+    (check("9 plan P9"), (422, refused(19, "SegmentCount", period=0))),
     ("GET /crew/C1", (200, HIRED)),
     ("GET /crew/F1", (200, "ROSTER F1 first officer Zoë Roy\n")),
     (("/imports/3", JUNE), (200, parts(ACCEPTED, ACCEPTED, ACCEPTED))),
@@ -295,6 +335,7 @@ HOUR = [
     (("/imports/500", ANOTHER_B102), (200, parts(ACCEPTED, refused(5, "PairingExists"), ACCEPTED))),
     (("/imports/7", TORN), (422, refused(30, "BadCsv", line=2))),
     (("/imports/7", JUNE.replace("B103,2", "B103,3")), (422, refused(30, "BadCsv", line=7))),
+    ("GET /reports/members", (200, "MEMBERS 2\nC1 captain HOME Ada Ray\nF1 first officer HOME Zoë Roy\n")),
     ("4 assign B101 C1", (200, ACCEPTED)),
     ("5 assign B101 F1", (200, ACCEPTED)),
     # B101 is the one duty of C1. It reports at 13:00 in the zone of the book, and is on blocks at 00:45Z, by which each window ends.
@@ -325,6 +366,9 @@ LIMITS C1 captain Ada Ray with B102
     ("GET /reports/limits/C1/b102", NO_PAIRING),
     ("GET /reports/limits/C9/B102", NO_CREW),
     ("GET /reports/limits/C9/B999", NO_CREW),
+    (check("6 assign B102 C1"), (409, refused(12, "Limits", limits=[{"crew": "C1", "section": "117.25(e)"}]))),
+    (check("6 assign B102 F1"), (409, refused(12, "Limits", limits=[{"crew": "F1", "section": "117.25(e)"}]))),
+    (check("6 assign B103 C1"), (200, ACCEPTED)),
     ("6 assign B102 C1", (409, refused(12, "Limits", limits=[{"crew": "C1", "section": "117.25(e)"}]))),
     ("6 assign B103 C9", (409, refused(2, "NoSuchCrew"))),
     ("GET /pairings/B102", (200, """\
@@ -337,8 +381,26 @@ first officer -
 """)),
     ("7 fly B101 2 10: 17:00 | 18:00-19:45, 23:00-+1 00:45 | +1 01:15", (409, refused(13, "NoSuchDuty"))),
     ("7 fly B101 1 10: 17:00 | 18:00-19:45 | 20:00", (422, refused(19, "SegmentCount", period=1))),
+    (check(f"7 {LATE}"), (200, EXCEEDED)),
+    ("GET /exceedances", NONE_EXCEEDED),
     (f"7 {LATE}", (200, EXCEEDED)),
     (f"7 {LATE}", (200, EXCEEDED)),
+    (check(f"7 {LATE}"), (200, EXCEEDED)),
+    ("GET /reports/pairings", (200, """\
+PAIRINGS 5
+B101 2025-06-10T17:00Z 2025-06-11T05:45Z flown C1 F1
+B102 2025-06-11T10:45Z 2025-06-11T19:30Z plan - -
+B103 2025-06-12T14:00Z 2025-06-13T23:30Z plan - -
+P10 2025-06-20T06:30Z 2025-06-20T11:00Z plan - -
+P30 2025-06-22T06:30Z 2025-06-22T11:00Z plan - -
+""")),
+    ("GET /reports/open", (200, """\
+PAIRINGS 4
+B102 2025-06-11T10:45Z 2025-06-11T19:30Z plan - -
+B103 2025-06-12T14:00Z 2025-06-13T23:30Z plan - -
+P10 2025-06-20T06:30Z 2025-06-20T11:00Z plan - -
+P30 2025-06-22T06:30Z 2025-06-22T11:00Z plan - -
+""")),
     ("8 release B101 C1", (409, refused(10, "Flown"))),
     ("0 release B101 C1", (422, refused(31, "BadJson", field="number"))),
     ("9 plan p1", (422, refused(18, "BadField", field="pairing"))),

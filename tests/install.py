@@ -45,6 +45,9 @@ PUT = {
     f"{DOCUMENTS}/examples/back_up.sh": "examples/back_up.sh",
     f"{DOCUMENTS}/examples/june.csv": "examples/june.csv",
     f"{DOCUMENTS}/examples/requests.jsonl": "examples/requests.jsonl",
+    f"{DOCUMENTS}/examples/duty_calendar.py": "examples/duty_calendar.py",
+    f"{DOCUMENTS}/examples/chart.py": "examples/chart.py",
+    f"{DOCUMENTS}/examples/reports.py": "examples/reports.py",
 }
 # What is run below the prefix, with what it has to print, as the README has it.
 HOUR = [
@@ -145,7 +148,7 @@ def of_zsh():
     for name, specs in re.findall(r"^ +(\w+)\) _arguments \$help (.*) ;;$", script, re.M):
         named = re.findall(r"'(?:\d|(\*)):(\w+):", specs)
         arguments[name] = [word + ("..." if star else "") for star, word in named]
-        options[name] = sorted([*for_all, *re.findall(r"'(--\w+)\[", specs)])
+        options[name] = sorted([*for_all, *re.findall(r"'(--[\w-]+)\[", specs)])
     return Named(arguments, options), re.findall(r"^        ['\"](\w+):", script, re.M)
 
 
@@ -237,13 +240,13 @@ def tree(folder):
 
 def try_names(office):
     named, page = of_help(), text(MANUAL)
-    office.expect("--help has all subcommands", len(named.arguments) >= 9 and all(named.options.values()), True)
+    office.expect("--help has all subcommands", len(named.arguments) >= 11 and all(named.options.values()), True)
     options = lambda name: " [OPTIONS]" if set(named.options[name]) - {*OF_ALL} else ""
     usage = [" ".join([f"rosterbook {name}{options(name)}", *words]) for name, words in named.arguments.items()]
     office.expect("the synopsis", of_synopsis(page), usage)
     office.expect("the subcommands of the manual page", tags(page, "SUBCOMMANDS"), [*named.arguments])
     office.expect("the arguments of the manual page", {word for it in tags(page, "ARGUMENTS") for word in it.split(", ")}, named.words())
-    given = {word for it in tags(page, "OPTIONS") for word in re.findall(r"(?<!\S)--?\w+", it)}
+    given = {word for it in tags(page, "OPTIONS") for word in re.findall(r"(?<!\S)--?[\w-]+", it)}
     office.expect("the options of the manual page", given, {it for of_one in named.options.values() for it in of_one})
     for shell, (found, first) in (("bash", of_bash()), ("zsh", of_zsh())):
         office.expect(f"the subcommands that {shell} completes", first, [*named.arguments])
@@ -291,13 +294,18 @@ def try_bash(office, folder, wanted_zones):
     names, options = of_bash()[1], ["-h", "--help"]
     office.expect("first words", ask(""), [*names, *options, "-V", "--version"])
     office.expect("d", ask("d"), ["duty", "do"])
+    office.expect("pairing", ask("pairing"), ["pairing", "pairings"])
     for name in names:
         first = wanted_zones if name == "duty" else ["book.db", "folder"]
         office.expect(f"{name} and a blank", sorted(ask(name, "")), sorted(first))
-        more = {"limits": ["--with"], "serve": ["--connections"]}.get(name, [])
+        more = {"do": ["--dry-run", "--lines"], "limits": ["--with"], "pairings": ["--open"], "serve": ["--connections"]}.get(name, [])
         office.expect(f"{name} -", ask(name, "-"), [*more, *options])
     office.expect("init FILE", ask("init", "new.db", "M"), [it for it in wanted_zones if it.startswith("M")])
     office.expect("a third word of init", ask("init", "new.db", "UTC0", ""), [])
+    office.expect("do --lines", sorted(ask("do", "--lines", "")), ["book.db", "folder"])
+    office.expect("do FILE", ask("do", "book.db", ""), [])
+    office.expect("pairings --open", sorted(ask("pairings", "--open", "")), ["book.db", "folder"])
+    office.expect("members FILE", ask("members", "book.db", ""), [])
     office.expect("serve --connections 9", sorted(ask("serve", "--connections", "9", "")), ["book.db", "folder"])
     office.expect("serve --connections", ask("serve", "--connections", ""), [])
     office.expect("limits --with B102", sorted(ask("limits", "--with", "B102", "")), ["book.db", "folder"])
@@ -316,10 +324,15 @@ def try_zsh(office, folder):
     for typed, wanted in [
         ("du", "duty "),
         ("exc", "exceedances "),
+        ("mem", "members "),
         ("init b", "init book.db "),
         ("init new.db HS", "init new.db HST10 "),
         ("duty AST", "duty AST4 "),
         ("do bo", "do book.db "),
+        ("do --d", "do --dry-run "),
+        ("do --lines bo", "do --lines book.db "),
+        ("pairings --o", "pairings --open "),
+        ("pairings --open bo", "pairings --open book.db "),
         ("serve --c", "serve --connections "),
         ("serve --connections 9 bo", "serve --connections 9 book.db "),
         ("limits --w", "limits --with "),

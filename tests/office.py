@@ -244,6 +244,10 @@ class Book:
     def do(self, number, command):
         return self.send(compact({"number": number, **command}))
 
+    def check(self, number, command):
+        """What the program would answer now; nothing is kept."""
+        return rosterbook("do", self.file, "--dry-run", given=compact({"number": number, **command}))
+
     def import_schedule(self, number, text):
         return rosterbook("import", self.file, str(number), given=text)
 

@@ -8,6 +8,7 @@ passed=0
 failed=0
 zone=EST5EDT,M3.2.0,M11.1.0
 report=2025-06-10T15:59Z
+no_command='{"field":"body","name":"BadJson","refusal":31,"result":"refused"}'
 
 # case_of NAME STATUS OUT ERR WORDS..: OUT and ERR are patterns of the whole text.
 case_of() {
@@ -121,6 +122,7 @@ command_lines() {
     missing $'<FILE>\n<ZONE>' init
     missing '<ZONE>' init "$room/unmade"
     missing '<FILE>' 'do'
+    missing '<FILE>' 'do' --lines --dry-run
     missing $'<FILE>\n<NUMBER>' import
     missing '<NUMBER>' import "$room/unmade"
     missing $'<FILE>\n<CREW>' roster
@@ -131,6 +133,9 @@ command_lines() {
     missing '<CREW>' limits "$room/unmade"
     missing '<CREW>' limits "$room/unmade" --with P1
     missing '<FILE>' exceedances
+    missing '<FILE>' members
+    missing '<FILE>' pairings
+    missing '<FILE>' pairings --open
     missing $'<FILE>\n<PORT>' serve
     missing '<PORT>' serve "$room/unmade"
     missing '<PORT>' serve "$room/unmade" --connections 1
@@ -138,8 +143,11 @@ command_lines() {
     unexpected init "$room/unmade" "$zone" x
     unexpected init "$room/unmade" --new
     unexpected 'do' "$room/unmade" "$room/unmade"
+    unexpected 'do' --dry-run "$room/unmade" --lines "$room/unmade"
+    unexpected 'do' "$room/unmade" --dry
     unexpected import "$room/unmade" 500 501
     unexpected import "$room/unmade" -1
+    unexpected import "$room/unmade" 500 --dry-run
     unexpected roster "$room/unmade" C1 C2
     unexpected pairing "$room/unmade" P1 P2
     unexpected limits "$room/unmade" C1 P1
@@ -148,6 +156,13 @@ command_lines() {
     unexpected limits "$room/unmade" C1 --wit
     unexpected roster "$room/unmade" C1 --with
     unexpected exceedances "$room/unmade" C1
+    unexpected members "$room/unmade" C1
+    unexpected members "$room/unmade" --open
+    unexpected pairings "$room/unmade" B101
+    unexpected pairings "$room/unmade" --open B101
+    unexpected pairings --open "$room/unmade" "$room/unmade"
+    unexpected pairings "$room/unmade" --ope
+    unexpected pairing "$room/unmade" B101 --open
     unexpected serve "$room/unmade" 8117 1
     unexpected serve "$room/unmade" -1
     unexpected serve "$room/unmade" 8117 --connections -1
@@ -173,6 +188,14 @@ command_lines() {
         serve "$room/unmade" 8117 --connections
     case_of connections_twice 2 '' $'error: the argument \'--connections <N>\' cannot be used multiple times\n*' \
         serve "$room/unmade" 8117 --connections 1 --connections 1
+    case_of dry_run_twice 2 '' $'error: the argument \'--dry-run\' cannot be used multiple times\n*' \
+        'do' "$room/unmade" --dry-run --dry-run
+    case_of lines_of_a_number 2 '' $'error: unexpected value \'2\' for \'--lines\' found; no more were expected\n*' \
+        'do' "$room/unmade" --lines=2
+    case_of open_twice 2 '' $'error: the argument \'--open\' cannot be used multiple times\n*' \
+        pairings "$room/unmade" --open --open
+    case_of open_of_a_word 2 '' $'error: unexpected value \'no\' for \'--open\' found; no more were expected\n*' \
+        pairings "$room/unmade" --open=no
     case_of with_no_pairing 2 '' $'error: a value is required for \'--with <PAIRING>\' but none was supplied\n*' \
         limits "$room/unmade" C1 --with
     case_of with_twice 2 '' $'error: the argument \'--with <PAIRING>\' cannot be used multiple times\n*' \
@@ -182,13 +205,13 @@ command_lines() {
 
 helps() {
     case_of help 0 'The roster book*' '' --help
-    help_of '' duty init 'do' import roster pairing limits exceedances serve FILE ZONE NUMBER PORT CREW PAIRING REPORT TIME "$zone" "$report" \
+    help_of '' duty init 'do' import roster pairing limits exceedances members pairings serve FILE ZONE NUMBER PORT CREW PAIRING REPORT TIME "$zone" "$report" \
         REFUSALS.md 'man rosterbook'
     help_of duty duty ZONE REPORT TIME "$zone" "$report" 'UTC instant' Example:
     help_of init init FILE ZONE "$zone" UTC 'new or empty' 'base HOME' Example:
     help_of 'do' 'do' FILE 'JSON on standard input' '"number":1' '  add-base        base, zone' '  add-crew        crew, seat, name, base' \
         '  actual          pairing, period, report, release, segments' '  record-outside  outside, crew, report, release, segments' \
-        '90 Store' 'Exit status'
+        '90 Store' --dry-run --lines 'rosterbook do roster.db --lines' 'Exit status'
     help_of import import FILE NUMBER 'CSV on standard input' 'from 1 to 9223372036854775807' '  pairing,period,report,release,flight,from,out,to,in' \
         'record 1' '90 Store' 'Exit status'
     help_of roster roster FILE CREW 'rosterbook roster roster.db C1' 'hours and minutes' 'Exit status'
@@ -196,6 +219,8 @@ helps() {
     help_of limits limits FILE CREW '--with <PAIRING>' 'rosterbook limits roster.db C1 --with B102' "'exceeds' or 'within'" '12 Limits' \
         'Exit status'
     help_of exceedances exceedances FILE 'rosterbook exceedances roster.db' "'outside'" 'Exit status'
+    help_of members members FILE 'rosterbook members roster.db' 'order of the ids' 'Exit status'
+    help_of pairings pairings FILE --open 'rosterbook pairings roster.db --open' "'flown'" "'-' for a free seat" 'Exit status'
     help_of serve serve FILE PORT '--connections <N>' '[default: 1000000]' 'from 1 to 65535' 'from 1 to 1000000' \
         'rosterbook serve roster.db 8117 --connections 2' 'listening PORT' '92 Channel' '93 Network' '90 Store' 'Exit status'
 }
@@ -231,11 +256,26 @@ books() {
     holds unmade [ ! -e "$room/unmade" ]
     holds text_kept [ "$(seq 1000)" = "$(cat "$text")" ]
     case_of exceedances_of_an_empty_book 0 'EXCEEDANCES 0' '' exceedances "$book"
+    case_of members_of_an_empty_book 0 'MEMBERS 0' '' members "$book"
+    case_of pairings_of_an_empty_book 0 'PAIRINGS 0' '' pairings "$book"
+    case_of open_pairings_of_an_empty_book 0 'PAIRINGS 0' '' pairings --open "$book"
+    # Standard input is at its end: it is no command, and has no line.
+    case_of no_command_on_standard_input 1 "$no_command" '' 'do' "$book" --dry-run
+    case_of no_line_on_standard_input 0 '' '' 'do' "$book" --lines
+    case_of no_line_to_check 0 '' '' 'do' --lines "$book" --dry-run
     case_of roster_of_nobody 1 '' 'refused 2 NoSuchCrew' roster "$book" C1
     case_of pairing_of_no_text 1 '' 'refused 4 NoSuchPairing' pairing "$book" ''
     case_of roster_in_no_folder 3 '' 'refused 40 NotABook' roster "$room/unmade/roster.db" C1
     case_of exceedances_of_a_text 3 '' 'refused 90 Store' exceedances "$text"
+    case_of members_in_no_folder 3 '' 'refused 40 NotABook' members "$room/unmade/roster.db"
+    case_of pairings_of_a_text 3 '' 'refused 90 Store' pairings "$text" --open
+    case_of check_in_no_folder 3 '' 'refused 40 NotABook' 'do' "$room/unmade/roster.db" --dry-run
+    case_of lines_in_no_folder 3 '' 'refused 40 NotABook' 'do' "$room/unmade/roster.db" --lines
+    case_of checks_of_a_text 3 '' 'refused 90 Store' 'do' "$text" --lines --dry-run
     lost exceedances full exceedances "$book"
+    lost members full members "$book"
+    lost pairings full pairings "$book" --open
+    lost check full 'do' "$book" --dry-run
     untold roster_of_nobody full roster "$book" C1
     # A book is made before that is told.
     lost init full init "$room/untold" "$zone"
@@ -249,7 +289,9 @@ little_memory() {
     local book=$room/starved.db
     head -c 1048576 /dev/zero >"$room/zeros"
     case_of init_before_memory_is_limited 0 ready '' init "$book" "$zone"
-    starved do_of_little_memory '{"field":"body","name":"BadJson","refusal":31,"result":"refused"}' 'do' "$book"
+    starved do_of_little_memory "$no_command" 'do' "$book"
+    starved check_of_little_memory "$no_command" 'do' "$book" --dry-run
+    starved lines_of_little_memory "$no_command" 'do' "$book" --lines
     starved import_of_little_memory 'refused 30 BadCsv 1' import "$book" 1
 }
 

@@ -4,9 +4,9 @@
     tests/reports.py [NAME..]
 
 A case is a few lines, which tests/office.py has, each of which has to be accepted, on a book of the captain C1 and the first
-officer F1; and what `roster`, `limits`, `pairing` and `exceedances` then print, by their words. No report may change a byte of the book's
-file, nor of what its log holds. What differs is told on standard error. The last line is 'N passed, M failed', and the exit
-status 1 where M isn't 0.
+officer F1; and what `roster`, `limits`, `pairing`, `exceedances`, `members` and `pairings` then print, by their words. No report
+may change a byte of the book's file, nor of what its log holds. What differs is told on standard error. The last line is
+'N passed, M failed', and the exit status 1 where M isn't 0.
 """
 
 import sqlite3
@@ -111,6 +111,13 @@ CASES = {
         "roster C1": "ROSTER C1 captain Ada Ray",
         "roster F1": "ROSTER F1 first officer Zoë Roy",
         "exceedances": "EXCEEDANCES 0",
+        "members": """
+            MEMBERS 2
+            C1 captain HOME Ada Ray
+            F1 first officer HOME Zoë Roy
+        """,
+        "pairings": "PAIRINGS 0",
+        "pairings --open": "PAIRINGS 0",
     }],
     "a_pairing_and_its_captain": [ONE_PAIRING, {
         "roster C1": """
@@ -124,6 +131,42 @@ CASES = {
             first officer -
             1 plan report 2025-06-10T11:00Z release 2025-06-10T20:00Z
             1.1 RB1 BOS 2025-06-10T12:00Z IAD 2025-06-10T19:30Z
+        """,
+        "pairings": """
+            PAIRINGS 1
+            P1 2025-06-10T11:00Z 2025-06-10T20:00Z plan C1 -
+        """,
+        "pairings --open": """
+            PAIRINGS 1
+            P1 2025-06-10T11:00Z 2025-06-10T20:00Z plan C1 -
+        """,
+    }],
+    # P13A is flown with both seats; P06 to P08 and P13B have no first officer. Reports decide the order, and not ids.
+    "pairings_by_their_first_reports": [A_LATE_PERIOD + """
+        plan A9 11: 06:30 | 07:30-10:30 | 11:00
+        plan A8 12: 06:30 | 07:30-10:30 | 11:00
+        plan Z0 5: 06:30 | 07:30-10:30 | 11:00
+        assign Z0 F1
+        cancel A8
+    """, {
+        "pairings": """
+            PAIRINGS 7
+            Z0 2025-06-05T06:30Z 2025-06-05T11:00Z plan - F1
+            P06 2025-06-06T12:00Z 2025-06-07T00:00Z plan C1 -
+            P07 2025-06-07T12:00Z 2025-06-08T00:00Z plan C1 -
+            P08 2025-06-08T12:00Z 2025-06-09T00:30Z plan C1 -
+            P13A 2025-06-10T11:00Z 2025-06-11T07:30Z flown C1 F1
+            A9 2025-06-11T06:30Z 2025-06-11T11:00Z plan - -
+            P13B 2025-06-11T06:30Z 2025-06-11T11:00Z plan C1 -
+        """,
+        "pairings --open": """
+            PAIRINGS 6
+            Z0 2025-06-05T06:30Z 2025-06-05T11:00Z plan - F1
+            P06 2025-06-06T12:00Z 2025-06-07T00:00Z plan C1 -
+            P07 2025-06-07T12:00Z 2025-06-08T00:00Z plan C1 -
+            P08 2025-06-08T12:00Z 2025-06-09T00:30Z plan C1 -
+            A9 2025-06-11T06:30Z 2025-06-11T11:00Z plan - -
+            P13B 2025-06-11T06:30Z 2025-06-11T11:00Z plan C1 -
         """,
     }],
     "a_late_period_is_shown_as_flown": [A_LATE_PERIOD, {
@@ -177,8 +220,21 @@ CASES = {
             2.1 RB2 IAD 2025-06-12T12:00Z BOS 2025-06-12T13:00Z
             2.2 RB3 BOS 2025-06-12T14:00Z IAD 2025-06-12T14:30Z
         """,
+        # The first and the last are periods 1 and 2, also where 1 was flown after 2.
+        "pairings": """
+            PAIRINGS 1
+            P3 2025-06-14T11:00Z 2025-06-12T15:00Z flown C1 F1
+        """,
+        "pairings --open": "PAIRINGS 0",
     }],
     "duties_at_one_time": [AT_ONE_TIME, {
+        "pairings": """
+            PAIRINGS 4
+            PB 2025-06-20T10:59Z 2025-06-20T18:00Z flown C1 F1
+            P10 2025-06-20T11:00Z 2025-06-20T15:00Z flown C1 F1
+            P9 2025-06-20T11:00Z 2025-06-20T15:00Z flown C1 F1
+            PA 2025-06-20T11:00Z 2025-06-20T14:30Z flown C1 F1
+        """,
         "roster C1": """
             ROSTER C1 captain Ada Ray
             2025-06-20T10:59Z 2025-06-20T18:00Z pairing PB/1 actual fdp 3:01 flight 2:00
@@ -284,6 +340,17 @@ CASES = {
             ROSTER C9 captain Lee Roy
             base DEN
             2025-06-10T16:00Z 2025-06-11T06:30Z pairing P1/1 plan fdp 13:59 flight 8:30
+        """,
+        "members": """
+            MEMBERS 4
+            C1 captain HOME Ada Ray
+            C9 captain DEN Lee Roy
+            F1 first officer HOME Zoë Roy
+            F9 first officer HOME Ann Oh
+        """,
+        "pairings": """
+            PAIRINGS 1
+            P1 2025-06-10T16:00Z 2025-06-11T06:30Z plan C9 -
         """,
         "roster F9": "ROSTER F9 first officer Ann Oh",
         "roster C1": "ROSTER C1 captain Ada Ray",
@@ -765,7 +832,8 @@ def no_book_is_no_report(room):
     with closing(sqlite3.connect(folder / "other.db")) as tables:
         tables.execute("CREATE TABLE other (x)")
         tables.commit()
-    for words in (["roster", "C1"], ["limits", "C1"], ["limits", "C1", "--with", "P1"], ["pairing", "P1"], ["exceedances"]):
+    of_ids = (["roster", "C1"], ["limits", "C1"], ["limits", "C1", "--with", "P1"], ["pairing", "P1"])
+    for words in (*of_ids, ["exceedances"], ["members"], ["pairings"], ["pairings", "--open"]):
         for name, wanted in (("none.db", "refused 40 NotABook\n"), ("other.db", "refused 40 NotABook\n")):
             ran = rosterbook(words[0], folder / name, *words[1:])
             bad += [] if ran == Ran(3, "", wanted) else [f"{words} of {name}: {ran}"]

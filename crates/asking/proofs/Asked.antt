@@ -15,7 +15,7 @@ use Rattle.store.specs.declared.show.Show.{Show}
 use Rattle.book.specs.Kept.{HasTables, IsDurablyAt, IsClean, Kept, is_store_fault}
 use Rattle.asking.specs.Answers.{ReportsUnread}
 use Rattle.asking.specs.Reports.{HasShown, IsReportAsked, IsShowAsked}
-use Rattle.asking.specs.Requests.{IsCommandAsked, IsDoneAsRead, IsRequestAsked}
+use Rattle.asking.specs.Requests.{IsCheckedAsRead, IsCommandAsked, IsCommandChecked, IsDoneAsRead, IsRequestAsked, IsRequestChecked}
 use Rattle.asking.specs.declared.answers.AskFault.{AskFault}
 use Rattle.asking.specs.declared.answers.JsonAnswer.{JsonAnswer}
 use Rattle.asking.specs.declared.reports.Shown.{Shown}
@@ -31,6 +31,17 @@ request_read g old new body number instruction key result is under asked =
 pub request_unread : {S : Type 0} (g : Ghosts S) (book : Kept S) (body : List ℕ) (fault : CodecFault) (result : Result JsonAnswer AskFault)
     → read_request body ≡ Err fault → ReportsUnread fault result → IsRequestAsked g book book body result
 request_unread g book body fault result is reported = inl (subst (λ r. IsDoneAsRead g book book r result) (sym is) (refl, reported))
+
+-- the same of one that is only checked
+pub check_read : {S : Type 0} (g : Ghosts S) (old new : Kept S) (body : List ℕ) (number : ℕ) (instruction : Instruction) (key : KeyParts) (result : Result JsonAnswer AskFault)
+    → read_request body ≡ Ok (number, instruction) → key ≡ record { number = number; part = 0 }
+    → IsCommandChecked g old new (key, instruction) result → IsRequestChecked g old new body result
+check_read g old new body number instruction key result is under checked =
+    inl (subst (λ r. IsCheckedAsRead g old new r result) (sym is) (subst (λ k. IsCommandChecked g old new (k, instruction) result) under checked))
+
+pub check_unread : {S : Type 0} (g : Ghosts S) (book : Kept S) (body : List ℕ) (fault : CodecFault) (result : Result JsonAnswer AskFault)
+    → read_request body ≡ Err fault → ReportsUnread fault result → IsRequestChecked g book book body result
+check_unread g book body fault result is reported = inl (subst (λ r. IsCheckedAsRead g book book r result) (sym is) (refl, reported))
 
 -- ---- Reports
 

@@ -4,6 +4,7 @@ use Rattle.std.specs.Prelude.{Result, Ok, Err, IfOk, OnOk, String}
 use Rattle.std.specs.Global.{Global}
 use Rattle.std.specs.Option.{option_copied}
 use Rattle.sqlite_trees.specs.declared.store.Store.{Ghosts}
+use Rattle.values.specs.declared.memory_fault.MemoryFault.{MemoryFault}
 use Rattle.report.specs.declared.fault.ReportFault.{ReportFault}
 use Rattle.report.specs.declared.fault.ReportFault.TheVariants as report
 use Rattle.roster.specs.State.{State}
@@ -11,7 +12,7 @@ use Rattle.state_rows.specs.declared.fault.StoreFault.{StoreFault}
 use Rattle.store.specs.Shown.{Absence, no_crew, no_pairing, IsShown}
 use Rattle.store.specs.declared.show.Show.{Show}
 use Rattle.store.specs.declared.show.Show.TheVariants as show
-use Rattle.book.specs.Calls.{HasReported}
+use Rattle.book.specs.Calls.{HasRead}
 use Rattle.book.specs.Kept.{HasTables, IsDurablyAt, IsClean, Kept}
 use Rattle.asking.specs.declared.answers.AskFault.{AskFault}
 use Rattle.asking.specs.declared.answers.AskFault.TheVariants.{Book, Memory}
@@ -19,6 +20,7 @@ use Rattle.asking.specs.declared.reports.Shown.{Shown}
 use Rattle.asking.specs.declared.reports.Shown.TheVariants.{Text, NoSuchCrew, NoSuchPairing}
 use Rattle.asking.specs.declared.reports.Subject.{Subject}
 use Rattle.asking.specs.declared.reports.Subject.TheVariants.{Crew, Limits, Pairing, Exceedances}
+use Rattle.asking.specs.declared.reports.Subject.TheVariants.{Members, Pairings}
 
 -- what a book shows for a report
 abbrev pub show_of : Subject → Show
@@ -26,6 +28,8 @@ show_of (Crew id) = show.Crew id.now
 show_of (Limits crew with) = show.Limits crew.now (option_copied with)
 show_of (Pairing id) = show.Pairing id.now
 show_of Exceedances = show.Exceedances
+show_of Members = show.Members
+show_of (Pairings which) = show.Pairings which
 
 -- what is shown: a text, or that the member or the pairing isn't there
 abbrev pub text_shown : Shown → Result (List ℕ) Absence
@@ -47,7 +51,7 @@ module _ {S : Type 0} (g : Ghosts S) (old new : Kept S) (what : Show) where
   -- a book was asked to show this, and gave this roster or fault, as `Book::show` says: its text is
   -- that of the state that the tables mean
   pub record HasShown (shown : Result State StoreFault) : Type 0 where
-    pub call : HasReported g old new shown
+    pub call : HasRead g old new shown
     pub text : (s : State) → IsDurablyAt g old s → IsClean g new →
         IfOk shown (λ roster. (text : Result (List ℕ) Absence) →
         IsShown roster what text ↔ IsShown s what text)
@@ -77,3 +81,8 @@ shown_of (Err report.Memory) = Err Memory
 -- a text is that of a state, or there is none for this reason
 abbrev pub IsText : State → Show → Result (String Global) ReportFault → Type 0
 IsText s what text = ShowsOf s what (shown_of text)
+
+-- the text of a list is that of the report, or there was no memory for it
+abbrev pub IsListed : Result (String Global) MemoryFault → Result (String Global) ReportFault → Type 0
+IsListed (Ok text) result = result ≡ Ok text
+IsListed (Err fault) result = result ≡ Err report.Memory

@@ -1,13 +1,16 @@
 -- What becomes of a request: its command is asked of a book, and what the book answers is reported.
-use Rattle.std.specs.Prelude.{◌≡◌, ◌⊎◌, ℕ, List, Result, Ok, Err}
+use Rattle.std.specs.Prelude.{◌≡◌, ◌⊎◌, ℕ, List, Result, Ok, Err, IfOk, OnOk}
 use Rattle.sqlite_trees.specs.declared.store.Store.{Ghosts}
 use Rattle.command.specs.declared.instruction.Instruction.{Instruction}
 use Rattle.stored_json.specs.declared.fault.CodecFault.{CodecFault}
 use Rattle.codec.specs.Requests.{read_request}
-use Rattle.roster.specs.Folds.{Asked}
+use Rattle.roster.specs.Folds.{Asked, answer_of}
+use Rattle.roster.specs.State.{State}
+use Rattle.roster.specs.Steps.{step_of}
 use Rattle.state_rows.specs.declared.fault.StoreFault.{StoreFault}
 use Rattle.book.specs.Answered.{IsAnswered}
-use Rattle.book.specs.Kept.{Kept}
+use Rattle.book.specs.Calls.{HasRead}
+use Rattle.book.specs.Kept.{HasTables, IsClean, IsDurablyAt, Kept, result_of}
 use Rattle.book.specs.declared.answer.Answer.{Answer}
 use Rattle.asking.specs.Answers.{Reports, ReportsUnread}
 use Rattle.asking.specs.declared.answers.AskFault.{AskFault}
@@ -29,6 +32,21 @@ module _ {S : Type 0} (g : Ghosts S) (old new : Kept S) where
     pub answered : IsAnswered g old new asked answer
     pub reported : Reports answer result
 
+  -- a book was asked how it would answer a command now, as the clauses of these names say of
+  -- `Book::check`: the answer is that of the state that the tables mean, and nothing is kept
+  pub record HasChecked (asked : Asked) (answer : Result Answer StoreFault) : Type 0 where
+    pub call : HasRead g old new answer
+    pub reply : (s : State) → IsDurablyAt g old s → IsClean g new →
+        IfOk answer (λ a. result_of a ≡ answer_of (step_of s asked.0 asked.1))
+    pub tables : (s : State) → IsDurablyAt g old s → HasTables g old s →
+        OnOk answer (HasTables g new s)
+
+  -- a book was asked how it would answer a command now, and what it answered is reported
+  pub record IsCommandChecked (asked : Asked) (result : Result JsonAnswer AskFault) : Type 0 where
+    pub answer : Result Answer StoreFault
+    pub checked : HasChecked asked answer
+    pub reported : Reports answer result
+
   -- a book was asked the command of a request; for one that isn't read it was asked nothing, and
   -- why it isn't read is reported
   abbrev pub IsDoneAsRead : Request → Result JsonAnswer AskFault → Type 0
@@ -40,3 +58,15 @@ module _ {S : Type 0} (g : Ghosts S) (old new : Kept S) where
   abbrev pub IsRequestAsked : List ℕ → Result JsonAnswer AskFault → Type 0
   IsRequestAsked body result =
       IsDoneAsRead (read_request body) result ⊎ ((new ≡ old) × (result ≡ Err Memory))
+
+  -- a book was asked how it would answer the command of a request; for one that isn't read it was
+  -- asked nothing, and why it isn't read is reported
+  abbrev pub IsCheckedAsRead : Request → Result JsonAnswer AskFault → Type 0
+  IsCheckedAsRead (Ok asked) result = IsCommandChecked (asked_as asked) result
+  IsCheckedAsRead (Err fault) result = (new ≡ old) × ReportsUnread fault result
+
+  -- a book was asked how it would answer the request of a body; or there was no memory to read it,
+  -- and it was asked nothing
+  abbrev pub IsRequestChecked : List ℕ → Result JsonAnswer AskFault → Type 0
+  IsRequestChecked body result =
+      IsCheckedAsRead (read_request body) result ⊎ ((new ≡ old) × (result ≡ Err Memory))

@@ -9,6 +9,7 @@ use crate::answers::AskFault;
 use book::{Book, BookFault, Show};
 use duty::{CrewId, PairingId};
 use limits_report::limits_text;
+use list_report::{Listed, members_text, pairings_text};
 use report::{ReportFault, exceedance_text, pairing_text, roster_text};
 use roster::Roster;
 use sqlite::Alter;
@@ -32,6 +33,10 @@ pub enum Subject<'a> {
     Pairing(&'a str),
     /// All exceedances.
     Exceedances,
+    /// All members.
+    Members,
+    /// All pairings, or those with a free seat.
+    Pairings(Listed),
 }
 
 /// What is shown.
@@ -45,7 +50,8 @@ pub enum Shown {
     NoSuchPairing,
 }
 
-/// Asks a book for the text of a member's roster, of a member's limits, of a pairing or of the exceedances. No table is changed.
+/// Asks a book for the text of a member's roster, of a member's limits, of a pairing, of the exceedances or of a list. No table
+/// is changed.
 pub fn ask_report<S: Alter>(
     alloc: Global,
     book: &mut Book<S>,
@@ -74,6 +80,8 @@ fn shown_by(alloc: Global, subject: Subject<'_>) -> Result<Show, MemoryFault>
         },
         Subject::Pairing(id) => Show::Pairing(PairingId::new(copy_of(alloc, id)?)),
         Subject::Exceedances => Show::Exceedances,
+        Subject::Members => Show::Members,
+        Subject::Pairings(which) => Show::Pairings(which),
     })
 }
 
@@ -113,6 +121,18 @@ fn text_of(alloc: Global, roster: &Roster, what: &Show) -> Result<String, Report
         Show::Limits { crew, with } => limits_text(alloc, roster, crew, with.as_ref()),
         Show::Pairing(id) => pairing_text(alloc, roster, id),
         Show::Exceedances => exceedance_text(alloc, roster),
+        Show::Members => listed(members_text(alloc, roster)),
+        Show::Pairings(which) => listed(pairings_text(alloc, roster, *which)),
+    }
+}
+
+/// Makes a report of a list, if there was memory for it.
+fn listed(text: Result<String, MemoryFault>) -> Result<String, ReportFault>
+    ensures { spec.IsListed text result }
+{
+    match text {
+        Ok(text) => Ok(text),
+        Err(_) => Err(ReportFault::Memory),
     }
 }
 

@@ -5,10 +5,11 @@ use Rattle.sqlite.specs.State as conn
 use Rattle.sqlite.specs.State.{HasCleanDisk}
 use Rattle.sqlite.specs.Effect.{Database}
 use Rattle.stored_json.specs.Laws.{IsCommand}
-use Rattle.roster.specs.Folds.{Asked}
+use Rattle.roster.specs.Folds.{Asked, answer_of}
 use Rattle.roster.specs.State.{State}
 use Rattle.roster.specs.Steps.{after}
 use Rattle.roster.specs.declared.change.Change.{Change}
+use Rattle.roster.specs.declared.change.Verdict.{Verdict}
 use Rattle.state_rows.specs.declared.fault.StoreFault.{StoreFault}
 use Rattle.state_rows.specs.declared.fault.StoreFault.TheVariants.{Store, Memory}
 use Rattle.lookup.specs.Reads.{ChangesNothing, IsCausedIfStore, IsOpen, IsReadFault, Shows}
@@ -18,7 +19,8 @@ use Rattle.writing.specs.Next.{IsAcceptedChange}
 use Rattle.state_rows.specs.Outcomes.{CrashAddsNothing, CrashAddsOnly, HoldsNow, CrashLeaves, CrashLeavesSome, StaysOpen, StillShows, either, one}
 use Rattle.book.specs.Asking.{StepOutcome, Done}
 use Rattle.book.specs.Headline.{MakesNoChange}
-use Rattle.book.specs.Kept.{HasOne, IsKept, Keeps, StillHolds, either_kept, is_store_fault}
+use Rattle.book.specs.Kept.{HasOne, IsAnswerBy, IsKept, Keeps, StillHolds, either_kept, is_store_fault, result_of}
+use Rattle.book.specs.declared.answer.Answer.{Answer}
 use Rattle.book.proofs.States.{both_kept, kept_after, shows_still, shown_before, keeps_as, shows_as, either_as, still_as, same_state, one_of_either, still_keeps}
 
 -- ---- Where a state has another name
@@ -66,6 +68,41 @@ pub read_fault : {A : Type 0} (old new : conn.State) (s : State) (result : Resul
     IfErr result (IsReadFault old new) → IfErr result (IsCausedIfStore old new)
 read_fault old new s (Ok a) disk keeps shown fault = tt
 read_fault old new s (Err fault) disk keeps shown is = λ clean. is s (shows_it old s keeps shown (disk clean)) clean
+
+-- ---- The answer that a verdict gives
+
+-- it is that of the step
+pub answered_as : (verdict : Result Verdict StoreFault) (answer : Result Answer StoreFault) (step : Verdict) → IsAnswerBy verdict answer → IfOk verdict (λ v. v ≡ step) →
+    IfOk answer (λ a. result_of a ≡ answer_of step)
+answered_as (Ok v) (Ok a) step is same = is ∙ ap answer_of same
+answered_as (Ok v) (Err fault) step is same = tt
+answered_as (Err fault) (Ok a) step is same = absurd is
+answered_as (Err fault) (Err other) step is same = tt
+
+-- a fault is passed on
+pub passes_fault : (P : StoreFault → Type 0) (verdict : Result Verdict StoreFault) (answer : Result Answer StoreFault) → IsAnswerBy verdict answer → IfErr verdict P → IfErr answer P
+passes_fault P (Ok v) (Ok a) is it = tt
+passes_fault P (Ok v) (Err fault) is it = absurd is
+passes_fault P (Err fault) (Ok a) is it = absurd is
+passes_fault P (Err fault) (Err other) is it = subst P (sym is) it
+
+one_fault : (fault : StoreFault) → is_store_fault {A = Answer} (Err fault) ≡ is_store_fault {A = Verdict} (Err fault)
+one_fault Store = refl
+one_fault Memory = refl
+
+pub fails_alike : (verdict : Result Verdict StoreFault) (answer : Result Answer StoreFault) → IsAnswerBy verdict answer → is_store_fault verdict ≡ is_store_fault answer
+fails_alike (Ok v) (Ok a) is = refl
+fails_alike (Ok v) (Err fault) is = absurd is
+fails_alike (Err fault) (Ok a) is = absurd is
+fails_alike (Err fault) (Err other) is = sym (ap (λ (f : StoreFault). is_store_fault {A = Answer} (Err f)) is ∙ one_fault fault)
+
+pub opens_alike : (P : Type 0) (verdict : Result Verdict StoreFault) (answer : Result Answer StoreFault) → IsAnswerBy verdict answer → OnOk verdict P → OnOk answer P
+opens_alike P (Ok v) (Ok a) is it = it
+opens_alike P (Ok v) (Err fault) is it = tt
+opens_alike P (Err fault) (Ok a) is it = absurd is
+opens_alike P (Err fault) (Err other) is it = tt
+
+-- ---- Faults
 
 -- what is answered where nothing is changed is no fault of the store
 pub no_fault : {A : Type 0} (old new : conn.State) (result : Result A StoreFault) → (HasCleanDisk new → is_store_fault result ≡ false) → IfErr result (IsCausedIfStore old new)

@@ -10,7 +10,7 @@ use Rattle.roster.specs.State.{State}
 use Rattle.state_rows.specs.declared.fault.StoreFault.{StoreFault}
 use Rattle.state_rows.specs.declared.fault.StoreFault.TheVariants.{Store, Memory}
 use Rattle.book.specs.Answered.{IsAnswered}
-use Rattle.book.specs.Calls.{AnswersAreCalls, AreCalls, Call, HasReported, IsAfterCalls, IsCall, call_for_many, call_for_one, call_for_report}
+use Rattle.book.specs.Calls.{AnswersAreCalls, AreCalls, Call, HasRead, IsAfterCalls, IsCall, call_for_many, call_for_one, call_for_reading}
 use Rattle.book.specs.Kept.{Ends, IsClean, IsDurablyAt, Kept, is_store_fault, is_some_store_fault, result_of}
 use Rattle.book.specs.Ran.{HasRun}
 use Rattle.book.specs.Sessions.{fault_of}
@@ -70,28 +70,29 @@ module _ {S : Type 0} (g : Ghosts S) where
         outcome = λ s at. subst (λ n. Ends (state g new.held) s commands n run.fault) (sym many) (is.outcome s at);
       }
 
-  -- a report
-  report_ends : (new : Kept S) (s : State) (result : Result State StoreFault) → IsDurablyAt g new s → Ends (state g new.held) s [] 0 (fault_of result)
-  report_ends new s (Ok a) at = at
-  report_ends new s (Err Memory) at = at
-  report_ends new s (Err Store) at = one_of_either (state g new.held) s s at
+  -- a call that keeps nothing
+  reading_ends : {A : Type 0} (new : Kept S) (s : State) (result : Result A StoreFault) → IsDurablyAt g new s → Ends (state g new.held) s [] 0 (fault_of result)
+  reading_ends new s (Ok a) at = at
+  reading_ends new s (Err Memory) at = at
+  reading_ends new s (Err Store) at = one_of_either (state g new.held) s s at
 
-  pub is_report_call : {old new : Kept S} (result : Result State StoreFault) → HasReported g old new result → IsCall g old (call_for_report result) new
-  is_report_call {old} {new} result is = record {
+  pub is_reading_call : {A : Type 0} {old new : Kept S} (result : Result A StoreFault) → HasRead g old new result → IsCall g old (call_for_reading result) new
+  is_reading_call {A} {old} {new} result is = record {
     made = each_of [] tt;
     whole = λ _. refl;
     failed = is.failed ∙ ap (λ b. old.failed || b) (same_fault result);
     shut = λ it. (refl, (is.shut it).1);
     disk = is.unchanged.nothing_new.disk;
     replies = λ _ _ _. refl;
-    outcome = λ s at. report_ends new s result (is.kept s at);
+    outcome = λ s at. reading_ends new s result (is.kept s at);
   }
 
   pub answers_are_calls : AnswersAreCalls g
   answers_are_calls = record {
     one = λ old new asked result made is. is_one_call asked result made is;
     many = λ old new commands run made is. is_run_call commands run made is;
-    report = λ old new result is. is_report_call result is;
+    report = λ old new result is. is_reading_call result is;
+    check = λ old new result is. is_reading_call result is;
   }
 
   -- calls in turn

@@ -19,7 +19,7 @@ use Rattle.book.specs.declared.answer.Answer.{Answer}
 use Rattle.book.specs.declared.answer.Run.{Run}
 
 -- a call of a book: the commands that it asks in turn, the answers to the first of them, and the
--- fault that ended it, if there was one. A call for a report asks no command
+-- fault that ended it, if there was one. A call that keeps nothing asks no command
 pub record Call : Type 0 where
   pub asked : List Asked
   pub answers : List ReplyOrRefusal
@@ -40,9 +40,9 @@ abbrev pub call_for_many : List Asked → Run → Call
 call_for_many commands run =
     record { asked = commands; answers = map result_of run.answers.items; fault = run.fault }
 
--- a call for a report, as `Book::show` answers it
-abbrev pub call_for_report : Result State StoreFault → Call
-call_for_report result = record { asked = []; answers = []; fault = fault_of result }
+-- a call that keeps nothing, as `Book::show` and `Book::check` answer it
+abbrev pub call_for_reading : {A : Type 0} → Result A StoreFault → Call
+call_for_reading result = record { asked = []; answers = []; fault = fault_of result }
 
 module _ {S : Type 0} (g : Ghosts S) where
   -- a book was called so, and is the new one then
@@ -71,15 +71,15 @@ module _ {S : Type 0} (g : Ghosts S) where
   abbrev pub IsAfterCalls : Kept S → Kept S → Type 0
   IsAfterCalls old new = (calls : List Call) × AreCalls old calls new
 
-  -- a book was called for a report: as the clauses of these names say of `Book::show`
-  pub record HasReported (old new : Kept S) (result : Result State StoreFault) : Type 0 where
+  -- a book was only read: as the clauses of these names say of `Book::show` and `Book::check`
+  pub record HasRead {A : Type 0} (old new : Kept S) (result : Result A StoreFault) : Type 0 where
     pub failed : new.failed ≡ (old.failed || is_store_fault result)
     pub shut : IsTrue old.failed → (result ≡ Err Store) × (new ≡ old)
     pub unchanged : ChangesNothing (state g old.held) (state g new.held)
     pub kept : (s : State) → IsDurablyAt g old s → IsDurablyAt g new s
 
-  -- what the contracts of `Book::ask` and `Import::next`, of `Book::run`, and of `Book::show` say
-  -- of a book makes each of them a call
+  -- what the contracts of `Book::ask` and `Import::next`, of `Book::run`, of `Book::show` and of
+  -- `Book::check` say of a book makes each of them a call
   pub record AnswersAreCalls : Type 0 where
     pub one : (old new : Kept S) (asked : Asked) (result : Result Answer StoreFault) →
         IsMade asked.1 → IsAnswered g old new asked result →
@@ -88,4 +88,6 @@ module _ {S : Type 0} (g : Ghosts S) where
         AreMade commands → HasRun g old new commands run →
         IsCall old (call_for_many commands run) new
     pub report : (old new : Kept S) (result : Result State StoreFault) →
-        HasReported old new result → IsCall old (call_for_report result) new
+        HasRead old new result → IsCall old (call_for_reading result) new
+    pub check : (old new : Kept S) (result : Result Answer StoreFault) →
+        HasRead old new result → IsCall old (call_for_reading result) new

@@ -1,14 +1,15 @@
 -- What contracts see of a book, and what a crash leaves of it.
-use Rattle.std.specs.Prelude.{ℕ, ◌+◌, take, Bool, true, false, List, refl, IsTrue}
+use Rattle.std.specs.Prelude.{◌≡◌, ℕ, ◌+◌, take, Bool, true, false, List, refl, IsTrue}
 use Rattle.std.specs.Prelude.{Result, Ok, Err, Option, Some, None}
 use Rattle.std.specs.Coded.{Coded, code_by, coded×, coded_bool}
 use Rattle.sqlite_trees.specs.declared.store.Store.{Ghosts}
 use Rattle.sqlite.specs.State as conn
 use Rattle.sqlite.specs.State.{HasCleanDisk}
 use Rattle.sqlite.specs.Held.{Held, held_code, state}
-use Rattle.roster.specs.Folds.{Asked, Fold, ReplyOrRefusal}
+use Rattle.roster.specs.Folds.{Asked, Fold, ReplyOrRefusal, answer_of}
 use Rattle.roster.specs.Sound.{Sound}
 use Rattle.roster.specs.State.{State}
+use Rattle.roster.specs.declared.change.Verdict.{Verdict}
 use Rattle.entries.specs.SameRows.{HasInstants}
 use Rattle.state_rows.specs.declared.fault.StoreFault.{StoreFault}
 use Rattle.state_rows.specs.declared.fault.StoreFault.TheVariants.{Store, Memory}
@@ -99,6 +100,12 @@ pub record HasFoundBook (old now : conn.State) : Type 0 where
 abbrev pub result_of : Answer → ReplyOrRefusal
 result_of (Accepted reply) = Ok reply
 result_of (Refused refusal) = Err refusal
+
+-- a result is the answer that a verdict gives, or the fault that there is in place of a verdict
+abbrev pub IsAnswerBy : Result Verdict StoreFault → Result Answer StoreFault → Type 0
+IsAnswerBy (Ok verdict) (Ok answer) = result_of answer ≡ answer_of verdict
+IsAnswerBy (Err fault) (Err fault') = fault' ≡ fault
+IsAnswerBy _ _ = ⊥
 
 -- the result is a fault of the store (90)
 abbrev pub is_store_fault : {A : Type 0} → Result A StoreFault → Bool

@@ -1,5 +1,5 @@
 //! The book: it has the store judge a command by what the tables mean, of which no more is read than that takes, and
-//! commits what is accepted.
+//! commits what is accepted. A command that is only checked is judged in the same way, and not committed.
 //! What contracts see of it is `specs/Kept.antt`. What an answer and a run come to are the records of
 //! `specs/Answered.antt` and `specs/Ran.antt`, in the words of `specs/Headline.antt`.
 //! Worked rows: `tests/answers.py`; the rows that are left: `tests/tables.py`. Wrong bodies: `must-fail/`.
@@ -21,7 +21,7 @@ ghost use Rattle.book.specs.Asking.{StepOutcome};
 ghost use Rattle.book.specs.Headline.{IsRefusal, SparesOthers};
 ghost use Rattle.store.specs.Loaded.{IsLoaded, IsNotLoaded};
 ghost use Rattle.store.specs.Shown.{Absence, IsShown};
-ghost use Rattle.book.specs.Kept.{HasOne, HasTables, IsDurablyAt, IsClean, Keeps, KeepsEither, HasFoundBook, StillHolds, is_store_fault, result_of};
+ghost use Rattle.book.specs.Kept.{HasOne, HasTables, IsAnswerBy, IsDurablyAt, IsClean, Keeps, KeepsEither, HasFoundBook, StillHolds, is_store_fault, result_of};
 
 use crate::answer::{Answer, Run};
 use command::{Command, Instruction, Key};
@@ -179,6 +179,43 @@ impl<S: Alter> Book<S> {
         shown
     }
 
+    /// Judges a command by the part of the state that it needs, and answers as [`Book::ask`] would now: one that is kept
+    /// already as it was. Nothing is kept, and no table is changed. After want of memory (91) the call may be made again; after a
+    /// fault of the store (90) each later call answers 90.
+    pub fn check(
+        &mut self,
+        alloc: Global,
+        key: Key,
+        command: &Command,
+    ) -> Result<Answer, StoreFault>
+        // As of `show`.
+        ensures failed { self.new.failed ≡ (self.old.failed || is_store_fault result) }
+        ensures shut { IsTrue self.old.failed
+            → (result ≡ Err StoreFault.Store) × (self.new ≡ self.old) }
+        ensures unchanged { ChangesNothing (state S.Store self.old.held)
+            (state S.Store self.new.held) }
+        ensures some_left { CrashLeavesSome (state S.Store self.new.held) }
+        ensures caused { self.old.failed ≡ false → IfErr result
+            (IsCausedIfStore (state S.Store self.old.held) (state S.Store self.new.held)) }
+
+        // The answer, by the state that the tables mean.
+        ensures reply { (s : State) → IsDurablyAt S.Store self.old s → IsClean S.Store self.new
+            → IfOk result (λ a. result_of a ≡ answer_of (step_of s key command.now)) }
+
+        // The state stays: a crash leaves it, and the tables mean it.
+        ensures kept { (s : State) → IsDurablyAt S.Store self.old s
+            → IsDurablyAt S.Store self.new s }
+        ensures shown { (s : State) → IsDurablyAt S.Store self.old s → HasTables S.Store self.old s
+            → OnOk result (HasTables S.Store self.new s) }
+    {
+        if self.failed {
+            return Err(StoreFault::Store);
+        }
+        let verdict = self.store.judge(alloc, key, command);
+        self.failed = is_of_store(&verdict);
+        answered_by(verdict)
+    }
+
     /// Hands back the connection, with nothing changed.
     pub fn into_connection(self) -> Connection<S>
         ensures same { result ≡ self.held }
@@ -283,6 +320,21 @@ fn stopped(answers: Vec<Answer>, fault: StoreFault) -> Run
     Run {
         answers,
         fault: Some(fault),
+    }
+}
+
+/// Names the answer that a verdict gives.
+fn answered_by(verdict: Result<Verdict, StoreFault>) -> Result<Answer, StoreFault>
+    ensures { IsAnswerBy verdict result }
+{
+    match verdict? {
+        Verdict::Repeat(kept) => Ok(Answer::Accepted(kept)),
+        Verdict::Accept(change, given) => {
+            // (by a call, as in `decide_by`)
+            drop(change);
+            Ok(Answer::Accepted(given))
+        }
+        Verdict::Refuse(why) => Ok(Answer::Refused(why)),
     }
 }
 

@@ -17,20 +17,22 @@ use Rattle.clap.specs.Kinds.{HasKind, Kinds}
 use Rattle.clap.specs.Faults.{built_fault, check_fault, defaults_fault, entered_fault, fault_of}
 use Rattle.clap.specs.Faults.{is_simple_and_free, level_fault, settle_fault, walk_fault}
 use Rattle.console.proofs.WalkKeeps.{none_of}
-use Rattle.console.proofs.Filled.{Filled, NoneMissing, check_none, checks_passed, defaults_found, given_all, given_first}
+use Rattle.console.proofs.Filled.{Filled, NoneMissing, check_none, checks_passed, defaults_found, found_first, given_all}
 use Rattle.console.proofs.Filled.{given_found, has_default, has_rule, rows_filled, takes_one, wanted_given}
-use Rattle.console.proofs.NumberRead.{is_checked, number_there, rows_read}
-use Rattle.console.specs.CommandLine.{Argument, a_number, a_text, command_line, option_number, option_text, some_texts}
-use Rattle.console.specs.CommandLine.{table}
+use Rattle.console.proofs.FlagRead.{flag_there, is_flag_checked}
+use Rattle.console.proofs.NumberRead.{is_number_checked, number_there}
+use Rattle.console.specs.CommandLine.{Argument, a_number, a_text, command_line, flag, option_number, option_text}
+use Rattle.console.specs.CommandLine.{some_texts, table}
 use Rattle.console.specs.Arguments.{Has, HasArguments, HasEach, IsAmong}
 
 -- these rules have the argument be there
 abbrev fits_one : List Rule → Argument → Bool
 fits_one rules (a_text id) = has_rule (λ a. a.required) id rules
 fits_one rules (some_texts id) = has_rule (λ a. a.required) id rules
-fits_one rules (a_number most id) = has_rule (λ a. a.required) id rules && list_all (is_checked id most) rules
-fits_one rules (option_number most default id) = has_rule has_default id rules && list_all (is_checked id most) rules
+fits_one rules (a_number most id) = has_rule (λ a. a.required) id rules && list_all (is_number_checked most id) rules
+fits_one rules (option_number most default id) = has_rule has_default id rules && list_all (is_number_checked most id) rules
 fits_one rules (option_text id) = true
+fits_one rules (flag id) = list_all (is_flag_checked id) rules
 
 -- the subcommand is that of this row, and has its arguments be there
 abbrev fits : Shape → Text × List Argument → Bool
@@ -49,17 +51,19 @@ module _ (s : Shape) (words : List Text) (none : level_fault s [] nothing_held w
   rows = rows_after s.rules [] words
 
   has_one : (a : Argument) → Filled rows → NoneMissing s.rules rows → fits_one s.rules a ≡ true → Has rows a
-  has_one (a_text id) filled there e = given_first id rows filled (wanted_given id s.rules rows e there)
+  has_one (a_text id) filled there e =
+      found_first id rows filled (given_found id rows (wanted_given id s.rules rows e there))
   has_one (some_texts id) filled there e = given_all id rows (wanted_given id s.rules rows e there)
   has_one (a_number most id) filled there e =
       let p = both (has_rule (λ a. a.required) id s.rules) _ e in
-      number_there id most rows (rows_read id most s words p.1 none) filled
-      (given_found id rows (wanted_given id s.rules rows p.0 there))
+      number_there most id s words p.1 none
+      (found_first id rows filled (given_found id rows (wanted_given id s.rules rows p.0 there)))
   has_one (option_number most default id) filled there e =
       let p = both (has_rule has_default id s.rules) _ e in
-      number_there id most rows (rows_read id most s words p.1 none) filled
-      (defaults_found id s.rules (settled s.rules (walk s.rules [] nothing_held words).held).rows p.0)
+      number_there most id s words p.1 none (found_first id rows filled
+      (defaults_found id s.rules (settled s.rules (walk s.rules [] nothing_held words).held).rows p.0))
   has_one (option_text id) filled there e = tt
+  has_one (flag id) filled there e = flag_there id s words e none
 
   has_each : (arguments : List Argument) → Filled rows → NoneMissing s.rules rows
       → list_all (fits_one s.rules) arguments ≡ true → HasEach rows arguments

@@ -36,9 +36,9 @@ is_filled r = has_value r.values
 abbrev pub Filled : List Row → Type 0
 Filled rows = list_all is_filled rows ≡ true
 
--- a use of the argument has a value, or asks for help or the version
+-- a use of the argument has a value, its own or one that stands for it, or asks for help or the version
 abbrev pub takes_one : Rule → Bool
-takes_one a = is_request (action_of a) || nat_lt 0 (unwrap_or_range a.range).start_inclusive
+takes_one a = is_request (action_of a) || (has_value a.missing || nat_lt 0 (unwrap_or_range a.range).start_inclusive)
 
 has_more : (xs ys : List Text) → has_value xs ≡ true → has_value (xs ++ ys) ≡ true
 has_more [] ys e = absurd (true≢false (sym e))
@@ -111,18 +111,24 @@ no_range least most one none = go (nat_lt 0 least) one none
     go true is e = cc
     go false is e = absurd (true≢false (sym is))
 
--- a use within its range of one value or more has one
-used_within : (a : Rule) (values : List Text) → nat_lt 0 (unwrap_or_range a.range).start_inclusive ≡ true
+-- a use within its range of one value or more has one, and so has one of an argument with a value for none
+used_within : (a : Rule) (values : List Text)
+    → (has_value a.missing || nat_lt 0 (unwrap_or_range a.range).start_inclusive) ≡ true
     → range_kinds (unwrap_or_range a.range).start_inclusive (most_values a) (length values) ≡ []
     → has_value (values_or_missing a values) ≡ true
-used_within a [] one none = absurd (no_range (unwrap_or_range a.range).start_inclusive (most_values a) one none)
+used_within a [] one none = go (has_value a.missing) one
+  where
+    go : (b : Bool) → (b || nat_lt 0 (unwrap_or_range a.range).start_inclusive) ≡ true → b ≡ true
+    go true either = refl
+    go false either = absurd (no_range (unwrap_or_range a.range).start_inclusive (most_values a) either none)
 used_within a (v ∷ vs) one none = refl
 
 use_fills : (again : Bool) (a : Rule) (values : List Text) (rows : List Row) → takes_one a ≡ true
     → use_fault again a values rows ≡ [] → Filled rows → Filled (used a values rows)
 use_fills again a values rows ok none e = go (is_request (action_of a)) refl ok
   where
-    go : (b : Bool) → is_request (action_of a) ≡ b → (b || nat_lt 0 (unwrap_or_range a.range).start_inclusive) ≡ true
+    go : (b : Bool) → is_request (action_of a) ≡ b
+        → (b || (has_value a.missing || nat_lt 0 (unwrap_or_range a.range).start_inclusive)) ≡ true
         → Filled (used a values rows)
     go true asks one = used_to_ask (action_of a) a.id (reading_by a) (values_or_missing a values) rows asks e
     go false asks one =
@@ -213,21 +219,6 @@ wanted_given id (a ∷ rest) rows e there =
         given _ (rw (p.1, same) at here)
     go false is has here later = later has
 
--- what was given has a first value
-pub given_first : (id : Text) (rows : List Row) → Filled rows → is_given id rows ≡ true
-    → is_some (first_of id rows) ≡ true
-given_first id rows filled given = go (find (λ r. bytes_eq r.id id) rows) refl given
-  where
-    value : (vs : List Text) → has_value vs ≡ true → is_some (slice_get vs 0) ≡ true
-    value [] e = absurd (true≢false (sym e))
-    value (v ∷ vs) e = refl
-
-    go : (o : Option Row) → find (λ r. bytes_eq r.id id) rows ≡ o
-        → option_map_or (λ r. explicit_source r.source) o false ≡ true
-        → is_some (option_and_then (λ r. slice_get r.values 0) o) ≡ true
-    go None is e = absurd (true≢false (sym e))
-    go (Some r) is e = value r.values (found_passes _ is_filled rows r filled is)
-
 pub given_all : (id : Text) (rows : List Row) → is_given id rows ≡ true → is_some (all_of id rows) ≡ true
 given_all id rows given = go (find (λ r. bytes_eq r.id id) rows) given
   where
@@ -247,6 +238,20 @@ given_found id rows given = go (find (λ r. bytes_eq r.id id) rows) given
     go : (o : Option Row) → option_map_or (λ r. explicit_source r.source) o false ≡ true → is_some o ≡ true
     go None e = absurd (true≢false (sym e))
     go (Some r) e = refl
+
+-- what has a row has a first value
+pub found_first : (id : Text) (rows : List Row) → Filled rows → is_found id rows ≡ true
+    → is_some (first_of id rows) ≡ true
+found_first id rows filled found = go (find (λ r. bytes_eq r.id id) rows) refl found
+  where
+    value : (vs : List Text) → has_value vs ≡ true → is_some (slice_get vs 0) ≡ true
+    value [] e = absurd (true≢false (sym e))
+    value (v ∷ vs) e = refl
+
+    go : (o : Option Row) → find (λ r. bytes_eq r.id id) rows ≡ o → is_some o ≡ true
+        → is_some (option_and_then (λ r. slice_get r.values 0) o) ≡ true
+    go None is e = absurd (true≢false (sym e))
+    go (Some r) is e = value r.values (found_passes _ is_filled rows r filled is)
 
 has_found : (id : Text) (rows : List Row) → has_row id rows ≡ true → is_found id rows ≡ true
 has_found id [] e = absurd (true≢false (sym e))

@@ -1,7 +1,12 @@
+pub mod Checked
 pub mod Commands
+pub mod FlagLine
+pub mod DoLine
+pub mod PairingsLine
 pub mod DutyLine
 pub mod Entered
 pub mod Filled
+pub mod FlagRead
 pub mod Getters
 pub mod LimitsLine
 pub mod NumberRead

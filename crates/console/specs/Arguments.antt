@@ -1,12 +1,24 @@
 -- What is there of a line that `clap` took, which the readers of its matches rest on.
-use Rattle.std.specs.Prelude.{◌≡◌, ◌⊎◌, ℕ, List, [], ◌∷◌, Option, Some, None, is_some, true}
+use Rattle.std.specs.Prelude.{◌≡◌, ◌⊎◌, ◌||◌, ℕ, Bool, List, [], ◌∷◌, Option, Some, None, codes}
+use Rattle.std.specs.Prelude.{is_some, true}
+use Rattle.std.specs.Option.{option_map_or}
+use Rattle.std.specs.Str.{bytes_eq}
 use Rattle.clap.specs.Words.{Row, Text, all_of, first_of, one_of}
-use Rattle.console.specs.CommandLine.{Argument, a_number, a_text, arguments_of, number_found}
+use Rattle.console.specs.CommandLine.{Argument, a_number, a_text, arguments_of, flag, number_found}
 use Rattle.console.specs.CommandLine.{option_number, option_text, some_texts, table}
 
 -- the argument has a whole number from 1 to `most`, which is read as it was written
 pub record HasNumber (most : ℕ) (id : Text) (rows : List Row) : Type 0 where
   pub number : is_some (number_found most id rows) ≡ true
+  pub as_written : one_of id rows ≡ first_of id rows
+
+-- the text is one of those that a flag has
+abbrev pub is_flag_text : Text → Bool
+is_flag_text text = bytes_eq text (codes "true") || bytes_eq text (codes "false")
+
+-- the flag has nothing, or `true` or `false`, which is read as it was written
+pub record HasFlag (id : Text) (rows : List Row) : Type 0 where
+  pub word : option_map_or is_flag_text (first_of id rows) true ≡ true
   pub as_written : one_of id rows ≡ first_of id rows
 
 -- the argument has what is read of it: an option of a text may have nothing
@@ -16,6 +28,7 @@ Has rows (some_texts id) = is_some (all_of id rows) ≡ true
 Has rows (a_number most id) = HasNumber most id rows
 Has rows (option_number most default id) = HasNumber most id rows
 Has rows (option_text id) = Unit {0}
+Has rows (flag id) = HasFlag id rows
 
 abbrev pub HasEach : List Row → List Argument → Type 0
 HasEach rows [] = Unit {0}

@@ -1,5 +1,5 @@
 -- The command line as a table: what `clap` is told of it, and what an action says of the words.
-use Rattle.std.specs.Prelude.{◌≡◌, ◌∷◌, ℕ, List, [], Option, Some, None, true, false, map, find}
+use Rattle.std.specs.Prelude.{◌≡◌, ◌∷◌, ℕ, Bool, List, [], Option, Some, None, true, false, map, find}
 use Rattle.std.specs.Prelude.{codes, fold, if◌then◌else◌, option_and_then, option_map, string_bytes}
 use Rattle.std.specs.Option.{option_map_or}
 use Rattle.std.specs.Str.{bytes_eq}
@@ -8,14 +8,15 @@ use Rattle.clap.specs.Words.{App, Row, Rule, Text, all_of, app_of, first_of, new
 use Rattle.clap.specs.Words.{rule_of, with_rule, with_subcommand}
 use Rattle.clap.specs.Simple.{on_top}
 use Rattle.clap.specs.ValueTests.{is_unsigned_in}
-use Rattle.clap.specs.declared.builder.action.ArgAction.TheVariants.{Append}
+use Rattle.clap.specs.declared.builder.action.ArgAction.TheVariants.{Append, SetTrue}
 use Rattle.clap.specs.declared.builder.arg.Arg.{Arg}
 use Rattle.clap.specs.declared.builder.command.Command.{Command}
 use Rattle.clap.specs.declared.builder.command.Command.TheViews.{out-Command}
 use Rattle.clap.specs.declared.builder.value_parser.ValueParser.TheVariants.{Unsigned}
 use Rattle.console.specs.declared.actions.Action.{Action}
 use Rattle.console.specs.declared.actions.Action.TheVariants.{Duty, Init, Do, Import}
-use Rattle.console.specs.declared.actions.Action.TheVariants.{Roster, Pairing, Limits, Exceedances, Serve}
+use Rattle.console.specs.declared.actions.Action.TheVariants.{Roster, Pairing, Limits, Exceedances}
+use Rattle.console.specs.declared.actions.Action.TheVariants.{Members, Pairings, Serve}
 
 -- the greatest number of a request
 abbrev pub last_number : ℕ
@@ -41,6 +42,8 @@ pub data Argument : Type 0 where
   option_number : ℕ → Text → Text → Argument
   -- `--NAME TEXT`, a text, which may be left out
   option_text : Text → Argument
+  -- `--NAME`, which may be left out
+  flag : Text → Argument
 
 -- `--connections N`, which may be left out and is then 1,000,000
 abbrev pub connections : Argument
@@ -51,7 +54,7 @@ abbrev pub table : List (Text × List Argument)
 table =
     (codes "duty", a_text (codes "zone") ∷ a_text (codes "report") ∷ some_texts (codes "time") ∷ [])
     ∷ (codes "init", a_text (codes "file") ∷ a_text (codes "zone") ∷ [])
-    ∷ (codes "do", a_text (codes "file") ∷ [])
+    ∷ (codes "do", a_text (codes "file") ∷ flag (codes "dry-run") ∷ flag (codes "lines") ∷ [])
     ∷ (codes "import", a_text (codes "file") ∷ a_number last_number (codes "number") ∷ [])
     ∷ (codes "roster", a_text (codes "file") ∷ a_text (codes "crew") ∷ [])
     ∷ (codes "pairing", a_text (codes "file") ∷ a_text (codes "pairing") ∷ [])
@@ -60,6 +63,8 @@ table =
       a_text (codes "file") ∷ a_text (codes "crew") ∷ option_text (codes "with") ∷ [],
     )
     ∷ (codes "exceedances", a_text (codes "file") ∷ [])
+    ∷ (codes "members", a_text (codes "file") ∷ [])
+    ∷ (codes "pairings", a_text (codes "file") ∷ flag (codes "open") ∷ [])
     ∷ (codes "serve", a_text (codes "file") ∷ a_number last_port (codes "port") ∷ connections ∷ [])
     ∷ []
 
@@ -92,12 +97,17 @@ optional_number most default id = record (optional id) {
   parser = Some (Unsigned 1 most);
 }
 
+-- an option with no value, which may be left out
+abbrev pub optional_flag : Text → Rule
+optional_flag id = record (new_rule id) { long = Some id; action = Some SetTrue }
+
 abbrev pub rule : Argument → Rule
 rule (a_text id) = wanted id
 rule (some_texts id) = wanted_each id
 rule (a_number most id) = wanted_number most id
 rule (option_number most default id) = optional_number most default id
 rule (option_text id) = optional id
+rule (flag id) = optional_flag id
 
 -- a subcommand with these arguments
 abbrev pub with_arguments : Text → List Argument → App
@@ -140,6 +150,7 @@ pub data Value : Type 0 where
   several : List Text → Value
   whole : ℕ → Value
   maybe : Option Text → Value
+  given : Bool → Value
 
 -- a whole number from 1 to `most`, of its text: digits, zeros first or none, after `+` or nothing
 abbrev pub number_up_to : ℕ → Text → Option ℕ
@@ -154,6 +165,10 @@ request_number = number_up_to last_number
 abbrev pub number_found : ℕ → Text → List Row → Option ℕ
 number_found most id rows = option_and_then (number_up_to most) (first_of id rows)
 
+-- the flag was given: `true` was found for it, and not its default `false`
+abbrev pub is_on : Text → List Row → Bool
+is_on id rows = option_map_or (λ text. bytes_eq text (codes "true")) (first_of id rows) false
+
 -- the value that was found for the argument
 abbrev pub value_of : List Row → Argument → Option Value
 value_of rows (a_text id) = option_map one (first_of id rows)
@@ -161,6 +176,7 @@ value_of rows (some_texts id) = option_map several (all_of id rows)
 value_of rows (a_number most id) = option_map whole (number_found most id rows)
 value_of rows (option_number most default id) = option_map whole (number_found most id rows)
 value_of rows (option_text id) = Some (maybe (first_of id rows))
+value_of rows (flag id) = Some (given (is_on id rows))
 
 -- the subcommand of an action, and what is given for each of its arguments
 abbrev pub asked : Action → Text × List Value
@@ -169,7 +185,8 @@ asked (Duty zone report times) = (
   one (string_bytes zone) ∷ one (string_bytes report) ∷ several (map string_bytes times.items) ∷ [],
 )
 asked (Init file zone) = (codes "init", one (string_bytes file) ∷ one (string_bytes zone) ∷ [])
-asked (Do file) = (codes "do", one (string_bytes file) ∷ [])
+asked (Do file dry_run lines) =
+    (codes "do", one (string_bytes file) ∷ given dry_run ∷ given lines ∷ [])
 asked (Import file number) = (codes "import", one (string_bytes file) ∷ whole number ∷ [])
 asked (Roster file crew) = (codes "roster", one (string_bytes file) ∷ one (string_bytes crew) ∷ [])
 asked (Pairing file id) = (codes "pairing", one (string_bytes file) ∷ one (string_bytes id) ∷ [])
@@ -178,6 +195,9 @@ asked (Limits file crew id) = (
   one (string_bytes file) ∷ one (string_bytes crew) ∷ maybe (option_map string_bytes id) ∷ [],
 )
 asked (Exceedances file) = (codes "exceedances", one (string_bytes file) ∷ [])
+asked (Members file) = (codes "members", one (string_bytes file) ∷ [])
+asked (Pairings file only_open) =
+    (codes "pairings", one (string_bytes file) ∷ given only_open ∷ [])
 asked (Serve file port count) =
     (codes "serve", one (string_bytes file) ∷ whole port ∷ whole count ∷ [])
 

@@ -1,8 +1,9 @@
 -- The words of a plain line of each subcommand.
-use Rattle.std.specs.Prelude.{◌≡◌, ◌==◌, ℕ, Bool, true, not, List, [], ◌∷◌, Option, Some, None}
-use Rattle.std.specs.Prelude.{codes}
+use Rattle.std.specs.Prelude.{◌≡◌, ◌==◌, ◌++◌, ℕ, Bool, true, not, List, [], ◌∷◌, Option, Some}
+use Rattle.std.specs.Prelude.{None, codes, if◌then◌else◌}
 use Rattle.clap.specs.Walk.{Text}
-use Rattle.console.specs.CommandLine.{asked, maybe, most_connections, number_up_to, one, several, whole}
+use Rattle.console.specs.CommandLine.{asked, given, maybe, most_connections, number_up_to, one}
+use Rattle.console.specs.CommandLine.{several, whole}
 use Rattle.console.specs.declared.actions.Action.{Action}
 
 -- a word that begins with no hyphen (45)
@@ -26,13 +27,21 @@ init_words file zone = codes "init" ∷ file ∷ zone ∷ []
 abbrev pub IsInit : Text → Text → Action → Type 0
 IsInit file zone a = asked a ≡ (codes "init", one file ∷ one zone ∷ [])
 
--- `do FILE`
-abbrev pub do_words : Text → List Text
-do_words file = codes "do" ∷ file ∷ []
+-- the word of a flag, where it is given
+abbrev pub word_if : Bool → Text → List Text
+word_if is_given word = if is_given then word ∷ [] else []
 
--- the action is `do` with exactly this argument
-abbrev pub IsDo : Text → Action → Type 0
-IsDo file a = asked a ≡ (codes "do", one file ∷ [])
+-- `--dry-run`, and then `--lines`, each where it is given
+abbrev pub do_flags : Bool → Bool → List Text
+do_flags dry_run lines = word_if dry_run (codes "--dry-run") ++ word_if lines (codes "--lines")
+
+-- `do FILE`, and then the flags that are given
+abbrev pub do_words : Text → Bool → Bool → List Text
+do_words file dry_run lines = codes "do" ∷ file ∷ do_flags dry_run lines
+
+-- the action is `do` with exactly these arguments
+abbrev pub IsDo : Text → Bool → Bool → Action → Type 0
+IsDo file dry_run lines a = asked a ≡ (codes "do", one file ∷ given dry_run ∷ given lines ∷ [])
 
 -- `import FILE NUMBER`
 abbrev pub import_words : Text → Text → List Text
@@ -74,6 +83,22 @@ exceedances_words file = codes "exceedances" ∷ file ∷ []
 -- the action is `exceedances` with exactly this argument
 abbrev pub IsExceedances : Text → Action → Type 0
 IsExceedances file a = asked a ≡ (codes "exceedances", one file ∷ [])
+
+-- `members FILE`
+abbrev pub members_words : Text → List Text
+members_words file = codes "members" ∷ file ∷ []
+
+-- the action is `members` with exactly this argument
+abbrev pub IsMembers : Text → Action → Type 0
+IsMembers file a = asked a ≡ (codes "members", one file ∷ [])
+
+-- `pairings FILE`, and then `--open`, where it is given
+abbrev pub pairings_words : Text → Bool → List Text
+pairings_words file only_open = codes "pairings" ∷ file ∷ word_if only_open (codes "--open")
+
+-- the action is `pairings` with exactly these arguments
+abbrev pub IsPairings : Text → Bool → Action → Type 0
+IsPairings file only_open a = asked a ≡ (codes "pairings", one file ∷ given only_open ∷ [])
 
 -- `serve FILE PORT`, and `--connections N` where N is given
 abbrev pub serve_words : Text → Text → Option Text → List Text

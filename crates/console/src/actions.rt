@@ -21,10 +21,14 @@ pub enum Action {
         /// The POSIX time zone rule of the base `HOME`.
         zone: String,
     },
-    /// `do FILE`: answer one command, which is JSON on standard input.
+    /// `do FILE --dry-run --lines`: answer one command, or one a line, which is JSON on standard input.
     Do {
         /// The path of the book's file.
         file: String,
+        /// Whether the answer is the one that the command would get now, and nothing is kept.
+        dry_run: bool,
+        /// Whether standard input has one command a line, each of which gets one reply a line.
+        lines: bool,
     },
     /// `import FILE NUMBER`: add the pairings of a schedule, which is CSV on standard input.
     Import {
@@ -60,6 +64,18 @@ pub enum Action {
     Exceedances {
         /// The path of the book's file.
         file: String,
+    },
+    /// `members FILE`: print the members of the crew.
+    Members {
+        /// The path of the book's file.
+        file: String,
+    },
+    /// `pairings FILE --open`: print the pairings, a line each.
+    Pairings {
+        /// The path of the book's file.
+        file: String,
+        /// Whether only those with a free seat are printed.
+        only_open: bool,
     },
     /// `serve FILE PORT --connections N`: answer requests of HTTP on 127.0.0.1.
     Serve {

@@ -1,6 +1,6 @@
 //! The words after the program's name, read by `clap`. The definition is `command_line` (`specs/CommandLine.antt`).
 //! Command lines and help: `tests/program.sh`. Wrong bodies: `must-fail/`.
-ghost use Rattle.std.specs.Prelude.{◌≡◌, ◌∷◌, ◌⊎◌, ℕ, IfOk, IsErrAnd, IsSomeAnd, List, MatchResult, None, Option};
+ghost use Rattle.std.specs.Prelude.{◌≡◌, ◌∷◌, ◌⊎◌, ℕ, Bool, IfOk, IsErrAnd, IsSomeAnd, List, MatchResult, None, Option};
 ghost use Rattle.std.specs.Prelude.{Some, [], codes, false, is_some, map, option_map, string_bytes, true};
 ghost use Rattle.std.specs.List.{list_all};
 ghost use Rattle.std.specs.Option.{option_map_or};
@@ -8,13 +8,13 @@ ghost use Rattle.clap.specs.Walk.{Text, texts};
 ghost use Rattle.clap.specs.Words.{FailsBy, HasKind, all_of, fault_of, first_of, found_of, kind_of, rows_of};
 ghost use Rattle.clap.specs.Words.{rule_of, subcommand_of, subcommand_rows_of};
 ghost use Rattle.clap.specs.declared.error.kind.ErrorKind.TheVariants.{OutOfMemory, ValueValidation};
-ghost use Rattle.console.specs.Arguments.{HasAll, HasArguments, HasNumber};
+ghost use Rattle.console.specs.Arguments.{HasAll, HasArguments, HasFlag, HasNumber};
 ghost use Rattle.console.specs.CommandLine.{AreArguments, IsCommandOfApp, States, arguments_of, bare, command_line, connections, last_number, last_port};
-ghost use Rattle.console.specs.CommandLine.{most_connections, number_found, number_up_to, optional, request_number, rule, subcommand};
-ghost use Rattle.console.specs.CommandLine.{wanted, wanted_number};
-ghost use Rattle.console.specs.Plain.{IsDo, IsDuty, IsExceedances, IsImport, IsInit, IsLimits, IsPairing, IsRoster, IsServe};
+ghost use Rattle.console.specs.CommandLine.{is_on, most_connections, number_found, number_up_to, optional, optional_flag};
+ghost use Rattle.console.specs.CommandLine.{request_number, rule, subcommand, wanted, wanted_number};
+ghost use Rattle.console.specs.Plain.{IsDo, IsDuty, IsExceedances, IsImport, IsInit, IsLimits, IsMembers, IsPairing, IsPairings, IsRoster, IsServe};
 ghost use Rattle.console.specs.Plain.{asked_connections, do_words, duty_words, exceedances_words, import_words, init_words};
-ghost use Rattle.console.specs.Plain.{is_plain, limits_words, pairing_words, roster_words, serve_words};
+ghost use Rattle.console.specs.Plain.{is_plain, limits_words, members_words, pairing_words, pairings_words, roster_words, serve_words};
 
 use crate::actions::Action;
 use clap::{Arg, ArgAction, ArgMatches, Command, Error, value_parser};
@@ -59,6 +59,7 @@ const DO_EXAMPLE: &str = "\
 Example:
   echo '{\"number\":1,\"do\":\"add-crew\",\"crew\":\"C1\",\"seat\":\"captain\",
     \"name\":\"Ada Ray\"}' | rosterbook do roster.db
+  rosterbook do roster.db --lines < commands.txt
 
 A command is one JSON object in UTF-8. It has \"number\", a whole number from 1
 to 9223372036854775807, \"do\", which is one of these words, and more members:
@@ -93,6 +94,11 @@ base is HOME. Members of other names are ignored.
 If you send a command again under its number, you get the first answer again,
 and it is done once. 'rosterbook --help' says where refusals are explained.
 One program at a time has a book: the others are refused with 90 Store.
+
+--dry-run prints the answer that the command would get now, and keeps nothing.
+--lines reads one command a line, and prints one reply a line, each once its
+command is kept: up to the end of the input, or to a fault. Empty lines are
+skipped.
 
 Exit status: 0 accepted, 1 refused, 2 a mistake in the command line, 3 there is
 no book in the file, or the file, memory, the input or the output fails";
@@ -165,6 +171,28 @@ pairing, or 'outside' and the id of what was flown for another holder.
 Exit status: 0 done, 2 a mistake in the command line, 3 there is no book in the
 file, or the file, memory or the output fails";
 
+const MEMBERS_EXAMPLE: &str = "\
+Example:
+  rosterbook members roster.db
+
+Prints how many members there are, and a line for each: id, seat, base and name,
+in the order of the ids.
+
+Exit status: 0 done, 2 a mistake in the command line, 3 there is no book in the
+file, or the file, memory or the output fails";
+
+const PAIRINGS_EXAMPLE: &str = "\
+Example:
+  rosterbook pairings roster.db --open
+
+Prints how many pairings there are, and a line for each: id, first report, last
+release, 'flown' if a period of it has flown times and else 'plan', captain and
+first officer ('-' for a free seat), in the order of first reports. With --open
+only those with a free seat are printed and counted. Times are UTC.
+
+Exit status: 0 done, 2 a mistake in the command line, 3 there is no book in the
+file, or the file, memory or the output fails";
+
 const SERVE_EXAMPLE: &str = "\
 Example:
   rosterbook serve roster.db 8117 --connections 2 &
@@ -195,6 +223,16 @@ const PAIRING_HELP: &str = "Id of the pairing";
 const WITH_HELP: &str = "\
 Id of a pairing to judge as if the member held it too;
 nothing is kept";
+
+const DRY_RUN_HELP: &str = "\
+Answer as the command would be answered now;
+nothing is kept";
+
+const LINES_HELP: &str = "\
+Answer one command a line of the input, one reply a line;
+empty lines are skipped";
+
+const OPEN_HELP: &str = "Print the pairings with a free seat alone";
 
 const PORT_HELP: &str = "\
 Port of 127.0.0.1 to listen on,
@@ -234,8 +272,9 @@ pub fn action(alloc: Global, words: &[&str]) -> Result<Action, Error>
         → texts words.now ≡ init_words file zone
         → list_all is_plain (file ∷ zone ∷ []) ≡ true
         → MatchResult result (IsInit file zone) (λ e. kind_of e ≡ OutOfMemory) }
-    ensures do_one { (file : Text) → texts words.now ≡ do_words file → is_plain file ≡ true
-        → MatchResult result (IsDo file) (λ e. kind_of e ≡ OutOfMemory) }
+    ensures do_one { (file : Text) (dry_run lines : Bool)
+        → texts words.now ≡ do_words file dry_run lines → is_plain file ≡ true
+        → MatchResult result (IsDo file dry_run lines) (λ e. kind_of e ≡ OutOfMemory) }
     ensures import { (file number : Text) (n : ℕ)
         → texts words.now ≡ import_words file number
         → list_all is_plain (file ∷ number ∷ []) ≡ true → request_number number ≡ Some n
@@ -253,6 +292,11 @@ pub fn action(alloc: Global, words: &[&str]) -> Result<Action, Error>
     ensures exceedances { (file : Text) → texts words.now ≡ exceedances_words file
         → is_plain file ≡ true
         → MatchResult result (IsExceedances file) (λ e. kind_of e ≡ OutOfMemory) }
+    ensures members { (file : Text) → texts words.now ≡ members_words file → is_plain file ≡ true
+        → MatchResult result (IsMembers file) (λ e. kind_of e ≡ OutOfMemory) }
+    ensures pairings { (file : Text) (only_open : Bool)
+        → texts words.now ≡ pairings_words file only_open → is_plain file ≡ true
+        → MatchResult result (IsPairings file only_open) (λ e. kind_of e ≡ OutOfMemory) }
     ensures serve { (file port : Text) (count : Option Text) (p n : ℕ)
         → texts words.now ≡ serve_words file port count
         → list_all is_plain (file ∷ port ∷ []) ≡ true → option_map_or is_plain count true ≡ true
@@ -297,6 +341,8 @@ fn command<'a>(alloc: Global) -> Result<Command<'a>, AllocError>
         pairing_command(alloc)?,
         limits_command(alloc)?,
         exceedances_command(alloc)?,
+        members_command(alloc)?,
+        pairings_command(alloc)?,
         serve_command(alloc)?,
     ]?;
     bare_command(alloc)?.subcommands(subcommands)
@@ -365,7 +411,9 @@ fn do_command<'a>(alloc: Global) -> Result<Command<'a>, AllocError>
 {
     let about = "Answer one command, which is JSON on standard input";
     let file = positional(alloc, "file", "FILE").help(FILE_HELP);
-    let arguments = vec![in alloc; file]?;
+    let dry_run = flag(alloc, "dry-run").help(DRY_RUN_HELP);
+    let lines = flag(alloc, "lines").help(LINES_HELP);
+    let arguments = vec![in alloc; file, dry_run, lines]?;
     subcommand_of(alloc, "do", about, DO_EXAMPLE, arguments)
 }
 
@@ -424,6 +472,27 @@ fn exceedances_command<'a>(alloc: Global) -> Result<Command<'a>, AllocError>
     subcommand_of(alloc, "exceedances", about, EXCEEDANCES_EXAMPLE, arguments)
 }
 
+/// Makes the subcommand `members`.
+fn members_command<'a>(alloc: Global) -> Result<Command<'a>, AllocError>
+    ensures { IfOk result (IsCommandOfApp (subcommand (codes "members"))) }
+{
+    let about = "Print the members of the crew";
+    let file = positional(alloc, "file", "FILE").help(FILE_HELP);
+    let arguments = vec![in alloc; file]?;
+    subcommand_of(alloc, "members", about, MEMBERS_EXAMPLE, arguments)
+}
+
+/// Makes the subcommand `pairings`.
+fn pairings_command<'a>(alloc: Global) -> Result<Command<'a>, AllocError>
+    ensures { IfOk result (IsCommandOfApp (subcommand (codes "pairings"))) }
+{
+    let about = "Print the pairings, a line each";
+    let file = positional(alloc, "file", "FILE").help(FILE_HELP);
+    let only_open = flag(alloc, "open").help(OPEN_HELP);
+    let arguments = vec![in alloc; file, only_open]?;
+    subcommand_of(alloc, "pairings", about, PAIRINGS_EXAMPLE, arguments)
+}
+
 /// Makes the subcommand `serve`.
 fn serve_command<'a>(alloc: Global) -> Result<Command<'a>, AllocError>
     ensures { IfOk result (IsCommandOfApp (subcommand (codes "serve"))) }
@@ -480,6 +549,14 @@ fn with_option<'a>(alloc: Global) -> Arg<'a>
         .help(WITH_HELP)
 }
 
+/// Makes a flag, which may be left out.
+fn flag<'a>(alloc: Global, id: &'a str) -> Arg<'a>
+    ensures rule { rule_of result ≡ optional_flag id.entry.now }
+    ensures local { result.global ≡ false }
+{
+    Arg::new(alloc, id).long(id).action(ArgAction::SetTrue)
+}
+
 /// Makes an argument by its place that must be there.
 fn positional<'a>(alloc: Global, id: &'a str, value_name: &'a str) -> Arg<'a>
     ensures rule { rule_of result ≡ wanted id.entry.now }
@@ -503,6 +580,8 @@ fn action_of(alloc: Global, matches: &ArgMatches<'_>) -> Result<Action, AllocErr
         "pairing" => pairing_of(alloc, arguments),
         "limits" => limits_of(alloc, arguments),
         "exceedances" => exceedances_of(alloc, arguments),
+        "members" => members_of(alloc, arguments),
+        "pairings" => pairings_of(alloc, arguments),
         "serve" => serve_of(alloc, arguments),
         _ => unreachable!(),
     }
@@ -536,7 +615,13 @@ fn do_of(alloc: Global, matches: &ArgMatches<'_>) -> Result<Action, AllocError>
     ensures { IfOk result (λ a. States a (codes "do", rows_of (found_of matches.now))) }
 {
     let file = text_of(alloc, matches, "file")?;
-    Ok(Action::Do { file })
+    let dry_run = flag_of(matches, "dry-run");
+    let lines = flag_of(matches, "lines");
+    Ok(Action::Do {
+        file,
+        dry_run,
+        lines,
+    })
 }
 
 /// Reads the arguments of `import`.
@@ -587,6 +672,25 @@ fn exceedances_of(alloc: Global, matches: &ArgMatches<'_>) -> Result<Action, All
 {
     let file = text_of(alloc, matches, "file")?;
     Ok(Action::Exceedances { file })
+}
+
+/// Reads the arguments of `members`.
+fn members_of(alloc: Global, matches: &ArgMatches<'_>) -> Result<Action, AllocError>
+    requires { HasAll (codes "members") (rows_of (found_of matches.now)) }
+    ensures { IfOk result (λ a. States a (codes "members", rows_of (found_of matches.now))) }
+{
+    let file = text_of(alloc, matches, "file")?;
+    Ok(Action::Members { file })
+}
+
+/// Reads the arguments of `pairings`.
+fn pairings_of(alloc: Global, matches: &ArgMatches<'_>) -> Result<Action, AllocError>
+    requires { HasAll (codes "pairings") (rows_of (found_of matches.now)) }
+    ensures { IfOk result (λ a. States a (codes "pairings", rows_of (found_of matches.now))) }
+{
+    let file = text_of(alloc, matches, "file")?;
+    let only_open = flag_of(matches, "open");
+    Ok(Action::Pairings { file, only_open })
 }
 
 /// Reads the arguments of `serve`.
@@ -659,6 +763,14 @@ fn optional_text_of(
         Some(text) => Ok(Some(String::from_str(alloc, text)?)),
         None => Ok(None),
     }
+}
+
+/// Returns whether a flag was given.
+fn flag_of(matches: &ArgMatches<'_>, id: &str) -> bool
+    requires { HasFlag id.now (rows_of (found_of matches.now)) }
+    ensures { result ≡ is_on id.now (rows_of (found_of matches.now)) }
+{
+    matches.get_flag(id)
 }
 
 /// Returns the values of an argument that was used.

@@ -1,5 +1,5 @@
 -- What the router finds is what the table of paths says.
-use Rattle.std.proofs.Common.{◌≡◌, ◌<◌, ◌-◌, ℕ, zero, suc, Bool, true, false, ◌&&◌, ◌==◌, cond, List, [], ◌∷◌, ◌++◌, length, drop, refl, sym, ap, ◌∙◌, subst, arith, Option, Some, None, codes, bytes_eq, option_map, ◌||◌, if◌then◌else◌, nat_lt, get_or, Fits, w8, ltb, nat_eq, length-append}
+use Rattle.std.proofs.Common.{◌≡◌, ◌<◌, ◌-◌, ℕ, zero, suc, Bool, true, false, ◌&&◌, ◌==◌, cond, List, [], ◌∷◌, ◌++◌, length, drop, refl, sym, ap, ◌∙◌, subst, arith, Option, Some, None, codes, bytes_eq, option_and_then, option_map, ◌||◌, if◌then◌else◌, nat_lt, get_or, Fits, w8, ltb, nat_eq, length-append}
 use Rattle.std.proofs.lemmas.Bool.Decides.{nat_tests}
 use Rattle.std.proofs.lemmas.Bool.{lt-ltb}
 use Rattle.std.specs.Cmp.Lexicographic.{pointwise, bytes_decides}
@@ -9,8 +9,8 @@ use Rattle.matchit.specs.Rows.{RowsOf}
 use Rattle.matchit.specs.Router.{RouteOf}
 use Rattle.matchit.specs.Seek.{seek, step, own, or_else, first, param_step, has_slash, segment, cuts}
 use Rattle.http_message.specs.declared.routes.Route.{Route}
-use Rattle.http_message.specs.declared.routes.Route.TheVariants.{Requests, Import, Crew, Pairing, Exceedances, Limits, LimitsWith}
-use Rattle.http_message.specs.Routes.{Place, requests, import, crew, pairing, exceedances, limits, place_of_path, route_table, exactly, id_after, ids_after, at_slash, both_ids, is_path_id, first_or_other}
+use Rattle.http_message.specs.declared.routes.Route.TheVariants.{Requests, Checks, Import, Crew, Pairing, Exceedances, Limits, LimitsWith, Members, Pairings, OpenPairings}
+use Rattle.http_message.specs.Routes.{Place, requests, checks, import, crew, pairing, exceedances, limits, members, pairings, open_pairings, place_of_path, route_table, exactly, id_after, ids_after, at_slash, both_ids, is_path_id, first_or_other}
 
 -- ---- a walk over rows of any keys
 
@@ -100,6 +100,56 @@ module _ {K : Type 0} where
       by : (v : Bool) → (a == b) ≡ v → seek 0 ((w ++ 256 ∷ [], k) ∷ []) p ≡ option_map (λ _. k) (id_after w p) → seek 0 (step b ((a ∷ w ++ 256 ∷ [], k) ∷ [])) p ≡ option_map (λ _. k) (id_after (a ∷ w) (b ∷ p))
       by true e ih = rw e ih
       by false e ih = rw e (seek_none 0 p)
+
+-- ---- rows that begin alike
+
+-- what follows a text, where a path begins with it
+abbrev pub after : List ℕ → List ℕ → Option (List ℕ)
+after [] p = Some p
+after (a ∷ w) [] = None
+after (a ∷ w) (b ∷ p) = if a == b then after w p else None
+
+text_left : (w p rest : List ℕ) → IsText p → after w p ≡ Some rest → IsText rest
+text_left [] p rest t e = let same : p ≡ rest = cc in subst IsText same t
+text_left (a ∷ w) [] rest t e = absurd cc
+text_left (a ∷ w) (b ∷ p) rest t e = by (a == b) e (text_left w p rest t.1)
+  where
+    by : (v : Bool) → (if v then after w p else None) ≡ Some rest → (after w p ≡ Some rest → IsText rest) → IsText rest
+    by true e ih = ih e
+    by false e ih = absurd cc
+
+module _ {K : Type 0} where
+  abbrev pub prefixed : List ℕ → RowsOf K → RowsOf K
+  prefixed w [] = []
+  prefixed w ((t, k) ∷ rest) = (w ++ t, k) ∷ prefixed w rest
+
+  step_prefixed : (a b : ℕ) (w : List ℕ) (rows : RowsOf K) (v : Bool) → (a == b) ≡ v → step b (prefixed (a ∷ w) rows) ≡ cond v (prefixed w rows) []
+  step_prefixed a b w [] true e = refl
+  step_prefixed a b w [] false e = refl
+  step_prefixed a b w ((t, k) ∷ rest) true e = rw e (ap (λ r. (w ++ t, k) ∷ r) (step_prefixed a b w rest true e))
+  step_prefixed a b w ((t, k) ∷ rest) false e = rw e (step_prefixed a b w rest false e)
+
+  own_prefixed : (a : ℕ) (w : List ℕ) (rows : RowsOf K) → own (prefixed (a ∷ w) rows) ≡ None
+  own_prefixed a w [] = refl
+  own_prefixed a w ((t, k) ∷ rest) = own_prefixed a w rest
+
+  none_prefixed : (rows : RowsOf K) → prefixed [] rows ≡ rows
+  none_prefixed [] = refl
+  none_prefixed ((t, k) ∷ rest) = ap (λ r. (t, k) ∷ r) (none_prefixed rest)
+
+  seek_prefixed : (w p : List ℕ) (rows : RowsOf K) → IsText w → seek 0 (prefixed w rows) p ≡ option_and_then (λ rest. seek 0 rows rest) (after w p)
+  unfolding seek
+  seek_prefixed [] p rows t = ap (λ r. seek 0 r p) (none_prefixed rows)
+  seek_prefixed (a ∷ w) [] rows t = own_prefixed a w rows
+  seek_prefixed (a ∷ w) (b ∷ p) rows t =
+      let e : (a == 256) ≡ false = let h = t.0 in grind (arith, nat_tests) in
+      let f : (a == 257) ≡ false = let h = t.0 in grind (arith, nat_tests) in
+      literal_step (prefixed (a ∷ w) rows) b p (step_prefixed a 256 w rows false e) (step_prefixed a 257 w rows false f) ∙ by (a == b) refl (seek_prefixed w p rows t.1)
+    where
+      by : (v : Bool) → (a == b) ≡ v → seek 0 (prefixed w rows) p ≡ option_and_then (λ rest. seek 0 rows rest) (after w p)
+          → seek 0 (step b (prefixed (a ∷ w) rows)) p ≡ option_and_then (λ rest. seek 0 rows rest) (if v then after w p else None)
+      by true e ih = rw (step_prefixed a b w rows true e) ih
+      by false e ih = rw (step_prefixed a b w rows false e) (seek_none 0 p)
 
 -- ---- two ids
 
@@ -274,22 +324,30 @@ abbrev pub Found : Type 0
 Found = Option (RouteOf Route)
 
 abbrev pub row_of : Route → RouteOf Route
-row_of Crew = (get_or route_table 0 (codes "", record { pattern = []; text = []; names = []; value = Requests })).1
-row_of Exceedances = (get_or route_table 1 (codes "", record { pattern = []; text = []; names = []; value = Requests })).1
-row_of Import = (get_or route_table 2 (codes "", record { pattern = []; text = []; names = []; value = Requests })).1
-row_of Pairing = (get_or route_table 3 (codes "", record { pattern = []; text = []; names = []; value = Requests })).1
-row_of LimitsWith = (get_or route_table 4 (codes "", record { pattern = []; text = []; names = []; value = Requests })).1
-row_of Limits = (get_or route_table 5 (codes "", record { pattern = []; text = []; names = []; value = Requests })).1
-row_of Requests = (get_or route_table 6 (codes "", record { pattern = []; text = []; names = []; value = Requests })).1
+row_of Checks = (get_or route_table 0 (codes "", record { pattern = []; text = []; names = []; value = Requests })).1
+row_of Crew = (get_or route_table 1 (codes "", record { pattern = []; text = []; names = []; value = Requests })).1
+row_of Exceedances = (get_or route_table 2 (codes "", record { pattern = []; text = []; names = []; value = Requests })).1
+row_of Import = (get_or route_table 3 (codes "", record { pattern = []; text = []; names = []; value = Requests })).1
+row_of Pairing = (get_or route_table 4 (codes "", record { pattern = []; text = []; names = []; value = Requests })).1
+row_of LimitsWith = (get_or route_table 5 (codes "", record { pattern = []; text = []; names = []; value = Requests })).1
+row_of Limits = (get_or route_table 6 (codes "", record { pattern = []; text = []; names = []; value = Requests })).1
+row_of Members = (get_or route_table 7 (codes "", record { pattern = []; text = []; names = []; value = Requests })).1
+row_of OpenPairings = (get_or route_table 8 (codes "", record { pattern = []; text = []; names = []; value = Requests })).1
+row_of Pairings = (get_or route_table 9 (codes "", record { pattern = []; text = []; names = []; value = Requests })).1
+row_of Requests = (get_or route_table 10 (codes "", record { pattern = []; text = []; names = []; value = Requests })).1
 
 abbrev pub route_to : Place → Route
 route_to requests = Requests
+route_to checks = Checks
 route_to (import number) = Import
 route_to (crew id) = Crew
 route_to (pairing id) = Pairing
 route_to exceedances = Exceedances
 route_to (limits id None) = Limits
 route_to (limits id (Some other)) = LimitsWith
+route_to members = Members
+route_to pairings = Pairings
+route_to open_pairings = OpenPairings
 
 -- the row that leads to a place
 abbrev pub row_to : Option Place → Found
@@ -333,9 +391,101 @@ limits_to w p t u =
     cong2 : {a b c d : Found} → a ≡ b → c ≡ d → or_else a c ≡ or_else b d
     cong2 e f = rw (e, f) refl
 
+-- the reports, where this stands before what they are of
+abbrev reports_after : List ℕ → List ℕ → Option Place
+reports_after front p =
+    first_or_other (option_map (λ id. limits id None) (id_after (front ++ codes "limits/") p))
+    (first_or_other (option_map (λ ids. limits ids.0 (Some ids.1)) (ids_after (front ++ codes "limits/") p))
+    (first_or_other (exactly (front ++ codes "members") members p)
+    (first_or_other (exactly (front ++ codes "pairings") pairings p)
+    (exactly (front ++ codes "open") open_pairings p))))
+
+id_past : (w v p : List ℕ) → id_after (w ++ v) p ≡ option_and_then (id_after v) (after w p)
+id_past [] v p = refl
+id_past (a ∷ w) v [] = refl
+id_past (a ∷ w) v (b ∷ p) =
+    elim (a == b) as (λ x. (if x then id_after (w ++ v) p else None) ≡ option_and_then (id_after v) (if x then after w p else None)) [ true ↦ id_past w v p | false ↦ refl ]
+
+ids_past : (w v p : List ℕ) → ids_after (w ++ v) p ≡ option_and_then (ids_after v) (after w p)
+ids_past [] v p = refl
+ids_past (a ∷ w) v [] = refl
+ids_past (a ∷ w) v (b ∷ p) =
+    elim (a == b) as (λ x. (if x then ids_after (w ++ v) p else None) ≡ option_and_then (ids_after v) (if x then after w p else None)) [ true ↦ ids_past w v p | false ↦ refl ]
+
+exactly_past : (w v p : List ℕ) (place : Place) → exactly (w ++ v) place p ≡ option_and_then (exactly v place) (after w p)
+exactly_past [] v p place = refl
+exactly_past (a ∷ w) v [] place = refl
+exactly_past (a ∷ w) v (b ∷ p) place =
+    elim (a == b) as (λ x. (if (x && bytes_eq (w ++ v) p) then Some place else None) ≡ option_and_then (exactly v place) (if x then after w p else None)) [ true ↦ exactly_past w v p place | false ↦ refl ]
+
+reports_past : (w p : List ℕ) → reports_after w p ≡ option_and_then (reports_after []) (after w p)
+reports_past w p =
+    rw (id_past w (codes "limits/") p, ids_past w (codes "limits/") p, exactly_past w (codes "members") p members, exactly_past w (codes "pairings") p pairings, exactly_past w (codes "open") p open_pairings)
+    (elim (after w p) as (λ o.
+    first_or_other (option_map (λ id. limits id None) (option_and_then (id_after (codes "limits/")) o))
+    (first_or_other (option_map (λ ids. limits ids.0 (Some ids.1)) (option_and_then (ids_after (codes "limits/")) o))
+    (first_or_other (option_and_then (exactly (codes "members") members) o)
+    (first_or_other (option_and_then (exactly (codes "pairings") pairings) o)
+    (option_and_then (exactly (codes "open") open_pairings) o))))
+    ≡ option_and_then (reports_after []) o) [
+      | None ↦ refl
+      | Some rest ↦ refl
+    ])
+
+-- the rows of the reports, with what stands before them gone
+abbrev report_rows : RowsOf (RouteOf Route)
+report_rows =
+    (codes "limits/" ++ 256 ∷ 47 ∷ 256 ∷ [], row_of LimitsWith)
+    ∷ (codes "limits/" ++ 256 ∷ [], row_of Limits)
+    ∷ (codes "members", row_of Members)
+    ∷ (codes "open", row_of OpenPairings)
+    ∷ (codes "pairings", row_of Pairings)
+    ∷ []
+
+report_found : (p : List ℕ) → IsText p → seek 0 report_rows p ≡ row_to (reports_after [] p)
+unfolding seek
+report_found [] t = refl
+report_found (c ∷ p) t = literal_step report_rows c p refl refl ∙ by108 (108 == c) refl
+  where
+    by112 : (v : Bool) → (112 == c) ≡ v → (108 == c) ≡ false → (109 == c) ≡ false → (111 == c) ≡ false → seek 0 (step c report_rows) p ≡ row_to (reports_after [] (c ∷ p))
+    by112 true e f g h =
+        let is : 112 ≡ c = grind (arith, nat_tests) in
+        subst (λ c. seek 0 (step c report_rows) p ≡ row_to (reports_after [] (c ∷ p))) is
+        (exactly_to (codes "airings") p pairings (is_text (codes "airings") refl) ∙ ap row_to (sym (none_after (exactly (codes "airings") pairings p))))
+    by112 false e f g h = rw (e, f, g, h) (seek_none 0 p)
+
+    by111 : (v : Bool) → (111 == c) ≡ v → (108 == c) ≡ false → (109 == c) ≡ false → seek 0 (step c report_rows) p ≡ row_to (reports_after [] (c ∷ p))
+    by111 true e f g =
+        let is : 111 ≡ c = grind (arith, nat_tests) in
+        subst (λ c. seek 0 (step c report_rows) p ≡ row_to (reports_after [] (c ∷ p))) is
+        (exactly_to (codes "pen") p open_pairings (is_text (codes "pen") refl))
+    by111 false e f g = by112 (112 == c) refl f g e
+
+    by109 : (v : Bool) → (109 == c) ≡ v → (108 == c) ≡ false → seek 0 (step c report_rows) p ≡ row_to (reports_after [] (c ∷ p))
+    by109 true e f =
+        let is : 109 ≡ c = grind (arith, nat_tests) in
+        subst (λ c. seek 0 (step c report_rows) p ≡ row_to (reports_after [] (c ∷ p))) is
+        (exactly_to (codes "embers") p members (is_text (codes "embers") refl) ∙ ap row_to (sym (none_after (exactly (codes "embers") members p))))
+    by109 false e f = by111 (111 == c) refl f e
+
+    by108 : (v : Bool) → (108 == c) ≡ v → seek 0 (step c report_rows) p ≡ row_to (reports_after [] (c ∷ p))
+    by108 true e =
+        let is : 108 ≡ c = grind (arith, nat_tests) in
+        subst (λ c. seek 0 (step c report_rows) p ≡ row_to (reports_after [] (c ∷ p))) is
+        (limits_to (codes "imits/") p (is_text (codes "imits/") refl) t.1
+        ∙ ap (λ o. row_to (first_or_other (option_map (λ id. limits id None) (id_after (codes "imits/") p)) o)) (sym (none_after (option_map (λ ids. limits ids.0 (Some ids.1)) (ids_after (codes "imits/") p)))))
+    by108 false e = by109 (109 == c) refl e
+
+reports_found : (w p : List ℕ) → IsText w → IsText p → seek 0 (prefixed w report_rows) p ≡ row_to (reports_after w p)
+reports_found w p t u = seek_prefixed w p report_rows t ∙ by (after w p) refl ∙ ap row_to (sym (reports_past w p))
+  where
+    by : (o : Option (List ℕ)) → after w p ≡ o → option_and_then (λ rest. seek 0 report_rows rest) (after w p) ≡ row_to (option_and_then (reports_after []) (after w p))
+    by None e = rw e refl
+    by (Some rest) e = rw e (report_found rest (text_left w p rest u e))
+
 -- what begins with `/r`
 abbrev after_r : List ℕ → Option Place
-after_r p = first_or_other (exactly (codes "equests") requests p) (limits_after (codes "eports/limits/") p)
+after_r p = first_or_other (exactly (codes "equests") requests p) (reports_after (codes "eports/") p)
 
 under_req : (c : ℕ) (p : List ℕ) → IsText p → seek 0 (step c (step 101 (step 114 (step 47 route_table)))) p ≡ row_to (after_r (101 ∷ c ∷ p))
 under_req c p t = by112 (112 == c) refl
@@ -351,7 +501,7 @@ under_req c p t = by112 (112 == c) refl
     by112 true e =
         let is : 112 ≡ c = grind (arith, nat_tests) in
         subst (λ c. seek 0 (step c (step 101 (step 114 (step 47 route_table)))) p ≡ row_to (after_r (101 ∷ c ∷ p))) is
-        (limits_to (codes "orts/limits/") p (is_text (codes "orts/limits/") refl) t)
+        (reports_found (codes "orts/") p (is_text (codes "orts/") refl) t)
     by112 false e = by113 (113 == c) refl e
 
 under_re : (p : List ℕ) → IsText p → seek 0 (step 101 (step 114 (step 47 route_table))) p ≡ row_to (after_r (101 ∷ p))
@@ -370,20 +520,44 @@ under_r (c ∷ p) t = literal_step (step 114 (step 47 route_table)) c p refl ref
         subst (λ c. seek 0 (step c (step 114 (step 47 route_table))) p ≡ row_to (after_r (c ∷ p))) is (under_re p t.1)
     by false e = rw e (seek_none 0 p)
 
--- the rest of a path after its slash
-abbrev rest_place : List ℕ → Option Place
-rest_place p =
-    first_or_other (exactly (codes "requests") requests p)
-    (first_or_other (option_map import (id_after (codes "imports/") p))
-    (first_or_other (option_map crew (id_after (codes "crew/") p))
-    (first_or_other (option_map pairing (id_after (codes "pairings/") p))
-    (first_or_other (exactly (codes "exceedances") exceedances p)
-    (limits_after (codes "reports/limits/") p)))))
-
 -- an id after these bytes leads to a place
 id_to : (w p : List ℕ) (make : List ℕ → Place) (route : Route) → IsText w → IsText p → ((id : List ℕ) → route_to (make id) ≡ route)
     → seek 0 ((w ++ 256 ∷ [], row_of route) ∷ []) p ≡ row_to (option_map make (id_after w p))
 id_to w p make route t u leads = seek_param w p (row_of route) t u ∙ made_to make route (id_after w p) leads
+
+-- what begins with `/c`
+abbrev pub after_c : List ℕ → Option Place
+after_c p = first_or_other (exactly (codes "hecks") checks p) (option_map crew (id_after (codes "rew/") p))
+
+under_c : (p : List ℕ) → IsText p → seek 0 (step 99 (step 47 route_table)) p ≡ row_to (after_c p)
+unfolding seek
+under_c [] t = refl
+under_c (c ∷ p) t = literal_step (step 99 (step 47 route_table)) c p refl refl ∙ by104 (104 == c) refl
+  where
+    by114 : (v : Bool) → (114 == c) ≡ v → (104 == c) ≡ false → seek 0 (step c (step 99 (step 47 route_table))) p ≡ row_to (after_c (c ∷ p))
+    by114 true e f =
+        let is : 114 ≡ c = grind (arith, nat_tests) in
+        subst (λ c. seek 0 (step c (step 99 (step 47 route_table))) p ≡ row_to (after_c (c ∷ p))) is
+        (id_to (codes "ew/") p crew Crew (is_text (codes "ew/") refl) t.1 (λ _. refl))
+    by114 false e f = rw (e, f) (seek_none 0 p)
+
+    by104 : (v : Bool) → (104 == c) ≡ v → seek 0 (step c (step 99 (step 47 route_table))) p ≡ row_to (after_c (c ∷ p))
+    by104 true e =
+        let is : 104 ≡ c = grind (arith, nat_tests) in
+        subst (λ c. seek 0 (step c (step 99 (step 47 route_table))) p ≡ row_to (after_c (c ∷ p))) is
+        (exactly_to (codes "ecks") p checks (is_text (codes "ecks") refl) ∙ ap row_to (sym (none_after (exactly (codes "ecks") checks p))))
+    by104 false e = by114 (114 == c) refl e
+
+-- the rest of a path after its slash
+abbrev rest_place : List ℕ → Option Place
+rest_place p =
+    first_or_other (exactly (codes "requests") requests p)
+    (first_or_other (exactly (codes "checks") checks p)
+    (first_or_other (option_map import (id_after (codes "imports/") p))
+    (first_or_other (option_map crew (id_after (codes "crew/") p))
+    (first_or_other (option_map pairing (id_after (codes "pairings/") p))
+    (first_or_other (exactly (codes "exceedances") exceedances p)
+    (reports_after (codes "reports/") p))))))
 
 split : (c : ℕ) (p : List ℕ) → IsText p → seek 0 (step c (step 47 route_table)) p ≡ row_to (rest_place (c ∷ p))
 split c p t = by99 (99 == c) refl
@@ -415,11 +589,18 @@ split c p t = by99 (99 == c) refl
         (exactly_to (codes "xceedances") p exceedances (is_text (codes "xceedances") refl) ∙ ap row_to (sym (none_after (exactly (codes "xceedances") exceedances p))))
     by101 false e f = by105 (105 == c) refl f e
 
+    -- what is not of checks is of members, or of neither
+    after_is : (p : List ℕ) → rest_place (99 ∷ p) ≡ after_c p
+    after_is p = elim (exactly (codes "hecks") checks p) as (λ o. first_or_other o (first_or_other (option_map crew (id_after (codes "rew/") p)) None) ≡ first_or_other o (option_map crew (id_after (codes "rew/") p))) [
+      | None ↦ none_after (option_map crew (id_after (codes "rew/") p))
+      | Some a ↦ refl
+    ]
+
     by99 : (v : Bool) → (99 == c) ≡ v → seek 0 (step c (step 47 route_table)) p ≡ row_to (rest_place (c ∷ p))
     by99 true e =
         let is : 99 ≡ c = grind (arith, nat_tests) in
         subst (λ c. seek 0 (step c (step 47 route_table)) p ≡ row_to (rest_place (c ∷ p))) is
-        (id_to (codes "rew/") p crew Crew (is_text (codes "rew/") refl) t (λ _. refl) ∙ ap row_to (sym (none_after (option_map crew (id_after (codes "rew/") p)))))
+        (under_c p t ∙ ap row_to (sym (after_is p)))
     by99 false e = by101 (101 == c) refl e
 
 under_slash : (p : List ℕ) → IsText p → seek 0 (step 47 route_table) p ≡ row_to (rest_place p)

@@ -15,14 +15,15 @@ use Rattle.http_message.specs.declared.plan.Action.{Action}
 use Rattle.http_message.specs.declared.plan.Action.TheVariants as rust
 use Rattle.http_message.specs.declared.plan.ExpectedBody.{ExpectedBody}
 use Rattle.http_message.specs.declared.plan.Submission.{Submission}
-use Rattle.http_message.specs.declared.plan.Submission.TheVariants.{Command, Import}
+use Rattle.http_message.specs.declared.plan.Submission.TheVariants.{Command, Check, Import}
 use Rattle.http_message.specs.declared.plan.Report.{Report}
 use Rattle.http_message.specs.declared.plan.Report.TheVariants as report
 
--- what a report is on: a crew member, a pairing, all exceedances, or a member's limits, alone or with a pairing
+-- what a report is on: a crew member, a pairing, all exceedances, a member's limits, alone or with
+-- a pairing, all members, all pairings, or the pairings with a free seat
 pub data Subject : Type 0 where
   crew pairing : List ℕ → Subject
-  exceedances : Subject
+  exceedances members pairings open_pairings : Subject
   limits : (crew : List ℕ) → (pairing : Option (List ℕ)) → Subject
 
 -- to refuse, to receive a body, or to show a report
@@ -81,11 +82,15 @@ module _ (h : Heading) where
   abbrev pub step_of_place : Option Place → Step
   step_of_place None = refuse NoResource
   step_of_place (Some place.requests) = posted Command
+  step_of_place (Some place.checks) = posted Check
   step_of_place (Some (place.import number)) = imported (import_number number)
   step_of_place (Some (place.crew id)) = shown (crew id)
   step_of_place (Some (place.pairing id)) = shown (pairing id)
   step_of_place (Some place.exceedances) = shown exceedances
   step_of_place (Some (place.limits id with)) = shown (limits id with)
+  step_of_place (Some place.members) = shown members
+  step_of_place (Some place.pairings) = shown pairings
+  step_of_place (Some place.open_pairings) = shown open_pairings
 
   -- the resource of a path that is UTF-8
   abbrev pub at_path : List ℕ → Step
@@ -116,6 +121,9 @@ subject (report.Crew id) = crew id.now
 subject (report.Pairing id) = pairing id.now
 subject report.Exceedances = exceedances
 subject (report.Limits id with) = limits id.now (option_map (λ id. id.now) with)
+subject report.Members = members
+subject report.Pairings = pairings
+subject report.OpenPairings = open_pairings
 
 -- an action as contracts see it
 abbrev pub step : Action → Step

@@ -8,11 +8,13 @@ use Rattle.matchit.specs.Router.{RouteOf}
 use Rattle.http_message.specs.declared.routes.Resource.{Resource}
 use Rattle.http_message.specs.declared.routes.Resource.TheVariants as resource
 use Rattle.http_message.specs.declared.routes.Route.{Route}
-use Rattle.http_message.specs.declared.routes.Route.TheVariants.{Requests, Import, Crew, Pairing, Exceedances, Limits, LimitsWith}
+use Rattle.http_message.specs.declared.routes.Route.TheVariants.{Requests, Checks, Import, Crew, Pairing, Exceedances, Limits, LimitsWith, Members, Pairings, OpenPairings}
 
--- what a path names: commands, an import, a member's roster, a pairing, the exceedances, or a member's limits, alone or with a pairing
+-- what a path names: commands, commands that are only checked, an import, a member's roster, a
+-- pairing, the exceedances, a member's limits, alone or with a pairing, the members, the pairings,
+-- or the pairings with a free seat
 pub data Place : Type 0 where
-  requests exceedances : Place
+  requests checks exceedances members pairings open_pairings : Place
   import crew pairing : List ℕ → Place
   limits : List ℕ → Option (List ℕ) → Place
 
@@ -56,21 +58,29 @@ exactly name place path = if bytes_eq name path then Some place else None
 abbrev pub place_of_path : List ℕ → Option Place
 place_of_path path =
     first_or_other (exactly (codes "/requests") requests path)
+    (first_or_other (exactly (codes "/checks") checks path)
     (first_or_other (option_map import (id_after (codes "/imports/") path))
     (first_or_other (option_map crew (id_after (codes "/crew/") path))
     (first_or_other (option_map pairing (id_after (codes "/pairings/") path))
     (first_or_other (exactly (codes "/exceedances") exceedances path)
     (first_or_other (option_map (λ id. limits id None) (id_after (codes "/reports/limits/") path))
-    (option_map (λ ids. limits ids.0 (Some ids.1)) (ids_after (codes "/reports/limits/") path)))))))
+    (first_or_other (option_map (λ ids. limits ids.0 (Some ids.1)) (ids_after (codes "/reports/limits/") path))
+    (first_or_other (exactly (codes "/reports/members") members path)
+    (first_or_other (exactly (codes "/reports/pairings") pairings path)
+    (exactly (codes "/reports/open") open_pairings path))))))))))
 
 -- a resource as contracts see it
 abbrev pub place : Resource → Place
 place resource.Requests = requests
+place resource.Checks = checks
 place (resource.Import number) = import number.now
 place (resource.Crew id) = crew id.now
 place (resource.Pairing id) = pairing id.now
 place resource.Exceedances = exceedances
 place (resource.Limits id with) = limits id.now (option_map (λ id. id.now) with)
+place resource.Members = members
+place resource.Pairings = pairings
+place resource.OpenPairings = open_pairings
 
 -- ---- What the router says to itself
 
@@ -86,12 +96,16 @@ limits_with (Some id) other = option_map (λ other. limits id (Some other)) othe
 -- what a route leads to, by what its parameters took
 abbrev pub place_by : Route → List (List ℕ × List ℕ) → Option Place
 place_by Requests taken = Some requests
+place_by Checks taken = Some checks
 place_by Import taken = option_map import (matched.named (codes "number") taken)
 place_by Crew taken = option_map crew (matched.named (codes "id") taken)
 place_by Pairing taken = option_map pairing (matched.named (codes "id") taken)
 place_by Exceedances taken = Some exceedances
 place_by Limits taken = option_map (λ id. limits id None) (matched.named (codes "crew") taken)
 place_by LimitsWith taken = limits_with (matched.named (codes "crew") taken) (matched.named (codes "pairing") taken)
+place_by Members taken = Some members
+place_by Pairings taken = Some pairings
+place_by OpenPairings taken = Some open_pairings
 
 -- a row of the router's table: a pattern, its text, where its names stand in the text, and the route
 abbrev pub row : List ℕ → List ℕ → List (ℕ × ℕ) → Route → List ℕ × RouteOf Route
@@ -100,11 +114,15 @@ row pattern text names route = (pattern, record { pattern = pattern; text = text
 -- the rows of the router, in the order in which it keeps them
 abbrev pub route_table : RowsOf (RouteOf Route)
 route_table =
-    row (codes "/crew/" ++ 256 ∷ []) (codes "/crew/{id}") ((7, 9) ∷ []) Crew
+    row (codes "/checks") (codes "/checks") [] Checks
+    ∷ row (codes "/crew/" ++ 256 ∷ []) (codes "/crew/{id}") ((7, 9) ∷ []) Crew
     ∷ row (codes "/exceedances") (codes "/exceedances") [] Exceedances
     ∷ row (codes "/imports/" ++ 256 ∷ []) (codes "/imports/{number}") ((10, 16) ∷ []) Import
     ∷ row (codes "/pairings/" ++ 256 ∷ []) (codes "/pairings/{id}") ((11, 13) ∷ []) Pairing
     ∷ row (codes "/reports/limits/" ++ 256 ∷ 47 ∷ 256 ∷ []) (codes "/reports/limits/{crew}/{pairing}") ((17, 21) ∷ (24, 31) ∷ []) LimitsWith
     ∷ row (codes "/reports/limits/" ++ 256 ∷ []) (codes "/reports/limits/{crew}") ((17, 21) ∷ []) Limits
+    ∷ row (codes "/reports/members") (codes "/reports/members") [] Members
+    ∷ row (codes "/reports/open") (codes "/reports/open") [] OpenPairings
+    ∷ row (codes "/reports/pairings") (codes "/reports/pairings") [] Pairings
     ∷ row (codes "/requests") (codes "/requests") [] Requests
     ∷ []

@@ -51,6 +51,8 @@ pub struct ExpectedBody {
 pub enum Submission {
     /// A command.
     Command,
+    /// A command that is only checked: it is answered, and not kept.
+    Check,
     /// A schedule to be imported under this number.
     Import(RequestNumber),
 }
@@ -71,6 +73,12 @@ pub enum Report<'h> {
         /// The id of a pairing, if they are judged as if the member held it too.
         with: Option<&'h str>,
     },
+    /// All members.
+    Members,
+    /// All pairings.
+    Pairings,
+    /// The pairings with a free seat.
+    OpenPairings,
 }
 
 /// Decides what a head asks for. Each check comes after those before it in `specs/Plan.antt`.
@@ -125,6 +133,7 @@ fn routed<'h>(head: &'h Head, resource: Resource<'h>) -> Action<'h>
 {
     match resource {
         Resource::Requests => posted(head, Submission::Command),
+        Resource::Checks => posted(head, Submission::Check),
         Resource::Import(number) => match number_of_import(number.as_bytes()) {
             Some(number) => posted(head, Submission::Import(number)),
             None => Action::Refuse(RequestFault::NoResource),
@@ -133,6 +142,9 @@ fn routed<'h>(head: &'h Head, resource: Resource<'h>) -> Action<'h>
         Resource::Pairing(id) => shown(head, Report::Pairing(id)),
         Resource::Exceedances => shown(head, Report::Exceedances),
         Resource::Limits { crew, with } => shown(head, Report::Limits { crew, with }),
+        Resource::Members => shown(head, Report::Members),
+        Resource::Pairings => shown(head, Report::Pairings),
+        Resource::OpenPairings => shown(head, Report::OpenPairings),
     }
 }
 

@@ -13,6 +13,8 @@ use values::MemoryFault;
 pub enum Resource<'p> {
     /// Commands.
     Requests,
+    /// Commands that are only checked.
+    Checks,
     /// The import of this number.
     Import(&'p str),
     /// The roster of the member of this id.
@@ -26,6 +28,12 @@ pub enum Resource<'p> {
         crew: &'p str,
         with: Option<&'p str>,
     },
+    /// All members.
+    Members,
+    /// All pairings.
+    Pairings,
+    /// The pairings with a free seat.
+    OpenPairings,
 }
 
 /// The routes to them.
@@ -33,6 +41,8 @@ pub enum Resource<'p> {
 pub enum Route {
     /// To commands.
     Requests,
+    /// To commands that are only checked.
+    Checks,
     /// To imports.
     Import,
     /// To rosters.
@@ -45,6 +55,12 @@ pub enum Route {
     Limits,
     /// To the same with a pairing.
     LimitsWith,
+    /// To the members.
+    Members,
+    /// To the pairings.
+    Pairings,
+    /// To the pairings with a free seat.
+    OpenPairings,
 }
 
 /// Finds what a path names.
@@ -67,6 +83,7 @@ fn named<'p>(route: Route, params: &Params<'_, 'p>) -> Option<Resource<'p>>
 {
     let resource = match route {
         Route::Requests => Resource::Requests,
+        Route::Checks => Resource::Checks,
         Route::Import => Resource::Import(params.get("number")?),
         Route::Crew => Resource::Crew(params.get("id")?),
         Route::Pairing => Resource::Pairing(params.get("id")?),
@@ -79,6 +96,9 @@ fn named<'p>(route: Route, params: &Params<'_, 'p>) -> Option<Resource<'p>>
             crew: params.get("crew")?,
             with: Some(params.get("pairing")?),
         },
+        Route::Members => Resource::Members,
+        Route::Pairings => Resource::Pairings,
+        Route::OpenPairings => Resource::OpenPairings,
     };
     Some(resource)
 }
@@ -89,11 +109,15 @@ fn router(alloc: Global) -> Result<Router<Route>, InsertError>
 {
     let mut router = Router::new(alloc);
     router.insert("/requests", Route::Requests)?;
+    router.insert("/checks", Route::Checks)?;
     router.insert("/imports/{number}", Route::Import)?;
     router.insert("/crew/{id}", Route::Crew)?;
     router.insert("/pairings/{id}", Route::Pairing)?;
     router.insert("/exceedances", Route::Exceedances)?;
     router.insert("/reports/limits/{crew}", Route::Limits)?;
     router.insert("/reports/limits/{crew}/{pairing}", Route::LimitsWith)?;
+    router.insert("/reports/members", Route::Members)?;
+    router.insert("/reports/pairings", Route::Pairings)?;
+    router.insert("/reports/open", Route::OpenPairings)?;
     Ok(router)
 }

@@ -15,3 +15,4 @@ pub mod EntryLemmas
 pub mod RecordedLemmas
 pub mod BaseLemmas
 pub mod Changes
+pub mod IdLemmas

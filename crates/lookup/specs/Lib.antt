@@ -5,3 +5,4 @@ pub mod Recorded
 pub mod Members
 pub mod Bases
 pub mod Outsides
+pub mod Ids

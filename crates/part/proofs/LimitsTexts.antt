@@ -1,5 +1,5 @@
 -- The limits of the part that is gathered for them are those of the state.
-use Rattle.std.proofs.Common.{◌≡◌, ℕ, Bool, true, false, ◌||◌, not, List, [], map, ◌++◌, refl, sym, ap, ◌∙◌, Option, Some, None}
+use Rattle.std.proofs.Common.{◌≡◌, ℕ, true, false, not, List, [], map, ◌++◌, sym, ap, ◌∙◌, Option, Some, None}
 use Rattle.std.specs.FinMap as fin
 use Rattle.std.specs.List.{filter, flat_map}
 use Rattle.std.specs.Option.{option_map, option_map_or}

@@ -4,6 +4,9 @@ use Rattle.std.specs.FinMap as fin
 use Rattle.std.specs.Option.{option_map_or}
 use Rattle.std.specs.Str.{bytes_eq}
 use Rattle.limits_report.specs.LimitsText.{IsLimitsText, judged}
+use Rattle.list_report.specs.MembersText.{IsMembersText}
+use Rattle.list_report.specs.PairingsText.{IsPairingsText}
+use Rattle.list_report.specs.declared.pairings.Listed.{Listed}
 use Rattle.report.specs.ExceedanceText.{IsExceedanceText}
 use Rattle.report.specs.PairingText.{pairing_text}
 use Rattle.report.specs.RosterText.{IsRosterText}
@@ -59,6 +62,30 @@ limits_part s who named = record (member_part s who) {
   pairings = fin.retain_keys s.pairings (is_held_or_named s who named);
 }
 
+-- the part of a state with all its members and nothing that they do
+abbrev pub crew_part : State → State
+crew_part s = record {
+  bases = s.bases;
+  crew = s.crew;
+  pairings = fin.empty;
+  grounds = fin.empty;
+  outsides = fin.empty;
+  exceedances = fin.empty;
+  requests = fin.empty;
+}
+
+-- the part of a state with all its pairings; who holds them isn't in it
+abbrev pub pairings_part : State → State
+pairings_part s = record {
+  bases = s.bases;
+  crew = fin.empty;
+  pairings = s.pairings;
+  grounds = fin.empty;
+  outsides = fin.empty;
+  exceedances = fin.empty;
+  requests = fin.empty;
+}
+
 -- the part of a state with its exceedances alone
 abbrev pub exceedances_part : State → State
 exceedances_part s = record {
@@ -98,3 +125,14 @@ HasPairingText = (s : State) (id : List ℕ) →
 abbrev pub HasExceedanceText : Type 0
 HasExceedanceText = (s : State) (text : List ℕ) →
     IsExceedanceText (exceedances_part s) text ↔ IsExceedanceText s text
+
+-- the text of the members is that of the part with the members alone
+abbrev pub HasMembersText : Type 0
+HasMembersText = (s : State) (text : List ℕ) →
+    IsMembersText (crew_part s) text ↔ IsMembersText s text
+
+-- the text of the pairings, of all or of those with a free seat, is that of the part with the
+-- pairings alone
+abbrev pub HasPairingsText : Type 0
+HasPairingsText = (s : State) (which : Listed) (text : List ℕ) →
+    IsPairingsText (pairings_part s) which text ↔ IsPairingsText s which text

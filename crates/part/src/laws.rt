@@ -1,7 +1,7 @@
 //! What holds of the parts of a state. Each of these functions does nothing; its clause is a law.
 
 ghost use Rattle.part.specs.Part.{AnswersAsWhole, NamesSettle, PartStaysSound};
-ghost use Rattle.part.specs.Shown.{HasExceedanceText, HasLimitsText, HasMemberText, HasPairingText};
+ghost use Rattle.part.specs.Shown.{HasExceedanceText, HasLimitsText, HasMemberText, HasMembersText, HasPairingText, HasPairingsText};
 
 /// A part answers its command as the whole state does: with the same verdict, reply and change.
 pub fn answers_as_whole()
@@ -36,4 +36,14 @@ pub fn part_has_pairing_text()
 /// The text of the exceedances is that of the exceedances alone.
 pub fn part_has_exceedance_text()
     ensures { HasExceedanceText }
+{}
+
+/// The text of the members is that of the members alone.
+pub fn part_has_members_text()
+    ensures { HasMembersText }
+{}
+
+/// The text of the pairings, of all or of those with a free seat, is that of the pairings alone.
+pub fn part_has_pairings_text()
+    ensures { HasPairingsText }
 {}

@@ -12,5 +12,7 @@ mod source;
 
 pub use gathering::gather;
 pub use judging::judge;
-pub use showing::{gather_exceedances, gather_limits, gather_member, gather_pairing};
+pub use showing::{
+    gather_crew, gather_exceedances, gather_limits, gather_member, gather_pairing, gather_pairings,
+};
 pub use source::Source;

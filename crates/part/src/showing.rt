@@ -1,4 +1,5 @@
-//! What is shown of a member, of a member's limits, of a pairing or of the exceedances, gathered from a source.
+//! What is shown of a member, of a member's limits, of a pairing, or of all members, pairings or exceedances, gathered
+//! from a source.
 //! Through the program: `tests/reports.py`. Wrong bodies: `must-fail/`.
 
 ghost use Rattle.std.specs.Prelude.{◌≡◌, IfErr, OnOk};
@@ -6,10 +7,10 @@ ghost use Rattle.std.specs.FinMap as fin;
 ghost use Rattle.std.specs.Option.{option_copied};
 ghost use Rattle.std.specs.Str.{bytes_eq};
 ghost use Rattle.roster.specs.Holding.{AreJust, IsGroundOf, IsHeldBy, IsOutsideOf};
-ghost use Rattle.part.specs.Shown.{exceedances_part, limits_part, member_part, pairing_part};
+ghost use Rattle.part.specs.Shown.{crew_part, exceedances_part, limits_part, member_part, pairing_part, pairings_part};
 ghost use Rattle.part.specs.Sources.{IsCaused, TellsOfState, pick_named};
 
-use crate::pick::{pick_grounds, pick_outsides, pick_pairings, put_found};
+use crate::pick::{pick_grounds, pick_members, pick_outsides, pick_pairings, put_found};
 use crate::source::Source;
 use command::Member;
 use duty::{CrewId, GroundId, OutsideId, PairingId};
@@ -176,6 +177,56 @@ pub fn gather_pairing<S: Source>(
     ensures there { OnOk result (S.is_there source.new) }
 {
     let pairings = one_pairing(alloc, source, id)?;
+    let bases = source.bases(alloc)?;
+    Ok(Roster {
+        bases,
+        crew: OrdMap::new(alloc),
+        pairings,
+        grounds: OrdMap::new(alloc),
+        outsides: OrdMap::new(alloc),
+        exceedances: OrdMap::new(alloc),
+        requests: OrdMap::new(alloc),
+    })
+}
+
+/// Gathers all members alone.
+pub fn gather_crew<S: Source>(alloc: Global, source: &mut S) -> Result<Roster, S::Fault>
+    ensures told { TellsOfState S.is_clean S.shows
+        (λ s it. it ≡ crew_part s) source.old source.new result }
+    ensures left { S.stays source.old source.new }
+    ensures caused { IfErr result
+        (IsCaused S.fails S.Fault.from_gives source.old source.new) }
+    ensures serves { OnOk result (S.serves source.old source.new) }
+    ensures there { OnOk result (S.is_there source.new) }
+{
+    let ids = source.crew_ids(alloc)?;
+    let mut crew = OrdMap::new(alloc);
+    pick_members(alloc, source, &ids, &mut crew)?;
+    let bases = source.bases(alloc)?;
+    Ok(Roster {
+        bases,
+        crew,
+        pairings: OrdMap::new(alloc),
+        grounds: OrdMap::new(alloc),
+        outsides: OrdMap::new(alloc),
+        exceedances: OrdMap::new(alloc),
+        requests: OrdMap::new(alloc),
+    })
+}
+
+/// Gathers all pairings alone.
+pub fn gather_pairings<S: Source>(alloc: Global, source: &mut S) -> Result<Roster, S::Fault>
+    ensures told { TellsOfState S.is_clean S.shows
+        (λ s it. it ≡ pairings_part s) source.old source.new result }
+    ensures left { S.stays source.old source.new }
+    ensures caused { IfErr result
+        (IsCaused S.fails S.Fault.from_gives source.old source.new) }
+    ensures serves { OnOk result (S.serves source.old source.new) }
+    ensures there { OnOk result (S.is_there source.new) }
+{
+    let ids = source.pairing_ids(alloc)?;
+    let mut pairings = OrdMap::new(alloc);
+    pick_pairings(alloc, source, &ids, &mut pairings)?;
     let bases = source.bases(alloc)?;
     Ok(Roster {
         bases,

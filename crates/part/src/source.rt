@@ -1,10 +1,11 @@
 //! What a part is read from.
 
-ghost use Rattle.std.specs.Prelude.{◌≡◌, IfErr, OnOk};
+ghost use Rattle.std.specs.Prelude.{◌≡◌, IfErr, IsTrue, OnOk};
 ghost use Rattle.std.specs.FinMap as fin;
 ghost use Rattle.command.specs.Keys.{key_name};
 ghost use Rattle.roster.specs.State.{State};
 ghost use Rattle.roster.specs.Holding.{IsHeldBy, IsGroundOf, IsOutsideOf, AreJust};
+ghost use Rattle.roster.specs.Refusals.{is_member, is_pairing};
 ghost use Rattle.part.specs.Sources.{TellsOfState};
 
 use command::{Key, Member};
@@ -127,6 +128,24 @@ pub trait Source {
     fn outsides_of(&mut self, alloc: Global, who: &CrewId) -> Result<Vec<OutsideId>, Self::Fault>
         ensures told { TellsOfState is_clean shows
             (λ s found. AreJust (IsOutsideOf s who.now) found.items) self.old self.new result }
+        ensures left { stays self.old self.new }
+        ensures caused { IfErr result (fails self.old self.new) }
+        ensures serves { OnOk result (serves self.old self.new) };
+
+    /// Reads the ids of all members, in any order.
+    fn crew_ids(&mut self, alloc: Global) -> Result<Vec<CrewId>, Self::Fault>
+        ensures told { TellsOfState is_clean shows
+            (λ s found. AreJust (λ id. IsTrue (is_member s id)) found.items)
+            self.old self.new result }
+        ensures left { stays self.old self.new }
+        ensures caused { IfErr result (fails self.old self.new) }
+        ensures serves { OnOk result (serves self.old self.new) };
+
+    /// Reads the ids of all pairings, in any order.
+    fn pairing_ids(&mut self, alloc: Global) -> Result<Vec<PairingId>, Self::Fault>
+        ensures told { TellsOfState is_clean shows
+            (λ s found. AreJust (λ id. IsTrue (is_pairing s id)) found.items)
+            self.old self.new result }
         ensures left { stays self.old self.new }
         ensures caused { IfErr result (fails self.old self.new) }
         ensures serves { OnOk result (serves self.old self.new) };

@@ -23,13 +23,15 @@ use Rattle.book.proofs.LifeLemmas as life
 use Rattle.book.proofs.States.{one_of_either}
 use Rattle.http_exchange.specs.Exchange.{ChannelBytes}
 use Rattle.asking.specs.Requests.{Request}
-use Rattle.rosterbook.specs.Asking.{IsAskStopped, IsImported, IsImportStopped, IsLeftAfterAnswers, IsRequestAnswered, IsStoppedIn, asked_by_request, left_by_request}
-use Rattle.rosterbook.specs.ByFiles.{AreLeftAfter, AreLeftAsFound, AreLeftByImport, AreLeftByRequest, HaveSession, IsByFiles, IsDoneBy, IsImportedBy, IsRefusedAs, IsSession, IsShownBy}
+use Rattle.rosterbook.specs.Asking.{IsAskStopped, IsImported, IsImportStopped, IsLeftAfterAnswers, IsRequestAnswered, IsStoppedIn, asked_by_request, left_by_check, left_by_request}
+use Rattle.rosterbook.specs.ByFiles.{AreLeftAfter, AreLeftAsFound, AreLeftByImport, AreLeftByLines, AreLeftByRequest, AreLinesCheckedBy, AreLinesDoneBy, HaveSession, IsByFiles, IsDoneBy, IsImportedBy, IsRefusedAs, IsSession, IsShownBy}
+use Rattle.rosterbook.specs.InLines.{AreLinesAnswered, AreLinesChecked, AreLinesStopped, AreRequestsAnswered, commands_of, requests_of}
 use Rattle.rosterbook.specs.Showing.{IsToldOf}
 use Rattle.rosterbook.specs.declared.status.Status.{Status}
 use Rattle.rosterbook.specs.declared.stop.Stop.{Stop}
 use Rattle.rosterbook.specs.declared.stop.Stop.TheVariants.{Load, Book, Memory, Channel, Network}
 use Rattle.rosterbook.proofs.CleanBefore.{clean_before_all, clean_before_request, clean_before_same}
+use Rattle.rosterbook.proofs.LinesRead.{all_are_first, none_read}
 
 -- ---- After how many commands
 
@@ -68,13 +70,46 @@ module _ {D : Type 0} {g : Ghosts D} (image : Image) (old new : Kept (FileStore 
         let found = means (before (disk clean)) in
         (found.it, found.finds, says found.it found.keeps (disk clean), kept (after found.it) (stays found.it found.keeps) clean)
 
-    pub done_at : (held out out' err : ChannelBytes) (status : Status) → IsRequestAnswered over_files old new held out out' status → IsDoneBy (IsByFiles (Some left) image) held out out' err err status
+    pub done_at : (held out out' err : ChannelBytes) (status : Status) → IsRequestAnswered over_files left_by_request old new held out out' status →
+        IsDoneBy (IsByFiles (Some left) image) left_by_request held out out' err err status
     done_at held out out' err status it = record {
       input = it.input;
       answer = it.answer;
       told = it.told;
       silent = refl;
       by = by_files _ _ (clean_before_request over_files old new _ it.left) it.answered it.left;
+    }
+
+    pub checked_at : (held out out' err : ChannelBytes) (status : Status) → IsRequestAnswered over_files left_by_check old new held out out' status →
+        IsDoneBy (IsByFiles (Some left) image) left_by_check held out out' err err status
+    checked_at held out out' err status it = record {
+      input = it.input;
+      answer = it.answer;
+      told = it.told;
+      silent = refl;
+      by = by_files _ _ (clean_before_same over_files old new it.left) it.answered it.left;
+    }
+
+    pub lines_done_at : (held out out' err : ChannelBytes) (status : Status) → AreLinesAnswered over_files old new held out out' status →
+        AreLinesDoneBy (IsByFiles (Some left) image) held out out' err err status
+    lines_done_at held out out' err status (lines, read, it) = record {
+      lines = lines;
+      answers = it.answers;
+      read = read;
+      told = it.told;
+      silent = refl;
+      by = by_files _ _ (clean_before_all over_files old new (commands_of (requests_of lines)) it.left) it.answered it.left;
+    }
+
+    pub lines_checked_at : (held out out' err : ChannelBytes) (status : Status) → AreLinesChecked over_files old new held out out' status →
+        AreLinesCheckedBy (IsByFiles (Some left) image) held out out' err err status
+    lines_checked_at held out out' err status (lines, read, it) = record {
+      lines = lines;
+      answers = it.answers;
+      read = read;
+      told = it.told;
+      silent = refl;
+      by = by_files _ _ (clean_before_same over_files old new it.left) it.answered it.left;
     }
 
     pub imported_at : (number : ℕ) (held out out' err err' : ChannelBytes) (status : Status) → IsImported over_files old new number held out out' err err' status →
@@ -122,13 +157,25 @@ module _ {D : Type 0} {g : Ghosts D} (image : Image) (old new : Kept (FileStore 
     left_by_stop : (asked : List Asked) (answers : List ReplyOrRefusal) (stop : Stop) → IsStoppedIn over_files old new asked answers stop → AreLeftAfter (Some left) image asked
     left_by_stop asked answers stop it = left_after asked it.disk (λ s at. stopped_reached over_files new s asked (length answers) stop (it.left s at))
 
-    pub request_left : (held out out' : ChannelBytes) (result : Result Status Stop) → IfOk result (λ status. IsRequestAnswered over_files old new held out out' status) →
+    pub request_left : (held out out' : ChannelBytes) (result : Result Status Stop) → IfOk result (λ status. IsRequestAnswered over_files left_by_request old new held out out' status) →
         IfErr result (λ stop. IsAskStopped over_files old new held out out' stop) → AreLeftByRequest (Some left) image held
     request_left held out out' (Ok status) it stopped =
         let request = read_request it.input in
         inr (it.input, it.told.read, left_after (asked_by_request request) (clean_before_request over_files old new request it.left) (λ s at. request_reached over_files new s request (it.left s at)))
     request_left held out out' (Err stop) it (inl none) = inl (same_left none.unchanged)
     request_left held out out' (Err stop) it (inr some) = inr (some.0, some.2, left_by_stop _ some.1 stop some.3)
+
+    answered_left : (out out' : ChannelBytes) (requests : List Request) (status : Status) → AreRequestsAnswered over_files old new out out' requests status →
+        AreLeftAfter (Some left) image (commands_of requests)
+    answered_left out out' requests status it =
+        let asked = commands_of requests in
+        left_after asked (clean_before_all over_files old new asked it.left) (λ s at. all_reached over_files new s asked (it.left s at))
+
+    pub lines_left : (held out out' : ChannelBytes) (result : Result Status Stop) → IfOk result (AreLinesAnswered over_files old new held out out') →
+        IfErr result (AreLinesStopped over_files old new held out out') → AreLeftByLines (Some left) image held
+    lines_left held out out' (Ok status) (lines, read, it) stopped = (lines, all_are_first held lines read, answered_left out out' (requests_of lines) status it)
+    lines_left held out out' (Err stop) it (lines, read, inl (which, (status, done))) = (lines, read, answered_left out out' (requests_of lines) status done)
+    lines_left held out out' (Err stop) it (lines, read, inr at_last) = (lines, read, left_by_stop _ at_last.answers stop at_last.asked)
 
     pub import_left : (number : ℕ) (held out out' err err' : ChannelBytes) (result : Result Status Stop) →
         IfOk result (λ status. IsImported over_files old new number held out out' err err' status) →
@@ -161,6 +208,9 @@ module _ {D : Type 0} {g : Ghosts D} (image : Image) (old new : Kept (FileStore 
 module _ {D : Type 0} {g : Ghosts D} (image : Image) (left : Option (FilesLeft D g)) (none : left ≡ None) where
   pub none_left : (asked : List Asked) → AreLeftAfter left image asked
   none_left asked = rw none tt
+
+  pub no_lines_left : (held : ChannelBytes) → AreLeftByLines left image held
+  no_lines_left held = ([], none_read held, none_left _)
 
   pub no_session : HaveSession left image
   no_session = rw none tt

@@ -1,9 +1,13 @@
 pub mod Answering
+pub mod LinesAnswered
+pub mod LinesChecked
+pub mod LinesRead
 pub mod PartsAdded
 pub mod Reading
 pub mod RefusalLemmas
 pub mod ServedInTurn
 pub mod Showing
+pub mod Checked
 pub mod Stopping
 pub mod CleanBefore
 pub mod ByFiles

@@ -1,11 +1,11 @@
 -- What is performed by the book that files hold is performed, and how the program ends after what was done.
-use Rattle.std.proofs.Common.{◌≡◌, ◌≢◌, ◌⊎◌, inl, inr, ℕ, ◌∙◌, ap, sym, subst, refl, true, Bool, List, Option, Some, None, Result, Ok, Err, IfOk, IfErr, IsErr, IfSome}
+use Rattle.std.proofs.Common.{◌≡◌, ◌≢◌, ◌⊎◌, inl, inr, ℕ, ◌∙◌, ap, sym, subst, refl, true, false, Bool, List, Option, Some, None, Result, Ok, Err, IfOk, IfErr, IsErr, IfSome}
 use Rattle.std.specs.Io.KnownBytes.{Appends}
 use Rattle.sqlite_disk.specs.declared.Disk.{Ghosts}
 use Rattle.sqlite_wal.specs.Recovery.{Image}
 use Rattle.book.specs.declared.file.FilesLeft.{FilesLeft}
 use Rattle.console.specs.declared.actions.Action.{Action}
-use Rattle.console.specs.declared.actions.Action.TheVariants.{Duty, Init, Do, Import, Roster, Limits, Pairing, Exceedances, Serve}
+use Rattle.console.specs.declared.actions.Action.TheVariants.{Duty, Init, Do, Import, Roster, Limits, Pairing, Exceedances, Members, Pairings, Serve}
 use Rattle.http_exchange.specs.Exchange.{ChannelBytes}
 use Rattle.rosterbook.specs.ByFiles.{HaveSession, IsPerformedByFiles, IsRefusedAs, IsRefusedByFiles, IsServedByFiles, IsServeStoppedByFiles, PerformsByFiles}
 use Rattle.rosterbook.specs.Program.{Gives, IsPerformed, PerformsAction, ProgramOutput, exit_status, memory_answer}
@@ -19,7 +19,10 @@ module _ {D : Type 0} {g : Ghosts D} (image : Image) (left : Option (FilesLeft D
   performs : (action : Action) → PerformsByFiles image left action status held out out' err err' → PerformsAction action status held out out' err err'
   performs (Duty zone report times) it = it
   performs (Init file zone) it = it.0
-  performs (Do file) it = (it.input, it.answer, it.told, it.silent)
+  performs (Do file false false) it = ((it.input, it.answer, it.told), it.silent)
+  performs (Do file true false) it = ((it.input, it.answer, it.told), it.silent)
+  performs (Do file false true) it = ((it.lines, it.answers, it.read, it.told), it.silent)
+  performs (Do file true true) it = ((it.lines, it.answers, it.read, it.told), it.silent)
   performs (Import file number) it = record {
     text = it.text;
     read = it.read;
@@ -32,6 +35,8 @@ module _ {D : Type 0} {g : Ghosts D} (image : Image) (left : Option (FilesLeft D
   performs (Limits file crew with) it = it.some
   performs (Pairing file id) it = it.some
   performs (Exceedances file) it = it.some
+  performs (Members file) it = it.some
+  performs (Pairings file only_open) it = it.some
   performs (Serve file port connections) it =
       let done = it.3 in
       record { outcomes = done.served.outcomes; ends = done.ends; each = done.served.each; listens = done.listens; lines = done.served.lines refl }

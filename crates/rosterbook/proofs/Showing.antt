@@ -18,6 +18,21 @@ use Rattle.rosterbook.specs.declared.stop.Stop.{Stop}
 use Rattle.rosterbook.specs.declared.stop.Stop.TheVariants as stops
 use Rattle.rosterbook.proofs.Stopping.{has_failed, no_fault_of_book}
 
+-- ---- Where it stops
+
+-- a writer failed, or there was no memory beside the book
+pub not_of_book : {S : Type 0} (new : Kept S) (out out' : ChannelBytes) (stop : Stop) → IsOfChannel stop → IsShowStopped new out out' stop
+not_of_book new out out' stop (inl is) = subst (IsShowStopped new out out') (sym is) (record {
+  told = inr (inl refl);
+  silent = λ no. absurd (no_fault_of_book stops.Memory (inl refl) no);
+  failed = λ no. absurd (cc);
+})
+not_of_book new out out' stop (inr is) = subst (IsShowStopped new out out') (sym is) (record {
+  told = inr (inr refl);
+  silent = λ no. absurd (no_fault_of_book stops.Channel (inr refl) no);
+  failed = λ no. absurd (cc);
+})
+
 -- ---- What is printed
 
 -- what is shown of a state is told of it
@@ -54,21 +69,8 @@ module _ {S : Type 0} (g : Ghosts S) (old new : Kept S) (what : Show) where
 
   -- ---- Where it stops
 
-  -- a writer failed, or there was no memory beside the book
-  pub not_of_book : (out out' : ChannelBytes) (stop : Stop) → IsOfChannel stop → IsShowStopped new out out' stop
-  not_of_book out out' stop (inl is) = subst (IsShowStopped new out out') (sym is) (record {
-    told = inr (inl refl);
-    silent = λ no. absurd (no_fault_of_book stops.Memory (inl refl) no);
-    failed = λ no. absurd (cc);
-  })
-  not_of_book out out' stop (inr is) = subst (IsShowStopped new out out') (sym is) (record {
-    told = inr (inr refl);
-    silent = λ no. absurd (no_fault_of_book stops.Channel (inr refl) no);
-    failed = λ no. absurd (cc);
-  })
-
   unshown : (out : ChannelBytes) (fault : AskFault) (r : Result State StoreFault) → HasShown g old new what r → ReportsShown r what (Err fault) → IsShowStopped new out out (stop_of fault)
-  unshown out fault (Ok roster) has memory = not_of_book out out (stop_of fault) (inl (ap stop_of memory))
+  unshown out fault (Ok roster) has memory = not_of_book new out out (stop_of fault) (inl (ap stop_of memory))
   unshown out fault (Err met) has is =
       let at_book : fault ≡ ask.Book met = cc in
       subst (λ f. IsShowStopped new out out (stop_of f)) (sym at_book) (record {
@@ -79,4 +81,4 @@ module _ {S : Type 0} (g : Ghosts S) (old new : Kept S) (what : Show) where
 
   pub report_stopped : (out : ChannelBytes) (fault : AskFault) → IsReportAsked g old new what (Err fault) → IsShowStopped new out out (stop_of fault)
   report_stopped out fault (inl asked) = unshown out fault asked.shown asked.has_shown asked.reported
-  report_stopped out fault (inr (same, is)) = let memory : fault ≡ ask.Memory = cc in not_of_book out out (stop_of fault) (inl (ap stop_of memory))
+  report_stopped out fault (inr (same, is)) = let memory : fault ≡ ask.Memory = cc in not_of_book new out out (stop_of fault) (inl (ap stop_of memory))

@@ -16,7 +16,7 @@ use Rattle.asking.specs.Requests.{IsDoneAsRead, IsRequestAsked, Request, asked_a
 use Rattle.asking.specs.declared.answers.AskFault.{AskFault}
 use Rattle.asking.specs.declared.answers.AskFault.TheVariants as ask
 use Rattle.asking.specs.declared.answers.JsonAnswer.{JsonAnswer}
-use Rattle.rosterbook.specs.Asking.{Answers, IsAskStopped, IsLeftAfterAnswers, IsBookFault, IsStoppedIn, asked_by_request, left_by_request, stop_of}
+use Rattle.rosterbook.specs.Asking.{Answers, IsAskStopped, IsBodyUntold, IsLeftAfterAnswers, IsBookFault, IsStoppedIn, asked_by_request, left_by_request, stop_of}
 use Rattle.http_exchange.specs.Exchange.{ChannelBytes}
 use Rattle.rosterbook.specs.Streams.{IsOfChannel, ReadsInput}
 use Rattle.rosterbook.specs.declared.stop.Stop.{Stop}
@@ -89,12 +89,12 @@ err_told (Err e) P Q it weaker = weaker e it
 
 -- ---- `do`
 
--- the request of a body has no answer
-module _ {S : Type 0} (g : Ghosts S) (old new : Kept S) (held out : ChannelBytes) (input : List ℕ) (read : ReadsInput held input) where
-  abbrev IsStoppedAt : Request → AskFault → Type 0
+-- a command has no answer
+module _ {S : Type 0} (g : Ghosts S) (old new : Kept S) where
+  abbrev pub IsStoppedAt : Request → AskFault → Type 0
   IsStoppedAt request fault = (answers : List ReplyOrRefusal) × IsStoppedIn g old new (asked_by_request request) answers (stop_of fault)
 
-  command_stopped : (asked : ℕ × Instruction) (answered : Result Answer StoreFault) (fault : AskFault) → IsAnswered g old new (asked_as asked) answered → Reports answered (Err fault)
+  pub command_stopped : (asked : ℕ × Instruction) (answered : Result Answer StoreFault) (fault : AskFault) → IsAnswered g old new (asked_as asked) answered → Reports answered (Err fault)
       → IsStoppedAt (Ok asked) fault
   command_stopped (number, instruction) (Ok answer) fault is memory =
       let asked = asked_as (number, instruction) in (
@@ -110,12 +110,14 @@ module _ {S : Type 0} (g : Ghosts S) (old new : Kept S) (held out : ChannelBytes
         subst (λ f. IsStoppedIn g old new (asked ∷ []) [] (stop_of f)) (sym at_book) (unanswered g old new asked met is),
       )
 
+-- the request of a body has no answer
+module _ {S : Type 0} (g : Ghosts S) (old new : Kept S) (held out : ChannelBytes) (input : List ℕ) (read : ReadsInput held input) where
   unasked : (fault : AskFault) → fault ≡ ask.Memory → new ≡ old → IsAskStopped g old new held out out (stop_of fault)
   unasked fault memory same = inl (record { unchanged = same; silent = refl; told = inl (ap stop_of memory) })
 
   read_stopped : (request : Request) → read_request input ≡ request → (fault : AskFault) → IsDoneAsRead g old new request (Err fault) → IsAskStopped g old new held out out (stop_of fault)
   read_stopped (Ok asked) is fault it =
-      let stopped = subst (λ r. IsStoppedAt r fault) (sym is) (command_stopped asked it.answer fault it.answered it.reported) in
+      let stopped = subst (λ r. IsStoppedAt g old new r fault) (sym is) (command_stopped g old new asked it.answer fault it.answered it.reported) in
       inr (input, stopped.0, read, stopped.1, λ _. refl)
   read_stopped (Err unread) is fault (same, memory) = unasked fault memory same
 
@@ -124,7 +126,7 @@ module _ {S : Type 0} (g : Ghosts S) (old new : Kept S) (held out : ChannelBytes
   request_stopped fault (inl done) = read_stopped (read_request input) refl fault done
 
 -- the answer was not written
-answer_untold : {S : Type 0} (g : Ghosts S) (old new : Kept S) (request : Request) (answer : ReplyOrRefusal) (stop : Stop) → IsOfChannel stop →
+pub answer_untold : {S : Type 0} (g : Ghosts S) (old new : Kept S) (request : Request) (answer : ReplyOrRefusal) (stop : Stop) → IsOfChannel stop →
     ((s : State) → IsDurablyAt g old s → IsClean g new → Answers s request answer) →
     ((s : State) → IsDurablyAt g old s → IsDurablyAt g new (left_by_request s request)) →
     (answers : List ReplyOrRefusal) × IsStoppedIn g old new (asked_by_request request) answers stop × (length answers < length (asked_by_request request) → ⊥)
@@ -137,3 +139,11 @@ asked_untold g old new held out out' input told stop which read asked =
     let was = request_told g old new input told asked in
     let it = answer_untold g old new (read_request input) was.0 stop which was.2 was.3 in
     inr (input, it.0, read, it.1, λ fewer. absurd (it.2 fewer))
+
+-- a body that was read has no answer, or its line was not written
+pub body_stopped : {S : Type 0} (g : Ghosts S) (old new : Kept S) (held out out' : ChannelBytes) (body : List ℕ) (stop : Stop) → ReadsInput held body →
+    IsBodyUntold (IsRequestAsked g old new body) out out' stop → IsAskStopped g old new held out out' stop
+body_stopped g old new held out out' body stop read (inl (fault, asked, is, silent)) =
+    subst (IsAskStopped g old new held out out') (sym is)
+    (subst (λ (o : ChannelBytes). IsAskStopped g old new held out o (stop_of fault)) (sym silent) (request_stopped g old new held out body read fault asked))
+body_stopped g old new held out out' body stop read (inr (answer, asked, which)) = asked_untold g old new held out out' body answer stop which read asked

@@ -1,5 +1,5 @@
 -- What `do` and `import` make of what a reader has, and of a book.
-use Rattle.std.specs.Prelude.{◌≡◌, ◌⊎◌, ◌≤◌, ◌<◌, ⊤, ℕ, ◌+◌, List, [], ◌∷◌, ◌++◌, length, take, codes, Result, Ok, Err, OnOk, IsTrue}
+use Rattle.std.specs.Prelude.{◌≡◌, ◌⊎◌, ◌≤◌, ◌<◌, ⊤, ℕ, ◌+◌, List, [], ◌∷◌, ◌++◌, length, take, codes, Result, Ok, Err, OnOk, IsTrue, string_bytes}
 use Rattle.std.specs.Fmt.{decimal}
 use Rattle.std.specs.List.{fold}
 use Rattle.std.specs.Io.KnownBytes.{Appends}
@@ -20,6 +20,7 @@ use Rattle.asking.specs.declared.answers.AnswerKind.{AnswerKind}
 use Rattle.asking.specs.declared.answers.AnswerKind.TheVariants as kind
 use Rattle.asking.specs.declared.answers.AskFault.{AskFault}
 use Rattle.asking.specs.declared.answers.AskFault.TheVariants as ask
+use Rattle.asking.specs.declared.answers.JsonAnswer.{JsonAnswer}
 use Rattle.http_exchange.specs.Exchange.{ChannelBytes}
 use Rattle.rosterbook.specs.Streams.{IsOfChannel, Prints, ReadsInput, line_end, refused_line}
 use Rattle.rosterbook.specs.declared.import_command.PartLines.{PartLines}
@@ -94,18 +95,23 @@ abbrev pub left_by_request : State → Request → State
 left_by_request s (Ok asked) = next s (asked_as asked)
 left_by_request s (Err fault) = s
 
+-- the state after a request that is only checked
+abbrev pub left_by_check : State → Request → State
+left_by_check s request = s
+
 -- what is asked: one command, or none where the request isn't read
 abbrev pub asked_by_request : Request → List Asked
 asked_by_request (Ok asked) = asked_as asked ∷ []
 asked_by_request (Err fault) = []
 
--- the answer was the book's, where its state is known
-pub record IsRequestAnswered {S : Type 0} (g : Ghosts S) (old new : Kept S) (held out out' : ChannelBytes) (status : Status) : Type 0 where
+-- the answer was the book's, where its state is known, and so is the state after it
+pub record IsRequestAnswered {S : Type 0} (g : Ghosts S) (left_by : State → Request → State)
+    (old new : Kept S) (held out out' : ChannelBytes) (status : Status) : Type 0 where
   pub input : List ℕ
   pub answer : ReplyOrRefusal
   pub told : IsRequestReadAndTold held out out' status input answer
   pub answered : (s : State) → IsDurablyAt g old s → IsClean g new → Answers s (read_request input) answer
-  pub left : (s : State) → IsDurablyAt g old s → IsDurablyAt g new (left_by_request s (read_request input))
+  pub left : (s : State) → IsDurablyAt g old s → IsDurablyAt g new (left_by s (read_request input))
 
 -- the program stopped before it asked anything, or when it had asked what was read: nothing was printed where that has no answer
 abbrev pub IsAskStopped : {S : Type 0} → Ghosts S → Kept S → Kept S → ChannelBytes → ChannelBytes → ChannelBytes → Stop → Type 0
@@ -114,6 +120,23 @@ IsAskStopped g old new held out out' stop =
     ⊎ ((input : List ℕ) × (answers : List ReplyOrRefusal) × ReadsInput held input
     × IsStoppedIn g old new (asked_by_request (read_request input)) answers stop
     × (length answers < length (asked_by_request (read_request input)) → out' ≡ out))
+
+-- ---- A body that was read
+
+-- `Asks result`: the body was asked of a book so, and this came of it
+module _ (Asks : Result JsonAnswer AskFault → Type 0) (out out' : ChannelBytes) where
+  -- it has an answer, and the line of that was written
+  pub record IsBodyTold (status : Status) : Type 0 where
+    pub answer : JsonAnswer
+    pub asked : Asks (Ok answer)
+    pub ends : status ≡ status_of_kind answer.kind
+    pub printed : Appends out out' (string_bytes answer.text ++ line_end)
+
+  -- it has no answer, and nothing was written; or the line of its answer could not be written
+  abbrev pub IsBodyUntold : Stop → Type 0
+  IsBodyUntold stop =
+      ((fault : AskFault) × Asks (Err fault) × (stop ≡ stop_of fault) × (out' ≡ out))
+      ⊎ ((answer : JsonAnswer) × Asks (Ok answer) × IsOfChannel stop)
 
 -- ---- `import`
 

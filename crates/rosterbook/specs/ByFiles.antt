@@ -22,13 +22,17 @@ use Rattle.book.specs.Lives.{acknowledged, in_doubt}
 use Rattle.book.specs.declared.file.FilesLeft.{FilesLeft}
 use Rattle.console.specs.declared.actions.Action.{Action}
 use Rattle.console.specs.declared.actions.Action.TheVariants.{Init, Do, Import}
-use Rattle.console.specs.declared.actions.Action.TheVariants.{Roster, Limits, Pairing, Exceedances, Serve}
+use Rattle.console.specs.declared.actions.Action.TheVariants.{Roster, Limits, Pairing, Exceedances}
+use Rattle.console.specs.declared.actions.Action.TheVariants.{Members, Pairings, Serve}
+use Rattle.asking.specs.Requests.{Request}
 use Rattle.http_exchange.specs.Exchange.{ChannelBytes}
 use Rattle.rosterbook.specs.Asking.{Answers, AreTold, IsNoSchedule, IsRequestReadAndTold}
-use Rattle.rosterbook.specs.Asking.{asked_by_request, left_by_request}
+use Rattle.rosterbook.specs.Asking.{asked_by_request, left_by_check, left_by_request}
+use Rattle.rosterbook.specs.InLines.{AreRequestsTold, ReadsFirstLines, ReadsLines}
+use Rattle.rosterbook.specs.InLines.{answers_in, commands_of, requests_of}
 use Rattle.rosterbook.specs.Program.{PerformsAction, exit_status}
 use Rattle.rosterbook.specs.Serving.{IsServeDone, IsServeStopped, ServesBook, has_failed}
-use Rattle.rosterbook.specs.Showing.{IsToldOf}
+use Rattle.rosterbook.specs.Showing.{IsToldOf, listed_by}
 use Rattle.rosterbook.specs.Streams.{ReadsInput, refused_line}
 use Rattle.rosterbook.specs.declared.status.Status.{Status}
 use Rattle.rosterbook.specs.declared.status.Status.TheVariants.{Done, Failed}
@@ -85,6 +89,17 @@ module _ {D : Type 0} {g : Ghosts D} (left : Option (FilesLeft D g)) (image : Im
       ⊎ ((text : List ℕ) × (plans : List Plan) × ReadsInput held text × IsSchedule text plans
       × AreLeftAfter (import number plans))
 
+  -- or with that after the commands of the first lines that a reader has
+  abbrev pub AreLeftByLines : ChannelBytes → Type 0
+  AreLeftByLines held = (lines : List (List ℕ)) × ReadsFirstLines held lines
+      × AreLeftAfter (commands_of (requests_of lines))
+
+  -- what `do` leaves, by whether nothing is kept, and by whether there is a command on each line
+  abbrev pub AreLeftByDo : (dry_run lines : Bool) → ChannelBytes → Type 0
+  AreLeftByDo false false held = AreLeftByRequest held
+  AreLeftByDo false true held = AreLeftByLines held
+  AreLeftByDo true lines held = AreLeftAsFound
+
   -- A book was taken up, nothing but these calls was done to it, and it was closed. As long as the
   -- disk returns what was written, it is the book that the files held, and they are left with all
   -- that the calls acknowledged; of what was in work when the store failed it is open whether it is
@@ -129,14 +144,44 @@ module _ {D : Type 0} {g : Ghosts D} (left : Option (FilesLeft D g)) (image : Im
 -- ---- What is answered
 
 module _ (By : Account) where
-  -- a request was read, and told the answer of the state; it is done then
-  pub record IsDoneBy (held out out' err err' : ChannelBytes) (status : Status) : Type 0 where
+  -- a request was read, and told the answer of the state; and so is the state after it
+  pub record IsDoneBy (left_by : State → Request → State) (held out out' err err' : ChannelBytes)
+      (status : Status) : Type 0 where
     pub input : List ℕ
     pub answer : ReplyOrRefusal
     pub told : IsRequestReadAndTold held out out' status input answer
     pub silent : err' ≡ err
     pub by : By (λ s. Answers s (read_request input) answer)
-        (λ s. left_by_request s (read_request input))
+        (λ s. left_by s (read_request input))
+
+  -- lines were read, and their requests told how the state would answer each; nothing is done
+  pub record AreLinesCheckedBy (held out out' err err' : ChannelBytes) (status : Status) : Type 0 where
+    pub lines : List (List ℕ)
+    pub answers : List ReplyOrRefusal
+    pub read : ReadsLines held lines
+    pub told : AreRequestsTold (requests_of lines) answers status out out'
+    pub silent : err' ≡ err
+    pub by : By (λ s. answers ≡ answers_in s (commands_of (requests_of lines))) (λ s. s)
+
+  -- lines were read, and their requests told the answers of the state; their commands are done then
+  pub record AreLinesDoneBy (held out out' err err' : ChannelBytes) (status : Status) : Type 0 where
+    pub lines : List (List ℕ)
+    pub answers : List ReplyOrRefusal
+    pub read : ReadsLines held lines
+    pub told : AreRequestsTold (requests_of lines) answers status out out'
+    pub silent : err' ≡ err
+    pub by : By (λ s. answers ≡ Replies s (commands_of (requests_of lines)))
+        (λ s. Fold s (commands_of (requests_of lines)))
+
+  -- `do`, by whether nothing is kept, and by whether there is a command on each line
+  abbrev pub IsDoneAs : (dry_run lines : Bool) → ChannelBytes → ChannelBytes → ChannelBytes →
+      ChannelBytes → ChannelBytes → Status → Type 0
+  IsDoneAs false false held out out' err err' status =
+      IsDoneBy left_by_request held out out' err err' status
+  IsDoneAs true false held out out' err err' status =
+      IsDoneBy left_by_check held out out' err err' status
+  IsDoneAs false true held out out' err err' status = AreLinesDoneBy held out out' err err' status
+  IsDoneAs true true held out out' err err' status = AreLinesCheckedBy held out out' err err' status
 
   -- the text is no schedule, and nothing is done; or its pairings were told the answers of the
   -- state, as parts of this number, and they are done then
@@ -165,8 +210,8 @@ module _ {D : Type 0} {g : Ghosts D} (image : Image) (left : Option (FilesLeft D
   PerformsByFiles (Init file zone) status held out out' err err' =
       PerformsAction (Init file zone) status held out out' err err'
       × (status ≡ Done → AreLeftEmpty left (string_bytes zone))
-  PerformsByFiles (Do file) status held out out' err err' =
-      IsDoneBy (IsByFiles left image) held out out' err err' status
+  PerformsByFiles (Do file dry_run lines) status held out out' err err' =
+      IsDoneAs (IsByFiles left image) dry_run lines held out out' err err' status
   PerformsByFiles (Import file number) status held out out' err err' =
       IsImportedBy (IsByFiles left image) number held out out' err err' status
   PerformsByFiles (Roster file crew) status held out out' err err' =
@@ -177,6 +222,10 @@ module _ {D : Type 0} {g : Ghosts D} (image : Image) (left : Option (FilesLeft D
       IsShownBy (IsByFiles left image) (show.Pairing (string_bytes id)) out out' err err' status
   PerformsByFiles (Exceedances file) status held out out' err err' =
       IsShownBy (IsByFiles left image) show.Exceedances out out' err err' status
+  PerformsByFiles (Members file) status held out out' err err' =
+      IsShownBy (IsByFiles left image) show.Members out out' err err' status
+  PerformsByFiles (Pairings file only_open) status held out out' err err' =
+      IsShownBy (IsByFiles left image) (show.Pairings (listed_by only_open)) out out' err err' status
   PerformsByFiles (Serve file port connections) status held out out' err err' =
       IsServedByFiles left image port connections out out' err err' status
   PerformsByFiles action status held out out' err err' =
@@ -192,7 +241,7 @@ module _ {D : Type 0} {g : Ghosts D} (image : Image) (left : Option (FilesLeft D
   -- what is left of files from which a book was taken up, by what a reader has
   abbrev pub LeavesFiles : Action → ChannelBytes → Type 0
   LeavesFiles (Init file zone) held = IfSome left (IsLeftEmpty (string_bytes zone))
-  LeavesFiles (Do file) held = AreLeftByRequest left image held
+  LeavesFiles (Do file dry_run lines) held = AreLeftByDo left image dry_run lines held
   LeavesFiles (Import file number) held = AreLeftByImport left image number held
   LeavesFiles (Serve file port connections) held = HaveSession left image
   LeavesFiles action held = AreLeftAsFound left image

@@ -1,4 +1,5 @@
 pub mod Asking
+pub mod InLines
 pub mod Program
 pub mod ByFiles
 pub mod Refusal

@@ -4,8 +4,9 @@ use Rattle.std.specs.Io.KnownBytes.{Appends}
 use Rattle.time117.specs.Local.{is_zone_text}
 use Rattle.roster.specs.Folds.{ReplyOrRefusal}
 use Rattle.rosterbook.specs.Asking.{IsImportTold, IsRequestReadAndTold}
+use Rattle.rosterbook.specs.InLines.{AreRequestsTold, ReadsLines, requests_of}
 use Rattle.rosterbook.specs.Serving.{IsServeTold}
-use Rattle.rosterbook.specs.Showing.{IsToldOf}
+use Rattle.rosterbook.specs.Showing.{IsToldOf, listed_by}
 use Rattle.roster.specs.State.{State}
 use Rattle.store.specs.declared.show.Show.TheVariants as show
 use Rattle.period_verdict.specs.FaultText.{line_fault_text}
@@ -15,7 +16,7 @@ use Rattle.writing.specs.Faults.{create_text}
 use Rattle.writing.specs.declared.fault.CreateFault.{CreateFault}
 use Rattle.period_verdict.specs.Verdict.{Line, line_of}
 use Rattle.console.specs.declared.actions.Action.{Action}
-use Rattle.console.specs.declared.actions.Action.TheVariants.{Duty, Init, Do, Import, Roster, Limits, Pairing, Exceedances, Serve}
+use Rattle.console.specs.declared.actions.Action.TheVariants.{Duty, Init, Do, Import, Roster, Limits, Pairing, Exceedances, Members, Pairings, Serve}
 use Rattle.period_verdict.specs.declared.fault.LineFault.{LineFault}
 use Rattle.period_verdict.specs.declared.fault.LineFault.TheVariants.{Zone, Memory}
 use Rattle.rosterbook.specs.declared.status.Status.{Status}
@@ -76,19 +77,28 @@ abbrev pub IsUnmade : Bool → Status → ChannelBytes → ChannelBytes → Chan
 IsUnmade is_zone status out out' err err' =
     Gives memory_answer status out out' err err' ⊎ ((is_zone ≡ true) × ((fault : CreateFault) × Gives (unmade fault) status out out' err err'))
 
+-- what `do` tells, by whether there is a command on each line: the answer to one request, or to each
+abbrev pub IsDoTold : (lines : Bool) → ChannelBytes → ChannelBytes → ChannelBytes → Status → Type 0
+IsDoTold false held out out' status =
+    (input : List ℕ) × (answer : ReplyOrRefusal) × IsRequestReadAndTold held out out' status input answer
+IsDoTold true held out out' status =
+    (lines : List (List ℕ)) × (answers : List ReplyOrRefusal) × ReadsLines held lines
+    × AreRequestsTold (requests_of lines) answers status out out'
+
 -- the action was answered whole, by what a reader has
 abbrev pub PerformsAction : Action → Status → ChannelBytes → ChannelBytes → ChannelBytes → ChannelBytes → ChannelBytes → Type 0
 PerformsAction (Duty zone report times) status held out out' err err' =
     Gives (duty_answer (line_of (string_bytes zone) (string_bytes report) (map string_bytes times.items))) status out out' err err'
 PerformsAction (Init file zone) status held out out' err err' =
     Gives (init_answer (is_zone_text (string_bytes zone))) status out out' err err'
-PerformsAction (Do file) status held out out' err err' =
-    (input : List ℕ) × (answer : ReplyOrRefusal) × IsRequestReadAndTold held out out' status input answer × (err' ≡ err)
+PerformsAction (Do file dry_run lines) status held out out' err err' = IsDoTold lines held out out' status × (err' ≡ err)
 PerformsAction (Import file number) status held out out' err err' = IsImportTold held out out' err err' status
 PerformsAction (Roster file crew) status held out out' err err' = (s : State) × IsToldOf s (show.Crew (string_bytes crew)) status out out' err err'
 PerformsAction (Limits file crew with) status held out out' err err' = (s : State) × IsToldOf s (show.Limits (string_bytes crew) (option_map string_bytes with)) status out out' err err'
 PerformsAction (Pairing file id) status held out out' err err' = (s : State) × IsToldOf s (show.Pairing (string_bytes id)) status out out' err err'
 PerformsAction (Exceedances file) status held out out' err err' = (s : State) × IsToldOf s show.Exceedances status out out' err err'
+PerformsAction (Members file) status held out out' err err' = (s : State) × IsToldOf s show.Members status out out' err err'
+PerformsAction (Pairings file only_open) status held out out' err err' = (s : State) × IsToldOf s (show.Pairings (listed_by only_open)) status out out' err err'
 PerformsAction (Serve file port connections) status held out out' err err' = IsServeTold port connections out out' err err' status
 
 -- the same, with this exit status

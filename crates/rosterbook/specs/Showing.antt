@@ -1,8 +1,11 @@
--- What `roster`, `limits`, `pairing` and `exceedances` tell, and where they stop.
-use Rattle.std.specs.Prelude.{◌≡◌, ◌⊎◌, IsTrue, ℕ, List, Result, Ok, Err}
+-- What `roster`, `limits`, `pairing`, `exceedances`, `members` and `pairings` tell, and where they
+-- stop.
+use Rattle.std.specs.Prelude.{◌≡◌, ◌⊎◌, IsTrue, ℕ, Bool, true, false, List, Result, Ok, Err}
 use Rattle.std.specs.Io.KnownBytes.{Appends}
 use Rattle.roster.specs.State.{State}
 use Rattle.state_rows.specs.declared.fault.StoreFault.TheVariants.{Store}
+use Rattle.list_report.specs.declared.pairings.Listed.{Listed}
+use Rattle.list_report.specs.declared.pairings.Listed.TheVariants.{All, Open}
 use Rattle.report.specs.Faults.{report_fault_text}
 use Rattle.report.specs.declared.fault.ReportFault.TheVariants.{NoSuchCrew, NoSuchPairing}
 use Rattle.book.specs.Kept.{Kept}
@@ -17,6 +20,11 @@ use Rattle.rosterbook.specs.declared.status.Status.{Status}
 use Rattle.rosterbook.specs.declared.status.Status.TheVariants.{Done, Refused}
 use Rattle.rosterbook.specs.declared.stop.Stop.{Stop}
 use Rattle.rosterbook.specs.declared.stop.Stop.TheVariants.{Book}
+
+-- which pairings `pairings` lists, by whether it is asked for the open ones
+abbrev pub listed_by : Bool → Listed
+listed_by true = Open
+listed_by false = All
 
 -- how it is told that the member or the pairing isn't there
 abbrev pub absence_text : Absence → List ℕ

@@ -3,8 +3,10 @@
 ghost use Rattle.std.specs.Prelude.{◌≡◌, IfErr, IfOk, IsErr, None};
 ghost use Rattle.sqlite_wal.specs.Files.{image_at};
 ghost use Rattle.http_exchange.specs.Exchange.{ChannelBytes};
+ghost use Rattle.asking.specs.Requests.{IsRequestAsked};
 ghost use Rattle.book.specs.Calls.{IsAfterCalls};
 ghost use Rattle.rosterbook.specs.Asking as spec;
+ghost use Rattle.rosterbook.specs.Asking.{left_by_request};
 ghost use Rattle.rosterbook.specs.ByFiles.{AreLeftByRequest, HaveSession, IsByFiles, IsDoneBy, IsRefusedAs};
 
 use crate::ended::Ended;
@@ -26,8 +28,8 @@ pub(crate) fn answer_do<S: Start, R: Read, O: Write>(
     out: &mut O,
 ) -> Ended<FileFrom<S>>
     ensures done { (err : ChannelBytes) → IfOk result.done
-        (IsDoneBy (IsByFiles result.left (image_at S.Start)) (R.remaining reader.old)
-        (O.contents out.old) (O.contents out.new) err err) }
+        (IsDoneBy (IsByFiles result.left (image_at S.Start)) left_by_request
+        (R.remaining reader.old) (O.contents out.old) (O.contents out.new) err err) }
     ensures left { AreLeftByRequest result.left (image_at S.Start) (R.remaining reader.old) }
     ensures session { HaveSession result.left (image_at S.Start) }
     ensures unopened { result.left ≡ None
@@ -56,20 +58,39 @@ pub fn ask_json<S: Alter, R: Read, O: Write>(
     reader: &mut R,
     out: &mut O,
 ) -> Result<Status, Stop>
-    ensures asked { IfOk result (λ status. spec.IsRequestAnswered S.Store book.old book.new
-        (R.remaining reader.old) (O.contents out.old) (O.contents out.new) status) }
+    ensures asked { IfOk result (λ status. spec.IsRequestAnswered S.Store left_by_request
+        book.old book.new (R.remaining reader.old) (O.contents out.old) (O.contents out.new)
+        status) }
     ensures stopped { IfErr result (λ stop. spec.IsAskStopped S.Store book.old book.new
         (R.remaining reader.old) (O.contents out.old) (O.contents out.new) stop) }
     ensures calls { IsAfterCalls S.Store book.old book.new }
 {
     let body = read_input(alloc, reader)?;
-    let answer = ask_request(alloc, book, &body)?;
+    ask_body(alloc, book, &body, out)
+}
+
+/// Asks a book the command of a body, and writes the line of its answer, or why it isn't read.
+pub(crate) fn ask_body<S: Alter, O: Write>(
+    alloc: Global,
+    book: &mut Book<S>,
+    body: &[u8],
+    out: &mut O,
+) -> Result<Status, Stop>
+    ensures told { IfOk result
+        (spec.IsBodyTold (IsRequestAsked S.Store book.old book.new body.now)
+        (O.contents out.old) (O.contents out.new)) }
+    ensures untold { IfErr result
+        (spec.IsBodyUntold (IsRequestAsked S.Store book.old book.new body.now)
+        (O.contents out.old) (O.contents out.new)) }
+    ensures calls { IsAfterCalls S.Store book.old book.new }
+{
+    let answer = ask_request(alloc, book, body)?;
     write_line(out, &answer.text)?;
     Ok(status_of(answer.kind))
 }
 
 /// Returns how the program ends after an answer of this kind.
-fn status_of(kind: AnswerKind) -> Status
+pub(crate) fn status_of(kind: AnswerKind) -> Status
     ensures { result ≡ spec.status_of_kind kind }
 {
     match kind {

@@ -1,4 +1,4 @@
-//! `rosterbook roster`, `limits`, `pairing` and `exceedances`: a text by what a book shows.
+//! `rosterbook roster`, `limits`, `pairing`, `exceedances`, `members` and `pairings`: a text by what a book shows.
 //! Worked texts: `tests/reports.py`. Wrong bodies: `must-fail/`.
 ghost use Rattle.std.specs.Prelude.{◌≡◌, IfErr, IfOk, IsErr, None};
 ghost use Rattle.std.specs.Option.{option_copied};
@@ -20,6 +20,7 @@ use crate::status::Status;
 use crate::stop::Stop;
 use asking::{Shown, Subject, ask_report};
 use book::Book;
+use list_report::Listed;
 use report::ReportFault;
 use sqlite::{Alter, FileFrom, Start};
 use std::alloc::Global;
@@ -109,6 +110,61 @@ pub(crate) fn answer_exceedances<S: Start, O: Write, E: Write>(
     show_file(rt, file, start, Subject::Exceedances, out, err)
 }
 
+/// Answers `rosterbook members`.
+pub(crate) fn answer_members<S: Start, O: Write, E: Write>(
+    rt: &HostRuntime,
+    file: &str,
+    start: S,
+    out: &mut O,
+    err: &mut E,
+) -> Ended<FileFrom<S>>
+    ensures done { IfOk result.done
+        (IsShownBy (IsByFiles result.left (image_at S.Start)) show.Members
+        (O.contents out.old) (O.contents out.new) (E.contents err.old) (E.contents err.new)) }
+    ensures left { AreLeftAsFound result.left (image_at S.Start) }
+    ensures session { HaveSession result.left (image_at S.Start) }
+    ensures unopened { result.left ≡ None
+        → IsErr result.done × (out.new ≡ out.old) × (err.new ≡ err.old) }
+    ensures refused { IsRefusedAs result.left (image_at S.Start) result.refused result.done }
+{
+    show_file(rt, file, start, Subject::Members, out, err)
+}
+
+/// Answers `rosterbook pairings`.
+pub(crate) fn answer_pairings<S: Start, O: Write, E: Write>(
+    rt: &HostRuntime,
+    file: &str,
+    start: S,
+    only_open: bool,
+    out: &mut O,
+    err: &mut E,
+) -> Ended<FileFrom<S>>
+    ensures done { IfOk result.done
+        (IsShownBy (IsByFiles result.left (image_at S.Start)) (show.Pairings (spec.listed_by only_open))
+        (O.contents out.old) (O.contents out.new) (E.contents err.old) (E.contents err.new)) }
+    ensures left { AreLeftAsFound result.left (image_at S.Start) }
+    ensures session { HaveSession result.left (image_at S.Start) }
+    ensures unopened { result.left ≡ None
+        → IsErr result.done × (out.new ≡ out.old) × (err.new ≡ err.old) }
+    ensures refused { IsRefusedAs result.left (image_at S.Start) result.refused result.done }
+{
+    show_file(
+        rt,
+        file,
+        start,
+        Subject::Pairings(listed_by(only_open)),
+        out,
+        err,
+    )
+}
+
+/// Returns which pairings are listed: those with a free seat, or all.
+fn listed_by(only_open: bool) -> Listed
+    ensures { result ≡ spec.listed_by only_open }
+{
+    if only_open { Listed::Open } else { Listed::All }
+}
+
 /// Opens a book and shows it, and lets go of its files as they are: to close them would copy the log into
 /// the database.
 fn show_file<S: Start, O: Write, E: Write>(
@@ -141,8 +197,8 @@ fn show_file<S: Start, O: Write, E: Write>(
     }
 }
 
-/// Prints the text of a member, of a member's limits, of a pairing or of the exceedances by what a book shows, or tells that the member or the pairing
-/// isn't there (2, 4). An id outside its shape names nothing. The book is as it was.
+/// Prints the text of a member, of a member's limits, of a pairing, of the exceedances or of a list by what a book shows, or tells
+/// that the member or the pairing isn't there (2, 4). An id outside its shape names nothing. The book is as it was.
 pub fn show_text<S: Alter, O: Write, E: Write>(
     alloc: Global,
     book: &mut Book<S>,

@@ -2,6 +2,7 @@
 //! Through the program: `tests/reports.py`.
 
 use duty::{CrewId, PairingId};
+use list_report::Listed;
 
 /// What a book shows.
 #[derive(PartialEq, Eq, Drop)]
@@ -19,4 +20,8 @@ pub enum Show {
     Pairing(PairingId),
     /// The exceedances.
     Exceedances,
+    /// The list of all members.
+    Members,
+    /// The list of all pairings, or of those with a free seat.
+    Pairings(Listed),
 }

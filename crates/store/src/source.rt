@@ -4,8 +4,8 @@ use crate::store::Store;
 use command::{Key, Member};
 use duty::{CrewId, Ground, GroundId, OutsideId, PairingId};
 use lookup::{
-    bases_at, exceedances_at, ground_at, grounds_held_at, member_at, outside_at, outsides_held_at,
-    pairing_at, pairings_held_at, request_at,
+    bases_at, crew_ids_at, exceedances_at, ground_at, grounds_held_at, member_at, outside_at,
+    outsides_held_at, pairing_at, pairing_ids_at, pairings_held_at, request_at,
 };
 use part::Source;
 use roster::{Bases, DutyId, ExceedanceId, LoggedCommand, OutsideEntry, PairingEntry};
@@ -95,6 +95,14 @@ impl<S: Alter> Source for Store<S> {
 
     fn outsides_of(&mut self, alloc: Global, who: &CrewId) -> Result<Vec<OutsideId>, StoreFault> {
         outsides_held_at(alloc, &mut self.conn, who)
+    }
+
+    fn crew_ids(&mut self, alloc: Global) -> Result<Vec<CrewId>, StoreFault> {
+        crew_ids_at(alloc, &mut self.conn)
+    }
+
+    fn pairing_ids(&mut self, alloc: Global) -> Result<Vec<PairingId>, StoreFault> {
+        pairing_ids_at(alloc, &mut self.conn)
     }
 
     fn exceedances(&mut self, alloc: Global) -> Result<OrdMap<ExceedanceId, DutyId>, StoreFault> {

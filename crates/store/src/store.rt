@@ -23,7 +23,10 @@ use crate::show::Show;
 use command::{Command, Key};
 use entries::LoadFault;
 use loading::read_all;
-use part::{gather, gather_exceedances, gather_limits, gather_member, gather_pairing, judge};
+use part::{
+    gather, gather_crew, gather_exceedances, gather_limits, gather_member, gather_pairing,
+    gather_pairings, judge,
+};
 use roster::{Change, Roster, Verdict};
 use sqlite::{Alter, Connection};
 use state_rows::{Edition, StoreFault};
@@ -150,8 +153,8 @@ impl<S: Alter> Store<S> {
         verdict
     }
 
-    /// Reads by key a roster with what the text of a member, of a member's limits, of a pairing or of the exceedances needs, in no
-    /// transaction, and changes nothing. A store's fault is 90, want of memory 91.
+    /// Reads by key a roster with what the text of a member, of a member's limits, of a pairing, of the exceedances or of a
+    /// list needs, in no transaction, and changes nothing. A store's fault is 90, want of memory 91.
     pub fn shown(&mut self, alloc: Global, what: &Show) -> Result<Roster, StoreFault>
         ensures part { (s : State) → Shows (state S.Store self.old) s
             → HasCleanDisk (state S.Store self.new) → IfOk result (λ r. r ≡ shown_part s what.now) }
@@ -170,6 +173,8 @@ impl<S: Alter> Store<S> {
             Show::Limits { crew, with } => gather_limits(alloc, self, crew, with.as_ref()),
             Show::Pairing(id) => gather_pairing(alloc, self, id),
             Show::Exceedances => gather_exceedances(alloc, self),
+            Show::Members => gather_crew(alloc, self),
+            Show::Pairings(_) => gather_pairings(alloc, self),
         };
         // As in `part`.
         let _live = self.conn.schema();

@@ -20,6 +20,12 @@ use Rattle.roster.specs.declared.state.ExceedanceId.{ExceedanceId}
 use Rattle.roster.proofs.Members.{from_rows, is_first, is_later}
 use Rattle.limits_report.specs.LimitsText.{Judged, judged}
 use Rattle.limits_report.proofs.EachText.{each_text}
+use Rattle.list_report.specs.MembersText.{member_line, members_header}
+use Rattle.list_report.specs.PairingsText.{IsPairingsText, pairings_header, rows_of}
+use Rattle.list_report.specs.PairingsText as lists
+use Rattle.list_report.specs.declared.pairings.Listed.{Listed}
+use Rattle.list_report.specs.declared.pairings.Listed.TheVariants.{All, Open}
+use Rattle.list_report.specs.declared.row.Row.{Row}
 use Rattle.report.specs.ExceedanceText.{ExceedanceEntry, IsExceedanceText, exceedances_header, line}
 use Rattle.report.specs.Lines.{IsInOrder, key_of}
 use Rattle.report.specs.PairingText.{pairing_text}
@@ -30,8 +36,8 @@ use Rattle.codec.specs.Requests.{read_request}
 use Rattle.codec.specs.Schedule.{IsAtFault, IsSchedule}
 use Rattle.codec.proofs.EachText.{is_schedule_or_at_fault}
 use Rattle.store.specs.Shown.{Absence, no_crew, no_pairing, IsShown}
-use Rattle.http_message.specs.Plan.{Planned, Subject, crew, limits, pairing, exceedances}
-use Rattle.http_message.specs.declared.plan.Submission.TheVariants.{Command, Import}
+use Rattle.http_message.specs.Plan.{Planned, Subject, crew, limits, pairing, exceedances, members, pairings, open_pairings}
+use Rattle.http_message.specs.declared.plan.Submission.TheVariants.{Command, Check, Import}
 use Rattle.http_message.specs.declared.refusals.RequestFault.{RequestFault}
 use Rattle.http_exchange.specs.Exchange as exchange
 use Rattle.http_exchange.specs.Exchange.{asks}
@@ -104,6 +110,13 @@ roster_text s who member there =
     let lines = each_order (lines_of s who) in
     (roster_header who member ++ flat_map (λ line. line.text) lines.0, record { member = member; is_there = there; told = record { lines = lines.0; in_order = lines.1; is = refl } })
 
+pairings_text : (s : State) (which : Listed) → (text : List ℕ) × IsPairingsText s which text
+pairings_text s which =
+    let before = λ (a : Row) (b : Row). is_lt (name_cmp (lists.key_of a) (lists.key_of b)) in
+    let all = in_order before (ranks_by nat_list_cmp_total lists.key_of) (rows_of s which) in
+    let placed = sorted before (ranks_by nat_list_cmp_total lists.key_of) all.0 all.2 in
+    (pairings_header (length all.0) ++ flat_map (λ row. row.line) all.0, record { rows = all.0; in_order = record { same = all.1; order = placed }; is = refl })
+
 abbrev name_of : ExceedanceId → List ℕ
 name_of id = exceedance_name id.key id.crew id.section
 
@@ -154,6 +167,9 @@ module _ (s : State) where
   each_report sound (limits id named) = limits_report id named (fin.get s.crew id) (judged s id named) refl refl
   each_report sound (pairing id) = pairing_report id (pairing_text s id) refl
   each_report sound exceedances = let text = exceedance_text s sound in (Ok text.0, text.1)
+  each_report sound members = (Ok (members_header (fin.len s.crew) ++ flat_map member_line (fin.entries s.crew)), refl)
+  each_report sound pairings = let text = pairings_text s All in (Ok text.0, text.1)
+  each_report sound open_pairings = let text = pairings_text s Open in (Ok text.0, text.1)
 
   met_import : (number : ℕ) (body : List ℕ) → ((plans : List Plan) × IsSchedule body plans) ⊎ ((n : ℕ) × IsAtFault body n) → IsMet (submit (Import number) body)
   met_import number body (inl (plans, is)) = record {
@@ -176,6 +192,8 @@ module _ (s : State) where
     asks_them = refl;
     told = refl;
   }
+  each_met sound (submit Check body) =
+      record { commands = []; answer = request_answer s (read_request body); asks_them = refl; told = refl }
   each_met sound (submit (Import number) body) = met_import number body (is_schedule_or_at_fault body)
   each_met sound (http.show what) =
       let report = each_report sound what in

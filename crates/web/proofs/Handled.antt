@@ -24,7 +24,7 @@ use Rattle.state_rows.specs.declared.fault.StoreFault.TheVariants as fault
 use Rattle.state_rows.specs.Kept.{IsBookOf}
 use Rattle.state_rows.specs.Outcomes.{CrashLeaves}
 use Rattle.book.specs.Answered.{IsAnswered}
-use Rattle.book.specs.Calls.{IsAfterCalls}
+use Rattle.book.specs.Calls.{HasRead, IsAfterCalls}
 use Rattle.book.specs.Kept as kept
 use Rattle.book.specs.Kept.{HasTables, IsDurablyAt, IsClean, IsInDoubt, Kept, StillHasTables, result_of}
 use Rattle.book.proofs.States.{one_of_either}
@@ -33,14 +33,14 @@ use Rattle.book.specs.declared.answer.Answer as book
 use Rattle.store.specs.declared.show.Show.{Show}
 use Rattle.asking.specs.Answers.{IsOrMemory, Reports, ReportsUnread, answer_json, answer_kind, refusal_kind}
 use Rattle.asking.specs.Reports.{HasShown, IsReportAsked, ReportsShown}
-use Rattle.asking.specs.Requests.{IsDoneAsRead, IsRequestAsked, Request, asked_as}
+use Rattle.asking.specs.Requests.{HasChecked, IsCheckedAsRead, IsDoneAsRead, IsRequestAsked, IsRequestChecked, Request, asked_as}
 use Rattle.asking.specs.declared.answers.AskFault.{AskFault}
 use Rattle.asking.specs.declared.answers.AskFault.TheVariants as ask
 use Rattle.asking.specs.declared.answers.JsonAnswer.{JsonAnswer}
 use Rattle.asking.specs.declared.reports.Shown.{Shown}
 use Rattle.asking.specs.declared.reports.Shown.TheVariants.{Text, NoSuchCrew, NoSuchPairing}
 use Rattle.http_message.specs.Plan.{Subject}
-use Rattle.http_message.specs.declared.plan.Submission.TheVariants.{Command, Import}
+use Rattle.http_message.specs.declared.plan.Submission.TheVariants.{Command, Check, Import}
 use Rattle.http_exchange.specs.Handler as http
 use Rattle.http_exchange.specs.Handler.{StatusText, submit}
 use Rattle.http_exchange.specs.declared.handler.HandlerFault.{HandlerFault}
@@ -96,6 +96,16 @@ module _ {S : Type 0} (g : Ghosts S) (book : Kept S) where
   }
   command_unread body fault (Err Store) is tells = absurd tells
   command_unread body fault (Err Memory) is tells = no_memory (submit Command body)
+
+  pub check_unread : (body : List ℕ) (fault : CodecFault) (told : Result StatusText HandlerFault) → read_request body ≡ Err fault → TellsAnswer (fault_answer fault) told
+      → IsHandled g book book (submit Check body) told
+  check_unread body fault (Ok answer) is tells = record {
+    kept = unasked_kept (Ok answer) refl;
+    shut = λ _. (fault, is, tells);
+    done = λ s at. rw is ((λ _. tells), ([], refl, (at, λ tables. tables)));
+  }
+  check_unread body fault (Err Store) is tells = absurd tells
+  check_unread body fault (Err Memory) is tells = no_memory (submit Check body)
 
   pub schedule_unread : (number : ℕ) (body : List ℕ) (fault : CodecFault) (line : ℕ) (told : Result StatusText HandlerFault) → fault ≡ BadCsv line → IsAtFault body line
       → TellsAnswer (fault_answer fault) told → IsHandled g book book (submit (Import number) body) told
@@ -284,6 +294,65 @@ module _ {S : Type 0} (g : Ghosts S) (old new : Kept S) where
           subst (λ (b : Kept S). IsHandled g old b (submit Command body) (response_to_command r)) (sym same)
           (command_unread g old body fault (response_to_command r) is (told_unread fault r unread))
 
+  -- ---- what keeps nothing
+
+  module _ (calls : IsAfterCalls g old new) {A : Type 0} (r : Result A StoreFault) (call : HasRead g old new r) where
+    kept_so : (told : Result StatusText HandlerFault) → answers_store_fault told ≡ kept.is_store_fault r → HoldsWhateverIsAsked g old new told
+    kept_so told same = record {
+      failed = call.failed ∙ ap (λ b. old.failed || b) (sym same);
+      shut = λ f. (call.shut f).1;
+      disk = call.unchanged.nothing_new.disk;
+      honest = λ s at honest. still_honest g new s (call.kept s at) honest;
+      others_left = record { crash = λ c trees may. inl (call.unchanged.nothing_new.crash c trees may) };
+      calls = calls;
+    }
+
+    shows : (s : State) → HasTables g old s → StillHasTables g new s
+    shows s has = λ c is_open.
+        let now = call.unchanged.still_shown c is_open in
+        subst (IsBookOf s) (sym now.1) (has (call.unchanged.nothing_new.disk c)).1
+
+  -- ---- commands that are only checked
+
+  module _ (calls : IsAfterCalls g old new) (body : List ℕ) (number : ℕ) (instruction : Instruction) (is : read_request body ≡ Ok (number, instruction)) where
+    checked_by : (r : Result book.Answer StoreFault) (told : Result StatusText HandlerFault) → IsToldAs r told
+        → HasChecked g old new (asked_as (number, instruction)) r → IsHandled g old new (submit Check body) told
+    checked_by (Ok a) (Ok answer) tells it = record {
+      kept = kept_so calls (Ok a) it.call (Ok answer) refl;
+      shut = λ f. none_answered a (it.call.shut f).0;
+      done = λ s at. rw is ((λ c. tells ∙ ap command_answer (it.reply s at c)), ([], refl, (it.call.kept s at, λ t. it.tables s at t)));
+    }
+    checked_by (Ok a) (Err Store) tells it = absurd tells
+    checked_by (Ok a) (Err Memory) tells it = record {
+      kept = kept_so calls (Ok a) it.call (Err Memory) refl;
+      shut = λ _. tt;
+      done = λ s at. inr ([], refl, (0, it.call.kept s at, λ t. still_means g old new s (it.tables s at t)));
+    }
+    checked_by (Err fault.Store) told tells it = subst (IsHandled g old new (submit Check body)) (sym tells) (record {
+      kept = kept_so calls (Err fault.Store) it.call (Err Store) refl;
+      shut = λ _. (number, instruction, is);
+      done = λ s at. ([], refl, (0, one_of_either (state g new.held) s s (it.call.kept s at)));
+    })
+    checked_by (Err fault.Memory) told tells it = subst (IsHandled g old new (submit Check body)) (sym tells) (record {
+      kept = kept_so calls (Err fault.Memory) it.call (Err Memory) refl;
+      shut = λ _. tt;
+      done = λ s at. inr ([], refl, (0, it.call.kept s at, λ t. (shows calls (Err fault.Memory) it.call s t, it.call.unchanged.still_open)));
+    })
+
+  pub check_handled : (body : List ℕ) (r : Result JsonAnswer AskFault) → IsRequestChecked g old new body r → IsAfterCalls g old new
+      → IsHandled g old new (submit Check body) (response_to_command r)
+  check_handled body r (inr (same, is)) calls =
+      subst (λ (r : Result JsonAnswer AskFault). IsHandled g old new (submit Check body) (response_to_command r)) (sym is)
+      (subst (λ (b : Kept S). IsHandled g old b (submit Check body) (Err Memory)) (sym same) (no_memory g old (submit Check body)))
+  check_handled body r (inl done) calls = go (read_request body) refl done
+    where
+      go : (read : Request) → read_request body ≡ read → IsCheckedAsRead g old new read r → IsHandled g old new (submit Check body) (response_to_command r)
+      go (Ok (number, instruction)) is checked =
+          checked_by calls body number instruction is checked.answer (response_to_command r) (told_as checked.answer r checked.reported) checked.checked
+      go (Err fault) is (same, unread) =
+          subst (λ (b : Kept S). IsHandled g old b (submit Check body) (response_to_command r)) (sym same)
+          (check_unread g old body fault (response_to_command r) is (told_unread fault r unread))
+
   -- ---- imports
 
   pub schedule_read : (number : ℕ) (body : List ℕ) (plans : List Plan) (told : Result StatusText HandlerFault) → IsSchedule body plans → AreAdded g old new number plans told
@@ -299,26 +368,10 @@ module _ {S : Type 0} (g : Ghosts S) (old new : Kept S) where
   -- ---- reports
 
   module _ (about : Subject) (calls : IsAfterCalls g old new) where
-    module _ (r : Result State StoreFault) (it : HasShown g old new (show_of about) r) where
-      kept_so : (told : Result StatusText HandlerFault) → answers_store_fault told ≡ kept.is_store_fault r → HoldsWhateverIsAsked g old new told
-      kept_so told same = record {
-        failed = it.call.failed ∙ ap (λ b. old.failed || b) (sym same);
-        shut = λ f. (it.call.shut f).1;
-        disk = it.call.unchanged.nothing_new.disk;
-        honest = λ s at honest. still_honest g new s (it.call.kept s at) honest;
-        others_left = record { crash = λ c trees may. inl (it.call.unchanged.nothing_new.crash c trees may) };
-        calls = calls;
-      }
-
-      shows : (s : State) → HasTables g old s → StillHasTables g new s
-      shows s has = λ c is_open.
-          let now = it.call.unchanged.still_shown c is_open in
-          subst (IsBookOf s) (sym now.1) (has (it.call.unchanged.nothing_new.disk c)).1
-
     reported_by : (r : Result State StoreFault) (told : Result StatusText HandlerFault) → IsReportToldAs r (show_of about) told
         → HasShown g old new (show_of about) r → IsHandled g old new (http.show about) told
     reported_by (Ok roster) (Ok answer) tells it = record {
-      kept = kept_so (Ok roster) it (Ok answer) refl;
+      kept = kept_so calls (Ok roster) it.call (Ok answer) refl;
       shut = λ f. none_answered roster (it.call.shut f).0;
       done = λ s at. (
         (λ c. (tells.0, (it.text s at c tells.0).0 tells.1, tells.2)),
@@ -327,19 +380,19 @@ module _ {S : Type 0} (g : Ghosts S) (old new : Kept S) where
     }
     reported_by (Ok roster) (Err Store) tells it = absurd tells
     reported_by (Ok roster) (Err Memory) tells it = record {
-      kept = kept_so (Ok roster) it (Err Memory) refl;
+      kept = kept_so calls (Ok roster) it.call (Err Memory) refl;
       shut = λ _. tt;
       done = λ s at. inr ([], refl, (0, it.call.kept s at, λ t. still_means g old new s (it.tables s at t)));
     }
     reported_by (Err fault.Store) told tells it = subst (IsHandled g old new (http.show about)) (sym tells) (record {
-      kept = kept_so (Err fault.Store) it (Err Store) refl;
+      kept = kept_so calls (Err fault.Store) it.call (Err Store) refl;
       shut = λ _. tt;
       done = λ s at. ([], refl, (0, one_of_either (state g new.held) s s (it.call.kept s at)));
     })
     reported_by (Err fault.Memory) told tells it = subst (IsHandled g old new (http.show about)) (sym tells) (record {
-      kept = kept_so (Err fault.Memory) it (Err Memory) refl;
+      kept = kept_so calls (Err fault.Memory) it.call (Err Memory) refl;
       shut = λ _. tt;
-      done = λ s at. inr ([], refl, (0, it.call.kept s at, λ t. (shows (Err fault.Memory) it s t, it.call.unchanged.still_open)));
+      done = λ s at. inr ([], refl, (0, it.call.kept s at, λ t. (shows calls (Err fault.Memory) it.call s t, it.call.unchanged.still_open)));
     })
 
     pub report_handled : (r : Result Shown AskFault) (told : Result StatusText HandlerFault) → IsReportAsked g old new (show_of about) r → IsResponseToReport r told

@@ -5,13 +5,17 @@ use Rattle.httparse.proofs.GrammarLemmas.{request_unique}
 use Rattle.codec.proofs.OneReading.{has_no_fault, has_one_fault, is_of_one_list}
 use Rattle.stored_json.specs.declared.fault.CodecFault.TheVariants.{BadCsv}
 use Rattle.limits_report.proofs.OneText.{one_text as one_limits_text}
+use Rattle.list_report.proofs.OneText.{one_pairings_text}
+use Rattle.list_report.specs.declared.pairings.Listed.{Listed}
+use Rattle.list_report.specs.declared.pairings.Listed.TheVariants.{All, Open}
+use Rattle.store.specs.declared.show.Show.TheVariants as show
 use Rattle.report.proofs.OneText.{one_exceedance_text, one_roster}
 use Rattle.roster.specs.Folds.{Replies, import}
 use Rattle.roster.specs.State.{State}
 use Rattle.store.specs.Shown.{Absence, no_crew, no_pairing, IsShown}
 use Rattle.http_message.specs.Heading.{heading}
-use Rattle.http_message.specs.Plan.{Planned, Subject, crew, limits, pairing, exceedances, plan_for_head}
-use Rattle.http_message.specs.declared.plan.Submission.TheVariants.{Command, Import}
+use Rattle.http_message.specs.Plan.{Planned, Subject, crew, limits, pairing, exceedances, members, pairings, open_pairings, plan_for_head}
+use Rattle.http_message.specs.declared.plan.Submission.TheVariants.{Command, Check, Import}
 use Rattle.http_message.specs.declared.refusals.RequestFault.{RequestFault}
 use Rattle.http_exchange.specs.Exchange.{asks}
 use Rattle.http_exchange.specs.Final.{Final, of_answer}
@@ -32,6 +36,7 @@ one_import number body a b (inr (line, at_fault, none)) (inr (line', at_fault', 
 
 one_list : (asked : http.HandlerRequest) (a b : Commands) → Asks asked a → Asks asked b → a ≡ b
 one_list (submit Command body) a b is is' = is ∙ sym is'
+one_list (submit Check body) a b is is' = is ∙ sym is'
 one_list (submit (Import number) body) a b is is' = one_import number body a b is is'
 one_list (http.show what) a b is is' = is ∙ sym is'
 
@@ -45,6 +50,11 @@ module _ (s : State) where
   one_schedule_answer number body a b (inr (line, at_fault, told)) (inl (plans, is, are)) = absurd (has_no_fault body plans line is at_fault)
   one_schedule_answer number body a b (inr (line, at_fault, told)) (inr (line', at_fault', told')) =
       told ∙ ap (λ n. fault_answer (BadCsv n)) (has_one_fault body line line' at_fault at_fault') ∙ sym told'
+
+  one_list_text : (which : Listed) (a b : Result (List ℕ) Absence) → IsShown s (show.Pairings which) a → IsShown s (show.Pairings which) b → a ≡ b
+  one_list_text which (Ok a) (Ok b) is is' = ap Ok (one_pairings_text s which a b is is')
+  one_list_text which (Ok a) (Err absence) is is' = absurd is'
+  one_list_text which (Err absence) b is is' = absurd is
 
   one_text : (what : Subject) (a b : Result (List ℕ) Absence) → IsShown s (show_of what) a → IsShown s (show_of what) b → a ≡ b
   one_text (crew id) (Ok a) (Ok b) is is' = ap Ok (one_roster s id a b is is')
@@ -73,9 +83,15 @@ module _ (s : State) where
   one_text exceedances (Ok a) (Ok b) is is' = ap Ok (one_exceedance_text s a b is is')
   one_text exceedances (Ok a) (Err absence) is is' = absurd is'
   one_text exceedances (Err absence) b is is' = absurd is
+  one_text members (Ok a) (Ok b) is is' = ap Ok (is ∙ sym is')
+  one_text members (Ok a) (Err absence) is is' = absurd is'
+  one_text members (Err absence) b is is' = absurd is
+  one_text pairings a b is is' = one_list_text All a b is is'
+  one_text open_pairings a b is is' = one_list_text Open a b is is'
 
   one_answer : (asked : http.HandlerRequest) (a b : StatusText) → IsAnswer s asked a → IsAnswer s asked b → a ≡ b
   one_answer (submit Command body) a b is is' = is ∙ sym is'
+  one_answer (submit Check body) a b is is' = is ∙ sym is'
   one_answer (submit (Import number) body) a b is is' = one_schedule_answer number body a b is is'
   one_answer (http.show what) a b (shown, is, told) (shown', is', told') =
       told ∙ ap report_answer (one_text what shown shown' is is') ∙ sym told'

@@ -10,11 +10,13 @@ use Rattle.roster.specs.Folds as folds
 use Rattle.roster.specs.Folds.{Replies, import}
 use Rattle.roster.specs.State.{State}
 use Rattle.roster.specs.Steps.{step_of}
+use Rattle.list_report.specs.declared.pairings.Listed.TheVariants.{All, Open}
 use Rattle.store.specs.Shown.{Absence, IsShown}
 use Rattle.store.specs.declared.show.Show.{Show}
 use Rattle.store.specs.declared.show.Show.TheVariants as show
 use Rattle.http_message.specs.Plan.{Subject, crew, limits, pairing, exceedances}
-use Rattle.http_message.specs.declared.plan.Submission.TheVariants.{Command, Import}
+use Rattle.http_message.specs.Plan.{members, pairings, open_pairings}
+use Rattle.http_message.specs.declared.plan.Submission.TheVariants.{Command, Check, Import}
 use Rattle.http_exchange.specs.Handler as http
 use Rattle.http_exchange.specs.Handler.{StatusText, submit}
 use Rattle.http_exchange.specs.declared.handler.HandlerFault.{HandlerFault}
@@ -31,9 +33,11 @@ abbrev pub commands_of : Result (ℕ × Instruction) CodecFault → Commands
 commands_of (Ok read) = asked_as read ∷ []
 commands_of (Err fault) = []
 
--- the commands that a request asks: the one of a body that is read; the parts of a schedule; of another body, and of a report, none
+-- the commands that a request asks: the one of a body that is read; the parts of a schedule; of
+-- another body, of a command that is only checked, and of a report, none
 abbrev pub Asks : http.HandlerRequest → Commands → Type 0
 Asks (submit Command body) commands = commands ≡ commands_of (read_request body)
+Asks (submit Check body) commands = commands ≡ []
 Asks (submit (Import number) body) commands =
     ((plans : List Plan) × IsSchedule body plans × (commands ≡ import number plans))
     ⊎ ((line : ℕ) × IsAtFault body line × (commands ≡ []))
@@ -45,6 +49,9 @@ show_of (crew id) = show.Crew id
 show_of (limits id named) = show.Limits id named
 show_of (pairing id) = show.Pairing id
 show_of exceedances = show.Exceedances
+show_of members = show.Members
+show_of pairings = show.Pairings All
+show_of open_pairings = show.Pairings Open
 
 module _ (s : State) where
   -- the answer to a body that is read is the book's to its command, and another is told why it isn't
@@ -55,6 +62,7 @@ module _ (s : State) where
   -- the answer to a request in this state
   abbrev pub IsAnswer : http.HandlerRequest → StatusText → Type 0
   IsAnswer (submit Command body) answer = answer ≡ request_answer (read_request body)
+  IsAnswer (submit Check body) answer = answer ≡ request_answer (read_request body)
   IsAnswer (submit (Import number) body) answer =
       ((plans : List Plan) × IsSchedule body plans × (answer ≡ parts_answer (Replies s (import number plans))))
       ⊎ ((line : ℕ) × IsAtFault body line × (answer ≡ fault_answer (BadCsv line)))
@@ -63,15 +71,27 @@ module _ (s : State) where
 
 -- ---- a book that has failed
 
+-- the body is no command, and it is told why
+abbrev pub IsNoCommand : List ℕ → StatusText → Type 0
+IsNoCommand body answer =
+    (fault : CodecFault) × (read_request body ≡ Err fault) × (answer ≡ fault_answer fault)
+
+-- the body is a command
+abbrev pub IsCommand : List ℕ → Type 0
+IsCommand body =
+    (number : ℕ) × (instruction : Instruction) × (read_request body ≡ Ok (number, instruction))
+
 -- why a body isn't read, which is told in whichever state the book is
 abbrev pub IsToldUnread : http.HandlerRequest → StatusText → Type 0
-IsToldUnread (submit Command body) answer = (fault : CodecFault) × (read_request body ≡ Err fault) × (answer ≡ fault_answer fault)
+IsToldUnread (submit Command body) answer = IsNoCommand body answer
+IsToldUnread (submit Check body) answer = IsNoCommand body answer
 IsToldUnread (submit (Import number) body) answer = (line : ℕ) × IsAtFault body line × (answer ≡ fault_answer (BadCsv line))
 IsToldUnread (http.show what) answer = ⊥
 
 -- a command or a schedule that is read, or a report
 abbrev pub IsRead : http.HandlerRequest → Type 0
-IsRead (submit Command body) = (number : ℕ) × (instruction : Instruction) × (read_request body ≡ Ok (number, instruction))
+IsRead (submit Command body) = IsCommand body
+IsRead (submit Check body) = IsCommand body
 IsRead (submit (Import number) body) = (plans : List Plan) × IsSchedule body plans
 IsRead (http.show what) = ⊤
 

@@ -15,10 +15,11 @@ ghost use Rattle.web.specs.Serving as spec;
 
 use crate::answers::{answered, shown};
 use crate::imports::answer_schedule;
-use asking::{Subject, ask_report, ask_request};
+use asking::{Subject, ask_report, ask_request, check_request};
 use book::Book;
 use http_exchange::{ChannelFault, Handler, HandlerFault, Request, Response, Served};
 use http_message::{Report, Submission};
+use list_report::Listed;
 use sqlite::Alter;
 use std::alloc::Global;
 use std::io::{Read, Write};
@@ -39,6 +40,7 @@ impl<S: Alter> Handler<Book<S>> for BookHandler {
     ) -> Result<Response, HandlerFault> {
         match request {
             Request::Submit(Submission::Command, body) => answered(ask_request(alloc, book, body)),
+            Request::Submit(Submission::Check, body) => answered(check_request(alloc, book, body)),
             Request::Submit(Submission::Import(number), body) => {
                 answer_schedule(alloc, book, *number, body)
             }
@@ -59,10 +61,14 @@ fn subject_of<'a>(report: &Report<'a>) -> Subject<'a>
         },
         Report::Pairing(id) => Subject::Pairing(id),
         Report::Exceedances => Subject::Exceedances,
+        Report::Members => Subject::Members,
+        Report::Pairings => Subject::Pairings(Listed::All),
+        Report::OpenPairings => Subject::Pairings(Listed::Open),
     }
 }
 
-/// Reads a request, has the book answer it, and writes the response (RFC 9112): a command, a schedule to be imported, or a report.
+/// Reads a request, has the book answer it, and writes the response (RFC 9112): a command, which may only be checked, a
+/// schedule to be imported, or a report.
 /// Nothing is read past the head and the body that it announces. Where the book's store fails (90) or no memory is found (91), 503
 /// tells so; after 91 the request may be made again, under its number. A book that has failed does nothing more: a body that isn't
 /// read is refused all the same, and what is read gets 503 (90).

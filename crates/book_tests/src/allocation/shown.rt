@@ -1,13 +1,14 @@
-//! All that a book shows of two members and two pairings, a member's limits, and its exceedances, as one text.
+//! All that a book shows of two members and two pairings, a member's limits, its exceedances and its lists, as one text.
 
 use crate::fault::Untold;
 use book::{Book, Show};
 use duty::{CrewId, PairingId};
 use limits_report::limits_text;
-use report::{exceedance_text, pairing_text, roster_text};
+use list_report::{Listed, members_text, pairings_text};
+use report::{ReportFault, exceedance_text, pairing_text, roster_text};
 use sqlite::Alter;
 use std::alloc::Global;
-use values::Text;
+use values::{MemoryFault, Text};
 
 /// What is shown.
 #[derive(Clone, Copy)]
@@ -16,15 +17,20 @@ enum Report {
     Limits(&'static str, &'static str),
     Pairing(&'static str),
     Exceedances,
+    Members,
+    Pairings(Listed),
 }
 
-const REPORTS: [Report; 6] = [
+const REPORTS: [Report; 9] = [
     Report::Member("C1"),
     Report::Member("F1"),
     Report::Limits("C1", "P20"),
     Report::Pairing("P10"),
     Report::Pairing("P20"),
     Report::Exceedances,
+    Report::Members,
+    Report::Pairings(Listed::All),
+    Report::Pairings(Listed::Open),
 ];
 
 /// What the book is asked to show.
@@ -39,7 +45,17 @@ fn show_of(alloc: Global, report: Report) -> Result<Show, Untold> {
             Show::Pairing(PairingId::new(Text::new(String::from_str(alloc, id)?)))
         }
         Report::Exceedances => Show::Exceedances,
+        Report::Members => Show::Members,
+        Report::Pairings(which) => Show::Pairings(which),
     })
+}
+
+/// A report of a list.
+fn listed(text: Result<String, MemoryFault>) -> Result<String, ReportFault> {
+    match text {
+        Ok(text) => Ok(text),
+        Err(_) => Err(ReportFault::Memory),
+    }
 }
 
 /// The text of what is shown; nothing of a member or a pairing that isn't there.
@@ -52,11 +68,13 @@ fn text_of<S: Alter>(alloc: Global, book: &mut Book<S>, what: &Show) -> Result<S
         Show::Limits { crew, with } => limits_text(alloc, &roster, crew, with.as_ref()),
         Show::Pairing(id) => pairing_text(alloc, &roster, id),
         Show::Exceedances => exceedance_text(alloc, &roster),
+        Show::Members => listed(members_text(alloc, &roster)),
+        Show::Pairings(which) => listed(pairings_text(alloc, &roster, *which)),
     };
     drop(roster);
     match text {
         Ok(text) => Ok(text),
-        Err(report::ReportFault::Memory) => Err(Untold::Memory),
+        Err(ReportFault::Memory) => Err(Untold::Memory),
         Err(_) => Ok(String::new(alloc)),
     }
 }

@@ -8,6 +8,7 @@ use codec::schedule_of_csv;
 use command::Command;
 use duty::{CrewId, Pairing, PairingId};
 use limits_report::limits_text;
+use list_report::{Listed, members_text, pairings_text};
 use report::{ReportFault, exceedance_text, pairing_text, roster_text};
 use roster::Roster;
 use std::alloc::Global;
@@ -46,13 +47,23 @@ pub fn canonical(alloc: Global, told: &mut Told) -> Result<String, Fault> {
 
 // ---- Reports.
 
-/// One of the four reports.
+/// One of the reports.
 #[derive(Clone, Copy)]
 enum Report<'a> {
     Member(&'a CrewId),
     Limits(&'a CrewId),
     Pairing(&'a PairingId),
     Exceedances,
+    Members,
+    Pairings(Listed),
+}
+
+/// Makes a report of a list.
+fn listed(text: Result<String, MemoryFault>) -> Result<String, ReportFault> {
+    match text {
+        Ok(text) => Ok(text),
+        Err(_) => Err(ReportFault::Memory),
+    }
 }
 
 fn report_once(alloc: Global, roster: &Roster, report: Report<'_>) -> Result<String, ReportFault> {
@@ -61,6 +72,8 @@ fn report_once(alloc: Global, roster: &Roster, report: Report<'_>) -> Result<Str
         Report::Limits(who) => limits_text(alloc, roster, who, None),
         Report::Pairing(id) => pairing_text(alloc, roster, id),
         Report::Exceedances => exceedance_text(alloc, roster),
+        Report::Members => listed(members_text(alloc, roster)),
+        Report::Pairings(which) => listed(pairings_text(alloc, roster, which)),
     }
 }
 
@@ -83,7 +96,7 @@ fn add_report(
     Ok(())
 }
 
-/// Makes the reports of all members and all pairings, and that of the exceedances.
+/// Makes the reports of all members and all pairings, that of the exceedances, and the lists.
 fn reports(alloc: Global, told: &mut Told, roster: &Roster) -> Result<String, Fault> {
     let mut text = String::new(alloc);
     for (who, _member) in roster.crew.iter() {
@@ -93,7 +106,14 @@ fn reports(alloc: Global, told: &mut Told, roster: &Roster) -> Result<String, Fa
     for (id, _rostered) in roster.pairings.iter() {
         add_report(alloc, told, roster, Report::Pairing(id), &mut text)?;
     }
-    add_report(alloc, told, roster, Report::Exceedances, &mut text)?;
+    for report in [
+        Report::Exceedances,
+        Report::Members,
+        Report::Pairings(Listed::All),
+        Report::Pairings(Listed::Open),
+    ] {
+        add_report(alloc, told, roster, report, &mut text)?;
+    }
     Ok(text)
 }
 

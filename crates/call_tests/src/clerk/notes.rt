@@ -36,12 +36,16 @@ fn noted(alloc: Global, request: &Request<'_>) -> Result<String, AllocError> {
         Request::Submit(Submission::Command, body) => {
             format!(in alloc; "command {}", text_of(body))
         }
+        Request::Submit(Submission::Check, body) => { format!(in alloc; "check {}", text_of(body)) }
         Request::Submit(Submission::Import(number), body) => {
             format!(in alloc; "import {} {}", number.get(), text_of(body))
         }
         Request::Show(Report::Crew(id)) => format!(in alloc; "crew {id}"),
         Request::Show(Report::Pairing(id)) => format!(in alloc; "pairing {id}"),
         Request::Show(Report::Exceedances) => String::from_str(alloc, "exceedances"),
+        Request::Show(Report::Members) => String::from_str(alloc, "members"),
+        Request::Show(Report::Pairings) => String::from_str(alloc, "pairings"),
+        Request::Show(Report::OpenPairings) => String::from_str(alloc, "open pairings"),
         Request::Show(Report::Limits { crew, with }) => match with {
             Some(pairing) => format!(in alloc; "limits {crew} with {pairing}"),
             None => format!(in alloc; "limits {crew}"),

@@ -1,6 +1,6 @@
 use Rattle.std.proofs.Common.{inr, refl}
-use Rattle.book.specs.Calls.{call_for_report}
-use Rattle.book.proofs.CallLemmas.{is_report_call, no_calls, one_call}
+use Rattle.book.specs.Calls.{call_for_reading}
+use Rattle.book.proofs.CallLemmas.{is_reading_call, no_calls, one_call}
 use Rattle.asking.proofs.Asked.{has_shown, report_shown}
 use Rattle.asking.proofs.reports.ask_report.Goals as goal
 
@@ -14,5 +14,5 @@ returns g c =
     record {
       asked = report_shown g.S.Store c.args.book.now c.show-shown.new.self c.in-Ok.what _ c.reported.result c.in-Ok.ensures
           (record { shown = c.show-shown.result; has_shown = has; reported = c.reported.ensures });
-      calls = one_call g.S.Store (call_for_report c.show-shown.result) (is_report_call g.S.Store c.show-shown.result has.call);
+      calls = one_call g.S.Store (call_for_reading c.show-shown.result) (is_reading_call g.S.Store c.show-shown.result has.call);
     }

@@ -5,9 +5,11 @@ use Rattle.clap.specs.Walk.{Text}
 use Rattle.clap.specs.declared.error.kind.ErrorKind.TheVariants.{ValueValidation}
 use Rattle.console.specs.CommandLine.{last_number, last_port, most_connections, one, whole}
 use Rattle.console.specs.Plain.{is_plain}
+use Rattle.console.proofs.DoLine.{do_found, do_level}
 use Rattle.console.proofs.DutyLine.{duty_found, duty_passes}
 use Rattle.console.proofs.LimitsLine.{limits_found, limits_level}
 use Rattle.console.proofs.NumberRead.{fails_alone, number_fails, number_passes, passes_alone}
+use Rattle.console.proofs.PairingsLine.{pairings_found, pairings_level}
 use Rattle.console.proofs.PlainLine.{line_read, line_refused, plain_read, plain_refused}
 use Rattle.console.proofs.ServeLine.{both_kinds, either_fails, serve_found, serve_level}
 use Rattle.console.proofs.command_line.action.Goals as goal
@@ -25,8 +27,9 @@ returns-clause-init c file zone is plain =
     plain_read _ _ c.read.ensures.ok c.read.ensures.refused _ _ is refl _ plain refl refl
 
 pub returns-clause-do_one : goal.returns-clause-do_one
-returns-clause-do_one c file is plain =
-    plain_read _ _ c.read.ensures.ok c.read.ensures.refused _ _ is refl _ (alone file plain) refl refl
+returns-clause-do_one c file dry_run lines is plain =
+    line_read _ _ c.read.ensures.ok c.read.ensures.refused _ _ is refl _ (do_level file plain dry_run lines)
+    (do_found file plain dry_run lines)
 
 pub returns-clause-import : goal.returns-clause-import
 returns-clause-import c file number n is plain says =
@@ -56,6 +59,15 @@ returns-clause-limits c file crew (Some id) is plain id_plain =
 pub returns-clause-exceedances : goal.returns-clause-exceedances
 returns-clause-exceedances c file is plain =
     plain_read _ _ c.read.ensures.ok c.read.ensures.refused _ _ is refl _ (alone file plain) refl refl
+
+pub returns-clause-members : goal.returns-clause-members
+returns-clause-members c file is plain =
+    plain_read _ _ c.read.ensures.ok c.read.ensures.refused _ _ is refl _ (alone file plain) refl refl
+
+pub returns-clause-pairings : goal.returns-clause-pairings
+returns-clause-pairings c file only_open is plain =
+    line_read _ _ c.read.ensures.ok c.read.ensures.refused _ _ is refl _ (pairings_level file plain only_open)
+    (pairings_found file plain only_open)
 
 pub returns-clause-serve : goal.returns-clause-serve
 returns-clause-serve c file port None p n is plain count_plain port_is count_is =

@@ -16,6 +16,8 @@ returns c =
     (also c.in_ok-pairing_command.ensures
     (also c.in_ok-limits_command.ensures
     (also c.in_ok-exceedances_command.ensures
-    (also c.in_ok-serve_command.ensures tt))))))))) in
+    (also c.in_ok-members_command.ensures
+    (also c.in_ok-pairings_command.ensures
+    (also c.in_ok-serve_command.ensures tt))))))))))) in
     IfOk-weaker c.subcommands.result _ _
     (λ r added. subcommands_added _ table bare _ r are c.in_ok-bare_command.ensures added) c.subcommands.ensures

@@ -11,4 +11,8 @@ returns c =
     let f = c.in_ok-insert-5.ensures in
     let g = c.in_ok-insert-6.ensures in
     let h = c.in_ok-insert-7.ensures in
-    rw (g.1, f.1, e.1, d.1, b.1, a.1, c.new-router.ensures) at h.1
+    let i = c.in_ok-insert-8.ensures in
+    let j = c.in_ok-insert-9.ensures in
+    let k = c.in_ok-insert-10.ensures in
+    let l = c.in_ok-insert-11.ensures in
+    rw (k.1, j.1, i.1, h.1, g.1, f.1, e.1, d.1, b.1, a.1, c.new-router.ensures) at l.1

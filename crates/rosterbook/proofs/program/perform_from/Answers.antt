@@ -5,15 +5,15 @@ use Rattle.rosterbook.proofs.program.perform_from.Goals as goal
 
 pub returns-in-Do-clause-by_files : goal.returns-in-Do-clause-by_files
 returns-in-Do-clause-by_files g c =
-    performed_so _ c.answer_do.result.left c.finish-in-Do.result.left c.finish-in-Do.ensures.left g.E.Write.contents c.args.action.now _ _ _ _ c.answer_do.result.done _ c.args.err.now _
+    performed_so _ c.answer_commands.result.left c.finish-in-Do.result.left c.finish-in-Do.ensures.left g.E.Write.contents c.args.action.now _ _ _ _ c.answer_commands.result.done _ c.args.err.now _
     c.finish-in-Do.ensures.done c.finish-in-Do.ensures.failed
-    (IfOk-weaker c.answer_do.result.done _ _ (λ status told _. rw c.in-Do.is told) (c.answer_do.ensures.done _))
+    (IfOk-weaker c.answer_commands.result.done _ _ (λ status told _. rw c.in-Do.is told) (c.answer_commands.ensures.done _))
 
 pub returns-in-Do-clause-refused : goal.returns-in-Do-clause-refused
 returns-in-Do-clause-refused g c =
-    refused_finished _ c.answer_do.result.left c.finish-in-Do.result.left c.finish-in-Do.ensures.left c.answer_do.result.refused c.finish-in-Do.result.refused c.answer_do.result.done _ _ _ _ _ (g.E.Write.contents c.args.err.now) _
-    c.finish-in-Do.ensures.refused c.answer_do.ensures.refused
-    (λ none. let un = c.answer_do.ensures.unopened none in (ap g.O.Write.contents un.2, refl))
+    refused_finished _ c.answer_commands.result.left c.finish-in-Do.result.left c.finish-in-Do.ensures.left c.answer_commands.result.refused c.finish-in-Do.result.refused c.answer_commands.result.done _ _ _ _ _ (g.E.Write.contents c.args.err.now) _
+    c.finish-in-Do.ensures.refused c.answer_commands.ensures.refused
+    (λ none. let un = c.answer_commands.ensures.unopened none in (ap g.O.Write.contents un.2, refl))
     c.finish-in-Do.ensures.failed c.finish-in-Do.ensures.told
 
 pub returns-in-Import-clause-by_files : goal.returns-in-Import-clause-by_files
@@ -115,13 +115,13 @@ returns-in-Init-clause-by_files g c =
     (not_unmade _ _ c.answer_init.result.done _ _ _ _ _ c.answer_init.ensures.answered c.answer_init.ensures.made))
 
 pub returns-in-Do-clause-left : goal.returns-in-Do-clause-left
-returns-in-Do-clause-left g c = rw (c.in-Do.is, c.finish-in-Do.ensures.left) c.answer_do.ensures.left
+returns-in-Do-clause-left g c = rw (c.in-Do.is, c.finish-in-Do.ensures.left) c.answer_commands.ensures.left
 
 pub returns-in-Import-clause-left : goal.returns-in-Import-clause-left
 returns-in-Import-clause-left g c = rw (c.in-Import.is, c.finish-in-Import.ensures.left) c.answer_import.ensures.left
 
 pub returns-in-Do-clause-session : goal.returns-in-Do-clause-session
-returns-in-Do-clause-session g c = rw (c.in-Do.is, c.finish-in-Do.ensures.left) c.answer_do.ensures.session
+returns-in-Do-clause-session g c = rw (c.in-Do.is, c.finish-in-Do.ensures.left) c.answer_commands.ensures.session
 
 pub returns-in-Import-clause-session : goal.returns-in-Import-clause-session
 returns-in-Import-clause-session g c = rw (c.in-Import.is, c.finish-in-Import.ensures.left) c.answer_import.ensures.session
@@ -142,3 +142,35 @@ pub returns-in-Serve-clause-session : goal.returns-in-Serve-clause-session
 returns-in-Serve-clause-session g c =
     rw c.in-Serve.is (had_session _ c.answer_serve.result.left c.finish-in-Serve.result.left c.finish-in-Serve.ensures.left c.answer_serve.result.done _ _ _ _ _ _
     c.answer_serve.ensures.served c.answer_serve.ensures.stopped)
+
+pub returns-in-Members-clause-by_files : goal.returns-in-Members-clause-by_files
+returns-in-Members-clause-by_files g c =
+    performed_so _ c.answer_members.result.left c.finish-in-Members.result.left c.finish-in-Members.ensures.left g.E.Write.contents c.args.action.now _ _ _ _ c.answer_members.result.done _ c.answer_members.new.err _
+    c.finish-in-Members.ensures.done c.finish-in-Members.ensures.failed
+    (IfOk-weaker c.answer_members.result.done _ _ (λ status told _. rw c.in-Members.is told) c.answer_members.ensures.done)
+
+pub returns-in-Members-clause-refused : goal.returns-in-Members-clause-refused
+returns-in-Members-clause-refused g c =
+    refused_finished _ c.answer_members.result.left c.finish-in-Members.result.left c.finish-in-Members.ensures.left c.answer_members.result.refused c.finish-in-Members.result.refused c.answer_members.result.done _ _ _ _ _ (g.E.Write.contents c.answer_members.new.err) _
+    c.finish-in-Members.ensures.refused c.answer_members.ensures.refused
+    (λ none. let un = c.answer_members.ensures.unopened none in (ap g.O.Write.contents un.1, ap g.E.Write.contents un.2))
+    c.finish-in-Members.ensures.failed c.finish-in-Members.ensures.told
+
+pub returns-in-Members-clause-session : goal.returns-in-Members-clause-session
+returns-in-Members-clause-session g c = rw (c.in-Members.is, c.finish-in-Members.ensures.left) c.answer_members.ensures.session
+
+pub returns-in-Pairings-clause-by_files : goal.returns-in-Pairings-clause-by_files
+returns-in-Pairings-clause-by_files g c =
+    performed_so _ c.answer_pairings.result.left c.finish-in-Pairings.result.left c.finish-in-Pairings.ensures.left g.E.Write.contents c.args.action.now _ _ _ _ c.answer_pairings.result.done _ c.answer_pairings.new.err _
+    c.finish-in-Pairings.ensures.done c.finish-in-Pairings.ensures.failed
+    (IfOk-weaker c.answer_pairings.result.done _ _ (λ status told _. rw c.in-Pairings.is told) c.answer_pairings.ensures.done)
+
+pub returns-in-Pairings-clause-refused : goal.returns-in-Pairings-clause-refused
+returns-in-Pairings-clause-refused g c =
+    refused_finished _ c.answer_pairings.result.left c.finish-in-Pairings.result.left c.finish-in-Pairings.ensures.left c.answer_pairings.result.refused c.finish-in-Pairings.result.refused c.answer_pairings.result.done _ _ _ _ _ (g.E.Write.contents c.answer_pairings.new.err) _
+    c.finish-in-Pairings.ensures.refused c.answer_pairings.ensures.refused
+    (λ none. let un = c.answer_pairings.ensures.unopened none in (ap g.O.Write.contents un.1, ap g.E.Write.contents un.2))
+    c.finish-in-Pairings.ensures.failed c.finish-in-Pairings.ensures.told
+
+pub returns-in-Pairings-clause-session : goal.returns-in-Pairings-clause-session
+returns-in-Pairings-clause-session g c = rw (c.in-Pairings.is, c.finish-in-Pairings.ensures.left) c.answer_pairings.ensures.session

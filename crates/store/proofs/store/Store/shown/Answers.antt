@@ -7,7 +7,7 @@ use Rattle.store.specs.Shown.{shown_part}
 use Rattle.store.proofs.Parting.{is_told, read_fault}
 use Rattle.store.proofs.ShownLemmas.{texts_shown}
 use Rattle.store.proofs.store.Store.shown.Goals as goal
-use Rattle.store.proofs.store.Store.shown.Goals.{in-Crew, in-Limits, in-Pairing, in-Exceedances}
+use Rattle.store.proofs.store.Store.shown.Goals.{in-Crew, in-Limits, in-Pairing, in-Exceedances, in-Members, in-Pairings}
 
 pub returns-clause-part : goal.returns-clause-part
 returns-clause-part g c =
@@ -18,6 +18,8 @@ returns-clause-part g c =
       | in-Limits w ↦ rw (w.shown-is, w.self-is, w.in-Limits.is) (rw w.as_ref.ensures.value at w.gather_limits-shown.ensures.told.1)
       | in-Pairing w ↦ rw (w.shown-is, w.self-is, w.in-Pairing.is) w.gather_pairing-shown.ensures.told.1
       | in-Exceedances w ↦ rw (w.shown-is, w.self-is, w.in-Exceedances.is) w.gather_exceedances-shown.ensures.told.1
+      | in-Members w ↦ rw (w.shown-is, w.self-is, w.in-Members.is) w.gather_crew-shown.ensures.told.1
+      | in-Pairings w ↦ rw (w.shown-is, w.self-is, w.in-Pairings.is) w.gather_pairings-shown.ensures.told.1
     ] in
     is_told (λ s roster. roster ≡ shown_part s c.args.what.now) old new c.match-what.shown told
 
@@ -32,5 +34,7 @@ returns-clause-caused g c =
       | in-Limits w ↦ rw (w.shown-is, w.self-is) (read_fault _ old (state g.S.Store w.gather_limits-shown.new.source) w.gather_limits-shown.result w.gather_limits-shown.ensures.caused)
       | in-Pairing w ↦ rw (w.shown-is, w.self-is) (read_fault _ old (state g.S.Store w.gather_pairing-shown.new.source) w.gather_pairing-shown.result w.gather_pairing-shown.ensures.caused)
       | in-Exceedances w ↦ rw (w.shown-is, w.self-is) (read_fault _ old (state g.S.Store w.gather_exceedances-shown.new.source) w.gather_exceedances-shown.result w.gather_exceedances-shown.ensures.caused)
+      | in-Members w ↦ rw (w.shown-is, w.self-is) (read_fault _ old (state g.S.Store w.gather_crew-shown.new.source) w.gather_crew-shown.result w.gather_crew-shown.ensures.caused)
+      | in-Pairings w ↦ rw (w.shown-is, w.self-is) (read_fault _ old (state g.S.Store w.gather_pairings-shown.new.source) w.gather_pairings-shown.result w.gather_pairings-shown.ensures.caused)
     ] in
     caused

@@ -1,9 +1,9 @@
 use Rattle.std.proofs.Common.{rules}
 use Rattle.http_message.specs.Plan.{subject}
-use Rattle.http_message.specs.declared.plan.Submission.TheVariants.{Command}
+use Rattle.http_message.specs.declared.plan.Submission.TheVariants.{Check, Command}
 use Rattle.http_exchange.specs.Handler.{answer_or_fault, submit}
 use Rattle.web.specs.Handling.{IsHandled}
-use Rattle.web.proofs.Handled.{report_handled, request_handled}
+use Rattle.web.proofs.Handled.{check_handled, report_handled, request_handled}
 use Rattle.web.proofs.exchanges.BookHandlerHandlerBook.handle.Goals as goal
 
 pub returns-in-Submit-Command-default : goal.returns-in-Submit-Command-default
@@ -12,6 +12,14 @@ returns-in-Submit-Command-default g c =
     let it = c.ask_request.ensures in
     let did : IsHandled g.S.Store c.args.book.now c.ask_request.new.book (submit Command here.body.now) (answer_or_fault c.answered.result) =
     rw c.answered.ensures (request_handled g.S.Store c.args.book.now c.ask_request.new.book here.body.now c.ask_request.result it.asked it.calls) in
+    search (rules, did)
+
+pub returns-in-Submit-Check-default : goal.returns-in-Submit-Check-default
+returns-in-Submit-Check-default g c =
+    let here = c.in-Submit-Check-default in
+    let it = c.check_request.ensures in
+    let did : IsHandled g.S.Store c.args.book.now c.check_request.new.book (submit Check here.body.now) (answer_or_fault c.answered-in-Submit-Check-default.result) =
+    rw c.answered-in-Submit-Check-default.ensures (check_handled g.S.Store c.args.book.now c.check_request.new.book here.body.now c.check_request.result it.checked it.calls) in
     search (rules, did)
 
 pub returns-in-Show : goal.returns-in-Show

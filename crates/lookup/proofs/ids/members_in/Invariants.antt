@@ -1,0 +1,6 @@
+use Rattle.std.proofs.Common.{◌≡◌, take}
+use Rattle.lookup.specs.Ids.{members_in}
+use Rattle.lookup.proofs.ids.members_in.Given as goal
+
+abbrev pub invariant-loop-row : goal.invariant-loop-row
+invariant-loop-row l = l.ids.items ≡ members_in (take l.row-index l.records)

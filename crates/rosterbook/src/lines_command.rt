@@ -1,0 +1,104 @@
+//! `rosterbook do --lines`: requests on standard input, one a line, asked of a book one after the other. The definitions are in
+//! `specs/InLines.antt`.
+//! Wrong bodies: `must-fail/` and `must-fail-more/`.
+ghost use Rattle.std.specs.Prelude.{◌≡◌, ◌∷◌, [], IfErr, IfOk, IsErr, None};
+ghost use Rattle.sqlite_wal.specs.Files.{image_at};
+ghost use Rattle.book.specs.Calls.{IsAfterCalls};
+ghost use Rattle.http_exchange.specs.Exchange.{ChannelBytes};
+ghost use Rattle.rosterbook.specs.InLines as spec;
+ghost use Rattle.rosterbook.specs.ByFiles.{AreLeftByLines, AreLinesDoneBy, HaveSession, IsByFiles, IsRefusedAs};
+
+use crate::do_command::ask_body;
+use crate::ended::Ended;
+use crate::status::Status;
+use crate::stop::Stop;
+use book::Book;
+use sqlite::{Alter, FileFrom, Start};
+use std::alloc::Global;
+use std::io::{BufRead, BufReader, Read, Write};
+
+/// Answers `rosterbook do --lines`: opens the book, then reads commands, one a line, and asks each, and closes the book.
+pub(crate) fn answer_lines<S: Start, R: Read, O: Write>(
+    rt: &HostRuntime,
+    file: &str,
+    start: S,
+    reader: &mut R,
+    out: &mut O,
+) -> Ended<FileFrom<S>>
+    ensures done { (err : ChannelBytes) → IfOk result.done
+        (AreLinesDoneBy (IsByFiles result.left (image_at S.Start)) (R.remaining reader.old)
+        (O.contents out.old) (O.contents out.new) err err) }
+    ensures left { AreLeftByLines result.left (image_at S.Start) (R.remaining reader.old) }
+    ensures session { HaveSession result.left (image_at S.Start) }
+    ensures unopened { result.left ≡ None
+        → IsErr result.done × (reader.new ≡ reader.old) × (out.new ≡ out.old) }
+    ensures refused { IsRefusedAs result.left (image_at S.Start) result.refused result.done }
+{
+    match Book::open_from(rt, file, start) {
+        Ok(mut book) => {
+            let done = ask_lines(rt.alloc(), &mut book, reader, out);
+            Ended {
+                done,
+                left: Some(book.close()),
+                refused: None,
+            }
+        }
+        Err(refused) => Ended::refused(refused),
+    }
+}
+
+/// Asks a book the commands that a reader gives in JSON, one a line, and writes the line of each answer, or why a command
+/// isn't read, before it reads the next line. An empty line is passed over. It ends as refused if one was refused or isn't
+/// read. What stops it leaves the commands that were answered; where the last answer finds no memory (91) or isn't
+/// written (92), its command may be kept too.
+pub fn ask_lines<S: Alter, R: Read, O: Write>(
+    alloc: Global,
+    book: &mut Book<S>,
+    reader: &mut R,
+    out: &mut O,
+) -> Result<Status, Stop>
+    ensures answered { IfOk result (spec.AreLinesAnswered S.Store book.old book.new
+        (R.remaining reader.old) (O.contents out.old) (O.contents out.new)) }
+    ensures stopped { IfErr result (spec.AreLinesStopped S.Store book.old book.new
+        (R.remaining reader.old) (O.contents out.old) (O.contents out.new)) }
+    ensures calls { IsAfterCalls S.Store book.old book.new }
+{
+    let reader = BufReader::new(alloc, reader)?;
+    let mut status = Status::Done;
+    for line in reader.split(alloc, b'\n') {
+        let line = line?;
+        status = status_after(status, ask_line(alloc, book, &line, out)?);
+    }
+    Ok(status)
+}
+
+/// Asks a book the command of a line, and writes the line of its answer. An empty line asks nothing.
+fn ask_line<S: Alter, O: Write>(
+    alloc: Global,
+    book: &mut Book<S>,
+    line: &[u8],
+    out: &mut O,
+) -> Result<Status, Stop>
+    ensures answered { let requests = spec.requests_of (spec.not_empty (line.now ∷ [])) in
+        IfOk result (spec.AreRequestsAnswered S.Store book.old book.new (O.contents out.old)
+        (O.contents out.new) requests) }
+    ensures stopped { let requests = spec.requests_of (spec.not_empty (line.now ∷ [])) in
+        IfErr result (spec.AreStoppedAtLast S.Store book.old book.new (O.contents out.old)
+        (O.contents out.new) requests) }
+    ensures calls { IsAfterCalls S.Store book.old book.new }
+{
+    if line.is_empty() {
+        return Ok(Status::Done);
+    }
+    ask_body(alloc, book, line, out)
+}
+
+/// Returns how the program ends after a line more: as refused after any that is refused.
+pub(crate) fn status_after(status: Status, told: Status) -> Status
+    ensures { result ≡ spec.status_after status told }
+{
+    match told {
+        Status::Refused => Status::Refused,
+        _ => status,
+    }
+}

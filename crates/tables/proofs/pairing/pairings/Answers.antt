@@ -1,0 +1,14 @@
+use Rattle.std.proofs.Common.{map, refl}
+use Rattle.sqlite.specs.Held.{state}
+use Rattle.tables.specs.Records.{pairing_row, IsPairingRow}
+use Rattle.tables.proofs.Selecting.{open_read_by}
+use Rattle.tables.proofs.PairingTexts.{pairings, pairings_bare}
+use Rattle.tables.proofs.pairing.pairings.Goals as goal
+
+pub read_all-requires : goal.read_all-requires
+read_all-requires g c clean = pairings_bare (state g.S.Store c.args.conn.now).now.schema
+
+pub returns-clause-read : goal.returns-clause-read
+returns-clause-read g c =
+    let given = c.read_all.ensures in
+    open_read_by _ _ (pairings_bare (state g.S.Store c.args.conn.now).now.schema) c.requires (pairings (state g.S.Store c.args.conn.now)) given.crash refl IsPairingRow (λ all. map pairing_row all.items) c.read_all.result given.shown given.same given.stops given.damaged
