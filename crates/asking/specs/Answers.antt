@@ -1,4 +1,4 @@
--- What a request is answered: of which kind, and its text in JSON.
+-- What the answer to a request is: its kind, and its text in JSON.
 use Rattle.std.specs.Prelude.{◌≡◌, ℕ, List, string_bytes, String, Result, Ok, Err}
 use Rattle.std.specs.Global.{Global}
 use Rattle.values.specs.declared.memory_fault.MemoryFault.{MemoryFault}
@@ -22,13 +22,13 @@ abbrev pub answer_json : ReplyOrRefusal → List ℕ
 answer_json (Ok reply) = reply_text reply
 answer_json (Err refusal) = refusal_json_text refusal
 
--- of which kind a refusal of the book is: 19 comes whatever the book holds, each other conflicts
--- with what it holds
+-- the kind of a refusal of the book: 19 comes whatever the book holds, and each other refusal
+-- conflicts with what the book holds
 abbrev pub refusal_kind : Refusal → AnswerKind
 refusal_kind (SegmentCount period) = Unfit
 refusal_kind refusal = Refused
 
--- of which kind an answer of the book is
+-- the kind of an answer of the book
 abbrev pub answer_kind : ReplyOrRefusal → AnswerKind
 answer_kind (Ok reply) = Accepted
 answer_kind (Err refusal) = refusal_kind refusal
@@ -38,7 +38,7 @@ abbrev pub IsOrMemory : AnswerKind → List ℕ → Result JsonAnswer AskFault �
 IsOrMemory kind text (Ok answer) = (answer.kind ≡ kind) × (string_bytes answer.text ≡ text)
 IsOrMemory kind text (Err fault) = fault ≡ Memory
 
--- an answer of the book is reported, or a fault that it met
+-- an answer of the book is reported, or a fault that the book met
 abbrev pub Reports : Result Answer StoreFault → Result JsonAnswer AskFault → Type 0
 Reports (Ok answer) result =
     IsOrMemory (answer_kind (result_of answer)) (answer_json (result_of answer)) result
@@ -48,7 +48,7 @@ Reports (Err fault) result = result ≡ Err (Book fault)
 abbrev pub ReportsUnread : CodecFault → Result JsonAnswer AskFault → Type 0
 ReportsUnread fault result = IsOrMemory Unfit (fault_reply fault) result
 
--- an answer of this kind has the text; there is none where there is no text
+-- an answer of this kind has the text; if there is no text, it is out of memory
 abbrev pub IsInJson : AnswerKind → Result (String Global) MemoryFault → Result JsonAnswer AskFault
     → Type 0
 IsInJson kind (Ok text) result = result ≡ Ok (record { kind = kind; text = text })

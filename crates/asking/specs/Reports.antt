@@ -1,4 +1,5 @@
--- What becomes of a call for a report: a book shows what it is asked of, and that is reported.
+-- What becomes of a call for a report: a book shows what it is asked for, and what it shows is
+-- reported.
 use Rattle.std.specs.Prelude.{◌≡◌, ◌⊎◌, ◌↔◌, ℕ, List, string_bytes}
 use Rattle.std.specs.Prelude.{Result, Ok, Err, IfOk, OnOk, String}
 use Rattle.std.specs.Global.{Global}
@@ -37,19 +38,19 @@ text_shown (Text text) = Ok (string_bytes text)
 text_shown NoSuchCrew = Err no_crew
 text_shown NoSuchPairing = Err no_pairing
 
--- what is shown is that of a state; or there is no memory for it
+-- what is shown is that of a state; or there is no memory for the text
 abbrev pub ShowsOf : State → Show → Result Shown AskFault → Type 0
 ShowsOf s what (Ok shown) = IsShown s what (text_shown shown)
 ShowsOf s what (Err fault) = fault ≡ Memory
 
--- what a book shows is reported, or a fault that it met
+-- what a book shows is reported, or a fault that the book met
 abbrev pub ReportsShown : Result State StoreFault → Show → Result Shown AskFault → Type 0
 ReportsShown (Ok roster) what result = ShowsOf roster what result
 ReportsShown (Err fault) what result = result ≡ Err (Book fault)
 
 module _ {S : Type 0} (g : Ghosts S) (old new : Kept S) (what : Show) where
-  -- a book was asked to show this, and gave this roster or fault, as `Book::show` says: its text is
-  -- that of the state that the tables mean
+  -- A book was asked to show `what`, and gave this roster or fault, as `Book::show` says. The
+  -- roster's text is that of the state that the tables mean.
   pub record HasShown (shown : Result State StoreFault) : Type 0 where
     pub call : HasRead g old new shown
     pub text : (s : State) → IsDurablyAt g old s → IsClean g new →
@@ -58,20 +59,20 @@ module _ {S : Type 0} (g : Ghosts S) (old new : Kept S) (what : Show) where
     pub tables : (s : State) → IsDurablyAt g old s → HasTables g old s →
         OnOk shown (HasTables g new s)
 
-  -- a book was asked to show this, and what it shows is reported
+  -- a book was asked to show `what`, and what it shows is reported
   pub record IsShowAsked (result : Result Shown AskFault) : Type 0 where
     pub shown : Result State StoreFault
     pub has_shown : HasShown shown
     pub reported : ReportsShown shown what result
 
-  -- a book was asked for a report; or there was no memory to name what it shows, and it was asked
-  -- nothing
+  -- a book was asked for a report; or there was no memory to name what the report shows, and the
+  -- book was asked nothing
   abbrev pub IsReportAsked : Result Shown AskFault → Type 0
   IsReportAsked result = IsShowAsked result ⊎ ((new ≡ old) × (result ≡ Err Memory))
 
 -- ---- as the program makes it
 
--- what is shown, by its text or why there is none
+-- what is shown: a text, or why there is none
 abbrev pub shown_of : Result (String Global) ReportFault → Result Shown AskFault
 shown_of (Ok text) = Ok (Text text)
 shown_of (Err report.NoSuchCrew) = Ok NoSuchCrew
@@ -83,6 +84,7 @@ abbrev pub IsText : State → Show → Result (String Global) ReportFault → Ty
 IsText s what text = ShowsOf s what (shown_of text)
 
 -- the text of a list is that of the report, or there was no memory for it
-abbrev pub IsListed : Result (String Global) MemoryFault → Result (String Global) ReportFault → Type 0
+abbrev pub IsListed : Result (String Global) MemoryFault → Result (String Global) ReportFault
+    → Type 0
 IsListed (Ok text) result = result ≡ Ok text
 IsListed (Err fault) result = result ≡ Err report.Memory

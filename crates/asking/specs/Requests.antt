@@ -32,8 +32,8 @@ module _ {S : Type 0} (g : Ghosts S) (old new : Kept S) where
     pub answered : IsAnswered g old new asked answer
     pub reported : Reports answer result
 
-  -- a book was asked how it would answer a command now, as the clauses of these names say of
-  -- `Book::check`: the answer is that of the state that the tables mean, and nothing is kept
+  -- A book was asked how it would answer a command now, with the clauses that `Book::check` has.
+  -- The answer is that of the state that the tables mean, and nothing is kept.
   pub record HasChecked (asked : Asked) (answer : Result Answer StoreFault) : Type 0 where
     pub call : HasRead g old new answer
     pub reply : (s : State) → IsDurablyAt g old s → IsClean g new →
@@ -47,26 +47,26 @@ module _ {S : Type 0} (g : Ghosts S) (old new : Kept S) where
     pub checked : HasChecked asked answer
     pub reported : Reports answer result
 
-  -- a book was asked the command of a request; for one that isn't read it was asked nothing, and
-  -- why it isn't read is reported
+  -- a book was asked the command of a request; or the request isn't read, the book was asked
+  -- nothing, and why is reported
   abbrev pub IsDoneAsRead : Request → Result JsonAnswer AskFault → Type 0
   IsDoneAsRead (Ok asked) result = IsCommandAsked (asked_as asked) result
   IsDoneAsRead (Err fault) result = (new ≡ old) × ReportsUnread fault result
 
-  -- a book was asked the request of a body; or there was no memory to read it, and it was asked
-  -- nothing
+  -- a book was asked the request of a body; or there was no memory to read the body, and the book
+  -- was asked nothing
   abbrev pub IsRequestAsked : List ℕ → Result JsonAnswer AskFault → Type 0
   IsRequestAsked body result =
       IsDoneAsRead (read_request body) result ⊎ ((new ≡ old) × (result ≡ Err Memory))
 
-  -- a book was asked how it would answer the command of a request; for one that isn't read it was
-  -- asked nothing, and why it isn't read is reported
+  -- a book was asked how it would answer the command of a request; or the request isn't read, the
+  -- book was asked nothing, and why is reported
   abbrev pub IsCheckedAsRead : Request → Result JsonAnswer AskFault → Type 0
   IsCheckedAsRead (Ok asked) result = IsCommandChecked (asked_as asked) result
   IsCheckedAsRead (Err fault) result = (new ≡ old) × ReportsUnread fault result
 
-  -- a book was asked how it would answer the request of a body; or there was no memory to read it,
-  -- and it was asked nothing
+  -- a book was asked how it would answer the request of a body; or there was no memory to read the
+  -- body, and the book was asked nothing
   abbrev pub IsRequestChecked : List ℕ → Result JsonAnswer AskFault → Type 0
   IsRequestChecked body result =
       IsCheckedAsRead (read_request body) result ⊎ ((new ≡ old) × (result ≡ Err Memory))

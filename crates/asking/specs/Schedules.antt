@@ -22,7 +22,7 @@ AreAnswered {S} g old (asked ∷ more) (answer ∷ answers) new =
 AreAnswered g old [] (answer ∷ answers) new = ⊥
 AreAnswered g old (asked ∷ more) [] new = ⊥
 
--- that a listener was so, and was so after it heard what this part was answered, or had failed
+-- what a listener says of itself before and after it heard the answer to this part, or failed at it
 abbrev pub Hearing : Type 0 → Type 0 → Type 1
 Hearing L F = L → L → ℕ → ReplyOrRefusal → Result ⊤ F → Type 0
 
@@ -40,9 +40,9 @@ IsUnread text result =
     ⊎ (result ≡ Err (Ask Memory))
 
 module _ {S L F : Type 0} (g : Ghosts S) (hears : Hearing L F) where
-  -- the end, where the book and the listener were the first two after these answers, and are the
-  -- others: there were all parts; or the book met a fault at the next part; or the listener failed
-  -- at the answer to the next part
+  -- How asking parts ended, where `now` and `heard` were the book and the listener after these
+  -- answers, and `new` and `listener` are so at the end. There were no more parts; or the book met
+  -- a fault at the next part; or the listener failed at the answer to the next part.
   abbrev pub EndsAfter : List Asked → List Answer → Kept S × L → Kept S × L →
       Result ⊤ (ScheduleFault F) → Type 0
   EndsAfter parts answers (now, heard) (new, listener) (Ok _) =
@@ -57,7 +57,7 @@ module _ {S L F : Type 0} (g : Ghosts S) (hears : Hearing L F) where
   EndsAfter parts answers (now, heard) (new, listener) (Err (Ask Memory)) = ⊥
   EndsAfter parts answers (now, heard) (new, listener) (Err (Unread fault)) = ⊥
 
-  -- these parts were asked in turn and each answer was heard, up to the end
+  -- a book was asked these parts in turn and a listener heard each answer, up to the end
   pub record ArePartsAsked (old new : Kept S) (listener listener' : L) (parts : List Asked)
       (result : Result ⊤ (ScheduleFault F)) : Type 0 where
     pub answers : List Answer

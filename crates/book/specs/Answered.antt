@@ -27,10 +27,10 @@ use Rattle.book.specs.declared.answer.Answer.TheVariants.{Accepted, Refused}
 -- the book was asked a command under its key, and gave this result
 pub record IsAnswered {S : Type 0} (g : Ghosts S) (old new : Kept S) (asked : Asked)
     (result : Result Answer StoreFault) : Type 0 where
-  -- whether it has failed: a book that has answers 90 and does nothing
+  -- whether the book has failed: a book that has failed answers 90 and does nothing
   pub failed : new.failed ≡ (old.failed || is_store_fault result)
   pub shut : IsTrue old.failed → (result ≡ Err Store) × (new ≡ old)
-  -- the disk, and that a crash leaves something
+  -- a disk that has returned what was written had done so before; a crash leaves something
   pub disk : IsClean g new → IsClean g old
   pub some_left : CrashLeavesSome (state g new.held)
   -- the answer, by the state that the tables mean, and the state after it
@@ -39,13 +39,13 @@ pub record IsAnswered {S : Type 0} (g : Ghosts S) (old new : Kept S) (asked : As
   pub answered : (s : State) → IsDurablyAt g old s → OnOk result (IsDurablyAt g new (next s asked))
   pub shown : (s : State) → IsDurablyAt g old s → HasTables g old s →
       OnOk result (HasTables g new (next s asked))
-  -- after want of memory (91) the state is the one before; after a fault of the store (90) it is
-  -- that or the next
+  -- after out of memory (91) the state is the one before; after a fault of the store (90) it is the
+  -- one before or the next
   pub memory : (s : State) → IsDurablyAt g old s → result ≡ Err Memory → IsDurablyAt g new s
   pub store : (s : State) → IsDurablyAt g old s → result ≡ Err Store →
       IsInDoubt g new s (next s asked)
-  -- Where the command makes no change, the tables are only read: then a fault of the store (90)
-  -- has a cause. Where it makes one, no cause of a fault of the commit is told.
+  -- If the command makes no change, the tables are only read: then a fault of the store (90) has a
+  -- cause. If it makes one, no cause of a fault of the commit is reported.
   pub caused : (s : State) → IsDurablyAt g old s → MakesNoChange s asked → old.failed ≡ false →
       IfErr result (IsCausedIfStore (state g old.held) (state g new.held))
   -- a crash in any session, and what is still shown after a fault
@@ -70,7 +70,7 @@ pub record IsAnswered {S : Type 0} (g : Ghosts S) (old new : Kept S) (asked : As
       IfOk result (λ a. a ≡ Accepted reply → StaysHeld (state g new.held) asked reply)
   pub held : (s : State) → IsDurablyAt g old s → KeepsHeld (state g new.held) s
   pub refused : IfOk result (λ a. IsRefusal a → Untouched (state g old.held) (state g new.held))
-  -- what isn't the book's
+  -- what becomes of the schema and of the tables that aren't the book's
   pub others_spared : OnOk result (Untouched (state g old.held) (state g new.held)
       ⊎ SparesOthers (state g old.held) (state g new.held))
   pub others_left : CrashAddsOnly (state g old.held) (state g new.held)

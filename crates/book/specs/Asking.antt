@@ -6,11 +6,13 @@ use Rattle.roster.specs.State.{State}
 use Rattle.state_rows.specs.declared.fault.StoreFault.{StoreFault}
 use Rattle.state_rows.specs.declared.fault.StoreFault.TheVariants.{Store, Memory}
 use Rattle.writing.specs.Beside.{KeepOthers}
-use Rattle.state_rows.specs.Outcomes.{CrashAddsOnly, CrashLeaves, CrashLeavesSome, HoldsNow, StaysOpen}
+use Rattle.state_rows.specs.Outcomes.{CrashAddsOnly, CrashLeaves, CrashLeavesSome, HoldsNow}
+use Rattle.state_rows.specs.Outcomes.{StaysOpen}
 use Rattle.book.specs.Kept.{Keeps, StillHolds, either_kept}
 
--- What the result of a command leaves: the tables of the state that was wanted; after want of
--- memory (91) those of the state that was; after a fault of the store (90) those of one of the two.
+-- What the result of a command leaves. After an answer it is the tables of the state that was
+-- wanted; after out of memory (91) those of the state that was. After a fault of the store (90) it
+-- is those of one of the two states.
 abbrev pub Done : {A : Type 0} →
     conn.State → conn.State → State → State → Result A StoreFault → Type 0
 Done old new was wanted (Ok a) =
@@ -19,8 +21,7 @@ Done old new was wanted (Err Memory) = Keeps new was × StillHolds new was
 Done old new was wanted (Err Store) =
     CrashLeaves new (either_kept was wanted) × StillHolds new was
 
--- what one command did, from the state that was to the one that was wanted, and what it was
--- answered
+-- what one command did, from the state that was to the state that was wanted, with its result
 pub record StepOutcome {A : Type 0} (old new : conn.State) (was wanted : State)
     (result : Result A StoreFault) : Type 0 where
   pub disk : HasCleanDisk new → HasCleanDisk old

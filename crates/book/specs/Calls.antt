@@ -1,4 +1,5 @@
--- The calls of a book, each in one form: what it was asked, what it answered, and what it did.
+-- The calls of a book, each in one form: what the call asks, what it answered, and the fault that
+-- ended it.
 use Rattle.std.specs.Prelude.{◌≡◌, ◌||◌, IsTrue, List, [], ◌∷◌, length, map, take}
 use Rattle.std.specs.Prelude.{Option, None, Result, Ok, Err}
 use Rattle.sqlite_trees.specs.declared.store.Store.{Ghosts}
@@ -18,34 +19,34 @@ use Rattle.book.specs.Sessions.{fault_of}
 use Rattle.book.specs.declared.answer.Answer.{Answer}
 use Rattle.book.specs.declared.answer.Run.{Run}
 
--- a call of a book: the commands that it asks in turn, the answers to the first of them, and the
--- fault that ended it, if there was one. A call that keeps nothing asks no command
+-- A call of a book: the commands that it asks in turn, the answers to the first of them, and the
+-- fault that ended it, if there was one. A call that keeps nothing asks no command.
 pub record Call : Type 0 where
   pub asked : List Asked
   pub answers : List ReplyOrRefusal
   pub fault : Option StoreFault
 
--- the answers of a call that asks one command: one, or none if it met a fault
+-- the answers of a call that asks one command: one, or none if the call met a fault
 abbrev pub answers_of : Result Answer StoreFault → List ReplyOrRefusal
 answers_of (Ok answer) = result_of answer ∷ []
 answers_of (Err fault) = []
 
--- a call that asks one command, as `Book::ask` does, and `Import::next`
+-- the call that asks one command, as `Book::ask` and `Import::next` do
 abbrev pub call_for_one : Asked → Result Answer StoreFault → Call
 call_for_one asked result =
     record { asked = asked ∷ []; answers = answers_of result; fault = fault_of result }
 
--- a call that asks commands in turn, as `Book::run` does
+-- the call that asks commands in turn, as `Book::run` does
 abbrev pub call_for_many : List Asked → Run → Call
 call_for_many commands run =
     record { asked = commands; answers = map result_of run.answers.items; fault = run.fault }
 
--- a call that keeps nothing, as `Book::show` and `Book::check` answer it
+-- the call that keeps nothing, as `Book::show` and `Book::check` answer it
 abbrev pub call_for_reading : {A : Type 0} → Result A StoreFault → Call
 call_for_reading result = record { asked = []; answers = []; fault = fault_of result }
 
 module _ {S : Type 0} (g : Ghosts S) where
-  -- a book was called so, and is the new one then
+  -- the call was done to the old book, which is the new book then
   pub record IsCall (old : Kept S) (call : Call) (new : Kept S) : Type 0 where
     -- the commands were made without a fault, and all are answered if the call met none
     pub made : AreMade call.asked
@@ -62,16 +63,17 @@ module _ {S : Type 0} (g : Ghosts S) where
     pub outcome : (s : State) → IsDurablyAt g old s →
         Ends (state g new.held) s call.asked (length call.answers) call.fault
 
-  -- a book was called so in turn, and is the new one then
+  -- the calls were done in turn to the old book, which is the new book then
   abbrev pub AreCalls : Kept S → List Call → Kept S → Type 0
   AreCalls old [] new = new ≡ old
   AreCalls old (call ∷ calls) new = (next : Kept S) × IsCall old call next × AreCalls next calls new
 
-  -- nothing was done to a book but calls, some or none, and it is the new one then
+  -- nothing but calls, some or none, was done to the old book, which is the new book then
   abbrev pub IsAfterCalls : Kept S → Kept S → Type 0
   IsAfterCalls old new = (calls : List Call) × AreCalls old calls new
 
-  -- a book was only read: as the clauses of these names say of `Book::show` and `Book::check`
+  -- a book was only read: `failed`, `shut`, `unchanged` and `kept` say what these clauses of
+  -- `Book::show` and `Book::check` say
   pub record HasRead {A : Type 0} (old new : Kept S) (result : Result A StoreFault) : Type 0 where
     pub failed : new.failed ≡ (old.failed || is_store_fault result)
     pub shut : IsTrue old.failed → (result ≡ Err Store) × (new ≡ old)
@@ -79,7 +81,7 @@ module _ {S : Type 0} (g : Ghosts S) where
     pub kept : (s : State) → IsDurablyAt g old s → IsDurablyAt g new s
 
   -- what the contracts of `Book::ask` and `Import::next`, of `Book::run`, of `Book::show` and of
-  -- `Book::check` say of a book makes each of them a call
+  -- `Book::check` say of a book makes each of these a call
   pub record AnswersAreCalls : Type 0 where
     pub one : (old new : Kept S) (asked : Asked) (result : Result Answer StoreFault) →
         IsMade asked.1 → IsAnswered g old new asked result →

@@ -1,4 +1,5 @@
--- What files hold of a book: what is found in them as they are opened, and what is left of them.
+-- What files hold of a book: what is found in the files as they are opened, and what is left of
+-- them.
 use Rattle.std.specs.Prelude.{◌≡◌, ◌⊎◌, []}
 use Rattle.sqlite_disk.specs.declared.Disk.{Ghosts}
 use Rattle.sqlite_wal.specs.Files.{outcomes}
@@ -21,29 +22,30 @@ use Rattle.book.specs.Kept.{IsKept, Keeps, Kept, either_kept}
 use Rattle.book.specs.declared.file.FilesLeft.{FilesLeft}
 use Rattle.book.specs.declared.file.FilesLeft.TheVariants.{Closed, Unclosed}
 
--- the two files hold the tables of a book in this state, which tables may mean, in version 1 or 2
+-- the database file and its log hold the tables of a book in this state, which tables may mean, in
+-- version 1 or 2
 pub record HoldsBook (image : Image) (s : State) : Type 0 where
   pub trees : Trees
   pub in_files : ∥ HoldsDatabase image trees ∥₁
   pub tables : HoldFirstBookOf trees s ⊎ HoldBookOf trees s
   pub kept : IsKept s
 
--- a sound book in this state is found in the files, and they hold a book in no other state
+-- a sound book in this state is found in the files, and the files hold a book in no other state
 pub record FindsBook (image : Image) (s : State) : Type 0 where
   pub trees : Trees
   pub in_files : AreFoundIn image trees
   pub found : IsFoundIn s trees
   pub only : (t : State) → HoldsBook image t → t ≡ s
 
--- a book in some state is found in the files; it is what is shown, and a crash leaves that state
--- and nothing else
+-- a book in some state is found in the files; the connection shows that state, and a crash leaves
+-- it and nothing else
 pub record MeansWhatIsIn (image : Image) (now : conn.State) : Type 0 where
   pub it : State
   pub finds : FindsBook image it
   pub shown : HoldsNow now it
   pub keeps : Keeps now it
 
--- a database is found in the files, and this fault says what it is
+-- a database is found in the files, and this fault says why it is refused
 pub record IsFaultOf (image : Image) (fault : LoadFault) : Type 0 where
   pub it : Database
   pub in_files : AreFoundIn image it.trees
@@ -52,7 +54,8 @@ pub record IsFaultOf (image : Image) (fault : LoadFault) : Type 0 where
 
 -- ---- What is left
 
--- the two files hold a book in this state, and so does the database file with no log
+-- the database file and its log hold a book in this state, and so does the database file with no
+-- log
 pub record HoldsBookAlone (image : Image) (s : State) : Type 0 where
   pub both : HoldsBook image s
   pub alone : HoldsBook (record image { log = [] }) s
@@ -63,8 +66,8 @@ module _ {D : Type 0} {g : Ghosts D} where
   IsCleanLeft (Closed files) = AreClean g files.log files.db
   IsCleanLeft (Unclosed store) = view.IsClean (over_files.view store)
 
-  -- Files that were closed hold a book in this state, as they read now and after a crash. Of others
-  -- whatever is found after a crash is such a book.
+  -- Files that were closed hold a book in this state, as they read now and after a crash. Of files
+  -- that were not closed, whatever is found after a crash is a book in this state.
   abbrev pub LeavesBook : FilesLeft D g → State → Type 0
   LeavesBook (Closed files) s =
       HoldsBookAlone (image_of g files) s
@@ -73,7 +76,8 @@ module _ {D : Type 0} {g : Ghosts D} where
       IsKept s × ((trees : Trees) → over_files.recovers store trees → HoldBookOf trees s)
 
   -- Files that were closed hold trees that a crash of the book could leave, as they read now and
-  -- after a crash. Of others whatever is found after a crash is something that it could leave.
+  -- after a crash. Of files that were not closed, whatever is found after a crash is something that
+  -- a crash of the book could leave.
   abbrev pub LeavesByCrash : Kept (FileStore D g) → FilesLeft D g → Type 0
   LeavesByCrash book (Closed files) =
       (trees : Trees) × (file_state book.held).may_leave trees
@@ -82,8 +86,8 @@ module _ {D : Type 0} {g : Ghosts D} where
   LeavesByCrash book (Unclosed store) =
       (trees : Trees) → over_files.recovers store trees → (file_state book.held).may_leave trees
 
-  -- As `LeavesBook`, where it isn't known in which of two states the book is. (After a fault of the
-  -- store a command is done or not.)
+  -- The files are left with a book in one of two states, as `LeavesBook` says of one state. (After
+  -- a fault of the store a command is done or not.)
   abbrev pub LeavesEither : FilesLeft D g → State → State → Type 0
   LeavesEither (Closed files) s t = (r : State) × either s t r × LeavesBook (Closed files) r
   LeavesEither (Unclosed store) s t =

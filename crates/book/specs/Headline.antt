@@ -1,5 +1,5 @@
 -- What is asked of a book first: that it accepts just what breaks no limit, that each command acts
--- once, and what it leaves alone.
+-- once, and what the book leaves alone.
 use Rattle.std.specs.Prelude.{◌≡◌, ◌⊎◌, IsTrue, Some}
 use Rattle.std.specs.FinMap as fin
 use Rattle.std.specs.List.{Contains}
@@ -42,16 +42,16 @@ BreaksNoLimit s instruction =
 
 -- ---- Each command acts once
 
--- the key of the command holds it, with this reply
+-- the key of the command holds the command, with this reply
 abbrev pub IsHeld : State → Asked → Reply → Type 0
 IsHeld s asked reply =
     fin.get s.requests (key_name asked.0) ≡ Some (record { command = asked.1; reply = reply })
 
--- in every state that a crash may leave, the key of the command holds it, with this reply
+-- in every state that a crash may leave, the key of the command holds the command, with this reply
 abbrev pub StaysHeld : conn.State → Asked → Reply → Type 0
 StaysHeld now asked reply = CrashLeaves now (λ s. IsHeld s asked reply)
 
--- each command that this state holds stays held
+-- each command that this state holds stays held in every state that a crash may leave
 abbrev pub KeepsHeld : conn.State → State → Type 0
 KeepsHeld now s = (asked : Asked) (reply : Reply) → IsHeld s asked reply → StaysHeld now asked reply
 
@@ -69,8 +69,8 @@ pub record Untouched (old now : conn.State) : Type 0 where
   pub changes : ChangesNothing old now
   pub is_open : IsOpen now
 
--- a crash leaves the schema that was there, and each table that isn't the book's with the rows that
--- it had; and that is what is shown, on a connection that was open, and still is
+-- A crash leaves the schema that was there, and each table that isn't the book's with the rows that
+-- it had. The connection shows the same; it was open, and still is.
 pub record SparesOthers (old now : conn.State) : Type 0 where
   pub was_open : HasCleanDisk now → IsTrue old.is_open
   pub leaves : CrashLeavesOnly now (KeepOthers old.now)

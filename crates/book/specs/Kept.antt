@@ -20,12 +20,13 @@ use Rattle.state_rows.specs.Outcomes.{HoldsNow, one, either}
 use Rattle.book.specs.declared.answer.Answer.{Answer}
 use Rattle.book.specs.declared.answer.Answer.TheVariants.{Accepted, Refused}
 
--- what its store holds, and whether it has answered a store's fault
+-- what a book holds: what its connection holds, and whether it has answered a fault of the store
+-- (90)
 pub record Kept (S : Type 0) : Type 0 where
   pub held : Held S
   pub failed : Bool
 
--- a code for books, from one for what their connections hold
+-- a code for books, made from a code for the stores of their connections
 abbrev pub kept_code : {S : Type 0} → Coded S → Coded (Kept S)
 kept_code {S} store =
     code_by (Held S × Bool) (coded× (held_code store) coded_bool)
@@ -45,7 +46,7 @@ pub record IsKept (s : State) : Type 0 where
   pub sound : Sound s
   pub instants : HasInstants s
 
--- one of two states, as one that tables may mean
+-- one of two states, which tables may mean
 abbrev pub either_kept : State → State → State → Type 0
 either_kept s t = λ r. either s t r × IsKept r
 
@@ -66,15 +67,15 @@ pub record KeepsEither (now : conn.State) (s : State) : Type 0 where
   pub leaves : CrashLeavesEither now s
   pub some : CrashLeavesSome now
 
--- a crash leaves some state, which tables may mean, and nothing else; and the tables of the
--- connection mean it, as long as it is open
+-- A crash leaves some state, which tables may mean, and nothing else. The tables of the connection
+-- mean that state, as long as the connection is open.
 pub record HasOne (now : conn.State) : Type 0 where
   pub it : State
   pub keeps : Keeps now it
   pub shown : StillHolds now it
 
 module _ {S : Type 0} (g : Ghosts S) (book : Kept S) where
-  -- a crash of a book leaves this state
+  -- a crash of a book leaves this state, which tables may mean, and nothing else
   abbrev pub IsDurablyAt : State → Type 0
   IsDurablyAt s = Keeps (state g book.held) s
 
@@ -86,8 +87,8 @@ module _ {S : Type 0} (g : Ghosts S) (book : Kept S) where
   abbrev pub StillHasTables : State → Type 0
   StillHasTables s = StillHolds (state g book.held) s
 
--- a book in some state was found, in version 1 or 2; it is shown now in version 2, and a crash
--- leaves that state and nothing else
+-- A book in some state was found, in version 1 or 2. The connection shows that state now in version
+-- 2, and a crash leaves that state and nothing else.
 pub record HasFoundBook (old now : conn.State) : Type 0 where
   pub it : State
   pub found : HasCleanDisk now → IsFound it old.now
@@ -117,7 +118,8 @@ abbrev pub is_some_store_fault : Option StoreFault → Bool
 is_some_store_fault (Some Store) = true
 is_some_store_fault _ = false
 
--- what is left of a list of commands of which so many were answered
+-- what is left of a list of commands of which this many were answered, by the fault that ended
+-- them, if there was one
 abbrev pub Ends : conn.State → State → List Asked → ℕ → Option StoreFault → Type 0
 Ends now s l n None = Keeps now (Fold s l)
 Ends now s l n (Some Memory) = Keeps now (Fold s (take n l))

@@ -16,21 +16,21 @@ AreWithinLimits begin done = (before after : List Asked) (asked : Asked) →
     let s = Fold begin before in
     IsAccepted s asked.0 asked.1 ↔ (PassesChecks s asked.0 asked.1 × BreaksNoLimit s asked.1)
 
--- each command among these that is accepted acts once: asked again, it is answered as it was, and
--- changes nothing
+-- each command of a list that is accepted acts once: if it is asked again, it is answered as it
+-- was, and changes nothing
 abbrev pub ActOnce : State → List Asked → Type 0
 ActOnce begin done = (before between after : List Asked) (asked : Asked) (reply : Reply) →
     done ≡ before ++ asked ∷ between ++ asked ∷ after →
     answer_of (step_of (Fold begin before) asked.0 asked.1) ≡ Ok reply →
     step_of (Fold begin (before ++ asked ∷ between)) asked.0 asked.1 ≡ Repeat reply
 
--- each command that a state holds is held still, with its reply, after these commands
+-- each command that a state holds is still held, with its reply, after the commands of a list
 abbrev pub KeepWhatIsHeld : State → List Asked → Type 0
 KeepWhatIsHeld begin done = (asked : Asked) (reply : Reply) →
     IsHeld begin asked reply → IsHeld (Fold begin done) asked reply
 
--- from whichever state commands are done in turn: their assignments are within limits, each acts
--- once, and what was held stays held
+-- from whichever state a list of commands is done in turn: its assignments are within limits, each
+-- command acts once, and what was held stays held
 abbrev pub EachListHolds : Type 0
 EachListHolds = (begin : State) (done : List Asked) →
     AreWithinLimits begin done × ActOnce begin done × KeepWhatIsHeld begin done

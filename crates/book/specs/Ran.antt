@@ -41,7 +41,7 @@ pub record HasRun {S : Type 0} (g : Ghosts S) (old new : Kept S) (commands : Lis
       HasTables g new (Fold s commands)
   pub still_shown : (s : State) → IsDurablyAt g old s → HasTables g old s → IsSome run.fault →
       StillHasTables g new (Fold s (take (length run.answers.items) commands))
-  -- what isn't the book's
+  -- what becomes of the schema and of the tables that aren't the book's
   pub others_spared : run.fault ≡ None → (new ≡ old)
       ⊎ (Untouched (state g old.held) (state g new.held)
       ⊎ SparesOthers (state g old.held) (state g new.held))

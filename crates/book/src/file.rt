@@ -203,7 +203,7 @@ fn connect<S: Start>(
     }
 }
 
-/// Names a refused opening: 91 for want of memory, and else 90.
+/// Names a refused opening: 91 for out of memory, and else 90.
 fn fault_of(error: Error) -> StoreFault
     ensures memory { error ≡ Error.SqliteFailure ErrorCode.OutOfMemory
         → result ≡ StoreFault.Memory }

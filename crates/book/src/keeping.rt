@@ -145,7 +145,7 @@ impl<S: Alter> Book<S> {
     }
 
     /// Reads a roster with at least what the text of a member, of a member's limits, of a pairing or of the exceedances
-    /// needs: that text of it is the text of the state that the tables mean. No table is changed. After want of memory (91) the call may be
+    /// needs: that text of it is the text of the state that the tables mean. No table is changed. After out of memory (91) the call may be
     /// made again; after a fault of the store (90) each later call answers 90.
     pub fn show(&mut self, alloc: Global, what: &Show) -> Result<Roster, StoreFault>
         // Whether it has failed: a book that has answers 90 and does nothing.
@@ -180,7 +180,7 @@ impl<S: Alter> Book<S> {
     }
 
     /// Judges a command by the part of the state that it needs, and answers as [`Book::ask`] would now: one that is kept
-    /// already as it was. Nothing is kept, and no table is changed. After want of memory (91) the call may be made again; after a
+    /// already as it was. Nothing is kept, and no table is changed. After out of memory (91) the call may be made again; after a
     /// fault of the store (90) each later call answers 90.
     pub fn check(
         &mut self,
@@ -226,7 +226,7 @@ impl<S: Alter> Book<S> {
     }
 
     /// Answers a command by the part of the state that it needs. One that is kept already is answered as it was, and changes
-    /// nothing; one that the machine refuses changes nothing either. After want of memory (91) nothing is changed, and the call
+    /// nothing; one that the machine refuses changes nothing either. After out of memory (91) nothing is changed, and the call
     /// may be made again; after a fault of the store (90) it is kept or not, and each later call answers 90.
     pub fn ask(&mut self, alloc: Global, key: Key, command: &Command) -> Result<Answer, StoreFault>
         ensures { IsAnswered S.Store self.old self.new (key, command.now) result }

@@ -1,6 +1,6 @@
-//! Calls of a book that may find no memory. A call that is told so has to leave what the book shows, and the same call, made again, has
+//! Calls of a book that may find no memory. A call that reports it has to leave what the book shows, and the same call, made again, has
 //! to be answered as with all memory. So each test here passes whichever of its own calls for memory is refused, which
-//! `tests/allocation_tests.py` has done to each in turn; how want of memory was told it writes to standard error.
+//! `tests/allocation_tests.py` has done to each in turn; how out of memory was reported it writes to standard error.
 
 mod exchange;
 mod files;
@@ -40,7 +40,7 @@ fn tried(alloc: Global, part: Part, told: &mut Told) -> Result<bool, Untold> {
     }
 }
 
-/// The same; how want of memory was told in it is written to standard error.
+/// The same; how out of memory was reported in it is written to standard error.
 fn is_well(rt: &HostRuntime, part: Part) -> Result<bool, Fail> {
     let mut told = Told::new();
     let done = tried(rt.alloc(), part, &mut told);

@@ -61,11 +61,11 @@ HTTP/1.1 200 OK|Content-Type: text/plain; charset=utf-8|Content-Length: 35|Conne
 enum Trial {
     /// The whole request.
     Whole,
-    /// The request cut after so many bytes.
+    /// The request cut after this many bytes.
     Cut(usize),
     /// The same, over a reader that fails then.
     Torn(usize),
-    /// The whole request, over a writer that takes so many bytes.
+    /// The whole request, over a writer that takes this many bytes.
     Narrow(usize),
 }
 
@@ -156,7 +156,7 @@ fn samples(alloc: Global) -> Result<Vec<Sample>, Untold> {
     Ok(samples)
 }
 
-/// What is written before the body, where so many bytes of the request come.
+/// What is written before the body, where this many bytes of the request come.
 fn interim(alloc: Global, sample: &Sample, length: usize) -> Result<Vec<u8>, Untold> {
     let front = bytes_of(alloc, CONTINUE)?;
     if length < sample.head || !sample.written.starts_with(&front) {

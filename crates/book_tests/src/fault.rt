@@ -1,4 +1,4 @@
-//! Why a test tells nothing: one type for each fault that its calls may meet.
+//! Why a test reports nothing: one type for each fault that its calls may meet.
 
 use sqlite::{Error, ErrorCode};
 use std::alloc::{AllocError, AllocFailed};
@@ -8,7 +8,7 @@ use stored_json::CodecFault;
 use tables::TableFault;
 use values::MemoryFault;
 
-/// Why an office tells nothing.
+/// Why an office reports nothing.
 #[derive(Clone, Copy, Debug)]
 pub enum Untold {
     /// A request can't be made of its line.

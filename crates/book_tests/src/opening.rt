@@ -20,7 +20,7 @@ pub fn opened<S: Alter + Drop>(book: Result<Book<S>, Left<S>>) -> Result<Book<S>
     }
 }
 
-/// Makes a book of New York's zone, or tells what refuses it. Where a transaction is begun, none is made.
+/// Makes a book of New York's zone, or says what refuses it. Where a transaction is begun, none is made.
 pub fn create<S: Alter>(alloc: Global, conn: Connection<S>) -> Result<Book<S>, Left<S>> {
     if !conn.is_autocommit() {
         return Err((Err(Untold::Unread), conn));
@@ -38,7 +38,7 @@ fn not_made(alloc: Global, fault: CreateFault) -> Result<String, Untold> {
     Ok(format!(in alloc; "{fault}\n")?)
 }
 
-/// Takes up the book that is there, or tells what refuses it. Where a transaction is begun, none is taken up.
+/// Takes up the book that is there, or says what refuses it. Where a transaction is begun, none is taken up.
 pub fn take_up<S: Alter>(alloc: Global, conn: Connection<S>) -> Result<Book<S>, Left<S>> {
     if !conn.is_autocommit() {
         return Err((Err(Untold::Unread), conn));

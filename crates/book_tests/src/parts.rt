@@ -193,7 +193,7 @@ const ASKED: [(u8, &str); 19] = [
     ),
 ];
 
-/// What is told of the parts of these commands, and of that of one that adds P7.
+/// What is reported of the parts of these commands, and of that of one that adds P7.
 fn parts<S: Alter>(alloc: Global, store: &mut Store<S>, roster: &Roster) -> Result<String, Untold> {
     let mut text = String::new(alloc);
     for (number, command) in ASKED {
@@ -210,7 +210,7 @@ fn parts<S: Alter>(alloc: Global, store: &mut Store<S>, roster: &Roster) -> Resu
     Ok(text)
 }
 
-/// What is told of the parts that a store reads of a book, beside a copy of the roster that it loads.
+/// What is reported of the parts that a store reads of a book, beside a copy of the roster that it loads.
 fn told_over<S: Alter + Drop>(alloc: Global, conn: Connection<S>) -> Result<String, Untold> {
     if !conn.is_autocommit() {
         return Err(Untold::Unread);
@@ -222,7 +222,7 @@ fn told_over<S: Alter + Drop>(alloc: Global, conn: Connection<S>) -> Result<Stri
     parts(alloc, &mut store, &whole)
 }
 
-/// What is told over memory.
+/// What is reported over memory.
 fn told_of_parts(alloc: Global) -> Result<String, Untold> {
     let mut book = opened(create(alloc, Connection::open_in_memory(alloc)?))?;
     fill(alloc, &mut book)?;

@@ -134,7 +134,7 @@ fn add_rows<S: Alter>(
     Ok(())
 }
 
-/// What is told of the same requests in two sessions over one database, and of the rows that the second one leaves, beside those
+/// What is reported of the same requests in two sessions over one database, and of the rows that the second one leaves, beside those
 /// that the first one left.
 fn told_over<S: Alter + Drop>(
     alloc: Global,
@@ -153,7 +153,7 @@ fn told_over<S: Alter + Drop>(
     Ok(text)
 }
 
-/// What is told over memory.
+/// What is reported over memory.
 fn told(alloc: Global, in_one_run: bool) -> Result<String, Untold> {
     let list = requests(alloc, &REQUESTS)?;
     told_over(alloc, Connection::open_in_memory(alloc)?, &list, in_one_run)
@@ -179,7 +179,7 @@ fn requests_of_one_run_act_once(rt: HostRuntime) -> Result<(), Fail> {
     Ok(())
 }
 
-/// What is told over memory of statements that are run in turn, each before a book is made (`true`) or taken up: what refuses
+/// What is reported over memory of statements that are run in turn, each before a book is made (`true`) or taken up: what refuses
 /// that.
 fn opened_after(alloc: Global, steps: &[(&str, bool)]) -> Result<String, Untold> {
     opened_over(alloc, Connection::open_in_memory(alloc)?, steps)

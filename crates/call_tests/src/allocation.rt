@@ -1,6 +1,6 @@
-//! Calls that may find no memory. A call that is told so has to leave what it would have changed as it was, and the same call, made
+//! Calls that may find no memory. A call that reports it has to leave what it would have changed as it was, and the same call, made
 //! again, has to give what it gives with all memory. So each test here passes whichever of its own calls for memory is refused, which
-//! `tests/allocation_tests.py` has done to each in turn; how want of memory was told it writes to standard error.
+//! `tests/allocation_tests.py` has done to each in turn; how out of memory was reported it writes to standard error.
 
 mod entries;
 mod growing;
@@ -24,7 +24,7 @@ fn tried(alloc: Global, part: Part, told: &mut Told) -> Result<String, Fault> {
     }
 }
 
-/// The same; how want of memory was told in it is written to standard error.
+/// The same; how out of memory was reported in it is written to standard error.
 fn text_of(rt: &HostRuntime, part: Part) -> Result<String, Fail> {
     let mut told = Told::new();
     let text = tried(rt.alloc(), part, &mut told);

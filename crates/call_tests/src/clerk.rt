@@ -23,7 +23,7 @@ struct Outcome {
     waiting: Vec<u8>,
 }
 
-/// Serves an input by a writer that takes so many bytes; where the reader fails, it does at the input's end.
+/// Serves an input by a writer that takes this many bytes; where the reader fails, it does at the input's end.
 fn served(alloc: Global, input: &[u8], fails: bool, room: usize) -> Outcome {
     let mut reader = Input::new(input, fails);
     let mut writer = Output::new(alloc, room);

@@ -1,5 +1,6 @@
--- Which pairings a schedule in CSV tells of, and which record of a schedule is at fault.
-use Rattle.std.specs.Prelude.{◌≡◌, ◌<◌, ◌≤◌, ◌⊎◌, ◌≢◌, ℕ, ◌+◌, List, [], ◌∷◌, ◌++◌, map, length, Bool, true, not, ◌&&◌, nat_lt, Some, None, is_some}
+-- Which pairings a schedule in CSV holds, and which record of a schedule is at fault.
+use Rattle.std.specs.Prelude.{◌≡◌, ◌<◌, ◌≤◌, ◌⊎◌, ◌≢◌, ℕ, ◌+◌, List, [], ◌∷◌, ◌++◌, map, length}
+use Rattle.std.specs.Prelude.{Bool, true, not, ◌&&◌, nat_lt, Some, None, is_some}
 use Rattle.std.specs.List.{list_all, AllByRecursion}
 use Rattle.std.specs.Str.{bytes_eq}
 use Rattle.csv.specs.Reading.{AreRecords, default_config, strip_bom}
@@ -15,83 +16,97 @@ use Rattle.codec.specs.declared.scheduled.ScheduledSegment.{ScheduledSegment}
 
 -- ---- The records of pairings
 
--- the segments of a period in turn, by its pairing and number
+-- the segments of a period in turn, each with its place: the period's pairing and number, report
+-- and release
 abbrev pub period_segments : List ℕ → ℕ → Fdp → List ScheduledSegment
 period_segments id number f =
-    map (λ s. record { place = record { pairing = id; period = number; report = f.report; release = f.release }; segment = s }) f.segments
+    map (λ s. record {
+      place = record { pairing = id; period = number; report = f.report; release = f.release };
+      segment = s;
+    }) f.segments
 
--- those of periods in turn, numbered from a number on
+-- the segments of periods in turn, the periods numbered from `number` on
 abbrev pub periods_segments : List ℕ → ℕ → List Fdp → List ScheduledSegment
 periods_segments id number [] = []
-periods_segments id number (f ∷ fs) = period_segments id number f ++ periods_segments id (number + 1) fs
+periods_segments id number (f ∷ fs) =
+    period_segments id number f ++ periods_segments id (number + 1) fs
 
--- those of pairings in turn
+-- the segments of pairings in turn
 abbrev pub schedule_segments : List Plan → List ScheduledSegment
 schedule_segments [] = []
 schedule_segments (p ∷ ps) = periods_segments p.id 1 p.periods ++ schedule_segments ps
 
 -- ---- A schedule's reading
 
--- a pairing that shows whole in its segments: it has a period, and each of its periods a segment
+-- whether a pairing shows whole in its segments: it has a period, and each of its periods has a
+-- segment
 abbrev pub shows : Plan → Bool
 shows p = nat_lt 0 (length p.periods) && list_all (λ f. nat_lt 0 (length f.segments)) p.periods
 
--- two pairings have different ids
+-- whether two pairings have different ids
 abbrev pub differ : Plan → Plan → Bool
 differ p q = not (bytes_eq p.id q.id)
 
--- each of its periods is planned at its report: a schedule tells of no other
+-- Each period of the pairing is planned at its report: a schedule holds no other planned report.
 abbrev pub IsAsPlanned : Plan → Type 0
 IsAsPlanned p = map as_planned p.periods ≡ p.periods
 
--- these segments are those of these pairings, one after the other, and of no others
+-- The segments are those of these pairings, one after the other, and of no others.
 abbrev pub AreOf : List Plan → List ScheduledSegment → Type 0
 AreOf plans segments =
-    (schedule_segments plans ≡ segments) × (list_all shows plans ≡ true) × AllByRecursion IsAsPlanned plans
+    (schedule_segments plans ≡ segments) × (list_all shows plans ≡ true)
+    × AllByRecursion IsAsPlanned plans
     × (each_next differ plans ≡ true) × (length plans ≤ 10_000)
 
--- these are the records of a text, one byte order mark at its start aside
+-- A text has these records, one byte order mark at its start aside.
 abbrev pub HasRecords : List ℕ → List (List (List ℕ)) → Type 0
 HasRecords text records = AreRecords default_config StartRecord (strip_bom text) records
 
--- a text of at most 1,048,576 bytes, with at most one byte order mark at its start
+-- A text has at most 1,048,576 bytes, and at most one byte order mark at its start.
 abbrev pub IsText : List ℕ → Type 0
 IsText text = (length text ≤ most_bytes) × (strip_bom (strip_bom text) ≡ strip_bom text)
 
--- a text that is the header and then these segments, a record each
+-- A text is the header and then these segments, a record each.
 abbrev pub IsHeaderWithSegments : List ℕ → List ScheduledSegment → Type 0
 IsHeaderWithSegments text segments =
-    IsText text × (records : List (List (List ℕ))) × (names : List (List ℕ)) × HasRecords text (names ∷ records) × (is_header names ≡ true)
+    IsText text × (records : List (List (List ℕ))) × (names : List (List ℕ))
+    × HasRecords text (names ∷ records) × (is_header names ≡ true)
     × (map read_record records ≡ map Some segments)
 
--- a plan that has no fault
+-- whether a plan has no fault as a pairing
 abbrev pub is_faultless_plan : Plan → Bool
 is_faultless_plan p = not (is_some (pairing_fault p))
 
--- a text that is a schedule of these pairings
+-- A text is a schedule of these pairings.
 abbrev pub IsSchedule : List ℕ → List Plan → Type 0
 IsSchedule text plans =
-    (segments : List ScheduledSegment) × IsHeaderWithSegments text segments × AreOf plans segments × (list_all is_faultless_plan plans ≡ true)
+    (segments : List ScheduledSegment) × IsHeaderWithSegments text segments × AreOf plans segments
+    × (list_all is_faultless_plan plans ≡ true)
 
 -- ---- The record at fault
 
--- the text as a whole (record 0), a second byte order mark (record 1), or the first record that isn't read
+-- What isn't read of a text: the text as a whole (record 0), a second byte order mark (record 1),
+-- or the first record that isn't read.
 abbrev pub IsUnreadRecord : List ℕ → ℕ → Type 0
 IsUnreadRecord text n =
     ((most_bytes < length text) × (n ≡ 0))
     ⊎ ((length text ≤ most_bytes) × (strip_bom (strip_bom text) ≢ strip_bom text) × (n ≡ 1))
-    ⊎ (IsText text × (records : List (List (List ℕ))) × HasRecords text records × (first_unread records ≡ Some n))
+    ⊎ (IsText text × (records : List (List (List ℕ))) × HasRecords text records
+    × (first_unread records ≡ Some n))
 
--- the first record of the first of these that is no pairing
+-- Record `n` begins the first of these plans that has a fault as a pairing.
 abbrev pub IsUnmade : List Plan → ℕ → Type 0
 IsUnmade plans n =
     (before after : List Plan) × (p : Plan) × (plans ≡ before ++ p ∷ after)
-    × (list_all is_faultless_plan before ≡ true) × (is_faultless_plan p ≢ true) × (n ≡ 2 + length (schedule_segments before))
+    × (list_all is_faultless_plan before ≡ true) × (is_faultless_plan p ≢ true)
+    × (n ≡ 2 + length (schedule_segments before))
 
--- the record of the first pass that finds one at fault: what isn't read, what may not stand where it does, what is no pairing
+-- Record `n` is at fault in the first pass that finds a fault: a record that isn't read, one that
+-- may not stand where it does, or the first record of a plan that is no pairing.
 abbrev pub IsAtFault : List ℕ → ℕ → Type 0
 IsAtFault text n =
     IsUnreadRecord text n
     ⊎ ((segments : List ScheduledSegment) × IsHeaderWithSegments text segments
     × ((first_misplaced segments ≡ Some n)
-    ⊎ ((first_misplaced segments ≡ None) × (plans : List Plan) × AreOf plans segments × IsUnmade plans n)))
+    ⊎ ((first_misplaced segments ≡ None) × (plans : List Plan) × AreOf plans segments
+    × IsUnmade plans n)))

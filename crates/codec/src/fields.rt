@@ -44,7 +44,7 @@ fn is_at(row: &ByteRecord, place: usize, name: &str) -> bool
     }
 }
 
-/// Reads what a record tells.
+/// Reads what a record says.
 pub fn read_record(alloc: Global, row: &ByteRecord) -> Result<ScheduledSegment, Unread>
     ensures read { IfOk result (λ segment. spec.read_record (fields_of row.now) ≡ Some segment) }
     ensures refused { IfErr result

@@ -87,7 +87,7 @@ fn segments_of(
     read_all(alloc, rest)
 }
 
-/// Reads what the records after the header tell.
+/// Reads what the records after the header say.
 fn read_all(alloc: Global, rows: &[ByteRecord]) -> Result<Vec<ScheduledSegment>, ScheduleFault>
     ensures read { IfOk result
         (λ segments. map spec.read_record (map fields_of rows.now) ≡ map Some segments.items) }

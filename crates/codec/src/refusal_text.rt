@@ -22,7 +22,7 @@ pub fn refusal_to_json(alloc: Global, refusal: &Refusal) -> Result<String, Memor
 }
 
 /// Writes in JSON why a text isn't read: 16, 17 and 19 with their `period`, 18 and 31 with their `field`, 30 with its
-/// `line`; want of memory as `{"name":"Memory","refusal":91,"result":"refused"}`.
+/// `line`; out of memory as `{"name":"Memory","refusal":91,"result":"refused"}`.
 #[tactic(auto, unfolding(crate::specs::RefusalText::fault_reply), using(crate::proofs::RefusalLemmas::fault_no_float))]
 pub fn fault_to_json(alloc: Global, fault: CodecFault) -> Result<String, MemoryFault>
     ensures { IfOk result (λ text. string_bytes text ≡ spec.fault_reply fault) }

@@ -12,7 +12,7 @@ pub struct Place {
     pub release: Minute,
 }
 
-/// What a record of a schedule tells.
+/// What a record of a schedule says.
 #[derive(Drop)]
 pub struct ScheduledSegment {
     pub place: Place,

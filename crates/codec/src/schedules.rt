@@ -10,8 +10,8 @@ use duty::Pairing;
 use std::alloc::Global;
 use stored_json::CodecFault;
 
-/// Reads the pairings of a schedule in CSV, or tells the record at fault of the first pass that finds one: 30 with that
-/// record, the header being record 1, and 0 for a schedule of over 1,048,576 bytes. Besides it comes only want of
+/// Reads the pairings of a schedule in CSV, or reports the record at fault of the first pass that finds one: 30 with that
+/// record, the header being record 1, and 0 for a schedule of over 1,048,576 bytes. Besides it comes only out of
 /// memory.
 pub fn schedule_of_csv(alloc: Global, text: &[u8]) -> Result<Vec<Pairing>, CodecFault>
     ensures read { IfOk result (λ pairings. IsSchedule text.now pairings.items) }

@@ -11,9 +11,14 @@ use Rattle.command.specs.contracts.member.MemberLawfulEq.TheImpl.Laws.{exact-law
 use Rattle.command.specs.contracts.instruction.SwapLawfulEq.TheImpl.Laws.{exact-law as swap_law}
 use Rattle.command.specs.contracts.instruction.InstructionPartialEq.TheImpl.{ghosts}
 use Rattle.command.specs.declared.instruction.Instruction.{Instruction}
-use Rattle.command.specs.declared.instruction.Instruction.TheVariants.{AddBase, AddCrew, AddPairing, CancelPairing, Assign, Release, Swap, AddGround, CancelGround, Actual, RecordOutside}
+use Rattle.command.specs.declared.instruction.Instruction.TheVariants.{AddBase, AddCrew, AddPairing}
+use Rattle.command.specs.declared.instruction.Instruction.TheVariants.{CancelPairing, Assign}
+use Rattle.command.specs.declared.instruction.Instruction.TheVariants.{Release, Swap, AddGround}
+use Rattle.command.specs.declared.instruction.Instruction.TheVariants.{CancelGround, Actual}
+use Rattle.command.specs.declared.instruction.Instruction.TheVariants.{RecordOutside}
 
--- two values of a variant are equal if and only if their parts are: the value gives its parts back
+-- `==` of two values of a variant is exact, if `==` of their parts is exact and equal values have
+-- equal parts.
 made_same : {A D : Type 0} (make : A → D) (a b : A) → (make a ≡ make b → a ≡ b) →
     (x : Bool) → (IsTrue x ↔ (a ≡ b)) → IsTrue x ↔ (make a ≡ make b)
 made_same make a b parts x same = (λ e. ap make (same.0 e), λ e. same.1 (parts e))

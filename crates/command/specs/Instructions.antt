@@ -1,6 +1,7 @@
--- Which instructions are refused before the book looks at them, and with which fault. Shapes of
--- texts come first, in the order of the fields; an actual's count and times come after the shape of
--- its pairing's id, and an outside period's after the shapes of its id and of its member's.
+-- Which instructions are refused before they reach the book, and with which fault. Shapes of texts
+-- come first, in the order of the fields. The count and the times of an actual come after the shape
+-- of its pairing's id; those of an outside period come after the shapes of its id and of its
+-- member's id.
 use Rattle.std.specs.Prelude.{◌≡◌, ◌≤◌, true, not, [], ◌∷◌, map, Option, None}
 use Rattle.std.specs.Str.{bytes_eq}
 use Rattle.time117.specs.Local.{is_zone_text}
@@ -12,7 +13,11 @@ use Rattle.duty.specs.declared.fault.DutyFault.{DutyFault}
 use Rattle.duty.specs.declared.fault.DutyFault.TheVariants.{BadField}
 use Rattle.duty.specs.declared.fault.Field.TheVariants as field
 use Rattle.command.specs.declared.instruction.Instruction.{Instruction}
-use Rattle.command.specs.declared.instruction.Instruction.TheVariants.{AddBase, AddCrew, AddPairing, CancelPairing, Assign, Release, Swap, AddGround, CancelGround, Actual, RecordOutside}
+use Rattle.command.specs.declared.instruction.Instruction.TheVariants.{AddBase, AddCrew, AddPairing}
+use Rattle.command.specs.declared.instruction.Instruction.TheVariants.{CancelPairing, Assign}
+use Rattle.command.specs.declared.instruction.Instruction.TheVariants.{Release, Swap, AddGround}
+use Rattle.command.specs.declared.instruction.Instruction.TheVariants.{CancelGround, Actual}
+use Rattle.command.specs.declared.instruction.Instruction.TheVariants.{RecordOutside}
 use Rattle.command.specs.declared.instruction.Swap as swap
 
 -- why a swap is refused: one of its four ids hasn't the shape of an id, or it swaps a pairing or a
@@ -27,8 +32,8 @@ swap_fault w =
     ∷ unless (not (bytes_eq w.crew w.other_crew)) (BadField field.OtherCrew)
     ∷ [])
 
--- why an instruction is refused: the first of its fields that is bad; a pairing, a ground duty, an
--- outside period or an actual in it is refused as where it is made
+-- why an instruction is refused: its first bad field; a pairing, a ground duty, an outside period
+-- or an actual in the instruction has the fault with which making it is refused
 unfoldable pub instruction_fault : Instruction → Option DutyFault
 instruction_fault (AddBase id zone) = unless (is_id id) (BadField field.Base)
 instruction_fault (AddCrew id member) =
@@ -57,14 +62,14 @@ instruction_fault (RecordOutside crew o) =
     ∷ outside_fault o
     ∷ [])
 
--- what the types of an instruction's parts see to: a zone is a rule text, each period of a pairing
--- is as it was planned, and the period of an actual has a number from 1 to 10
+-- What the types of an instruction's parts ensure: a zone is a rule text, each period of a pairing
+-- is as it was planned, and the period of an actual has a number from 1 to 10.
 abbrev pub IsTyped : Instruction → Type 0
 IsTyped (AddBase id zone) = is_zone_text zone ≡ true
 IsTyped (AddPairing plan) = map as_planned plan.periods ≡ plan.periods
 IsTyped (Actual id a) = (1 ≤ a.period) × (a.period ≤ 10)
 IsTyped instruction = Unit {0}
 
--- the instruction is a command: it has no fault, and its parts are of their types
+-- An instruction is a command: it has no fault, and its parts are of their types.
 abbrev pub IsMade : Instruction → Type 0
 IsMade instruction = (instruction_fault instruction ≡ None) × IsTyped instruction

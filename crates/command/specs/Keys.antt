@@ -5,8 +5,8 @@ use Rattle.std.proofs.Common.{ap}
 use Rattle.values.specs.Name.{name_cmp}
 use Rattle.values.proofs.Names.{number_order}
 
--- a key: the number of a request, and a part of it, 0 for a single command and i for the i-th
--- pairing of an import
+-- a key: the number of a request, and a part of that request, 0 for a single command and i for the
+-- i-th pairing of an import
 pub record KeyParts : Type 0 where
   pub number : ℕ
   pub part : ℕ
@@ -15,7 +15,7 @@ pub record KeyParts : Type 0 where
 abbrev pub key_name : KeyParts → List ℕ
 key_name key = key.number ∷ key.part ∷ []
 
--- the order of keys is that of their names
+-- The order of keys is the order of their names.
 pub keys_order : (a b : KeyParts) →
     ordering_then (nat_cmp a.number b.number) (nat_cmp a.part b.part)
     ≡ name_cmp (key_name a) (key_name b)

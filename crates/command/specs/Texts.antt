@@ -4,7 +4,13 @@ use Rattle.std.specs.Fmt.{decimal}
 use Rattle.command.specs.declared.member.Seat.{Seat}
 use Rattle.command.specs.declared.member.Seat.TheVariants.{Captain, FirstOfficer}
 use Rattle.command.specs.declared.refusal.Refusal.{Refusal}
-use Rattle.command.specs.declared.refusal.Refusal.TheVariants.{NumberUsed, NoSuchCrew, CrewExists, NoSuchPairing, PairingExists, SeatTaken, WrongSeat, NotAssigned, PairingCrewed, Flown, Overlap, Limits, NoSuchDuty, GroundExists, NoSuchGround, SegmentCount, NoSuchBase, BaseExists, OutsideTaken}
+use Rattle.command.specs.declared.refusal.Refusal.TheVariants.{NumberUsed, NoSuchCrew, CrewExists}
+use Rattle.command.specs.declared.refusal.Refusal.TheVariants.{NoSuchPairing, PairingExists}
+use Rattle.command.specs.declared.refusal.Refusal.TheVariants.{SeatTaken, WrongSeat, NotAssigned}
+use Rattle.command.specs.declared.refusal.Refusal.TheVariants.{PairingCrewed, Flown, Overlap}
+use Rattle.command.specs.declared.refusal.Refusal.TheVariants.{Limits, NoSuchDuty, GroundExists}
+use Rattle.command.specs.declared.refusal.Refusal.TheVariants.{NoSuchGround, SegmentCount}
+use Rattle.command.specs.declared.refusal.Refusal.TheVariants.{NoSuchBase, BaseExists, OutsideTaken}
 
 -- a seat as it is printed
 abbrev pub seat_text : Seat → List ℕ
@@ -55,7 +61,7 @@ refusal_name NoSuchBase = codes "NoSuchBase"
 refusal_name BaseExists = codes "BaseExists"
 refusal_name OutsideTaken = codes "OutsideTaken"
 
--- a refusal as it is printed: its number and name, and the period where it names one
+-- a refusal as it is printed: its number and name, and the period, if the refusal names one
 abbrev pub refusal_text : Refusal → List ℕ
 refusal_text (SegmentCount period) = codes "19 SegmentCount " ++ decimal period
 refusal_text refusal = decimal (refusal_number refusal) ++ codes " " ++ refusal_name refusal

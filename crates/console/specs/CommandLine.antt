@@ -1,5 +1,7 @@
--- The command line as a table: what `clap` is told of it, and what an action says of the words.
-use Rattle.std.specs.Prelude.{◌≡◌, ◌∷◌, ℕ, Bool, List, [], Option, Some, None, true, false, map, find}
+-- The command line as a table: the rules that `clap` gets of the table, and what an action says of
+-- the words.
+use Rattle.std.specs.Prelude.{◌≡◌, ◌∷◌, ℕ, Bool, List, [], Option, Some, None, true, false, map}
+use Rattle.std.specs.Prelude.{find}
 use Rattle.std.specs.Prelude.{codes, fold, if◌then◌else◌, option_and_then, option_map, string_bytes}
 use Rattle.std.specs.Option.{option_map_or}
 use Rattle.std.specs.Str.{bytes_eq}
@@ -22,11 +24,11 @@ use Rattle.console.specs.declared.actions.Action.TheVariants.{Members, Pairings,
 abbrev pub last_number : ℕ
 last_number = 9_223_372_036_854_775_807
 
--- the greatest port
+-- the greatest number of a port
 abbrev pub last_port : ℕ
 last_port = 65_535
 
--- the most connections that are served
+-- the greatest number of connections that a call of `serve` may be asked to serve
 abbrev pub most_connections : ℕ
 most_connections = 1_000_000
 
@@ -72,35 +74,36 @@ table =
 abbrev pub arguments_of : Text → List Argument
 arguments_of name = option_map_or (λ row. row.1) (find (λ row. bytes_eq row.0 name) table) []
 
--- ---- what `clap` is told
+-- ---- the rules that `clap` gets
 
--- an argument by its place that must be there, with a name in help
+-- the rule of an argument by its place that must be there, with a name in help
 abbrev pub wanted : Text → Rule
 wanted id = record (new_rule id) { required = true; value_names = 1 }
 
--- the same, once or more
+-- the rule of an argument by its place that must be there, once or more, with a name in help
 abbrev pub wanted_each : Text → Rule
 wanted_each id = record (wanted id) { action = Some Append }
 
--- an argument that must be there, and be a whole number from 1 to `most`
+-- the rule of an argument that must be there, and be a whole number from 1 to `most`
 abbrev pub wanted_number : ℕ → Text → Rule
 wanted_number most id = record (wanted id) { parser = Some (Unsigned 1 most) }
 
--- an option with a value, which may be left out
+-- the rule of an option with a value, which may be left out
 abbrev pub optional : Text → Rule
 optional id = record (new_rule id) { long = Some id; value_names = 1 }
 
--- an option of a whole number from 1 to `most`, which may be left out
+-- the rule of an option of a whole number from 1 to `most`, which may be left out
 abbrev pub optional_number : ℕ → Text → Text → Rule
 optional_number most default id = record (optional id) {
   defaults = default ∷ [];
   parser = Some (Unsigned 1 most);
 }
 
--- an option with no value, which may be left out
+-- the rule of an option with no value, which may be left out
 abbrev pub optional_flag : Text → Rule
 optional_flag id = record (new_rule id) { long = Some id; action = Some SetTrue }
 
+-- the rule of an argument of the table
 abbrev pub rule : Argument → Rule
 rule (a_text id) = wanted id
 rule (some_texts id) = wanted_each id
@@ -117,7 +120,7 @@ with_arguments name arguments = fold (λ app a. with_rule app (rule a)) (new_app
 abbrev pub subcommand : Text → App
 subcommand name = with_arguments name (arguments_of name)
 
--- the program without its subcommands: one is wanted, and where there is no word help is shown
+-- the program without its subcommands: a subcommand is wanted, and a call without a word shows help
 abbrev pub bare : App
 bare = on_top (λ s. record s {
   no_binary_name = true;
@@ -131,11 +134,11 @@ bare = on_top (λ s. record s {
 abbrev pub command_line : App
 command_line = fold (λ app row. with_subcommand app (with_arguments row.0 row.1).top) bare table
 
--- the command is built as `app` says
+-- The command of `clap` is built as `app` says.
 abbrev pub IsCommandOfApp : App → Command → Type 0
 IsCommandOfApp app c = (app_of c ≡ app) × ((out-Command c).has_globals ≡ false)
 
--- these are the arguments, one for one
+-- The arguments of `clap` are these arguments, one for one.
 abbrev pub AreArguments : List Arg → List Argument → Type 0
 AreArguments [] [] = Unit {0}
 AreArguments (arg ∷ args) (a ∷ arguments) =
@@ -144,7 +147,7 @@ AreArguments _ _ = ⊥
 
 -- ---- what an action says of the words
 
--- what is given for an argument
+-- the value that is given for an argument
 pub data Value : Type 0 where
   one : Text → Value
   several : List Text → Value
@@ -152,12 +155,13 @@ pub data Value : Type 0 where
   maybe : Option Text → Value
   given : Bool → Value
 
--- a whole number from 1 to `most`, of its text: digits, zeros first or none, after `+` or nothing
+-- a whole number from 1 to `most`, read of its text: digits, zeros first or none, after `+` or
+-- nothing
 abbrev pub number_up_to : ℕ → Text → Option ℕ
 number_up_to most text =
     if is_unsigned_in 1 most text then Some (digits_value 10 (without_leading_plus text)) else None
 
--- the number of a request, of its text
+-- the number of a request, read of its text
 abbrev pub request_number : Text → Option ℕ
 request_number = number_up_to last_number
 
@@ -165,7 +169,7 @@ request_number = number_up_to last_number
 abbrev pub number_found : ℕ → Text → List Row → Option ℕ
 number_found most id rows = option_and_then (number_up_to most) (first_of id rows)
 
--- the flag was given: `true` was found for it, and not its default `false`
+-- whether a flag was given: `true` was found for the flag, and not its default `false`
 abbrev pub is_on : Text → List Row → Bool
 is_on id rows = option_map_or (λ text. bytes_eq text (codes "true")) (first_of id rows) false
 
@@ -201,7 +205,8 @@ asked (Pairings file only_open) =
 asked (Serve file port count) =
     (codes "serve", one (string_bytes file) ∷ whole port ∷ whole count ∷ [])
 
--- the action is the subcommand that was met, with the arguments that were found for it
+-- The action is the subcommand that was met, with the arguments that were found for that
+-- subcommand.
 abbrev pub States : Action → Text × List Row → Type 0
 States a met = (met.0 ≡ (asked a).0)
     × (map (value_of met.1) (arguments_of met.0) ≡ map (λ v. Some v) (asked a).1)

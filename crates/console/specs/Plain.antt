@@ -6,12 +6,12 @@ use Rattle.console.specs.CommandLine.{asked, given, maybe, most_connections, num
 use Rattle.console.specs.CommandLine.{several, whole}
 use Rattle.console.specs.declared.actions.Action.{Action}
 
--- a word that begins with no hyphen (45)
+-- whether a word doesn't begin with a hyphen (45)
 abbrev pub is_plain : Text → Bool
 is_plain [] = true
 is_plain (x ∷ xs) = not (x == 45)
 
--- `duty ZONE REPORT TIME..`, of one time or more
+-- the words of `duty ZONE REPORT TIME..`, with one time or more
 abbrev pub duty_words : Text → Text → Text → List Text → List Text
 duty_words zone report time times = codes "duty" ∷ zone ∷ report ∷ time ∷ times
 
@@ -19,7 +19,7 @@ duty_words zone report time times = codes "duty" ∷ zone ∷ report ∷ time �
 abbrev pub IsDuty : Text → Text → List Text → Action → Type 0
 IsDuty zone report times a = asked a ≡ (codes "duty", one zone ∷ one report ∷ several times ∷ [])
 
--- `init FILE ZONE`
+-- the words of `init FILE ZONE`
 abbrev pub init_words : Text → Text → List Text
 init_words file zone = codes "init" ∷ file ∷ zone ∷ []
 
@@ -27,15 +27,15 @@ init_words file zone = codes "init" ∷ file ∷ zone ∷ []
 abbrev pub IsInit : Text → Text → Action → Type 0
 IsInit file zone a = asked a ≡ (codes "init", one file ∷ one zone ∷ [])
 
--- the word of a flag, where it is given
+-- the word of a flag, if the flag is given
 abbrev pub word_if : Bool → Text → List Text
 word_if is_given word = if is_given then word ∷ [] else []
 
--- `--dry-run`, and then `--lines`, each where it is given
+-- the flags of `do`: `--dry-run`, and then `--lines`, each if it is given
 abbrev pub do_flags : Bool → Bool → List Text
 do_flags dry_run lines = word_if dry_run (codes "--dry-run") ++ word_if lines (codes "--lines")
 
--- `do FILE`, and then the flags that are given
+-- the words of `do FILE`, and then the flags that are given
 abbrev pub do_words : Text → Bool → Bool → List Text
 do_words file dry_run lines = codes "do" ∷ file ∷ do_flags dry_run lines
 
@@ -43,7 +43,7 @@ do_words file dry_run lines = codes "do" ∷ file ∷ do_flags dry_run lines
 abbrev pub IsDo : Text → Bool → Bool → Action → Type 0
 IsDo file dry_run lines a = asked a ≡ (codes "do", one file ∷ given dry_run ∷ given lines ∷ [])
 
--- `import FILE NUMBER`
+-- the words of `import FILE NUMBER`
 abbrev pub import_words : Text → Text → List Text
 import_words file number = codes "import" ∷ file ∷ number ∷ []
 
@@ -51,7 +51,7 @@ import_words file number = codes "import" ∷ file ∷ number ∷ []
 abbrev pub IsImport : Text → ℕ → Action → Type 0
 IsImport file number a = asked a ≡ (codes "import", one file ∷ whole number ∷ [])
 
--- `roster FILE CREW`
+-- the words of `roster FILE CREW`
 abbrev pub roster_words : Text → Text → List Text
 roster_words file crew = codes "roster" ∷ file ∷ crew ∷ []
 
@@ -59,7 +59,7 @@ roster_words file crew = codes "roster" ∷ file ∷ crew ∷ []
 abbrev pub IsRoster : Text → Text → Action → Type 0
 IsRoster file crew a = asked a ≡ (codes "roster", one file ∷ one crew ∷ [])
 
--- `pairing FILE PAIRING`
+-- the words of `pairing FILE PAIRING`
 abbrev pub pairing_words : Text → Text → List Text
 pairing_words file id = codes "pairing" ∷ file ∷ id ∷ []
 
@@ -67,7 +67,7 @@ pairing_words file id = codes "pairing" ∷ file ∷ id ∷ []
 abbrev pub IsPairing : Text → Text → Action → Type 0
 IsPairing file id a = asked a ≡ (codes "pairing", one file ∷ one id ∷ [])
 
--- `limits FILE CREW`, and `--with PAIRING` where a pairing is given
+-- the words of `limits FILE CREW`, and of `--with PAIRING` if a pairing is given
 abbrev pub limits_words : Text → Text → Option Text → List Text
 limits_words file crew None = codes "limits" ∷ file ∷ crew ∷ []
 limits_words file crew (Some id) = codes "limits" ∷ file ∷ crew ∷ codes "--with" ∷ id ∷ []
@@ -76,7 +76,7 @@ limits_words file crew (Some id) = codes "limits" ∷ file ∷ crew ∷ codes "-
 abbrev pub IsLimits : Text → Text → Option Text → Action → Type 0
 IsLimits file crew id a = asked a ≡ (codes "limits", one file ∷ one crew ∷ maybe id ∷ [])
 
--- `exceedances FILE`
+-- the words of `exceedances FILE`
 abbrev pub exceedances_words : Text → List Text
 exceedances_words file = codes "exceedances" ∷ file ∷ []
 
@@ -84,7 +84,7 @@ exceedances_words file = codes "exceedances" ∷ file ∷ []
 abbrev pub IsExceedances : Text → Action → Type 0
 IsExceedances file a = asked a ≡ (codes "exceedances", one file ∷ [])
 
--- `members FILE`
+-- the words of `members FILE`
 abbrev pub members_words : Text → List Text
 members_words file = codes "members" ∷ file ∷ []
 
@@ -92,7 +92,7 @@ members_words file = codes "members" ∷ file ∷ []
 abbrev pub IsMembers : Text → Action → Type 0
 IsMembers file a = asked a ≡ (codes "members", one file ∷ [])
 
--- `pairings FILE`, and then `--open`, where it is given
+-- the words of `pairings FILE`, and then `--open`, if it is given
 abbrev pub pairings_words : Text → Bool → List Text
 pairings_words file only_open = codes "pairings" ∷ file ∷ word_if only_open (codes "--open")
 
@@ -100,13 +100,13 @@ pairings_words file only_open = codes "pairings" ∷ file ∷ word_if only_open 
 abbrev pub IsPairings : Text → Bool → Action → Type 0
 IsPairings file only_open a = asked a ≡ (codes "pairings", one file ∷ given only_open ∷ [])
 
--- `serve FILE PORT`, and `--connections N` where N is given
+-- the words of `serve FILE PORT`, and of `--connections N` if N is given
 abbrev pub serve_words : Text → Text → Option Text → List Text
 serve_words file port None = codes "serve" ∷ file ∷ port ∷ []
 serve_words file port (Some count) =
     codes "serve" ∷ file ∷ port ∷ codes "--connections" ∷ count ∷ []
 
--- how many connections are asked for: where N isn't given, 1,000,000
+-- how many connections `serve` is asked for: 1,000,000 if no number is given
 abbrev pub asked_connections : Option Text → Option ℕ
 asked_connections None = Some most_connections
 asked_connections (Some count) = number_up_to most_connections count

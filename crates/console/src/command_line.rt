@@ -255,7 +255,7 @@ Block-out and block-in of 1 to 12 segments in turn, UTC instants
 YYYY-MM-DDThh:mmZ such as 2025-06-10T16:30Z 2025-06-10T20:30Z";
 
 /// Reads `words`, the command line after the program's name. An error is `clap`'s own for these
-/// words: a mistake, a call for help or the version, or want of memory.
+/// words: a mistake, a call for help or the version, or out of memory.
 pub fn action(alloc: Global, words: &[&str]) -> Result<Action, Error>
     // By the definition of the command line: what is asked for, or the mistake.
     ensures ok { IfOk result

@@ -16,7 +16,7 @@ use Rattle.duty.specs.declared.duty_in_force.DutyInForce.TheVariants as times
 abbrev pub span_of : Segment → Span
 span_of s = record { from = s.block_out; to = s.block_in }
 
--- a flight duty period with its times in force. Tables A and B are entered with the acclimated time
+-- a flight duty period with its times in force; Tables A and B are entered with the acclimated time
 -- of its planned report (117.11, 117.13)
 abbrev pub fdp_times : List ℕ → Fdp → FdpTimes
 fdp_times zone f = record {
@@ -30,8 +30,9 @@ fdp_times zone f = record {
 abbrev pub span_between : BlockTimes → Span
 span_between t = record { from = t.block_out; to = t.block_in }
 
--- a period that is flown for another certificate holder, with its times in force: it counts as any
--- other (117.23(a)), but enters neither Table A nor Table B, which are the other holder's matter
+-- a period that is flown for another certificate holder, with its times in force: the period counts
+-- as any other (117.23(a)), but enters neither Table A nor Table B, which are the other holder's
+-- matter
 abbrev pub outside_times : OutsidePlan → FdpTimes
 outside_times o = record {
   start = None;

@@ -1,11 +1,12 @@
 -- Sorted lists of disjoint intervals, with running sums.
-use Rattle.std.specs.Prelude.{◌≡◌, ℕ, ◌+◌, ◌-◌, ◌<◌, ◌≤◌, List, [], ◌∷◌, map, take, length, slice_index_or, min, max}
+use Rattle.std.specs.Prelude.{◌≡◌, ℕ, ◌+◌, ◌-◌, ◌<◌, ◌≤◌, List, [], ◌∷◌, map, take, length}
+use Rattle.std.specs.Prelude.{slice_index_or, min, max}
 use Rattle.std.specs.List.{sum_by}
 use Rattle.duty.specs.declared.span.Span.{Span}
 use Rattle.duty.specs.declared.intervals.Interval.{Interval}
 
--- each span has a minute, the first begins at `least` or later, and each later one begins after the
--- end of the one before it, so that none meets or touches another
+-- Each span has a minute, the first begins at `least` or later, and each later span begins after
+-- the end of the span before it: no span meets or touches another.
 abbrev pub AreApart : ℕ → List Span → Type 0
 AreApart least [] = Unit {0}
 AreApart least (span ∷ rest) =
@@ -24,7 +25,7 @@ abbrev pub AreSummed : ℕ → List Interval → Type 0
 AreSummed n intervals = (k : ℕ) (d : Interval) → k < n →
     (slice_index_or intervals k d).total ≡ lengths (take (k + 1) (spans_in intervals))
 
--- the intervals are in order and apart, and each has the sum of the minutes up to its end
+-- The intervals are in order and apart, and each has as its total the minutes up to its end.
 pub record IsIndex (intervals : List Interval) : Type 0 where
   pub apart : AreApart 0 (spans_in intervals)
   pub summed : AreSummed (length intervals) intervals

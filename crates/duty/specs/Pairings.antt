@@ -1,14 +1,17 @@
 -- Which pairings, ground duties, outside periods and actual times are refused, and with which
 -- fault.
-use Rattle.std.specs.Prelude.{ℕ, ◌==◌, Bool, ◌&&◌, nat_le, nat_lt, List, [], ◌∷◌, ◌++◌, map, length, Option, Result}
+use Rattle.std.specs.Prelude.{ℕ, ◌==◌, Bool, ◌&&◌, nat_le, nat_lt, List, [], ◌∷◌, ◌++◌, map, length}
+use Rattle.std.specs.Prelude.{Option, Result}
 use Rattle.std.specs.List.{list_all}
 use Rattle.std.specs.Option.{option_map}
 use Rattle.std.specs.Str.{bytes_eq}
 use Rattle.duty.specs.Plans.{Plan, GroundPlan, OutsidePlan, ActualTimes, flown_at}
 use Rattle.duty.specs.Shape.{is_within, is_id, is_flight, is_airport, is_plain_text}
-use Rattle.duty.specs.Words.{beside, each_next, last_of, first_failing, first_fault, unless, checked}
+use Rattle.duty.specs.Words.{beside, each_next, last_of, first_failing, first_fault, unless}
+use Rattle.duty.specs.Words.{checked}
 use Rattle.duty.specs.declared.fault.DutyFault.{DutyFault}
-use Rattle.duty.specs.declared.fault.DutyFault.TheVariants.{BadTimes, BadChain, BadField, SegmentCount}
+use Rattle.duty.specs.declared.fault.DutyFault.TheVariants.{BadTimes, BadChain, BadField}
+use Rattle.duty.specs.declared.fault.DutyFault.TheVariants.{SegmentCount}
 use Rattle.duty.specs.declared.fault.Field.TheVariants as field
 use Rattle.duty.specs.declared.fdp.Fdp.{Fdp}
 use Rattle.duty.specs.declared.segment.Segment.{Segment}
@@ -26,11 +29,11 @@ are_shaped f = list_all has_shapes f.segments
 
 -- ---- Counts (19)
 
--- a flight duty period may have so many segments: 1 to 12
+-- whether a flight duty period may have this many segments: 1 to 12
 abbrev pub is_segment_count : ℕ → Bool
 is_segment_count = is_within 1 12
 
--- the fault of a pairing's counts, which has 1 to 10 periods, each of 1 to 12 segments
+-- the fault of a pairing's counts: a pairing has 1 to 10 periods, each of 1 to 12 segments
 unfoldable pub count_fault : List Fdp → Option DutyFault
 count_fault periods =
     first_fault (unless (is_within 1 10 (length periods)) (SegmentCount 0)
@@ -123,7 +126,8 @@ actual_fault a =
     ∷ unless (is_in_order a.report a.release a.segments) (BadTimes a.period)
     ∷ [])
 
--- a period with the times when it was flown; refused where the numbers of segments differ
+-- a period with the times when it was flown, or a fault if the plan and the actual times have
+-- different numbers of segments
 abbrev pub fdp_with_actual : Fdp → ActualTimes → Result Fdp DutyFault
 fdp_with_actual f a =
     checked (unless (length f.segments == length a.segments) (SegmentCount a.period)) (flown_at f a)

@@ -18,15 +18,15 @@ pub record GroundPlan : Type 0 where
   pub end : ℕ
   pub task : List ℕ
 
--- a period that is flown for another certificate holder: its id, report and release, and the times
--- of its segments
+-- a flight duty period that is flown for another certificate holder: its id, report and release,
+-- and the times of its segments
 pub record OutsidePlan : Type 0 where
   pub id : List ℕ
   pub report : ℕ
   pub release : ℕ
   pub segments : List BlockTimes
 
--- how a period, by its number, was really flown
+-- the actual times of a flight duty period, by its number in its pairing
 pub record ActualTimes : Type 0 where
   pub period : ℕ
   pub report : ℕ
@@ -45,7 +45,7 @@ plan id periods = record { id = id; periods = map as_planned periods }
 abbrev pub retimed : Segment × BlockTimes → Segment
 retimed (segment, times) = record segment { block_out = times.block_out; block_in = times.block_in }
 
--- a period with the times when it was flown. Its planned report stays
+-- a period with the times when it was flown; its planned report stays
 abbrev pub flown_at : Fdp → ActualTimes → Fdp
 flown_at f actual = record f {
   report = actual.report;

@@ -68,7 +68,7 @@ pub fn check_pairing(id: &PairingId, periods: &[Fdp]) -> Result<(), DutyFault>
     check_chain(periods)
 }
 
-/// Returns whether a period may have so many segments.
+/// Returns whether a period may have this many segments.
 pub fn is_segment_count(segments: usize) -> bool
     ensures { result ≡ spec.is_segment_count segments }
 {

@@ -12,7 +12,7 @@ use Rattle.tables.specs.declared.outside.OutsideRecord.{OutsideRecord}
 use Rattle.tables.specs.declared.outside_segment.OutsideSegmentRecord.{OutsideSegmentRecord}
 use Rattle.state_rows.specs.Rows.{OutsideSegmentOf, row_of_outside_segment}
 
--- a record of `outside` and records of `outside_segment` say this outside period: it is one that
+-- a record of `outside` and records of `outside_segment` give this outside period: it is one that
 -- `Outside::new` makes, and the records of segments have just the rows of its segments
 pub record IsOutsideToldBy
     (it : OutsideRecord) (segments : List OutsideSegmentRecord) (o : OutsideEntry) : Type 0 where
@@ -27,17 +27,17 @@ pub record IsOutsideToldBy
   pub rows : (row : Row) → Has (map outside_segment_row segments) row
       ↔ ((g : OutsideSegmentOf o.period) × (row ≡ row_of_outside_segment it.id g.place g.times))
 
--- a record of `outside` and records of `outside_segment` say no outside period
+-- a record of `outside` and records of `outside_segment` give no outside period
 abbrev pub IsUntold : OutsideRecord → List OutsideSegmentRecord → Type 0
 IsUntold it segments = (o : OutsideEntry) → IsOutsideToldBy it segments o → ⊥
 
 -- ---- The segments by their numbers
 
--- block-out and block-in of a record of `outside_segment`
+-- a record of `outside_segment` has these times of block-out and block-in
 abbrev pub times_in : OutsideSegmentRecord → BlockTimes
 times_in it = record { block_out = it.out_at; block_in = it.in_at }
 
--- one of some records has this number
+-- the record `it` is one of these records of `outside_segment`, and has this number
 pub record HasNumber
     (segments : List OutsideSegmentRecord) (number : ℕ) (it : OutsideSegmentRecord)
     : Type 0 where
@@ -45,7 +45,8 @@ pub record HasNumber
   pub here : slice_get segments place ≡ Some it
   pub numbered : it.number ≡ number
 
--- a record that has this number, or none where no record has it
+-- a record of `outside_segment` with this number is found, or none is found and no record has the
+-- number
 abbrev pub IsNumbered : List OutsideSegmentRecord → ℕ → Option OutsideSegmentRecord → Type 0
 IsNumbered segments number None = (it : OutsideSegmentRecord) → HasNumber segments number it → ⊥
 IsNumbered segments number (Some it) = HasNumber segments number it
@@ -55,8 +56,8 @@ abbrev pub HasTimesAt : List OutsideSegmentRecord → ℕ → BlockTimes → Typ
 HasTimesAt segments i times =
     (it : OutsideSegmentRecord) × HasNumber segments (i + 1) it × (times ≡ times_in it)
 
--- these are the times of the records numbered 1, 2 and so on, up to the first number that no record
--- has
+-- these are the times of the records of `outside_segment` with the numbers 1, 2 and so on, up to
+-- the first number that no record has
 pub record AreTimesInTurn (segments : List OutsideSegmentRecord) (all : List BlockTimes)
     : Type 0 where
   pub each : (i : ℕ) (times : BlockTimes) → slice_get all i ≡ Some times →
@@ -64,14 +65,15 @@ pub record AreTimesInTurn (segments : List OutsideSegmentRecord) (all : List Blo
   pub instants : list_all times_have_instants all ≡ true
   pub none_after : (it : OutsideSegmentRecord) → HasNumber segments (length all + 1) it → ⊥
 
--- some record has a number above 12, or times that are no instants
+-- some record of `outside_segment` has a number above 12, or times that are no instants
 pub record HasBadTimes (segments : List OutsideSegmentRecord) : Type 0 where
   pub number : ℕ
   pub it : OutsideSegmentRecord
   pub has : HasNumber segments number it
   pub bad : (12 < number) ⊎ (times_have_instants (times_in it) ≡ false)
 
--- a record is that of a segment of this outside period, where the segments have these times in turn
+-- a record is that of a segment of this outside period, where the segments of the period have these
+-- times in turn
 pub record IsSegmentAmong (id : List ℕ) (all : List BlockTimes) (it : OutsideSegmentRecord)
     : Type 0 where
   pub place : ℕ
@@ -84,12 +86,12 @@ pub record IsSegmentAmong (id : List ℕ) (all : List BlockTimes) (it : OutsideS
     in_at = times.block_in;
   }
 
--- each of some records is that of a segment of this outside period
+-- each of these records is that of a segment of this outside period
 abbrev pub AreAllOf : List ℕ → List BlockTimes → List OutsideSegmentRecord → Type 0
 AreAllOf id all segments = (i : ℕ) (it : OutsideSegmentRecord) → slice_get segments i ≡ Some it →
     IsSegmentAmong id all it
 
--- some record is that of no segment of this outside period
+-- some record of the list is that of no segment of this outside period
 pub record HasNoSegmentOf (id : List ℕ) (all : List BlockTimes)
     (segments : List OutsideSegmentRecord) : Type 0 where
   pub place : ℕ

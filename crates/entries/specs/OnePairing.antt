@@ -10,7 +10,7 @@ use Rattle.entries.specs.PlanRows.{Periods, Segments, IsPairingOfRows}
 use Rattle.entries.specs.declared.fault.LoadFault.{LoadFault}
 use Rattle.entries.specs.declared.fault.LoadFault.TheVariants.{Fault}
 
--- the records of periods and segments, each by its key, say this pairing of an id
+-- the records of periods and segments, each by its key, give this pairing under an id
 pub record IsToldBy
     (id : List ℕ) (periods : List PeriodRecord) (segments : List SegmentRecord) (r : PairingEntry)
     : Type 0 where
@@ -21,13 +21,13 @@ pub record IsToldBy
   pub segments_read : SegmentsRead by_number segments (length segments) by_numbers
   pub told : IsPairingOfRows by_number by_numbers id r
 
--- this id alone
+-- the map has this id alone
 abbrev pub only : List ℕ → Ids
 only id = fin.insert fin.empty id tt
 
--- Why records tell of no pairing under an id: a period has no key of it, or the periods leave a
--- gap; a segment has no key of one of the periods, or the segments leave a gap; or no pairing has
--- them.
+-- Records give no pairing under an id. Some period has no key of the id, or the periods leave a
+-- gap; some segment has no key of one of the periods, or the segments leave a gap; or no pairing
+-- has the records.
 abbrev pub IsUntold : List ℕ → List PeriodRecord → List SegmentRecord → Type 0
 IsUntold id periods segments =
     ArePeriodsWanting (only id) periods (length periods)
@@ -36,7 +36,8 @@ IsUntold id periods segments =
     ⊎ ((n : Segments) × AreSegmentsWhole m segments (length segments) n
     × ((r : PairingEntry) → IsPairingOfRows m n id r → ⊥))))
 
--- what a refusal of the records of one pairing says: a fault (90, 91) says nothing of them
+-- a refusal of the records of one pairing says that they give no pairing; a fault (90, 91) says
+-- nothing of the records
 abbrev pub RefusesPairing : List ℕ → List PeriodRecord → List SegmentRecord → LoadFault → Type 0
 RefusesPairing id periods segments (Fault fault) = ⊤
 RefusesPairing id periods segments _ = IsUntold id periods segments

@@ -1,5 +1,5 @@
--- The records of `outside_segment` by their keys, and what they say of an outside period. Of the
--- crates above `loading` no public clause names a word of this file.
+-- The records of `outside_segment` by their keys, and the outside period that the records give. Of
+-- the crates above `loading` no public clause names a word of this file.
 use Rattle.std.specs.Prelude.{◌≡◌, ◌⊎◌, ◌↔◌, ℕ, true, List, [], ◌∷◌, map, take, length, Some}
 use Rattle.std.specs.FinMap as fin
 use Rattle.values.specs.Name.{name_cmp, text_then}
@@ -16,37 +16,38 @@ use Rattle.entries.specs.declared.outside_rows.OutsideSegmentKey.{OutsideSegment
 
 -- ---- The table `outside`
 
--- the records of `outside` by their ids
+-- a map has the records of `outside` by their ids
 abbrev pub Outsides : Type 0
 Outsides = fin.FinMap name_cmp OutsideRecord
 
 -- ---- The table `outside_segment`
 
--- the records of `outside_segment` by their keys
+-- a map has the records of `outside_segment` by the names of their keys
 abbrev pub OutsideSegments : Type 0
 OutsideSegments = fin.FinMap name_cmp OutsideSegmentRecord
 
--- the name of a segment's key: the order of names is that of outside period and number
+-- a key of `outside_segment` makes this name; the names are in the order of outside period and
+-- number
 abbrev pub outside_segment_name : List ℕ → ℕ → List ℕ
 outside_segment_name outside number = text_then outside (number ∷ [])
 
--- the name that a segment's key is ordered by
+-- a key of `outside_segment` is ordered by this name
 abbrev pub name_of_segment : OutsideSegmentKey → List ℕ
 name_of_segment key = outside_segment_name key.outside key.number
 
--- the row of `outside_segment` of a record under a key
+-- a record under a key has this row in `outside_segment`
 abbrev pub row_of_keyed_segment : OutsideSegmentKey → OutsideSegmentRecord → Row
 row_of_keyed_segment key it =
     outside_segment_row (record it { outside = key.outside; number = key.number })
 
--- the record of a segment stands under its key, and is of one of the outside periods
+-- the record of a segment stands under its key, and is of one of the outside periods `outsides`
 pub record IsKeyedSegment
     (outsides : Outsides) (key : OutsideSegmentKey) (it : OutsideSegmentRecord) : Type 0 where
   pub outside : it.outside ≡ key.outside
   pub number : it.number ≡ key.number
   pub of_outside : fin.contains_key outsides it.outside ≡ true
 
--- these are this many first records of `outside_segment`, by their keys
+-- the map has just this many first records of `outside_segment`, by their keys
 pub record SegmentsRead
     (outsides : Outsides) (records : List OutsideSegmentRecord) (count : ℕ)
     (segments : OutsideSegments) : Type 0 where
@@ -59,13 +60,15 @@ abbrev pub HasNoGaps : OutsideSegments → Type 0
 HasNoGaps segments = (outside : List ℕ) →
     HasNoGap (λ number. fin.get segments (outside_segment_name outside number))
 
--- these are all records of `outside_segment`, by their keys, numbered without a gap
+-- the map has all records of `outside_segment`, by their keys, and the segments of each outside
+-- period are numbered without a gap
 abbrev pub AreSegmentsWhole :
     Outsides → List OutsideSegmentRecord → OutsideSegments → Type 0
 AreSegmentsWhole outsides records segments =
     SegmentsRead outsides records (length records) segments × HasNoGaps segments
 
--- some record of `outside_segment` is of none of the outside periods, or the records leave a gap
+-- some record of `outside_segment` is of none of the outside periods, or the records leave a gap in
+-- the numbers of segments
 abbrev pub AreSegmentsWanting : Outsides → List OutsideSegmentRecord → Type 0
 AreSegmentsWanting outsides records =
     HasStranger row_of_keyed_segment (IsKeyedSegment outsides) (map outside_segment_row records)
@@ -81,23 +84,24 @@ AreSegmentsOf segments outside its = (row : Row) → Has (map outside_segment_ro
     × (fin.get segments (outside_segment_name outside number) ≡ Some it)
     × (row ≡ outside_segment_row it))
 
--- there is a thirteenth segment of an outside period
+-- an outside period has a thirteenth segment
 abbrev pub HasTooMany : OutsideSegments → List ℕ → Type 0
 HasTooMany segments outside = (it : OutsideSegmentRecord)
     × (fin.get segments (outside_segment_name outside 13) ≡ Some it)
 
--- a record of `outside` and those of its segments say this outside period
+-- a record of `outside` and the records of its segments give this outside period
 abbrev pub IsMadeFrom : OutsideSegments → List ℕ → OutsideRecord → OutsideEntry → Type 0
 IsMadeFrom segments id it o = (its : List OutsideSegmentRecord) × AreSegmentsOf segments id its
     × IsOutsideToldBy it its o
 
--- a record of `outside` and those of its segments say no outside period
+-- a record of `outside` and the records of its segments give no outside period
 abbrev pub IsUnmade : OutsideSegments → List ℕ → OutsideRecord → Type 0
 IsUnmade segments id it =
     HasTooMany segments id
     ⊎ ((its : List OutsideSegmentRecord) × AreSegmentsOf segments id its × IsUntold it its)
 
--- these are just the outside periods of the records, as they and those of the segments say
+-- the outside periods of a map are just those of the records of `outside`, as these and the records
+-- of the segments give them
 pub record OutsidesMade
     (outsides : Outsides) (segments : OutsideSegments) (made : fin.FinMap name_cmp OutsideEntry)
     : Type 0 where
@@ -106,7 +110,7 @@ pub record OutsidesMade
   pub all : (id : List ℕ) → fin.contains_key outsides id ≡ true →
       fin.contains_key made id ≡ true
 
--- one of the records, and those of its segments, say no outside period
+-- some record of `outside`, with the records of its segments, gives no outside period
 pub record HasUnmade (outsides : Outsides) (segments : OutsideSegments) : Type 0 where
   pub id : List ℕ
   pub it : OutsideRecord

@@ -14,12 +14,12 @@ use Rattle.entries.specs.declared.outside_rows.OutsideSegmentKey.{OutsideSegment
 use Rattle.entries.specs.declared.plan_rows.PeriodKey.{PeriodKey}
 use Rattle.entries.specs.declared.plan_rows.SegmentKey.{SegmentKey}
 
--- two numbers, compared in turn, compare as the names that they make
+-- two pairs of numbers, compared in turn, compare as the names that the pairs make
 two_numbers : (a b c d : ℕ) →
     ordering_then (nat_cmp a c) (nat_cmp b d) ≡ name_cmp (a ∷ b ∷ []) (c ∷ d ∷ [])
 two_numbers a b c d = ap (ordering_then (nat_cmp a c)) (number_order b d)
 
--- the keys of periods are in the order of their names
+-- two keys of periods compare as the names that the keys make
 pub periods_order : (a b : PeriodKey) →
     periods.cmp a b
     ≡ name_cmp (period_name a.pairing a.number) (period_name b.pairing b.number)
@@ -27,7 +27,7 @@ periods_order a b =
     ap (ordering_then (name_cmp a.pairing b.pairing)) (number_order a.number b.number)
     ∙ text_order a.pairing b.pairing (a.number ∷ []) (b.number ∷ [])
 
--- the keys of segments are in the order of their names
+-- two keys of segments compare as the names that the keys make
 pub segments_order : (a b : SegmentKey) →
     segments.cmp a b
     ≡ name_cmp
@@ -38,7 +38,7 @@ segments_order a b =
     (two_numbers a.period a.number b.period b.number)
     ∙ text_order a.pairing b.pairing (a.period ∷ a.number ∷ []) (b.period ∷ b.number ∷ [])
 
--- the keys of the segments of outside periods are in the order of their names
+-- two keys of segments of outside periods compare as the names that the keys make
 pub outside_segments_order : (a b : OutsideSegmentKey) →
     outside_segments.cmp a b
     ≡ name_cmp (outside_segment_name a.outside a.number) (outside_segment_name b.outside b.number)

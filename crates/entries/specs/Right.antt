@@ -60,8 +60,8 @@ abbrev pub IsInstantIfAny : Option ℕ → Type 0
 IsInstantIfAny None = ⊤
 IsInstantIfAny (Some minute) = is_instant minute ≡ true
 
--- a period is of a pairing that is there, and its number is 1 or one more than that of another
--- period of the pairing
+-- a row of `period` is of a pairing that is there, and its number is 1 or one more than that of
+-- another period of the pairing
 pub record IsPeriod (db : Database) (row : Row) : Type 0 where
   pub it : PeriodRecord
   pub is : row ≡ period_row it
@@ -80,7 +80,7 @@ pub record IsPeriod (db : Database) (row : Row) : Type 0 where
 abbrev pub ArePeriods : Database → Type 0
 ArePeriods db = (row : Row) → Has (rows_of period_table db) row → IsPeriod db row
 
--- the times of an actual are instants, as its type sees to
+-- the times of an actual are instants, as the type of an actual ensures
 abbrev pub HasInstantTimes : ActualTimes → Type 0
 HasInstantTimes a = (is_instant a.report ≡ true) × (is_instant a.release ≡ true)
     × (list_all times_have_instants a.segments ≡ true)
@@ -100,13 +100,15 @@ abbrev pub ArePlanned : State → Type 0
 ArePlanned s = (id : List ℕ) (r : PairingEntry) → fin.get s.pairings id ≡ Some r →
     IsPlanned id r
 
--- a holder is a member of the seat's kind, and both seats of a flown pairing are held
+-- each holder of a pairing's seat is a member of the seat's kind, and both seats are held if the
+-- pairing is flown
 pub record IsSeated (members : Crew) (r : PairingEntry) : Type 0 where
   pub captain : IsHolder members Captain r.captain
   pub first_officer : IsHolder members FirstOfficer r.first_officer
   pub crewed : is_flown r ≡ true → is_fully_crewed r ≡ true
 
--- each holder is a member of the seat's kind, and both seats of each flown pairing are held
+-- each holder of a seat is a member of the seat's kind, and both seats of each flown pairing are
+-- held
 abbrev pub AreSeated : State → Type 0
 AreSeated s = (id : List ℕ) (r : PairingEntry) → fin.get s.pairings id ≡ Some r →
     IsSeated s.crew r
@@ -130,7 +132,7 @@ AreGrounds s = (id : List ℕ) (g : GroundPlan) → fin.get s.grounds id ≡ Som
 abbrev pub IsKey : KeyParts → Type 0
 IsKey key = (1 ≤ key.number) × (key.number ≤ 9_223_372_036_854_775_807) × (key.part ≤ 10_000)
 
--- the period is there, and it has an actual
+-- a period of this pairing and number is there, and it has an actual
 pub record IsFlown (pairings : fin.FinMap name_cmp PairingEntry) (p : PeriodId) : Type 0 where
   pub rostered : PairingEntry
   pub of_pairing : fin.get pairings p.pairing ≡ Some rostered
@@ -139,8 +141,8 @@ pub record IsFlown (pairings : fin.FinMap name_cmp PairingEntry) (p : PeriodId) 
   pub actual : ActualTimes
   pub flown : slice_get rostered.actuals place ≡ Some (Some actual)
 
--- what an exceedance names is a period with an actual, or an outside period by its id, of which
--- only the table `outside` says whether it is there
+-- the duty that an exceedance names is a period with an actual, or an outside period by its id;
+-- only the table `outside` says whether that outside period is there
 abbrev pub IsRecorded : fin.FinMap name_cmp PairingEntry → DutyId → Type 0
 IsRecorded pairings (Period p) = IsFlown pairings p
 IsRecorded pairings (Outside id) = IsUtf8 id
@@ -154,7 +156,7 @@ pub record IsExceedance
   pub of_member : fin.get members id.crew ≡ Some member
   pub of_duty : IsRecorded pairings named
 
--- the name that an exceedance stands under
+-- an exceedance stands under this name
 abbrev pub name_of : ExceedanceId → List ℕ
 name_of id = exceedance_name id.key id.crew id.section
 
@@ -164,33 +166,35 @@ abbrev pub AreExceedances : State → Type 0
 AreExceedances s = (name : List ℕ) (named : DutyId) → fin.get s.exceedances name ≡ Some named →
     (id : ExceedanceId) × (name ≡ name_of id) × IsExceedance s.crew s.pairings id named
 
--- what is kept is a command, and it and its reply are texts
+-- a kept command has instants of the years 2000 to 2099, its key is in its ranges, and its kept
+-- text and its reply are UTF-8
 pub record IsRequest (key : KeyParts) (r : LoggedCommand) : Type 0 where
   pub is_key : IsKey key
   pub command : IsCommand r.command
   pub utf8 : IsUtf8 (kept_text r.command) × IsUtf8 (reply_text r.reply)
 
--- each key that an exceedance names is held
+-- each key that an exceedance of the state names is held
 abbrev pub AreHeld : State → Type 0
 AreHeld s = (id : ExceedanceId) (named : DutyId) →
     fin.get s.exceedances (name_of id) ≡ Some named →
     (r : LoggedCommand) × (fin.get s.requests (key_name id.key) ≡ Some r)
 
--- each kept command is a command, read back as its text, and stands under its key's name; and each
--- key that an exceedance names is held
+-- each kept command has instants of the years 2000 to 2099 and UTF-8 texts, and stands under its
+-- key's name; and each key that an exceedance names is held
 abbrev pub AreRequests : State → Type 0
 AreRequests s =
     ((name : List ℕ) (r : LoggedCommand) → fin.get s.requests name ≡ Some r →
     (key : KeyParts) × (name ≡ key_name key) × IsRequest key r)
     × AreHeld s
 
--- HOME is one of the bases; the id of each base has its shape, and its zone is a rule text
+-- HOME is one of the bases of the state; the id of each base has its shape, and its zone is a rule
+-- text
 pub record AreBases (s : State) : Type 0 where
   pub has_home : IsBase s.bases home
   pub shaped : (id zone : List ℕ) → fin.get s.bases id ≡ Some zone →
       (is_id id ≡ true) × (is_zone_text zone ≡ true)
 
--- the base of each member is one of the bases
+-- the base of each member of the state is one of the bases of the state
 abbrev pub AreBased : State → Type 0
 AreBased s = (who : List ℕ) (m : Member) → fin.get s.crew who ≡ Some m → IsBase s.bases m.base
 
@@ -229,12 +233,12 @@ AreOutsidesMade s = (id : List ℕ) (o : OutsideEntry) → fin.get s.outsides id
 
 -- ---- The tables in turn
 
--- the table is there as its text declares it, with just the rows of the state
+-- the table of this name is there as its text declares it, with just the rows of the state
 abbrev pub IsTableOfState : TableName → State → Database → Type 0
 IsTableOfState name s db =
     IsOfBook (table name) db.schema × HasJust (table name) db (InTable s name)
 
--- the one row of `book` is that of this version
+-- the one row of `book` has the number of this version
 abbrev pub IsOfEdition : Edition → Database → Type 0
 IsOfEdition edition db = (s : State) × HasJust book_table db (InBookOf edition s)
 
@@ -245,8 +249,8 @@ IsBookOfState s db =
     IsOfBook book_table db.schema
     × ((edition : Edition) × HasJust book_table db (InBookOf edition s))
 
--- One of the tables that version 2 added. In a file of version 2 it is there, with just the rows of
--- the state; in a file of version 1 its name is free.
+-- A table that version 2 added fits the state. In a file of version 2 the table is there, with just
+-- the rows of the state; in a file of version 1 its name is free.
 abbrev pub IsLaterOfState : TableName → State → Database → Type 0
 IsLaterOfState name s db =
     (IsOfEdition Second db × IsTableOfState name s db)
@@ -264,13 +268,13 @@ IsCrewRight s db = IsBookRight s db × IsTableOfState crew s db × AreMembers s
 abbrev pub IsPairingRight : State → Database → Type 0
 IsPairingRight s db = IsCrewRight s db × IsTableOfState pairing s db × AreNamed s
 
--- the tables from `book` to `pairing` are right, with the rows of this state, and `period` fits
--- them: its rows aren't compared with the state's yet, since without the segments nothing says
--- whether the actual of a period is whole
+-- The tables from `book` to `pairing` are right, with the rows of this state, and `period` fits
+-- them. The rows of `period` aren't compared with the state's yet: without the segments nothing
+-- says whether the actual of a period is whole.
 abbrev pub IsPeriodRight : State → Database → Type 0
 IsPeriodRight s db = IsPairingRight s db × IsOfBook period_table db.schema × ArePeriods db
 
--- the tables from `book` to `segment` are right, with the rows of this state, in `period` too
+-- the tables from `book` to `segment` are right, with the rows of this state
 abbrev pub IsSegmentRight : State → Database → Type 0
 IsSegmentRight s db = IsPeriodRight s db × HasJust period_table db (InPeriod s)
     × IsTableOfState segment s db × ArePlanned s
@@ -311,19 +315,19 @@ IsOutsideFit s db =
     (IsOfEdition Second db × IsOfBook outside_table db.schema × AreOutsides s db)
     ⊎ (IsOfEdition First db × IsNameFree outside_table db.schema)
 
--- the tables from `book` to `crew_base` are right, with the rows of this state, and `outside` fits
--- them: its rows aren't compared with the state's yet, since without their segments there are no
--- outside periods
+-- The tables from `book` to `crew_base` are right, with the rows of this state, and `outside` fits
+-- them. The rows of `outside` aren't compared with the state's yet: without the segments there are
+-- no outside periods.
 abbrev pub IsOutsideRight : State → Database → Type 0
 IsOutsideRight s db = IsCrewBaseRight s db × IsOutsideFit s db
 
 -- the tables from `book` to `outside_segment`, the last of version 2, are right, with the rows of
--- this state, in `outside` too
+-- this state
 abbrev pub IsOutsideSegmentRight : State → Database → Type 0
 IsOutsideSegmentRight s db = IsOutsideRight s db × IsLaterOfState outside s db
     × IsLaterOfState outside_segment s db × AreOutsidesMade s
 
--- the tables down to the one of this name are right, with the rows of this state
+-- the tables from `book` to the one of this name are right, with the rows of this state
 abbrev pub IsRight : TableName → State → Database → Type 0
 IsRight book = IsBookRight
 IsRight crew = IsCrewRight
@@ -343,11 +347,11 @@ IsRight outside_segment = IsOutsideSegmentRight
 abbrev pub IsRightBook : State → Database → Type 0
 IsRightBook = IsRight outside_segment
 
--- some state has the rows of the tables down to this one
+-- the tables from `book` to the one of this name are right, with the rows of some state
 abbrev pub AreRight : TableName → Database → Type 0
 AreRight name db = (s : State) × IsRight name s db
 
--- some state has the rows of the tables above this one
+-- the tables above the one of this name are right, with the rows of some state
 abbrev pub AreRightAbove : TableName → Database → Type 0
 AreRightAbove book db = ⊤
 AreRightAbove crew db = AreRight book db
@@ -363,12 +367,12 @@ AreRightAbove crew_base db = AreRight base db
 AreRightAbove outside db = AreRight crew_base db
 AreRightAbove outside_segment db = AreRight outside db
 
--- the tables of version 1, the last first
+-- these are the nine tables of version 1, the last first
 abbrev pub down_to_nine : List TableName
 down_to_nine =
     request ∷ exceedance ∷ ground_duty ∷ seat ∷ segment ∷ period ∷ pairing ∷ crew ∷ book ∷ []
 
--- the tables down to this one, the last first
+-- these are the tables from `book` to the one of this name, the last first
 abbrev pub down_to : TableName → List TableName
 down_to book = book ∷ []
 down_to crew = crew ∷ book ∷ []

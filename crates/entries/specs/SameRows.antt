@@ -12,7 +12,7 @@ use Rattle.state_rows.specs.Rows.{FirstRows, Rows, TableName, InTable}
 use Rattle.state_rows.specs.declared.edition.Edition.TheVariants.{First, Second}
 use Rattle.entries.specs.Right.{IsOfEdition, IsRightBook}
 
--- the instants of kept commands are of the years 2000 to 2099, as the type of an instant sees to
+-- the instants of kept commands are of the years 2000 to 2099, as the type of an instant ensures
 abbrev pub HasInstants : State → Type 0
 HasInstants s = (name : List ℕ) (r : LoggedCommand) → fin.get s.requests name ≡ Some r →
     instruction_has_instants r.command ≡ true
@@ -21,7 +21,7 @@ HasInstants s = (name : List ℕ) (r : LoggedCommand) → fin.get s.requests nam
 abbrev pub SameRows : State → State → Type 0
 SameRows s t = (name : TableName) (row : Row) → InTable s name row ↔ InTable t name row
 
--- sound states with the same rows are equal
+-- two sound states with the same rows are equal
 abbrev pub RowsSayAll : Type 0
 RowsSayAll = (s t : State) → Sound s → Sound t → HasInstants s → HasInstants t →
     SameRows s t → s ≡ t
@@ -31,12 +31,12 @@ abbrev pub HoldsOneState : Type 0
 HoldsOneState = (s t : State) (db : Database) → Sound s → Sound t → HasInstants s →
     HasInstants t → Rows s db → Rows t db → s ≡ t
 
--- no database is of version 1 and of version 2
+-- no database is both of version 1 and of version 2
 abbrev pub IsOfOneEdition : Type 0
 IsOfOneEdition = (db : Database) → IsOfEdition First db → ¬ IsOfEdition Second db
 
--- the database has just the rows of a state: in the tables of version 2, or in those of version 1,
--- if they can say the state
+-- the database has just the rows of a state: in the tables of version 2, or in the tables of
+-- version 1, which then can say the state
 abbrev pub EitherRows : State → Database → Type 0
 EitherRows s db = (FirstRows s db × IsFirst s) ⊎ Rows s db
 

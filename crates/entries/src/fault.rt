@@ -35,7 +35,7 @@ pub enum LoadFault {
     Damaged(TableName),
     /// The tables are of a version that this program doesn't know: refusal 42.
     Version,
-    /// A fault of the store (90) or want of memory (91).
+    /// A fault of the store (90), or out of memory (91).
     Fault(StoreFault),
 }
 

@@ -1,4 +1,4 @@
-//! One outside period, as its record and the records of its segments tell it.
+//! One outside period, as its record and the records of its segments give it.
 //! Through the program: `tests/answers.py`. Wrong bodies: `must-fail-more/`.
 
 ghost use Rattle.std.specs.Prelude.{◌≡◌, ◌↔◌, ◌+◌, true, false, IsTrue, MatchResult};
@@ -20,7 +20,7 @@ use values::{Text, TryClone};
 /// One more than the most segments that an outside period may have.
 const TOO_MANY_SEGMENTS: u32 = 13;
 
-/// What is said of an outside period that its records don't tell.
+/// What is said of an outside period that its records don't give.
 const UNFIT: LoadFault = LoadFault::Damaged(TableName::OutsideSegment);
 
 /// Returns the instant of a number of minutes since 2000-01-01T00:00Z.
@@ -111,7 +111,7 @@ fn check_all(
     Ok(())
 }
 
-/// Makes the outside period that its record and the records of its segments tell of.
+/// Makes the outside period that its record and the records of its segments give.
 pub fn outside_of_records(
     alloc: Global,
     it: &OutsideRecord,

@@ -1,4 +1,4 @@
-//! One pairing, as the records of its periods and segments tell it.
+//! One pairing, as the records of its periods and segments give it.
 //! Through the program: `tests/answers.py`.
 
 ghost use Rattle.std.specs.Prelude.{◌≡◌, IfErr, IfOk, None};
@@ -15,7 +15,7 @@ use tables::period::PeriodRecord;
 use tables::segment::SegmentRecord;
 use values::{OrdMap, TryClone};
 
-/// Makes the pairing that the records of its periods and segments tell of under an id; no seat is
+/// Makes the pairing that the records of its periods and segments give under an id; no seat is
 /// held.
 pub fn pairing_of_records(
     alloc: Global,

@@ -135,7 +135,7 @@ fn segments_of(
     Err(LoadFault::Damaged(TableName::OutsideSegment))
 }
 
-/// Makes the outside period that its record and those of its segments tell of.
+/// Makes the outside period that its record and those of its segments give.
 fn outside_of(
     alloc: Global,
     segments: &OrdMap<OutsideSegmentKey, OutsideSegmentRecord>,
@@ -150,7 +150,7 @@ fn outside_of(
     outside_of_records(alloc, it, &its)
 }
 
-/// Makes the outside periods that their records and those of their segments tell of.
+/// Makes the outside periods that their records and those of their segments give.
 pub fn all_made(
     alloc: Global,
     outsides: &OrdMap<OutsideId, OutsideRecord>,

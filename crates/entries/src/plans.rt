@@ -1,4 +1,4 @@
-//! A pairing, as the rows of its periods and segments tell it.
+//! A pairing, as the rows of its periods and segments give it.
 //! Periods and segments that are damaged: `tests/tables.py`. Wrong bodies: `must-fail/`.
 
 ghost use Rattle.std.specs.Prelude.{◌≡◌, ◌≤◌, ℕ, map, true, false, slice_get, IfOk, MatchResult, Option, Some, None};
@@ -22,7 +22,7 @@ use tables::segment::SegmentRecord;
 use time117::Minute;
 use values::{MemoryFault, Sequence, TryClone};
 
-/// What a row of `segment` tells: the segment as it is planned, and its times where it is flown.
+/// What a row of `segment` gives: the segment as it is planned, and its times where it is flown.
 #[derive(Drop)]
 struct ReadSegment {
     segment: Segment,
@@ -36,7 +36,7 @@ struct ReadSegments {
     flown: Vec<Option<BlockTimes>>,
 }
 
-/// What a row of `period` tells with those of its segments: the period as it is planned, and its actual where it is flown.
+/// What a row of `period` gives with those of its segments: the period as it is planned, and its actual where it is flown.
 #[derive(Drop)]
 struct ReadPeriod {
     planned: Fdp,
@@ -56,7 +56,7 @@ const MOST_PERIODS: u32 = 10;
 /// One more than the most segments that a period may have.
 const TOO_MANY_SEGMENTS: u32 = 13;
 
-/// What is said of a pairing that its rows don't tell.
+/// What is said of a pairing that its rows don't give.
 const UNFIT: LoadFault = LoadFault::Damaged(TableName::Segment);
 
 /// Returns the instant of a number of minutes since 2000-01-01T00:00Z.
@@ -105,7 +105,7 @@ fn planned_segment(
     })
 }
 
-/// Reads what a row tells of a segment.
+/// Reads what a row says of a segment.
 fn segment_of(alloc: Global, row: &SegmentRecord) -> Result<ReadSegment, LoadFault>
     ensures { MatchResult result (λ it. IsSegment row.now it.segment it.flown)
         (Blames table_name.Segment ((segment : declared_segment.Segment)
@@ -128,7 +128,7 @@ fn segment_of(alloc: Global, row: &SegmentRecord) -> Result<ReadSegment, LoadFau
     Ok(ReadSegment { segment, flown })
 }
 
-/// Reads what the rows tell of the segments of a period, by its number.
+/// Reads what the rows say of the segments of a period, by its number.
 #[tactic(auto, using(crate::proofs::PlanLemmas::no_segment, crate::proofs::PlanLemmas::segments_done))]
 fn segments_of(
     alloc: Global,
@@ -197,7 +197,7 @@ fn actual_of(
     }
 }
 
-/// Reads what the rows tell of a period, by its number.
+/// Reads what the rows say of a period, by its number.
 fn period_of(
     alloc: Global,
     rows: &PlanRows,
@@ -224,7 +224,7 @@ fn period_of(
     })
 }
 
-/// Reads what the rows tell of the periods of a pairing.
+/// Reads what the rows say of the periods of a pairing.
 #[tactic(auto, using(crate::proofs::PlanLemmas::no_period, crate::proofs::PlanLemmas::periods_done))]
 fn periods_of(alloc: Global, rows: &PlanRows, id: &PairingId) -> Result<ReadPeriods, LoadFault>
     requires whole { HasNoGaps rows.now.segments }
@@ -251,7 +251,7 @@ fn periods_of(alloc: Global, rows: &PlanRows, id: &PairingId) -> Result<ReadPeri
     }
 }
 
-/// Makes the pairing that the rows tell of under an id; no seat is held.
+/// Makes the pairing that the rows give under an id; no seat is held.
 pub fn pairing_of(alloc: Global, rows: &PlanRows, id: &PairingId) -> Result<PairingEntry, LoadFault>
     requires periods { AreUngapped rows.now.periods }
     requires segments { HasNoGaps rows.now.segments }

@@ -47,7 +47,7 @@ impl Read for Input<'_> {
     }
 }
 
-/// A writer that takes so many bytes, and then fails. What isn't flushed isn't handed on.
+/// A writer that takes this many bytes, and then fails. What isn't flushed isn't handed on.
 #[derive(Drop)]
 pub struct Output {
     room: usize,

@@ -8,18 +8,18 @@ use Rattle.http_exchange.specs.declared.handler.Request.TheVariants as rust
 use Rattle.http_exchange.specs.declared.handler.Response.{Response}
 use Rattle.http_exchange.specs.declared.handler.HandlerFault.{HandlerFault}
 
--- to do what a body says, or to show a report
+-- what a handler is asked: to do what a body says, or to show a report
 pub data HandlerRequest : Type 0 where
   submit : Submission → List ℕ → HandlerRequest
   show : Subject → HandlerRequest
 
--- a status, and a text of this type
+-- what a handler answers: a status, and a text with its type
 pub record StatusText : Type 0 where
   pub status : ℕ
   pub media_type : MediaType
   pub text : List ℕ
 
--- ---- as the program holds them
+-- ---- requests and responses as the program holds them
 
 -- a request as contracts see it
 abbrev pub asked : Request → HandlerRequest
@@ -30,7 +30,7 @@ asked (rust.Show report) = show (subject report)
 abbrev pub answer : Response → StatusText
 answer r = record { status = r.status; media_type = r.media_type; text = string_bytes r.text }
 
--- the same of what may be a fault
+-- a response as contracts see it, or the handler's fault
 abbrev pub answer_or_fault : Result Response HandlerFault → Result StatusText HandlerFault
 answer_or_fault (Ok r) = Ok (answer r)
 answer_or_fault (Err fault) = Err fault

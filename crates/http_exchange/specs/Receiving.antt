@@ -9,28 +9,34 @@ use Rattle.http_exchange.specs.declared.receiving.Received.{Received}
 use Rattle.http_exchange.specs.declared.receiving.Received.TheVariants.{Body, Report, Answered}
 use Rattle.http_exchange.specs.declared.sending.ChannelFault.{ChannelFault}
 
--- a handler that has no answer: what is said of a request by it is said of one that asks nothing
+-- a handler that answers nothing: what holds of a request with this handler holds of a request that
+-- asks nothing
 abbrev pub unasked : ⊤ → ⊤ → HandlerRequest → Result StatusText HandlerFault → Type 0
 unasked old new asked answer = ⊥
 
--- what the plan asks for stands after the head, it was read, and the interim response is written
-pub record IsAskedFor (p : Planned) (rest : List ℕ) (left out out' : ChannelBytes) (asked : HandlerRequest) : Type 0 where
+-- What the plan asks for stood after the head and was read, and the interim response was written.
+pub record IsAskedFor (p : Planned) (rest : List ℕ) (left out out' : ChannelBytes)
+    (asked : HandlerRequest) : Type 0 where
   pub whole : asks p.step rest ≡ Ok asked
   pub left_is : left ≡ Some (unread p.step rest)
   pub interim_is : Appends out out' (interim p.step)
 
--- the same, where it is known what the reader has
-abbrev pub AsksFor : Planned → ChannelBytes → ChannelBytes → ChannelBytes → ChannelBytes → HandlerRequest → Type 0
+-- If the rest after a head is known, what the plan asks for was read from that rest.
+abbrev pub AsksFor : Planned → ChannelBytes → ChannelBytes → ChannelBytes → ChannelBytes →
+    HandlerRequest → Type 0
 AsksFor p None left out out' asked = ⊤
 AsksFor p (Some rest) left out out' asked = IsAskedFor p rest left out out' asked
 
--- something to ask, or the response of a request that asks nothing
-abbrev pub IsReceived : Planned → ChannelBytes → ChannelBytes → ChannelBytes → ChannelBytes → Received → Type 0
+-- What was received of a request: something to ask of the handler, or the response to a request
+-- that asks nothing.
+abbrev pub IsReceived : Planned → ChannelBytes → ChannelBytes → ChannelBytes → ChannelBytes →
+    Received → Type 0
 IsReceived p had left out out' (Body to body) = AsksFor p had left out out' (submit to body.items)
 IsReceived p had left out out' (Report what) = AsksFor p had left out out' (show (subject what))
 IsReceived p had left out out' (Answered code) = Responds unasked p had left out out' tt tt code
 
--- or the channel failed, and nothing is asked
-abbrev pub IsReceivedOrFails : Planned → ChannelBytes → ChannelBytes → ChannelBytes → ChannelBytes → Result Received ChannelFault → Type 0
+-- A request was received, or the channel failed and nothing is asked.
+abbrev pub IsReceivedOrFails : Planned → ChannelBytes → ChannelBytes → ChannelBytes → ChannelBytes →
+    Result Received ChannelFault → Type 0
 IsReceivedOrFails p had left out out' (Ok it) = IsReceived p had left out out' it
 IsReceivedOrFails p had left out out' (Err fault) = BreaksOff unasked p had out out' tt tt fault

@@ -16,7 +16,7 @@ pub(crate) enum BodyRead {
     Cut,
 }
 
-/// Reads a body of so many bytes (RFC 9112, section 6.2) into a room that was made for it, and no byte after it.
+/// Reads a body of this many bytes (RFC 9112, section 6.2) into a room that was made for it, and no byte after it.
 pub(crate) fn read_body<R: Read>(
     reader: &mut R,
     room: Vec<u8>,

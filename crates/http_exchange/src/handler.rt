@@ -26,7 +26,7 @@ pub struct Response {
     pub text: String,
 }
 
-/// Why a handler doesn't answer. Either is told as 503.
+/// Why a handler doesn't answer. Either is reported as 503.
 #[derive(Clone, Copy, Debug, PartialEq, Eq)]
 pub enum HandlerFault {
     /// Its store failed.

@@ -33,7 +33,7 @@ pub(crate) fn send<W: Write>(writer: &mut W, bytes: &[u8]) -> Result<(), Channel
     Ok(())
 }
 
-/// Writes that a request is refused, or that there is no memory to tell it.
+/// Writes that a request is refused, or that there is no memory to report it.
 pub(crate) fn send_fault<W: Write>(
     alloc: Global,
     writer: &mut W,

@@ -1,5 +1,6 @@
 -- What a reader has where a head is looked for.
-use Rattle.std.specs.Prelude.{◌≡◌, ◌≤◌, ◌<◌, ⊤, ℕ, Bool, ◌||◌, ◌==◌, List, [], drop, length, Option, Some, None}
+use Rattle.std.specs.Prelude.{◌≡◌, ◌≤◌, ◌<◌, ⊤, ℕ, Bool, ◌||◌, ◌==◌, List, [], drop, length, Option}
+use Rattle.std.specs.Prelude.{Some, None}
 use Rattle.httparse.specs.Grammar.{RequestHead, ReadsRequest, HasNoRequest, print_request}
 use Rattle.httparse.specs.Spans.{IsRequestAt, IsRequestWithin, RequestOverflows}
 use Rattle.httparse.specs.declared.spans.HeaderSpan.{HeaderSpan}
@@ -11,50 +12,54 @@ use Rattle.http_message.specs.declared.reading.HeadRead.TheVariants.{Nothing, No
 use Rattle.http_message.specs.declared.reading.ReadFault.{ReadFault}
 use Rattle.http_message.specs.declared.reading.ReadFault.TheVariants.{Memory, Reader}
 
--- the input begins with this head, which isn't too long, and goes on with the rest
+-- An input begins with this head, of at most 16,384 bytes and 64 fields, and goes on with the rest.
 pub record HasHead (input : List ℕ) (h : RequestHead) (rest : List ℕ) : Type 0 where
   pub reads : ReadsRequest input h rest
   pub short : length (print_request h) ≤ 16_384
   pub few : length h.fields ≤ 64
 
--- it begins with no whole head
+-- An input begins with no whole head of at most 16,384 bytes and 64 fields.
 abbrev pub HasNoHead : List ℕ → Type 0
 HasNoHead input = (h : RequestHead) (rest : List ℕ) → ¬ (HasHead input h rest)
 
--- it begins with a head of these parts, and what stands after it is left
+-- If the reader's input is known, it begins with a head of these parts, and what follows the head
+-- is left.
 abbrev pub IsReadWhole : Option (List ℕ) → Option (List ℕ) → Heading → Type 0
 IsReadWhole None left head = ⊤
-IsReadWhole (Some input) left head = (h : RequestHead) × (rest : List ℕ) × HasHead input h rest × (head ≡ heading h) × (left ≡ Some rest)
+IsReadWhole (Some input) left head =
+    (h : RequestHead) × (rest : List ℕ) × HasHead input h rest × (head ≡ heading h)
+    × (left ≡ Some rest)
 
--- an input that is not empty and begins with no whole head; unless nothing is known of it
+-- If the reader's input is known, it isn't empty, and begins with no whole head.
 abbrev pub IsReadBad : Option (List ℕ) → Type 0
 IsReadBad None = ⊤
 IsReadBad (Some input) = (0 < length input) × HasNoHead input
 
--- an input of no byte; unless nothing is known of it
+-- If the reader's input is known, it has no byte.
 abbrev pub IsReadEmpty : Option (List ℕ) → Type 0
 IsReadEmpty None = ⊤
 IsReadEmpty (Some input) = input ≡ []
 
--- what a reader had and has left, where that is known
+-- What a reader had and has left, by the outcome of its look for a head, where the input is known.
 abbrev pub IsHeadRead : Option (List ℕ) → Option (List ℕ) → HeadRead → Type 0
 IsHeadRead had left Nothing = IsReadEmpty had
 IsHeadRead had left NoHead = IsReadBad had
 IsHeadRead had left (Whole head) = IsReadWhole had left head
 
--- where there was no memory, one byte was read
+-- By the fault of a read: out of memory, one byte of a known input was read.
 abbrev pub IsHeadUnread : ReadFault → Option (List ℕ) → Option (List ℕ) → Type 0
 IsHeadUnread Memory None left = ⊤
 IsHeadUnread Memory (Some input) left = (0 < length input) × (left ≡ Some (drop 1 input))
 IsHeadUnread Reader had left = ⊤
 
--- ---- what the reading of a head tells itself
+-- ---- what the reading of a head knows of its bytes so far
 
--- CR or LF
+-- whether a byte ends a line: CR or LF
 abbrev pub is_line_end : ℕ → Bool
 is_line_end byte = byte == 13 || byte == 10
 
--- the bytes are a head and what follows it, no head yet, or never one of at most 64 fields
+-- The bytes so far are a head and what follows it, are no head yet, or never become a head of at
+-- most 64 fields.
 abbrev pub IsParsed : List ℕ → List HeaderSpan → Parsed → Type 0
 IsParsed bytes fields (parsed.Whole spans) =
     (h : RequestHead) × IsRequestAt bytes fields spans h × IsRequestWithin bytes fields spans

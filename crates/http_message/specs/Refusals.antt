@@ -2,9 +2,13 @@
 use Rattle.std.specs.Prelude.{ℕ, Option, Some, None}
 use Rattle.http_message.specs.declared.refusals.Methods.{Methods}
 use Rattle.http_message.specs.declared.refusals.RequestFault.{RequestFault}
-use Rattle.http_message.specs.declared.refusals.RequestFault.TheVariants.{NoHead, NotOneHost, TransferCoding, NoResource, NoMethod, NoLength, BadLength, TooLong, CutBody}
+use Rattle.http_message.specs.declared.refusals.RequestFault.TheVariants.{NoHead, NotOneHost}
+use Rattle.http_message.specs.declared.refusals.RequestFault.TheVariants.{TransferCoding}
+use Rattle.http_message.specs.declared.refusals.RequestFault.TheVariants.{NoResource, NoMethod}
+use Rattle.http_message.specs.declared.refusals.RequestFault.TheVariants.{NoLength, BadLength}
+use Rattle.http_message.specs.declared.refusals.RequestFault.TheVariants.{TooLong, CutBody}
 
--- the status of each
+-- the status of the response to each refused request
 abbrev pub status : RequestFault → ℕ
 status NoHead = 400
 status NotOneHost = 400
@@ -16,7 +20,7 @@ status BadLength = 400
 status TooLong = 413
 status CutBody = 400
 
--- the methods that are told with it, with 405 alone
+-- the methods that the response to a refused request names: with 405 alone
 abbrev pub allow : RequestFault → Option Methods
 allow (NoMethod methods) = Some methods
 allow NoHead = None

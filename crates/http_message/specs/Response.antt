@@ -1,5 +1,6 @@
 -- A response as bytes.
-use Rattle.std.specs.Prelude.{ℕ, Bool, List, [], ◌∷◌, ◌++◌, length, codes, decimal, if◌then◌else◌, Option, Some, None}
+use Rattle.std.specs.Prelude.{ℕ, Bool, List, [], ◌∷◌, ◌++◌, length, codes, decimal, if◌then◌else◌}
+use Rattle.std.specs.Prelude.{Option, Some, None}
 use Rattle.http.specs.StatusCode.{status_text}
 use Rattle.http_message.specs.Refusals.{status, allow}
 use Rattle.http_message.specs.declared.refusals.Methods.{Methods}
@@ -12,20 +13,20 @@ use Rattle.http_message.specs.declared.responses.MediaType.TheVariants as media
 abbrev pub crlf : List ℕ
 crlf = 13 ∷ 10 ∷ []
 
--- the code and its phrase, as the crate `http` has it
+-- the first line of a response: the code and its phrase, as the crate `http` has it
 unfoldable pub status_line : ℕ → List ℕ
 status_line code = codes "HTTP/1.1 " ++ status_text code ++ crlf
 
--- the field that tells the type of the text
+-- the field that gives the type of the text
 unfoldable pub type_line : MediaType → List ℕ
 type_line media.Json = codes "Content-Type: application/json" ++ crlf
 type_line media.PlainText = codes "Content-Type: text/plain; charset=utf-8" ++ crlf
 
--- the field that tells how many bytes the text has
+-- the field that gives how many bytes the text has
 unfoldable pub length_line : ℕ → List ℕ
 length_line length = codes "Content-Length: " ++ decimal length ++ crlf
 
--- the field that tells which methods a resource takes, if they are told
+-- the field that names the methods that a resource takes, if the response names any
 unfoldable pub allow_line : Option Methods → List ℕ
 allow_line None = []
 allow_line (Some methods.Post) = codes "Allow: POST" ++ crlf
@@ -35,39 +36,43 @@ allow_line (Some methods.GetAndHead) = codes "Allow: GET, HEAD" ++ crlf
 unfoldable pub close_line : List ℕ
 close_line = codes "Connection: close" ++ crlf
 
--- the status, the fields in their order, and an empty line
+-- the head of a response: the status line, the fields in their order, and an empty line
 abbrev pub head : ℕ → MediaType → Option Methods → ℕ → List ℕ
-head code media allowed length = status_line code ++ type_line media ++ length_line length ++ allow_line allowed ++ (close_line ++ crlf)
+head code media allowed length =
+    status_line code ++ type_line media ++ length_line length ++ allow_line allowed
+    ++ (close_line ++ crlf)
 
--- head and text, to HEAD without the text
+-- a whole response: head and text, to `HEAD` without the text
 abbrev pub message : ℕ → MediaType → Option Methods → List ℕ → Bool → List ℕ
-message code media allowed text is_head = head code media allowed (length text) ++ (if is_head then [] else text)
+message code media allowed text is_head =
+    head code media allowed (length text) ++ (if is_head then [] else text)
 
--- a text under a status
+-- a response with a text under a status
 abbrev pub response : ℕ → MediaType → List ℕ → Bool → List ℕ
 response code media text is_head = message code media None text is_head
 
--- the text that tells a status
+-- the text that reports a status
 unfoldable pub status_error_text : ℕ → List ℕ
 status_error_text code = codes "{\"result\":\"error\",\"status\":" ++ decimal code ++ codes "}"
 
--- a request is refused
+-- the response to a refused request
 abbrev pub fault_response : RequestFault → Bool → List ℕ
-fault_response fault is_head = message (status fault) media.Json (allow fault) (status_error_text (status fault)) is_head
+fault_response fault is_head =
+    message (status fault) media.Json (allow fault) (status_error_text (status fault)) is_head
 
--- the text that tells want of memory (91)
+-- the text that reports that the program is out of memory (91)
 unfoldable pub memory_text : List ℕ
 memory_text = codes "{\"name\":\"Memory\",\"refusal\":91,\"result\":\"refused\"}"
 
--- no memory was left
+-- the response when no memory was left
 abbrev pub no_memory : Bool → List ℕ
 no_memory is_head = response 503 media.Json memory_text is_head
 
--- the text that tells a fault of the store (90)
+-- the text that reports a fault of the store (90)
 unfoldable pub store_text : List ℕ
 store_text = codes "{\"name\":\"Store\",\"refusal\":90,\"result\":\"refused\"}"
 
--- the store failed
+-- the response when the store failed
 abbrev pub no_store : Bool → List ℕ
 no_store is_head = response 503 media.Json store_text is_head
 

@@ -1,5 +1,6 @@
 -- The resources of a book, by their paths.
-use Rattle.std.specs.Prelude.{ℕ, Bool, false, ◌&&◌, not, List, [], ◌∷◌, ◌++◌, codes, bytes_eq, if◌then◌else◌, ◌==◌, Option, Some, None, option_map}
+use Rattle.std.specs.Prelude.{ℕ, Bool, false, ◌&&◌, not, List, [], ◌∷◌, ◌++◌, codes, bytes_eq}
+use Rattle.std.specs.Prelude.{if◌then◌else◌, ◌==◌, Option, Some, None, option_map}
 use Rattle.std.specs.List.{list_any}
 use Rattle.matchit.specs.declared.params.Params.{Params}
 use Rattle.matchit.specs.Params as matched
@@ -8,7 +9,10 @@ use Rattle.matchit.specs.Router.{RouteOf}
 use Rattle.http_message.specs.declared.routes.Resource.{Resource}
 use Rattle.http_message.specs.declared.routes.Resource.TheVariants as resource
 use Rattle.http_message.specs.declared.routes.Route.{Route}
-use Rattle.http_message.specs.declared.routes.Route.TheVariants.{Requests, Checks, Import, Crew, Pairing, Exceedances, Limits, LimitsWith, Members, Pairings, OpenPairings}
+use Rattle.http_message.specs.declared.routes.Route.TheVariants.{Requests, Checks, Import, Crew}
+use Rattle.http_message.specs.declared.routes.Route.TheVariants.{Pairing, Exceedances, Limits}
+use Rattle.http_message.specs.declared.routes.Route.TheVariants.{LimitsWith, Members, Pairings}
+use Rattle.http_message.specs.declared.routes.Route.TheVariants.{OpenPairings}
 
 -- what a path names: commands, commands that are only checked, an import, a member's roster, a
 -- pairing, the exceedances, a member's limits, alone or with a pairing, the members, the pairings,
@@ -18,39 +22,41 @@ pub data Place : Type 0 where
   import crew pairing : List ℕ → Place
   limits : List ℕ → Option (List ℕ) → Place
 
--- an id in a path is one or more bytes without a slash
+-- whether a text is an id in a path: one or more bytes without a slash
 abbrev pub is_path_id : List ℕ → Bool
 is_path_id [] = false
 is_path_id (b ∷ id) = not (list_any (λ b. b == 47) (b ∷ id))
 
--- the id that follows these bytes
+-- the id that follows these bytes in a path
 abbrev pub id_after : List ℕ → List ℕ → Option (List ℕ)
 id_after [] path = if is_path_id path then Some path else None
 id_after (a ∷ front) [] = None
 id_after (a ∷ front) (b ∷ path) = if a == b then id_after front path else None
 
--- what stands before the first slash of a text, and after it
+-- what stands before the first slash of a text, and what stands after that slash
 abbrev pub at_slash : List ℕ → Option (List ℕ × List ℕ)
 at_slash [] = None
-at_slash (b ∷ text) = if b == 47 then Some ([], text) else option_map (λ parts. (b ∷ parts.0, parts.1)) (at_slash text)
+at_slash (b ∷ text) =
+    if b == 47 then Some ([], text)
+    else option_map (λ parts. (b ∷ parts.0, parts.1)) (at_slash text)
 
--- two texts, if both are ids
+-- these two texts, if both are ids
 abbrev pub both_ids : Option (List ℕ × List ℕ) → Option (List ℕ × List ℕ)
 both_ids None = None
 both_ids (Some (a, b)) = if is_path_id a && is_path_id b then Some (a, b) else None
 
--- the two ids, with a slash between them, that follow these bytes
+-- the two ids, with a slash between the two, that follow these bytes in a path
 abbrev pub ids_after : List ℕ → List ℕ → Option (List ℕ × List ℕ)
 ids_after [] path = both_ids (at_slash path)
 ids_after (a ∷ front) [] = None
 ids_after (a ∷ front) (b ∷ path) = if a == b then ids_after front path else None
 
--- the first, if it is there, else the other
+-- the first of two values, if it is there, else the other
 abbrev pub first_or_other : {A : Type 0} → Option A → Option A → Option A
 first_or_other (Some a) other = Some a
 first_or_other None other = other
 
--- this place, if the path is these bytes
+-- this place, if the whole path is these bytes
 abbrev pub exactly : List ℕ → Place → List ℕ → Option Place
 exactly name place path = if bytes_eq name path then Some place else None
 
@@ -64,12 +70,13 @@ place_of_path path =
     (first_or_other (option_map pairing (id_after (codes "/pairings/") path))
     (first_or_other (exactly (codes "/exceedances") exceedances path)
     (first_or_other (option_map (λ id. limits id None) (id_after (codes "/reports/limits/") path))
-    (first_or_other (option_map (λ ids. limits ids.0 (Some ids.1)) (ids_after (codes "/reports/limits/") path))
+    (first_or_other (option_map (λ ids. limits ids.0 (Some ids.1))
+    (ids_after (codes "/reports/limits/") path))
     (first_or_other (exactly (codes "/reports/members") members path)
     (first_or_other (exactly (codes "/reports/pairings") pairings path)
     (exactly (codes "/reports/open") open_pairings path))))))))))
 
--- a resource as contracts see it
+-- a resource as contracts see it: the place that a path names
 abbrev pub place : Resource → Place
 place resource.Requests = requests
 place resource.Checks = checks
@@ -82,7 +89,7 @@ place resource.Members = members
 place resource.Pairings = pairings
 place resource.OpenPairings = open_pairings
 
--- ---- What the router says to itself
+-- ---- What the router works with
 
 -- the parameters of a route that a path matched: each name, with what it took of the path
 abbrev pub taken : Params → List (List ℕ × List ℕ)
@@ -102,14 +109,17 @@ place_by Crew taken = option_map crew (matched.named (codes "id") taken)
 place_by Pairing taken = option_map pairing (matched.named (codes "id") taken)
 place_by Exceedances taken = Some exceedances
 place_by Limits taken = option_map (λ id. limits id None) (matched.named (codes "crew") taken)
-place_by LimitsWith taken = limits_with (matched.named (codes "crew") taken) (matched.named (codes "pairing") taken)
+place_by LimitsWith taken =
+    limits_with (matched.named (codes "crew") taken) (matched.named (codes "pairing") taken)
 place_by Members taken = Some members
 place_by Pairings taken = Some pairings
 place_by OpenPairings taken = Some open_pairings
 
--- a row of the router's table: a pattern, its text, where its names stand in the text, and the route
+-- a row of the router's table: a pattern, its text, where the names stand in the text, and the
+-- route
 abbrev pub row : List ℕ → List ℕ → List (ℕ × ℕ) → Route → List ℕ × RouteOf Route
-row pattern text names route = (pattern, record { pattern = pattern; text = text; names = names; value = route })
+row pattern text names route =
+    (pattern, record { pattern = pattern; text = text; names = names; value = route })
 
 -- the rows of the router, in the order in which it keeps them
 abbrev pub route_table : RowsOf (RouteOf Route)
@@ -119,8 +129,10 @@ route_table =
     ∷ row (codes "/exceedances") (codes "/exceedances") [] Exceedances
     ∷ row (codes "/imports/" ++ 256 ∷ []) (codes "/imports/{number}") ((10, 16) ∷ []) Import
     ∷ row (codes "/pairings/" ++ 256 ∷ []) (codes "/pairings/{id}") ((11, 13) ∷ []) Pairing
-    ∷ row (codes "/reports/limits/" ++ 256 ∷ 47 ∷ 256 ∷ []) (codes "/reports/limits/{crew}/{pairing}") ((17, 21) ∷ (24, 31) ∷ []) LimitsWith
-    ∷ row (codes "/reports/limits/" ++ 256 ∷ []) (codes "/reports/limits/{crew}") ((17, 21) ∷ []) Limits
+    ∷ row (codes "/reports/limits/" ++ 256 ∷ 47 ∷ 256 ∷ [])
+    (codes "/reports/limits/{crew}/{pairing}") ((17, 21) ∷ (24, 31) ∷ []) LimitsWith
+    ∷ row (codes "/reports/limits/" ++ 256 ∷ []) (codes "/reports/limits/{crew}")
+    ((17, 21) ∷ []) Limits
     ∷ row (codes "/reports/members") (codes "/reports/members") [] Members
     ∷ row (codes "/reports/open") (codes "/reports/open") [] OpenPairings
     ∷ row (codes "/reports/pairings") (codes "/reports/pairings") [] Pairings

@@ -11,7 +11,7 @@ use request_number::RequestNumber;
 /// The most bytes of a body.
 pub(crate) const MOST_BODY: usize = 1_048_576;
 
-/// Reads the length that a field's value tells, up to one byte more than a body may have.
+/// Reads the length that a field's value says, up to one byte more than a body may have.
 pub(crate) fn length_of(value: &[u8]) -> Option<usize>
     ensures { result ≡ spec.body_length_of value.now }
 {

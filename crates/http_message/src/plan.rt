@@ -174,7 +174,7 @@ fn posted<'h>(head: &'h Head, to: Submission) -> Action<'h>
     }
 }
 
-/// Decides the same where one field tells the length.
+/// Decides the same where one field says the length.
 fn sized<'h>(head: &'h Head, to: Submission) -> Action<'h>
     requires { length (values (codes "content-length") head.now.fields) ≡ 1 }
     ensures { spec.step result
@@ -194,7 +194,7 @@ fn sized<'h>(head: &'h Head, to: Submission) -> Action<'h>
     }
 }
 
-/// Returns whether a client waits before it sends a body of so many bytes.
+/// Returns whether a client waits before it sends a body of this many bytes.
 fn continues(head: &Head, length: usize) -> bool
     ensures { result ≡ spec.client_waits head.now length }
 {

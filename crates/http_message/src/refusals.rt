@@ -5,7 +5,7 @@ ghost use Rattle.http_message.specs.Refusals as spec;
 
 use http::StatusCode;
 
-/// The methods that a resource takes, as they are told beside 405 (RFC 9110, section 10.2.1).
+/// The methods that a resource takes, as they are reported beside 405 (RFC 9110, section 10.2.1).
 #[derive(Clone, Copy, Debug, PartialEq, Eq)]
 pub enum Methods {
     /// `POST`
@@ -27,9 +27,9 @@ pub enum RequestFault {
     NoResource,
     /// The resource has only these methods.
     NoMethod(Methods),
-    /// No length of the body is told.
+    /// No length of the body is given.
     NoLength,
-    /// The length is told twice, or is no number (RFC 9112, section 6.3).
+    /// The length is given twice, or is no number (RFC 9112, section 6.3).
     BadLength,
     /// The body is longer than 1,048,576 bytes.
     TooLong,
@@ -38,7 +38,7 @@ pub enum RequestFault {
 }
 
 impl RequestFault {
-    /// Returns the status that tells the fault (RFC 9110, section 15).
+    /// Returns the status that reports the fault (RFC 9110, section 15).
     pub fn status(self) -> StatusCode
         ensures { result ≡ spec.status self }
     {
@@ -55,7 +55,7 @@ impl RequestFault {
         }
     }
 
-    /// Returns the methods that are told with the fault: those of the resource, beside 405 alone.
+    /// Returns the methods that are reported with the fault: those of the resource, beside 405 alone.
     pub(crate) fn allow(self) -> Option<Methods>
         ensures { result ≡ spec.allow self }
     {

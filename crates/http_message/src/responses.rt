@@ -65,7 +65,7 @@ pub fn no_memory_response(is_head: bool) -> &'static [u8]
     }
 }
 
-/// Returns the response where the store failed, which takes no memory either: for want of it 91 would be told of a
+/// Returns the response where the store failed, which takes no memory either: out of memory, 91 would be reported of a
 /// store that failed.
 pub fn no_store_response(is_head: bool) -> &'static [u8]
     ensures { result.now ≡ spec.no_store is_head }
@@ -96,7 +96,7 @@ fn message(
     Ok(out)
 }
 
-/// Writes the head of a response to a text of so many bytes.
+/// Writes the head of a response to a text of this many bytes.
 fn head(
     alloc: Global,
     status: StatusCode,
@@ -158,7 +158,7 @@ fn close_line() -> &'static str
     "Connection: close\r\n\r\n"
 }
 
-/// Writes the text that tells a status in JSON.
+/// Writes the text that reports a status in JSON.
 #[tactic(auto, unfolding(crate::specs::Response::status_error_text))]
 fn fault_text(alloc: Global, status: u16) -> Result<String, MemoryFault>
     ensures { IfOk result (λ it. string_bytes it ≡ spec.status_error_text status) }

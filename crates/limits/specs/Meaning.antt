@@ -1,5 +1,5 @@
--- What the judgement means, for all lists of duties: a section is in it exactly where its rule
--- holds, and the sections stand in it in their order.
+-- What the judgement means, for all lists of duties: a section is in the judgement if and only if
+-- its rule holds, and the sections stand in their order.
 use Rattle.std.specs.Prelude.{◌≡◌, ◌↔◌, nat_lt, true, List, map}
 use Rattle.std.specs.List.{Contains}
 use Rattle.duty.specs.Words.{each_next}
@@ -9,16 +9,16 @@ use Rattle.limits.specs.Rules.{Rule}
 use Rattle.limits.specs.SectionText.{section_number}
 use Rattle.limits.specs.declared.section.Section.{Section}
 
--- a section is in the list of the broken sections exactly where its rule holds
+-- A section is in the list of the broken sections if and only if its rule holds.
 abbrev pub BrokenIsRules : Type 0
 BrokenIsRules = (history new : List DutyInForce) (section : Section) →
     Contains (Broken history new) section ↔ Rule section history new
 
--- each section has a lower number than the next one: sections stand in their order, each once at
--- most
+-- Each section has a lower number than the next one: the sections stand in their order, each at
+-- most once.
 abbrev pub AreInOrder : List Section → Type 0
 AreInOrder sections = each_next nat_lt (map section_number sections) ≡ true
 
--- the list of the broken sections is in the sections' order
+-- The list of the broken sections is in the sections' order.
 abbrev pub BrokenIsInOrder : Type 0
 BrokenIsInOrder = (history new : List DutyInForce) → AreInOrder (Broken history new)

@@ -1,7 +1,11 @@
 -- The sections of 14 CFR Part 117 that limit a duty, as they are printed.
 use Rattle.std.specs.Prelude.{ℕ, List, codes}
 use Rattle.limits.specs.declared.section.Section.{Section}
-use Rattle.limits.specs.declared.section.Section.TheVariants.{FlightTime, FlightDutyPeriod, FlightTime672Hours, FlightTime365Days, FlightDutyPeriods168Hours, FlightDutyPeriods672Hours, ThirtyHourRest, TenHourRest}
+use Rattle.limits.specs.declared.section.Section.TheVariants.{FlightTime, FlightDutyPeriod}
+use Rattle.limits.specs.declared.section.Section.TheVariants.{FlightTime672Hours, FlightTime365Days}
+use Rattle.limits.specs.declared.section.Section.TheVariants.{FlightDutyPeriods168Hours}
+use Rattle.limits.specs.declared.section.Section.TheVariants.{FlightDutyPeriods672Hours}
+use Rattle.limits.specs.declared.section.Section.TheVariants.{ThirtyHourRest, TenHourRest}
 
 -- a section as it is printed
 abbrev pub section_text : Section → List ℕ

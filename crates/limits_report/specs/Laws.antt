@@ -14,40 +14,42 @@ use Rattle.roster.specs.Refusals.{broken_by, duties_of}
 use Rattle.roster.specs.State.{State}
 use Rattle.limits_report.specs.LimitsText.{IsLimitsText, IsJudgedText, Judged, judged}
 
--- the sections whose lines end in `exceeds`, in their order
+-- the sections whose lines in a limits text end in `exceeds`, in their order
 abbrev pub exceeding : {of : Judged} {first text : List ℕ} → IsJudgedText of first text →
     List Section
 exceeding told = filter (λ section. exceeds section told.nearness) all_sections
 
--- a line ends in `exceeds` if and only if the new duties break its section's rule
+-- A line of a limits text ends in `exceeds` if and only if the new duties break its section's rule.
 abbrev pub ExceedsIsRule : Type 0
 ExceedsIsRule = (s : State) (who : List ℕ) (pairing : Option (List ℕ)) (text : List ℕ)
     (is : IsLimitsText s who pairing text) (section : Section) →
     IsTrue (exceeds section is.told.nearness)
     ↔ Rule section (duties (is.of.others ++ is.of.new)) (duties is.of.new)
 
--- with a pairing the lines that end in `exceeds` are those of the limits that its periods break,
--- after the member's duties but for these
+-- With a pairing the lines that end in `exceeds` are the lines of the limits that the pairing's
+-- periods break, after the member's duties but for these periods.
 abbrev pub ExceedsIsBroken : Type 0
 ExceedsIsBroken = (s : State) (who id text : List ℕ) (is : IsLimitsText s who (Some id) text) →
     exceeding is.told
     ≡ Broken (others s who (the_pairing id) ++ duties_of s who id) (duties_of s who id)
 
--- with a pairing that the member doesn't hold they are the sections that the refusal 12 of its
--- assignment names
+-- With a pairing that the member doesn't hold, the lines that end in `exceeds` are the lines of the
+-- sections that the refusal 12 of the pairing's assignment names.
 abbrev pub ExceedsIsRefused : Type 0
 ExceedsIsRefused = (s : State) (who id text : List ℕ) (is : IsLimitsText s who (Some id) text) →
     option_map_or (holds who) (fin.get s.pairings id) false ≡ false →
     broken_by who (others s who no_place) (duties_of s who id)
     ≡ map (λ section. record { crew = who; section = section }) (exceeding is.told)
 
--- a member who is there has a text, with each pairing that is there and without one
+-- A member who is in the state has a limits text, with each pairing that is in the state and
+-- without one.
 abbrev pub EachHasText : Type 0
-EachHasText = (s : State) (who : List ℕ) (pairing : Option (List ℕ)) (member : Member) (of : Judged) →
+EachHasText = (s : State) (who : List ℕ) (pairing : Option (List ℕ)) (member : Member)
+    (of : Judged) →
     fin.get s.crew who ≡ Some member → judged s who pairing ≡ Some of →
     (text : List ℕ) × IsLimitsText s who pairing text
 
--- a member has one text at most, with each pairing or without one
+-- A member has at most one limits text, with each pairing or without one.
 abbrev pub HasOneText : Type 0
 HasOneText = (s : State) (who : List ℕ) (pairing : Option (List ℕ)) (a b : List ℕ) →
     IsLimitsText s who pairing a → IsLimitsText s who pairing b → a ≡ b

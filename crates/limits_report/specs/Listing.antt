@@ -1,6 +1,7 @@
 -- How the duties of a member are listed, for private clauses alone: nothing here has to be read to
 -- know what the crate promises.
-use Rattle.std.specs.Prelude.{◌≡◌, ℕ, Bool, false, not, List, ◌++◌, map, drop, ℤ, ◌≤ℤ◌, IsTrue, Option, Some, None}
+use Rattle.std.specs.Prelude.{◌≡◌, ℕ, Bool, false, not, List, ◌++◌, map, drop, ℤ, ◌≤ℤ◌, IsTrue}
+use Rattle.std.specs.Prelude.{Option, Some, None}
 use Rattle.std.specs.List.{filter, flat_map}
 use Rattle.duty.specs.declared.duty_in_force.DutyInForce.{DutyInForce}
 use Rattle.limits.specs.Judgement.{all_sections}
@@ -22,12 +23,12 @@ names_of list = map (λ d. d.name) list
 abbrev pub times_of : List NamedDuty → List DutyInForce
 times_of list = map (λ d. d.duty) list
 
--- the place is a period of the pairing, if there is one
+-- whether a place is a period of this pairing, if a pairing is given
 abbrev pub is_of : Option (List ℕ) → Place → Bool
 is_of (Some id) place = the_pairing id place
 is_of None place = false
 
--- the duties of a list with their names, but for the periods of the pairing
+-- the duties of a list with their names, but for the periods of this pairing, if a pairing is given
 abbrev pub all_but : Option (List ℕ) → List Placed → List NamedDuty
 all_but out placed = map named (filter (λ p. not (is_of out p.0)) placed)
 
@@ -37,8 +38,8 @@ pub record HasFrom (set : ℤ → Bool) (start : ℤ) : Type 0 where
   pub from_start : start ≤ℤ minute
   pub member : IsTrue (set minute)
 
--- the text of a list of duties, of which those from `others` on are new: the first line, and a line
--- for each section
+-- The text of a list of duties, of which the duties from `others` on are new: the first line, and a
+-- line for each section.
 pub record IsTextOf (list : List NamedDuty) (others : ℕ) (first text : List ℕ) : Type 0 where
   pub nearness : Nearness
   pub nearest : IsNearness (times_of list) (times_of (drop others list)) others nearness

@@ -20,7 +20,7 @@ use values::MemoryFault;
 /// each section, with what is nearest to its limit and the word `exceeds` or `within`. Without a pairing all of the
 /// member's duties are judged. With a pairing its periods are judged beside the member's other duties, as if the member
 /// held it, so that the lines with `exceeds` are the sections with which its assignment is refused. Refused is a member
-/// who isn't there (2), then a pairing that isn't there (4), and want of memory (91).
+/// who isn't there (2), then a pairing that isn't there (4), and out of memory (91).
 pub fn limits_text(
     alloc: Global,
     roster: &Roster,
@@ -119,7 +119,8 @@ fn judged_text(
     others: usize,
 ) -> Result<String, MemoryFault>
     requires { others ≤ length duties.now }
-    ensures { IfOk result (λ text. IsTextOf duties.now others (string_bytes first) (string_bytes text)) }
+    ensures { IfOk result
+        (λ text. IsTextOf duties.now others (string_bytes first) (string_bytes text)) }
 {
     let all = history_of(alloc, duties)?;
     let new = history_of(alloc, &duties[others..])?;

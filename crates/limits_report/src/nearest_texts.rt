@@ -14,7 +14,7 @@ use std::alloc::Global;
 use time117::Minute;
 use values::MemoryFault;
 
-/// Writes so many minutes of those that a limit sets, as `8:30 of 9:00`.
+/// Writes this many minutes of those that a limit sets, as `8:30 of 9:00`.
 fn of_limit(alloc: Global, minutes: u128, limit: u32) -> Result<String, MemoryFault>
     ensures { IfOk result (λ text. string_bytes text ≡ spec.of_limit minutes limit) }
 {

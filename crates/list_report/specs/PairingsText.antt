@@ -1,5 +1,6 @@
 -- The pairings of a state as a text, a line each.
-use Rattle.std.specs.Prelude.{◌≡◌, ℕ, ◌-◌, Bool, true, not, List, ◌∷◌, ◌++◌, map, length, codes, slice_get, if◌then◌else◌}
+use Rattle.std.specs.Prelude.{◌≡◌, ℕ, ◌-◌, Bool, true, not, List, ◌∷◌, ◌++◌, map, length, codes}
+use Rattle.std.specs.Prelude.{slice_get, if◌then◌else◌}
 use Rattle.std.specs.Fmt.{decimal}
 use Rattle.std.specs.FinMap as fin
 use Rattle.std.specs.List.{filter, flat_map}
@@ -17,15 +18,15 @@ use Rattle.list_report.specs.declared.row.Row.{Row}
 
 -- ---- The line of a pairing
 
--- the report of the first period of a pairing, which is period 1: that of the period's actual, if
--- it has one, else the planned one. It is minute 0 without a period, but each pairing of a sound
--- state has one
+-- The report of the first period of a pairing, which is period 1: the report of the period's
+-- actual, if it has one, else the planned report. Without a period it is minute 0, but each pairing
+-- of a sound state has a period.
 abbrev pub first_report : PairingEntry → ℕ
 first_report r = option_map_or (λ p. p.report) (slice_get (periods_in_force r) 0) 0
 
--- the release of the last period of a pairing, by the numbers of the periods: that of the period's
--- actual, if it has one, else the planned one. It is minute 0 without a period, but each pairing of
--- a sound state has one
+-- The release of the last period of a pairing, by the numbers of the periods: the release of the
+-- period's actual, if it has one, else the planned release. Without a period it is minute 0, but
+-- each pairing of a sound state has a period.
 abbrev pub last_release : PairingEntry → ℕ
 last_release r =
     let periods = periods_in_force r in
@@ -35,8 +36,8 @@ last_release r =
 abbrev pub word : PairingEntry → List ℕ
 word r = if is_flown r then codes "flown" else codes "plan"
 
--- the line of a pairing: its id, from when to when it goes, whether it is flown, and who holds its
--- seats, the captain's first
+-- the line of a pairing: its id, its first report and last release, whether it is flown, and who
+-- holds its seats, the captain's first
 abbrev pub pairing_line : List ℕ × PairingEntry → List ℕ
 pairing_line (id, r) =
     (id ++ codes " " ++ written (first_report r) ++ codes " " ++ written (last_release r))
@@ -45,12 +46,13 @@ pairing_line (id, r) =
 
 -- ---- The rows
 
--- a pairing is listed: each one is among all, and one with a free seat among the open ones
+-- whether a pairing is listed: each pairing is among all pairings, and a pairing with a free seat
+-- is among the open ones
 abbrev pub is_listed : Listed → PairingEntry → Bool
 is_listed listed.All r = true
 is_listed listed.Open r = not (is_fully_crewed r)
 
--- a pairing as a row: its line, and the first report and the id, by which it has its place
+-- a pairing as a row: its line, and the first report and the id, by which the row has its place
 abbrev pub row_of : List ℕ × PairingEntry → Row
 row_of (id, r) = record { report = first_report r; id = id; line = pairing_line (id, r) }
 
@@ -62,19 +64,20 @@ rows_of s which = map row_of (filter (λ entry. is_listed which entry.1) (fin.en
 abbrev pub key_of : Row → List ℕ
 key_of row = row.report ∷ row.id
 
--- the same rows, in the order of first reports, and of ids where these are the same
+-- The sorted list has these rows and no others, in the order of first reports, and of ids where
+-- first reports are equal.
 pub record IsInOrder (rows sorted : List Row) : Type 0 where
   pub same : IsPermutation rows sorted
   pub order : IsSorted (λ a b. name_cmp (key_of a) (key_of b)) sorted
 
 -- ---- The text
 
--- the first line, with the number of the pairings that are listed
+-- the first line of the text, with the number of the pairings that are listed
 abbrev pub pairings_header : (count : ℕ) → List ℕ
 pairings_header count = codes "PAIRINGS " ++ decimal count ++ codes "\n"
 
--- the text of a state's pairings, all of them or the open ones: their number, and the line of each
--- in turn, in the order of their first reports, and of their ids where these are the same
+-- The text of a state's pairings, all pairings or the open ones: their number, and the line of each
+-- pairing in turn, in the order of first reports, and of ids where first reports are equal.
 pub record IsPairingsText (s : State) (which : Listed) (text : List ℕ) : Type 0 where
   pub rows : List Row
   pub in_order : IsInOrder (rows_of s which) rows

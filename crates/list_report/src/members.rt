@@ -10,7 +10,7 @@ use std::alloc::Global;
 use values::MemoryFault;
 
 /// Writes the members of the crew: how many there are, and a line each with the member's id, seat, base and name, in byte
-/// order of the ids. The one error is want of memory (91).
+/// order of the ids. The one error is out of memory (91).
 pub fn members_text(alloc: Global, roster: &Roster) -> Result<String, MemoryFault>
     ensures { IfOk result (λ text. spec.IsMembersText roster.now (string_bytes text)) }
 {

@@ -36,7 +36,7 @@ impl Listed {
 
 /// Writes the pairings: how many are listed, and a line each with the pairing's id, the report of its first period and the
 /// release of its last one, `plan` or `flown`, and who holds its seats, in order of that report, then in byte order of the
-/// ids. Times are those in force, as UTC instants. The one error is want of memory (91).
+/// ids. Times are those in force, as UTC instants. The one error is out of memory (91).
 pub fn pairings_text(alloc: Global, roster: &Roster, which: Listed) -> Result<String, MemoryFault>
     ensures { IfOk result (λ text. spec.IsPairingsText roster.now which (string_bytes text)) }
 {

@@ -1,4 +1,4 @@
--- Which databases are refused, and what each refusal says.
+-- Which databases are refused as books, and what each refusal says.
 use Rattle.std.specs.Prelude.{◌≡◌, ◌⊎◌, ⊤, pos, false, IsUtf8, None}
 use Rattle.sqlite_disk.specs.Disk.{MoreFaults}
 use Rattle.sqlite.specs.Effect.{Database}
@@ -22,7 +22,7 @@ use Rattle.entries.specs.Right.{AreRight, AreRightAbove}
 
 -- ---- What is refused
 
--- there is no table `book` (40)
+-- the database has no table `book` (40)
 abbrev pub IsNoBook : Database → Type 0
 IsNoBook db = table_found db.schema book_table.name ≡ None
 
@@ -34,7 +34,7 @@ pub record IsOfOtherVersion (db : Database) : Type 0 where
   pub one_row : HasJust book_table db (λ row. row ≡ book_row it)
   pub other : (edition : Edition) → ¬ (it.version ≡ pos (edition_number edition))
 
--- this table is the first that isn't right (41)
+-- the table of this name is the first of the book that isn't right (41)
 pub record IsDamaged (name : TableName) (db : Database) : Type 0 where
   pub book : ¬ IsNoBook db
   pub version : ¬ IsOfOtherVersion db
@@ -43,7 +43,7 @@ pub record IsDamaged (name : TableName) (db : Database) : Type 0 where
 
 -- ---- Refusals
 
--- the table that a name of the fault means
+-- a name of a table in a refusal means this table
 abbrev pub named : name.TableName → TableName
 named table_name.Book = book
 named table_name.Crew = crew
@@ -59,17 +59,17 @@ named table_name.CrewBase = crew_base
 named table_name.Outside = outside
 named table_name.OutsideSegment = outside_segment
 
--- what a refusal says of the database: nothing, if it reports a fault of the store (90) or that the
--- program is out of memory (91)
+-- A refusal to load says this of the database. It says nothing if it reports a fault of the store
+-- (90), or that the program is out of memory (91).
 abbrev pub Justifies : LoadFault → Database → Type 0
 Justifies NotABook db = IsNoBook db
 Justifies Version db = IsOfOtherVersion db
 Justifies (Damaged it) db = IsDamaged (named it) db
 Justifies (Fault fault) db = ⊤
 
--- Why a read of the tables answers a fault of the store (90): the disk failed or refused a call
--- meanwhile, an earlier failure had shut the connection, a limit is set on the steps of a
--- statement, or the rows of some table don't stand in the order of the numbers that they are stored
+-- A read of the tables has a cause for a fault of the store (90). The disk failed or refused a call
+-- meanwhile, or an earlier failure had shut the connection; or a limit is set on the steps of a
+-- statement. Or the rows of some table don't stand in the order of the numbers that they are stored
 -- under.
 abbrev pub HasReadCause : conn.State → conn.State → Type 0
 HasReadCause old new =
@@ -78,7 +78,7 @@ HasReadCause old new =
     ⊎ (HasStepLimit old
     ⊎ ((name : TableName) × ¬ IsInOrder (table name) old.now)))
 
--- what a refusal says of the store, where the calls were from one state of the connection to
--- another: if it reports a fault of the store (90), there was a cause
+-- a refusal to load that reports a fault of the store (90) has a cause in the calls from one state
+-- of the connection to the other
 abbrev pub IsCaused : conn.State → conn.State → LoadFault → Type 0
 IsCaused old new fault = fault ≡ Fault Store → HasReadCause old new

@@ -22,7 +22,7 @@ use Rattle.entries.specs.OutsideRows.{Outsides, OutsideSegments, AreSegmentsWhol
 
 -- ---- The table `outside`
 
--- the row of `outside` of a record under an id
+-- a record under an id has this row in `outside`
 abbrev pub row_of_keyed_outside : List ℕ → OutsideRecord → Row
 row_of_keyed_outside id it = outside_row (record it { id = id })
 
@@ -36,7 +36,7 @@ pub record IsKeyedOutside (members : Crew) (id : List ℕ) (it : OutsideRecord) 
   pub member : Member
   pub of_member : fin.get members it.crew ≡ Some member
 
--- these are this many first records of `outside`, by their ids
+-- the map has just this many first records of `outside`, by their ids
 pub record OutsidesRead
     (members : Crew) (records : List OutsideRecord) (count : ℕ) (outsides : Outsides)
     : Type 0 where
@@ -44,18 +44,18 @@ pub record OutsidesRead
       Mapped (λ id. id) row_of_keyed_outside (IsKeyedOutside members)
       (take count (map outside_row records)) outsides
 
--- whether there is a record of a duty, if it is an outside period
+-- a duty that is an outside period has a record in `outside`
 abbrev pub is_there : Outsides → DutyId → Bool
 is_there outsides (Period p) = true
 is_there outsides (Outside id) = fin.contains_key outsides id
 
--- there is a record of each outside period that an exceedance of the state names
+-- each outside period that an exceedance of the state names has a record in `outside`
 abbrev pub AreRecorded : State → Outsides → Type 0
 AreRecorded s outsides = (name : List ℕ) (named : DutyId) →
     fin.get s.exceedances name ≡ Some named → is_there outsides named ≡ true
 
--- these are all records of `outside`, by their ids, and each outside period that an exceedance of
--- the state names has one
+-- the map has all records of `outside`, by their ids, and each outside period that an exceedance of
+-- the state names has a record
 abbrev pub AreOutsidesRead : State → List OutsideRecord → Outsides → Type 0
 AreOutsidesRead s records outsides =
     OutsidesRead s.crew records (length records) outsides × AreRecorded s outsides
@@ -68,7 +68,7 @@ AreNoOutsides s records =
     ⊎ ((outsides : Outsides) × OutsidesRead s.crew records (length records) outsides
     × (AreRecorded s outsides → ⊥))
 
--- the rows of `outside` of records that stand under their own ids
+-- the row is that of a record of `outside` which stands under its own id
 abbrev pub InOutsides : Outsides → Row → Type 0
 InOutsides outsides row = (it : OutsideRecord) × (fin.get outsides it.id ≡ Some it)
     × (row ≡ outside_row it)
@@ -84,7 +84,7 @@ pub record HasOutsides (s : State) (db : Database) (outsides : Outsides) : Type 
 
 -- ---- The outside periods
 
--- the outside periods of the records, and of those of the segments, were set in a roster
+-- the outside periods that records of `outside` and of `outside_segment` give were set in a roster
 pub record AreOutsidesSet
     (outsides : Outsides) (records : List OutsideSegmentRecord) (old new : State)
     : Type 0 where
@@ -93,8 +93,8 @@ pub record AreOutsidesSet
   pub whole : AreSegmentsWhole outsides records segments
   pub made : OutsidesMade outsides segments new.outsides
 
--- some record of `outside_segment` is of none of the outside periods, or the records leave a gap,
--- or they say no outside period under one of the ids
+-- some record of `outside_segment` is of none of the outside periods, or the records leave a gap in
+-- the numbers of segments, or give no outside period under one of the ids
 abbrev pub AreOutsidesUnset : Outsides → List OutsideSegmentRecord → Type 0
 AreOutsidesUnset outsides records =
     AreSegmentsWanting outsides records

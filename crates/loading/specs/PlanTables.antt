@@ -22,19 +22,19 @@ use Rattle.entries.specs.Keyed.{Ids}
 
 -- ---- The ids of pairings
 
--- the row of `pairing` of an id
+-- an id has this row in `pairing`
 abbrev pub row_of_id : List ℕ → ⊤ → Row
 row_of_id id _ = row_of_pairing id
 
--- the id has the shape of an id
+-- the id of a pairing has the shape of an id
 abbrev pub IsId : List ℕ → ⊤ → Type 0
 IsId id _ = is_id id ≡ true
 
--- these are the ids of this many first records of `pairing`
+-- the map has just the ids of this many first records of `pairing`
 pub record IdsRead (records : List PairingRecord) (count : ℕ) (ids : Ids) : Type 0 where
   pub mapped : Mapped (λ id. id) row_of_id IsId (take count (map pairing_row records)) ids
 
--- the row is of `pairing`, and its id has the shape of an id
+-- the row is that of an id in `pairing`, and the id has the shape of an id
 abbrev pub IsIdRow : Row → Type 0
 IsIdRow row = (id : List ℕ) × (row ≡ row_of_pairing id) × (is_id id ≡ true)
 
@@ -43,7 +43,7 @@ abbrev pub AreIds : Database → Type 0
 AreIds db = IsOfBook pairing_table db.schema
     × ((row : Row) → Has (rows_of pairing_table db) row → IsIdRow row)
 
--- the row of `pairing` is of one of the ids
+-- the row is that of one of these ids in `pairing`
 abbrev pub IdRows : Ids → Row → Type 0
 IdRows ids row = (id : List ℕ) × (fin.contains_key ids id ≡ true) × (row ≡ row_of_pairing id)
 
@@ -78,7 +78,7 @@ AreOfPeriods periods segments =
     fin.contains_key periods (period_name it.pairing it.period) ≡ true
 
 -- the table `segment` is there, and has just the rows of these segments, each under its key and of
--- one of the periods, without a gap
+-- one of the periods; the segments of each period are numbered without a gap
 pub record HasSegmentsOf (db : Database) (periods : Periods) (segments : Segments) : Type 0 where
   pub stored : IsStored segment_table db
   pub there : IsOfBook segment_table db.schema
@@ -89,7 +89,7 @@ pub record HasSegmentsOf (db : Database) (periods : Periods) (segments : Segment
 
 -- ---- Pairings
 
--- the pairing of one of the ids, as the rows say, with both seats free
+-- the rows of `period` and `segment` give this pairing under one of the ids, with both seats free
 pub record IsPairingOf
     (ids : Ids) (periods : Periods) (segments : Segments) (id : List ℕ) (r : PairingEntry)
     : Type 0 where
@@ -97,7 +97,7 @@ pub record IsPairingOf
   pub told : IsPairingOfRows periods segments id r
   pub free : HasNoHolder r
 
--- just the pairings of the ids are set in a roster
+-- just the pairings that the rows give under these ids are set in a roster
 pub record PairingsRead
     (ids : Ids) (periods : Periods) (segments : Segments) (old new : State) : Type 0 where
   pub same : new ≡ record old { pairings = new.pairings }
@@ -106,7 +106,7 @@ pub record PairingsRead
   pub all : (id : List ℕ) → fin.contains_key ids id ≡ true →
       fin.contains_key new.pairings id ≡ true
 
--- the rows say no pairing of one of the ids
+-- the rows of `period` and `segment` give no pairing under one of the ids
 pub record HasUntold (ids : Ids) (periods : Periods) (segments : Segments) : Type 0 where
   pub id : List ℕ
   pub here : fin.contains_key ids id ≡ true

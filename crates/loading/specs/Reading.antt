@@ -1,5 +1,5 @@
--- What the functions that load a book say to one another. Of these the public clause of `read_all`
--- names `ReadsAs` and `AgreesIn`.
+-- What the functions that load a book say to one another. Of the definitions of this file the
+-- public clause of `read_all` names `ReadsAs` and `AgreesIn`.
 use Rattle.std.specs.Prelude.{◌≡◌, ◌⊎◌, ◌↔◌, ◌<◌, ⊤, true, false, pos, IsUtf8, ℕ, ℤ, zero, suc, List, [], ◌∷◌, map, take, length, Option, None, Some, Result, IfErr, MatchResult}
 use Rattle.std.specs.FinMap as fin
 use Rattle.std.specs.List.{AllByRecursion}
@@ -53,9 +53,9 @@ use Rattle.entries.specs.Right.{down_to}
 use Rattle.entries.specs.Mapping.{AreOnce, HasStranger, Mapped}
 use Rattle.entries.specs.Exceedances.{row_of_recorded}
 
--- What a call comes to that reads the database: nothing is changed, and what its answer says is so,
--- or it was refused for a reason. A fault of the store has a cause, and a crash leaves nothing that
--- it could not leave before.
+-- A call that reads the database has changed nothing, and `Is` holds of its answer; or it was
+-- refused for a reason. A fault of the store has a cause, and a crash leaves nothing that it could
+-- not leave before the call.
 pub record ReadsAs {A : Type 0}
     (Is : A → Type 0) (Refuses : LoadFault → Type 0) (old new : State)
     (result : Result A LoadFault) : Type 0 where
@@ -63,28 +63,29 @@ pub record ReadsAs {A : Type 0}
   pub caused : HasCleanDisk new → IfErr result (IsCaused old new)
   pub left : CrashLeavesNoMore old new
 
--- the table is there, each row of it under a number of its own, and these are its rows
+-- the table of this name is there, each row of it under a number of its own, and has just these
+-- rows
 pub record HasRows (it : TableName) (db : Database) (rows : List Row) : Type 0 where
   pub database : IsDatabase db
   pub there : IsOfBook (table it) db.schema
   pub stored : IsStored (table it) db
   pub all : (row : Row) → Has (rows_of (table it) db) row ↔ Has rows row
 
--- the table isn't there, or some row of it is no record
+-- the table of this name isn't there, or some row of it is no record
 abbrev pub IsUnreadable : TableName → (Row → Type 0) → Database → Type 0
 IsUnreadable it IsRecord db =
     (¬ IsOfBook (table it) db.schema) ⊎ HasNoRecord (table it) (begins_with []) IsRecord db
 
--- why a table is refused: it is damaged, and a fact holds, or the store failed, or the program is
--- out of memory
+-- a table is refused because it is damaged, and `Why` holds, or because the store failed, or the
+-- program is out of memory
 abbrev pub BlamesOrFails : name.TableName → Type 0 → LoadFault → Type 0
 BlamesOrFails it Why NotABook = ⊥
 BlamesOrFails it Why Version = ⊥
 BlamesOrFails it Why (Damaged other) = (other ≡ it) × Why
 BlamesOrFails it Why (Fault fault) = ⊤
 
--- the book is of version 1 or 2, and its tables down to this one are right, each row under a number
--- of its own
+-- the book is of version 1 or 2, and its tables from `book` to the one of this name are right, each
+-- row under a number of its own
 pub record AgreesThrough (it : TableName) (s : roster.State) (db : Database) : Type 0 where
   pub stored : AllByRecursion (λ name. IsStored (table name) db) (down_to it)
   pub book : ¬ IsNoBook db
@@ -93,7 +94,7 @@ pub record AgreesThrough (it : TableName) (s : roster.State) (db : Database) : T
 
 -- ---- A map read from rows
 
--- the seat that a number means in the tables, if it means one
+-- a number means this seat in the tables, if it means one
 abbrev pub seat_of : ℕ → Option Seat
 seat_of zero = Some Captain
 seat_of (suc zero) = Some FirstOfficer
@@ -106,8 +107,8 @@ CanName edition pairings (Period p) = IsFlown pairings p
 CanName First pairings (Outside id) = ⊥
 CanName Second pairings (Outside id) = ⊤
 
--- an exceedance is of a member, and names a duty that one in a file of this version can name, with
--- a number of eight bits
+-- an exceedance is of a member, and names a duty that an exceedance in a file of this version can
+-- name, with a number of eight bits
 pub record IsExceedanceIn
     (edition : Edition) (members : Crew) (pairings : fin.FinMap name_cmp PairingEntry)
     (id : ExceedanceId) (named : DutyId) : Type 0 where
@@ -115,12 +116,12 @@ pub record IsExceedanceIn
   pub can : CanName edition pairings named
   pub fits : named_number named < 256
 
--- each of these members is at HOME
+-- the base of each of these members is HOME
 abbrev pub AreAtHome : Crew → Type 0
 AreAtHome members =
     (who : List ℕ) (m : Member) → fin.get members who ≡ Some m → m.base ≡ home
 
--- the members of this many first records were set in a roster, each at HOME
+-- the members of this many first records of `crew` were set in a roster, each at HOME
 pub record MembersRead
     (records : List CrewRecord) (count : ℕ) (old new : roster.State) : Type 0 where
   pub same : new ≡ record old { crew = new.crew }
@@ -128,7 +129,7 @@ pub record MembersRead
   pub mapped : AreOnce row_of_member (map crew_row records) →
       Mapped (λ id. id) row_of_member IsMember (take count (map crew_row records)) new.crew
 
--- the ground duties of this many first records were set in a roster
+-- the ground duties of this many first records of `ground` were set in a roster
 pub record GroundsRead
     (records : List GroundRecord) (count : ℕ) (old new : roster.State) : Type 0 where
   pub same : new ≡ record old { grounds = new.grounds }
@@ -136,7 +137,8 @@ pub record GroundsRead
       Mapped (λ id. id) row_of_ground (IsGround old.crew)
       (take count (map ground_row records)) new.grounds
 
--- the exceedances of this many first records, of a file of this version, were set in a roster
+-- the exceedances of this many first records of `exceedance`, in a file of this version, were set
+-- in a roster
 pub record ExceedancesRead
     (edition : Edition) (records : List ExceedanceRecord) (count : ℕ) (old new : roster.State)
     : Type 0 where
@@ -156,8 +158,8 @@ pub record IsRequestIn (edition : Edition) (key : KeyParts) (r : LoggedCommand) 
   pub is : IsRequest key r
   pub can : CanKeep edition r.command
 
--- the kept commands of this many first records were set in a roster; a book of this version can
--- keep each of them
+-- the kept commands of this many first records of `request` were set in a roster; a book of this
+-- version can keep each of the commands
 pub record RequestsRead
     (edition : Edition) (records : List RequestRecord) (count : ℕ) (old new : roster.State)
     : Type 0 where
@@ -166,8 +168,8 @@ pub record RequestsRead
       Mapped key_name row_of_request (IsRequestIn edition)
       (take count (map request_row records)) new.requests
 
--- some row is that of no request that a book of this version can keep, or some exceedance has a key
--- that isn't held
+-- some record of `request` is that of no request that a book of this version can keep, or some
+-- exceedance has a key that isn't held
 abbrev pub AreWanting : Edition → List RequestRecord → roster.State → Type 0
 AreWanting edition records s =
     HasStranger row_of_request (IsRequestIn edition) (map request_row records)
@@ -175,16 +177,16 @@ AreWanting edition records s =
 
 -- ---- The holders of seats
 
--- what a seat is known by: its pairing and its kind
+-- a seat is known by its pairing and its kind
 pub record SeatIndex : Type 0 where
   pub pairing : List ℕ
   pub seat : Seat
 
--- the row of a seat that a member holds
+-- a seat that a member holds has this row in `seat`
 abbrev pub row_of_held : SeatIndex → List ℕ → Row
 row_of_held at who = row_of_seat at.pairing at.seat who
 
--- the pairing of a seat is there, and the holder is a member of the seat's kind
+-- the pairing of a seat is there, and the holder of the seat is a member of the seat's kind
 pub record IsSeatHeldBy
     (members : Crew) (pairings : fin.FinMap name_cmp PairingEntry) (at : SeatIndex)
     (who : List ℕ) : Type 0 where
@@ -194,13 +196,14 @@ pub record IsSeatHeldBy
   pub of_member : fin.get members who ≡ Some member
   pub of_kind : member.seat ≡ at.seat
 
--- two pairings are alike, but for who holds their seats; or neither is there
+-- two pairings are alike, but for who holds their seats; or neither pairing is there
 abbrev pub IsSamePlan : Option PairingEntry → Option PairingEntry → Type 0
 IsSamePlan None None = ⊤
 IsSamePlan (Some r) (Some q) = (q.plan ≡ r.plan) × (q.actuals ≡ r.actuals)
 IsSamePlan _ _ = ⊥
 
--- the seats of this many first records were taken in a roster
+-- the members of this many first records of `seat` took their seats in a roster; the plans and
+-- actuals of pairings stay
 pub record SeatsRead
     (records : List SeatRecord) (count : ℕ) (old new : roster.State) : Type 0 where
   pub same : new ≡ record old { pairings = new.pairings }
@@ -210,7 +213,7 @@ pub record SeatsRead
   pub known : (id : List ℕ) (r : PairingEntry) (seat : Seat) →
       fin.get new.pairings id ≡ Some r → IsHolder old.crew seat (holder seat r)
 
--- both seats of each flown pairing are held
+-- both seats of each flown pairing of the state are held
 abbrev pub AreCrewed : roster.State → Type 0
 AreCrewed s = (id : List ℕ) (r : PairingEntry) → fin.get s.pairings id ≡ Some r →
     is_flown r ≡ true → is_fully_crewed r ≡ true
@@ -219,11 +222,12 @@ AreCrewed s = (id : List ℕ) (r : PairingEntry) → fin.get s.pairings id ≡ S
 abbrev pub HasNoHolder : PairingEntry → Type 0
 HasNoHolder r = (r.captain ≡ None) × (r.first_officer ≡ None)
 
--- no seat of any pairing is held
+-- no seat of any pairing of the state is held
 abbrev pub AreFree : roster.State → Type 0
 AreFree s = (id : List ℕ) (r : PairingEntry) → fin.get s.pairings id ≡ Some r → HasNoHolder r
 
--- some row is that of no seat that a member of its kind holds, or a flown pairing has a free seat
+-- some record of `seat` is that of no seat that a member of its kind holds, or a flown pairing has
+-- a free seat
 abbrev pub AreUnseated : List SeatRecord → roster.State → Type 0
 AreUnseated records s =
     HasStranger row_of_held (IsSeatHeldBy s.crew s.pairings) (map seat_row records)
@@ -231,25 +235,26 @@ AreUnseated records s =
 
 -- ---- The book's own row
 
--- the rows of the records are just the row of this record
+-- the records of `book` have just the row of this record
 pub record IsOnly (records : List BookRecord) (it : BookRecord) : Type 0 where
   pub all : (row : Row) → Has (map book_row records) row ↔ (row ≡ book_row it)
 
--- the record of a book of this version with this zone
+-- a book of this version, with this zone of HOME, has this record in `book`
 abbrev pub book_of : Edition → List ℕ → BookRecord
 book_of edition zone = record { one = pos 1; version = pos (edition_number edition); zone = zone }
 
--- the number is that of version 1 or 2
+-- the number is that of version 1 or of version 2
 abbrev pub IsEditionNumber : ℤ → Type 0
 IsEditionNumber number = (edition : Edition) × (number ≡ pos (edition_number edition))
 
--- the records are not just one record, or the one is of version 1 or 2, and not the row of a book
+-- the records of `book` are not just one record; or the one record is of version 1 or 2, and its
+-- row is not the row of a book
 abbrev pub IsNoBookRow : List BookRecord → Type 0
 IsNoBookRow records = (it : BookRecord) → IsOnly records it →
     IsEditionNumber it.version × (it.one ≡ pos 1 → is_zone_text it.zone ≡ false)
 
--- why the records of `book` are refused: the one record is neither of version 1 nor of version 2,
--- or there is no row of a book, or the program is out of memory
+-- the records of `book` are refused because the one record is neither of version 1 nor of version
+-- 2, or there is no row of a book, or the program is out of memory
 abbrev pub BlamesBook : List BookRecord → LoadFault → Type 0
 BlamesBook records NotABook = ⊥
 BlamesBook records Version =
@@ -259,8 +264,8 @@ BlamesBook records (Fault fault) = fault ≡ Memory
 
 -- ---- A roster of plans
 
--- the roster has nothing that only tables of version 2 tell: HOME is its one base, and that of each
--- member, and it has no outside period
+-- the roster has nothing that only tables of version 2 say: HOME is its one base, and the base of
+-- each member, and it has no outside period
 abbrev pub HasNoLater : roster.State → Type 0
 HasNoLater s = (s.bases ≡ only_home (home_zone s.bases)) × AreAtHome s.crew
     × (s.outsides ≡ fin.empty)
@@ -271,13 +276,14 @@ HasNoDuties s = (s.grounds ≡ fin.empty) × (s.exceedances ≡ fin.empty) × (s
 
 -- ---- The tables that version 2 added
 
--- the book is of this version, and its tables down to this one are right
+-- the book is of this version, and its tables from `book` to the one of this name are right
 pub record AgreesIn
     (edition : Edition) (it : TableName) (s : roster.State) (db : Database) : Type 0 where
   pub through : AgreesThrough it s db
   pub of : IsOfEdition edition db
 
--- a file of version 1 is refused for the first of the four names of added tables that isn't free
+-- a file of version 1 is refused for the first table, of the four that version 2 added, whose name
+-- isn't free
 abbrev pub BlamesName : Schema → LoadFault → Type 0
 BlamesName schema (Damaged its.Base) = ¬ IsNameFree (table base) schema
 BlamesName schema (Damaged its.CrewBase) =
@@ -290,8 +296,8 @@ BlamesName schema (Damaged its.OutsideSegment) =
     × IsNameFree (table outside) schema × ¬ IsNameFree (table outside_segment) schema
 BlamesName schema fault = ⊥
 
--- the tables down to this one are right, with the rows of this state, and each row of this one is
--- under a number of its own
+-- the tables from `book` to the one of this name are right, with the rows of this state, and each
+-- row of the named table is under a number of its own
 abbrev pub IsReadAs : TableName → roster.State → Database → Type 0
 IsReadAs it s db = IsRight it s db × IsStored (table it) db
 
@@ -306,8 +312,9 @@ pub record IsShaped (id zone : List ℕ) : Type 0 where
 abbrev pub HasHome : List BaseRecord → List ℕ → Type 0
 HasHome records zone = Has (map base_row records) (row_of_base home zone)
 
--- The bases of this many first records of `base` were set in a roster that had HOME alone. So the
--- bases are those of these records, and HOME, of which one of all the records has to be the row.
+-- The bases of this many first records of `base` were set in a roster that had HOME alone. The
+-- roster then has the bases of these records, and HOME; one of all the records has to be the row of
+-- HOME.
 pub record BasesRead
     (records : List BaseRecord) (count : ℕ) (old new : roster.State) : Type 0 where
   pub same : new ≡ record old { bases = new.bases }
@@ -317,13 +324,13 @@ pub record BasesRead
       (row_of_base home (home_zone old.bases) ∷ take count (map base_row records)) new.bases
 
 -- the bases of all records of `base` were set in a roster, and one is HOME with the zone that HOME
--- had there before
+-- had in the roster before
 pub record AreBasesRead (records : List BaseRecord) (old new : roster.State) : Type 0 where
   pub has_home : HasHome records (home_zone old.bases)
   pub read : BasesRead records (length records) old new
 
--- some record of `base` is that of no base, or none is the row of HOME with the zone of HOME in the
--- roster
+-- some record of `base` is that of no base, or no record is the row of HOME with the zone of HOME
+-- in the roster
 abbrev pub AreNoBases : List BaseRecord → roster.State → Type 0
 AreNoBases records s =
     HasStranger row_of_base IsShaped (map base_row records)
@@ -331,11 +338,11 @@ AreNoBases records s =
 
 -- ---- The bases of the members
 
--- the row of `crew_base` of a member under an id
+-- a member under an id has this row in `crew_base`
 abbrev pub row_of_posted : List ℕ → Member → Row
 row_of_posted who m = row_of_post who m.base
 
--- the roster has a member under this id who is the same but for the base, and has the base
+-- the roster has a member under this id with the seat and the name of `m`, and has the base of `m`
 pub record IsPosted (s : roster.State) (who : List ℕ) (m : Member) : Type 0 where
   pub before : Member
   pub there : fin.get s.crew who ≡ Some before
@@ -343,8 +350,8 @@ pub record IsPosted (s : roster.State) (who : List ℕ) (m : Member) : Type 0 wh
   pub name : m.name ≡ before.name
   pub based : IsBase s.bases m.base
 
--- the members of the roster whom this many first records of `crew_base` name, each at the base that
--- the record names
+-- these are the members of the roster whom this many first records of `crew_base` name, each at the
+-- base that the record names
 pub record PostsRead
     (s : roster.State) (records : List CrewBaseRecord) (count : ℕ) (posted : Crew)
     : Type 0 where
@@ -352,18 +359,19 @@ pub record PostsRead
       Mapped (λ who. who) row_of_posted (IsPosted s)
       (take count (map crew_base_row records)) posted
 
--- each of the members is among the posted ones
+-- each of the members is among the members whom records of `crew_base` name
 abbrev pub AreAllPosted : Crew → Crew → Type 0
 AreAllPosted members posted = (who : List ℕ) →
     fin.contains_key members who ≡ true → fin.contains_key posted who ≡ true
 
--- each member of a roster was set at the base that a record of `crew_base` names
+-- each member of a roster was set at the base that a record of `crew_base` names for the member
 pub record ArePosted (records : List CrewBaseRecord) (old new : roster.State) : Type 0 where
   pub same : new ≡ record old { crew = new.crew }
   pub read : PostsRead old records (length records) new.crew
   pub all : AreAllPosted old.crew new.crew
 
--- some row of `crew_base` names no member or no base of the roster, or some member has none
+-- some record of `crew_base` names no member or no base of the roster, or some member of the roster
+-- has no record
 abbrev pub AreUnposted : List CrewBaseRecord → roster.State → Type 0
 AreUnposted records s =
     HasStranger row_of_posted (IsPosted s) (map crew_base_row records)

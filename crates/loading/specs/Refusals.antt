@@ -1,4 +1,4 @@
--- Which refusals of loading are true of one database.
+-- Which refusals to load a book are true of one database.
 use Rattle.std.specs.Prelude.{◌≡◌, Bool, true, false}
 use Rattle.sqlite.specs.Effect.{Database}
 use Rattle.roster.specs.State.{State}
@@ -15,7 +15,8 @@ tells (Damaged it) = true
 tells Version = true
 tells (Fault fault) = false
 
--- two refusals that say something of the database, and are true of one, are equal and of one table
+-- two refusals that say something of the database, and are true of one database, are equal and name
+-- one table
 abbrev pub IsOneRefusal : Type 0
 IsOneRefusal = (db : Database) (a b : LoadFault) → tells a ≡ true → tells b ≡ true →
     Justifies a db → Justifies b db → a ≡ b

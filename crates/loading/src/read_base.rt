@@ -69,7 +69,7 @@ fn has_home(records: &[BaseRecord], zone: &str) -> bool
     false
 }
 
-/// Reads the base that a record tells of, if it tells of one.
+/// Reads the base that a record gives, if it gives one.
 #[tactic(auto, using(crate::proofs::ReadBase::bad_id, crate::proofs::ReadBase::bad_zone, crate::proofs::ReadBase::tells))]
 fn base_of(alloc: Global, row: &BaseRecord) -> Result<Option<Entry>, MemoryFault>
     ensures { IfOk result (TellsOf (λ id zone entry. entry ≡ Entry.Base id zone) row_of_base
@@ -86,7 +86,7 @@ fn base_of(alloc: Global, row: &BaseRecord) -> Result<Option<Entry>, MemoryFault
     }
 }
 
-/// Sets the bases that the records tell of.
+/// Sets the bases that the records give.
 fn add_bases(alloc: Global, roster: Roster, records: &[BaseRecord]) -> Result<Roster, LoadFault>
     requires { roster.bases ≡ only_home (home_zone roster.bases) }
     ensures { MatchResult result (BasesRead records.now (length records.now) roster)
@@ -102,7 +102,7 @@ fn add_bases(alloc: Global, roster: Roster, records: &[BaseRecord]) -> Result<Ro
     Ok(roster)
 }
 
-/// Sets the bases that the records tell of, where one of them is HOME with its zone.
+/// Sets the bases that the records give, where one of them is HOME with its zone.
 #[tactic(auto, using(crate::proofs::Homes::zone_there, crate::proofs::ReadBase::base_stranger, crate::proofs::ReadBase::without_home, crate::proofs::ReadBase::bases_read))]
 fn bases_of(alloc: Global, roster: Roster, records: &[BaseRecord]) -> Result<Roster, LoadFault>
     requires { roster.bases ≡ only_home (home_zone roster.bases) }

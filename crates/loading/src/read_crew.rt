@@ -59,7 +59,7 @@ pub(crate) fn seat_of_number(number: u32) -> Option<Seat>
     }
 }
 
-/// Reads the member that a record tells of, if it tells of one, as a member at HOME: of the base the table `crew_base` tells.
+/// Reads the member that a record gives, if it gives one, as a member at HOME: of the base the table `crew_base` gives.
 #[tactic(auto, using(crate::proofs::ReadCrew::no_seat, crate::proofs::ReadCrew::bad_id, crate::proofs::ReadCrew::bad_name, crate::proofs::ReadCrew::tells))]
 fn member_of(alloc: Global, row: &CrewRecord) -> Result<Option<Entry>, MemoryFault>
     ensures { IfOk result (TellsOf
@@ -78,7 +78,7 @@ fn member_of(alloc: Global, row: &CrewRecord) -> Result<Option<Entry>, MemoryFau
     Ok(Some(Entry::Member(id, Member { seat, name, base })))
 }
 
-/// Sets the members that the records tell of.
+/// Sets the members that the records give.
 #[tactic(auto, using(crate::proofs::ReadCrew::none_read, crate::proofs::ReadCrew::stranger, crate::proofs::ReadCrew::one_read))]
 fn add_members(alloc: Global, roster: Roster, records: &[CrewRecord]) -> Result<Roster, LoadFault>
     requires { roster.crew ≡ fin.empty }

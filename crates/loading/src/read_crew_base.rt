@@ -48,7 +48,7 @@ fn crew_base_records<S: Alter>(
     }
 }
 
-/// Reads the member that a record tells of, at the base that it names, if the roster has both.
+/// Reads the member that a record gives, at the base that it names, if the roster has both.
 #[tactic(auto, using(crate::proofs::ReadCrewBase::no_base, crate::proofs::ReadCrewBase::no_member, crate::proofs::ReadCrewBase::tells))]
 fn posted_of(
     alloc: Global,
@@ -71,7 +71,7 @@ fn posted_of(
     Ok(Some((who, Member { seat, name, base })))
 }
 
-/// Collects the members that the records tell of, each at the base that the record names.
+/// Collects the members that the records give, each at the base that the record names.
 fn posted_members(
     alloc: Global,
     roster: &Roster,

@@ -48,7 +48,7 @@ fn ground_records<S: Alter>(
     }
 }
 
-/// Reads the ground duty that a record tells of, if it tells of one of a member.
+/// Reads the ground duty that a record gives, if it gives one of a member.
 #[tactic(auto, using(crate::proofs::ReadGrounds::no_begin, crate::proofs::ReadGrounds::no_end, crate::proofs::ReadGrounds::no_member, crate::proofs::ReadGrounds::no_ground, crate::proofs::ReadGrounds::tells))]
 fn ground_of(
     alloc: Global,
@@ -76,7 +76,7 @@ fn ground_of(
     }
 }
 
-/// Sets the ground duties that the records tell of.
+/// Sets the ground duties that the records give.
 fn add_grounds(alloc: Global, roster: Roster, records: &[GroundRecord]) -> Result<Roster, LoadFault>
     requires { roster.grounds ≡ fin.empty }
     ensures { MatchResult result (GroundsRead records.now (length records.now) roster)

@@ -1,4 +1,4 @@
-//! The table `outside_segment`, as it is loaded from a file of version 2, and the outside periods that it tells with the
+//! The table `outside_segment`, as it is loaded from a file of version 2, and the outside periods that it gives with the
 //! table `outside`. What is right is `IsOutsideSegmentRight` (`specs/Right.antt` of `entries`).
 //! Files with such a damage: `tests/tables.py`. Wrong bodies: `must-fail-more/`.
 
@@ -51,7 +51,7 @@ fn outside_segment_records<S: Alter>(
     }
 }
 
-/// Sets the outside periods that their records and those of their segments tell of.
+/// Sets the outside periods that their records and those of their segments give.
 fn set_outsides(
     alloc: Global,
     roster: Roster,

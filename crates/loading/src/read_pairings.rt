@@ -1,4 +1,4 @@
-//! The table `pairing`, as it is loaded, with what the tables `period` and `segment` tell of each pairing.
+//! The table `pairing`, as it is loaded, with what the tables `period` and `segment` say of each pairing.
 //! Files with such a damage: `tests/tables.py`. Wrong bodies: `must-fail-more/`.
 
 ghost use Rattle.std.specs.Prelude.{◌≡◌, length, map, IfOk, MatchResult};
@@ -79,7 +79,7 @@ fn read_ids<S: Alter>(
     ids_of(alloc, &records)
 }
 
-/// Sets the pairings of these ids, as the rows tell them.
+/// Sets the pairings of these ids, as the rows give them.
 fn add_pairings(
     alloc: Global,
     roster: Roster,

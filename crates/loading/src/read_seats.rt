@@ -88,7 +88,7 @@ fn takes(roster: &Roster, crew: &CrewId, seat: Seat) -> bool
     }
 }
 
-/// Reads the seat that a record tells of, if it tells of one of a pairing, held by a member who takes such seats.
+/// Reads the seat that a record gives, if it gives one of a pairing, held by a member who takes such seats.
 #[tactic(auto, using(crate::proofs::ReadSeats::no_seat, crate::proofs::ReadSeats::no_pairing, crate::proofs::ReadSeats::no_holder))]
 fn held_seat_of(
     alloc: Global,
@@ -116,7 +116,7 @@ fn held_seat_of(
     }))
 }
 
-/// Puts the members into the seats that the records tell of.
+/// Puts the members into the seats that the records give.
 fn take_seats(alloc: Global, roster: Roster, records: &[SeatRecord]) -> Result<Roster, LoadFault>
     requires { AreFree roster }
     ensures { MatchResult result (SeatsRead records.now (length records.now) roster)
@@ -154,7 +154,7 @@ fn are_crewed(roster: &Roster) -> bool
     true
 }
 
-/// Puts the members into the seats that the records tell of, where that leaves no flown pairing with a free seat.
+/// Puts the members into the seats that the records give, where that leaves no flown pairing with a free seat.
 #[tactic(auto, using(crate::proofs::ReadSeats::read_stranger, crate::proofs::ReadSeats::not_all_crewed))]
 fn seat_all(alloc: Global, roster: Roster, records: &[SeatRecord]) -> Result<Roster, LoadFault>
     requires { AreFree roster }

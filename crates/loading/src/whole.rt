@@ -114,7 +114,7 @@ fn read_first<S: Alter>(
 
 /// Reads a whole book of version 1 or 2, table by table, with the version that it is of, and changes nothing. Refused
 /// are a database without a table `book` (40), tables of another version (42), and one in which a table is damaged (41,
-/// with the first). A fault of the store is 90, and want of memory 91.
+/// with the first). A fault of the store is 90, and out of memory 91.
 pub fn read_all<S: Alter>(
     alloc: Global,
     conn: &mut Connection<S>,

@@ -9,8 +9,7 @@ use Rattle.tables.specs.declared.base.BaseRecord.{BaseRecord}
 use Rattle.entries.specs.Mapping.{AreOnce, Mapped}
 use Rattle.state_rows.specs.Rows.{row_of_base}
 
--- some records of bases are those that a book may have: one is of HOME, and the zone of each is a
--- rule text
+-- a book may have these records of bases: one is of HOME, and the zone of each is a rule text
 pub record AreOfBases (records : List BaseRecord) : Type 0 where
   pub place : ℕ
   pub of_home : BaseRecord
@@ -19,7 +18,8 @@ pub record AreOfBases (records : List BaseRecord) : Type 0 where
   pub zones : (i : ℕ) (it : BaseRecord) → slice_get records i ≡ Some it →
       is_zone_text it.zone ≡ true
 
--- the base HOME, as one of the records has it, and the bases of so many first records, by their ids
+-- the map has the base HOME, as one of the records of `base` gives it, and the bases of this many
+-- first records, by their ids
 pub record BasesRead (records : List BaseRecord) (count : ℕ) (bases : Bases) : Type 0 where
   pub zone : List ℕ
   pub of_home : Has (map base_row records) (row_of_base home zone)

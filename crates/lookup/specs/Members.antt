@@ -1,4 +1,4 @@
--- What is read of one member, and what the records tell.
+-- What is read of one member, and what the member's records give.
 use Rattle.std.specs.Prelude.{◌≡◌, ℕ, List, [], ◌∷◌, map, Option, None, Some, Result, IfErr, IfOk}
 use Rattle.sqlite_value.specs.declared.value.Value.TheVariants.{Text}
 use Rattle.sqlite.specs.Effect.{Database}
@@ -15,16 +15,16 @@ use Rattle.lookup.specs.Plans.{IfSome}
 use Rattle.lookup.specs.Reads.{IsCausedIfStore, Stays}
 use Rattle.lookup.specs.declared.member.MemberRecords.{MemberRecords}
 
--- the records of one member in `crew`, and if there is any, those of the member's base in
--- `crew_base`
+-- just the records of one member in `crew` are found, and if there is any, those of the member's
+-- base in `crew_base`
 pub record FindsMember (id : List ℕ) (db : Database) (rows : MemberRecords) : Type 0 where
   pub crew : Finds (table crew) (begins_with (Text id ∷ [])) db (map crew_row rows.crew.items)
   pub bases : IfSome rows.crew.items
       (Finds (table crew_base) (begins_with (Text id ∷ [])) db
       (map crew_base_row rows.bases.items))
 
--- what the reads of the records of one member tell: nothing is changed, the records are just those
--- of the tables, and a fault of the store has a cause
+-- The records of one member are read. Nothing is changed, the records are just those of the tables,
+-- and a fault of the store has a cause.
 pub record ReadsMember (id : List ℕ) (old new : conn.State)
     (result : Result MemberRecords StoreFault) : Type 0 where
   pub stays : Stays old new
@@ -39,8 +39,8 @@ pub record HasColumns (row : CrewRecord) (its : CrewBaseRecord) (m : Member) : T
   pub name : m.name ≡ row.name
   pub base : m.base ≡ its.base
 
--- The member that the first of some records of `crew` has, with the base of the first of some
--- records of `crew_base`, which is there. There is no member where there is no record of `crew`.
+-- The first of some records of `crew` gives this member, with the base of the first of some records
+-- of `crew_base`, which is there. Where there is no record of `crew`, there is no member.
 abbrev pub HasFirst : List CrewRecord → List CrewBaseRecord → Option Member → Type 0
 HasFirst [] bases found = found ≡ None
 HasFirst (row ∷ rows) [] found = ⊥

@@ -1,4 +1,4 @@
--- What is read of one outside period, and what its records tell.
+-- What is read of one outside period, and what its records give.
 use Rattle.std.specs.Prelude.{◌≡◌, ℕ, List, [], ◌∷◌, map, Option, None, Some, Result, IfErr, IfOk}
 use Rattle.sqlite_value.specs.declared.value.Value.TheVariants.{Text}
 use Rattle.sqlite.specs.Effect.{Database}
@@ -16,8 +16,8 @@ use Rattle.lookup.specs.Plans.{IfSome}
 use Rattle.lookup.specs.Reads.{IsCausedIfStore, Stays}
 use Rattle.lookup.specs.declared.outside.OutsideRecords.{OutsideRecords}
 
--- the records of one outside period in `outside`, and if there is any, those of its segments in
--- `outside_segment`
+-- just the records of one outside period in `outside` are found, and if there is any, those of its
+-- segments in `outside_segment`
 pub record FindsOutside (id : List ℕ) (db : Database) (rows : OutsideRecords) : Type 0 where
   pub periods : Finds (table outside) (begins_with (Text id ∷ [])) db
       (map outside_row rows.periods.items)
@@ -25,8 +25,8 @@ pub record FindsOutside (id : List ℕ) (db : Database) (rows : OutsideRecords) 
       (Finds (table outside_segment) (begins_with (Text id ∷ [])) db
       (map outside_segment_row rows.segments.items))
 
--- what the reads of the records of one outside period tell: nothing is changed, the records are
--- just those of the tables, and a fault of the store has a cause
+-- The records of one outside period are read. Nothing is changed, the records are just those of the
+-- tables, and a fault of the store has a cause.
 pub record ReadsOutside (id : List ℕ) (old new : conn.State)
     (result : Result OutsideRecords StoreFault) : Type 0 where
   pub stays : Stays old new
@@ -34,14 +34,14 @@ pub record ReadsOutside (id : List ℕ) (old new : conn.State)
       IfOk result (λ rows. IsUnchanged old new × FindsOutside id old.now rows)
   pub caused : IfErr result (IsCausedIfStore old new)
 
--- the outside period that the first of some records of `outside` tells of, with its segments; there
--- is none where there is no such record
+-- the first of some records of `outside` gives this outside period, with its segments; where there
+-- is no record of `outside`, there is no outside period
 abbrev pub HasFirstOutside : List OutsideRecord → List OutsideSegmentRecord → Option OutsideEntry
     → Type 0
 HasFirstOutside [] segments found = found ≡ None
 HasFirstOutside (row ∷ rows) segments found =
     (o : OutsideEntry) × (found ≡ Some o) × IsOutsideToldBy row segments o
 
--- the outside periods that some records name
+-- some records of `outside` name these outside periods
 abbrev pub outsides_in : List OutsideRecord → List (List ℕ)
 outsides_in records = map (λ row. row.id) records

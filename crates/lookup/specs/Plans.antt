@@ -1,4 +1,4 @@
--- What is read of one pairing, and what its records tell.
+-- What is read of one pairing, and what its records give.
 use Rattle.std.specs.Prelude.{◌≡◌, ⊤, ℕ, List, [], ◌∷◌, map, Option, None, Some}
 use Rattle.std.specs.Prelude.{Result, IfErr, IfOk, slice_get}
 use Rattle.sqlite_value.specs.declared.value.Value.TheVariants.{Text}
@@ -20,13 +20,13 @@ use Rattle.entries.specs.declared.fault.LoadFault.TheVariants.{Fault}
 use Rattle.lookup.specs.Reads.{IsCausedIfStore, Stays}
 use Rattle.lookup.specs.declared.pairing.PlanRecords.{PlanRecords}
 
--- a fact that matters only where a list has an element
+-- the fact P holds if the list has an element; of an empty list nothing is asked
 abbrev pub IfSome : {A : Type 0} → List A → Type 0 → Type 0
 IfSome [] P = ⊤
 IfSome (x ∷ xs) P = P
 
--- the records of the periods of one pairing, and if it has any, those of its segments and of its
--- held seats
+-- just the records of the periods of one pairing are found, and if there is any, those of its
+-- segments and of its held seats
 pub record FindsPlan (id : List ℕ) (db : Database) (rows : PlanRecords) : Type 0 where
   pub periods : Finds (table period) (begins_with (Text id ∷ [])) db
       (map period_row rows.periods.items)
@@ -35,8 +35,8 @@ pub record FindsPlan (id : List ℕ) (db : Database) (rows : PlanRecords) : Type
   pub seats : IfSome rows.periods.items
       (Finds (table seat) (begins_with (Text id ∷ [])) db (map seat_row rows.seats.items))
 
--- what the reads of the records of one pairing tell: nothing is changed, the records are just those
--- of the tables, and a fault of the store has a cause
+-- The records of one pairing are read. Nothing is changed, the records are just those of the
+-- tables, and a fault of the store has a cause.
 pub record ReadsPlan (id : List ℕ) (old new : conn.State)
     (result : Result PlanRecords StoreFault) : Type 0 where
   pub stays : Stays old new
@@ -44,7 +44,7 @@ pub record ReadsPlan (id : List ℕ) (old new : conn.State)
       IfOk result (λ rows. IsUnchanged old new × FindsPlan id old.now rows)
   pub caused : IfErr result (IsCausedIfStore old new)
 
--- who holds the seat of a number by some records, if anybody does
+-- by some records of `seat` this member holds the seat of this number, or nobody does
 abbrev pub HoldsSeat : ℕ → List SeatRecord → Option (List ℕ) → Type 0
 HoldsSeat number seats None =
     (i : ℕ) (row : SeatRecord) → slice_get seats i ≡ Some row → row.seat ≡ number → ⊥
@@ -52,7 +52,7 @@ HoldsSeat number seats (Some who) =
     (i : ℕ) × (row : SeatRecord)
     × (slice_get seats i ≡ Some row) × (row.seat ≡ number) × (who ≡ row.crew)
 
--- the pairing that some records tell of, with who holds its seats
+-- some records give this pairing, with the holders of its seats
 pub record IsPairingOfRecords (id : List ℕ) (periods : List PeriodRecord)
     (segments : List SegmentRecord) (seats : List SeatRecord) (r : PairingEntry) : Type 0 where
   pub free : PairingEntry
@@ -62,15 +62,16 @@ pub record IsPairingOfRecords (id : List ℕ) (periods : List PeriodRecord)
   pub captain : HoldsSeat 0 seats r.captain
   pub first_officer : HoldsSeat 1 seats r.first_officer
 
--- the pairing that the records of one id tell of: there is none where there is no period
+-- the records of one id give this pairing; where there is no record of a period, there is no
+-- pairing
 abbrev pub TellsPairing : List ℕ → List PeriodRecord → List SegmentRecord → List SeatRecord
     → Option PairingEntry → Type 0
 TellsPairing id [] segments seats found = found ≡ None
 TellsPairing id (p ∷ ps) segments seats found =
     (r : PairingEntry) × (found ≡ Some r) × IsPairingOfRecords id (p ∷ ps) segments seats r
 
--- the fault of a read whose records make no pairing, or no outside period: 91 where there was no
--- memory, and else 90
+-- a read by key whose records make no pairing, or no outside period, has this fault: 91 where there
+-- was no memory, and else 90
 abbrev pub unread_as : LoadFault → StoreFault
 unread_as (Fault fault) = Memory
 unread_as _ = Store

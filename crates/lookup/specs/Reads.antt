@@ -1,4 +1,4 @@
--- What a read by key tells of the state whose tables are read.
+-- What a read by key says of the state whose tables are read.
 use Rattle.std.specs.Prelude.{◌≡◌, ◌⊎◌, ◌≤◌, ℕ, map, Bool, false, OnOk, IsTrue}
 use Rattle.std.specs.Prelude.{List, Result, IfErr, IfOk}
 use Rattle.sqlite_disk.specs.Disk.{MoreFaults}
@@ -18,15 +18,15 @@ use Rattle.state_rows.specs.declared.fault.StoreFault.TheVariants.{Store}
 use Rattle.state_rows.specs.Kept.{IsBookOf}
 use Rattle.state_rows.specs.Outcomes.{CrashAddsNothing, IsOutside, StaysOpen, StillShows}
 
--- a connection shows the tables of a book in this state, which is sound, while it is open
+-- while the connection is open, it shows the tables of a book in this state, which is sound
 pub record Shows (now : conn.State) (s : State) : Type 0 where
   pub sound : Sound s
   pub instants : HasInstants s
   pub book : HasCleanDisk now → IsTrue now.is_open → IsBookOf s now.now
 
--- Nothing is changed: a crash leaves nothing that it could not leave before, and what was shown is
--- shown. No fault of the disk is forgotten, only one shuts the connection, and no limit is set on
--- later statements.
+-- A call changes nothing. A crash leaves nothing that it could not leave before, and what was shown
+-- is shown. No fault of the disk is forgotten, only one shuts the connection, and no limit is set
+-- on later statements.
 pub record Stays (old new : conn.State) : Type 0 where
   pub nothing_new : CrashAddsNothing old new
   pub still_shown : StillShows old new
@@ -35,12 +35,12 @@ pub record Stays (old new : conn.State) : Type 0 where
   pub still_open : StaysOpen old new
   pub limit : new.step_limit ≡ old.step_limit
 
--- the connection is open: only an open one answers
+-- the connection is open: only an open connection answers
 abbrev pub IsOpen : conn.State → Type 0
 IsOpen now = HasCleanDisk now → IsTrue now.is_open
 
--- Why a read answers a fault of the store (90): the disk failed or refused a call meanwhile, an
--- earlier failure had shut the connection, a limit is set on the steps of a statement, or the
+-- A read has a cause for a fault of the store (90). The disk failed or refused a call meanwhile, or
+-- an earlier failure had shut the connection; or a limit is set on the steps of a statement. Or the
 -- tables are not those of a right book, which opening them would refuse.
 abbrev pub HasStoreCause : conn.State → conn.State → Type 0
 HasStoreCause old new =
@@ -49,17 +49,17 @@ HasStoreCause old new =
     ⊎ (HasStepLimit old
     ⊎ (AreRight outside_segment old.now → ⊥)))
 
--- a fault of a read, where it is one of the store (90), has a cause
+-- a fault of a read that is one of the store (90) has a cause
 abbrev pub IsCausedIfStore : conn.State → conn.State → StoreFault → Type 0
 IsCausedIfStore old new fault = HasCleanDisk new → fault ≡ Store → HasStoreCause old new
 
--- a fault of a read by key, where a sound state was shown and it is one of the store (90), has a
--- cause
+-- a fault of a read by key that is one of the store (90) has a cause, where the connection showed a
+-- sound state before
 abbrev pub IsReadFault : conn.State → conn.State → StoreFault → Type 0
 IsReadFault old new fault = (s : State) → Shows old s → IsCausedIfStore old new fault
 
--- what a read of a table tells: nothing is changed, the rows are just those that pass the test, and
--- a fault of the store has a cause
+-- The rows of a table that pass a test are read. Nothing is changed, the rows are just those that
+-- pass the test, and a fault of the store has a cause.
 pub record ReadsRows {A : Type 0} (it : TableName) (test : Row → Bool) (rows : A → List Row)
     (old new : conn.State) (result : Result A StoreFault) : Type 0 where
   pub stays : Stays old new
@@ -67,8 +67,8 @@ pub record ReadsRows {A : Type 0} (it : TableName) (test : Row → Bool) (rows :
       IfOk result (λ a. IsUnchanged old new × Finds (table it) test old.now (rows a))
   pub caused : IfErr result (IsCausedIfStore old new)
 
--- what a read by key tells: nothing is changed, the answer is what the state has that is shown, and
--- a fault of the store has a cause
+-- An entry is read by its key. Nothing is changed, the answer is what the state that is shown has,
+-- and a fault of the store has a cause.
 pub record ReadsByKey {A : Type 0} (Is : State → A → Type 0)
     (old new : conn.State) (result : Result A StoreFault) : Type 0 where
   pub stays : Stays old new
@@ -77,17 +77,17 @@ pub record ReadsByKey {A : Type 0} (Is : State → A → Type 0)
       IfOk result (λ a. Shows new s × Is s a)
   pub caused : IfErr result (IsReadFault old new)
 
--- some records have no entry, where `Has` says which entry they have
+-- some records give no entry, where `Has` says which entry they give
 abbrev pub HaveNone : {A : Type 0} → (A → Type 0) → Type 0
 HaveNone {A} Has = (found : A) → Has found → ⊥
 
--- the pairings that some records of seats name
+-- some records of `seat` name these pairings
 abbrev pub ids_in : List SeatRecord → List (List ℕ)
 ids_in records = map (λ row. row.pairing) records
 
 -- ---- Reads in turn
 
--- Some reads, one after the other, change nothing: a crash leaves nothing that it could not leave
+-- Some reads, one after the other, change nothing. A crash leaves nothing that it could not leave
 -- before, and what was shown is shown. No fault of the disk is forgotten, only one shuts the
 -- connection, and no limit is set on later statements.
 pub record ChangesNothing (old new : conn.State) : Type 0 where

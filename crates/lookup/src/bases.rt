@@ -22,7 +22,7 @@ use tables::base::{BaseRecord, bases};
 use time117::{Zone, ZoneFault};
 use values::TryClone;
 
-/// A base that a record tells of.
+/// A base that a record gives.
 #[derive(Drop)]
 struct Told {
     id: BaseId,
@@ -48,7 +48,7 @@ fn base_rows<S: Alter>(
     }
 }
 
-/// Returns the base that a record tells of.
+/// Returns the base that a record gives.
 #[tactic(auto, using(crate::proofs::BaseLemmas::row_is))]
 fn base_told(alloc: Global, row: &BaseRecord) -> Result<Told, StoreFault>
     ensures told { IfOk result (λ it. base_row row.now ≡ row_of_base it.id it.zone) }
@@ -80,7 +80,7 @@ fn home_told(alloc: Global, records: &[BaseRecord]) -> Result<Zone, StoreFault>
     Err(StoreFault::Store)
 }
 
-/// Returns the bases that the records tell of.
+/// Returns the bases that the records give.
 #[tactic(auto, using(crate::proofs::BaseLemmas::home_read))]
 fn bases_told(alloc: Global, records: &[BaseRecord]) -> Result<Bases, StoreFault>
     ensures told { IfOk result (BasesRead records.now (length records.now)) }

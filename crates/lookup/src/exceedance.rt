@@ -21,7 +21,7 @@ use std::alloc::Global;
 use tables::exceedance::{ExceedanceRecord, exceedances, is_exceedance_there};
 use values::{OrdMap, TryClone};
 
-/// An exceedance that a record tells of.
+/// An exceedance that a record gives.
 #[derive(Drop)]
 struct Told {
     id: ExceedanceId,
@@ -49,7 +49,7 @@ fn exceedance_rows<S: Alter>(
     }
 }
 
-/// Returns the exceedance that a record tells of.
+/// Returns the exceedance that a record gives.
 #[tactic(auto, using(crate::proofs::RecordedLemmas::row_is, crate::proofs::RecordedLemmas::no_key, crate::proofs::RecordedLemmas::no_section, crate::proofs::RecordedLemmas::no_duty))]
 fn exceedance_told(alloc: Global, row: &ExceedanceRecord) -> Result<Told, StoreFault>
     ensures told { IfOk result (λ it. TellsRecorded row.now it.id it.named) }
@@ -71,7 +71,7 @@ fn exceedance_told(alloc: Global, row: &ExceedanceRecord) -> Result<Told, StoreF
     })
 }
 
-/// Returns the exceedances that the records tell of.
+/// Returns the exceedances that the records give.
 #[tactic(auto, using(crate::proofs::RecordedLemmas::stranger_at))]
 fn exceedances_told(
     alloc: Global,

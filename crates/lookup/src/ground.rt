@@ -63,7 +63,7 @@ fn crew_ground_rows<S: Alter>(
     }
 }
 
-/// Returns the ground duty that the first of some records tells of.
+/// Returns the ground duty that the first of some records gives.
 #[tactic(auto, using(crate::proofs::RightEntries::no_begin, crate::proofs::RightEntries::no_end, crate::proofs::RightEntries::no_ground))]
 fn first_ground(alloc: Global, records: &[GroundRecord]) -> Result<Option<Ground>, StoreFault>
     ensures told { IfOk result (HasFirstGround records.now) }

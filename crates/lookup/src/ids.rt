@@ -58,7 +58,7 @@ fn pairing_rows<S: Alter>(
     }
 }
 
-/// Returns the ids of the members that the records tell of.
+/// Returns the ids of the members that the records give.
 fn members_in(alloc: Global, records: &[CrewRecord]) -> Result<Vec<CrewId>, MemoryFault>
     ensures { IfOk result (λ ids. ids.items ≡ members_in records.now) }
 {
@@ -69,7 +69,7 @@ fn members_in(alloc: Global, records: &[CrewRecord]) -> Result<Vec<CrewId>, Memo
     Ok(ids)
 }
 
-/// Returns the ids of the pairings that the records tell of.
+/// Returns the ids of the pairings that the records give.
 fn pairings_in(alloc: Global, records: &[PairingRecord]) -> Result<Vec<PairingId>, MemoryFault>
     ensures { IfOk result (λ ids. ids.items ≡ pairings_in records.now) }
 {

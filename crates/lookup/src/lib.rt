@@ -1,5 +1,5 @@
 //! Entries of the state of a book, read by key from its tables. A read changes nothing. A store's fault, or a row that no entry has, is
-//! 90, and want of memory 91.
+//! 90, and out of memory 91.
 #![tactic(auto)]
 
 mod bases;

@@ -49,7 +49,7 @@ fn member_rows<S: Alter>(
     Ok(MemberRecords { crew, bases })
 }
 
-/// Returns the member that the first of some records tells of, at the base of the first of some others.
+/// Returns the member that the first of some records gives, at the base of the first of some others.
 #[tactic(auto, using(crate::proofs::MemberLemmas::none_told, crate::proofs::MemberLemmas::columns_told, crate::proofs::MemberLemmas::no_seat, crate::proofs::MemberLemmas::no_base))]
 fn first_member(
     alloc: Global,

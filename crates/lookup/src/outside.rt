@@ -77,7 +77,7 @@ fn outside_rows<S: Alter>(
     Ok(OutsideRecords { periods, segments })
 }
 
-/// Returns the outside period that the first of some records tells of, with the segments of some others.
+/// Returns the outside period that the first of some records gives, with the segments of some others.
 #[tactic(auto, using(crate::proofs::OutsideLemmas::none_told, crate::proofs::OutsideLemmas::first_told, crate::proofs::OutsideLemmas::not_told))]
 fn first_outside(
     alloc: Global,

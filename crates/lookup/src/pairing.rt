@@ -75,8 +75,8 @@ fn holder_in(
     Ok(None)
 }
 
-/// Returns the fault of a read whose records make no pairing, or no outside period: 90, or 91 for want of memory. Making
-/// one reads no table, so a fault of the store is want of memory here.
+/// Returns the fault of a read whose records make no pairing, or no outside period: 90, or 91 for out of memory. Making
+/// one reads no table, so a fault of the store means out of memory here.
 pub(crate) fn unread(fault: LoadFault) -> StoreFault
     ensures { result ≡ unread_as fault }
 {
@@ -86,7 +86,7 @@ pub(crate) fn unread(fault: LoadFault) -> StoreFault
     }
 }
 
-/// Returns the pairing that the records tell of.
+/// Returns the pairing that the records give.
 fn pairing_told(
     alloc: Global,
     id: &PairingId,

@@ -43,7 +43,7 @@ fn request_rows<S: Alter>(
     }
 }
 
-/// Returns the command and reply that the first of some records tells of.
+/// Returns the command and reply that the first of some records gives.
 #[tactic(auto, using(crate::proofs::RightEntries::no_command, crate::proofs::RightEntries::no_reply))]
 fn first_request(
     alloc: Global,

@@ -2,14 +2,14 @@
 use Rattle.std.specs.Prelude.{◌≡◌, ℕ, ◌≤◌, Bool, ℤ, pos, ◌-ℤ◌}
 use Rattle.duty.specs.Minutes.{count, HasFreeRun}
 
--- some `length` minutes in a row, all of them among the `width` minutes from `from` on, hold none
--- of the set, and no more than `length` in a row among these do
+-- Some `length` minutes in a row among the `width` minutes from `from` on hold no minute of the
+-- set, and no longer run among those `width` minutes does.
 pub record IsLongestFreeRun (set : ℤ → Bool) (from : ℤ) (width length : ℕ) : Type 0 where
   pub runs : HasFreeRun set from width length
   pub longest : (other : ℕ) → HasFreeRun set from width other → other ≤ length
 
--- the `free` minutes before `end`, at most `most`, hold none of the set, and no more than `free`
--- minutes before `end`, of those up to `most`, hold none
+-- The `free` minutes before `end`, at most `most`, hold no minute of the set, and no more than
+-- `free` of at most `most` minutes before `end` do.
 pub record IsFreeBefore (set : ℤ → Bool) (end : ℤ) (most free : ℕ) : Type 0 where
   pub within : free ≤ most
   pub is_free : count set (end -ℤ pos free) free ≡ 0

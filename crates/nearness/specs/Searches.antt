@@ -1,6 +1,6 @@
 -- What the search for a fullest window has found, for private clauses alone: nothing here has to be
--- read to know what the crate promises. A window is named by its end, the spans are those of all
--- duties, and `new` has the new minutes.
+-- read to know what the crate promises. A window is named by its end, the spans are the spans of
+-- all duties, and `new` is the set of the new duties' minutes.
 use Rattle.std.specs.Prelude.{◌≡◌, ℕ, ◌+◌, ◌<◌, ◌≤◌, ◌^◌, List, Bool, ℤ, pos, ◌-ℤ◌}
 use Rattle.std.specs.List.{flat_map}
 use Rattle.duty.specs.Minutes.{spans_of, minutes_in, Meets}
@@ -17,26 +17,27 @@ spans_in w = flat_map (spans_of w.kind) w.all.now
 abbrev pub new_in : Windows → ℤ → Bool
 new_in w = minutes_in w.kind w.new.now
 
--- the window holds what it says, and ends before 2 ^ 40
+-- A window of `width` minutes holds as many minutes as it names, and ends before minute 2 ^ 40.
 pub record IsHeld (all : List Span) (width : ℕ) (window : Window) : Type 0 where
   pub holds : held all window.end width ≡ window.minutes
   pub near : window.end < 2 ^ 40
 
--- the window that ends at `end` holds no more than the best one, and fewer where it ends earlier
+-- The window that ends at `end` holds no more than the best window, and holds fewer if it ends
+-- earlier.
 pub record IsAsGood (all : List Span) (width : ℕ) (best : Window) (end : ℕ) : Type 0 where
   pub most : held all end width ≤ best.minutes
   pub first : end < best.end → held all end width < best.minutes
 
--- the new best window is as good as each window that the old one was as good as
+-- The new best window is as good as each window that the old best window was as good as.
 abbrev pub IsKept : List Span → ℕ → (old new : Window) → Type 0
 IsKept all width old new = (end : ℕ) → IsAsGood all width old end → IsAsGood all width new end
 
--- the window meets a new minute, or it is empty
+-- A window meets a new minute, or the window is empty.
 abbrev pub IsMet : (ℤ → Bool) → ℕ → Window → Type 0
 IsMet new width window = 0 < window.minutes → Meets new (pos window.end -ℤ pos width) width
 
--- the best window is as good as the one that ends `after_begin` minutes after the span begins, and
--- as the one that ends where the span ends, if these meet a new minute
+-- The best window is as good as the window that ends `after_begin` minutes after the span begins,
+-- and as the window that ends where the span ends, each if that window meets a new minute.
 pub record IsTried (all : List Span) (new : ℤ → Bool) (width : ℕ) (best : Window)
     (after_begin : ℕ) (span : Span) : Type 0 where
   pub at_begin : Meets new (pos (span.from + after_begin) -ℤ pos width) width →

@@ -1,5 +1,5 @@
 //! How near the duties of a member are to each of the eight limits, and whether they exceed it. That an answer exceeds
-//! its limit exactly where `limits` has the rule broken is a clause of both functions.
+//! its limit if and only if `limits` has the rule broken is a clause of both functions.
 //! Wrong bodies: `must-fail/` and `must-fail-more/`.
 ghost use Rattle.std.specs.Prelude.{◌≡◌, drop};
 ghost use Rattle.nearness.specs.Nearness.{IsNearness, ExceedsIsRule, exceeds as is_exceeded, holds_over as holds_over_it, is_over_table as is_over_it, lacks_rest as lacks_it};

@@ -55,7 +55,8 @@ impl PeriodLimit {
         requires one { one.minutes < 2 ^ 100 }
         requires other { other.minutes < 2 ^ 100 }
         ensures { IsTrue result
-            ↔ (minutes_left self one.minutes one.limit <ℤ minutes_left self other.minutes other.limit) }
+            ↔ (minutes_left self one.minutes one.limit
+            <ℤ minutes_left self other.minutes other.limit) }
     {
         let over = one.minutes + other.limit as u128;
         let under = other.minutes + one.limit as u128;
@@ -100,7 +101,8 @@ impl Periods<'_> {
     /// minute where it looks before the report.
     fn touches(&self, fdp: &FdpInForce, index: usize) -> bool
         ensures { IsTrue result
-            ↔ Touches self.now.limit self.now.others index (minutes_in Duty self.now.new.now) fdp.now }
+            ↔ Touches self.now.limit self.now.others index
+            (minutes_in Duty self.now.new.now) fdp.now }
     {
         let report = fdp.report().number() as u64;
         self.others <= index

@@ -13,7 +13,8 @@ const LOOK_BACK: u32 = 10_080;
 
 /// Counts the minutes of the longest time free from duty among the 168 hours before a report (117.25(b)).
 pub(crate) fn longest_free_run(history: &History, report: Minute) -> u32
-    ensures { IsLongestFreeRun (minutes_in Duty history.now) (pos report -ℤ pos 10_080) 10_080 result }
+    ensures { IsLongestFreeRun (minutes_in Duty history.now) (pos report -ℤ pos 10_080) 10_080
+        result }
 {
     let end = report.number() as u64;
     let mut long = 0;

@@ -21,12 +21,12 @@ is_held_of s who id = option_map_or (holds who) (fin.get s.pairings id) false
 abbrev pub is_ground_of : State → List ℕ → List ℕ → Bool
 is_ground_of s who id = option_map_or (λ g. bytes_eq g.crew who) (fin.get s.grounds id) false
 
--- this outside period is the member's
+-- the outside period with this id is the member's
 abbrev pub is_outside_of : State → List ℕ → List ℕ → Bool
 is_outside_of s who id = option_map_or (λ o. bytes_eq o.crew who) (fin.get s.outsides id) false
 
--- the part of a state with one member, the pairings that the member holds, and the member's ground
--- duties and outside periods; who else holds these pairings isn't in it
+-- The part of a state with one member, the pairings that the member holds, and the member's ground
+-- duties and outside periods. Who else holds these pairings isn't in it.
 abbrev pub member_part : State → List ℕ → State
 member_part s who = record {
   bases = s.bases;
@@ -38,7 +38,7 @@ member_part s who = record {
   requests = fin.empty;
 }
 
--- the part of a state with one pairing alone
+-- the part of a state with all bases, one pairing, and nothing else
 abbrev pub pairing_part : State → List ℕ → State
 pairing_part s id = record {
   bases = s.bases;
@@ -50,19 +50,20 @@ pairing_part s id = record {
   requests = fin.empty;
 }
 
--- the member holds a seat of the pairing with this id, or it is the one that is named, if one is
+-- the member holds a seat of the pairing with this id, or the pairing is the named one, if one is
+-- named
 abbrev pub is_held_or_named : State → List ℕ → (named : Option (List ℕ)) → List ℕ → Bool
 is_held_or_named s who None id = is_held_of s who id
 is_held_or_named s who (Some other) id = is_held_of s who id || bytes_eq other id
 
--- the part of a state that the limits of a member need: the member's part, and the pairing that is
--- named, if one is, whoever holds it
+-- the part of a state that the limits of a member need: the member's part, and the named pairing,
+-- if one is named, whoever holds it
 abbrev pub limits_part : State → List ℕ → (named : Option (List ℕ)) → State
 limits_part s who named = record (member_part s who) {
   pairings = fin.retain_keys s.pairings (is_held_or_named s who named);
 }
 
--- the part of a state with all its members and nothing that they do
+-- the part of a state with all its bases and members, and nothing that the members do
 abbrev pub crew_part : State → State
 crew_part s = record {
   bases = s.bases;
@@ -74,7 +75,8 @@ crew_part s = record {
   requests = fin.empty;
 }
 
--- the part of a state with all its pairings; who holds them isn't in it
+-- The part of a state with all its bases and pairings. The members who hold the pairings aren't in
+-- it.
 abbrev pub pairings_part : State → State
 pairings_part s = record {
   bases = s.bases;
@@ -86,7 +88,7 @@ pairings_part s = record {
   requests = fin.empty;
 }
 
--- the part of a state with its exceedances alone
+-- the part of a state with all its bases and exceedances, and nothing else
 abbrev pub exceedances_part : State → State
 exceedances_part s = record {
   bases = s.bases;
@@ -100,15 +102,15 @@ exceedances_part s = record {
 
 -- ---- Laws
 
--- the roster text of a member is that of the member's part, and where the state has no such member
--- the part has none
+-- the roster text of a member is that of the member's part; if the state has no such member, the
+-- part has none
 abbrev pub HasMemberText : Type 0
 HasMemberText = (s : State) (who : List ℕ) →
     (fin.get (member_part s who).crew who ≡ fin.get s.crew who)
     × ((text : List ℕ) → IsRosterText (member_part s who) who text ↔ IsRosterText s who text)
 
--- the limits of a member are those of their part, with a pairing or without one: the same member, the
--- same duties that are judged, and the same text
+-- the limits of a member, with a named pairing or without one, are those of the part for limits:
+-- the same member, the same duties that are judged, and the same text
 abbrev pub HasLimitsText : Type 0
 HasLimitsText = (s : State) (who : List ℕ) (named : Option (List ℕ)) →
     (fin.get (limits_part s who named).crew who ≡ fin.get s.crew who)

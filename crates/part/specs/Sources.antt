@@ -1,4 +1,4 @@
--- What a source that is read by key says of the state that it shows.
+-- What a source that is read by key says of the state that the source shows.
 use Rattle.std.specs.Prelude.{◌≡◌, ◌⊎◌, ◌++◌, List, map, ℕ, Option, Result, IfOk, Some}
 use Rattle.std.specs.FinMap as fin
 use Rattle.std.specs.List.{Contains, fold, flat_map}
@@ -14,8 +14,8 @@ use Rattle.roster.specs.State.{State}
 use Rattle.roster.specs.declared.state.OutsideEntry.{OutsideEntry}
 use Rattle.roster.specs.declared.state.PairingEntry.{PairingEntry}
 
--- what a call says of the state: while the source may be believed it shows the state that it
--- showed, and the answer is the state's
+-- What a call of a source says of a state: as long as the source may be believed, it shows the
+-- state that it showed, and the answer is that of the state.
 abbrev pub TellsOfState :
     {X A E : Type 0} → (X → Type 0) → (X → State → Type 0) → (State → A → Type 0) → X → X
     → Result A E → Type 0
@@ -23,31 +23,31 @@ TellsOfState IsClean Shows Is old new result =
     (IsClean new → IsClean old)
     × (IsClean new → (s : State) → Shows old s → IfOk result (λ a. Shows new s × Is s a))
 
--- why a gathering answers a fault: a call of the source failed, of which it says why, or it found
--- no memory beside the calls
+-- why a gathering answers a fault: a call of the source failed, and says why; or the gathering
+-- found no memory beside the calls
 abbrev pub IsCaused :
     {X F M : Type 0} → (X → X → F → Type 0) → (M → F → Type 0) → X → X → F → Type 0
 IsCaused {X} {F} {M} fails made old new fault =
     fails old new fault ⊎ ((none : M) × made none fault)
 
--- a map with what another has under an id, if it has anything there
+-- a map with what another map has under an id, if the other has anything there
 abbrev pub pick :
     {V : Type 0} → fin.FinMap name_cmp V → fin.FinMap name_cmp V → List ℕ → fin.FinMap name_cmp V
 pick from to id = option_map_or (λ value. fin.insert to id value) (fin.get from id) to
 
--- a map with what another has under these ids, put in one after the other
+-- a map with what another map has under these ids, put in one after the other
 abbrev pub picked :
     {V : Type 0} → fin.FinMap name_cmp V → fin.FinMap name_cmp V → List (List ℕ)
     → fin.FinMap name_cmp V
 picked from to ids = fold (pick from) to ids
 
--- a map with what another has under the id that is named, if one is
+-- a map with what another map has under the named id, if one is named
 abbrev pub pick_named :
     {V : Type 0} → fin.FinMap name_cmp V → (named : Option (List ℕ)) → fin.FinMap name_cmp V
     → fin.FinMap name_cmp V
 pick_named from named to = option_map_or (pick from to) named to
 
--- what the first map has under an id, the second has there too
+-- whatever the first map has under an id, the second map has under that id too
 abbrev pub IsPartOf : {V : Type 0} → fin.FinMap name_cmp V → fin.FinMap name_cmp V → Type 0
 IsPartOf {V} part whole =
     (id : List ℕ) (value : V) → fin.get part id ≡ Some value → fin.get whole id ≡ Some value
@@ -60,12 +60,12 @@ IsHeldByOne s names id = (who : List ℕ) × Contains names who × IsHeldBy s wh
 abbrev pub IsGroundOfOne : State → List (List ℕ) → List ℕ → Type 0
 IsGroundOfOne s names id = (who : List ℕ) × Contains names who × IsGroundOf s who id
 
--- the outside period is of one of these members
+-- the outside period with this id is of one of these members
 abbrev pub IsOutsideOfOne : State → List (List ℕ) → List ℕ → Type 0
 IsOutsideOfOne s names id = (who : List ℕ) × Contains names who × IsOutsideOf s who id
 
--- the members whom an instruction names, and whom these pairings, ground duties and outside periods
--- name
+-- the members whom an instruction names, and those whom these pairings, ground duties and outside
+-- periods name
 abbrev pub members_wanted :
     Instruction → fin.FinMap name_cmp PairingEntry → fin.FinMap name_cmp GroundPlan
     → fin.FinMap name_cmp OutsideEntry → List (List ℕ)

@@ -74,7 +74,8 @@ fn outsides_of_one<S: Source>(
     judged: &[CrewId],
 ) -> Result<Vec<OutsideId>, S::Fault>
     ensures told { TellsOfState S.is_clean S.shows
-        (λ s found. AreJust (IsOutsideOfOne s judged.now) found.items) source.old source.new result }
+        (λ s found. AreJust (IsOutsideOfOne s judged.now) found.items)
+        source.old source.new result }
     ensures left { S.stays source.old source.new }
     ensures caused { IfErr result
         (IsCaused S.fails S.Fault.from_gives source.old source.new) }

@@ -5,11 +5,11 @@ use Rattle.duty.specs.Minutes.{last_in}
 use Rattle.duty.specs.declared.fdp.Fdp.{Fdp}
 use Rattle.duty.specs.declared.segment.Segment.{Segment}
 
--- a number of times is that of block-out and block-in of 1 to 12 segments
+-- whether this many times are block-out and block-in of 1 to 12 segments
 abbrev pub is_block_time_count : ℕ → Bool
 is_block_time_count times = times % 2 == 0 && nat_lt 0 times && nat_le times 24
 
--- a segment of which only the times are told
+-- a segment of which only the times are given
 abbrev pub timed : ℕ → ℕ → Segment
 timed block_out block_in =
     record { flight = []; from = []; block_out = block_out; to = []; block_in = block_in }

@@ -1,5 +1,6 @@
 -- The line of `rosterbook duty`: one flight duty period against Tables A and B.
-use Rattle.std.specs.Prelude.{ℕ, Bool, true, false, List, [], ◌∷◌, ◌++◌, length, map, codes, nat_lt, not, ◌&&◌, if◌then◌else◌, Result, Ok, Err}
+use Rattle.std.specs.Prelude.{ℕ, Bool, true, false, List, [], ◌∷◌, ◌++◌, length, map, codes, nat_lt}
+use Rattle.std.specs.Prelude.{not, ◌&&◌, if◌then◌else◌, Result, Ok, Err}
 use Rattle.std.specs.Fmt.{decimal}
 use Rattle.time117.specs.Instant.{read_instant}
 use Rattle.time117.specs.Local.{is_zone_text, local_minute}
@@ -18,10 +19,11 @@ use Rattle.period_verdict.specs.declared.verdict.Verdict.{Verdict}
 use Rattle.period_verdict.specs.declared.verdict.Against.{Against}
 use Rattle.period_verdict.specs.declared.verdict.Outcome.{Outcome}
 use Rattle.period_verdict.specs.declared.fault.LineFault.{LineFault}
-use Rattle.period_verdict.specs.declared.fault.LineFault.TheVariants.{Zone, Time, SegmentCount, BadTimes}
+use Rattle.period_verdict.specs.declared.fault.LineFault.TheVariants.{Zone, Time, SegmentCount}
+use Rattle.period_verdict.specs.declared.fault.LineFault.TheVariants.{BadTimes}
 
--- a flight duty period stands beside what Tables A and B give for the minute of the day of its
--- report
+-- the verdict on a flight duty period: its minutes beside what Tables A and B give for the minute
+-- of the day of its report
 abbrev pub verdict : ℕ → FdpTimes → Verdict
 verdict start fdp = record {
   start = start;
@@ -30,15 +32,15 @@ verdict start fdp = record {
   flight = record { minutes = flight_time fdp; limit = table_a start };
 }
 
--- which tables a flight duty period exceeds. 117.11(a)(1): its flight time is above Table A.
--- 117.13(a): it is longer than Table B gives
+-- Which tables a flight duty period exceeds. 117.11(a)(1): its flight time is above what Table A
+-- gives. 117.13(a): the period is longer than Table B gives.
 abbrev pub outcome : Verdict → Outcome
 outcome v = record {
   is_over_flight_time = nat_lt v.flight.limit v.flight.minutes;
   is_over_length = nat_lt v.length.limit v.length.minutes;
 }
 
--- neither Table A nor Table B is exceeded
+-- whether a flight duty period exceeds neither Table A nor Table B
 abbrev pub exceeds_no_table : Outcome → Bool
 exceeds_no_table o = not o.is_over_flight_time && not o.is_over_length
 
@@ -50,11 +52,11 @@ sections_text false true = codes " exceeds " ++ section_text FlightDutyPeriod
 sections_text true true =
     codes " exceeds " ++ section_text FlightTime ++ codes " " ++ section_text FlightDutyPeriod
 
--- which tables are exceeded, as it is printed
+-- which tables a flight duty period exceeds, as the end of a line prints it
 unfoldable pub outcome_text : Outcome → List ℕ
 outcome_text o = sections_text o.is_over_flight_time o.is_over_length
 
--- a length beside the one that a table gives, as it is printed
+-- minutes beside the limit that a table gives, as the two are printed
 unfoldable pub against_text : Against → List ℕ
 against_text a = hours_text a.minutes ++ codes " of " ++ hours_text a.limit
 
@@ -65,16 +67,16 @@ verdict_text v =
     ++ codes " fdp " ++ against_text v.length ++ codes " flight " ++ against_text v.flight
     ++ outcome_text (outcome v)
 
--- a line of a verdict is its text, and whether it says `within`
+-- the line of a verdict: its text, and whether the line ends in `within`
 abbrev pub Line : Type 0
 Line = List ℕ × Bool
 
--- the line of a verdict has its text, and says whether no table is exceeded
+-- the line that a verdict makes: its text, and whether no table is exceeded
 abbrev pub line_of_verdict : Verdict → Line
 line_of_verdict v = (verdict_text v, exceeds_no_table (outcome v))
 
 -- Faults are looked for in this order: the zone, the report, each time in turn, the number of
--- times, their order.
+-- times, the order of the times.
 
 -- the line of a flight duty period, if its times are in order
 abbrev pub line_of_fdp : List ℕ → Fdp → Result Line LineFault
@@ -88,23 +90,23 @@ line_of_times zone report times =
     if not (is_block_time_count (length times)) then Err SegmentCount
     else line_of_fdp zone (fdp_of report times)
 
--- an instant is put before the instants that follow it, or the first fault is told
+-- an instant and the instants that follow it, as one list, or the first fault
 abbrev pub then_instant : Result ℕ TimeFault → Result (List ℕ) TimeFault → Result (List ℕ) TimeFault
 then_instant (Err fault) rest = Err fault
 then_instant (Ok time) (Err fault) = Err fault
 then_instant (Ok time) (Ok times) = Ok (time ∷ times)
 
--- the instants that texts give in turn, up to the first that gives none
+-- the instants that texts give in turn, or the fault of the first text that gives none
 abbrev pub read_instants : List (List ℕ) → Result (List ℕ) TimeFault
 read_instants [] = Ok []
 read_instants (text ∷ texts) = then_instant (read_instant text) (read_instants texts)
 
--- the fault of a time is a fault of the line
+-- the times of a line, or the fault of a time as the fault of the line
 abbrev pub as_line_fault : Result (List ℕ) TimeFault → Result (List ℕ) LineFault
 as_line_fault (Ok times) = Ok times
 as_line_fault (Err fault) = Err (Time fault)
 
--- the line of a report and times that were read, if each was
+-- the line of a report and times that were read, or the fault of the first that wasn't read
 abbrev pub line_of_read : List ℕ → Result ℕ TimeFault → Result (List ℕ) TimeFault →
     Result Line LineFault
 line_of_read zone (Err fault) times = Err (Time fault)

@@ -29,7 +29,7 @@ fn read_segments(alloc: Global, times: &[Minute]) -> Result<Vec<Segment>, AllocE
     Ok(segments)
 }
 
-/// Makes a segment of which only the times are told.
+/// Makes a segment of which only the times are given.
 fn timed(alloc: Global, block_out: Minute, block_in: Minute) -> Segment
     ensures { result ≡ spec.timed block_out block_in }
 {

@@ -78,7 +78,7 @@ fn line_of_times(
     ))
 }
 
-/// Returns whether so many times are block-out and block-in of 1 to 12 segments.
+/// Returns whether this many times are block-out and block-in of 1 to 12 segments.
 fn is_block_time_count(times: usize) -> bool
     ensures { result ≡ is_count times }
 {

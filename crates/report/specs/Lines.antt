@@ -13,12 +13,12 @@ key_of_place (Period id number) = 0 ∷ text_then id (number ∷ [])
 key_of_place (Ground id) = 1 ∷ text_then id []
 key_of_place (Outside id) = 2 ∷ text_then id []
 
--- what puts a line in its place: begin, end, periods before ground duties before outside periods, id
--- in byte order, period
+-- what puts a line in its place: begin, end, periods before ground duties before outside periods,
+-- id in byte order, period
 abbrev pub key_of : Line → List ℕ
 key_of line = line.begin ∷ line.end ∷ key_of_place line.place
 
--- the same lines, in the order of their keys
+-- The sorted list has these lines and no others, in the order of their keys.
 pub record IsInOrder (lines sorted : List Line) : Type 0 where
   pub same : IsPermutation lines sorted
   pub order : IsSorted (λ a b. name_cmp (key_of a) (key_of b)) sorted

@@ -34,13 +34,13 @@ segment_line period (number, s) =
     ++ (codes " " ++ s.from ++ codes " " ++ written s.block_out)
     ++ codes " " ++ s.to ++ codes " " ++ written s.block_in ++ codes "\n"
 
--- the lines of a period: its own, and those of its segments in turn
+-- the lines of a period: the period's own line, and the lines of its segments in turn
 abbrev pub pairing_period_lines : ℕ × PeriodInForce → List ℕ
 pairing_period_lines (number, p) =
     pairing_period_line number p
     ++ flat_map (segment_line number) (enumerate_from 1 p.fdp.segments)
 
--- the lines of the periods in turn, each with its segments
+-- the lines of a pairing's periods in turn, each period with its segments
 abbrev pub lines_of_periods : PairingEntry → List ℕ
 lines_of_periods r = flat_map pairing_period_lines (enumerate_from 1 (pairing_periods r))
 

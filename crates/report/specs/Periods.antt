@@ -23,7 +23,7 @@ abbrev pub source : Bool → List ℕ
 source true = codes "actual"
 source false = codes "plan"
 
--- the word for where the times of a period come from
+-- the word for where the times of a period come from: as flown, or as planned
 abbrev pub word : PeriodInForce → List ℕ
 word p = source p.is_flown
 

@@ -24,16 +24,17 @@ use Rattle.report.specs.declared.periods.PeriodInForce.{PeriodInForce}
 
 -- ---- The lines
 
--- the two times between which a duty lies
+-- the two times between which a duty lies, as they are printed
 abbrev pub span_text : ℕ → ℕ → List ℕ
 span_text begin end = written begin ++ codes " " ++ written end
 
--- the length of a period and the flight time in it, in minutes, as they end its line
+-- the end of the line of a period: the period's length and its flight time, each in hours and
+-- minutes
 abbrev pub lengths_text : ℕ → ℕ → List ℕ
 lengths_text length flight =
     codes " fdp " ++ hours_text length ++ codes " flight " ++ hours_text flight ++ codes "\n"
 
--- the line of a period of a pairing, which runs from its report to its release
+-- the line of a period of a pairing; the line runs from the period's report to its release
 abbrev pub roster_period_line : List ℕ → ℕ × PeriodInForce → Line
 roster_period_line id (number, p) = record {
   begin = p.fdp.report;
@@ -53,7 +54,7 @@ ground_line (id, g) = record {
   text = span_text g.begin g.end ++ codes " ground " ++ id ++ codes " " ++ g.task ++ codes "\n";
 }
 
--- the line of an outside period, which runs to its release
+-- the line of an outside period; the line runs from the period's report to its release
 abbrev pub outside_line : List ℕ × OutsideEntry → Line
 outside_line (id, o) = record {
   begin = o.period.report;
@@ -88,24 +89,24 @@ lines_of s who =
 
 -- ---- The text
 
--- the line of the base that a member belongs to, or nothing where that is HOME
+-- the line of the base that a member belongs to, or nothing if the base is HOME
 abbrev pub base_line : List ℕ → List ℕ
 base_line base = if bytes_eq base home then [] else codes "base " ++ base ++ codes "\n"
 
--- the first line, with the member's id, seat and name, and behind it the line of the base, if the
--- member has one
+-- the first line of a roster, with the member's id, seat and name, and then the line of the base,
+-- if the base isn't HOME
 abbrev pub roster_header : List ℕ → Member → List ℕ
 roster_header who member =
     codes "ROSTER " ++ who ++ codes " " ++ seat_text member.seat ++ codes " " ++ member.name
     ++ codes "\n" ++ base_line member.base
 
--- the roster text of this member: the first line, and then the member's lines in their order
+-- The roster text of this member: the first line, and then the member's lines in their order.
 pub record IsMemberText (s : State) (who : List ℕ) (member : Member) (text : List ℕ) : Type 0 where
   pub lines : List Line
   pub in_order : IsInOrder (lines_of s who) lines
   pub is : text ≡ roster_header who member ++ flat_map (λ line. line.text) lines
 
--- the roster text of the member with this id, who is in the state
+-- The roster text of the member with this id, who is in the state.
 pub record IsRosterText (s : State) (who text : List ℕ) : Type 0 where
   pub member : Member
   pub is_there : fin.get s.crew who ≡ Some member

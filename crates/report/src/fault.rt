@@ -1,4 +1,4 @@
-//! The refusals 2 and 4 of a report, and want of memory.
+//! The refusals 2 and 4 of a report, and out of memory.
 use std::alloc::{AllocError, AllocFailed};
 use std::error::Error;
 use std::fmt;

@@ -3,7 +3,8 @@ use Rattle.std.specs.FinMap as fin
 use Rattle.command.specs.Keys.{key_name}
 use Rattle.roster.specs.State.{State, exceedance_name}
 use Rattle.roster.specs.declared.put.Entry.{Entry}
-use Rattle.roster.specs.declared.put.Entry.TheVariants.{Base, Member, Pairing, Ground, Outside, Exceedance, LoggedCommand}
+use Rattle.roster.specs.declared.put.Entry.TheVariants.{Base, Member, Pairing, Ground, Outside}
+use Rattle.roster.specs.declared.put.Entry.TheVariants.{Exceedance, LoggedCommand}
 
 -- the state with this entry under its name, in the place of any that was there
 abbrev pub put : State → Entry → State

@@ -7,7 +7,11 @@ use Rattle.values.proofs.Names.{number_order, then_assoc, text_order}
 use Rattle.limits.specs.SectionText.{section_number}
 use Rattle.limits.specs.contracts.section.SectionOrd.TheImpl.{ghosts as sections}
 use Rattle.limits.specs.declared.section.Section.{Section}
-use Rattle.limits.specs.declared.section.Section.TheVariants.{FlightTime, FlightDutyPeriod, FlightTime672Hours, FlightTime365Days, FlightDutyPeriods168Hours, FlightDutyPeriods672Hours, ThirtyHourRest, TenHourRest}
+use Rattle.limits.specs.declared.section.Section.TheVariants.{FlightTime, FlightDutyPeriod}
+use Rattle.limits.specs.declared.section.Section.TheVariants.{FlightTime672Hours, FlightTime365Days}
+use Rattle.limits.specs.declared.section.Section.TheVariants.{FlightDutyPeriods168Hours}
+use Rattle.limits.specs.declared.section.Section.TheVariants.{FlightDutyPeriods672Hours}
+use Rattle.limits.specs.declared.section.Section.TheVariants.{ThirtyHourRest, TenHourRest}
 use Rattle.roster.specs.State.{exceedance_name}
 use Rattle.roster.specs.contracts.state.ExceedanceIdOrd.TheImpl.{ghosts}
 use Rattle.roster.specs.declared.state.ExceedanceId.{ExceedanceId}

@@ -1,6 +1,7 @@
--- Lists of commands: what they leave and what they are answered; imports; and books that are
+-- Lists of commands: the states that they leave and their answers; imports; and books that are
 -- stopped and opened again.
-use Rattle.std.specs.Prelude.{◌≡◌, ℕ, ◌+◌, ◌≤◌, List, [], ◌∷◌, map, length, take, Result, Ok, Err, ◌⊎◌}
+use Rattle.std.specs.Prelude.{◌≡◌, ℕ, ◌+◌, ◌≤◌, List, [], ◌∷◌, map, length, take, Result, Ok, Err}
+use Rattle.std.specs.Prelude.{◌⊎◌}
 use Rattle.std.specs.List.{fold, enumerate_from}
 use Rattle.duty.specs.Plans.{Plan}
 use Rattle.command.specs.Keys.{KeyParts}
@@ -13,7 +14,7 @@ use Rattle.roster.specs.Steps.{step_of, after}
 use Rattle.roster.specs.declared.change.Verdict.{Verdict}
 use Rattle.roster.specs.declared.change.Verdict.TheVariants.{Repeat, Accept, Refuse}
 
--- what a command is answered: its reply, or why it is refused
+-- the answer to a command: its reply, or why it is refused
 abbrev pub ReplyOrRefusal : Type 0
 ReplyOrRefusal = Result Reply Refusal
 
@@ -27,7 +28,7 @@ answer_of (Repeat reply) = Ok reply
 answer_of (Accept change reply) = Ok reply
 answer_of (Refuse refusal) = Err refusal
 
--- the state that a verdict leaves: only an accepted command changes it
+-- the state that a verdict leaves: only an accepted command changes the state
 abbrev pub left_by : State → Verdict → State
 left_by s (Repeat reply) = s
 left_by s (Accept change reply) = after s change

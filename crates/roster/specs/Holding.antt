@@ -1,4 +1,4 @@
--- Who holds a pairing, and whose a ground duty and an outside period are.
+-- Which member holds a pairing, and of which member a ground duty and an outside period are.
 use Rattle.std.specs.Prelude.{◌≡◌, ◌↔◌, true, List, ℕ, Some}
 use Rattle.std.specs.FinMap as fin
 use Rattle.std.specs.List.{Contains}

@@ -1,5 +1,6 @@
 -- What holds of every book, in the words of its readers.
-use Rattle.std.specs.Prelude.{◌≡◌, ℕ, Bool, true, false, nat_lt, List, [], ◌∷◌, ◌++◌, map, take, Some, None, ◌↔◌}
+use Rattle.std.specs.Prelude.{◌≡◌, ℕ, Bool, true, false, nat_lt, List, [], ◌∷◌, ◌++◌, map, take}
+use Rattle.std.specs.Prelude.{Some, None, ◌↔◌}
 use Rattle.std.specs.FinMap as fin
 use Rattle.std.specs.List.{Contains, fold}
 use Rattle.duty.specs.Plans.{Plan}
@@ -41,7 +42,7 @@ IsAscending = (s : State) (instruction : Instruction) →
 
 -- ---- Assignments and limits
 
--- the duties of a member who gains some: the others, which the member keeps, and the new ones
+-- the duties of a member who gains some: the other duties, which the member keeps, and the new ones
 pub record Gain : Type 0 where
   pub others : List DutyInForce
   pub new : List DutyInForce
@@ -67,7 +68,8 @@ gains s instruction = []
 abbrev pub IsBroken : Gain → Section → Type 0
 IsBroken gain section = Rule section (gain.others ++ gain.new) gain.new
 
--- the key is free, and no refusal of the instruction applies, but perhaps that for limits (12)
+-- the key is free, and no refusal of the instruction applies, save perhaps the refusal for limits
+-- (12)
 pub record PassesChecks (s : State) (key : KeyParts) (instruction : Instruction) : Type 0 where
   pub free : fin.get s.requests (key_name key) ≡ None
   pub passes : (row : Row) → Contains (refusals s instruction) row → (number_of row ≡ 12 → ⊥) →
@@ -96,8 +98,8 @@ AcceptedWithinLimits = (s : State) (key : KeyParts) (instruction : Instruction) 
 
 -- ---- The limits that are listed
 
--- an exceedance is listed if and only if it is the member's and the new duties break the rule of
--- its section
+-- an exceedance is listed for a member if and only if it is the member's and the new duties break
+-- the rule of its section
 abbrev pub ListsBroken : Type 0
 ListsBroken = (who : List ℕ) (gain : Gain) (e : Exceedance) →
     Contains (broken_by who gain.others gain.new) e ↔ ((e.crew ≡ who) × IsBroken gain e.section)
@@ -159,15 +161,15 @@ KeepsRequests = (s : State) (key : KeyParts) (request : LoggedCommand) (asked : 
     fin.get s.requests (key_name key) ≡ Some request →
     fin.get (Fold s asked).requests (key_name key) ≡ Some request
 
--- a command is answered with a kept reply, and changes nothing, if and only if its key holds it
--- with that reply
+-- a command is answered with a kept reply, and changes nothing, if and only if its key holds that
+-- command with that reply
 abbrev pub Repeats : Type 0
 Repeats = (s : State) (key : KeyParts) (instruction : Instruction) (reply : Reply) →
     (step_of s key instruction ≡ Repeat reply)
     ↔ (fin.get s.requests (key_name key) ≡ Some (record { command = instruction; reply = reply }))
 
--- an import that was stopped after some of its commands, and begun again, any number of times, ends
--- when it is handed in once more as if it had never been stopped
+-- An import was stopped after some of its commands and begun again, any number of times. When it is
+-- handed in once more, it ends as if it had never been stopped.
 abbrev pub Resumes : Type 0
 Resumes = (s : State) (number : ℕ) (plans : List Plan) (stops : List ℕ) →
     let commands = import number plans in

@@ -4,7 +4,7 @@ use Rattle.roster.specs.Places.{Place, no_place, the_pairing, the_period, the_ou
 use Rattle.roster.specs.declared.duties.LeftOut.{LeftOut}
 use Rattle.roster.specs.declared.duties.LeftOut.TheVariants.{Nothing, Pairing, Period, Outside}
 
--- the duty at this place is left out
+-- a choice of duties leaves out the duty at this place
 abbrev pub leaves_out : LeftOut → Place → Bool
 leaves_out Nothing = no_place
 leaves_out (Pairing id) = the_pairing id.now

@@ -21,7 +21,7 @@ unheld plan = record {
 abbrev pub is_flown : PairingEntry → Bool
 is_flown r = list_any is_some r.actuals
 
--- who holds a seat of the pairing, if it is held
+-- the member who holds a seat of the pairing, if the seat is held
 abbrev pub holder : Seat → PairingEntry → Option (List ℕ)
 holder Captain r = r.captain
 holder FirstOfficer r = r.first_officer
@@ -48,7 +48,7 @@ is_held_by who (Some other) = bytes_eq other who
 abbrev pub holds : List ℕ → PairingEntry → Bool
 holds who r = is_held_by who r.captain || is_held_by who r.first_officer
 
--- a period with its actual times, if it has them, else as it is planned
+-- a period with its actual times, if it has them, else the period as it is planned
 abbrev pub flown : Fdp × Option ActualTimes → Fdp
 flown (fdp, None) = fdp
 flown (fdp, Some actual) = flown_at fdp actual

@@ -31,7 +31,7 @@ place_of (Outside id) = outside id
 abbrev pub Placed : Type 0
 Placed = Place × DutyInForce
 
--- these periods of a pairing in force, at their places, the first of them number n
+-- periods of a pairing in force, at their places, the first of the periods being number n
 abbrev pub numbered : List ℕ → List ℕ → ℕ → List Fdp → List Placed
 numbered zone id n fdps =
     map (λ p. (period id p.0, in_force zone (duty.Fdp p.1))) (enumerate_from n fdps)
@@ -40,11 +40,11 @@ numbered zone id n fdps =
 abbrev pub periods_at : List ℕ → List ℕ × PairingEntry → List Placed
 periods_at zone (id, r) = numbered zone id 1 (periods_in_force r)
 
--- a ground duty at its place, from its begin to its end: it is the same in every zone
+-- a ground duty at its place, from its begin to its end; the duty is the same in every zone
 abbrev pub ground_at : List ℕ × GroundPlan → Placed
 ground_at (id, g) = (on_ground id, times.Ground (record { from = g.begin; to = g.end }))
 
--- an outside period as a duty in force: it is the same in every zone
+-- an outside period as a duty in force; the duty is the same in every zone
 abbrev pub outside_duty : OutsidePlan → DutyInForce
 outside_duty o = times.Fdp (outside_times o)
 
@@ -86,7 +86,7 @@ the_pairing id (period pairing number) = bytes_eq id pairing
 the_pairing id (on_ground _) = false
 the_pairing id (outside _) = false
 
--- the place is this period of this pairing
+-- the place is the period of this number in this pairing
 abbrev pub the_period : List ℕ → ℕ → Place → Bool
 the_period id number (period pairing n) = bytes_eq id pairing && number == n
 the_period id number (on_ground _) = false

@@ -2,7 +2,8 @@
 -- of their numbers, each beside the fact that makes it apply; the first that applies is the answer.
 -- Each fact makes sense in any state: a pairing that isn't there has no seat that is held and no
 -- periods, and a member who isn't there holds nothing.
-use Rattle.std.specs.Prelude.{ℕ, ◌-◌, ◌==◌, Bool, false, not, ◌&&◌, ◌||◌, nat_lt, List, [], ◌∷◌, ◌++◌, map, length, Option, is_some, is_none, slice_get}
+use Rattle.std.specs.Prelude.{ℕ, ◌-◌, ◌==◌, Bool, false, not, ◌&&◌, ◌||◌, nat_lt, List, [], ◌∷◌}
+use Rattle.std.specs.Prelude.{◌++◌, map, length, Option, is_some, is_none, slice_get}
 use Rattle.std.specs.FinMap as fin
 use Rattle.std.specs.List.{find}
 use Rattle.std.specs.Option.{option_map, option_and_then, option_map_or}
@@ -15,10 +16,20 @@ use Rattle.limits.specs.Judgement.{Broken}
 use Rattle.command.specs.contracts.member.SeatPartialEq.TheImpl.{ghosts as seats}
 use Rattle.command.specs.declared.exceedance.Exceedance.{Exceedance}
 use Rattle.command.specs.declared.instruction.Instruction.{Instruction}
-use Rattle.command.specs.declared.instruction.Instruction.TheVariants.{AddBase, AddCrew, AddPairing, CancelPairing, Assign, Release, Swap, AddGround, CancelGround, Actual, RecordOutside}
+use Rattle.command.specs.declared.instruction.Instruction.TheVariants.{AddBase, AddCrew, AddPairing}
+use Rattle.command.specs.declared.instruction.Instruction.TheVariants.{CancelPairing, Assign}
+use Rattle.command.specs.declared.instruction.Instruction.TheVariants.{Release, Swap, AddGround}
+use Rattle.command.specs.declared.instruction.Instruction.TheVariants.{CancelGround, Actual}
+use Rattle.command.specs.declared.instruction.Instruction.TheVariants.{RecordOutside}
 use Rattle.command.specs.declared.instruction.Swap as swap
 use Rattle.command.specs.declared.refusal.Refusal.{Refusal}
-use Rattle.command.specs.declared.refusal.Refusal.TheVariants.{NoSuchCrew, CrewExists, NoSuchPairing, PairingExists, SeatTaken, WrongSeat, NotAssigned, PairingCrewed, Flown, Overlap, Limits, NoSuchDuty, GroundExists, NoSuchGround, SegmentCount, NoSuchBase, BaseExists, OutsideTaken}
+use Rattle.command.specs.declared.refusal.Refusal.TheVariants.{NoSuchCrew, CrewExists}
+use Rattle.command.specs.declared.refusal.Refusal.TheVariants.{NoSuchPairing, PairingExists}
+use Rattle.command.specs.declared.refusal.Refusal.TheVariants.{SeatTaken, WrongSeat, NotAssigned}
+use Rattle.command.specs.declared.refusal.Refusal.TheVariants.{PairingCrewed, Flown, Overlap}
+use Rattle.command.specs.declared.refusal.Refusal.TheVariants.{Limits, NoSuchDuty, GroundExists}
+use Rattle.command.specs.declared.refusal.Refusal.TheVariants.{NoSuchGround, SegmentCount}
+use Rattle.command.specs.declared.refusal.Refusal.TheVariants.{NoSuchBase, BaseExists, OutsideTaken}
 use Rattle.roster.specs.Pairings.{holder, is_held_by, is_flown, is_crewed, is_fully_crewed}
 use Rattle.roster.specs.Places.{duties, no_place, the_pairing, others, periods_at, ground_at}
 use Rattle.roster.specs.State.{State, zone_of}
@@ -53,7 +64,7 @@ are_of_two_kinds s who other =
     (λ m. option_map_or (λ n. not (seats.eq m.seat n.seat)) (fin.get s.crew other) false)
     (fin.get s.crew who) false
 
--- who holds the seat of the pairing that is of the member's kind
+-- the member who holds the seat of the pairing that is of this member's kind
 abbrev pub holder_of_own_seat : State → List ℕ → List ℕ → Option (List ℕ)
 holder_of_own_seat s id who =
     option_and_then (λ r. option_and_then (λ m. holder m.seat r) (fin.get s.crew who))
@@ -87,14 +98,14 @@ is_miscounted s id a =
     option_map_or (λ fdp. not (length fdp.segments == length a.segments))
     (planned s id a.period) false
 
--- what a pairing gives a member: its duties in force, placed in the member's zone
+-- the duties in force that a pairing gives a member, placed in the member's zone
 abbrev pub duties_of : State → List ℕ → List ℕ → List DutyInForce
 duties_of s who id =
     option_map_or (λ r. duties (periods_at (zone_of s who) (id, r))) (fin.get s.pairings id) []
 
--- the limits that a member's new duties break, after the member's others: the sections whose rule
--- they break, in order. That is a law, `broken_by_is_rules`; of `Broken` itself it is
--- `broken_is_rules` of `limits` (Meaning.antt there)
+-- The limits that a member's new duties break, after the member's others: the sections whose rule
+-- the new duties break, in order. The law `broken_by_is_rules` says so; of `Broken` itself the law
+-- `broken_is_rules` of `limits` says so (Meaning.antt there).
 unfoldable pub broken_by : List ℕ → List DutyInForce → List DutyInForce → List Exceedance
 broken_by who others new =
     map (λ section. record { crew = who; section = section }) (Broken (others ++ new) new)
@@ -109,8 +120,8 @@ Row = Refusal × Bool
 abbrev pub over_limits : List Exceedance → Row
 over_limits broken = (Limits broken, nat_lt 0 (length broken))
 
--- the refusals of a swap for overlap and limits, by the duties that each pairing gives the member
--- who takes it: each member loses the own pairing, and the duties of the other's pairing are new
+-- The refusals of a swap for overlap and limits, by the duties that each pairing gives the member
+-- who takes it. Each member loses the own pairing, and the duties of the other's pairing are new.
 abbrev pub trade_rows : State → swap.Swap → List DutyInForce → List DutyInForce → List Row
 trade_rows s w given taken =
     let rest = others s w.crew (the_pairing w.pairing) in

@@ -1,7 +1,8 @@
 -- A sound state: HOME is one of its bases, every name in it, save inside kept commands and replies,
 -- names something, and its pairings, actuals, ground duties and outside periods keep their orders.
 -- Exceedances and kept commands stand under what they are known by, and nothing else does.
-use Rattle.std.specs.Prelude.{◌≡◌, ℕ, ◌+◌, ◌<◌, true, List, map, length, Option, Some, None, slice_get}
+use Rattle.std.specs.Prelude.{◌≡◌, ℕ, ◌+◌, ◌<◌, true, List, map, length, Option, Some, None}
+use Rattle.std.specs.Prelude.{slice_get}
 use Rattle.std.specs.FinMap as fin
 use Rattle.values.specs.Name.{name_cmp}
 use Rattle.duty.specs.Pairings.{pairing_fault, outside_fault, actual_fault}
@@ -33,8 +34,8 @@ abbrev pub IsHolder : Crew → Seat → Option (List ℕ) → Type 0
 IsHolder crew seat holder = (who : List ℕ) → holder ≡ Some who →
     (m : Member) × (fin.get crew who ≡ Some m) × (m.seat ≡ seat)
 
--- an actual at place i, counted from 0, is of that period of the plan, has as many segments, and
--- keeps the order of its times
+-- an actual at place i, counted from 0, is of the plan's period at that place, has as many segments
+-- as the period, and keeps the order of its times
 pub record IsActual (plan : Plan) (i : ℕ) (a : ActualTimes) : Type 0 where
   pub fdp : Fdp
   pub planned : slice_get plan.periods i ≡ Some fdp
@@ -42,8 +43,8 @@ pub record IsActual (plan : Plan) (i : ℕ) (a : ActualTimes) : Type 0 where
   pub count : length fdp.segments ≡ length a.segments
   pub in_order : actual_fault a ≡ None
 
--- a pairing keeps the order of its plan, its holders are members, and each actual is of one of its
--- periods
+-- a pairing keeps the order of its plan, its holders are members, and each of its actuals is of one
+-- of its periods
 pub record SoundPairing (crew : Crew) (id : List ℕ) (r : PairingEntry) : Type 0 where
   pub named : r.plan.id ≡ id
   -- a plan that `Pairing::new` makes
@@ -81,7 +82,7 @@ pub record IsFlown (s : State) (p : PeriodId) : Type 0 where
   pub actual : ActualTimes
   pub flown : slice_get rostered.actuals place ≡ Some (Some actual)
 
--- what an exceedance names is there: a period that has an actual, or an outside period
+-- the duty that an exceedance names is there: a period that has an actual, or an outside period
 abbrev pub IsNamed : State → DutyId → Type 0
 IsNamed s (Period p) = IsFlown s p
 IsNamed s (Outside id) = (o : OutsideEntry) × (fin.get s.outsides id ≡ Some o)
@@ -99,14 +100,14 @@ pub record SoundExceedance (s : State) (name : List ℕ) (named : DutyId) : Type
   pub of_member : fin.get s.crew crew ≡ Some member
   pub of_duty : IsNamed s named
 
--- what is kept under a key is a command
+-- what is kept under a key is a command that `Command::new` makes
 pub record SoundRequest (name : List ℕ) (request : LoggedCommand) : Type 0 where
   pub key : KeyParts
   pub known_by : name ≡ key_name key
   pub made : IsMade request.command
 
--- the bases have HOME, the base of each member is one of them, and each pairing, ground duty,
--- outside period, exceedance and kept command is sound
+-- a state is sound: its bases have HOME, the base of each member is one of the bases, and each
+-- pairing, ground duty, outside period, exceedance and kept command is sound
 pub record Sound (s : State) : Type 0 where
   pub has_home : IsBase s.bases home
   pub crew : (who : List ℕ) (m : Member) → fin.get s.crew who ≡ Some m → IsBase s.bases m.base

@@ -16,11 +16,11 @@ use Rattle.roster.specs.declared.state.Roster.{Roster}
 abbrev pub State : Type 0
 State = Roster
 
--- a member's base; of one who isn't there, HOME
+-- a member's base; HOME if the member isn't there
 abbrev pub base_of : State → List ℕ → List ℕ
 base_of s who = option_map_or (λ m. m.base) (fin.get s.crew who) home
 
--- the zone in which a member's duties are placed: that of the member's base
+-- the zone in which a member's duties are placed, which is that of the member's base
 abbrev pub zone_of : State → List ℕ → List ℕ
 zone_of s who = zone_at s.bases (base_of s who)
 

@@ -1,5 +1,6 @@
--- One step: what a command is answered in a state, and the state that it leaves.
-use Rattle.std.specs.Prelude.{◌≡◌, ℕ, ◌-◌, List, [], ◌∷◌, ◌++◌, Option, Some, None, if◌then◌else◌, slice_set}
+-- One step: the verdict on a command in a state, and the state that the command leaves.
+use Rattle.std.specs.Prelude.{◌≡◌, ℕ, ◌-◌, List, [], ◌∷◌, ◌++◌, Option, Some, None, if◌then◌else◌}
+use Rattle.std.specs.Prelude.{slice_set}
 use Rattle.std.specs.FinMap as fin
 use Rattle.std.specs.List.{fold}
 use Rattle.std.specs.Option.{option_map_or}
@@ -12,7 +13,11 @@ use Rattle.command.specs.Keys.{KeyParts, key_name}
 use Rattle.command.specs.contracts.instruction.CommandPartialEq.TheImpl.{ghosts as commands}
 use Rattle.command.specs.declared.exceedance.Exceedance.{Exceedance}
 use Rattle.command.specs.declared.instruction.Instruction.{Instruction}
-use Rattle.command.specs.declared.instruction.Instruction.TheVariants.{AddBase, AddCrew, AddPairing, CancelPairing, Assign, Release, Swap, AddGround, CancelGround, Actual, RecordOutside}
+use Rattle.command.specs.declared.instruction.Instruction.TheVariants.{AddBase, AddCrew, AddPairing}
+use Rattle.command.specs.declared.instruction.Instruction.TheVariants.{CancelPairing, Assign}
+use Rattle.command.specs.declared.instruction.Instruction.TheVariants.{Release, Swap, AddGround}
+use Rattle.command.specs.declared.instruction.Instruction.TheVariants.{CancelGround, Actual}
+use Rattle.command.specs.declared.instruction.Instruction.TheVariants.{RecordOutside}
 use Rattle.command.specs.declared.refusal.Refusal.{Refusal}
 use Rattle.command.specs.declared.refusal.Refusal.TheVariants.{NumberUsed}
 use Rattle.roster.specs.Pairings.{unheld, with_holder}
@@ -89,8 +94,8 @@ judged s key instruction (Some refusal) = Refuse refusal
 judged s key instruction None =
     Accept (change_of s key instruction) (record { exceedances = recorded_by s instruction })
 
--- the verdict by what the key holds: the command that it holds is repeated, and no other command
--- takes a key that is held
+-- the verdict by what the key holds: the command that the key holds is repeated, and no other
+-- command takes a key that is held
 abbrev pub answered : State → KeyParts → Instruction → Option LoggedCommand → Verdict
 answered s key instruction (Some kept) =
     if commands.eq kept.command instruction then Repeat kept.reply else Refuse NumberUsed
@@ -116,12 +121,12 @@ reseated pairings seat = changed_at pairings seat.pairing (with_holder seat.seat
 abbrev pub with_actual : ActualTimes → PairingEntry → PairingEntry
 with_actual a r = record r { actuals = slice_set r.actuals (a.period - 1) (Some a) }
 
--- the exceedances with one more, which names this duty
+-- the exceedances with one more exceedance, which names this duty
 abbrev pub recorded :
     KeyParts → DutyId → fin.FinMap name_cmp DutyId → Exceedance → fin.FinMap name_cmp DutyId
 recorded key named records e = fin.insert records (exceedance_name key e.crew e.section) named
 
--- the state that an accepted instruction leaves, before its key holds it
+-- the state that an accepted instruction leaves, before its key holds the instruction
 abbrev pub effect : State → Change → Instruction → State
 effect s change (AddBase id zone) = record s { bases = fin.insert s.bases id zone }
 effect s change (AddCrew who member) = record s { crew = fin.insert s.crew who member }
@@ -153,6 +158,7 @@ kept s change = record s {
       (record { command = change.command; reply = change.reply });
 }
 
--- the state that an accepted command leaves: with its effect, and with its key holding it
+-- the state that an accepted command leaves: with the command's effect, and with its key holding
+-- the command
 unfoldable pub after : State → Change → State
 after s change = kept (effect s change change.command) change

@@ -1,5 +1,6 @@
--- What `do` and `import` make of what a reader has, and of a book.
-use Rattle.std.specs.Prelude.{◌≡◌, ◌⊎◌, ◌≤◌, ◌<◌, ⊤, ℕ, ◌+◌, List, [], ◌∷◌, ◌++◌, length, take, codes, Result, Ok, Err, OnOk, IsTrue, string_bytes}
+-- What `do` and `import` do with what a reader has, and with a book.
+use Rattle.std.specs.Prelude.{◌≡◌, ◌⊎◌, ◌≤◌, ◌<◌, ⊤, ℕ, ◌+◌, List, [], ◌∷◌, ◌++◌, length, take}
+use Rattle.std.specs.Prelude.{codes, Result, Ok, Err, OnOk, IsTrue, string_bytes}
 use Rattle.std.specs.Fmt.{decimal}
 use Rattle.std.specs.List.{fold}
 use Rattle.std.specs.Io.KnownBytes.{Appends}
@@ -29,12 +30,12 @@ use Rattle.rosterbook.specs.declared.status.Status.TheVariants.{Done, Refused}
 use Rattle.rosterbook.specs.declared.stop.Stop.{Stop}
 use Rattle.rosterbook.specs.declared.stop.Stop.TheVariants.{Book, Memory}
 
--- how the program ends after an answer
+-- the status with which the program ends after this answer
 abbrev pub status_of_answer : ReplyOrRefusal → Status
 status_of_answer (Ok reply) = Done
 status_of_answer (Err refusal) = Refused
 
--- how the program ends after an answer of this kind
+-- the status with which the program ends after an answer of this kind
 abbrev pub status_of_kind : AnswerKind → Status
 status_of_kind kind.Accepted = Done
 status_of_kind kind.Refused = Refused
@@ -42,79 +43,90 @@ status_of_kind kind.Unfit = Refused
 
 -- ---- Where the program stops
 
--- how the program stops where what is asked of a book has no answer
+-- how the program stops if a book has no answer because of this fault
 abbrev pub stop_of : AskFault → Stop
 stop_of (ask.Book fault) = Book fault
 stop_of ask.Memory = Memory
 
--- the book met a fault: of its store (90), or want of memory (91)
+-- the program stopped because the book met a fault: of its store (90), or out of memory (91)
 abbrev pub IsBookFault : Stop → Type 0
 IsBookFault stop = (fault : StoreFault) × (stop ≡ Book fault)
 
 module _ {S : Type 0} (g : Ghosts S) where
-  -- what is left where so many commands were answered: after a fault of the store (90) the one after them is in doubt
+  -- the state that is left where this many commands were answered; after a fault of the store (90)
+  -- it is in doubt whether the command after them was done
   abbrev pub IsLeftAfterAnswers : Kept S → State → List Asked → ℕ → Stop → Type 0
-  IsLeftAfterAnswers new s asked n (Book Store) = IsInDoubt g new (Fold s (take n asked)) (Fold s (take (n + 1) asked))
+  IsLeftAfterAnswers new s asked n (Book Store) =
+      IsInDoubt g new (Fold s (take n asked)) (Fold s (take (n + 1) asked))
   IsLeftAfterAnswers new s asked n stop = IsDurablyAt g new (Fold s (take n asked))
 
-  -- these commands were asked in turn, and got these answers before the program stopped
-  pub record IsStoppedIn (old new : Kept S) (asked : List Asked) (answers : List ReplyOrRefusal) (stop : Stop) : Type 0 where
+  -- A book was asked these commands in turn, and gave these answers before the program stopped.
+  pub record IsStoppedIn (old new : Kept S) (asked : List Asked) (answers : List ReplyOrRefusal)
+      (stop : Stop) : Type 0 where
     pub told : IsBookFault stop ⊎ IsOfChannel stop
     pub few : length answers ≤ length asked
     pub unanswered : IsBookFault stop → length answers < length asked
     pub failed : stop ≡ Book Store → IsTrue new.failed
     pub disk : IsClean g new → IsClean g old
-    pub answered : (s : State) → IsDurablyAt g old s → IsClean g new → answers ≡ take (length answers) (Replies s asked)
-    pub left : (s : State) → IsDurablyAt g old s → IsLeftAfterAnswers new s asked (length answers) stop
+    pub answered : (s : State) → IsDurablyAt g old s → IsClean g new
+        → answers ≡ take (length answers) (Replies s asked)
+    pub left : (s : State) → IsDurablyAt g old s
+        → IsLeftAfterAnswers new s asked (length answers) stop
 
--- nothing was asked, and nothing written
-pub record IsUnasked {S : Type 0} (old new : Kept S) (out out' : ChannelBytes) (stop : Stop) : Type 0 where
+-- the program stopped before a book was asked anything or a line was written
+pub record IsUnasked {S : Type 0} (old new : Kept S) (out out' : ChannelBytes) (stop : Stop)
+    : Type 0 where
   pub unchanged : new ≡ old
   pub silent : out' ≡ out
   pub told : IsOfChannel stop
 
 -- ---- `do`
 
--- one that is not read is told so, and another its answer
+-- what `do` reports of a request: why it isn't read, or its answer
 abbrev pub told_json : Request → ReplyOrRefusal → Status × List ℕ
 told_json (Ok asked) answer = (status_of_answer answer, answer_json answer)
 told_json (Err fault) answer = (Refused, json.fault_reply fault)
 
--- a request was read, and told what it was answered
-pub record IsRequestReadAndTold (held out out' : ChannelBytes) (status : Status) (input : List ℕ) (answer : ReplyOrRefusal) : Type 0 where
+-- a request was read from the input, and its answer, or why it isn't read, was printed
+pub record IsRequestReadAndTold (held out out' : ChannelBytes) (status : Status) (input : List ℕ)
+    (answer : ReplyOrRefusal) : Type 0 where
   pub read : ReadsInput held input
   pub printed : Prints (told_json (read_request input) answer) status out out'
 
--- the book's answer in a state
+-- the state gives this answer to a request; of a request that isn't read nothing is said
 abbrev pub Answers : State → Request → ReplyOrRefusal → Type 0
 Answers s (Ok asked) answer = answer ∷ [] ≡ Replies s (asked_as asked ∷ [])
 Answers s (Err fault) answer = ⊤
 
--- the state after a request: one that isn't read changes nothing
+-- the state after a request; a request that isn't read changes nothing
 abbrev pub left_by_request : State → Request → State
 left_by_request s (Ok asked) = next s (asked_as asked)
 left_by_request s (Err fault) = s
 
--- the state after a request that is only checked
+-- the state after a request that is only checked is the state before it
 abbrev pub left_by_check : State → Request → State
 left_by_check s request = s
 
--- what is asked: one command, or none where the request isn't read
+-- the commands that a request asks: one, or none if the request isn't read
 abbrev pub asked_by_request : Request → List Asked
 asked_by_request (Ok asked) = asked_as asked ∷ []
 asked_by_request (Err fault) = []
 
--- the answer was the book's, where its state is known, and so is the state after it
+-- A request was read and its answer printed. Where the state of the book is known, the answer is
+-- that of the state, and `left_by` gives the state that is left.
 pub record IsRequestAnswered {S : Type 0} (g : Ghosts S) (left_by : State → Request → State)
     (old new : Kept S) (held out out' : ChannelBytes) (status : Status) : Type 0 where
   pub input : List ℕ
   pub answer : ReplyOrRefusal
   pub told : IsRequestReadAndTold held out out' status input answer
-  pub answered : (s : State) → IsDurablyAt g old s → IsClean g new → Answers s (read_request input) answer
+  pub answered : (s : State) → IsDurablyAt g old s → IsClean g new
+      → Answers s (read_request input) answer
   pub left : (s : State) → IsDurablyAt g old s → IsDurablyAt g new (left_by s (read_request input))
 
--- the program stopped before it asked anything, or when it had asked what was read: nothing was printed where that has no answer
-abbrev pub IsAskStopped : {S : Type 0} → Ghosts S → Kept S → Kept S → ChannelBytes → ChannelBytes → ChannelBytes → Stop → Type 0
+-- The program stopped before it asked a book anything, or after it asked the command of a request.
+-- If the command has no answer, nothing was printed.
+abbrev pub IsAskStopped : {S : Type 0} → Ghosts S → Kept S → Kept S → ChannelBytes → ChannelBytes
+    → ChannelBytes → Stop → Type 0
 IsAskStopped g old new held out out' stop =
     IsUnasked old new out out' stop
     ⊎ ((input : List ℕ) × (answers : List ReplyOrRefusal) × ReadsInput held input
@@ -123,16 +135,16 @@ IsAskStopped g old new held out out' stop =
 
 -- ---- A body that was read
 
--- `Asks result`: the body was asked of a book so, and this came of it
+-- `Asks result`: a book was asked what this body asks, and gave this result.
 module _ (Asks : Result JsonAnswer AskFault → Type 0) (out out' : ChannelBytes) where
-  -- it has an answer, and the line of that was written
+  -- a body has an answer, and the line of the answer was written
   pub record IsBodyTold (status : Status) : Type 0 where
     pub answer : JsonAnswer
     pub asked : Asks (Ok answer)
     pub ends : status ≡ status_of_kind answer.kind
     pub printed : Appends out out' (string_bytes answer.text ++ line_end)
 
-  -- it has no answer, and nothing was written; or the line of its answer could not be written
+  -- a body has no answer, and nothing was written; or the line of its answer could not be written
   abbrev pub IsBodyUntold : Stop → Type 0
   IsBodyUntold stop =
       ((fault : AskFault) × Asks (Err fault) × (stop ≡ stop_of fault) × (out' ≡ out))
@@ -140,23 +152,23 @@ module _ (Asks : Result JsonAnswer AskFault → Type 0) (out out' : ChannelBytes
 
 -- ---- `import`
 
--- the line of a part
+-- the line that `import` prints for the answer to a part
 abbrev pub part_line : ℕ → ReplyOrRefusal → List ℕ
 part_line part (Ok reply) = decimal part ++ codes " accepted" ++ line_end
 part_line part (Err refusal) = decimal part ++ codes " refused " ++ refusal_text refusal ++ line_end
 
--- the lines of parts, from this one on
+-- the lines that `import` prints for answers in turn, the first as that to this part
 abbrev pub part_lines : ℕ → List ReplyOrRefusal → List ℕ
 part_lines part [] = []
 part_lines part (answer ∷ answers) = part_line part answer ++ part_lines (part + 1) answers
 
--- refused if any part was
+-- the status after one more answer: refused if the answer is a refusal, else as it was
 abbrev pub status_with : Status → ReplyOrRefusal → Status
 status_with status (Ok reply) = status
 status_with status (Err refusal) = Refused
 
--- the line of a part was written, by the same writer, and its answer counts in how the program ends;
--- or it could not be written
+-- The line of a part was written by the same writer, and the answer counts in the status with which
+-- the program ends; or the line could not be written.
 abbrev pub IsPartTold : {O F : Type 0} → (O → ChannelBytes) → PartLines O → PartLines O → ℕ
     → ReplyOrRefusal → Result ⊤ F → Type 0
 IsPartTold contents old new part answer result = OnOk result
@@ -164,53 +176,67 @@ IsPartTold contents old new part answer result = OnOk result
     × Appends (contents old.out.now) (contents new.out.now) (part_line part answer)
     × (new.status ≡ status_with old.status answer))
 
--- how the program ends after the answers of an import
+-- the status with which the program ends after these answers of an import
 abbrev pub status_of_all : List ReplyOrRefusal → Status
 status_of_all answers = fold status_with Done answers
 
--- each of these pairings was told what it was answered
-pub record AreTold (plans : List Plan) (answers : List ReplyOrRefusal) (status : Status) (out out' : ChannelBytes) : Type 0 where
+-- the answers to these pairings were printed, one line for each
+pub record AreTold (plans : List Plan) (answers : List ReplyOrRefusal) (status : Status)
+    (out out' : ChannelBytes) : Type 0 where
   pub each : length answers ≡ length plans
   pub printed : Appends out out' (part_lines 1 answers)
   pub ends : status ≡ status_of_all answers
 
--- the answers were the book's, where its state is known
-pub record AreAddedAndTold {S : Type 0} (g : Ghosts S) (old new : Kept S) (number : ℕ) (plans : List Plan) (status : Status) (out out' : ChannelBytes) : Type 0 where
+-- These pairings were added and their answers printed. Where the state of the book is known, the
+-- answers are those of the state, and what is left is the state after the pairings.
+pub record AreAddedAndTold {S : Type 0} (g : Ghosts S) (old new : Kept S) (number : ℕ)
+    (plans : List Plan) (status : Status) (out out' : ChannelBytes) : Type 0 where
   pub answers : List ReplyOrRefusal
   pub told : AreTold plans answers status out out'
-  pub answered : (s : State) → IsDurablyAt g old s → IsClean g new → answers ≡ Replies s (import number plans)
+  pub answered : (s : State) → IsDurablyAt g old s → IsClean g new
+      → answers ≡ Replies s (import number plans)
   pub left : (s : State) → IsDurablyAt g old s → IsDurablyAt g new (Fold s (import number plans))
 
--- the text is no schedule, which was told with the record at fault
-pub record IsNoSchedule (text : List ℕ) (status : Status) (out out' err err' : ChannelBytes) : Type 0 where
+-- the text is no schedule, and the number of the record at fault was printed on standard error
+pub record IsNoSchedule (text : List ℕ) (status : Status) (out out' err err' : ChannelBytes)
+    : Type 0 where
   pub line : ℕ
   pub at_fault : IsAtFault text line
   pub ends : status ≡ Refused
   pub prints : out' ≡ out
   pub complains : Appends err err' (refused_line (codes "30 BadCsv " ++ decimal line))
 
--- a schedule was read, and its pairings were told their answers; or it was none
+-- a schedule was read, and the answers to its pairings were printed; or the text is no schedule,
+-- and why was printed
 pub record IsImportTold (held out out' err err' : ChannelBytes) (status : Status) : Type 0 where
   pub text : List ℕ
   pub read : ReadsInput held text
   pub told : IsNoSchedule text status out out' err err'
-      ⊎ ((plans : List Plan) × (answers : List ReplyOrRefusal) × IsSchedule text plans × AreTold plans answers status out out' × (err' ≡ err))
+      ⊎ ((plans : List Plan) × (answers : List ReplyOrRefusal) × IsSchedule text plans
+      × AreTold plans answers status out out' × (err' ≡ err))
 
--- the same of a book
-pub record IsImported {S : Type 0} (g : Ghosts S) (old new : Kept S) (number : ℕ) (held out out' err err' : ChannelBytes) (status : Status) : Type 0 where
+-- a schedule was read, its pairings were added to a book, and their answers printed; or the text is
+-- no schedule, and the book is as it was
+pub record IsImported {S : Type 0} (g : Ghosts S) (old new : Kept S) (number : ℕ)
+    (held out out' err err' : ChannelBytes) (status : Status) : Type 0 where
   pub text : List ℕ
   pub read : ReadsInput held text
   pub done : (IsNoSchedule text status out out' err err' × (new ≡ old))
-      ⊎ ((plans : List Plan) × IsSchedule text plans × AreAddedAndTold g old new number plans status out out' × (err' ≡ err))
+      ⊎ ((plans : List Plan) × IsSchedule text plans
+      × AreAddedAndTold g old new number plans status out out' × (err' ≡ err))
 
--- the program stopped among these pairings: at a fault of the book (90, 91) just the lines of what was answered were printed
-pub record AreStopped {S : Type 0} (g : Ghosts S) (old new : Kept S) (number : ℕ) (plans : List Plan) (out out' : ChannelBytes) (stop : Stop) : Type 0 where
+-- The program stopped while it added these pairings. At a fault of the book (90, 91) it had printed
+-- the lines of the answers that it got, and no other.
+pub record AreStopped {S : Type 0} (g : Ghosts S) (old new : Kept S) (number : ℕ)
+    (plans : List Plan) (out out' : ChannelBytes) (stop : Stop) : Type 0 where
   pub answers : List ReplyOrRefusal
   pub asked : IsStoppedIn g old new (import number plans) answers stop
   pub printed : IsBookFault stop → Appends out out' (part_lines 1 answers)
 
--- the program stopped before it added anything, or among the pairings of the schedule that was read
-abbrev pub IsImportStopped : {S : Type 0} → Ghosts S → Kept S → Kept S → ℕ → ChannelBytes → ChannelBytes → ChannelBytes → ChannelBytes → ChannelBytes → Stop → Type 0
+-- the program stopped before it added any pairing, or while it added the pairings of the schedule
+-- that it read
+abbrev pub IsImportStopped : {S : Type 0} → Ghosts S → Kept S → Kept S → ℕ → ChannelBytes
+    → ChannelBytes → ChannelBytes → ChannelBytes → ChannelBytes → Stop → Type 0
 IsImportStopped g old new number held out out' err err' stop =
     IsUnasked old new out out' stop
     ⊎ ((text : List ℕ) × (plans : List Plan) × ReadsInput held text × IsSchedule text plans

@@ -1,6 +1,7 @@
 -- What the program answers by the book that files hold, and what it leaves of them.
 use Rattle.std.specs.Prelude.{◌≡◌, ◌⊎◌, ⊤, ℕ, ◌+◌, true, false, Bool, List, [], ◌++◌, take}
-use Rattle.std.specs.Prelude.{Option, None, IfSome, IsSomeAnd, Result, Err, option_map, string_bytes}
+use Rattle.std.specs.Prelude.{Option, None, IfSome, IsSomeAnd, Result, Err, option_map}
+use Rattle.std.specs.Prelude.{string_bytes}
 use Rattle.std.specs.Io.KnownBytes.{Appends}
 use Rattle.sqlite_disk.specs.declared.Disk.{Ghosts}
 use Rattle.sqlite_store.specs.declared.store.FileStore.{FileStore}
@@ -41,7 +42,7 @@ use Rattle.rosterbook.specs.declared.stop.Stop.TheVariants.{Load, Network}
 
 -- ---- By which book
 
--- What an answer says of the state in which it was given, and the state after it.
+-- What an answer says of the state in which it was given, and the state after that answer.
 abbrev pub Account : Type 1
 Account = (State → Type 0) → (State → State) → Type 0
 
@@ -51,80 +52,86 @@ module _ {D : Type 0} {g : Ghosts D} where
   IsLeftEmpty zone it = IsCleanLeft it → LeavesBook it (empty zone)
 
 module _ {D : Type 0} {g : Ghosts D} (left : Option (FilesLeft D g)) where
-  -- The answer was given by the book that files with these contents held, and that is left of them.
-  -- As long as the disk returns what was written, a sound book is found in them, what is said holds
-  -- of its state, and they are left with a book in the state after it.
+  -- An answer was given by the book that files with these contents held, and `left` is left of the
+  -- files. As long as the disk returns what was written, a sound book is found in the files, and
+  -- the answer is true of its state. The files are then left with a book in the state after it.
   abbrev pub IsByFiles : Image → Account
   IsByFiles image Says after = IsSomeAnd left (λ it. IsCleanLeft it →
       (s : State) × FindsBook image s × Says s × LeavesBook it (after s))
 
-  -- files are left, and with an empty book of this zone
+  -- files are left, with an empty book of this zone
   abbrev pub AreLeftEmpty : List ℕ → Type 0
   AreLeftEmpty zone = IsSomeAnd left (IsLeftEmpty zone)
 
 -- ---- What is left, whatever the status
 
 module _ {D : Type 0} {g : Ghosts D} (left : Option (FilesLeft D g)) (image : Image) where
-  -- If a book was taken up from files with these contents, that is left of them. As long as the
-  -- disk returns what was written, a sound book is found in them, and they are left with the state
-  -- after the first of these commands, however many; of the last one it may be open whether it is
-  -- done.
+  -- If a book was taken up from files with these contents, `left` is left of the files. As long as
+  -- the disk returns what was written, a sound book is found in the files, and they are left with
+  -- the state after the first of these commands, however many. Of the last command it may be open
+  -- whether it is done.
   abbrev pub AreLeftAfter : List Asked → Type 0
   AreLeftAfter asked = IfSome left (λ it. IsCleanLeft it →
       (s : State) × FindsBook image s
       × ((n : ℕ) × LeavesEither it (Fold s (take n asked)) (Fold s (take (n + 1) asked))))
 
-  -- they are left with the state that they held
+  -- the files are left with the state that they held
   abbrev pub AreLeftAsFound : Type 0
   AreLeftAsFound = AreLeftAfter []
 
-  -- or with that after the command of a request that a reader has
+  -- the files are left with the state that they held, or with the state after the command of a
+  -- request that a reader has
   abbrev pub AreLeftByRequest : ChannelBytes → Type 0
   AreLeftByRequest held = AreLeftAsFound ⊎ ((input : List ℕ) × ReadsInput held input
       × AreLeftAfter (asked_by_request (read_request input)))
 
-  -- or with that after the first pairings of a schedule that a reader has, as parts of this number
+  -- the files are left with the state that they held, or with the state after the first pairings of
+  -- a schedule that a reader has, as parts of this number
   abbrev pub AreLeftByImport : ℕ → ChannelBytes → Type 0
   AreLeftByImport number held = AreLeftAsFound
       ⊎ ((text : List ℕ) × (plans : List Plan) × ReadsInput held text × IsSchedule text plans
       × AreLeftAfter (import number plans))
 
-  -- or with that after the commands of the first lines that a reader has
+  -- the files are left with the state after the commands of the first lines that a reader has
   abbrev pub AreLeftByLines : ChannelBytes → Type 0
   AreLeftByLines held = (lines : List (List ℕ)) × ReadsFirstLines held lines
       × AreLeftAfter (commands_of (requests_of lines))
 
-  -- what `do` leaves, by whether nothing is kept, and by whether there is a command on each line
+  -- what `do` leaves of the files, by whether nothing is kept, and by whether there is a command on
+  -- each line
   abbrev pub AreLeftByDo : (dry_run lines : Bool) → ChannelBytes → Type 0
   AreLeftByDo false false held = AreLeftByRequest held
   AreLeftByDo false true held = AreLeftByLines held
   AreLeftByDo true lines held = AreLeftAsFound
 
-  -- A book was taken up, nothing but these calls was done to it, and it was closed. As long as the
-  -- disk returns what was written, it is the book that the files held, and they are left with all
-  -- that the calls acknowledged; of what was in work when the store failed it is open whether it is
-  -- done.
+  -- A book was taken up, nothing but a list of calls was done to it, and it was closed. As long as
+  -- the disk returns what was written, the book is the one that the files held, and they are left
+  -- with all that the calls acknowledged. Of what was in work when the store failed it is open
+  -- whether it is done.
   pub record IsSession (opened last : Kept (FileStore D g)) : Type 0 where
     pub fresh : opened.failed ≡ false
     pub calls : List Call
     pub called : AreCalls over_files opened calls last
     pub leaves : IsSomeAnd left (λ it. IsCleanLeft it →
         (s : State) × FindsBook image s × IsDurablyAt over_files opened s
-        × LeavesEither it (Fold s (acknowledged calls)) (Fold s (acknowledged calls ++ in_doubt calls)))
+        × LeavesEither it (Fold s (acknowledged calls))
+        (Fold s (acknowledged calls ++ in_doubt calls)))
 
   -- if a book was taken up from the files, it had a session
   abbrev pub HaveSession : Type 0
   HaveSession = IfSome left (λ _.
       (opened : Kept (FileStore D g)) × (last : Kept (FileStore D g)) × IsSession opened last)
 
-  -- `serve`: the port was told, and the book served all connections
+  -- `serve` printed the port, and a book of the files served all connections
   abbrev pub IsServedByFiles : ℕ → ℕ → ChannelBytes → ChannelBytes → ChannelBytes → ChannelBytes →
       Status → Type 0
   IsServedByFiles port count out out' err err' status =
       (opened : Kept (FileStore D g)) × (last : Kept (FileStore D g)) × IsSession opened last
-      × IsServeDone (ServesBook over_files) has_failed port count opened last out out' err err' status
+      × IsServeDone (ServesBook over_files) has_failed port count opened last out out' err err'
+      status
 
-  -- if a book was taken up: the port wasn't bound, and nothing was done; or serving stopped so
+  -- if a book was taken up from the files: the port wasn't bound, and nothing was done; or serving
+  -- stopped for this reason
   abbrev pub IsServeStoppedByFiles : ℕ → ℕ → ChannelBytes → ChannelBytes → ChannelBytes →
       ChannelBytes → Stop → Type 0
   IsServeStoppedByFiles port count out out' err err' stop = IfSome left (λ _.
@@ -133,9 +140,9 @@ module _ {D : Type 0} {g : Ghosts D} (left : Option (FilesLeft D g)) (image : Im
       ⊎ IsServeStopped (ServesBook over_files) has_failed port count opened last out out' err err'
       stop))
 
-  -- If files were opened and no book was taken up from them, that is left of them, and this stopped
-  -- the program. As long as the disk returns what was written, it is the refusal of what is found
-  -- in them.
+  -- If files were opened and no book was taken up from them, `refused` is left of the files, and a
+  -- fault stopped the program. As long as the disk returns what was written, the fault is the
+  -- refusal of what is found in the files.
   abbrev pub IsRefusedAs : Option (FilesLeft D g) → Result Status Stop → Type 0
   IsRefusedAs refused done = IfSome refused (λ it.
       (fault : LoadFault) × (left ≡ None) × (done ≡ Err (Load fault))
@@ -144,7 +151,8 @@ module _ {D : Type 0} {g : Ghosts D} (left : Option (FilesLeft D g)) (image : Im
 -- ---- What is answered
 
 module _ (By : Account) where
-  -- a request was read, and told the answer of the state; and so is the state after it
+  -- A request was read, and its answer printed. `By` gives the state whose answer it is, and the
+  -- state after the request.
   pub record IsDoneBy (left_by : State → Request → State) (held out out' err err' : ChannelBytes)
       (status : Status) : Type 0 where
     pub input : List ℕ
@@ -154,8 +162,10 @@ module _ (By : Account) where
     pub by : By (λ s. Answers s (read_request input) answer)
         (λ s. left_by s (read_request input))
 
-  -- lines were read, and their requests told how the state would answer each; nothing is done
-  pub record AreLinesCheckedBy (held out out' err err' : ChannelBytes) (status : Status) : Type 0 where
+  -- lines were read, and for each request it was printed how the state would answer it alone;
+  -- nothing is done
+  pub record AreLinesCheckedBy (held out out' err err' : ChannelBytes) (status : Status)
+      : Type 0 where
     pub lines : List (List ℕ)
     pub answers : List ReplyOrRefusal
     pub read : ReadsLines held lines
@@ -163,7 +173,8 @@ module _ (By : Account) where
     pub silent : err' ≡ err
     pub by : By (λ s. answers ≡ answers_in s (commands_of (requests_of lines))) (λ s. s)
 
-  -- lines were read, and their requests told the answers of the state; their commands are done then
+  -- lines were read, the state's answers to their requests were printed, and the commands of the
+  -- requests are done
   pub record AreLinesDoneBy (held out out' err err' : ChannelBytes) (status : Status) : Type 0 where
     pub lines : List (List ℕ)
     pub answers : List ReplyOrRefusal
@@ -173,7 +184,7 @@ module _ (By : Account) where
     pub by : By (λ s. answers ≡ Replies s (commands_of (requests_of lines)))
         (λ s. Fold s (commands_of (requests_of lines)))
 
-  -- `do`, by whether nothing is kept, and by whether there is a command on each line
+  -- what `do` answers, by whether nothing is kept, and by whether there is a command on each line
   abbrev pub IsDoneAs : (dry_run lines : Bool) → ChannelBytes → ChannelBytes → ChannelBytes →
       ChannelBytes → ChannelBytes → Status → Type 0
   IsDoneAs false false held out out' err err' status =
@@ -183,8 +194,8 @@ module _ (By : Account) where
   IsDoneAs false true held out out' err err' status = AreLinesDoneBy held out out' err err' status
   IsDoneAs true true held out out' err err' status = AreLinesCheckedBy held out out' err err' status
 
-  -- the text is no schedule, and nothing is done; or its pairings were told the answers of the
-  -- state, as parts of this number, and they are done then
+  -- The text is no schedule, and nothing is done. Or the state's answers to its pairings, as parts
+  -- of this number, were printed, and the pairings are added.
   pub record IsImportedBy (number : ℕ) (held out out' err err' : ChannelBytes)
       (status : Status) : Type 0 where
     pub text : List ℕ
@@ -195,7 +206,7 @@ module _ (By : Account) where
         × By (λ s. answers ≡ Replies s (import number plans))
         (λ s. Fold s (import number plans)))
 
-  -- what the state shows was told, and nothing is done
+  -- what the state shows was printed, and nothing is done
   pub record IsShownBy (what : Show) (out out' err err' : ChannelBytes)
       (status : Status) : Type 0 where
     pub some : (s : State) × IsToldOf s what status out out' err err'
@@ -217,7 +228,8 @@ module _ {D : Type 0} {g : Ghosts D} (image : Image) (left : Option (FilesLeft D
   PerformsByFiles (Roster file crew) status held out out' err err' =
       IsShownBy (IsByFiles left image) (show.Crew (string_bytes crew)) out out' err err' status
   PerformsByFiles (Limits file crew with) status held out out' err err' =
-      IsShownBy (IsByFiles left image) (show.Limits (string_bytes crew) (option_map string_bytes with)) out out' err err' status
+      IsShownBy (IsByFiles left image)
+      (show.Limits (string_bytes crew) (option_map string_bytes with)) out out' err err' status
   PerformsByFiles (Pairing file id) status held out out' err err' =
       IsShownBy (IsByFiles left image) (show.Pairing (string_bytes id)) out out' err err' status
   PerformsByFiles (Exceedances file) status held out out' err err' =
@@ -225,20 +237,22 @@ module _ {D : Type 0} {g : Ghosts D} (image : Image) (left : Option (FilesLeft D
   PerformsByFiles (Members file) status held out out' err err' =
       IsShownBy (IsByFiles left image) show.Members out out' err err' status
   PerformsByFiles (Pairings file only_open) status held out out' err err' =
-      IsShownBy (IsByFiles left image) (show.Pairings (listed_by only_open)) out out' err err' status
+      IsShownBy (IsByFiles left image) (show.Pairings (listed_by only_open)) out out' err err'
+      status
   PerformsByFiles (Serve file port connections) status held out out' err err' =
       IsServedByFiles left image port connections out out' err err' status
   PerformsByFiles action status held out out' err err' =
       PerformsAction action status held out out' err err'
 
-  -- the same, with this exit status
+  -- the action was answered whole, by what a reader has and by the book that the files held, and
+  -- the program ended with this exit status
   abbrev pub IsPerformedByFiles : Action → ℕ → ChannelBytes → ChannelBytes → ChannelBytes →
       ChannelBytes → ChannelBytes → Type 0
   IsPerformedByFiles action code held out out' err err' =
       (status : Status) × (code ≡ exit_status status)
       × PerformsByFiles action status held out out' err err'
 
-  -- what is left of files from which a book was taken up, by what a reader has
+  -- what the action leaves of files from which a book was taken up, by what a reader has
   abbrev pub LeavesFiles : Action → ChannelBytes → Type 0
   LeavesFiles (Init file zone) held = IfSome left (IsLeftEmpty (string_bytes zone))
   LeavesFiles (Do file dry_run lines) held = AreLeftByDo left image dry_run lines held
@@ -246,14 +260,14 @@ module _ {D : Type 0} {g : Ghosts D} (image : Image) (left : Option (FilesLeft D
   LeavesFiles (Serve file port connections) held = HaveSession left image
   LeavesFiles action held = AreLeftAsFound left image
 
-  -- what was done to a book that was taken up from files is a session; `init` takes up none
+  -- what the action did to a book that was taken up from files is a session; `init` takes up none
   abbrev pub IsSessionOf : Action → Type 0
   IsSessionOf (Init file zone) = ⊤
   IsSessionOf action = HaveSession left image
 
-  -- No book was taken up from files that were opened, of which this is left: nothing is printed but
-  -- the line of the refusal, and that is the one of what is found in the files, as long as the disk
-  -- returns what was written.
+  -- No book was taken up from files that were opened, of which `it` is left. Nothing is printed but
+  -- the line of the refusal. As long as the disk returns what was written, the refusal is that of
+  -- what is found in the files.
   pub record IsRefusedByFiles (code : ℕ) (told : Bool) (out out' err err' : ChannelBytes)
       (it : FilesLeft D g) : Type 0 where
     pub fault : LoadFault

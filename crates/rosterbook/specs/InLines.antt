@@ -1,5 +1,5 @@
--- What `do --lines` makes of the lines that a reader has, and of a book: one request a line, which
--- with `--dry-run` is only checked.
+-- What `do --lines` does with the lines that a reader has, and with a book: there is one request on
+-- each line, which with `--dry-run` is only checked.
 use Rattle.std.specs.Prelude.{◌≡◌, ◌==◌, ◌⊎◌, ◌≤◌, ◌<◌, ⊤, ℕ, ◌+◌, Bool, true, false}
 use Rattle.std.specs.Prelude.{List, [], ◌∷◌, ◌++◌, length, take, map, filter, flat_map}
 use Rattle.std.specs.Prelude.{Some, None, Ok, Err}
@@ -32,22 +32,23 @@ has_bytes (byte ∷ line) = true
 abbrev pub not_empty : List (List ℕ) → List (List ℕ)
 not_empty lines = filter has_bytes lines
 
--- the lines of an input, without the line feeds (10) that end them, and without the empty ones;
+-- the lines of an input, without the line feeds (10) that end them, and without the empty lines;
 -- what stands after the last line feed is a line too
 abbrev pub lines_of : List ℕ → List (List ℕ)
 lines_of bytes = not_empty (slice_split (λ byte. byte == 10) bytes)
 
--- all lines that a reader has were read; any lines, where its bytes aren't known
+-- all lines that a reader has were read; if its bytes aren't known, these may be any lines
 abbrev pub ReadsLines : ChannelBytes → List (List ℕ) → Type 0
 ReadsLines None lines = ⊤
 ReadsLines (Some bytes) lines = lines ≡ lines_of bytes
 
--- the first lines that a reader has were read, however many
+-- the first lines that a reader has were read, however many; if its bytes aren't known, these may
+-- be any lines
 abbrev pub ReadsFirstLines : ChannelBytes → List (List ℕ) → Type 0
 ReadsFirstLines None lines = ⊤
 ReadsFirstLines (Some bytes) lines = lines ≡ take (length lines) (lines_of bytes)
 
--- each line is the body of a request
+-- the requests of these lines: each line is the body of one
 abbrev pub requests_of : List (List ℕ) → List Request
 requests_of lines = map read_request lines
 
@@ -57,8 +58,8 @@ commands_of requests = flat_map asked_by_request requests
 
 -- ---- What is printed
 
--- What requests are told, in turn, where their commands got these answers. A request that isn't
--- read is told so; from the first command without an answer on nothing is told.
+-- What is reported of requests, in turn, where their commands got these answers. Of a request that
+-- isn't read it is reported why. From the first command without an answer on nothing is reported.
 abbrev pub told_of : List Request → List ReplyOrRefusal → List (Status × List ℕ)
 told_of [] answers = []
 told_of (Err fault ∷ requests) answers =
@@ -67,35 +68,35 @@ told_of (Ok asked ∷ requests) [] = []
 told_of (Ok asked ∷ requests) (answer ∷ answers) =
     told_json (Ok asked) answer ∷ told_of requests answers
 
--- a line for each request that is told something
+-- the lines that are printed, one for each request of which something is reported
 abbrev pub printed_of : List (Status × List ℕ) → List ℕ
 printed_of told = flat_map (λ one. one.1 ++ line_end) told
 
--- how the program ends after one more: as refused after any that is refused
+-- the status after one more request: refused if that request was refused, else as it was
 abbrev pub status_after : Status → Status → Status
 status_after status Refused = Refused
 status_after status other = status
 
--- how the program ends after all that it told
+-- the status with which the program ends after all that it reported
 abbrev pub status_of_told : List (Status × List ℕ) → Status
 status_of_told told = fold (λ status one. status_after status one.0) Done told
 
--- each of these requests was told what its command was answered
+-- the answers to the commands of these requests were printed, one line for each request
 pub record AreRequestsTold (requests : List Request) (answers : List ReplyOrRefusal)
     (status : Status) (out out' : ChannelBytes) : Type 0 where
   pub each : length answers ≡ length (commands_of requests)
   pub printed : Appends out out' (printed_of (told_of requests answers))
   pub ends : status ≡ status_of_told (told_of requests answers)
 
--- how a state answers each of these commands, if it is asked that one alone
+-- how a state answers each of these commands, if it is asked that command alone
 abbrev pub answers_in : State → List Asked → List ReplyOrRefusal
 answers_in s asked = map (λ one. answer_of (step_of s one.0 one.1)) asked
 
 -- ---- Of a book
 
 module _ {S : Type 0} (g : Ghosts S) (old new : Kept S) where
-  -- these requests were told the answers of the book, where its state is known, and their commands
-  -- were asked in turn
+  -- The commands of these requests were asked in turn, and the answers printed. Where the state of
+  -- the book is known, the answers are those of the state.
   pub record AreRequestsAnswered (out out' : ChannelBytes) (requests : List Request)
       (status : Status) : Type 0 where
     pub answers : List ReplyOrRefusal
@@ -105,8 +106,8 @@ module _ {S : Type 0} (g : Ghosts S) (old new : Kept S) where
     pub left : (s : State) → IsDurablyAt g old s →
         IsDurablyAt g new (Fold s (commands_of requests))
 
-  -- these requests were told how the book would answer each in its state, where that is known, and
-  -- nothing was done
+  -- For each of these requests it was printed how the book would answer it in its state. Where the
+  -- state is known, the answers are those of the state, and nothing was done.
   pub record AreRequestsChecked (out out' : ChannelBytes) (requests : List Request)
       (status : Status) : Type 0 where
     pub answers : List ReplyOrRefusal
@@ -115,8 +116,9 @@ module _ {S : Type 0} (g : Ghosts S) (old new : Kept S) where
         answers ≡ answers_in s (commands_of requests)
     pub left : (s : State) → IsDurablyAt g old s → IsDurablyAt g new s
 
-  -- The program stopped at the last of these requests. All commands before it were answered; where
-  -- the last has no answer, just the lines of the requests before it were printed.
+  -- The program stopped at the last of these requests. All commands before the last one were
+  -- answered. If the last command has no answer, the lines of the requests before it were printed,
+  -- and no other.
   pub record AreStoppedAtLast (out out' : ChannelBytes) (requests : List Request)
       (stop : Stop) : Type 0 where
     pub answers : List ReplyOrRefusal
@@ -125,31 +127,32 @@ module _ {S : Type 0} (g : Ghosts S) (old new : Kept S) where
     pub printed : length answers < length (commands_of requests) →
         Appends out out' (printed_of (told_of requests answers))
 
-  -- all lines were read, and their requests answered
+  -- all lines that a reader has were read, and their requests answered
   abbrev pub AreLinesAnswered : ChannelBytes → ChannelBytes → ChannelBytes → Status → Type 0
   AreLinesAnswered held out out' status = (lines : List (List ℕ)) × ReadsLines held lines
       × AreRequestsAnswered out out' (requests_of lines) status
 
-  -- no line could be read after these, whose requests were answered; or the program stopped at the
-  -- last of them
+  -- no line could be read after these requests, which were answered; or the program stopped at the
+  -- last of these requests
   abbrev pub IsStoppedAfter : ChannelBytes → ChannelBytes → List Request → Stop → Type 0
   IsStoppedAfter out out' requests stop =
       (IsOfChannel stop × ((status : Status) × AreRequestsAnswered out out' requests status))
       ⊎ AreStoppedAtLast out out' requests stop
 
-  -- the first lines were read, and the program stopped after them, or at the last of them
+  -- the first lines that a reader has were read, and the program stopped after them, or at the last
+  -- of them
   abbrev pub AreLinesStopped : ChannelBytes → ChannelBytes → ChannelBytes → Stop → Type 0
   AreLinesStopped held out out' stop = (lines : List (List ℕ)) × ReadsFirstLines held lines
       × IsStoppedAfter out out' (requests_of lines) stop
 
 module _ {S : Type 0} (g : Ghosts S) (old new : Kept S) where
-  -- all lines were read, and their requests checked
+  -- all lines that a reader has were read, and their requests checked
   abbrev pub AreLinesChecked : ChannelBytes → ChannelBytes → ChannelBytes → Status → Type 0
   AreLinesChecked held out out' status = (lines : List (List ℕ)) × ReadsLines held lines
       × AreRequestsChecked g old new out out' (requests_of lines) status
 
-  -- the first lines were read, and their requests checked; then the program stopped, and by a fault
-  -- of the book nothing more was printed
+  -- the first lines that a reader has were read, and their requests checked; then the program
+  -- stopped, and by a fault of the book nothing more was printed
   abbrev pub AreChecksStopped : ChannelBytes → ChannelBytes → ChannelBytes → Stop → Type 0
   AreChecksStopped held out out' stop = (lines : List (List ℕ)) × ReadsFirstLines held lines
       × ((book : Kept S) × (printed : ChannelBytes) × (status : Status)

@@ -1,5 +1,6 @@
--- What `serve` makes of its connections, and where it stops.
-use Rattle.std.specs.Prelude.{◌≡◌, ◌⊎◌, ⊤, ◌<◌, ℕ, Bool, true, false, List, [], ◌∷◌, ◌++◌, length, codes, Result, Ok, Err}
+-- What `serve` does with its connections, and where it stops.
+use Rattle.std.specs.Prelude.{◌≡◌, ◌⊎◌, ⊤, ◌<◌, ℕ, Bool, true, false, List, [], ◌∷◌, ◌++◌, length}
+use Rattle.std.specs.Prelude.{codes, Result, Ok, Err}
 use Rattle.std.specs.Fmt.{decimal}
 use Rattle.std.specs.Io.KnownBytes.{Appends}
 use Rattle.http_exchange.specs.declared.exchanges.Served.{Served}
@@ -21,7 +22,7 @@ use Rattle.rosterbook.specs.declared.stop.Stop.TheVariants.{Book, Channel}
 abbrev pub Outcome : Type 0
 Outcome = Result Served ServeFault
 
--- a connection that failed has a line, and no other has
+-- the line of a connection that failed; a connection that didn't fail has none
 abbrev pub failure_line : Outcome → List ℕ
 failure_line (Ok served) = []
 failure_line (Err fault) = refused_line (serve_text fault)
@@ -37,27 +38,32 @@ HasFailure [] = ⊥
 HasFailure (Ok served ∷ outcomes) = HasFailure outcomes
 HasFailure (Err fault ∷ outcomes) = ⊤
 
--- the line that tells the port
+-- the line that names the port
 abbrev pub port_line : ℕ → List ℕ
 port_line port = codes "listening " ++ decimal port ++ line_end
 
--- `serves old new outcome`: what serves was so before, and so after it served a connection, of which this came
+-- `serves old new outcome`: what serves was `old`, and is `new` after it served a connection, of
+-- which this outcome came. `fails new`: the store of `new` has failed.
 module _ {V : Type 0} (serves : V → V → Outcome → Type 0) (fails : V → Bool) where
-  -- connections were served in turn, of which these came, and the store failed at none
+  -- connections were served in turn, these outcomes came of them, and the store failed at none
   abbrev pub InTurn : V → V → List Outcome → Type 0
   InTurn old new [] = new ≡ old
-  InTurn old new (outcome ∷ outcomes) = (next : V) × serves old next outcome × (fails next ≡ false) × InTurn next new outcomes
+  InTurn old new (outcome ∷ outcomes) =
+      (next : V) × serves old next outcome × (fails next ≡ false) × InTurn next new outcomes
 
-  -- so many were; where all lines could be written, those of the failed ones were, and nothing else; and if not, there was one to write
-  pub record AllServed (count : ℕ) (old new : V) (err err' : ChannelBytes) (told : Bool) : Type 0 where
+  -- This many connections were served. If all lines could be written (`told`), those of the failed
+  -- connections were, and nothing else; if not, there was a line to write.
+  pub record AllServed (count : ℕ) (old new : V) (err err' : ChannelBytes) (told : Bool)
+      : Type 0 where
     pub outcomes : List Outcome
     pub each : length outcomes ≡ count
     pub served : InTurn old new outcomes
     pub lines : told ≡ true → Appends err err' (failure_lines outcomes)
     pub untold : told ≡ false → HasFailure outcomes
 
-  -- the store failed at one of so many, after which none was served
-  pub record CutShort (count : ℕ) (old new : V) (err err' : ChannelBytes) (told : Bool) : Type 0 where
+  -- the store failed at one of this many connections, and none was served after it
+  pub record CutShort (count : ℕ) (old new : V) (err err' : ChannelBytes) (told : Bool)
+      : Type 0 where
     pub outcomes : List Outcome
     pub last : Outcome
     pub before : V
@@ -72,22 +78,28 @@ module _ {V : Type 0} (serves : V → V → Outcome → Type 0) (fails : V → B
   HasEnded count old new err err' told false = AllServed count old new err err' told
   HasEnded count old new err err' told true = CutShort count old new err err' told
 
-  -- the port was told, and then all connections were served
-  pub record IsServeDone (port count : ℕ) (old new : V) (out out' err err' : ChannelBytes) (status : Status) : Type 0 where
+  -- the line of the port was written, and then all connections were served
+  pub record IsServeDone (port count : ℕ) (old new : V) (out out' err err' : ChannelBytes)
+      (status : Status) : Type 0 where
     pub ends : status ≡ Done
     pub listens : Appends out out' (port_line port)
     pub served : AllServed count old new err err' true
 
-  -- the port couldn't be told, and none was served; or the line of one couldn't be written, and all were; or the store failed
-  abbrev pub IsServeStopped : ℕ → ℕ → V → V → ChannelBytes → ChannelBytes → ChannelBytes → ChannelBytes → Stop → Type 0
+  -- `serve` stopped: the line of the port couldn't be written, and no connection was served; or the
+  -- line of a failed connection couldn't be written, and all were served; or the store failed at
+  -- one
+  abbrev pub IsServeStopped : ℕ → ℕ → V → V → ChannelBytes → ChannelBytes → ChannelBytes
+      → ChannelBytes → Stop → Type 0
   IsServeStopped port count old new out out' err err' stop =
       (IsOfChannel stop × (new ≡ old) × (err' ≡ err))
-      ⊎ ((stop ≡ Channel) × Appends out out' (port_line port) × AllServed count old new err err' false)
-      ⊎ ((stop ≡ Book Store) × Appends out out' (port_line port) × ((told : Bool) × CutShort count old new err err' told))
+      ⊎ ((stop ≡ Channel) × Appends out out' (port_line port)
+      × AllServed count old new err err' false)
+      ⊎ ((stop ≡ Book Store) × Appends out out' (port_line port)
+      × ((told : Bool) × CutShort count old new err err' told))
 
 -- ---- Of a book
 
--- a book served a connection, of which this came
+-- a book served a connection, of which this outcome came
 abbrev pub ServesBook : {S : Type 0} → Ghosts S → Kept S → Kept S → Outcome → Type 0
 ServesBook g old new outcome = IsServedOnce g old new × (outcome ≡ Err Network → new ≡ old)
 
@@ -97,14 +109,15 @@ has_failed book = book.failed
 
 -- ---- How the program ends
 
--- how the program ends, by whether the store failed and whether all lines could be written
+-- how `serve` ends, by whether the store failed and whether all lines could be written
 abbrev pub status_of_serve : Bool → Bool → Result Status Stop
 status_of_serve true told = Err (Book Store)
 status_of_serve false true = Ok Done
 status_of_serve false false = Err Channel
 
--- the port was told, and a line for each connection that failed, of so many
-pub record IsServeTold (port count : ℕ) (out out' err err' : ChannelBytes) (status : Status) : Type 0 where
+-- the line of the port was written, and one for each connection that failed, of this many
+pub record IsServeTold (port count : ℕ) (out out' err err' : ChannelBytes) (status : Status)
+    : Type 0 where
   pub outcomes : List Outcome
   pub ends : status ≡ Done
   pub each : length outcomes ≡ count

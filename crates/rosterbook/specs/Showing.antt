@@ -1,4 +1,4 @@
--- What `roster`, `limits`, `pairing`, `exceedances`, `members` and `pairings` tell, and where they
+-- What `roster`, `limits`, `pairing`, `exceedances`, `members` and `pairings` print, and where they
 -- stop.
 use Rattle.std.specs.Prelude.{◌≡◌, ◌⊎◌, IsTrue, ℕ, Bool, true, false, List, Result, Ok, Err}
 use Rattle.std.specs.Io.KnownBytes.{Appends}
@@ -26,12 +26,12 @@ abbrev pub listed_by : Bool → Listed
 listed_by true = Open
 listed_by false = All
 
--- how it is told that the member or the pairing isn't there
+-- the text that reports that the member or the pairing isn't there
 abbrev pub absence_text : Absence → List ℕ
 absence_text no_crew = report_fault_text NoSuchCrew
 absence_text no_pairing = report_fault_text NoSuchPairing
 
--- a text is printed, and why there is none is told
+-- a text is printed on standard output; if there is none, why is printed on standard error
 abbrev pub PrintsText : Result (List ℕ) Absence → Status → ChannelBytes → ChannelBytes →
     ChannelBytes → ChannelBytes → Type 0
 PrintsText (Ok text) status out out' err err' =
@@ -39,14 +39,14 @@ PrintsText (Ok text) status out out' err err' =
 PrintsText (Err absence) status out out' err err' =
     (status ≡ Refused) × (out' ≡ out) × Appends err err' (refused_line (absence_text absence))
 
--- what a state shows was told
+-- what a state shows was printed
 pub record IsToldOf (s : State) (what : Show) (status : Status) (out out' err err' : ChannelBytes) :
     Type 0 where
   pub shown : Result (List ℕ) Absence
   pub is : IsShown s what shown
   pub told : PrintsText shown status out out' err err'
 
--- the program stopped: nothing was printed before the text was there
+-- the program stopped while it showed a book; at a fault of the book nothing was printed
 pub record IsShowStopped {S : Type 0} (new : Kept S) (out out' : ChannelBytes) (stop : Stop) :
     Type 0 where
   pub told : IsBookFault stop ⊎ IsOfChannel stop

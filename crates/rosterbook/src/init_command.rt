@@ -43,7 +43,7 @@ pub(crate) fn answer_init<S: Start, O: Write, E: Write>(
     }
 }
 
-/// Makes a book in a file, and tells how that went.
+/// Makes a book in a file, and reports how that went.
 fn make_and_tell<S: Start, O: Write, E: Write>(
     rt: &HostRuntime,
     file: &str,

@@ -197,8 +197,8 @@ pub(crate) struct End {
     pub(crate) told: bool,
 }
 
-/// Returns the status of what was done. After what stopped it that is `Failed`, and `err` is told; where that fails
-/// too, the status alone tells it.
+/// Returns the status of what was done. After what stopped it that is `Failed`, and it is reported to `err`; where that fails
+/// too, the status alone says it.
 pub(crate) fn end_of<E: Write>(done: Result<Status, Stop>, err: &mut E) -> End
     ensures failed { IsErr done → result.status ≡ Status.Failed }
     ensures done { IfOk done (λ status. (status ≡ result.status) × (err.new ≡ err.old)) }

@@ -56,7 +56,7 @@ impl<D: Disk + Drop> BookServer<FileStore<D>> {
     }
 }
 
-/// Answers `rosterbook serve`: opens the book, binds the port and tells it, then serves connections, and closes the book.
+/// Answers `rosterbook serve`: opens the book, binds the port and prints it, then serves connections, and closes the book.
 /// That the line of a failed connection can't be written (92) stops the program only once all are served.
 pub(crate) fn answer_serve<S: Start, O: Write, E: Write>(
     rt: &HostRuntime,

@@ -38,7 +38,7 @@ pub(crate) struct Ending {
     pub(crate) told: bool,
 }
 
-/// Serves so many connections one after the other, or fewer where the store fails at one. A line is written for each
+/// Serves this many connections one after the other, or fewer where the store fails at one. A line is written for each
 /// connection that failed, and for no other.
 pub(crate) fn serve_all<V: Server, E: Write>(
     alloc: Global,

@@ -140,7 +140,8 @@ pub(crate) fn answer_pairings<S: Start, O: Write, E: Write>(
     err: &mut E,
 ) -> Ended<FileFrom<S>>
     ensures done { IfOk result.done
-        (IsShownBy (IsByFiles result.left (image_at S.Start)) (show.Pairings (spec.listed_by only_open))
+        (IsShownBy (IsByFiles result.left (image_at S.Start))
+        (show.Pairings (spec.listed_by only_open))
         (O.contents out.old) (O.contents out.new) (E.contents err.old) (E.contents err.new)) }
     ensures left { AreLeftAsFound result.left (image_at S.Start) }
     ensures session { HaveSession result.left (image_at S.Start) }
@@ -197,7 +198,7 @@ fn show_file<S: Start, O: Write, E: Write>(
     }
 }
 
-/// Prints the text of a member, of a member's limits, of a pairing, of the exceedances or of a list by what a book shows, or tells
+/// Prints the text of a member, of a member's limits, of a pairing, of the exceedances or of a list by what a book shows, or reports
 /// that the member or the pairing isn't there (2, 4). An id outside its shape names nothing. The book is as it was.
 pub fn show_text<S: Alter, O: Write, E: Write>(
     alloc: Global,

@@ -1,5 +1,5 @@
 //! What stops the program before its end, and the line that says so: 40 to 42, and 90 to 93.
-//! Outputs that fail: `tests/program.sh`; want of memory: `tests/allocations.py`. Wrong bodies: `must-fail-more/`.
+//! Outputs that fail: `tests/program.sh`; out of memory: `tests/allocations.py`. Wrong bodies: `must-fail-more/`.
 use asking::AskFault;
 use book::{BookFault, LoadFault};
 use std::error::Error;
@@ -12,7 +12,7 @@ use values::MemoryFault;
 pub enum Stop {
     /// The book is not taken up.
     Load(LoadFault),
-    /// The book meets a fault: of its store, or want of memory.
+    /// The book meets a fault: of its store, or out of memory.
     Book(BookFault),
     /// The program finds no memory, beside the book.
     Memory,

@@ -1,5 +1,5 @@
--- What tables of version 1 can say: a state in which HOME is the one base, and in which nobody flies
--- for another certificate holder.
+-- Which states tables of version 1 can say: HOME is the one base, and nobody flies for another
+-- certificate holder.
 use Rattle.std.specs.Prelude.{◌≡◌, ⊤, ℕ, List, Some}
 use Rattle.std.specs.FinMap as fin
 use Rattle.duty.specs.Shape.{home}
@@ -12,15 +12,15 @@ use Rattle.roster.specs.declared.state.DutyId.{DutyId}
 use Rattle.roster.specs.declared.state.DutyId.TheVariants.{Outside}
 use Rattle.roster.specs.declared.state.LoggedCommand.{LoggedCommand}
 
--- an instruction that a book of version 1 can keep: it adds no base, and no member at another base
--- than HOME, and it records no outside period
+-- a book of version 1 can keep the instruction: it adds no base, and no member at another base than
+-- HOME, and it records no outside period
 abbrev pub IsOfFirst : Instruction → Type 0
 IsOfFirst (AddBase id zone) = ⊥
 IsOfFirst (AddCrew who member) = member.base ≡ home
 IsOfFirst (RecordOutside who o) = ⊥
 IsOfFirst instruction = ⊤
 
--- what an exceedance names is a period of a pairing
+-- the duty that an exceedance names is a period of a pairing
 abbrev pub IsOfPairing : DutyId → Type 0
 IsOfPairing (Outside id) = ⊥
 IsOfPairing named = ⊤
@@ -30,8 +30,8 @@ abbrev pub AreOfPairings : State → Type 0
 AreOfPairings s = (name : List ℕ) (named : DutyId) → fin.get s.exceedances name ≡ Some named →
     IsOfPairing named
 
--- tables of version 1 can say the state: HOME is its one base, and that of each member, there is no
--- outside period and no exceedance names one, and each kept command is one that version 1 can keep
+-- Tables of version 1 can say the state. HOME is its one base, and the base of each member. It has
+-- no outside period, and no exceedance names one. A book of version 1 can keep each kept command.
 pub record IsFirst (s : State) : Type 0 where
   pub bases : s.bases ≡ only_home (home_zone s.bases)
   pub members : (who : List ℕ) (m : Member) → fin.get s.crew who ≡ Some m → m.base ≡ home

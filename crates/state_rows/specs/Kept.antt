@@ -1,4 +1,4 @@
--- What trees hold: the tables of a book with the rows of a state, in version 2 or in version 1.
+-- Which trees hold the tables of a book with the rows of a state, in version 2 or in version 1.
 use Rattle.std.specs.Prelude.{◌≡◌, true, false}
 use Rattle.sqlite_schema.specs.declared.schema.Schema.{Schema}
 use Rattle.sqlite_trees.specs.Tree.{Trees}
@@ -9,11 +9,12 @@ use Rattle.tables.specs.Rows.{IsStored}
 use Rattle.state_rows.specs.First.{IsFirst}
 use Rattle.state_rows.specs.Rows.{FirstRows, TableName, is_later, table, Rows}
 
--- each row of each table is stored under a number of its own
+-- each row of each table of the book is stored under a number of its own
 abbrev pub AreStored : Database → Type 0
 AreStored db = (name : TableName) → IsStored (table name) db
 
--- a database that has the tables of a book with the rows of this state
+-- the database has the tables of a book with the rows of this state, each row under a number of its
+-- own
 pub record IsBookOf (s : State) (db : Database) : Type 0 where
   -- the trees list the schema, and obey it
   pub database : IsDatabase db
@@ -27,9 +28,8 @@ HoldBookOf trees s = (schema : Schema) × IsBookOf s (record { schema = schema; 
 
 -- ---- The tables of version 1
 
--- A database that has the nine tables of version 1 with the rows of this state, and where the names
--- of the tables that version 2 has besides are free. (Of a table that isn't there `stored` says
--- nothing.)
+-- The database has the nine tables of version 1 with the rows of this state, and the names of the
+-- four tables that version 2 adds are free. (Of a table that isn't there `stored` says nothing.)
 pub record IsFirstBookOf (s : State) (db : Database) : Type 0 where
   -- the trees list the schema, and obey it
   pub database : IsDatabase db

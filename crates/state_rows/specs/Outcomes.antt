@@ -7,13 +7,13 @@ use Rattle.roster.specs.State as roster
 use Rattle.tables.specs.Schema.{IsBook}
 use Rattle.state_rows.specs.Kept.{IsBookOf, IsFirstBookOf, HoldBookOf, HoldFirstBookOf, AreStored}
 
--- All of this is said as long as the disk has returned what was written.
+-- Each fact of this file holds as long as the disk has returned what was written.
 
--- the state is this one
+-- a state `t` is the state `s`
 abbrev pub one : roster.State → roster.State → Type 0
 one s = λ t. t ≡ s
 
--- the state is one of these two
+-- a state `r` is one of the two states `s` and `t`
 abbrev pub either : roster.State → roster.State → roster.State → Type 0
 either s t = λ r. (r ≡ s) ⊎ (r ≡ t)
 
@@ -22,16 +22,17 @@ pub record CrashLeaves (now : State) (P : roster.State → Type 0) : Type 0 wher
   pub crash : HasCleanDisk now → (trees : Trees) → now.may_leave trees →
       (s : roster.State) × P s × HoldBookOf trees s
 
--- a crash leaves something
+-- there are trees that a crash may leave
 abbrev pub CrashLeavesSome : State → Type 0
 CrashLeavesSome now = HasCleanDisk now → ∥ ((trees : Trees) × now.may_leave trees) ∥₁
 
--- a crash leaves nothing that it could not leave before
+-- a crash after a call leaves nothing that it could not leave before the call
 pub record CrashAddsNothing (old now : State) : Type 0 where
   pub disk : HasCleanDisk now → HasCleanDisk old
   pub crash : HasCleanDisk now → (trees : Trees) → now.may_leave trees → old.may_leave trees
 
--- a crash leaves what it could leave before, or the tables of a book in this state
+-- a crash after a call leaves what it could leave before the call, or the tables of a book in this
+-- state
 pub record CrashMayAdd (old now : State) (s : roster.State) : Type 0 where
   pub disk : HasCleanDisk now → HasCleanDisk old
   pub crash : HasCleanDisk now → (trees : Trees) → now.may_leave trees →
@@ -41,7 +42,7 @@ pub record CrashMayAdd (old now : State) (s : roster.State) : Type 0 where
 pub record CrashLeavesOnly (now : State) (P : Trees → Type 0) : Type 0 where
   pub crash : HasCleanDisk now → (trees : Trees) → now.may_leave trees → P trees
 
--- a crash leaves what it could leave before, or trees of which P holds
+-- a crash after a call leaves what it could leave before the call, or trees of which P holds
 pub record CrashAddsOnly (old now : State) (P : Trees → Type 0) : Type 0 where
   pub crash : HasCleanDisk now → (trees : Trees) → now.may_leave trees →
       old.may_leave trees ⊎ P trees
@@ -76,12 +77,14 @@ HoldsNow now s = HasCleanDisk now → IsTrue now.is_open × IsBookOf s now.now
 abbrev pub ShowsFirst : State → roster.State → Type 0
 ShowsFirst now s = HasCleanDisk now → IsTrue now.is_open → IsFirstBookOf s now.now
 
--- while the connection is open, it shows the database that it showed before
+-- while the connection is open after a call, it was open before, and shows the database that it
+-- showed before
 abbrev pub StillShows : State → State → Type 0
 StillShows old now = HasCleanDisk now → IsTrue now.is_open →
     IsTrue old.is_open × (now.now ≡ old.now)
 
--- a connection that was open still is, unless the disk failed or refused a call meanwhile
+-- a connection that was open before a call still is, unless the disk failed or refused a call
+-- meanwhile
 abbrev pub StaysOpen : State → State → Type 0
 StaysOpen old now = HasCleanDisk now → IsTrue old.is_open →
     IsTrue now.is_open ⊎ MoreFaults old.faults now.faults

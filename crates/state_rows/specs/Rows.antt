@@ -33,12 +33,12 @@ use Rattle.tables.specs.Schema.{BookTable, book_table, crew_table, pairing_table
 use Rattle.tables.specs.Records.{base_row, crew_base_row, book_row, crew_row, pairing_row, period_row, segment_row, seat_row, ground_row, exceedance_row, request_row, outside_row, outside_segment_row}
 use Rattle.tables.specs.Rows.{rows_of}
 
--- the number of a seat in the tables
+-- the tables have this number for a seat: 0 for the captain, and 1 for the first officer
 abbrev pub seat_number : Seat → ℕ
 seat_number Captain = 0
 seat_number FirstOfficer = 1
 
--- a name under which a map has a value, and the value
+-- a map has a value under a name
 pub record At {V : Type 0} (m : fin.FinMap name_cmp V) : Type 0 where
   pub name : List ℕ
   pub value : V
@@ -46,38 +46,39 @@ pub record At {V : Type 0} (m : fin.FinMap name_cmp V) : Type 0 where
 
 -- ---- The book, its members and its pairings
 
--- the row of `book`: the version of the tables, and the zone of HOME, by its rule text
+-- the version of the tables, and the zone of HOME by its rule text, make this row of `book`
 abbrev pub row_of_book : Edition → List ℕ → Row
 row_of_book edition zone =
     book_row (record { one = pos 1; version = pos (edition_number edition); zone = zone })
 
--- the one row of `book`, in tables of this version
+-- the row is the one row of `book` for the state, in tables of this version
 abbrev pub InBookOf : Edition → State → Row → Type 0
 InBookOf edition s row = row ≡ row_of_book edition (home_zone s.bases)
 
--- the one row of `book`, in tables of version 2
+-- the row is the one row of `book` for the state, in tables of version 2
 abbrev pub InBook : State → Row → Type 0
 InBook = InBookOf Second
 
--- the row of a member in `crew`: the id, the seat that the member takes, and the name
+-- a member has this row in `crew`: the id, the seat that the member takes, and the name
 abbrev pub row_of_member : List ℕ → Member → Row
 row_of_member id m = crew_row (record { id = id; seat = seat_number m.seat; name = m.name })
 
--- the rows of `crew`, one for each member of the state
+-- the row is that of a member of the state in `crew`
 abbrev pub InCrew : State → Row → Type 0
 InCrew s row = (at : At s.crew) × (row ≡ row_of_member at.name at.value)
 
--- the row of a pairing in `pairing`: the id
+-- a pairing has this row in `pairing`: its id
 abbrev pub row_of_pairing : List ℕ → Row
 row_of_pairing id = pairing_row (record { id = id })
 
--- the rows of `pairing`, one for each pairing of the state
+-- the row is that of a pairing of the state in `pairing`
 abbrev pub InPairing : State → Row → Type 0
 InPairing s row = (at : At s.pairings) × (row ≡ row_of_pairing at.name)
 
 -- ---- The periods of a pairing
 
--- a period of a pairing, at its place counted from 0, and its actual where it is flown
+-- the pairing has this period at this place, counted from 0, and the period's actual where it is
+-- flown
 pub record PeriodOf (r : PairingEntry) : Type 0 where
   pub place : ℕ
   pub fdp : Fdp
@@ -85,8 +86,8 @@ pub record PeriodOf (r : PairingEntry) : Type 0 where
   pub planned : slice_get r.plan.periods place ≡ Some fdp
   pub flown : slice_get r.actuals place ≡ Some actual
 
--- the row of a period: the pairing, the number of the period from 1, its report and release as
--- planned, and as flown
+-- a period has this row in `period`: the pairing, the number of the period from 1, its report and
+-- release as planned, and as flown
 abbrev pub row_of_period : List ℕ → ℕ → Fdp → Option ActualTimes → Row
 row_of_period id place fdp actual = period_row (record {
   pairing = id;
@@ -97,25 +98,25 @@ row_of_period id place fdp actual = period_row (record {
   act_release = option_map (λ a. a.release) actual;
 })
 
--- the rows of `period`, one for each period of each pairing
+-- the row is that of a period of a pairing of the state in `period`
 abbrev pub InPeriod : State → Row → Type 0
 InPeriod s row = (at : At s.pairings) × (p : PeriodOf at.value)
     × (row ≡ row_of_period at.name p.place p.fdp p.actual)
 
 -- ---- The segments of a period
 
--- a segment of a period, at its place counted from 0
+-- the period has this segment at this place, counted from 0
 pub record SegmentOf (fdp : Fdp) : Type 0 where
   pub place : ℕ
   pub segment : Segment
   pub planned : slice_get fdp.segments place ≡ Some segment
 
--- the times of a segment in the actual of its period, if the period has one
+-- the segment at this place has these times in the actual of its period, if the period has one
 abbrev pub times_flown : Option ActualTimes → ℕ → Option BlockTimes
 times_flown actual place = option_and_then (λ a. slice_get a.segments place) actual
 
--- the row of a segment: the pairing, the numbers of period and segment from 1, flight and airports,
--- block-out and block-in as planned, and as flown
+-- a segment has this row in `segment`: the pairing, the numbers of period and segment from 1,
+-- flight and airports, block-out and block-in as planned, and as flown
 abbrev pub row_of_segment : List ℕ → ℕ → ℕ → Segment → Option BlockTimes → Row
 row_of_segment id period place segment times = segment_row (record {
   pairing = id;
@@ -130,31 +131,31 @@ row_of_segment id period place segment times = segment_row (record {
   act_in = option_map (λ t. t.block_in) times;
 })
 
--- the rows of `segment`, one for each segment of each period
+-- the row is that of a segment of a period of a pairing of the state in `segment`
 abbrev pub InSegment : State → Row → Type 0
 InSegment s row = (at : At s.pairings) × (p : PeriodOf at.value) × (g : SegmentOf p.fdp)
     × (row ≡ row_of_segment at.name p.place g.place g.segment (times_flown p.actual g.place))
 
 -- ---- The holders of seats
 
--- a seat that is held, and the member who holds it
+-- a seat of the pairing is held by this member
 pub record HeldSeat (r : PairingEntry) : Type 0 where
   pub seat : Seat
   pub crew : List ℕ
   pub held : holder seat r ≡ Some crew
 
--- the row of a seat and its holder
+-- a held seat has this row in `seat`: the pairing, the number of the seat, and its holder
 abbrev pub row_of_seat : List ℕ → Seat → List ℕ → Row
 row_of_seat id seat crew = seat_row (record { pairing = id; seat = seat_number seat; crew = crew })
 
--- the rows of `seat`, one for each seat that is held
+-- the row is that of a held seat of a pairing of the state in `seat`
 abbrev pub InSeat : State → Row → Type 0
 InSeat s row = (at : At s.pairings) × (h : HeldSeat at.value)
     × (row ≡ row_of_seat at.name h.seat h.crew)
 
 -- ---- Ground duties, exceedances and requests
 
--- the row of a ground duty: the id, whose duty it is, the task, begin and end
+-- a ground duty has this row in `ground`: the id, whose duty it is, the task, begin and end
 abbrev pub row_of_ground : List ℕ → GroundPlan → Row
 row_of_ground id g = ground_row (record {
   id = id;
@@ -164,11 +165,11 @@ row_of_ground id g = ground_row (record {
   end_at = g.end;
 })
 
--- the rows of the table of ground duties, one for each ground duty of the state
+-- the row is that of a ground duty of the state in `ground`
 abbrev pub InGround : State → Row → Type 0
 InGround s row = (at : At s.grounds) × (row ≡ row_of_ground at.name at.value)
 
--- an exceedance: the key that recorded it, the member, the section, and the duty that it names
+-- an exceedance is recorded under this key, for this member and section, and names this duty
 pub record ExceedanceAt (exceedances : fin.FinMap name_cmp DutyId) : Type 0 where
   pub key : KeyParts
   pub crew : List ℕ
@@ -176,20 +177,20 @@ pub record ExceedanceAt (exceedances : fin.FinMap name_cmp DutyId) : Type 0 wher
   pub named : DutyId
   pub there : fin.get exceedances (exceedance_name key crew section) ≡ Some named
 
--- what the column `pairing` of `exceedance` has of the duty that an exceedance names: the id of the
+-- the column `pairing` of `exceedance` has this id for a duty that an exceedance names: that of the
 -- pairing, or that of the outside period
 abbrev pub named_id : DutyId → List ℕ
 named_id (Period p) = p.pairing
 named_id (Outside id) = id
 
--- what the column `period` of `exceedance` has of the duty that an exceedance names: the number of
+-- the column `period` of `exceedance` has this number for a duty that an exceedance names: that of
 -- the period, from 1, or 0 for an outside period
 abbrev pub named_number : DutyId → ℕ
 named_number (Period p) = p.number
 named_number (Outside id) = 0
 
--- the row of an exceedance: the key that recorded it, the member, the section, and the duty that it
--- names
+-- an exceedance has this row in `exceedance`: the key that recorded it, the member, the section,
+-- and the duty that it names
 abbrev pub row_of_exceedance : KeyParts → List ℕ → Section → DutyId → Row
 row_of_exceedance key crew section named = exceedance_row (record {
   number = pos key.number;
@@ -200,18 +201,19 @@ row_of_exceedance key crew section named = exceedance_row (record {
   period = named_number named;
 })
 
--- the rows of `exceedance`, one for each exceedance of the state
+-- the row is that of an exceedance of the state in `exceedance`
 abbrev pub InExceedance : State → Row → Type 0
 InExceedance s row = (at : ExceedanceAt s.exceedances)
     × (row ≡ row_of_exceedance at.key at.crew at.section at.named)
 
--- a key that is held, with its command and reply
+-- a key is held, with this command and reply
 pub record RequestAt (requests : fin.FinMap name_cmp LoggedCommand) : Type 0 where
   pub key : KeyParts
   pub kept : LoggedCommand
   pub there : fin.get requests (key_name key) ≡ Some kept
 
--- the row of a key that is held: its command and its reply, as their kept texts
+-- a key that is held has this row in `request`: the key, with its command and its reply as their
+-- kept texts
 abbrev pub row_of_request : KeyParts → LoggedCommand → Row
 row_of_request key kept = request_row (record {
   number = pos key.number;
@@ -220,31 +222,32 @@ row_of_request key kept = request_row (record {
   reply = reply_text kept.reply;
 })
 
--- the rows of `request`, one for each key that is held
+-- the row is that of a held key of the state in `request`
 abbrev pub InRequest : State → Row → Type 0
 InRequest s row = (at : RequestAt s.requests) × (row ≡ row_of_request at.key at.kept)
 
 -- ---- Bases
 
--- the row of a base in `base`: the id, and the zone, by its rule text
+-- a base has this row in `base`: the id, and the zone by its rule text
 abbrev pub row_of_base : List ℕ → List ℕ → Row
 row_of_base id zone = base_row (record { id = id; zone = zone })
 
--- the rows of `base`, one for each base of the state
+-- the row is that of a base of the state in `base`
 abbrev pub InBase : State → Row → Type 0
 InBase s row = (at : At s.bases) × (row ≡ row_of_base at.name at.value)
 
--- the row of a member in `crew_base`: the member's id, and the id of the member's base
+-- a member has this row in `crew_base`: the member's id, and the id of the member's base
 abbrev pub row_of_post : List ℕ → List ℕ → Row
 row_of_post crew base = crew_base_row (record { crew = crew; base = base })
 
--- the rows of `crew_base`, one for each member of the state
+-- the row is that of a member of the state in `crew_base`
 abbrev pub InCrewBase : State → Row → Type 0
 InCrewBase s row = (at : At s.crew) × (row ≡ row_of_post at.name at.value.base)
 
 -- ---- Outside periods
 
--- the row of an outside period: the id, the member who flew it, its report and release
+-- an outside period has this row in `outside`: the id, the member who flew it, its report and
+-- release
 abbrev pub row_of_outside : List ℕ → OutsideEntry → Row
 row_of_outside id o = outside_row (record {
   id = id;
@@ -253,18 +256,18 @@ row_of_outside id o = outside_row (record {
   release_at = o.period.release;
 })
 
--- the rows of `outside`, one for each outside period of the state
+-- the row is that of an outside period of the state in `outside`
 abbrev pub InOutside : State → Row → Type 0
 InOutside s row = (at : At s.outsides) × (row ≡ row_of_outside at.name at.value)
 
--- a segment of an outside period, at its place counted from 0
+-- the outside period has a segment with these times at this place, counted from 0
 pub record OutsideSegmentOf (o : OutsidePlan) : Type 0 where
   pub place : ℕ
   pub times : BlockTimes
   pub flown : slice_get o.segments place ≡ Some times
 
--- the row of a segment of an outside period: the id of the period, the number of the segment from
--- 1, block-out and block-in
+-- a segment of an outside period has this row in `outside_segment`: the id of the period, the
+-- number of the segment from 1, block-out and block-in
 abbrev pub row_of_outside_segment : List ℕ → ℕ → BlockTimes → Row
 row_of_outside_segment id place times = outside_segment_row (record {
   outside = id;
@@ -273,14 +276,14 @@ row_of_outside_segment id place times = outside_segment_row (record {
   in_at = times.block_in;
 })
 
--- the rows of `outside_segment`, one for each segment of each outside period
+-- the row is that of a segment of an outside period of the state in `outside_segment`
 abbrev pub InOutsideSegment : State → Row → Type 0
 InOutsideSegment s row = (at : At s.outsides) × (g : OutsideSegmentOf at.value.period)
     × (row ≡ row_of_outside_segment at.name g.place g.times)
 
 -- ---- The thirteen tables
 
--- the names of the thirteen tables of the book
+-- the thirteen tables of the book have these names
 pub data TableName : Type 0 where
   book : TableName
   crew : TableName
@@ -296,7 +299,7 @@ pub data TableName : Type 0 where
   outside : TableName
   outside_segment : TableName
 
--- how the table of this name is declared
+-- the table of this name is declared as this table of the book
 abbrev pub table : TableName → BookTable
 table book = book_table
 table crew = crew_table
@@ -312,7 +315,7 @@ table crew_base = crew_base_table
 table outside = outside_table
 table outside_segment = outside_segment_table
 
--- whether version 2 of the tables has the table of this name, and version 1 has not
+-- version 2 of the tables has the table of this name, and version 1 lacks it
 abbrev pub is_later : TableName → Bool
 is_later base = true
 is_later crew_base = true
@@ -320,7 +323,7 @@ is_later outside = true
 is_later outside_segment = true
 is_later name = false
 
--- the rows of a state in a table of version 2
+-- the row is one that the state has in the table of this name, in version 2
 abbrev pub InTable : State → TableName → Row → Type 0
 InTable s book = InBook s
 InTable s crew = InCrew s
@@ -336,20 +339,20 @@ InTable s crew_base = InCrewBase s
 InTable s outside = InOutside s
 InTable s outside_segment = InOutsideSegment s
 
--- the rows of a state in a table of version 1
+-- the row is one that the state has in the table of this name, in version 1
 abbrev pub InFirst : State → TableName → Row → Type 0
 InFirst s book = InBookOf First s
 InFirst s name = InTable s name
 
--- the database has just these rows in a table
+-- the database has just the rows of which `Is` holds in this table
 abbrev pub HasJust : BookTable → Database → (Row → Type 0) → Type 0
 HasJust kept db Is = (row : Row) → Has (rows_of kept db) row ↔ Is row
 
--- each table of version 2 has just the rows of the state
+-- each table of version 2 has just the rows of this state
 abbrev pub Rows : State → Database → Type 0
 Rows s db = (name : TableName) → HasJust (table name) db (InTable s name)
 
--- each table of version 1 has just the rows of the state in that version
+-- each table of version 1 has just the rows of this state in version 1
 abbrev pub FirstRows : State → Database → Type 0
 FirstRows s db = (name : TableName) → is_later name ≡ false →
     HasJust (table name) db (InFirst s name)

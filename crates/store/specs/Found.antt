@@ -11,9 +11,9 @@ use Rattle.state_rows.specs.Kept.{IsBookOf, IsFirstBookOf}
 
 -- a sound book in this state is found in the database, in version 1 or in version 2
 pub record IsFound (s : State) (found : Database) : Type 0 where
-  -- its tables are there, with just the rows of the state
+  -- the tables of the book are there, with the rows of the state and no others
   pub book : IsFirstBookOf s found ⊎ IsBookOf s found
-  -- none of them is damaged
+  -- no table of the book is damaged
   pub right : IsRightBook s found
   pub sound : Sound s
   pub instants : HasInstants s

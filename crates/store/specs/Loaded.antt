@@ -1,4 +1,5 @@
--- What it comes to that a book is loaded, or refused. A book of version 1 is brought to version 2.
+-- What a connection shows and what a crash leaves after a book is loaded, or refused. A book of
+-- version 1 is brought to version 2.
 use Rattle.std.specs.Prelude.{◌≡◌, ◌⊎◌}
 use Rattle.sqlite_trees.specs.Tree.{Trees}
 use Rattle.sqlite.specs.State as conn
@@ -14,14 +15,15 @@ use Rattle.tables.specs.Schema.{later_tables}
 use Rattle.state_rows.specs.Kept.{HoldBookOf, IsFirstBookOf}
 use Rattle.writing.specs.Beside.{KeepBeside}
 use Rattle.state_rows.specs.Outcomes.{CrashAddsNothing, CrashAddsOnly, CrashLeaves, CrashLeavesOnly}
-use Rattle.state_rows.specs.Outcomes.{CrashLeavesSome, HoldsNow, IsOutside, ShowsOnly, StaysOpen, one}
+use Rattle.state_rows.specs.Outcomes.{CrashLeavesSome, HoldsNow, IsOutside, ShowsOnly, StaysOpen}
+use Rattle.state_rows.specs.Outcomes.{one}
 use Rattle.store.specs.Found.{IsFound}
 
 -- the connection shows a database whose table `book` says version 1
 abbrev pub IsOfFirst : conn.State → Type 0
 IsOfFirst s = IsOfEdition First s.now
 
--- what the connection shows is what a crash could leave of it
+-- what the connection shows is what a crash could leave of the connection
 abbrev pub ShowsWhatIsLeft : conn.State → Type 0
 ShowsWhatIsLeft s = s.may_leave s.now.trees
 
@@ -29,8 +31,8 @@ ShowsWhatIsLeft s = s.may_leave s.now.trees
 abbrev pub ShowsFirstBook : conn.State → Type 0
 ShowsFirstBook s = (it : State) × IsFound it s.now × IsFirstBookOf it s.now
 
--- the connection shows a sound book of version 1, which a crash could leave of it, and these trees
--- hold the whole of the same book in version 2
+-- the connection shows a sound book of version 1, which a crash could leave, and these trees hold
+-- the whole of that book in version 2
 pub record AreMigrated (s : conn.State) (trees : Trees) : Type 0 where
   pub left : ShowsWhatIsLeft s
   pub it : State
@@ -38,15 +40,15 @@ pub record AreMigrated (s : conn.State) (trees : Trees) : Type 0 where
   pub was : IsFirstBookOf it s.now
   pub is : HoldBookOf trees it
 
--- a crash leaves what it could leave before; or, where a sound book of version 1 was shown, the
--- whole of the same book in version 2
+-- a crash leaves what it could leave before; or, if a sound book of version 1 was shown, the whole
+-- of that book in version 2
 pub record CrashMayMigrate (old new : conn.State) : Type 0 where
   pub disk : HasCleanDisk new → HasCleanDisk old
   pub crash : HasCleanDisk new → (trees : Trees) → new.may_leave trees →
       old.may_leave trees ⊎ AreMigrated old trees
 
--- A book in this state was found. One of version 1 is one of version 2 now, in the same state; one
--- of version 2 was left as it was.
+-- A book in this state was found. A book of version 1 is now one of version 2, in the same state; a
+-- book of version 2 was left as it was.
 pub record IsLoaded (old new : conn.State) (s : State) : Type 0 where
   pub found : HasCleanDisk new → IsFound s old.now
   -- what was found is what a crash could have left
@@ -66,12 +68,12 @@ pub record IsLoaded (old new : conn.State) (s : State) : Type 0 where
   pub disk : HasCleanDisk new → HasCleanDisk old
   pub limit : new.step_limit ≡ old.step_limit
 
--- No book was taken, for this fault, and nothing was changed. Only where a fault of the store (90)
--- met a book of version 1, a crash leaves it as it was, or as one of version 2.
+-- No book was taken, for this fault, and nothing was changed. But if a fault of the store (90) met
+-- a book of version 1, a crash leaves the book as it was, or as one of version 2.
 pub record IsNotLoaded (old new : conn.State) (fault : LoadFault) : Type 0 where
   pub says : HasCleanDisk new → Justifies fault old.now
-  -- a fault of the store came of a read, and has a cause; or when a book of version 1 was to become
-  -- one of version 2, and then no cause is told
+  -- a fault of the store came of a read, and has a cause; or it came when a book of version 1 was
+  -- to become one of version 2, and then no cause is reported
   pub caused : HasCleanDisk new → fault ≡ Fault Store → HasReadCause old new ⊎ ShowsFirstBook old
   -- what a crash leaves
   pub crash : CrashMayMigrate old new

@@ -1,5 +1,5 @@
 -- What a book shows: which text of a state it is, or why there is none; and the part of the state
--- that is handed out for it.
+-- that is handed out for the text.
 use Rattle.std.specs.Prelude.{◌≡◌, ℕ, List, Some, None, IsSome, Result, Ok, Err}
 use Rattle.std.specs.FinMap as fin
 use Rattle.limits_report.specs.LimitsText.{IsLimitsText, judged}
@@ -15,7 +15,7 @@ use Rattle.store.specs.declared.show.Show.{Show}
 use Rattle.store.specs.declared.show.Show.TheVariants.{Crew, Limits, Pairing, Exceedances}
 use Rattle.store.specs.declared.show.Show.TheVariants.{Members, Pairings}
 
--- why there is no text: the member isn't there, or the pairing
+-- why there is no text: the member isn't there, or the pairing isn't
 pub data Absence : Type 0 where
   no_crew no_pairing : Absence
 

@@ -61,7 +61,7 @@ impl<S: Alter> Model for Store<S> {
 
 impl<S: Alter> Store<S> {
     /// Makes the tables of a book, in one transaction. Refused is a database that has a table with the name of one of them,
-    /// or a foreign key that refers to one (43), a store's fault (90), and want of memory (91); then the connection is
+    /// or a foreign key that refers to one (43), a store's fault (90), and out of memory (91); then the connection is
     /// handed back.
     pub fn create(
         alloc: Global,
@@ -83,7 +83,7 @@ impl<S: Alter> Store<S> {
 
     /// Reads the book that a crash or anybody left. One of version 1 becomes one of version 2, in one transaction; of one of
     /// version 2 nothing is changed. Refused is a database without a table `book` (40), tables of another version (42), tables
-    /// that aren't the rows of a sound roster, with the first that is at fault (41), a store's fault (90), and want of memory
+    /// that aren't the rows of a sound roster, with the first that is at fault (41), a store's fault (90), and out of memory
     /// (91); then the connection is handed back, with nothing changed. Only after 90 a book of version 1 may be of version 2.
     pub fn load(
         alloc: Global,
@@ -102,7 +102,7 @@ impl<S: Alter> Store<S> {
     }
 
     /// Reads by key what a command needs to be answered under its key, in no transaction, and changes nothing. A store's fault is
-    /// 90, want of memory 91.
+    /// 90, out of memory 91.
     pub fn part(&mut self, alloc: Global, key: Key, command: &Command) -> Result<Roster, StoreFault>
         // The part, by the state that the tables show: sound, and answering as that state does.
         ensures part { (s : State) → Shows (state S.Store self.old) s
@@ -129,7 +129,7 @@ impl<S: Alter> Store<S> {
 
     /// Judges a command under its key by the state that the tables show. It reads by key, in no transaction, and changes nothing;
     /// it reads first what the key holds, then what the command names, and only if these don't settle the verdict the
-    /// histories by which it is judged. A store's fault is 90, want of memory 91.
+    /// histories by which it is judged. A store's fault is 90, out of memory 91.
     pub fn judge(
         &mut self,
         alloc: Global,
@@ -154,7 +154,7 @@ impl<S: Alter> Store<S> {
     }
 
     /// Reads by key a roster with what the text of a member, of a member's limits, of a pairing, of the exceedances or of a
-    /// list needs, in no transaction, and changes nothing. A store's fault is 90, want of memory 91.
+    /// list needs, in no transaction, and changes nothing. A store's fault is 90, out of memory 91.
     pub fn shown(&mut self, alloc: Global, what: &Show) -> Result<Roster, StoreFault>
         ensures part { (s : State) → Shows (state S.Store self.old) s
             → HasCleanDisk (state S.Store self.new) → IfOk result (λ r. r ≡ shown_part s what.now) }
@@ -181,7 +181,7 @@ impl<S: Alter> Store<S> {
         shown
     }
 
-    /// Writes a change that the step gave of the state that the tables hold, in one transaction. After want of memory (91)
+    /// Writes a change that the step gave of the state that the tables hold, in one transaction. After out of memory (91)
     /// nothing is changed, and the connection is still open, unless the disk failed or refused a call meanwhile; after a
     /// store's fault (90) all of the change is kept, or nothing of it.
     pub fn commit(&mut self, alloc: Global, change: &Change) -> Result<(), StoreFault>

@@ -1,7 +1,8 @@
--- What the members of a command are read as, and which of them are refused. Members are looked for
--- in the order in which they stand here. The first that is missing or isn't read is refused by its
--- name, and after them what the whole is refused for.
-use Rattle.std.specs.Prelude.{ℕ, List, Option, Some, None, is_some, ok_or, option_and_then, Result, Ok, Err, if◌then◌else◌}
+-- What the members of a command are read as, and which members are refused. Members are looked for
+-- in the order in which they stand here. The first member that is missing or isn't read is refused
+-- by its name. If each member is read, the command as a whole may be refused.
+use Rattle.std.specs.Prelude.{ℕ, List, Option, Some, None, is_some, ok_or, option_and_then, Result}
+use Rattle.std.specs.Prelude.{Ok, Err, if◌then◌else◌}
 use Rattle.std.specs.Option.{option_map_or}
 use Rattle.serde_json.specs.Data.{Data}
 use Rattle.serde_json.specs.Find.{get, as_str, as_object}
@@ -13,31 +14,37 @@ use Rattle.command.specs.Instructions.{instruction_fault}
 use Rattle.command.specs.declared.instruction.Instruction.{Instruction}
 use Rattle.command.specs.declared.instruction.Instruction.TheVariants as instruction
 use Rattle.stored_json.specs.Fields.{field_name}
-use Rattle.stored_json.specs.Parts.{read_named_part, read_list, read_time, read_times, read_seat, read_verb, read_zone, read_period, read_period_number}
+use Rattle.stored_json.specs.Parts.{read_named_part, read_list, read_time, read_times, read_seat}
+use Rattle.stored_json.specs.Parts.{read_verb, read_zone, read_period, read_period_number}
 use Rattle.stored_json.specs.declared.fault.CodecFault.{CodecFault}
 use Rattle.stored_json.specs.declared.fault.CodecFault.TheVariants.{BadJson, Duty}
 use Rattle.stored_json.specs.declared.field.JsonField.{JsonField}
-use Rattle.stored_json.specs.declared.field.JsonField.TheVariants.{Body, Do, Crew, Seat, Name, Pairing, Periods, OtherPairing, OtherCrew, Ground, Begin, End, Task, Period, Report, Release, Segments, Base, Zone, Outside}
+use Rattle.stored_json.specs.declared.field.JsonField.TheVariants.{Body, Do, Crew, Seat, Name}
+use Rattle.stored_json.specs.declared.field.JsonField.TheVariants.{Pairing, Periods, OtherPairing}
+use Rattle.stored_json.specs.declared.field.JsonField.TheVariants.{OtherCrew, Ground, Begin, End}
+use Rattle.stored_json.specs.declared.field.JsonField.TheVariants.{Task, Period, Report, Release}
+use Rattle.stored_json.specs.declared.field.JsonField.TheVariants.{Segments, Base, Zone, Outside}
 use Rattle.stored_json.specs.declared.verb.Verb.{Verb}
 use Rattle.stored_json.specs.declared.verb.Verb.TheVariants as verb
 
--- the next step, with what the step before it gave, unless that was refused
+-- the next step, with what the step before it gave, or the fault with which that step was refused
 abbrev pub and_then :
     {A B : Type 0} → Result A CodecFault → (A → Result B CodecFault) → Result B CodecFault
 and_then (Ok x) next = next x
 and_then (Err fault) next = Err fault
 
--- what a member of a command is read as, refused by its name if it is missing or isn't read
+-- what a member of a command is read as; the member is refused by its name if it is missing or
+-- isn't read
 abbrev pub field_of : {A : Type 0} → (Data → Option A) → JsonField → Data → Result A CodecFault
 field_of reads field d = ok_or (read_named_part reads (field_name field) d) (BadJson field)
 
--- a field of a command that may be missing, and is then this
+-- what a member of a command is read as that may be missing, and then has this value
 abbrev pub field_or : {A : Type 0} → A → (Data → Option A) → JsonField → Data → Result A CodecFault
 field_or missing reads field d =
     option_map_or (λ value. ok_or (reads value) (BadJson field)) (get (field_name field) d)
     (Ok missing)
 
--- the instruction of this verb, by the members after `do`
+-- what the members after `do` are read as: the instruction of this verb
 abbrev pub read_members : Verb → Data → Result Instruction CodecFault
 read_members verb.AddBase d =
     and_then (field_of as_str Base d) (λ base.
@@ -111,26 +118,26 @@ read_members verb.RecordOutside d =
       segments = segments;
     })))))))
 
--- the instruction, if it has no fault
+-- this instruction, or its fault, if it has one
 abbrev pub unless_fault : Option DutyFault → Instruction → Result Instruction CodecFault
 unless_fault None asked = Ok asked
 unless_fault (Some fault) asked = Err (Duty fault)
 
--- an instruction that is a command
+-- an instruction as a command, or its fault, if it has one
 abbrev pub made_command : Instruction → Result Instruction CodecFault
 made_command asked = unless_fault (instruction_fault asked) asked
 
--- the command of an object's members
+-- what an object's members are read as: a command
 unfoldable pub read_instruction : Data → Result Instruction CodecFault
 read_instruction d =
     and_then (and_then (field_of read_verb Do d) (λ verb. read_members verb d)) made_command
 
--- the object that a JSON text is, refused as a whole if it is none
+-- the object that a JSON text is; the text is refused as a whole if it is no object
 abbrev pub read_object : List ℕ → Result Data CodecFault
 read_object text =
     ok_or (option_and_then (λ d. if is_some (as_object d) then Some d else None) (read text))
     (BadJson Body)
 
--- the command of a kept text
+-- what a kept text is read as: a command
 abbrev pub read_kept : List ℕ → Result Instruction CodecFault
 read_kept text = and_then (read_object text) read_instruction

@@ -2,11 +2,16 @@
 use Rattle.std.specs.Prelude.{ℕ, List, [], ◌∷◌, Option, codes, find}
 use Rattle.std.specs.Str.{bytes_eq}
 use Rattle.stored_json.specs.declared.field.JsonField.{JsonField}
-use Rattle.stored_json.specs.declared.field.JsonField.TheVariants.{Body, Number, Do, Crew, Seat, Name, Pairing, Periods, OtherPairing, OtherCrew, Ground, Begin, End, Task, Period, Report, Release, Segments, Base, Zone, Outside}
+use Rattle.stored_json.specs.declared.field.JsonField.TheVariants.{Body, Number, Do, Crew, Seat}
+use Rattle.stored_json.specs.declared.field.JsonField.TheVariants.{Name, Pairing, Periods}
+use Rattle.stored_json.specs.declared.field.JsonField.TheVariants.{OtherPairing, OtherCrew, Ground}
+use Rattle.stored_json.specs.declared.field.JsonField.TheVariants.{Begin, End, Task, Period, Report}
+use Rattle.stored_json.specs.declared.field.JsonField.TheVariants.{Release, Segments, Base, Zone}
+use Rattle.stored_json.specs.declared.field.JsonField.TheVariants.{Outside}
 use Rattle.stored_json.specs.declared.verb.Verb.{Verb}
 use Rattle.stored_json.specs.declared.verb.Verb.TheVariants as verb
 
--- the name of a member
+-- the name of a member of a command's object
 abbrev pub field_name : JsonField → List ℕ
 field_name Body = codes "body"
 field_name Number = codes "number"
@@ -50,6 +55,6 @@ all_verbs =
     verb.AddBase ∷ verb.AddCrew ∷ verb.AddPairing ∷ verb.CancelPairing ∷ verb.Assign ∷ verb.Release
     ∷ verb.Swap ∷ verb.AddGround ∷ verb.CancelGround ∷ verb.Actual ∷ verb.RecordOutside ∷ []
 
--- the one of these values whose word the text is, if there is one
+-- the value, of a list of values, whose word a text is, if there is one
 abbrev pub worded : {A : Type 0} → (A → List ℕ) → List A → List ℕ → Option A
 worded word all text = find (λ a. bytes_eq text (word a)) all

@@ -1,5 +1,5 @@
--- The kept text of a command: the compact JSON text of its members, those of each object in byte
--- order of their names.
+-- The kept text of a command: the compact JSON text of its members, the members of each object in
+-- byte order of their names.
 use Rattle.std.specs.Prelude.{ℕ, List, [], ◌∷◌, ◌++◌, map, codes, if◌then◌else◌}
 use Rattle.std.specs.Str.{bytes_eq}
 use Rattle.serde_json.specs.Data.{Data, number, unsigned, string}
@@ -10,7 +10,11 @@ use Rattle.duty.specs.declared.segment.BlockTimes.{BlockTimes}
 use Rattle.duty.specs.declared.segment.Segment.{Segment}
 use Rattle.command.specs.Texts.{seat_text}
 use Rattle.command.specs.declared.instruction.Instruction.{Instruction}
-use Rattle.command.specs.declared.instruction.Instruction.TheVariants.{AddBase, AddCrew, AddPairing, CancelPairing, Assign, Release, Swap, AddGround, CancelGround, Actual, RecordOutside}
+use Rattle.command.specs.declared.instruction.Instruction.TheVariants.{AddBase, AddCrew, AddPairing}
+use Rattle.command.specs.declared.instruction.Instruction.TheVariants.{CancelPairing, Assign}
+use Rattle.command.specs.declared.instruction.Instruction.TheVariants.{Release, Swap, AddGround}
+use Rattle.command.specs.declared.instruction.Instruction.TheVariants.{CancelGround, Actual}
+use Rattle.command.specs.declared.instruction.Instruction.TheVariants.{RecordOutside}
 use Rattle.stored_json.specs.Values.{object_of, array_of, instant_json}
 
 -- the object of a segment as it is planned
@@ -30,11 +34,11 @@ period_json f =
     object_of ((codes "release", instant_json f.release) ∷ (codes "report", instant_json f.report)
     ∷ (codes "segments", array_of (map segment_json f.segments)) ∷ [])
 
--- the member `base`, which is left out where it is HOME
+-- the member `base`, which is left out if the base is HOME
 abbrev pub base_member : List ℕ → List (List ℕ × Data)
 base_member base = if bytes_eq base home then [] else (codes "base", string base) ∷ []
 
--- the object of an instruction: what it asks under `do`, and the members of its kind
+-- the object of an instruction: what the instruction asks under `do`, and the members of its kind
 abbrev pub instruction_json : Instruction → Data
 instruction_json (AddBase id zone) =
     object_of ((codes "base", string id) ∷ (codes "do", string (codes "add-base"))

@@ -16,7 +16,8 @@ scalar_json (scalar.Instant minute) = instant_json minute
 scalar_json (scalar.Seat seat) = string (seat_text seat)
 scalar_json (scalar.Section section) = string (section_text section)
 
--- an object's members with these added, each in its place in byte order of the names
+-- an object's members with the members of a list added, each in its place in byte order of the
+-- names
 abbrev pub with_members : List (Bor (List ℕ) × Scalar) → Members → Members
 with_members [] members = members
 with_members (m ∷ ms) members = with_members ms (put m.0.now (scalar_json m.1) members)

@@ -1,7 +1,8 @@
--- What the parts of a command are read as: nothing, where a part is of the wrong kind, out of its
+-- What the parts of a command are read as: nothing, if a part is of the wrong kind, out of its
 -- range or not one of its words, or lacks or holds a part that isn't read. Members that aren't
 -- named are ignored.
-use Rattle.std.specs.Prelude.{ℕ, List, [], ◌∷◌, Option, Some, None, option_and_then, option_map, codes, if◌then◌else◌}
+use Rattle.std.specs.Prelude.{ℕ, List, [], ◌∷◌, Option, Some, None, option_and_then, option_map}
+use Rattle.std.specs.Prelude.{codes, if◌then◌else◌}
 use Rattle.std.specs.Result.{result_ok}
 use Rattle.serde_json.specs.Data.{Data, Items, no_items, item}
 use Rattle.serde_json.specs.Find.{get, as_str, as_number, as_u64, as_array}
@@ -17,7 +18,7 @@ use Rattle.command.specs.declared.member.Seat.TheVariants.{Captain, FirstOfficer
 use Rattle.stored_json.specs.Fields.{all_verbs, verb_text, worded}
 use Rattle.stored_json.specs.declared.verb.Verb.{Verb}
 
--- the next step, with the part that was read, if it was
+-- the next step, with the part that was read, or nothing if the part wasn't read
 abbrev pub with_part : {A B : Type 0} → Option A → (A → Option B) → Option B
 with_part None next = None
 with_part (Some part) next = next part
@@ -36,36 +37,36 @@ read_each reads (item d ds) =
 abbrev pub read_list : {A : Type 0} → (Data → Option A) → Data → Option (List A)
 read_list reads d = option_and_then (read_each reads) (as_array d)
 
--- an instant, in either of its written forms
+-- what an instant is read as, in either of its written forms
 abbrev pub read_time : Data → Option ℕ
 read_time d = option_and_then (λ text. result_ok (read_instant text)) (as_str d)
 
--- a zone, by its rule text
+-- what a zone is read as: its rule text
 abbrev pub read_zone : Data → Option (List ℕ)
 read_zone d = option_and_then (λ text. if is_zone_text text then Some text else None) (as_str d)
 
--- the number of a period, from 1 to 10
+-- what the number of a period is read as, from 1 to 10
 abbrev pub read_period_number : Data → Option ℕ
 read_period_number d =
     with_part (option_and_then as_u64 (as_number d)) (λ number.
     if is_within 1 10 number then Some number else None)
 
--- a seat, by its word
+-- what a seat is read as, by its word
 abbrev pub read_seat : Data → Option Seat
 read_seat d = option_and_then (worded seat_text (Captain ∷ FirstOfficer ∷ [])) (as_str d)
 
--- a verb, by its word
+-- what a verb is read as, by its word
 abbrev pub read_verb : Data → Option Verb
 read_verb d = option_and_then (worded verb_text all_verbs) (as_str d)
 
--- the times of a segment as it was flown
+-- what the times of a segment as it was flown are read as
 abbrev pub read_times : Data → Option BlockTimes
 read_times d =
     with_part (read_named_part read_time (codes "out") d) (λ block_out.
     with_part (read_named_part read_time (codes "in") d) (λ block_in.
     Some (record { block_out = block_out; block_in = block_in })))
 
--- a segment, whatever the shapes of its texts
+-- what a segment is read as, whatever the shapes of its texts
 abbrev pub read_segment : Data → Option Segment
 read_segment d =
     with_part (read_named_part as_str (codes "flight") d) (λ flight.
@@ -81,7 +82,7 @@ read_segment d =
       block_in = block_in;
     }))))))
 
--- a period, as it is planned
+-- what a period is read as: a period as it is planned
 abbrev pub read_period : Data → Option Fdp
 read_period d =
     with_part (read_named_part read_time (codes "report") d) (λ report.

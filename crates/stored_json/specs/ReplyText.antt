@@ -1,6 +1,7 @@
--- The reply to an accepted command as JSON, its members in byte order of their names, and what such
--- a text is read as.
-use Rattle.std.specs.Prelude.{ℕ, List, [], ◌∷◌, map, codes, Option, Some, None, ok_or, option_and_then, Result, if◌then◌else◌}
+-- The reply to an accepted command as JSON, its members in byte order of their names, and what the
+-- text of a reply is read as.
+use Rattle.std.specs.Prelude.{ℕ, List, [], ◌∷◌, map, codes, Option, Some, None, ok_or}
+use Rattle.std.specs.Prelude.{option_and_then, Result, if◌then◌else◌}
 use Rattle.std.specs.Str.{bytes_eq}
 use Rattle.serde_json.specs.Data.{Data, string}
 use Rattle.serde_json.specs.Find.{as_str}
@@ -33,7 +34,7 @@ reply_json r = object_of ((codes "exceedances", array_of (map exceedance_json r.
 unfoldable pub reply_text : Reply → List ℕ
 reply_text reply = compact_text (reply_json reply)
 
--- a section, by its text
+-- the section that a JSON text names
 abbrev pub read_section : Data → Option Section
 read_section d = option_and_then (worded section_text all_sections) (as_str d)
 
@@ -44,7 +45,7 @@ read_exceedance d =
     with_part (read_named_part read_section (codes "section") d) (λ section.
     Some (record { crew = crew; section = section })))
 
--- what the object of a reply is read as, if it says `accepted`
+-- what the object of a reply is read as, if its `result` is `accepted`
 abbrev pub read_accepted : Data → Option Reply
 read_accepted d =
     with_part (read_named_part as_str (codes "result") d) (λ result.
@@ -53,6 +54,6 @@ read_accepted d =
     then Some (record { exceedances = exceedances })
     else None))
 
--- the reply of a kept text, refused as a whole if it is none
+-- what a kept text is read as: its reply, or a refusal of the whole text if it is no reply
 unfoldable pub read_reply : List ℕ → Result Reply CodecFault
 read_reply text = ok_or (option_and_then read_accepted (read text)) (BadJson Body)

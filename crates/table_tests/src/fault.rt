@@ -1,4 +1,4 @@
-//! Why a test tells nothing: one type for each fault that its calls may meet.
+//! Why a test reports nothing: one type for each fault that its calls may meet.
 
 use sqlite::{Error, ErrorCode};
 use std::alloc::{AllocError, AllocFailed};
@@ -6,7 +6,7 @@ use std::fmt;
 use tables::TableFault;
 use values::MemoryFault;
 
-/// Why nothing is told of tables.
+/// Why nothing is reported of tables.
 #[derive(Clone, Copy, Debug)]
 pub enum Untold {
     /// The tables of a book can't be made.

@@ -1,4 +1,4 @@
-//! What the functions of the tables find by key: each record is copied, and the copy is told as a line.
+//! What the functions of the tables find by key: each record is copied, and the copy is reported as a line.
 
 ghost use Rattle.std.specs.Prelude.{OnOk};
 ghost use Rattle.sqlite.specs.Held.{state};
@@ -44,7 +44,7 @@ enum Step {
     Exceedances,
 }
 
-/// A record that is told as a line.
+/// A record that is reported as a line.
 pub trait Told: TryClone + Drop {
     /// The record's columns with `|` between them, as the shell `sqlite3` prints a row.
     fn line(&self, alloc: Global) -> Result<String, Untold>;
@@ -215,7 +215,7 @@ fn found<S: Alter>(alloc: Global, conn: &mut Connection<S>, step: Step) -> Resul
     }
 }
 
-/// What is told of a step; nothing of a statement.
+/// What is reported of a step; nothing of a statement.
 fn done<S: Alter>(alloc: Global, conn: &mut Connection<S>, step: Step) -> Result<String, Untold> {
     match step {
         Step::Run(statement) => {
@@ -228,7 +228,7 @@ fn done<S: Alter>(alloc: Global, conn: &mut Connection<S>, step: Step) -> Result
     }
 }
 
-/// What is told of steps that are taken in turn.
+/// What is reported of steps that are taken in turn.
 fn all_done<S: Alter>(
     alloc: Global,
     conn: &mut Connection<S>,
@@ -241,7 +241,7 @@ fn all_done<S: Alter>(
     Ok(text)
 }
 
-/// What is told of these steps before a book is made, and of those in an empty book.
+/// What is reported of these steps before a book is made, and of those in an empty book.
 fn told_over<S: Alter + Drop>(
     alloc: Global,
     mut conn: Connection<S>,

@@ -1,4 +1,4 @@
-//! Calls on the tables of bases, of members' bases and of outside periods: each record that they find is told as a line.
+//! Calls on the tables of bases, of members' bases and of outside periods: each record that they find is reported as a line.
 
 use crate::fault::Untold;
 use crate::keyed::{Told, in_order, look};
@@ -144,7 +144,7 @@ const ALL: [Search; 8] = [
     Search::SegmentsOf("X2"),
 ];
 
-/// What is told of these changes, and of the records that are found then.
+/// What is reported of these changes, and of the records that are found then.
 fn changed<S: Alter>(
     alloc: Global,
     conn: &mut Connection<S>,

@@ -1,4 +1,4 @@
-//! What is told where a transaction is taken back, as after want of memory.
+//! What is reported where a transaction is taken back, as after out of memory.
 
 mod shutting;
 
@@ -9,7 +9,7 @@ use std::alloc::Global;
 use std::test::Fail;
 use writing::take_back;
 
-/// What is told of a transaction that is begun and has one savepoint, where the store shuts behind so many of them.
+/// What is reported of a transaction that is begun and has one savepoint, where the store shuts behind this many of them.
 fn told(alloc: Global, savepoints: u64) -> Option<Result<(), StoreFault>> {
     let mut conn = shutting_behind(alloc, savepoints)?;
     begun(&mut conn)?;

@@ -11,7 +11,8 @@ use Rattle.sqlite_schema.specs.declared.schema.Index.{Index}
 use Rattle.sqlite_schema.specs.declared.schema.Table.{Table}
 use Rattle.tables.specs.Schema.{BookTable, table_of}
 
--- no column is the row's number, and nothing is counted, checked, referred to or computed
+-- no column of the table is the row's number, and the table counts, checks, refers to and computes
+-- nothing
 pub record IsSimple (t : Table) : Type 0 where
   pub key : t.key ≡ None
   pub uncounted : t.is_counted ≡ false
@@ -20,11 +21,11 @@ pub record IsSimple (t : Table) : Type 0 where
   pub computed : t.computed ≡ []
   pub stamps : t.stamps ≡ record { places = []; terms = []; formats = [] }
 
--- no column has a default value
+-- no column of the list has a default value
 abbrev pub HaveNoDefault : List Column → Type 0
 HaveNoDefault = All (λ c. c.default ≡ Null)
 
--- two tables have the same name, columns, primary key, unique keys and orders
+-- two tables have the same name, columns, primary key, unique keys and orders of their keys
 pub record IsLike (a b : Table) : Type 0 where
   pub name : a.name ≡ b.name
   pub columns : a.columns ≡ b.columns
@@ -32,22 +33,23 @@ pub record IsLike (a b : Table) : Type 0 where
   pub uniques : a.uniques ≡ b.uniques
   pub orders : a.orders ≡ b.orders
 
--- each table in this tree has this name
+-- each table of the list that is kept in this tree has this name
 abbrev pub is_own_tree : List Table → ℕ → List ℕ → Bool
 is_own_tree tables tree name = list_all (λ t. not (t.tree == tree) || bytes_eq t.name name) tables
 
--- declared alike, in a low tree of its own
+-- the table that was found is declared as the wanted one, and is kept in a tree of its own below
+-- 2^31
 pub record StandsAs (tables : List Table) (found wanted : Table) : Type 0 where
   pub alike : found ≡ (let t : Table = record wanted { tree = found.tree } in t)
   pub low : found.tree < 2 ^ 31
   pub own : is_own_tree tables found.tree wanted.name ≡ true
 
--- the text declares the table
+-- the SQL text declares this table of the book, and no column has a default value
 pub record DeclaresTable (it : BookTable) (text : List ℕ) : Type 0 where
   pub defines : table_defined_by text ≡ Ok (table_of it 0)
   pub plain : HaveNoDefault it.columns
 
--- no table refers to one of this name
+-- no foreign key of these tables refers to a table of this name
 abbrev pub is_not_parent : List Table → List ℕ → Bool
 is_not_parent tables name =
     list_all (λ t. list_all (λ ref. not (same_name name ref.parent)) t.references) tables

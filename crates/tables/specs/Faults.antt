@@ -6,12 +6,12 @@ use Rattle.sqlite.specs.declared.error.ErrorCode.TheVariants.{OutOfMemory}
 use Rattle.tables.specs.declared.table_fault.TableFault.{TableFault}
 use Rattle.tables.specs.declared.table_fault.TableFault.TheVariants.{Store, Memory, NotARecord}
 
--- out of memory is 91, and every other failure is 90
+-- a failure of `sqlite` becomes 91 if it is out of memory, and 90 otherwise
 abbrev pub table_fault_of : Error → TableFault
 table_fault_of (SqliteFailure OutOfMemory) = Memory
 table_fault_of _ = Store
 
--- a fault as it is printed
+-- a fault of a table is printed as this text
 abbrev pub table_fault_text : TableFault → List ℕ
 table_fault_text Store = codes "90 Store"
 table_fault_text Memory = codes "91 Memory"

@@ -21,29 +21,30 @@ use Rattle.sqlite_schema.specs.Rules.{agree, guards}
 use Rattle.sqlite_catalog.specs.Change.{is_used, created}
 use Rattle.tables.specs.Schema.{BookTable, IsTable, IsUnreferenced, OnlyKeysGuard, AreOnTables, table_found, table_of}
 
--- this many columns of a row, from a place on
+-- these are this many columns of a row, from a place on
 abbrev pub cells_from : ℕ → ℕ → Row → Row
 cells_from zero at row = []
 cells_from (suc count) at row = column row at ∷ cells_from count (suc at) row
 
--- the columns of a table in a stored row, which begins with the number that it is stored under
+-- these are the columns of a table in a stored row, which begins with the number that it is stored
+-- under
 abbrev pub cells : BookTable → Row → Row
 cells table = cells_from (length table.columns) 1
 
--- the rows in the tree of a table, if there is one
+-- these are the rows in the tree of a table; where there is no table, there is no row
 abbrev pub kept_in : Trees → Option Table → List Row
 kept_in trees None = []
 kept_in trees (Some t) = trees t.tree
 
--- the rows of a table as they are stored, which its name finds
+-- these are the rows of a table as they are stored; the schema finds the table by its name
 abbrev pub stored : BookTable → Database → List Row
 stored table db = kept_in db.trees (table_found db.schema table.name)
 
--- the rows of a table
+-- these are the rows of a table, without the numbers that they are stored under
 abbrev pub rows_of : BookTable → Database → List Row
 rows_of table db = map (cells table) (stored table db)
 
--- each row is stored under a number of its own
+-- each row of the list is stored under a number of its own
 pub record AreNumbered (rows : List Row) : Type 0 where
   pub numbered : (r : Row) → Has rows r → is_int (rowid r) ≡ true
   pub apart : (a b : Row) → Has rows a → Has rows b → value_cmp (rowid a) (rowid b) ≡ Equal → a ≡ b
@@ -54,16 +55,16 @@ IsStored table db = AreNumbered (stored table db)
 
 -- ---- which rows: a test, where values are compared as SQL compares them, and columns count from 0
 
--- the columns from a place on are these
+-- the row has these values from a column on, as SQL compares values; columns count from 0
 abbrev pub begins_from : ℕ → List Value → Row → Bool
 begins_from at [] row = true
 begins_from at (v ∷ vs) row = is_eq (value_cmp (column row at) v) && begins_from (at + 1) vs row
 
--- the first columns are these
+-- the first columns of the row have these values, as SQL compares values
 abbrev pub begins_with : List Value → Row → Bool
 begins_with = begins_from 0
 
--- one column is this
+-- the row has this value at this column, as SQL compares values; columns count from 0
 abbrev pub equals_at : ℕ → Value → Row → Bool
 equals_at at v row = is_eq (value_cmp (column row at) v)
 
@@ -73,7 +74,7 @@ abbrev pub same_at : List ℕ → Row → Row → Bool
 same_at [] a b = true
 same_at (p ∷ ps) a b = is_eq (value_cmp (column a (p - 1)) (column b (p - 1))) && same_at ps a b
 
--- some row of the table has a key of this row
+-- some row of the table has the values of this row at the columns of some key of the table
 abbrev pub HasKeyOf : BookTable → Row → Database → Type 0
 HasKeyOf table row db =
     (x : Row) × (key : List ℕ) × Has (rows_of table db) x × Has table.keys key
@@ -81,17 +82,18 @@ HasKeyOf table row db =
 
 -- ---- what is found
 
--- just the rows that pass the test, each as often as the table has it, in any order
+-- a read finds just the rows of the table that pass the test, each as often as the table has it, in
+-- any order
 abbrev pub Finds : BookTable → (Row → Bool) → Database → List Row → Type 0
 Finds table test db found = IsPermutation (filter test (rows_of table db)) found
 
--- the order of this many columns from a place on, as SQL orders values
+-- two rows are compared by this many columns from a place on, as SQL orders values
 abbrev pub columns_cmp : ℕ → ℕ → Row → Row → Ordering
 columns_cmp zero at a b = Equal
 columns_cmp (suc count) at a b =
     ordering_then (value_cmp (column a at) (column b at)) (columns_cmp count (suc at) a b)
 
--- all rows, in the order of this many first columns
+-- a read finds all rows of the table, in the order of this many first columns
 abbrev pub FindsInOrder : ℕ → BookTable → Database → List Row → Type 0
 FindsInOrder count table db found =
     Finds table (begins_with []) db found × IsSorted (columns_cmp count 0) found
@@ -110,7 +112,7 @@ HasNoNumber table db =
     (fits_i64 (next_rowid (stored table db)) ≡ false)
     ⊎ (is_taken (stored table db) (Int (next_rowid (stored table db)) ∷ []) ≡ true)
 
--- a new row as it is stored, under the number above the last
+-- a new row is stored in this form, behind the number above the last
 abbrev pub stored_next : BookTable → Row → Database → Row
 stored_next table row db = Int (next_rowid (stored table db)) ∷ row
 
@@ -128,7 +130,8 @@ IsTooBig table row db =
     (t : Table) × (table_found db.schema table.name ≡ Some t)
     × IsOversized db.schema t (stored_next table row db)
 
--- what some row is to become takes more than a billion bytes, or its entry in an index does
+-- what a change makes of some row that passes the test takes more than a billion bytes, or its
+-- entry in an index does
 abbrev pub BecomesTooBig : BookTable → (Row → Bool) → (Row → Row) → Database → Type 0
 BecomesTooBig table test change db =
     IsStored table db → (was : Row) × Has (rows_of table db) was × (test was ≡ true)
@@ -137,8 +140,8 @@ BecomesTooBig table test change db =
 
 -- ---- what is changed
 
--- The table has just the rows that the fact holds of. The schema and each other table are as they
--- were, each other table of the book too.
+-- After a change the table has just the rows of which `Is` holds. The schema and each other table,
+-- of the book or not, are as they were.
 pub record Changes (table : BookTable) (old new : Database) (Is : Row → Type 0) : Type 0 where
   pub schema : new.schema ≡ old.schema
   pub has : (x : Row) → Has (rows_of table new) x → Is x
@@ -151,33 +154,35 @@ pub record Changes (table : BookTable) (old new : Database) (Is : Row → Type 0
       → stored other new ≡ stored other old
   pub stored : IsStored table old → IsStored table new
 
--- this row is there, and each row that was
+-- after a change the table has each row that it had, and this row
 abbrev pub Inserts : BookTable → Row → Database → Database → Type 0
 Inserts table row old new = Changes table old new (λ x. (x ≡ row) ⊎ Has (rows_of table old) x)
 
--- the rows that pass the test are gone
+-- after a change the table has just the rows that it had and that fail the test
 abbrev pub Deletes : BookTable → (Row → Bool) → Database → Database → Type 0
 Deletes table test old new =
     IsStored table old
     → Changes table old new (λ x. Has (rows_of table old) x × (test x ≡ false))
 
--- each row that passes the test has become another
+-- after a change the table has `change` of each row that passes the test, and each other row that
+-- it had
 abbrev pub Updates : BookTable → (Row → Bool) → (Row → Row) → Database → Database → Type 0
 Updates table test change old new =
     IsStored table old → Changes table old new (λ x.
     ((was : Row) × Has (rows_of table old) was × (test was ≡ true) × (x ≡ change was))
     ⊎ (Has (rows_of table old) x × (test x ≡ false)))
 
--- each table is one that was there, or has the name of the table that is made, or is the table in
--- which sqlite counts for AUTOINCREMENT
+-- each table of the new schema is one of the old schema, or has the name of the table that is made,
+-- or is the table in which sqlite counts for AUTOINCREMENT
 abbrev pub AreOldOrMade : BookTable → Schema → Schema → Type 0
 AreOldOrMade table old new =
     AllByRecursion (λ t.
     Has old.tables t ⊎ ((t.name ≡ table.name) ⊎ (t.name ≡ codes "sqlite_sequence"))) new.tables
 
--- The table is there and has no row, and its name was free. Each table that was there is declared
--- as it was and keeps its rows, and each view and each index stays. Beside the table are made the
--- indexes of its keys, and `sqlite_sequence` if an AUTOINCREMENT lacks it, and nothing else.
+-- A table is made: it is there and has no row, and its name was free. Each table that was there is
+-- declared as it was and keeps its rows, and each view and each index stays. Beside the table are
+-- made the indexes of its keys, and `sqlite_sequence` if an AUTOINCREMENT lacks it, and nothing
+-- else.
 pub record Makes (table : BookTable) (old new : Database) : Type 0 where
   pub free : is_used old.schema table.name ≡ false
   pub there : IsTable table new.schema

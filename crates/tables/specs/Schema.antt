@@ -14,7 +14,7 @@ use Rattle.sqlite_schema.specs.declared.schema.Schema.{Schema}
 use Rattle.sqlite_schema.specs.Names.{same_name}
 use Rattle.sqlite_schema.specs.Rules.{guards}
 
--- a STRICT column of a kind of values, NOT NULL where it is required
+-- a STRICT column holds one kind of values, and is NOT NULL where a value is required
 abbrev pub strict_column : Bool → Kind → List ℕ → Column
 strict_column is_required kind name =
     record {
@@ -26,27 +26,28 @@ strict_column is_required kind name =
       collation = Binary;
     }
 
--- a column of whole numbers
+-- this column holds whole numbers, and none may be missing
 abbrev pub number : List ℕ → Column
 number = strict_column true Integer
 
--- a column of texts
+-- this column holds texts, and none may be missing
 abbrev pub words : List ℕ → Column
 words = strict_column true Text
 
--- a column of whole numbers that may be missing
+-- this column holds whole numbers, which may be missing
 abbrev pub number_if_any : List ℕ → Column
 number_if_any = strict_column false Integer
 
--- A table of the book. Columns count from 1 in a key. The first key is the primary key, but for
--- `book`, which has no primary key.
+-- A table of the book has a name, columns, a primary key and unique keys. Columns count from 1 in a
+-- key. The first unique key is the primary key, but for `book`, which has no primary key.
 pub record BookTable : Type 0 where
   pub name : List ℕ
   pub columns : List Column
   pub primary : List ℕ
   pub keys : List (List ℕ)
 
--- the book itself, in one row of the number 1: the version of the tables, and the zone
+-- the table `book` keeps the book itself, in one row of the number 1: the version of the tables,
+-- and the zone
 abbrev pub book_table : BookTable
 book_table = record {
   name = codes "book";
@@ -55,7 +56,7 @@ book_table = record {
   keys = (1 ∷ []) ∷ [];
 }
 
--- the members, by id
+-- the table `crew` keeps the members, by id
 abbrev pub crew_table : BookTable
 crew_table = record {
   name = codes "crew";
@@ -64,7 +65,7 @@ crew_table = record {
   keys = (1 ∷ []) ∷ [];
 }
 
--- the pairings, by id
+-- the table `pairing` keeps the pairings, by id
 abbrev pub pairing_table : BookTable
 pairing_table = record {
   name = codes "pairing";
@@ -73,7 +74,8 @@ pairing_table = record {
   keys = (1 ∷ []) ∷ [];
 }
 
--- the periods of pairings, by pairing and number, with planned and actual times
+-- the table `period` keeps the periods of pairings, by pairing and number, with planned and actual
+-- times
 abbrev pub period_table : BookTable
 period_table = record {
   name = codes "period";
@@ -85,7 +87,8 @@ period_table = record {
   keys = (1 ∷ 2 ∷ []) ∷ [];
 }
 
--- the segments of periods, by pairing, period and number, with planned and actual times
+-- the table `segment` keeps the segments of periods, by pairing, period and number, with planned
+-- and actual times
 abbrev pub segment_table : BookTable
 segment_table = record {
   name = codes "segment";
@@ -98,7 +101,7 @@ segment_table = record {
   keys = (1 ∷ 2 ∷ 3 ∷ []) ∷ [];
 }
 
--- the seats that are held, by pairing and seat, and by member
+-- the table `seat` keeps the seats that are held, by pairing and seat, and by member
 abbrev pub seat_table : BookTable
 seat_table = record {
   name = codes "seat";
@@ -107,7 +110,7 @@ seat_table = record {
   keys = (1 ∷ 2 ∷ []) ∷ (3 ∷ 1 ∷ []) ∷ [];
 }
 
--- the ground duties, by id, and by member
+-- the table `ground` keeps the ground duties, by id, and by member
 abbrev pub ground_table : BookTable
 ground_table = record {
   name = codes "ground";
@@ -118,7 +121,8 @@ ground_table = record {
   keys = (1 ∷ []) ∷ (2 ∷ 1 ∷ []) ∷ [];
 }
 
--- the exceedances, by the key that recorded them, member and section, with the period
+-- the table `exceedance` keeps the exceedances, by the key that recorded them, member and section,
+-- with the period
 abbrev pub exceedance_table : BookTable
 exceedance_table = record {
   name = codes "exceedance";
@@ -129,7 +133,7 @@ exceedance_table = record {
   keys = (1 ∷ 2 ∷ 3 ∷ 4 ∷ []) ∷ [];
 }
 
--- the commands that were accepted, by their keys, with their replies
+-- the table `request` keeps the commands that were accepted, by their keys, with their replies
 abbrev pub request_table : BookTable
 request_table = record {
   name = codes "request";
@@ -140,7 +144,7 @@ request_table = record {
   keys = (1 ∷ 2 ∷ []) ∷ [];
 }
 
--- the bases, by id, each with the rule text of its zone
+-- the table `base` keeps the bases, by id, each with the rule text of its zone
 abbrev pub base_table : BookTable
 base_table = record {
   name = codes "base";
@@ -149,7 +153,7 @@ base_table = record {
   keys = (1 ∷ []) ∷ [];
 }
 
--- the base of each member, by the member's id
+-- the table `crew_base` keeps the base of each member, by the member's id
 abbrev pub crew_base_table : BookTable
 crew_base_table = record {
   name = codes "crew_base";
@@ -158,7 +162,7 @@ crew_base_table = record {
   keys = (1 ∷ []) ∷ [];
 }
 
--- the outside periods, by id, and by member
+-- the table `outside` keeps the outside periods, by id, and by member
 abbrev pub outside_table : BookTable
 outside_table = record {
   name = codes "outside";
@@ -169,7 +173,7 @@ outside_table = record {
   keys = (1 ∷ []) ∷ (2 ∷ 1 ∷ []) ∷ [];
 }
 
--- the segments of outside periods, by outside period and number
+-- the table `outside_segment` keeps the segments of outside periods, by outside period and number
 abbrev pub outside_segment_table : BookTable
 outside_segment_table = record {
   name = codes "outside_segment";
@@ -180,8 +184,9 @@ outside_segment_table = record {
   keys = (1 ∷ 2 ∷ []) ∷ [];
 }
 
--- The table as its text declares it, kept in this tree: strict, with its keys alone, so no check,
--- no reference, no computed default, and no column that is the row's number.
+-- The text of a table of the book declares this table, which is kept in this tree. The table is
+-- strict and has its keys alone: no check, no reference, no computed default, and no column that is
+-- the row's number.
 abbrev pub table_of : BookTable → ℕ → Table
 table_of it tree = record {
   name = it.name;
@@ -198,23 +203,24 @@ table_of it tree = record {
   is_counted = false;
 }
 
--- the nine tables that a book has had since version 1, in the order in which they are made
+-- a book has had these nine tables since version 1, in the order in which they are made
 abbrev pub first_tables : List BookTable
 first_tables =
     book_table ∷ crew_table ∷ pairing_table ∷ period_table ∷ segment_table ∷ seat_table
     ∷ ground_table ∷ exceedance_table ∷ request_table ∷ []
 
--- the four tables that version 2 has besides those nine, in the order in which they are made
+-- version 2 has these four tables besides the nine of version 1, in the order in which they are
+-- made
 abbrev pub later_tables : List BookTable
 later_tables = base_table ∷ crew_base_table ∷ outside_table ∷ outside_segment_table ∷ []
 
--- the thirteen tables of a book of version 2, in the order in which they are made
+-- a book of version 2 has these thirteen tables, in the order in which they are made
 abbrev pub book_tables : List BookTable
 book_tables = first_tables ++ later_tables
 
 -- ---- what a schema has
 
--- the table that a name finds, in which letters of ASCII match in either case
+-- a name finds this table of the schema; letters of ASCII match in either case
 abbrev pub table_found : Schema → List ℕ → Option Table
 table_found schema name = find (λ t. same_name t.name name) schema.tables
 
@@ -227,13 +233,14 @@ pub record IsTable (it : BookTable) (schema : Schema) : Type 0 where
   pub low : tree < 2 ^ 31
   pub alone : AllByRecursion (λ t. t.tree ≡ tree → t.name ≡ it.name) schema.tables
 
--- no foreign key refers to a table of this name
+-- no foreign key of the schema refers to a table of this name
 abbrev pub NoneRefersTo : List ℕ → Schema → Type 0
 NoneRefersTo name schema =
     AllByRecursion (λ t. AllByRecursion (λ ref. same_name name ref.parent ≡ false) t.references)
     schema.tables
 
--- no foreign key refers to the table, so that a change of its rows changes no other table
+-- no foreign key of the schema refers to this table of a book, so that a change of its rows changes
+-- no other table
 abbrev pub IsUnreferenced : BookTable → Schema → Type 0
 IsUnreferenced it = NoneRefersTo it.name
 
@@ -247,7 +254,7 @@ OnlyKeysGuard name schema =
     IfSome (table_found schema name) (λ t.
     AllByRecursion (λ index. guards index t ≡ true → IsOfKey t.uniques index) schema.indexes)
 
--- each index is on a table that is there
+-- each index of the schema is on a table of the schema
 abbrev pub AreOnTables : Schema → Type 0
 AreOnTables schema =
     AllByRecursion (λ index. (t : Table) × Has schema.tables t × (index.table ≡ t.tree))
@@ -268,18 +275,20 @@ IsOfBook it schema = IsTable it schema × IsSpared it.name schema
 abbrev pub HasTables : List BookTable → Schema → Type 0
 HasTables tables schema = AllByRecursion (λ it. IsOfBook it schema) tables
 
--- no table has the name of this one, and no foreign key refers to it
+-- no table of the schema has the name of this table of the book, and no foreign key refers to that
+-- name
 abbrev pub IsNameFree : BookTable → Schema → Type 0
 IsNameFree it schema = (table_found schema it.name ≡ None) × IsUnreferenced it schema
 
--- the name of each of these tables is free
+-- each of these tables of the book has a free name: no table of the schema has the name, and no
+-- foreign key refers to it
 abbrev pub AreFree : List BookTable → Schema → Type 0
 AreFree tables schema = AllByRecursion (λ it. IsNameFree it schema) tables
 
--- a schema has the thirteen tables of a book
+-- the schema has the thirteen tables of a book
 abbrev pub IsBook : Schema → Type 0
 IsBook schema = HasTables first_tables schema × HasTables later_tables schema
 
--- the schema of an empty database
+-- an empty database has this schema: no table, no index and no view
 abbrev pub empty_schema : Schema
 empty_schema = record { tables = []; indexes = []; views = [] }

@@ -1,5 +1,7 @@
 -- Instants as text: whole minutes since 2000-01-01T00:00Z, on the Gregorian calendar and in UTC.
-use Rattle.std.specs.Prelude.{ℕ, zero, suc, pos, ◌+◌, ◌-◌, ◌*◌, ◌/◌, ◌%◌, Bool, not, ◌&&◌, ◌||◌, ◌==◌, nat_le, nat_lt, if◌then◌else◌, List, [], ◌∷◌, ◌++◌, length, slice_index, codes, Result, Ok, Err}
+use Rattle.std.specs.Prelude.{ℕ, zero, suc, pos, ◌+◌, ◌-◌, ◌*◌, ◌/◌, ◌%◌, Bool, not, ◌&&◌, ◌||◌}
+use Rattle.std.specs.Prelude.{◌==◌, nat_le, nat_lt, if◌then◌else◌, List, [], ◌∷◌, ◌++◌, length}
+use Rattle.std.specs.Prelude.{slice_index, codes, Result, Ok, Err}
 use Rattle.std.specs.List.{list_all, zip}
 use Rattle.std.specs.Char.{is_ascii_digit}
 use Rattle.jiff_core.specs.Calendar.{day_count, days_in_month}
@@ -34,15 +36,15 @@ is_time year month day hour minute =
 abbrev pub day_number : ℕ → ℕ → ℕ → ℕ
 day_number year month day = day_count (pos year) month day - day_count (pos 2000) 1 1
 
--- the minute that a year, month, day, hour and minute name: first they have to exist, then to be in
--- range
+-- the minute that a year, month, day, hour and minute name: first this time has to exist, then its
+-- year has to be in range
 abbrev pub instant : ℕ → ℕ → ℕ → ℕ → ℕ → Result ℕ TimeFault
 instant year month day hour minute =
     if not (is_time year month day hour minute) then Err NoSuchTime
     else (if not (nat_le 2000 year && nat_le year 2099) then Err OutOfRange
     else Ok (1_440 * day_number year month day + 60 * hour + minute))
 
--- the instant that a text says, or why it says none
+-- the instant that a text holds, or why the text holds none
 unfoldable pub read_instant : List ℕ → Result ℕ TimeFault
 read_instant text =
     if not (is_written text) then Err Malformed

@@ -11,8 +11,8 @@ use Rattle.std.specs.Option.{option_map, unwrap_or}
 abbrev pub name_cmp : List ℕ → List ℕ → Ordering
 name_cmp = slice_cmp nat_cmp
 
--- a name that goes on after a text: a byte of the text is one more than itself, and its end is 0,
--- below each byte
+-- a name that goes on after a text: each byte of the text stands as one more than itself, and the
+-- end of the text as 0, below each byte
 abbrev pub text_then : List ℕ → List ℕ → List ℕ
 text_then text rest = map (λ byte. byte + 1) text ++ 0 ∷ rest
 
@@ -20,7 +20,7 @@ text_then text rest = map (λ byte. byte + 1) text ++ 0 ∷ rest
 abbrev pub named_rows : {K V : Type 0} → (K → List ℕ) → List (K × V) → List (List ℕ × V)
 named_rows name rows = map (λ row. (name row.0, row.1)) rows
 
--- a map with the value under a name changed, or as it was if it has none there
+-- a map with the value under a name changed, or as it was if it has no value under that name
 abbrev pub changed_at : {V : Type 0} → FinMap name_cmp V → List ℕ → (V → V) → FinMap name_cmp V
 changed_at m name change =
     unwrap_or (option_map (λ value. insert m name (change value)) (get m name)) m

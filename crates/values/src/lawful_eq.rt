@@ -1,6 +1,6 @@
 //! Equality that contracts can rely on: where `==` says yes, the two values are one to the prover.
 
-/// A value of which `==` tells whether two are the same value to contracts.
+/// A value of which `==` says whether two are the same value to contracts.
 pub trait LawfulEq: PartialEq {
     ghost use Rattle.std.specs.Prelude.{◌≡◌, ◌↔◌, IsTrue};
 

@@ -1,4 +1,4 @@
--- What a request comes to in a book: the commands that it asks, and what it is answered.
+-- What a request comes to in a book: the commands that it asks, and its answer.
 use Rattle.std.specs.Prelude.{◌≡◌, ◌⊎◌, ⊤, ℕ, List, [], ◌∷◌, Result, Ok, Err}
 use Rattle.duty.specs.Plans.{Plan}
 use Rattle.command.specs.declared.instruction.Instruction.{Instruction}
@@ -24,17 +24,17 @@ use Rattle.http_exchange.specs.declared.handler.HandlerFault.TheVariants as faul
 use Rattle.asking.specs.Requests.{asked_as}
 use Rattle.web.specs.Answers.{command_answer, fault_answer, parts_answer, report_answer}
 
--- commands under their keys
+-- commands, each under its key
 abbrev pub Commands : Type 0
 Commands = List folds.Asked
 
--- one that is read is a command, and one that isn't is none
+-- the commands of a body: one if the body is read, and none if it isn't
 abbrev pub commands_of : Result (ℕ × Instruction) CodecFault → Commands
 commands_of (Ok read) = asked_as read ∷ []
 commands_of (Err fault) = []
 
--- the commands that a request asks: the one of a body that is read; the parts of a schedule; of
--- another body, of a command that is only checked, and of a report, none
+-- The commands that a request asks: the command of a body that is read, or the parts of a schedule.
+-- A body that isn't read, a command that is only checked and a report ask none.
 abbrev pub Asks : http.HandlerRequest → Commands → Type 0
 Asks (submit Command body) commands = commands ≡ commands_of (read_request body)
 Asks (submit Check body) commands = commands ≡ []
@@ -54,9 +54,11 @@ show_of pairings = show.Pairings All
 show_of open_pairings = show.Pairings Open
 
 module _ (s : State) where
-  -- the answer to a body that is read is the book's to its command, and another is told why it isn't
+  -- the answer to a body: the book's answer to its command, or, if it isn't read, why it isn't
   abbrev pub request_answer : Result (ℕ × Instruction) CodecFault → StatusText
-  request_answer (Ok (number, instruction)) = command_answer (folds.answer_of (step_of s (record { number = number; part = 0 }) instruction))
+  request_answer (Ok (number, instruction)) =
+      command_answer
+      (folds.answer_of (step_of s (record { number = number; part = 0 }) instruction))
   request_answer (Err fault) = fault_answer fault
 
   -- the answer to a request in this state
@@ -64,14 +66,16 @@ module _ (s : State) where
   IsAnswer (submit Command body) answer = answer ≡ request_answer (read_request body)
   IsAnswer (submit Check body) answer = answer ≡ request_answer (read_request body)
   IsAnswer (submit (Import number) body) answer =
-      ((plans : List Plan) × IsSchedule body plans × (answer ≡ parts_answer (Replies s (import number plans))))
+      ((plans : List Plan) × IsSchedule body plans
+      × (answer ≡ parts_answer (Replies s (import number plans))))
       ⊎ ((line : ℕ) × IsAtFault body line × (answer ≡ fault_answer (BadCsv line)))
   IsAnswer (http.show what) answer =
-      (shown : Result (List ℕ) Absence) × IsShown s (show_of what) shown × (answer ≡ report_answer shown)
+      (shown : Result (List ℕ) Absence) × IsShown s (show_of what) shown
+      × (answer ≡ report_answer shown)
 
 -- ---- a book that has failed
 
--- the body is no command, and it is told why
+-- the body is no command, and the answer says why
 abbrev pub IsNoCommand : List ℕ → StatusText → Type 0
 IsNoCommand body answer =
     (fault : CodecFault) × (read_request body ≡ Err fault) × (answer ≡ fault_answer fault)
@@ -81,21 +85,23 @@ abbrev pub IsCommand : List ℕ → Type 0
 IsCommand body =
     (number : ℕ) × (instruction : Instruction) × (read_request body ≡ Ok (number, instruction))
 
--- why a body isn't read, which is told in whichever state the book is
+-- a body isn't read, and the answer says why, in whichever state the book is
 abbrev pub IsToldUnread : http.HandlerRequest → StatusText → Type 0
 IsToldUnread (submit Command body) answer = IsNoCommand body answer
 IsToldUnread (submit Check body) answer = IsNoCommand body answer
-IsToldUnread (submit (Import number) body) answer = (line : ℕ) × IsAtFault body line × (answer ≡ fault_answer (BadCsv line))
+IsToldUnread (submit (Import number) body) answer =
+    (line : ℕ) × IsAtFault body line × (answer ≡ fault_answer (BadCsv line))
 IsToldUnread (http.show what) answer = ⊥
 
--- a command or a schedule that is read, or a report
+-- the request is a command or a schedule that is read, or a report
 abbrev pub IsRead : http.HandlerRequest → Type 0
 IsRead (submit Command body) = IsCommand body
 IsRead (submit Check body) = IsCommand body
 IsRead (submit (Import number) body) = (plans : List Plan) × IsSchedule body plans
 IsRead (http.show what) = ⊤
 
--- what a book that has failed answers: why a body isn't read, and to what is read that its store failed; or that there was no memory
+-- what a book that has failed answers: why a body isn't read; to a request that is read, that its
+-- store failed; or that there was no memory
 abbrev pub IsAnsweredShut : http.HandlerRequest → Result StatusText HandlerFault → Type 0
 IsAnsweredShut asked (Ok answer) = IsToldUnread asked answer
 IsAnsweredShut asked (Err fault.Store) = IsRead asked

@@ -6,10 +6,13 @@ use Rattle.web.specs.Response.{IsResponse, Response}
 
 -- in a state an input has one response at most
 abbrev pub HasOneResponse : Type 0
-HasOneResponse = (s : State) (input : List ℕ) (r other : Response) → IsResponse s input r → IsResponse s input other → r ≡ other
+HasOneResponse =
+    (s : State) (input : List ℕ) (r other : Response) → IsResponse s input r
+    → IsResponse s input other → r ≡ other
 
 -- in a sound state each input that isn't empty has a response; in a state that has an exceedance
 -- under what is no exceedance's name, a report of all exceedances would have no text
 abbrev pub EachInputHasResponse : Type 0
 EachInputHasResponse =
-    (s : State) (input : List ℕ) → Sound s → 0 < length input → (r : Response) × IsResponse s input r
+    (s : State) (input : List ℕ) → Sound s → 0 < length input
+    → (r : Response) × IsResponse s input r

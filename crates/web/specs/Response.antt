@@ -1,5 +1,7 @@
--- The response to an input in a state of the book: what is written, the commands whose state is left, and what is left unread.
-use Rattle.std.specs.Prelude.{◌≡◌, ◌⊎◌, ◌<◌, ℕ, Bool, false, List, [], ◌++◌, length, Option, Some, None, Result, Ok, Err}
+-- The response to an input in a state of the book: what is written, the commands whose state is
+-- left, and what is left unread.
+use Rattle.std.specs.Prelude.{◌≡◌, ◌⊎◌, ◌<◌, ℕ, Bool, false, List, [], ◌++◌, length, Option, Some}
+use Rattle.std.specs.Prelude.{None, Result, Ok, Err}
 use Rattle.httparse.specs.Grammar.{RequestHead}
 use Rattle.roster.specs.State.{State}
 use Rattle.http_message.specs.Heading.{heading}
@@ -13,26 +15,30 @@ use Rattle.http_exchange.specs.Final.{Final, of_answer, of_fault}
 use Rattle.http_exchange.specs.Handler.{StatusText, HandlerRequest}
 use Rattle.web.specs.Acts.{Asks, Commands, IsAnswer}
 
--- what is written before a body is read, and in the end; the commands that are done; and what is left unread, where that is said
+-- A response: what is written before a body is read, and in the end; the commands that are done;
+-- and what is left unread, if that is said.
 pub record Response : Type 0 where
   pub interim : List ℕ
   pub final : Final
   pub commands : Commands
   pub unread : Option (List ℕ)
 
--- all that is written
+-- all bytes that are written for a response
 abbrev pub bytes : Response → List ℕ
 bytes r = r.interim ++ r.final.bytes
 
--- there is no whole head: what of it is left unread isn't said
+-- the response where there is no whole head; it doesn't say what is left unread
 abbrev pub no_head : Response
 no_head = record { interim = []; final = of_fault NoHead false; commands = []; unread = None }
 
 module _ (s : State) where
-  -- a request that asks nothing is refused, and another is answered as the book answers it
+  -- the final response: a request that asks nothing is refused, and any other gets the book's
+  -- answer
   abbrev pub IsFinal : Result HandlerRequest RequestFault → Bool → Commands → Final → Type 0
   IsFinal (Err fault) is_head commands final = (commands ≡ []) × (final ≡ of_fault fault is_head)
-  IsFinal (Ok asked) is_head commands final = Asks asked commands × ((answer : StatusText) × IsAnswer s asked answer × (final ≡ of_answer (Ok answer) is_head))
+  IsFinal (Ok asked) is_head commands final =
+      Asks asked commands
+      × ((answer : StatusText) × IsAnswer s asked answer × (final ≡ of_answer (Ok answer) is_head))
 
   -- the response to a head with this plan, after which these bytes stand
   pub record IsResponseTo (p : Planned) (rest : List ℕ) (r : Response) : Type 0 where
@@ -45,5 +51,6 @@ module _ (s : State) where
   IsResponse input r =
       (0 < length input) × (
       (HasNoHead input × (r ≡ no_head))
-      ⊎ ((h : RequestHead) × (rest : List ℕ) × HasHead input h rest × IsResponseTo (plan_for_head (heading h)) rest r)
+      ⊎ ((h : RequestHead) × (rest : List ℕ) × HasHead input h rest
+      × IsResponseTo (plan_for_head (heading h)) rest r)
       )

@@ -107,7 +107,7 @@ fn unbuffered(alloc: Global, stream: &TcpStream) -> BufReader<&TcpStream>
 }
 
 /// Ends a connection in which a response was written. Bytes that the client sent beyond its request are read and dropped up to a
-/// bound: where a connection is closed before they are read, the system tells the client so, and it loses the response.
+/// bound: where a connection is closed before they are read, the system reports that to the client, and it loses the response.
 fn end(stream: &TcpStream) -> io::Result<()> {
     stream.shutdown(Shutdown::Write)?;
     stream.set_read_timeout(Some(Duration::from_millis(MILLISECONDS_TO_END)))?;

@@ -70,7 +70,7 @@ fn subject_of<'a>(report: &Report<'a>) -> Subject<'a>
 /// Reads a request, has the book answer it, and writes the response (RFC 9112): a command, which may only be checked, a
 /// schedule to be imported, or a report.
 /// Nothing is read past the head and the body that it announces. Where the book's store fails (90) or no memory is found (91), 503
-/// tells so; after 91 the request may be made again, under its number. A book that has failed does nothing more: a body that isn't
+/// says so; after 91 the request may be made again, under its number. A book that has failed does nothing more: a body that isn't
 /// read is refused all the same, and what is read gets 503 (90).
 pub fn exchange<R: Read, W: Write, S: Alter>(
     alloc: Global,

@@ -27,13 +27,13 @@ pub record KeepOthers (db : Database) (trees : Trees) : Type 0 where
 
 -- ---- What is made beside other tables
 
--- a schema in which these tables are made, one after the other
+-- these tables are made in a schema, one after the other, and give this schema
 abbrev pub made_in : Schema → List BookTable → Schema
 made_in schema [] = schema
 made_in schema (t ∷ ts) = made_in (created schema (table_of t 0)) ts
 
--- behind the indexes that were there stand those of the keys of these tables, table by table, and
--- no others
+-- behind the old indexes stand the indexes of the keys of these tables, table by table, and no
+-- others
 abbrev pub AddsKeys : List BookTable → List Index → List Index → Type 0
 AddsKeys [] old new = new ≡ old
 AddsKeys (t ∷ ts) old new =
@@ -43,10 +43,10 @@ AddsKeys (t ∷ ts) old new =
 abbrev pub IsNameOf : List BookTable → List ℕ → Type 0
 IsNameOf tables name = (t : BookTable) × Has tables t × (name ≡ t.name)
 
--- Of two schemas the second has all that the first has, and these tables with the indexes of their
--- keys, and nothing else, but for `sqlite_sequence` where an AUTOINCREMENT lacks it.
+-- The second of two schemas has all that the first has, and these tables with the indexes of their
+-- keys. It has nothing else, but for `sqlite_sequence` where an AUTOINCREMENT lacks it.
 pub record Adds (tables : List BookTable) (old new : Schema) : Type 0 where
-  -- each table of before is declared as it was, and each other one is made
+  -- each table of the first schema is declared as it was, and each other table is made
   pub kept : (t : Table) → Has old.tables t → Has new.tables t
   pub no_more : (t : Table) → Has new.tables t →
       Has old.tables t ⊎ (IsNameOf tables t.name ⊎ (t.name ≡ codes "sqlite_sequence"))
@@ -56,14 +56,14 @@ pub record Adds (tables : List BookTable) (old new : Schema) : Type 0 where
   pub made : lacks_sequence old ≡ false → new ≡ made_in old tables
 
 -- The trees, by the schema that they list, have all tables, views and indexes of this database, and
--- beside them these tables, and nothing else is made. Each table that isn't of the book has the
--- rows that it has in the database.
+-- beside them just these tables are made. Each table that isn't of the book has the rows that it
+-- has in the database.
 pub record KeepBeside (tables : List BookTable) (db : Database) (trees : Trees) : Type 0 where
   pub schema : Schema
   pub database : IsDatabase (record { schema = schema; trees = trees })
   pub adds : Adds tables db.schema schema
   pub others : (t : Table) → Has db.schema.tables t → IsOther t.name →
       trees t.tree ≡ db.trees t.tree
-  -- each table that is declared as the tables of a book are declared, under another name
+  -- each table that is declared as the tables of a book are declared, under another name, is kept
   pub plain : (t : BookTable) → IsTable t db.schema → IsOther t.name →
       IsTable t schema × (stored t (record { schema = schema; trees = trees }) ≡ stored t db)

@@ -8,12 +8,12 @@ use Rattle.tables.specs.Schema.{IsBook}
 use Rattle.state_rows.specs.Kept.{AreStored}
 use Rattle.state_rows.specs.declared.fault.StoreFault.{StoreFault}
 
--- a transaction is begun
+-- the connection is in a transaction
 abbrev pub IsInside : State → Type 0
 IsInside s = HasCleanDisk s → IsTrue s.in_transaction
 
--- what a call comes to that changes tables in a transaction, where `Is` says what it makes of the
--- database: what was committed stays, and a crash leaves no more than before
+-- A call changes tables in a transaction, and `Is` says what it makes of the database. What was
+-- committed stays, and a crash leaves no more than before the call.
 pub record Changed {A E : Type 0}
     (Is : Database → Database → Type 0) (old new : State) (result : Result A E) : Type 0 where
   pub done : HasCleanDisk new →
@@ -21,7 +21,7 @@ pub record Changed {A E : Type 0}
   pub kept : HasCleanDisk new → KeepsCommit old new
   pub left : CrashLeavesNoMore old new
 
--- the database is changed by the first change, and then by the second
+-- the database is changed by the first of two changes, and then by the second
 abbrev pub Then :
     (Database → Database → Type 0) → (Database → Database → Type 0) →
     Database → Database → Type 0
@@ -33,8 +33,8 @@ abbrev pub Each : {V : Type 0} → (ℕ → V → Database → Database → Type
 Each Is place [] old new = new ≡ old
 Each Is place (v ∷ vs) old new = Then (Is place v) (Each Is (suc place) vs) old new
 
--- the database has the tables of a book, and in each of them each row stands under a number of its
--- own
+-- the database has the tables of a book, and in each of the tables each row stands under a number
+-- of its own
 abbrev pub IsFit : Database → Type 0
 IsFit db = IsBook db.schema × AreStored db
 
@@ -42,19 +42,19 @@ IsFit db = IsBook db.schema × AreStored db
 abbrev pub Fitting : (Database → Database → Type 0) → Database → Database → Type 0
 Fitting Is old new = Is old new × IsFit new
 
--- a transaction is begun over the tables of a book
+-- the connection is in a transaction over the tables of a book
 pub record IsReady (s : State) : Type 0 where
   pub inside : IsInside s
   pub opened : HasCleanDisk s → IsTrue s.is_open
   pub fit : HasCleanDisk s → IsFit s.now
 
--- what a call comes to that changes the tables of a book, after which the transaction goes on
+-- a call changes the tables of a book in a transaction, which goes on after the call
 pub record Wrote {A E : Type 0}
     (Is : Database → Database → Type 0) (old new : State) (result : Result A E) : Type 0 where
   pub changed : Changed Is old new result
   pub ready : OnOk result (IsReady new)
 
--- the changes for this many first values of a list are made
+-- the changes for this many first values of a list are made in a transaction, which goes on
 abbrev pub WroteSome : {V : Type 0} → (ℕ → V → Database → Database → Type 0) → ℕ → List V →
     State → State → Type 0
 WroteSome Is count vs old now =

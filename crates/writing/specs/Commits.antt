@@ -1,5 +1,6 @@
--- What the call comes to that makes a book, the call that commits a change, and the call that makes
--- a book of version 1 one of version 2. The layers above hand these promises on as they stand.
+-- What three calls do: the call that makes a book, the call that commits a change, and the call
+-- that makes a book of version 1 one of version 2. The layers above hand the promises of this file
+-- on as they stand.
 use Rattle.std.specs.Prelude.{◌≡◌, ◌≤◌, OnErr, OnOk, Result, Err}
 use Rattle.sqlite_trees.specs.declared.store.Store.{Ghosts}
 use Rattle.sqlite.specs.Held.{Held, state}
@@ -18,7 +19,7 @@ use Rattle.state_rows.specs.Outcomes.{CrashAddsNothing, CrashAddsOnly, HoldsNow,
 use Rattle.writing.specs.declared.fault.CreateFault.{CreateFault}
 use Rattle.writing.specs.declared.fault.CreateFault.TheVariants.{Fault, NotEmpty}
 
--- the call made the tables of a book in this state
+-- the call that makes a book made the tables of a book in this state
 pub record AreTablesMade (old new : State) (s : roster.State) : Type 0 where
   -- the book: what a crash leaves, and what is shown
   pub crash : CrashLeaves new (one s)
@@ -30,7 +31,7 @@ pub record AreTablesMade (old new : State) (s : roster.State) : Type 0 where
   -- the limit of a statement's steps, if one is set
   pub limit : new.step_limit ≡ old.step_limit
 
--- the call made no book, for this fault
+-- the call that makes a book made no book, for this fault
 pub record IsNotMade {S : Type 0}
     (g : Ghosts S) (old new : Held S) (s : roster.State) (fault : CreateFault) : Type 0 where
   -- the fault: 43 comes where a name is taken, and then nothing was done
@@ -48,8 +49,8 @@ pub record IsNotMade {S : Type 0}
   pub still_open : StaysOpen (state g old) (state g new)
   pub outside : IsOutside (state g new)
 
--- what the commit of a change comes to, where the step gave the change in the state that a crash
--- leaves
+-- a call that commits a change has this result, where the step accepted the change in the state
+-- that a crash leaves
 pub record IsCommitted {A : Type 0}
     (old new : State) (change : Change) (result : Result A StoreFault) : Type 0 where
   -- the tables: the change is kept; after 91 nothing of it, after 90 all or nothing
@@ -76,8 +77,8 @@ pub record IsCommitted {A : Type 0}
   pub limit : new.step_limit ≡ old.step_limit
   pub still_open : result ≡ Err Memory → StaysOpen old new
 
--- what it comes to that a book of version 1 in this state is made one of version 2, in one
--- transaction
+-- a call that makes a book of version 1 in this state one of version 2, in one transaction, has
+-- this result
 pub record IsMigrated {A : Type 0}
     (old new : State) (s : roster.State) (result : Result A StoreFault) : Type 0 where
   -- the tables: they are of version 2; after 91 a crash leaves nothing new, and after 90 what it

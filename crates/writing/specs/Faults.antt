@@ -4,7 +4,7 @@ use Rattle.state_rows.specs.Faults.{store_fault_text}
 use Rattle.writing.specs.declared.fault.CreateFault.{CreateFault}
 use Rattle.writing.specs.declared.fault.CreateFault.TheVariants.{NotEmpty, Fault}
 
--- a refusal to make a book as it is printed
+-- a refusal to make a book is printed as this text
 abbrev pub create_text : CreateFault → List ℕ
 create_text NotEmpty = codes "43 NotEmpty"
 create_text (Fault fault) = store_fault_text fault

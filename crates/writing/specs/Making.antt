@@ -10,8 +10,8 @@ use Rattle.tables.specs.Schema.{BookTable, AreFree, IsTable, IsUnreferenced, Onl
 use Rattle.tables.specs.Rows.{stored}
 use Rattle.writing.specs.Beside.{Adds}
 
--- the schema has no table with the name of a table of the book, and no foreign key that refers to
--- one
+-- the schema has no table with the name of a table of the book, and no foreign key that refers to a
+-- table of the book
 abbrev pub IsFree : Schema → Type 0
 IsFree = AreFree book_tables
 
@@ -22,8 +22,8 @@ IsFree = AreFree book_tables
 abbrev pub AreUnreferenced : Schema → Type 0
 AreUnreferenced schema = AllByRecursion (λ t. IsUnreferenced t schema) book_tables
 
--- These tables are there with no row, and only their own keys guard them. No foreign key refers to
--- a table of the book, and each index is on a table that is there.
+-- These tables of a book are there with no row, and only their own keys guard them. No foreign key
+-- refers to a table of the book, and each index is on a table that is there.
 pub record HasEmpty (tables : List BookTable) (db : Database) : Type 0 where
   pub there : AllByRecursion (λ t. IsTable t db.schema × (stored t db ≡ [])) tables
   pub guarded : AllByRecursion (λ t. OnlyKeysGuard t.name db.schema) tables
@@ -37,14 +37,15 @@ KeepsPlain old new = (t : BookTable) → IsTable t old.schema →
     IsTable t new.schema × (stored t new ≡ stored t old)
 
 -- the tables that were there are as they were declared, with the rows that they had, and just these
--- tables are made beside them
+-- new tables are made beside them
 pub record Extends (tables : List BookTable) (old new : Database) : Type 0 where
   pub adds : Adds tables old.schema new.schema
   pub rows : (t : Table) → Has old.schema.tables t → new.trees t.tree ≡ old.trees t.tree
   pub sequence : lacks_sequence old.schema ≡ false → lacks_sequence new.schema ≡ false
 
 -- These tables are made, one after the other, and have no row. Each table that is declared as the
--- tables of a book are declared keeps its rows, and only its own keys guard it, if only they did.
+-- tables of a book are declared keeps its rows. If only its own keys guarded it, only they guard it
+-- still.
 pub record MakesTables (tables : List BookTable) (old new : Database) : Type 0 where
   pub empty : (before : List BookTable) → HasEmpty before old → HasEmpty (before ++ tables) new
   pub keeps : KeepsPlain old new
@@ -52,14 +53,15 @@ pub record MakesTables (tables : List BookTable) (old new : Database) : Type 0 w
       OnlyKeysGuard t.name new.schema
   pub extends : Extends tables old new
 
--- the first three tables of a book, in the order in which they are made
+-- these three tables of a book are made first, in this order
 abbrev pub made_first : List BookTable
 made_first = book_table ∷ crew_table ∷ pairing_table ∷ []
 
--- the three tables of a book that are made next, from `period` to `seat`
+-- these three tables of a book are made after `pairing`: from `period` to `seat`
 abbrev pub made_second : List BookTable
 made_second = period_table ∷ segment_table ∷ seat_table ∷ []
 
--- the last three tables that a book of version 1 has too, from `ground` to `request`
+-- these are the last three tables of version 1, which are made after `seat`: from `ground` to
+-- `request`
 abbrev pub made_third : List BookTable
 made_third = ground_table ∷ exceedance_table ∷ request_table ∷ []

@@ -31,10 +31,12 @@ AddsHome zone = Inserts (table base) (row_of_base home zone)
 abbrev pub SetsVersion : Database → Database → Type 0
 SetsVersion = Updates (table book) (begins_with (Int (pos 1) ∷ [])) (with_version (pos 2))
 
--- the row of the base HOME is added, then those of the bases of members, then version 2 is set
+-- the row of the base HOME is added, then a row for the base of each member, and then version 2 is
+-- set in the row of `book`
 abbrev pub Fills : State → Database → Database → Type 0
 Fills s = Then (AddsHome (home_zone s.bases)) (Then (AddsPosts (fin.entries s.crew)) SetsVersion)
 
--- the four tables that version 1 lacks are made, then their rows are added, and version 2 is set
+-- the four tables that version 1 lacks are made, then their rows are added, and version 2 is set in
+-- the row of `book`
 abbrev pub Migrates : State → Database → Database → Type 0
 Migrates s = Then (MakesTables later_tables) (Fills s)

@@ -1,4 +1,4 @@
--- Which changes are written.
+-- Which changes are written: those that a step accepted.
 use Rattle.std.specs.Prelude.{◌≡◌}
 use Rattle.command.specs.Keys.{KeyParts}
 use Rattle.command.specs.declared.exceedance.Reply.{Reply}

@@ -1,4 +1,5 @@
--- What an accepted command writes, table by table. No public clause names these.
+-- What an accepted command writes, table by table. No public clause names the definitions of this
+-- file.
 use Rattle.std.specs.Prelude.{◌≡◌, ◌+◌, ℕ, pos, List, [], ◌∷◌, Option, Some, None}
 use Rattle.sqlite_value.specs.declared.value.Value.TheVariants.{Int, Text}
 use Rattle.sqlite.specs.Effect.{Database}
@@ -35,7 +36,7 @@ AddsSegmentOf id place at s = Inserts (table segment) (row_of_segment id place a
 abbrev pub AddsSegmentsOf : List ℕ → ℕ → List Segment → Database → Database → Type 0
 AddsSegmentsOf id place = Each (AddsSegmentOf id place) 0
 
--- a row is added for each segment of each period, in turn
+-- a row is added for each segment of each period of a pairing, in turn
 abbrev pub AddsSegments : List ℕ → List Fdp → Database → Database → Type 0
 AddsSegments id = Each (λ place fdp. AddsSegmentsOf id place fdp.segments) 0
 
@@ -44,7 +45,8 @@ abbrev pub AddsPairing : Plan → Database → Database → Type 0
 AddsPairing plan = Then (Inserts (table pairing) (row_of_pairing plan.id))
     (Then (AddsPeriods plan.id plan.periods) (AddsSegments plan.id plan.periods))
 
--- the rows of the segments of a pairing are removed, then the rows of its periods, then its own
+-- the rows of the segments of a pairing are removed, then the rows of its periods, then the row of
+-- the pairing
 abbrev pub RemovesPairing : List ℕ → Database → Database → Type 0
 RemovesPairing id = Then (Deletes (table segment) (begins_with (Text id ∷ [])))
     (Then (Deletes (table period) (begins_with (Text id ∷ [])))
@@ -52,7 +54,7 @@ RemovesPairing id = Then (Deletes (table segment) (begins_with (Text id ∷ []))
 
 -- ---- Seats
 
--- the row of a seat is removed
+-- the row of a held seat is removed
 abbrev pub FreesSeat : SeatChange → Database → Database → Type 0
 FreesSeat change =
     Deletes (table seat)
@@ -62,7 +64,7 @@ FreesSeat change =
 abbrev pub TakesSeat : SeatChange → List ℕ → Database → Database → Type 0
 TakesSeat change who = Inserts (table seat) (row_of_seat change.pairing change.seat who)
 
--- a row is added for the new holder of a seat, if there is one
+-- a row is added for a seat and its new holder, if there is one
 abbrev pub Seats : SeatChange → Option (List ℕ) → Database → Database → Type 0
 Seats change None old new = new ≡ old
 Seats change (Some who) old new = TakesSeat change who old new
@@ -97,31 +99,32 @@ RecordsOutsideOf change id = RecordsAll change.key (duty_id.Outside id) change.r
 
 -- ---- Actual times
 
--- the times of a segment as it was flown are set in its row
+-- the times of a segment as it was flown are set in the row of the segment
 abbrev pub FliesSegment : List ℕ → ℕ → ℕ → BlockTimes → Database → Database → Type 0
 FliesSegment id number at t =
     Updates (table segment) (begins_with (Text id ∷ Int (pos number) ∷ Int (pos (at + 1)) ∷ []))
     (with_segment_times t.block_out t.block_in)
 
--- the times of the segments of a period as it was flown are set in their rows, in turn
+-- the times of the segments of a period as it was flown are set in the rows of the segments, in
+-- turn
 abbrev pub FliesSegments : List ℕ → ℕ → List BlockTimes → Database → Database → Type 0
 FliesSegments id number = Each (FliesSegment id number) 0
 
--- the times of a period as it was flown are set in its row
+-- the times of a period as it was flown are set in the row of the period
 abbrev pub FliesPeriod : List ℕ → ActualTimes → Database → Database → Type 0
 FliesPeriod id a =
     Updates (table period) (begins_with (Text id ∷ Int (pos a.period) ∷ []))
     (with_period_times a.report a.release)
 
--- the times of a period as it was flown are set, then the times of its segments, and then the
--- exceedances are added
+-- the times of a period as it was flown are set, then the times of its segments, and then a row is
+-- added for each exceedance of the period
 abbrev pub Flies : Change → List ℕ → ActualTimes → Database → Database → Type 0
 Flies change id a = Then (FliesPeriod id a)
     (Then (FliesSegments id a.period a.segments) (RecordsFlown change id a.period))
 
 -- ---- An outside period
 
--- the rows of the segments of an outside period are removed, and then its own
+-- the rows of the segments of an outside period are removed, and then the row of the outside period
 abbrev pub RemovesOutside : List ℕ → Database → Database → Type 0
 RemovesOutside id = Then (Deletes (table outside_segment) (begins_with (Text id ∷ [])))
     (Deletes (table outside) (begins_with (Text id ∷ [])))
@@ -143,21 +146,21 @@ AddsOutsideSegments id = Each (AddsOutsideSegment id) 0
 abbrev pub AddsOutside : List ℕ → OutsidePlan → Database → Database → Type 0
 AddsOutside who o = Then (AddsOutsideRow who o) (AddsOutsideSegments o.id o.segments)
 
--- the rows of an outside period with this id are removed, then those of the new one are added, and
--- then its exceedances
+-- the rows of the outside period with this id are removed, the rows of the new outside period are
+-- added, and then a row is added for each of its exceedances
 abbrev pub ReplacesOutside : Change → List ℕ → OutsidePlan → Database → Database → Type 0
 ReplacesOutside change who o =
     Then (RemovesOutside o.id) (Then (AddsOutside who o) (RecordsOutsideOf change o.id))
 
 -- ---- A member
 
--- the row of a member is added, and then that of the member's base
+-- the row of a member is added, and then the row of the member's base
 abbrev pub AddsMember : List ℕ → Member → Database → Database → Type 0
 AddsMember id m = Then (Inserts (table crew) (row_of_member id m)) (AddsPost id m.base)
 
 -- ---- All commands
 
--- what an instruction writes, beside its request
+-- an instruction is written, but for the row of its request
 abbrev pub WritesInstruction : Change → Instruction → Database → Database → Type 0
 WritesInstruction change (AddBase id zone) = Inserts (table base) (row_of_base id zone)
 WritesInstruction change (AddCrew id m) = AddsMember id m
@@ -172,8 +175,8 @@ WritesInstruction change (CancelGround id) =
 WritesInstruction change (Actual id a) = Flies change id a
 WritesInstruction change (RecordOutside who o) = ReplacesOutside change who o
 
--- what a change writes: the effect of its command, and then the command with its reply under its
--- key
+-- a change is written: the effect of its command, and then the command with its reply under the key
+-- of the change
 abbrev pub Writes : Change → Database → Database → Type 0
 Writes change = Then (Fitting (WritesInstruction change change.command))
     (Inserts (table request)

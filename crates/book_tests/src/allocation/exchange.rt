@@ -37,7 +37,7 @@ fn got<S: Alter>(alloc: Global, book: &mut Book<S>) -> Result<Vec<u8>, ChannelFa
     Ok(written)
 }
 
-/// What a client gets, who asks again where the channel failed, or where 503 tells that there is no memory.
+/// What a client gets, who asks again where the channel failed, or where 503 says that there is no memory.
 fn got_in_the_end<S: Alter>(
     alloc: Global,
     told: &mut Told,

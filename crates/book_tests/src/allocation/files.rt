@@ -1,4 +1,4 @@
-//! A book in files: made, asked and handed an import. Where it is told want of memory (91), it shows what it showed, and is asked the same
+//! A book in files: made, asked and handed an import. Where it reports out of memory (91), it shows what it showed, and is asked the same
 //! again; after a fault of the store (90) its files are opened again, and all commands are handed in again. In the end its tables have
 //! the rows of a run with all memory.
 
@@ -23,7 +23,7 @@ const MOST_OPENINGS: usize = 4;
 #[derive(Drop)]
 struct Session {
     heard: Result<Heard, Untold>,
-    /// Whether 91 was told.
+    /// Whether 91 was reported.
     is_memory_told: bool,
     rows: Result<String, Untold>,
 }
@@ -177,7 +177,7 @@ fn are_rows_well(alloc: Global, rows: &str) -> Result<bool, Untold> {
     }
 }
 
-/// How all was answered, and how want of memory was told.
+/// How all was answered, and how out of memory was reported.
 fn heard(told: &mut Told, session: &Session) -> Result<Heard, Untold> {
     told.memory |= session.is_memory_told;
     let heard = session.heard?;

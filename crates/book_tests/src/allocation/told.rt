@@ -1,9 +1,9 @@
-//! How a part was told that memory was wanting, and the lines that say so.
+//! How it was reported of a part that it found no memory, and the lines that say so.
 
 use std::io;
 use std::io::Write;
 
-/// How want of memory was told, if it was.
+/// How out of memory was reported, if it was.
 #[derive(Drop)]
 pub struct Told {
     /// By a call that has changed nothing: 91.
@@ -17,7 +17,7 @@ pub struct Told {
 }
 
 impl Told {
-    /// It was not told.
+    /// It was not reported.
     pub fn new() -> Told {
         Told {
             memory: false,
@@ -27,7 +27,7 @@ impl Told {
         }
     }
 
-    /// Writes a line for each way in which it was told.
+    /// Writes a line for each way in which it was reported.
     pub fn print<W: Write>(&self, writer: &mut W) -> io::Result<()> {
         for (number, is_told) in [
             ("91", self.memory),

@@ -22,17 +22,17 @@ pub enum Left {
 
 /// A file whose calls come to an end.
 pub trait Stops: Disk + Drop {
-    /// An empty file that takes so many calls.
+    /// An empty file that takes this many calls.
     fn taking(alloc: Global, calls: u64) -> Self;
 
     /// The file as the machine finds it after a stop, which takes all calls.
     fn restarted(self, alloc: Global, left: Left) -> Self;
 
-    /// What is written in the file, in one that takes so many calls.
+    /// What is written in the file, in one that takes this many calls.
     fn limited(&self, alloc: Global, calls: u64) -> Self;
 }
 
-/// What is written in a file, in a file that takes so many calls, and that has synced it.
+/// What is written in a file, in a file that takes this many calls, and that has synced it.
 fn written(alloc: Global, file: &Fuse<Memory>, calls: u64) -> Fuse<Memory> {
     let mut copy = Memory::new(alloc);
     if copy.may_be_used() && copy.write_at(0, file.inner().bytes()).is_ok() {
@@ -65,7 +65,7 @@ impl Stops for Fuse<Memory> {
 }
 
 impl Stopped {
-    /// How many calls the log takes, and how many the database, where one of them takes so many.
+    /// How many calls the log takes, and how many the database, where one of them takes this many.
     fn calls(self, calls: u64) -> (u64, u64) {
         match self {
             Stopped::Log => (calls, u64::MAX),
@@ -74,7 +74,7 @@ impl Stopped {
     }
 }
 
-/// Two empty files, one of which takes so many calls.
+/// Two empty files, one of which takes this many calls.
 pub fn taking<D: Stops>(alloc: Global, stopped: Stopped, calls: u64) -> Files<D> {
     let (log, db) = stopped.calls(calls);
     Files {
@@ -92,7 +92,7 @@ pub fn restarted<D: Stops>(alloc: Global, files: Files<D>, left: Left) -> Files<
     }
 }
 
-/// Copies of the files with what is written in them, one of which takes so many calls.
+/// Copies of the files with what is written in them, one of which takes this many calls.
 pub fn limited<D: Stops>(
     alloc: Global,
     files: &Files<D>,

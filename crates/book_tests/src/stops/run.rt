@@ -43,7 +43,7 @@ pub enum Reached {
     NoBook,
     /// So many commands were answered as in a run without a stop, and if these weren't all, each further call by 90.
     Answered(usize),
-    /// A stop was told otherwise than as 90, or a further call was answered.
+    /// A stop was reported otherwise than as 90, or a further call was answered.
     ToldOtherwise,
 }
 
@@ -90,7 +90,7 @@ pub fn ask_part<S: Alter>(
     }
 }
 
-/// Asks a book the first commands, so many, up to the first that isn't answered as always: how many were, and how that one is.
+/// Asks a book this many of the first commands, up to the first that isn't answered as always: how many were, and how that one is.
 fn play<S: Alter>(
     alloc: Global,
     book: &mut Book<S>,
@@ -164,7 +164,7 @@ fn is_closed<S: Alter>(alloc: Global, book: &mut Book<S>) -> Result<bool, Untold
     )
 }
 
-/// How far a book comes with the first commands, so many.
+/// How far a book comes with this many of the first commands.
 fn far_come<S: Alter>(alloc: Global, book: &mut Book<S>, count: usize) -> Result<Reached, Untold> {
     let (answered, last) = play(alloc, book, count)?;
     let is_told = match last {
@@ -179,7 +179,7 @@ fn far_come<S: Alter>(alloc: Global, book: &mut Book<S>, count: usize) -> Result
     })
 }
 
-/// How far a run came whose book was not made, which is to be told as 90.
+/// How far a run came whose book was not made, which is to be reported as 90.
 fn not_made(told: Result<String, Untold>) -> Reached {
     if told.is_ok_and(|text| text.as_str() == "90 Store\n") {
         Reached::NoBook
@@ -188,7 +188,7 @@ fn not_made(told: Result<String, Untold>) -> Reached {
     }
 }
 
-/// Makes a book, and asks it the first commands, so many.
+/// Makes a book, and asks it this many of the first commands.
 #[derive(Clone, Copy)]
 pub struct Asking {
     pub count: usize,
@@ -261,7 +261,7 @@ pub struct Again {
 #[derive(Clone, Copy)]
 pub struct HandedInAgain;
 
-/// Whether the first commands, so many, are answered as always.
+/// Whether this many of the first commands are answered as always.
 fn answers_first<S: Alter>(alloc: Global, book: &mut Book<S>, count: usize) -> bool {
     matches!(play(alloc, book, count), Ok((_, Heard::AsAlways)))
 }
@@ -319,7 +319,7 @@ impl Act for TakingUp {
     }
 }
 
-/// Opens files, does this with the database in them, and closes them. Nothing is told where they don't open.
+/// Opens files, does this with the database in them, and closes them. Nothing is reported where they don't open.
 pub fn opened<D: Disk + Drop, A: Act>(
     alloc: Global,
     files: Files<D>,

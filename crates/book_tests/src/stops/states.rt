@@ -284,7 +284,7 @@ fn add_kept(alloc: Global, kept: &Kept, lines: &mut Vec<String>) -> Result<(), U
     Ok(())
 }
 
-/// Adds the rows of a pairing after so many commands. The ninth tells how P10 was flown.
+/// Adds the rows of a pairing after this many commands. The ninth says how P10 was flown.
 fn add_planned(
     alloc: Global,
     planned: &Planned,
@@ -297,7 +297,7 @@ fn add_planned(
     add_pairing(alloc, planned, key, lines)
 }
 
-/// Adds the rows after so many commands.
+/// Adds the rows after this many commands.
 fn add_rows(alloc: Global, count: usize, lines: &mut Vec<String>) -> Result<(), Untold> {
     add(alloc, "book 1|2|EST5EDT,M3.2.0,M11.1.0", lines)?;
     add(alloc, "base HOME|EST5EDT,M3.2.0,M11.1.0", lines)?;
@@ -319,7 +319,7 @@ fn add_rows(alloc: Global, count: usize, lines: &mut Vec<String>) -> Result<(), 
     Ok(())
 }
 
-/// The rows after so many commands.
+/// The rows after this many commands.
 fn after(alloc: Global, count: usize) -> Result<String, Untold> {
     let mut lines = Vec::new(alloc);
     add_rows(alloc, count, &mut lines)?;

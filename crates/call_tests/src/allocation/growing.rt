@@ -60,7 +60,7 @@ pub fn fill(alloc: Global, told: &mut Told) -> Result<String, Fault> {
 
 const INSTANT: &str = "2025-06-10T11:00Z";
 
-/// Whether the instant is written so many times, and nothing else is.
+/// Whether the instant is written this many times, and nothing else is.
 fn is_written(text: &[u8], times: usize) -> bool {
     text.len() == times.saturating_mul(INSTANT.len())
         && text
@@ -68,7 +68,7 @@ fn is_written(text: &[u8], times: usize) -> bool {
             .all(|written| written == INSTANT.as_bytes())
 }
 
-/// Writes the instant behind so many.
+/// Writes the instant behind this many.
 fn write_behind(
     told: &mut Told,
     minute: Minute,

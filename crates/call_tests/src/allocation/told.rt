@@ -1,9 +1,9 @@
-//! How a part was told that memory was wanting, and the line that says so.
+//! How it was reported of a part that it found no memory, and the line that says so.
 
 use std::io;
 use std::io::Write;
 
-/// Whether want of memory was told.
+/// Whether out of memory was reported.
 #[derive(Drop)]
 pub struct Told {
     /// By a call that has changed nothing: 91.
@@ -11,12 +11,12 @@ pub struct Told {
 }
 
 impl Told {
-    /// It was not told.
+    /// It was not reported.
     pub fn new() -> Told {
         Told { memory: false }
     }
 
-    /// Writes a line where it was told.
+    /// Writes a line where it was reported.
     pub fn print<W: Write>(&self, writer: &mut W) -> io::Result<()> {
         if self.memory {
             writeln!(writer, "91")?;

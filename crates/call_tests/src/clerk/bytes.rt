@@ -104,7 +104,7 @@ fn exchanges_byte_for_byte(rt: HostRuntime) -> Result<(), Fail> {
     Ok(())
 }
 
-/// What is written of a row that ends after so many bytes.
+/// What is written of a row that ends after this many bytes.
 fn cut_response(alloc: Global, row: &Sample, length: usize) -> Result<Vec<u8>, Fail> {
     let mut bytes = interim_response(alloc, row, length)?;
     if length > 0 {
@@ -113,7 +113,7 @@ fn cut_response(alloc: Global, row: &Sample, length: usize) -> Result<Vec<u8>, F
     Ok(bytes)
 }
 
-/// What is written of a row before its body is read, if so many bytes of it come.
+/// What is written of a row before its body is read, if this many bytes of it come.
 fn interim_response(alloc: Global, row: &Sample, length: usize) -> Result<Vec<u8>, Fail> {
     with_line_ends(alloc, if length < row.head { "" } else { row.interim })
 }
@@ -149,7 +149,7 @@ fn a_cut_request_asks_nothing(rt: HostRuntime) -> Result<(), Fail> {
     Ok(())
 }
 
-/// Whether a writer that takes so many bytes fails and has the front of the response, and this is asked.
+/// Whether a writer that takes this many bytes fails and has the front of the response, and this is asked.
 fn has_front(alloc: Global, row: &Sample, room: usize, asked: &str) -> Result<bool, Fail> {
     let outcome = served(alloc, &row.sent, false, room);
     let is_told = outcome.served == Err(ChannelFault::Writer) && outcome.asked.as_str() == asked;

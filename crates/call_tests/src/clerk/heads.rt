@@ -114,7 +114,7 @@ fn bytes_that_are_no_text_come_to_what_is_stated(rt: HostRuntime) -> Result<(), 
     Ok(())
 }
 
-/// A head with a field whose value has so many bytes, and so many fields beside it.
+/// A head with a field whose value has this many bytes, and this many fields beside it.
 fn head(alloc: Global, length: usize, fields: usize) -> Result<Vec<u8>, Fail> {
     let mut bytes = with_line_ends(alloc, "GET /exceedances HTTP/1.0|A: ")?;
     for _ in 0..length {

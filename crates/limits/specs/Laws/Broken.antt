@@ -1,5 +1,6 @@
--- What is known of the list of the broken sections, told by its members alone.
-use Rattle.std.proofs.Common.{◌≡◌, ℕ, zero, suc, ◌<◌, Bool, true, List, [], ◌∷◌, length, get_or, ◌↔◌, ◌⊎◌, inl, inr, refl, ap, ◌∙◌, arith, lit<}
+-- What is known of the list of the broken sections, by its members alone.
+use Rattle.std.proofs.Common.{◌≡◌, ℕ, zero, suc, ◌<◌, Bool, true, List, [], ◌∷◌, length, get_or}
+use Rattle.std.proofs.Common.{◌↔◌, ◌⊎◌, inl, inr, refl, ap, ◌∙◌, arith, lit<}
 use Rattle.std.specs.List.{Contains, filter}
 use Rattle.std.proofs.lemmas.Bool.{cases_Bool}
 use Rattle.std.proofs.lemmas.List.Elements.{filter_passes, All-contains}
@@ -31,7 +32,7 @@ contains_filter p (y ∷ ys) x (suc k) l is pass =
       | inr e ↦ rw e rest
     ]
 
--- each section is in the list of all
+-- Each section is in the list of all sections.
 in_all : (s : Section) → Contains all_sections s
 in_all section.FlightTime = (0, lit< tt, refl)
 in_all section.FlightDutyPeriod = (1, lit< tt, refl)
@@ -42,7 +43,7 @@ in_all section.FlightDutyPeriods672Hours = (5, lit< tt, refl)
 in_all section.ThirtyHourRest = (6, lit< tt, refl)
 in_all section.TenHourRest = (7, lit< tt, refl)
 
--- a section is in the list made by a test exactly where it passes the test
+-- A section is in the list made by a test if and only if the section passes the test.
 pub listed_is : (test : Section → Bool) (s : Section) →
     Contains (filter test all_sections) s ↔ (test s ≡ true)
 listed_is test s = (
@@ -51,8 +52,7 @@ listed_is test s = (
   λ is. let c = in_all s in contains_filter test all_sections s c.0 c.1 c.2 is,
 )
 
--- a section is in the list of the broken ones
--- exactly where its rule is broken
+-- A section is in the list of the broken sections if and only if its rule is broken.
 pub broken_is : (history new : List DutyInForce) (s : Section) →
     Contains (Broken history new) s ↔ Rule s history new
 unfolding Broken
@@ -63,8 +63,7 @@ broken_is history new s =
       λ r. listed.1 (rule.1 r),
     )
 
--- what fewer duties break, more duties break:
--- no duty mends what others have broken
+-- What fewer duties break, more duties break: no duty mends what other duties have broken.
 pub broken_grows : (fewer history some new : List DutyInForce) → IsWithin fewer history →
     IsWithin some new →
     (s : Section) → Contains (Broken fewer some) s → Contains (Broken history new) s
@@ -72,8 +71,8 @@ broken_grows fewer history some new within within_new s broken =
     (broken_is history new s).1
     (rule_grows s fewer history some new within within_new ((broken_is fewer some s).0 broken))
 
--- where duties are added to others, what all of them break
--- was broken by the others, or the added ones break it
+-- If duties are added to others, what all the duties break was broken by the others, or the added
+-- duties break it.
 pub broken_splits : (all others added : List DutyInForce) → IsJoined all others added →
     (s : Section) → Contains (Broken all all) s →
     Contains (Broken others others) s ⊎ Contains (Broken all added) s

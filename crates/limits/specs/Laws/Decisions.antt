@@ -16,7 +16,7 @@ use Rattle.limits.specs.Laws.SumRule.{sum_rule}
 use Rattle.limits.specs.Laws.YearRule.{year_rule}
 use Rattle.limits.specs.Laws.LookBack.{ten_hours_decides, thirty_hours_decides}
 
--- whether the new duties break the section's rule: of the definition only `breaks_is` is to be used
+-- whether the new duties break the section's rule; proofs use only `breaks_is` of this definition
 pub breaks : Section → List DutyInForce → List DutyInForce → Bool
 breaks section.FlightTime history new = list_any is_over_table_a new
 breaks section.FlightDutyPeriod history new = list_any is_over_table_b new
@@ -34,7 +34,7 @@ breaks section.FlightDutyPeriods672Hours history new =
 breaks section.ThirtyHourRest history new = some_lacks_rest rest.ThirtyHours history new
 breaks section.TenHourRest history new = some_lacks_rest rest.TenHours history new
 
--- the test of a section's rule is true exactly where the rule is broken
+-- The test of a section's rule is true if and only if the rule is broken.
 pub breaks_is : (s : Section) (history new : List DutyInForce) →
     IsTrue (breaks s history new) ↔ Rule s history new
 unfolding breaks

@@ -1,9 +1,11 @@
 -- The look-back rules by tests of the reports.
-use Rattle.std.proofs.Common.{◌≡◌, ℕ, ◌<◌, Bool, true, not, List, ◌↔◌, sym, ap, ◌∙◌, arith, inl, inr}
+use Rattle.std.proofs.Common.{◌≡◌, ℕ, ◌<◌, Bool, true, not, List, ◌↔◌, sym, ap, ◌∙◌, arith, inl}
+use Rattle.std.proofs.Common.{inr}
 use Rattle.std.specs.Prelude.{ℤ, pos, ◌+ℤ◌, ◌-ℤ◌, ◌≤ℤ◌}
 use Rattle.std.specs.List.{list_any, flat_map, Contains}
 use Rattle.std.proofs.lemmas.Int.{ints}
-use Rattle.std.proofs.lemmas.Bool.{false≢true, or_cases, or_left, or_right, and_parts, and_from, not-true, cases_Bool}
+use Rattle.std.proofs.lemmas.Bool.{false≢true, or_cases, or_left, or_right, and_parts, and_from}
+use Rattle.std.proofs.lemmas.Bool.{not-true, cases_Bool}
 use Rattle.duty.specs.declared.duty_in_force.DutyInForce.{DutyInForce}
 use Rattle.duty.specs.declared.duty_in_force.DutyInForce.TheVariants.{Fdp, Ground}
 use Rattle.duty.specs.FdpTimes.{FdpTimes}
@@ -16,34 +18,36 @@ use Rattle.limits.specs.declared.rest_limits.Rest.TheVariants as rest
 use Rattle.limits.specs.Rules.{IsTouched, TenHourRest, ThirtyHourRest}
 use Rattle.limits.specs.Laws.SumRule.{reach_decides}
 use Rattle.limits.specs.Laws.TableRules.{contained, from_contained}
-use Rattle.limits.specs.Laws.Tests.{is_on_duty_before, look_width, lacks_rest, by_report, is_spoilt, some_lacks_rest}
+use Rattle.limits.specs.Laws.Tests.{is_on_duty_before, look_width, lacks_rest, by_report, is_spoilt}
+use Rattle.limits.specs.Laws.Tests.{some_lacks_rest}
 
--- a report that the new duties touch lacks the rest
+-- Before a report that the new duties touch there is too little rest.
 pub record Lacks (r : Rest) (history new : List DutyInForce) : Type 0 where
   pub fdp : FdpTimes
   pub touched : IsTouched history new fdp (look_width r)
   pub lacks : lacks_rest r history fdp.report ≡ true
 
--- the test of duty before a report passes exactly where the minutes before it meet a duty minute
+-- The test of duty before a report passes if and only if the minutes before the report meet a duty
+-- minute.
 on_duty_decides : (history : List DutyInForce) (end width : ℕ) → 0 < width →
     (is_on_duty_before history end width ≡ true) ↔
     Meets (minutes_in Duty history) (pos end -ℤ pos width) width
 on_duty_decides history end width some =
     reach_decides (flat_map (spans_of Duty) history) end width some
 
--- each look-back has a minute
+-- Each look-back from a report is at least one minute long.
 look_width-some : (r : Rest) → 0 < look_width r
 look_width-some rest.TenHours = omega arith
 look_width-some rest.ThirtyHours = omega arith
 
--- a new duty that passes the test is a report that lacks the rest
+-- The report of a new duty that passes the test lacks the rest.
 lacks_new : (r : Rest) (history new : List DutyInForce) (duty : DutyInForce) → Contains new duty →
     by_report (lacks_rest r history) duty ≡ true → Lacks r history new
 lacks_new r history new (Fdp fdp) in' is = record { fdp = fdp; touched = inl in'; lacks = is }
 lacks_new r history new (Ground span) in' is = absurd (false≢true is)
 
--- a duty of the history that passes the test, and whose look-back meets a new duty, is a report
--- that lacks the rest
+-- The report of a duty of the history that passes the test, and whose look-back meets a new duty,
+-- lacks the rest.
 lacks_old : (r : Rest) (history new : List DutyInForce) (duty : DutyInForce) →
     Contains history duty →
     by_report (is_spoilt r history new) duty ≡ true → Lacks r history new
@@ -104,7 +108,7 @@ ten_hours_decides history new = (
   }),
 )
 
--- each run meets the set, or some run is free
+-- If no run of that length is free, each run meets the set.
 worked_from : (set : ℤ → Bool) (end : ℤ) (width length : ℕ) →
     (HasFreeRun set (end -ℤ pos width) width length → ⊥) →
     (start : ℤ) → (end -ℤ pos width) ≤ℤ start → (start +ℤ pos length) ≤ℤ end →
@@ -121,7 +125,7 @@ worked_from set end width length none start from to =
       }))
     ]
 
--- where each run of that length meets the set, no run is free
+-- If each run of some length meets the set, no run of that length is free.
 no_free_run : (set : ℤ → Bool) (end : ℤ) (width length : ℕ) →
     ((start : ℤ) → (end -ℤ pos width) ≤ℤ start → (start +ℤ pos length) ≤ℤ end →
     Meets set start length) →

@@ -1,5 +1,6 @@
 -- Sets of minutes of which one is part of another, or two together are a third.
-use Rattle.std.proofs.Common.{◌≡◌, ℕ, zero, suc, ◌+◌, ◌≤◌, Bool, true, false, List, refl, sym, ap, ◌∙◌, arith, inl, inr, ◌⊎◌}
+use Rattle.std.proofs.Common.{◌≡◌, ℕ, zero, suc, ◌+◌, ◌≤◌, Bool, true, false, List, refl, sym, ap}
+use Rattle.std.proofs.Common.{◌∙◌, arith, inl, inr, ◌⊎◌}
 use Rattle.std.specs.Prelude.{ℤ, pos, ◌+ℤ◌}
 use Rattle.std.specs.List.{list_any, Contains}
 use Rattle.std.proofs.lemmas.List.Folds.{Any-from_list_any, list_any_at}
@@ -10,11 +11,11 @@ use Rattle.duty.proofs.Counting.{count-none, count-more, one_if, meets-count}
 use Rattle.duty.proofs.Scans.{list_any-flat_map}
 use Rattle.limits.specs.Judgement.{IsWithin, IsJoined}
 
--- each minute of the first set is one of the second
+-- Each minute of the first set is a minute of the second.
 abbrev pub IsPart : (ℤ → Bool) → (ℤ → Bool) → Type 0
 IsPart some all = (i : ℤ) → some i ≡ true → all i ≡ true
 
--- each minute of the first set is one of another two
+-- Each minute of the first set is a minute of at least one of the other two.
 abbrev pub IsUnion : (ℤ → Bool) → (ℤ → Bool) → (ℤ → Bool) → Type 0
 IsUnion all others added = (i : ℤ) → all i ≡ true → (others i ≡ true) ⊎ (added i ≡ true)
 
@@ -36,14 +37,14 @@ held kind history i duty in' is =
     list_any-flat_map (covers i) (spans_of kind) history ∙
     list_any_at test history in'.0 duty in'.1 (ap test in'.2 ∙ is)
 
--- the minutes of some of the duties are minutes of all
+-- The minutes of fewer duties are minutes of all the duties.
 pub part-minutes : (kind : Kind) (fewer duties : List DutyInForce) → IsWithin fewer duties →
     IsPart (minutes_in kind fewer) (minutes_in kind duties)
 part-minutes kind fewer duties within i is =
     let h = holder kind fewer i is in
     held kind duties i h.0 (within h.0 h.1) h.2
 
--- each minute of all duties is one of the others or of the added ones
+-- Each minute of all duties is a minute of the other duties or of the added duties.
 pub union-minutes : (kind : Kind) (all others added : List DutyInForce) →
     IsJoined all others added →
     IsUnion (minutes_in kind all) (minutes_in kind others) (minutes_in kind added)
@@ -102,7 +103,8 @@ meets-part some all start width part m = record {
   member = part m.minute m.member;
 }
 
--- where a window holds none of the second of two sets, what it meets is of the first
+-- If a window holds no minute of the added set, a minute of the union that it meets is of the other
+-- set.
 pub meets-other : (all others added : ℤ → Bool) (start : ℤ) (width : ℕ) → IsUnion all others added →
     count added start width ≡ 0 → Meets all start width → Meets others start width
 meets-other all others added start width union none m =

@@ -1,6 +1,6 @@
--- Where duties are added to others, what all of them break was broken by the others, or the added
--- ones break it: a window or a look-back that holds no minute of the added ones is as it was
--- without them.
+-- If duties are added to others, what all the duties break was broken by the others, or the added
+-- duties break it: a window or a look-back that holds no minute of the added duties is as it was
+-- without these duties.
 use Rattle.std.proofs.Common.{◌≡◌, ℕ, Bool, List, arith, inl, inr, ◌⊎◌}
 use Rattle.std.specs.Prelude.{ℤ, pos, ◌-ℤ◌, ◌+ℤ◌, ◌≤ℤ◌, ◌*ℤ◌}
 use Rattle.std.specs.List.{Contains}
@@ -14,10 +14,12 @@ use Rattle.duty.proofs.Counting.{meets_or_free, meets-count}
 use Rattle.limits.specs.declared.section.Section.{Section}
 use Rattle.limits.specs.declared.section.Section.TheVariants as section
 use Rattle.limits.specs.Judgement.{IsJoined}
-use Rattle.limits.specs.Rules.{IsOver, IsYearOver, IsTouched, Rule, IsOverTableA, IsOverTableB, ThirtyHourRest, TenHourRest}
+use Rattle.limits.specs.Rules.{IsOver, IsYearOver, IsTouched, Rule, IsOverTableA, IsOverTableB}
+use Rattle.limits.specs.Rules.{ThirtyHourRest, TenHourRest}
 use Rattle.limits.specs.Laws.Parts.{IsUnion, union-minutes, count-union, meets-other}
 
--- a window that holds too much did so without the added minutes, or meets one of them
+-- A window that holds too much held too much without the added minutes, or meets one of the added
+-- minutes.
 over-split :
     (width most : ℕ) (all others added : ℤ → Bool) → IsUnion all others added →
     IsOver width most all all → IsOver width most others others ⊎ IsOver width most all added
@@ -32,7 +34,8 @@ over-split width most all others added union over =
       })
     ]
 
--- 365 days that hold too much did so without the added minutes, or meet one of them
+-- 365 days that hold too much held too much without the added minutes, or meet one of the added
+-- minutes.
 year-split :
     (most : ℕ) (all others added : ℤ → Bool) → IsUnion all others added →
     IsYearOver most all all → IsYearOver most others others ⊎ IsYearOver most all added
@@ -91,13 +94,13 @@ flight_duty_period-split all others added joined rule =
       })
     ]
 
--- a touched period is one of all
+-- A period that the duties touch is one of the duties.
 touched-in : (all : List DutyInForce) (fdp : FdpTimes) (width : ℕ) → IsTouched all all fdp width →
     Contains all (Fdp fdp)
 touched-in all fdp width touched = elim touched [ inl is_new ↦ is_new | inr old ↦ old.0 ]
 
--- the added duties touch the period, or it is one of the others and its look-back holds none of
--- them
+-- The added duties touch the period, or the period is one of the others and its look-back holds no
+-- added minute.
 touched-split :
     (all others added : List DutyInForce) (fdp : FdpTimes) (width : ℕ) → IsJoined all others added →
     IsTouched all all fdp width →
@@ -130,8 +133,8 @@ ten_hours-split all others added joined rule =
       })
     ]
 
--- where the whole look-back holds none of the second of two sets, what a run inside it meets is of
--- the first
+-- If the whole look-back holds no minute of the added set, a minute of the union that a run inside
+-- the look-back meets is of the other set.
 run-other :
     (all others added : ℤ → Bool) (end start : ℤ) (width length : ℕ) → IsUnion all others added →
     count added (end -ℤ pos width) width ≡ 0 →
@@ -176,7 +179,7 @@ thirty_hours-split all others added joined rule =
       })
     ]
 
--- what all duties break was broken by the others, or the added ones break it
+-- What all duties break was broken by the other duties, or the added duties break it.
 pub rule_splits : (s : Section) (all others added : List DutyInForce) → IsJoined all others added →
     Rule s all all →
     Rule s others others ⊎ Rule s all added

@@ -1,14 +1,17 @@
 -- A sum rule needs to be tried at finitely many windows: those that end where a span of the history
 -- ends, and those that end just past the first minute, or begin at the last minute, of a new span.
 pub use Rattle.duty.proofs.SpanFacts.{some_span}
-use Rattle.std.proofs.Common.{◌≡◌, ℕ, zero, suc, ◌+◌, ◌-◌, ◌<◌, ◌≤◌, Bool, true, false, List, [], ◌∷◌, refl, sym, ap, ◌∙◌, subst, arith, inl, inr, ◌⊎◌, ◌↔◌}
+use Rattle.std.proofs.Common.{◌≡◌, ℕ, zero, suc, ◌+◌, ◌-◌, ◌<◌, ◌≤◌, Bool, true, false, List, []}
+use Rattle.std.proofs.Common.{◌∷◌, refl, sym, ap, ◌∙◌, subst, arith, inl, inr, ◌⊎◌, ◌↔◌}
 use Rattle.std.specs.Prelude.{ℤ, pos, negsuc, ◌+ℤ◌, ◌-ℤ◌, ◌≤ℤ◌, ◌<ℤ◌, IsTrue, nat_lt}
 use Rattle.std.specs.List.{list_any}
 use Rattle.std.proofs.lemmas.Int.{ints}
-use Rattle.std.proofs.lemmas.Bool.{false≢true, cases_Bool, cases_lt, cases_eq, or_parts, or_left, or_right, and_parts, and_from, or_cases, ltb-true, lt-ltb}
+use Rattle.std.proofs.lemmas.Bool.{false≢true, cases_Bool, cases_lt, cases_eq, or_parts, or_left}
+use Rattle.std.proofs.lemmas.Bool.{or_right, and_parts, and_from, or_cases, ltb-true, lt-ltb}
 use Rattle.duty.specs.declared.span.Span.{Span}
 use Rattle.duty.specs.Minutes.{count, Meets, covers, minutes_of}
-use Rattle.duty.proofs.Counting.{below, below-range, below-all, below-suc, before, count-before, window_end}
+use Rattle.duty.proofs.Counting.{below, below-range, below-all, below-suc, before, count-before}
+use Rattle.duty.proofs.Counting.{window_end}
 use Rattle.duty.proofs.SpanFacts.{covers-true, covers-from, no_negative}
 use Rattle.limits.specs.Rules.{IsOver}
 use Rattle.limits.specs.Laws.Windows.{held, reaches, end_is_over, edge_is_over, some_is_over}
@@ -32,7 +35,7 @@ trimmed set least (suc k) =
           (r.0, r.1, omega arith, r.3 ∙ sym same ∙ ap (below set) (sym f), r.4))
     ]
 
--- from a member on, a window may slide on to where the members end, or for k minutes
+-- From a member of the set on, a window may slide on to where the members end, or for k minutes.
 slid :
     (set : ℕ → Bool) (at k : ℕ) → set (at - 1) ≡ true →
     (n : ℕ) × (n ≤ k) × ((i : ℕ) → at ≤ i → i < at + n → set i ≡ true) ×
@@ -57,7 +60,7 @@ slid set at (suc k) last =
           (0, omega arith, λ i l h. absurd (omega arith), inr (rw e (is, last))))
     ]
 
--- the set of naturals of some spans
+-- the set of the natural minutes that some spans hold
 abbrev pub members : List Span → ℕ → Bool
 members spans n = minutes_of spans (pos n)
 
@@ -80,7 +83,8 @@ test-over spans most end width is =
     let l = ltb-true _ _ is in
     omega arith
 
--- a span that reaches a window has a minute, begins before its end, and ends after its begin
+-- A span that reaches a window has a minute, begins before the window's end, and ends after the
+-- window's begin.
 pub reaches-true : (end width : ℕ) (new : Span) → reaches end width new ≡ true →
     (new.from < new.to) ×
     (new.from < end) × (end < new.to + width)
@@ -89,14 +93,15 @@ reaches-true end width new is =
     let b = and_parts _ _ a.1 in
     (ltb-true _ _ a.0, ltb-true _ _ b.0, ltb-true _ _ b.1)
 
--- a span that has a minute, begins before a window's end, and ends after its begin reaches it
+-- A span that has a minute, begins before a window's end, and ends after the window's begin reaches
+-- that window.
 pub reaches-from : (end width : ℕ) (new : Span) → new.from < new.to → new.from < end →
     end < new.to + width →
     reaches end width new ≡ true
 reaches-from end width new a b c =
     and_from _ _ (lt-ltb _ _ a) (and_from _ _ (lt-ltb _ _ b) (lt-ltb _ _ c))
 
--- where members end, a span ends
+-- Where the members of spans end, a span ends.
 span_end : (spans : List Span) (n : ℕ) → members spans n ≡ true → members spans (n + 1) ≡ false →
     (P : Span → Bool) →
     ((s : Span) → s.to ≡ n + 1 → P s ≡ true) → list_any P spans ≡ true
@@ -174,7 +179,7 @@ found all new width most end minute span covered among from to more =
           (omega arith) last more_at
     ]
 
--- a window that the tests find breaks the rule
+-- A window that holds too much and reaches a new minute breaks the sum rule.
 broken_at :
     (all new : List Span) (width most end minute : ℕ) → members new minute ≡ true → minute < end →
     end ≤ minute + width →
@@ -191,7 +196,7 @@ broken_at all new width most end minute member from to more = record {
   more = rw (count-before (minutes_of all) (no_negative all) end width) more;
 }
 
--- a window that ends there, reaches a new span and holds too much breaks the rule
+-- A window that ends at this minute, reaches a new span and holds too much breaks the sum rule.
 pub sound_end : (all new : List Span) (width most end : ℕ) → 0 < width →
     list_any (reaches end width) new ≡ true →
     most < before (members all) end width → IsOver width most (minutes_of all) (minutes_of new)
@@ -210,7 +215,8 @@ sound_end all new width most end some reached more =
           (omega arith) more
     ]
 
--- the test of an edge: a span with a minute, and one of its two windows holds too much
+-- What the test of an edge finds: a span with a minute, and one of the span's two windows holds too
+-- much.
 edge-parts :
     (all : List Span) (width most : ℕ) (s : Span) → edge_is_over all width most s ≡ true →
     (s.from < s.to) × ((most < before (members all) (s.from + 1) width) ⊎
@@ -226,7 +232,7 @@ edge-parts all width most s is =
       ],
     )
 
--- a window that the test finds at an edge of a new span breaks the rule
+-- A window that the test finds at an edge of a new span breaks the sum rule.
 pub sound_edge : (all new : List Span) (width most : ℕ) → 0 < width →
     list_any (edge_is_over all width most) new ≡ true →
     IsOver width most (minutes_of all) (minutes_of new)
@@ -246,7 +252,7 @@ sound_edge all new width most some is =
           (omega arith) last)
     ]
 
--- where the tests find a window, the rule is broken
+-- If the tests find a window, the sum rule is broken.
 sound : (all new : List Span) (width most : ℕ) → 0 < width →
     some_is_over all new width most ≡ true →
     IsOver width most (minutes_of all) (minutes_of new)
@@ -258,7 +264,7 @@ sound all new width most some is =
       | inr at_edge ↦ sound_edge all new width most some at_edge
     ]
 
--- where a window that meets a new minute holds too much, the tests find a window
+-- If a window that meets a new minute holds too much, the tests find a window.
 complete_at :
     (all new : List Span) (width most : ℕ) (start minute : ℤ) → start ≤ℤ minute →
     minute <ℤ (start +ℤ pos width) →
@@ -274,7 +280,7 @@ complete_at all new width most start (pos n) from to member more =
     count-before (minutes_of all) (no_negative all) w.0 width in
     found all new width most w.0 n r.0 r.1 r.2 w.2 w.3 (omega arith)
 
--- a sum rule is broken where the tests find a window
+-- A sum rule is broken if and only if the tests find a window.
 pub sum_rule : (all new : List Span) (width most : ℕ) → 0 < width →
     IsTrue (some_is_over all new width most) ↔
     IsOver width most (minutes_of all) (minutes_of new)
@@ -284,7 +290,7 @@ sum_rule all new width most some = (
       over.meets.from_start over.meets.before_end over.meets.member over.more,
 )
 
--- a span that reaches a window is one that the window meets
+-- Some span reaches a window if and only if the window meets the spans' minutes.
 pub reach_decides : (spans : List Span) (end width : ℕ) → 0 < width →
     (list_any (reaches end width) spans ≡ true) ↔
     Meets (minutes_of spans) (pos end -ℤ pos width) width

@@ -1,5 +1,6 @@
 -- The table rules by tests of the new duties.
-use Rattle.std.proofs.Common.{◌≡◌, ℕ, Bool, true, false, List, length, Option, Some, None, ◌↔◌, refl, ap, ◌∙◌}
+use Rattle.std.proofs.Common.{◌≡◌, ℕ, Bool, true, false, List, length, Option, Some, None, ◌↔◌}
+use Rattle.std.proofs.Common.{refl, ap, ◌∙◌}
 use Rattle.std.specs.Prelude.{IsTrue, nat_lt}
 use Rattle.std.specs.List.{list_any, Contains}
 use Rattle.std.specs.Option.{option_map_or}
@@ -13,33 +14,33 @@ use Rattle.limits.specs.Rules.{IsOverTableA, IsOverTableB}
 use Rattle.limits.specs.Tables.{table_a, table_b}
 use Rattle.limits.specs.Laws.Tests.{is_over_table_a, is_over_table_b}
 
--- a duty of the list that passes
+-- an element of a list that passes a test that some element passes
 pub contained : {X : Type 0} (test : X → Bool) (xs : List X) → list_any test xs ≡ true →
     (x : X) × Contains xs x ×
     (test x ≡ true)
 contained test xs is = let a = Any-from_list_any test xs is in (a.1, (a.0, a.2, a.3), a.4)
 
--- a test that an element of the list passes finds one in it
+-- A test that an element of the list passes finds an element in the list.
 pub from_contained : {X : Type 0} (test : X → Bool) (xs : List X) (x : X) → Contains xs x →
     test x ≡ true →
     list_any test xs ≡ true
 from_contained test xs x in' is = list_any_at test xs in'.0 x in'.1 (ap test in'.2 ∙ is)
 
--- a start by which the test passes
+-- the start of a period, if a test of that start passes
 entered : (test : ℕ → Bool) (start : Option ℕ) → option_map_or test start false ≡ true →
     (n : ℕ) × (start ≡ Some n) × (test n ≡ true)
 entered test None is = absurd (false≢true is)
 entered test (Some n) is = (n, refl, is)
 
--- a period has more flight time than Table A gives for the start
+-- whether a period has more flight time than Table A gives for the start
 abbrev over_a : FdpTimes → ℕ → Bool
 over_a fdp start = nat_lt (table_a start) (flight_time fdp)
 
--- a period is longer than Table B gives for the start
+-- whether a period is longer than Table B gives for the start and the period's segments
 abbrev over_b : FdpTimes → ℕ → Bool
 over_b fdp start = nat_lt (table_b start (length fdp.segments)) (fdp_length fdp)
 
--- a new period over Table A breaks the rule
+-- A new period over Table A breaks the rule of Table A (117.11(a)(1)).
 table_a_at : (history new : List DutyInForce) (duty : DutyInForce) → Contains new duty →
     is_over_table_a duty ≡ true →
     IsOverTableA history new
@@ -58,7 +59,7 @@ table_a_decides history new = (
       lt-ltb _ _ rule.over),
 )
 
--- a new period over Table B breaks the rule
+-- A new period over Table B breaks the rule of Table B (117.13(a)).
 table_b_at : (history new : List DutyInForce) (duty : DutyInForce) → Contains new duty →
     is_over_table_b duty ≡ true →
     IsOverTableB history new

@@ -1,4 +1,4 @@
--- Eight truth values as the list of the sections that hold.
+-- Eight truth values, one of each section, as the list of the sections whose value is true.
 use Rattle.std.proofs.Common.{◌≡◌, ℕ, Bool, true, false, ◌&&◌, List, get_or, refl, sym, ap, ◌∙◌}
 use Rattle.std.specs.Prelude.{nat_eq}
 use Rattle.std.specs.List.{filter, list_any}
@@ -9,7 +9,7 @@ use Rattle.limits.specs.declared.section.Section.TheVariants as section
 use Rattle.limits.specs.declared.sections.Sections.TheInside.{Inside}
 use Rattle.limits.specs.Judgement.{all_sections}
 
--- the truth value of a section
+-- the truth value of a section, among the eight
 abbrev pub truth_of : Inside → Section → Bool
 truth_of a section.FlightTime = a.flight_time
 truth_of a section.FlightDutyPeriod = a.flight_duty_period
@@ -20,7 +20,7 @@ truth_of a section.FlightDutyPeriods672Hours = a.flight_duty_periods_672_hours
 truth_of a section.ThirtyHourRest = a.thirty_hour_rest
 truth_of a section.TenHourRest = a.ten_hour_rest
 
--- the sections that hold, in the order of all
+-- the sections whose truth value is true, in the order of the list of all sections
 abbrev pub listed : Inside → List Section
 listed a = filter (truth_of a) all_sections
 
@@ -35,11 +35,11 @@ place section.FlightDutyPeriods672Hours = 5
 place section.ThirtyHourRest = 6
 place section.TenHourRest = 7
 
--- whether the list has the section
+-- whether a list has a section
 abbrev pub lists : List Section → Section → Bool
 lists sections s = list_any (λ t. nat_eq (place t) (place s)) sections
 
--- eight truth values, from the list of the sections that hold
+-- eight truth values, from the list of the sections whose value is true
 abbrev pub unlisted : List Section → Inside
 unlisted sections = record {
   flight_time = lists sections section.FlightTime;
@@ -56,7 +56,7 @@ unlisted sections = record {
 section_at : ℕ → Section
 section_at n = get_or all_sections n section.FlightTime
 
--- a section is the one at its place
+-- Each section stands at its place in the list of all sections.
 at_place : (s : Section) → section_at (place s) ≡ s
 unfolding section_at
 at_place section.FlightTime = refl
@@ -68,11 +68,11 @@ at_place section.FlightDutyPeriods672Hours = refl
 at_place section.ThirtyHourRest = refl
 at_place section.TenHourRest = refl
 
--- sections at one place are one
+-- Two sections at one place are the same section.
 same_place : (s t : Section) → place s ≡ place t → s ≡ t
 same_place s t is = sym (at_place s) ∙ ap section_at is ∙ at_place t
 
--- the list of all has each section
+-- The list of all sections has each section.
 all_listed : (s : Section) → lists all_sections s ≡ true
 all_listed section.FlightTime = refl
 all_listed section.FlightDutyPeriod = refl
@@ -83,18 +83,19 @@ all_listed section.FlightDutyPeriods672Hours = refl
 all_listed section.ThirtyHourRest = refl
 all_listed section.TenHourRest = refl
 
--- with a truth beside it a truth value stays
+-- A truth value stays what it is when `&&` joins it to a true one.
 and_true : (b c : Bool) → c ≡ true → (b && c) ≡ b
 and_true true c is = is
 and_true false c is = refl
 
--- the list of the sections that hold has a section if and only if its truth value is true
+-- The list of the sections whose value is true has a section if and only if the section's value is
+-- true.
 kept : (a : Inside) (s : Section) → lists (listed a) s ≡ truth_of a s
 kept a s = any-filter_same (λ t. nat_eq (place t) (place s)) (truth_of a) (truth_of a s)
     (λ t is. ap (truth_of a) (same_place t s (eqb-true _ _ is))) all_sections ∙
     and_true (truth_of a s) (lists all_sections s) (all_listed s)
 
--- the list has all that the truth values say
+-- The list of the true sections gives the eight truth values back.
 pub listed_back : (a : Inside) → unlisted (listed a) ≡ a
 listed_back a i = record {
   flight_time = kept a section.FlightTime i;

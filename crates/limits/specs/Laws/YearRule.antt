@@ -1,18 +1,22 @@
 -- The rule of 365 days needs to be tried at finitely many years: those whose last day is the day of
 -- a span's last minute or the one before, and those that end with the first day, or begin with the
 -- last day, of a new span.
-use Rattle.std.proofs.Common.{◌≡◌, ℕ, suc, ◌+◌, ◌-◌, ◌*◌, ◌/◌, ◌<◌, ◌≤◌, Bool, true, ltb, List, sym, ap, ◌∙◌, subst, arith, inl, inr, ◌⊎◌, ◌↔◌}
+use Rattle.std.proofs.Common.{◌≡◌, ℕ, suc, ◌+◌, ◌-◌, ◌*◌, ◌/◌, ◌<◌, ◌≤◌, Bool, true, ltb, List, sym}
+use Rattle.std.proofs.Common.{ap, ◌∙◌, subst, arith, inl, inr, ◌⊎◌, ◌↔◌}
 use Rattle.std.specs.Prelude.{ℤ, pos, negsuc, ◌+ℤ◌, ◌-ℤ◌, ◌*ℤ◌, ◌≤ℤ◌, ◌<ℤ◌, IsTrue}
 use Rattle.std.specs.List.{list_any}
 use Rattle.std.proofs.lemmas.Int.{ints}
-use Rattle.std.proofs.lemmas.Bool.{false≢true, cases_lt, cases_eq, or_cases, or_left, or_right, and_parts, and_from, lt-ltb, ltb-true}
+use Rattle.std.proofs.lemmas.Bool.{false≢true, cases_lt, cases_eq, or_cases, or_left, or_right}
+use Rattle.std.proofs.lemmas.Bool.{and_parts, and_from, lt-ltb, ltb-true}
 use Rattle.duty.specs.declared.span.Span.{Span}
 use Rattle.duty.specs.Minutes.{count, covers, minutes_of}
 use Rattle.duty.proofs.Counting.{below, below-range, below-full, before, count-before}
 use Rattle.duty.proofs.SpanFacts.{covers-true, covers-from, no_negative}
 use Rattle.limits.specs.Rules.{IsYearOver}
-use Rattle.limits.specs.Laws.SumRule.{members, trimmed, over-test, test-over, some_span, reaches-from, reaches-true}
-use Rattle.limits.specs.Laws.Windows.{held, reaches, year_is_over, year_end_is_over, year_edge_is_over, some_year_is_over}
+use Rattle.limits.specs.Laws.SumRule.{members, trimmed, over-test, test-over, some_span}
+use Rattle.limits.specs.Laws.SumRule.{reaches-from, reaches-true}
+use Rattle.limits.specs.Laws.Windows.{held, reaches, year_is_over, year_end_is_over}
+use Rattle.limits.specs.Laws.Windows.{year_edge_is_over, some_year_is_over}
 
 -- up to a later minute a set has no fewer members, and at most one more for each minute
 below-le : (set : ℕ → Bool) (m n : ℕ) → m ≤ n →
@@ -28,7 +32,7 @@ grown set from to width l full =
     let b = below-le set (from - width) (to - width) (omega arith) in
     omega arith
 
--- from a day that ends in a span the days may slide on to the last that the span fills
+-- From a day that ends in a span the 365 days may slide on to the last day that the span fills.
 year_at :
     (all new : List Span) (most day : ℕ) (span s : Span) → span.from < span.to →
     ((P : Span → Bool) → P span ≡ true → list_any P new ≡ true) →
@@ -118,11 +122,12 @@ year_end (pos n) minute from to =
 year_end (negsuc n) minute from to =
     (365 - suc n, omega (arith, ints), omega (arith, ints), omega (arith, ints))
 
--- 365 days before a day are 525,600 minutes before its first
+-- The day 365 days before a day begins 525,600 minutes before that day.
 year_back : (days : ℕ) → (pos days -ℤ pos 365) *ℤ pos 1_440 ≡ pos (days * 1_440) -ℤ pos 525_600
 year_back days = omega (arith, ints)
 
--- 365 days that end with a whole day, meet a new minute and hold too much break the rule
+-- 365 days that end with a whole day, meet a new minute and hold too much break the rule of 365
+-- days.
 year_broken : (all new : List Span) (most days minute : ℕ) → members new minute ≡ true →
     minute < days * 1_440 →
     days * 1_440 ≤ minute + 525_600 →
@@ -142,7 +147,7 @@ year_broken all new most days minute member from to more =
       more = rw (e, count-before (minutes_of all) (no_negative all) (days * 1_440) 525_600) more;
     }
 
--- 365 days that the test finds at the end of a day break the rule
+-- 365 days that the test finds at the end of a day break the rule of 365 days.
 year_sound_end : (all new : List Span) (most days : ℕ) →
     year_is_over all new most (days * 1_440) ≡ true →
     IsYearOver most (minutes_of all) (minutes_of new)
@@ -164,7 +169,8 @@ year_sound_end all new most days is =
           (omega arith) more
     ]
 
--- the test of an edge: a span with a minute, and one of its two years holds too much
+-- What the test of an edge finds: a span with a minute, and one of the span's two years holds too
+-- much.
 year_edge-parts :
     (all : List Span) (most : ℕ) (s : Span) → year_edge_is_over all most s ≡ true →
     (s.from < s.to) × ((most < before (members all) ((s.from / 1_440 + 1) * 1_440) 525_600) ⊎
@@ -180,7 +186,7 @@ year_edge-parts all most s is =
       ],
     )
 
--- 365 days that the test finds at an edge of a new span break the rule
+-- 365 days that the test finds at an edge of a new span break the rule of 365 days.
 year_sound_edge : (all new : List Span) (most : ℕ) →
     list_any (year_edge_is_over all most) new ≡ true →
     IsYearOver most (minutes_of all) (minutes_of new)
@@ -200,7 +206,7 @@ year_sound_edge all new most is =
           (omega arith) last)
     ]
 
--- 365 days that the test of a span of the history finds break the rule
+-- 365 days that the test of a span of the history finds break the rule of 365 days.
 year_sound_span : (all new : List Span) (most : ℕ) (s : Span) →
     year_end_is_over all new most s ≡ true →
     IsYearOver most (minutes_of all) (minutes_of new)
@@ -211,7 +217,7 @@ year_sound_span all new most s is =
       | inr b ↦ year_sound_end all new most ((s.to - 1) / 1_440) b
     ]
 
--- where the tests find 365 days, the rule is broken
+-- If the tests find 365 days, the rule of 365 days is broken.
 year_sound : (all new : List Span) (most : ℕ) → some_year_is_over all new most ≡ true →
     IsYearOver most (minutes_of all) (minutes_of new)
 year_sound all new most is =
@@ -239,7 +245,7 @@ year_complete all new most day (pos n) from to member more =
     count-before (minutes_of all) (no_negative all) (w.0 * 1_440) 525_600 in
     found_year all new most w.0 n r.0 r.1 r.2 w.2 w.3 (omega arith)
 
--- the rule of 365 days is broken where the tests find a year
+-- The rule of 365 days is broken if and only if the tests find a year.
 pub year_rule : (all new : List Span) (most : ℕ) → IsTrue (some_year_is_over all new most) ↔
     IsYearOver most (minutes_of all) (minutes_of new)
 year_rule all new most = (

@@ -14,14 +14,14 @@ use sqlite_trees::store::{Alter, Direction, Shape, Store};
 use sqlite_value::row::Row;
 use std::alloc::{AllocError, Global};
 
-/// A store without tables that takes so many savepoints, and nothing else. The last of them shuts it, though it is answered as done.
+/// A store without tables that takes this many savepoints, and nothing else. The last of them shuts it, though it is answered as done.
 /// Contracts see a store whose disk has returned what was never written, of which no clause says anything.
 #[derive(Drop)]
 pub struct Shutting {
     savepoints: u64,
 }
 
-/// A connection over a store that the last of so many savepoints shuts.
+/// A connection over a store that the last of this many savepoints shuts.
 pub fn shutting_behind(alloc: Global, savepoints: u64) -> Option<Connection<Shutting>> {
     Connection::over(alloc, Shutting { savepoints }).ok()
 }
