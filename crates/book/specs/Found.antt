@@ -1,6 +1,6 @@
 -- What files hold of a book: what is found in the files as they are opened, and what is left of
 -- them.
-use Rattle.std.specs.Prelude.{◌≡◌, ◌⊎◌, []}
+use Rattle.std.specs.Prelude.{◌≡◌, ◌⊎◌, [], ⊥, ⊤}
 use Rattle.sqlite_disk.specs.declared.Disk.{Ghosts}
 use Rattle.sqlite_wal.specs.Files.{outcomes}
 use Rattle.sqlite_wal.specs.Reads.{AreClean}
@@ -65,6 +65,11 @@ module _ {D : Type 0} {g : Ghosts D} where
   abbrev pub IsCleanLeft : FilesLeft D g → Type 0
   IsCleanLeft (Closed files) = AreClean g files.log files.db
   IsCleanLeft (Unclosed store) = view.IsClean (over_files.view store)
+
+  -- The files of a book were let go of as they are, and not closed.
+  abbrev pub IsUnclosed : FilesLeft D g → Type 0
+  IsUnclosed (Closed files) = ⊥
+  IsUnclosed (Unclosed store) = ⊤
 
   -- Files that were closed hold a book in this state, as they read now and after a crash. Of files
   -- that were not closed, whatever is found after a crash is a book in this state.

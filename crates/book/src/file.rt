@@ -11,7 +11,7 @@ ghost use Rattle.loading.specs.Loading.{Justifies};
 ghost use Rattle.roster.specs.State.{State, empty};
 ghost use Rattle.state_rows.specs.Outcomes.{IsOutside};
 ghost use Rattle.book.specs.Kept.{IsClean, IsDurablyAt, HasFoundBook};
-ghost use Rattle.book.specs.Found.{IsCleanLeft, IsFaultOf, LeavesBook, LeavesByCrash, MeansWhatIsIn};
+ghost use Rattle.book.specs.Found.{IsCleanLeft, IsFaultOf, LeavesBook, IsUnclosed, LeavesByCrash, MeansWhatIsIn};
 
 use crate::keeping::Book;
 use sqlite::{Alter, Connection, Error, ErrorCode, FileFrom, FileStore, Files, Start, Wary};
@@ -123,6 +123,7 @@ impl<D: Disk + Drop> Book<FileStore<D>> {
         ensures kept { (s : State) → IsDurablyAt over_files self s → IsCleanLeft result
             → LeavesBook result s }
         ensures crash { IsCleanLeft result → LeavesByCrash self result }
+        ensures unclosed { IsUnclosed result }
     {
         FilesLeft::Unclosed(self.into_connection().into_store())
     }

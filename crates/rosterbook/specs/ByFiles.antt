@@ -17,7 +17,7 @@ use Rattle.store.specs.declared.show.Show.TheVariants as show
 use Rattle.entries.specs.Faults.{load_text}
 use Rattle.entries.specs.declared.fault.LoadFault.{LoadFault}
 use Rattle.book.specs.Calls.{AreCalls, Call}
-use Rattle.book.specs.Found.{FindsBook, IsCleanLeft, IsFaultOf, LeavesBook, LeavesEither}
+use Rattle.book.specs.Found.{FindsBook, IsCleanLeft, IsFaultOf, IsUnclosed, LeavesBook, LeavesEither}
 use Rattle.book.specs.Kept.{IsDurablyAt, Kept}
 use Rattle.book.specs.Lives.{acknowledged, in_doubt}
 use Rattle.book.specs.declared.file.FilesLeft.{FilesLeft}
@@ -79,6 +79,11 @@ module _ {D : Type 0} {g : Ghosts D} (left : Option (FilesLeft D g)) (image : Im
   abbrev pub AreLeftAsFound : Type 0
   AreLeftAsFound = AreLeftAfter []
 
+  -- The files are left with the state that they held, and they were let go of as they are. (To
+  -- close them would copy their log into the database.)
+  abbrev pub AreLetGo : Type 0
+  AreLetGo = AreLeftAsFound × IfSome left IsUnclosed
+
   -- the files are left with the state that they held, or with the state after the command of a
   -- request that a reader has
   abbrev pub AreLeftByRequest : ChannelBytes → Type 0
@@ -102,7 +107,7 @@ module _ {D : Type 0} {g : Ghosts D} (left : Option (FilesLeft D g)) (image : Im
   abbrev pub AreLeftByDo : (dry_run lines : Bool) → ChannelBytes → Type 0
   AreLeftByDo false false held = AreLeftByRequest held
   AreLeftByDo false true held = AreLeftByLines held
-  AreLeftByDo true lines held = AreLeftAsFound
+  AreLeftByDo true lines held = AreLetGo
 
   -- A book was taken up, nothing but a list of calls was done to it, and it was closed. As long as
   -- the disk returns what was written, the book is the one that the files held, and they are left
@@ -258,7 +263,7 @@ module _ {D : Type 0} {g : Ghosts D} (image : Image) (left : Option (FilesLeft D
   LeavesFiles (Do file dry_run lines) held = AreLeftByDo left image dry_run lines held
   LeavesFiles (Import file number) held = AreLeftByImport left image number held
   LeavesFiles (Serve file port connections) held = HaveSession left image
-  LeavesFiles action held = AreLeftAsFound left image
+  LeavesFiles action held = AreLetGo left image
 
   -- what the action did to a book that was taken up from files is a session; `init` takes up none
   abbrev pub IsSessionOf : Action → Type 0

@@ -9,7 +9,7 @@ ghost use Rattle.asking.specs.Requests.{IsRequestChecked};
 ghost use Rattle.book.specs.Calls.{IsAfterCalls};
 ghost use Rattle.book.specs.Kept.{IsDurablyAt};
 ghost use Rattle.rosterbook.specs.Asking.{IsBodyTold, IsBodyUntold, IsRequestAnswered, left_by_check};
-ghost use Rattle.rosterbook.specs.ByFiles.{AreLeftAsFound, AreLinesCheckedBy, HaveSession, IsByFiles, IsDoneBy, IsRefusedAs};
+ghost use Rattle.rosterbook.specs.ByFiles.{AreLetGo, AreLinesCheckedBy, HaveSession, IsByFiles, IsDoneBy, IsRefusedAs};
 ghost use Rattle.rosterbook.specs.InLines as spec;
 ghost use Rattle.rosterbook.specs.Showing.{IsShowStopped};
 
@@ -37,7 +37,7 @@ pub(crate) fn answer_check<S: Start, R: Read, O: Write>(
     ensures done { (err : ChannelBytes) → IfOk result.done
         (IsDoneBy (IsByFiles result.left (image_at S.Start)) left_by_check
         (R.remaining reader.old) (O.contents out.old) (O.contents out.new) err err) }
-    ensures left { AreLeftAsFound result.left (image_at S.Start) }
+    ensures left { AreLetGo result.left (image_at S.Start) }
     ensures session { HaveSession result.left (image_at S.Start) }
     ensures unopened { result.left ≡ None
         → IsErr result.done × (reader.new ≡ reader.old) × (out.new ≡ out.old) }
@@ -111,7 +111,7 @@ pub(crate) fn answer_line_checks<S: Start, R: Read, O: Write>(
     ensures done { (err : ChannelBytes) → IfOk result.done
         (AreLinesCheckedBy (IsByFiles result.left (image_at S.Start)) (R.remaining reader.old)
         (O.contents out.old) (O.contents out.new) err err) }
-    ensures left { AreLeftAsFound result.left (image_at S.Start) }
+    ensures left { AreLetGo result.left (image_at S.Start) }
     ensures session { HaveSession result.left (image_at S.Start) }
     ensures unopened { result.left ≡ None
         → IsErr result.done × (reader.new ≡ reader.old) × (out.new ≡ out.old) }

@@ -10,7 +10,7 @@ ghost use Rattle.book.specs.Calls.{IsAfterCalls};
 ghost use Rattle.book.specs.Kept.{IsDurablyAt, IsClean};
 ghost use Rattle.asking.specs.Reports.{show_of};
 ghost use Rattle.store.specs.declared.show.Show.TheVariants as show;
-ghost use Rattle.rosterbook.specs.ByFiles.{AreLeftAsFound, HaveSession, IsByFiles, IsRefusedAs, IsShownBy};
+ghost use Rattle.rosterbook.specs.ByFiles.{AreLetGo, HaveSession, IsByFiles, IsRefusedAs, IsShownBy};
 ghost use Rattle.rosterbook.specs.Showing as spec;
 ghost use Rattle.rosterbook.specs.Streams.{IsOfChannel, refused_line};
 
@@ -38,7 +38,7 @@ pub(crate) fn answer_roster<S: Start, O: Write, E: Write>(
     ensures done { IfOk result.done
         (IsShownBy (IsByFiles result.left (image_at S.Start)) (show.Crew crew.now)
         (O.contents out.old) (O.contents out.new) (E.contents err.old) (E.contents err.new)) }
-    ensures left { AreLeftAsFound result.left (image_at S.Start) }
+    ensures left { AreLetGo result.left (image_at S.Start) }
     ensures session { HaveSession result.left (image_at S.Start) }
     ensures unopened { result.left ≡ None
         → IsErr result.done × (out.new ≡ out.old) × (err.new ≡ err.old) }
@@ -60,7 +60,7 @@ pub(crate) fn answer_limits<S: Start, O: Write, E: Write>(
     ensures done { IfOk result.done (IsShownBy (IsByFiles result.left (image_at S.Start))
         (show.Limits crew.now (option_copied with.entry)) (O.contents out.old)
         (O.contents out.new) (E.contents err.old) (E.contents err.new)) }
-    ensures left { AreLeftAsFound result.left (image_at S.Start) }
+    ensures left { AreLetGo result.left (image_at S.Start) }
     ensures session { HaveSession result.left (image_at S.Start) }
     ensures unopened { result.left ≡ None
         → IsErr result.done × (out.new ≡ out.old) × (err.new ≡ err.old) }
@@ -81,7 +81,7 @@ pub(crate) fn answer_pairing<S: Start, O: Write, E: Write>(
     ensures done { IfOk result.done
         (IsShownBy (IsByFiles result.left (image_at S.Start)) (show.Pairing pairing.now)
         (O.contents out.old) (O.contents out.new) (E.contents err.old) (E.contents err.new)) }
-    ensures left { AreLeftAsFound result.left (image_at S.Start) }
+    ensures left { AreLetGo result.left (image_at S.Start) }
     ensures session { HaveSession result.left (image_at S.Start) }
     ensures unopened { result.left ≡ None
         → IsErr result.done × (out.new ≡ out.old) × (err.new ≡ err.old) }
@@ -101,7 +101,7 @@ pub(crate) fn answer_exceedances<S: Start, O: Write, E: Write>(
     ensures done { IfOk result.done
         (IsShownBy (IsByFiles result.left (image_at S.Start)) show.Exceedances
         (O.contents out.old) (O.contents out.new) (E.contents err.old) (E.contents err.new)) }
-    ensures left { AreLeftAsFound result.left (image_at S.Start) }
+    ensures left { AreLetGo result.left (image_at S.Start) }
     ensures session { HaveSession result.left (image_at S.Start) }
     ensures unopened { result.left ≡ None
         → IsErr result.done × (out.new ≡ out.old) × (err.new ≡ err.old) }
@@ -121,7 +121,7 @@ pub(crate) fn answer_members<S: Start, O: Write, E: Write>(
     ensures done { IfOk result.done
         (IsShownBy (IsByFiles result.left (image_at S.Start)) show.Members
         (O.contents out.old) (O.contents out.new) (E.contents err.old) (E.contents err.new)) }
-    ensures left { AreLeftAsFound result.left (image_at S.Start) }
+    ensures left { AreLetGo result.left (image_at S.Start) }
     ensures session { HaveSession result.left (image_at S.Start) }
     ensures unopened { result.left ≡ None
         → IsErr result.done × (out.new ≡ out.old) × (err.new ≡ err.old) }
@@ -143,7 +143,7 @@ pub(crate) fn answer_pairings<S: Start, O: Write, E: Write>(
         (IsShownBy (IsByFiles result.left (image_at S.Start))
         (show.Pairings (spec.listed_by only_open))
         (O.contents out.old) (O.contents out.new) (E.contents err.old) (E.contents err.new)) }
-    ensures left { AreLeftAsFound result.left (image_at S.Start) }
+    ensures left { AreLetGo result.left (image_at S.Start) }
     ensures session { HaveSession result.left (image_at S.Start) }
     ensures unopened { result.left ≡ None
         → IsErr result.done × (out.new ≡ out.old) × (err.new ≡ err.old) }
@@ -179,7 +179,7 @@ fn show_file<S: Start, O: Write, E: Write>(
     ensures done { IfOk result.done
         (IsShownBy (IsByFiles result.left (image_at S.Start)) (show_of what.entry)
         (O.contents out.old) (O.contents out.new) (E.contents err.old) (E.contents err.new)) }
-    ensures left { AreLeftAsFound result.left (image_at S.Start) }
+    ensures left { AreLetGo result.left (image_at S.Start) }
     ensures session { HaveSession result.left (image_at S.Start) }
     ensures unopened { result.left ≡ None
         → IsErr result.done × (out.new ≡ out.old) × (err.new ≡ err.old) }

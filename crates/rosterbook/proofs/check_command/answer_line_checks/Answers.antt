@@ -1,6 +1,5 @@
-use Rattle.std.proofs.Common.{[]}
 use Rattle.std.proofs.lemmas.Result.{IfOk-weaker}
-use Rattle.rosterbook.proofs.ByFiles.{left_as_found, lines_checked_at, no_session, none_left, refused_as, session}
+use Rattle.rosterbook.proofs.ByFiles.{left_as_found, lines_checked_at, no_session, none_let_go, refused_as, session}
 use Rattle.rosterbook.proofs.check_command.answer_line_checks.Goals as goal
 
 pub returns-in-Ok-clause-done : goal.returns-in-Ok-clause-done
@@ -10,11 +9,13 @@ returns-in-Ok-clause-done g c err =
     c.check_lines-done.ensures.checked
 
 pub returns-in-Ok-clause-left : goal.returns-in-Ok-clause-left
-returns-in-Ok-clause-left g c =
-    left_as_found _ c.in-Ok.book c.check_lines-done.new.book c.leave.result c.in-Ok.ensures.means c.leave.ensures.disk c.leave.ensures.crash c.check_lines-done.ensures.kept
+returns-in-Ok-clause-left g c = (
+  left_as_found _ c.in-Ok.book c.check_lines-done.new.book c.leave.result c.in-Ok.ensures.means c.leave.ensures.disk c.leave.ensures.crash c.check_lines-done.ensures.kept,
+  c.leave.ensures.unclosed,
+)
 
 pub returns-in-Err-clause-left : goal.returns-in-Err-clause-left
-returns-in-Err-clause-left g c = none_left _ _ c.refused.ensures.left []
+returns-in-Err-clause-left g c = none_let_go _ _ c.refused.ensures.left
 
 pub returns-in-Err-clause-refused : goal.returns-in-Err-clause-refused
 returns-in-Err-clause-refused g c = refused_as _ _ c.refused.ensures.left c.in-Err.refused.fault c.in-Err.refused.left _ _ c.refused.ensures.refused c.refused.ensures.done c.in-Err.ensures.refused
