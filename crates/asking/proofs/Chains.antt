@@ -24,7 +24,7 @@ use Rattle.book.proofs.Runs.{fold_more, one_honest}
 use Rattle.book.proofs.Sparing.{SameOrSpares, adds_then, spared_adds, spared_open, spared_then}
 use Rattle.asking.specs.Schedules.{AreAnswered, ArePartsAsked}
 use Rattle.asking.specs.declared.answers.AskFault.TheVariants.{Book}
-use Rattle.asking.specs.declared.schedules.ScheduleFault.TheVariants.{Ask, Unheard}
+use Rattle.asking.specs.declared.schedules.NotAllAsked.TheVariants.{Ask, Unheard}
 use Rattle.asking.proofs.Parts.{one_answered, taken_more}
 
 or_false : (b : Bool) → (b || false) ≡ b

@@ -23,7 +23,7 @@ use Rattle.book.specs.declared.answer.Answer.{Answer}
 use Rattle.book.proofs.CommandLists.{All, each_of}
 use Rattle.asking.specs.Schedules.{AreAnswered, ArePartsAsked, HasHeard}
 use Rattle.asking.specs.declared.answers.AskFault.TheVariants.{Book}
-use Rattle.asking.specs.declared.schedules.ScheduleFault.TheVariants.{Ask, Unheard}
+use Rattle.asking.specs.declared.schedules.NotAllAsked.TheVariants.{Ask, Unheard}
 
 -- ---- The commands of a schedule
 

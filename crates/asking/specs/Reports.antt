@@ -80,8 +80,8 @@ shown_of (Err report.NoSuchPairing) = Ok NoSuchPairing
 shown_of (Err report.Memory) = Err Memory
 
 -- a text is that of a state, or there is none for this reason
-abbrev pub IsText : State → Show → Result (String Global) ReportFault → Type 0
-IsText s what text = ShowsOf s what (shown_of text)
+abbrev pub IsReportText : State → Show → Result (String Global) ReportFault → Type 0
+IsReportText s what text = ShowsOf s what (shown_of text)
 
 -- the text of a list is that of the report, or there was no memory for it
 abbrev pub IsListed : Result (String Global) MemoryFault → Result (String Global) ReportFault

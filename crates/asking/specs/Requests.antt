@@ -18,8 +18,8 @@ use Rattle.asking.specs.declared.answers.AskFault.TheVariants.{Memory}
 use Rattle.asking.specs.declared.answers.JsonAnswer.{JsonAnswer}
 
 -- a request as `codec` reads it: a number and a command, or why it isn't read
-abbrev pub Request : Type 0
-Request = Result (ℕ × Instruction) CodecFault
+abbrev pub ReadRequest : Type 0
+ReadRequest = Result (ℕ × Instruction) CodecFault
 
 -- the command of a request, under part 0 of its number
 abbrev pub asked_as : ℕ × Instruction → Asked
@@ -49,7 +49,7 @@ module _ {S : Type 0} (g : Ghosts S) (old new : Kept S) where
 
   -- a book was asked the command of a request; or the request isn't read, the book was asked
   -- nothing, and why is reported
-  abbrev pub IsDoneAsRead : Request → Result JsonAnswer AskFault → Type 0
+  abbrev pub IsDoneAsRead : ReadRequest → Result JsonAnswer AskFault → Type 0
   IsDoneAsRead (Ok asked) result = IsCommandAsked (asked_as asked) result
   IsDoneAsRead (Err fault) result = (new ≡ old) × ReportsUnread fault result
 
@@ -61,7 +61,7 @@ module _ {S : Type 0} (g : Ghosts S) (old new : Kept S) where
 
   -- a book was asked how it would answer the command of a request; or the request isn't read, the
   -- book was asked nothing, and why is reported
-  abbrev pub IsCheckedAsRead : Request → Result JsonAnswer AskFault → Type 0
+  abbrev pub IsCheckedAsRead : ReadRequest → Result JsonAnswer AskFault → Type 0
   IsCheckedAsRead (Ok asked) result = IsCommandChecked (asked_as asked) result
   IsCheckedAsRead (Err fault) result = (new ≡ old) × ReportsUnread fault result
 

@@ -10,8 +10,8 @@ use Rattle.book.specs.Answered.{IsAnswered}
 use Rattle.book.specs.Kept.{Kept, result_of}
 use Rattle.book.specs.declared.answer.Answer.{Answer}
 use Rattle.asking.specs.declared.answers.AskFault.TheVariants.{Book, Memory}
-use Rattle.asking.specs.declared.schedules.ScheduleFault.{ScheduleFault}
-use Rattle.asking.specs.declared.schedules.ScheduleFault.TheVariants.{Unread, Ask, Unheard}
+use Rattle.asking.specs.declared.schedules.NotAllAsked.{NotAllAsked}
+use Rattle.asking.specs.declared.schedules.NotAllAsked.TheVariants.{Unread, Ask, Unheard}
 
 -- a book was asked these commands in turn, and gave these answers, one to each
 abbrev pub AreAnswered : {S : Type 0} → Ghosts S →
@@ -34,7 +34,7 @@ HasHeard {L} hears old part (answer ∷ answers) new =
     × HasHeard hears next (part + 1) answers new
 
 -- why a schedule isn't asked: a record of it is at fault, or there was no memory to read it
-abbrev pub IsUnread : {F : Type 0} → List ℕ → Result ⊤ (ScheduleFault F) → Type 0
+abbrev pub IsUnread : {F : Type 0} → List ℕ → Result ⊤ (NotAllAsked F) → Type 0
 IsUnread text result =
     ((line : ℕ) × IsAtFault text line × (result ≡ Err (Unread (BadCsv line))))
     ⊎ (result ≡ Err (Ask Memory))
@@ -44,7 +44,7 @@ module _ {S L F : Type 0} (g : Ghosts S) (hears : Hearing L F) where
   -- answers, and `new` and `listener` are so at the end. There were no more parts; or the book met
   -- a fault at the next part; or the listener failed at the answer to the next part.
   abbrev pub EndsAfter : List Asked → List Answer → Kept S × L → Kept S × L →
-      Result ⊤ (ScheduleFault F) → Type 0
+      Result ⊤ (NotAllAsked F) → Type 0
   EndsAfter parts answers (now, heard) (new, listener) (Ok _) =
       (length answers ≡ length parts) × (new ≡ now) × (listener ≡ heard)
   EndsAfter parts answers (now, heard) (new, listener) (Err (Ask (Book fault))) =
@@ -59,7 +59,7 @@ module _ {S L F : Type 0} (g : Ghosts S) (hears : Hearing L F) where
 
   -- a book was asked these parts in turn and a listener heard each answer, up to the end
   pub record ArePartsAsked (old new : Kept S) (listener listener' : L) (parts : List Asked)
-      (result : Result ⊤ (ScheduleFault F)) : Type 0 where
+      (result : Result ⊤ (NotAllAsked F)) : Type 0 where
     pub answers : List Answer
     pub now : Kept S
     pub heard : L
@@ -70,7 +70,7 @@ module _ {S L F : Type 0} (g : Ghosts S) (hears : Hearing L F) where
   -- a text was no schedule, or there was no memory to read it, and nothing was asked; or it was a
   -- schedule, and its pairings were added under the parts of a number
   abbrev pub IsScheduleAsked : Kept S → Kept S → L → L → ℕ → List ℕ →
-      Result ⊤ (ScheduleFault F) → Type 0
+      Result ⊤ (NotAllAsked F) → Type 0
   IsScheduleAsked old new listener listener' number text result =
       (IsUnread text result × (new ≡ old) × (listener' ≡ listener))
       ⊎ ((plans : List Plan) × IsSchedule text plans

@@ -39,7 +39,7 @@ pub enum AskFault {
 }
 
 /// Reports what a book answered.
-pub(crate) fn reported(
+pub(crate) fn report_answer(
     alloc: Global,
     answer: Result<Answer, BookFault>,
 ) -> Result<JsonAnswer, AskFault>
@@ -57,7 +57,7 @@ pub(crate) fn reported(
 }
 
 /// Reports why a request isn't read.
-pub(crate) fn unread(alloc: Global, fault: CodecFault) -> Result<JsonAnswer, AskFault>
+pub(crate) fn refuse_unread(alloc: Global, fault: CodecFault) -> Result<JsonAnswer, AskFault>
     ensures { spec.ReportsUnread fault result }
 {
     in_json(AnswerKind::Unfit, fault_to_json(alloc, fault))

@@ -12,4 +12,4 @@ pub use answers::{AnswerKind, AskFault, JsonAnswer};
 pub use checks::check_request;
 pub use reports::{Shown, Subject, ask_report};
 pub use requests::ask_request;
-pub use schedules::{Listener, ScheduleFault, ask_schedule};
+pub use schedules::{Listener, NotAllAsked, ask_schedule};

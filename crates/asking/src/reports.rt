@@ -65,7 +65,7 @@ pub fn ask_report<S: Alter>(
         return Err(AskFault::Memory);
     };
     let shown = book.show(alloc, &what);
-    reported(alloc, shown, &what)
+    write_report(alloc, shown, &what)
 }
 
 /// Names what a book shows for a report.
@@ -103,7 +103,11 @@ fn copy_of(alloc: Global, text: &str) -> Result<Text, MemoryFault>
 }
 
 /// Reports what a book shows.
-fn reported(alloc: Global, shown: Result<Roster, BookFault>, what: &Show) -> Result<Shown, AskFault>
+fn write_report(
+    alloc: Global,
+    shown: Result<Roster, BookFault>,
+    what: &Show,
+) -> Result<Shown, AskFault>
     ensures { spec.ReportsShown shown what.now result }
 {
     match shown {
@@ -114,20 +118,20 @@ fn reported(alloc: Global, shown: Result<Roster, BookFault>, what: &Show) -> Res
 
 /// Writes a text of a roster.
 fn text_of(alloc: Global, roster: &Roster, what: &Show) -> Result<String, ReportFault>
-    ensures { spec.IsText roster.now what.now result }
+    ensures { spec.IsReportText roster.now what.now result }
 {
     match what {
         Show::Crew(who) => roster_text(alloc, roster, who),
         Show::Limits { crew, with } => limits_text(alloc, roster, crew, with.as_ref()),
         Show::Pairing(id) => pairing_text(alloc, roster, id),
         Show::Exceedances => exceedance_text(alloc, roster),
-        Show::Members => listed(members_text(alloc, roster)),
-        Show::Pairings(which) => listed(pairings_text(alloc, roster, *which)),
+        Show::Members => as_report(members_text(alloc, roster)),
+        Show::Pairings(which) => as_report(pairings_text(alloc, roster, *which)),
     }
 }
 
 /// Makes a report of a list, if there was memory for it.
-fn listed(text: Result<String, MemoryFault>) -> Result<String, ReportFault>
+fn as_report(text: Result<String, MemoryFault>) -> Result<String, ReportFault>
     ensures { spec.IsListed text result }
 {
     match text {

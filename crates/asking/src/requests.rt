@@ -3,7 +3,7 @@
 ghost use Rattle.book.specs.Calls.{IsAfterCalls};
 ghost use Rattle.asking.specs.Requests as spec;
 
-use crate::answers::{AskFault, JsonAnswer, reported, unread};
+use crate::answers::{AskFault, JsonAnswer, refuse_unread, report_answer};
 use book::Book;
 use codec::{CodecFault, command_of_json};
 use command::Key;
@@ -27,9 +27,9 @@ pub fn ask_request<S: Alter>(
             let answer = book.ask(alloc, Key::new(number, 0), &command);
             // (by a call: written out, a command's drop takes the prover long)
             drop(command);
-            reported(alloc, answer)
+            report_answer(alloc, answer)
         }
         Err(CodecFault::Memory) => Err(AskFault::Memory),
-        Err(fault) => unread(alloc, fault),
+        Err(fault) => refuse_unread(alloc, fault),
     }
 }

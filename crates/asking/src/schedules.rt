@@ -33,7 +33,7 @@ pub trait Listener {
 
 /// Why not all pairings of a schedule were asked and heard.
 #[derive(Drop)]
-pub enum ScheduleFault<F> {
+pub enum NotAllAsked<F> {
     /// It isn't read: one of its records is at fault (30).
     Unread(CodecFault),
     /// The book met a fault at a part, or there was no memory to read the schedule.
@@ -51,15 +51,15 @@ pub fn ask_schedule<S: Alter, L: Listener>(
     number: RequestNumber,
     text: &[u8],
     listener: &mut L,
-) -> Result<(), ScheduleFault<L::Fault>>
+) -> Result<(), NotAllAsked<L::Fault>>
     ensures asked { spec.IsScheduleAsked S.Store L.hears book.old book.new listener.old listener.new
         number text.now result }
     ensures calls { IsAfterCalls S.Store book.old book.new }
 {
     match schedule_of_csv(alloc, text) {
         Ok(pairings) => ask_parts(alloc, book, number, pairings, listener),
-        Err(CodecFault::Memory) => Err(ScheduleFault::Ask(AskFault::Memory)),
-        Err(fault) => Err(ScheduleFault::Unread(fault)),
+        Err(CodecFault::Memory) => Err(NotAllAsked::Ask(AskFault::Memory)),
+        Err(fault) => Err(NotAllAsked::Unread(fault)),
     }
 }
 
@@ -70,7 +70,7 @@ fn ask_parts<S: Alter, L: Listener>(
     number: RequestNumber,
     pairings: Vec<Pairing>,
     listener: &mut L,
-) -> Result<(), ScheduleFault<L::Fault>>
+) -> Result<(), NotAllAsked<L::Fault>>
     requires count { length pairings.items ≤ 10_000 }
     requires made { AreMade (import number pairings.items) }
     ensures asked { spec.ArePartsAsked S.Store L.hears book.old book.new listener.old listener.new
@@ -82,13 +82,13 @@ fn ask_parts<S: Alter, L: Listener>(
     while let Some(answer) = import.next(alloc, book) {
         let answer = match answer {
             Ok(answer) => answer,
-            Err(fault) => return Err(ScheduleFault::Ask(AskFault::Book(fault))),
+            Err(fault) => return Err(NotAllAsked::Ask(AskFault::Book(fault))),
         };
         let heard = listener.hear(alloc, part, &answer);
         // (by a call: written out, an answer's drop takes the prover long)
         drop(answer);
         if let Err(fault) = heard {
-            return Err(ScheduleFault::Unheard(fault));
+            return Err(NotAllAsked::Unheard(fault));
         }
         part += 1;
     }

@@ -16,10 +16,10 @@ use Rattle.lookup.specs.Reads.{ChangesNothing, IsCausedIfStore, IsOpen, IsReadFa
 use Rattle.state_rows.specs.Kept.{HoldBookOf, IsBookOf}
 use Rattle.writing.specs.Beside.{KeepOthers}
 use Rattle.writing.specs.Next.{IsAcceptedChange}
-use Rattle.state_rows.specs.Outcomes.{CrashAddsNothing, CrashAddsOnly, HoldsNow, CrashLeaves, CrashLeavesSome, StaysOpen, StillShows, either, one}
+use Rattle.state_rows.specs.Outcomes.{CrashAddsNothing, CrashAddsOnly, HoldsNow, CrashLeaves, CrashLeavesSome, StaysOpen, StillShows, IsEither, IsJust}
 use Rattle.book.specs.Asking.{StepOutcome, Done}
 use Rattle.book.specs.Headline.{MakesNoChange}
-use Rattle.book.specs.Kept.{HasOne, IsAnswerBy, IsKept, Keeps, StillHolds, either_kept, is_store_fault, result_of}
+use Rattle.book.specs.Kept.{HasOne, IsAnswerBy, IsKept, Keeps, StillHolds, IsEitherKept, is_store_fault, result_of}
 use Rattle.book.specs.declared.answer.Answer.{Answer}
 use Rattle.book.proofs.States.{both_kept, kept_after, shows_still, shown_before, keeps_as, shows_as, either_as, still_as, same_state, one_of_either, still_keeps}
 
@@ -39,9 +39,9 @@ module _ (now : conn.State) (s t : State) (same : HasCleanDisk now → t ≡ s) 
   now_if : HoldsNow now s → HoldsNow now t
   now_if shown clean = let it = shown clean in (it.0, subst (λ (x : State). IsBookOf x now.now) (sym (same clean)) it.1)
 
-  leaves_if : (was : State) → CrashLeaves now (either_kept was s) → CrashLeaves now (either_kept was t)
+  leaves_if : (was : State) → CrashLeaves now (IsEitherKept was s) → CrashLeaves now (IsEitherKept was t)
   leaves_if was leaves = record {
-    crash = λ clean trees may. subst (λ (x : State). (r : State) × either_kept was x r × HoldBookOf trees r) (sym (same clean)) (leaves.crash clean trees may);
+    crash = λ clean trees may. subst (λ (x : State). (r : State) × IsEitherKept was x r × HoldBookOf trees r) (sym (same clean)) (leaves.crash clean trees may);
   }
 
 -- ---- A read
@@ -206,8 +206,8 @@ module _ (old new : conn.State) (was : State) (change : Change) (keeps : Keeps o
     (others : CrashAddsOnly old new (KeepOthers old.now)) (counts : old.faults ≤ new.faults) (limit : new.step_limit ≡ old.step_limit) where
   -- it was kept
   pub did_keep : {A : Type 0} (a : A) → IsCommand change.command →
-      (IsAcceptedChange was change → CrashLeaves old (one was) → CrashLeaves new (one (after was change))) →
-      (IsAcceptedChange was change → CrashLeaves old (one was) → HoldsNow new (after was change)) → StepOutcome old new was (after was change) (Ok a)
+      (IsAcceptedChange was change → CrashLeaves old (IsJust was) → CrashLeaves new (IsJust (after was change))) →
+      (IsAcceptedChange was change → CrashLeaves old (IsJust was) → HoldsNow new (after was change)) → StepOutcome old new was (after was change) (Ok a)
   did_keep a command ok made =
       let shown : HoldsNow new (after was change) = λ c. made (next (clean c)) keeps.leaves c in
       record {
@@ -230,8 +230,8 @@ module _ (old new : conn.State) (was : State) (change : Change) (keeps : Keeps o
 
   -- it was not, or nobody knows
   pub did_fail : {A B : Type 0} (fault : StoreFault) →
-      (CrashLeaves old (one was) → ◌≡◌ {A = Result B StoreFault} (Err fault) (Err Memory) → CrashLeaves new (one was)) →
-      (IsAcceptedChange was change → CrashLeaves old (one was) → ◌≡◌ {A = Result B StoreFault} (Err fault) (Err Store) → CrashLeaves new (either was (after was change))) →
+      (CrashLeaves old (IsJust was) → ◌≡◌ {A = Result B StoreFault} (Err fault) (Err Memory) → CrashLeaves new (IsJust was)) →
+      (IsAcceptedChange was change → CrashLeaves old (IsJust was) → ◌≡◌ {A = Result B StoreFault} (Err fault) (Err Store) → CrashLeaves new (IsEither was (after was change))) →
       (◌≡◌ {A = Result B StoreFault} (Err fault) (Err Store) → IsCommand change.command) → StillShows old new →
       (◌≡◌ {A = Result B StoreFault} (Err fault) (Err Memory) → StaysOpen old new) → StepOutcome {A = A} old new was (after was change) (Err fault)
   did_fail Memory memory store command shown still_open = record {
@@ -310,7 +310,7 @@ module _ (old new : conn.State) (was : State) (of : State → State) (held : Kee
   told_memory (Err Memory) done is = keeps_as old new s was held keeps clean (λ x. x) was done.0 refl
   told_memory (Err Store) done is = absurd (cc)
 
-  pub told_store : {A : Type 0} (result : Result A StoreFault) → Done old new was (of was) result → result ≡ Err Store → CrashLeaves new (either_kept s (of s))
+  pub told_store : {A : Type 0} (result : Result A StoreFault) → Done old new was (of was) result → result ≡ Err Store → CrashLeaves new (IsEitherKept s (of s))
   told_store (Ok a) done is = absurd (cc)
   told_store (Err Memory) done is = absurd (cc)
   told_store (Err Store) done is = either_as old new s was held keeps clean of done.0

@@ -20,9 +20,9 @@ use Rattle.roster.specs.declared.change.Verdict.{Verdict}
 use Rattle.roster.specs.declared.change.Verdict.TheVariants.{Accept, Refuse, Repeat}
 use Rattle.state_rows.specs.declared.fault.StoreFault.{StoreFault}
 use Rattle.state_rows.specs.declared.fault.StoreFault.TheVariants.{Store, Memory}
-use Rattle.state_rows.specs.Outcomes.{CrashLeaves, either, one}
+use Rattle.state_rows.specs.Outcomes.{CrashLeaves, IsEither, IsJust}
 use Rattle.book.specs.Headline.{BreaksNoLimit, IsAcceptance, IsHeld, KeepsHeld, StaysHeld}
-use Rattle.book.specs.Kept.{Ends, Keeps, either_kept, result_of}
+use Rattle.book.specs.Kept.{Ends, Keeps, IsEitherKept, result_of}
 use Rattle.book.specs.Sessions.{count_of, fault_of}
 use Rattle.book.specs.declared.answer.Answer.{Answer}
 use Rattle.book.specs.declared.answer.Answer.TheVariants.{Accepted, Refused}
@@ -95,16 +95,16 @@ module _ (now : conn.State) (s : State) (asked : Asked) (reply : Reply) where
 -- ---- All held commands
 
 module _ (now : conn.State) (asked : Asked) (reply : Reply) where
-  one_holds : (s : State) → CrashLeaves now (one s) → IsHeld s asked reply → StaysHeld now asked reply
+  one_holds : (s : State) → CrashLeaves now (IsJust s) → IsHeld s asked reply → StaysHeld now asked reply
   one_holds s leaves held = record {
     crash = λ clean trees may. let it = leaves.crash clean trees may in (it.0, subst (λ (t : State). IsHeld t asked reply) (sym it.1) held, it.2);
   }
 
-  which_holds : (s t r : State) → either s t r → IsHeld s asked reply → IsHeld t asked reply → IsHeld r asked reply
+  which_holds : (s t r : State) → IsEither s t r → IsHeld s asked reply → IsHeld t asked reply → IsHeld r asked reply
   which_holds s t r (inl is) first second = subst (λ (x : State). IsHeld x asked reply) (sym is) first
   which_holds s t r (inr is) first second = subst (λ (x : State). IsHeld x asked reply) (sym is) second
 
-  either_holds : (s t : State) → CrashLeaves now (either_kept s t) → IsHeld s asked reply → IsHeld t asked reply → StaysHeld now asked reply
+  either_holds : (s t : State) → CrashLeaves now (IsEitherKept s t) → IsHeld s asked reply → IsHeld t asked reply → StaysHeld now asked reply
   either_holds s t leaves first second = record {
     crash = λ clean trees may. let it = leaves.crash clean trees may in (it.0, which_holds s t it.0 it.1.0 first second, it.2);
   }
@@ -123,6 +123,6 @@ pub still_held : (now : conn.State) (s : State) → Keeps now s → KeepsHeld no
 still_held now s keeps asked reply held = one_holds now asked reply s keeps.leaves held
 
 pub one_held_still : {A : Type 0} (now : conn.State) (s : State) (a : Asked) (result : Result A StoreFault) →
-    OnOk result (Keeps now (next s a)) → (result ≡ Err Memory → Keeps now s) → (result ≡ Err Store → CrashLeaves now (either_kept s (next s a))) → KeepsHeld now s
+    OnOk result (Keeps now (next s a)) → (result ≡ Err Memory → Keeps now s) → (result ≡ Err Store → CrashLeaves now (IsEitherKept s (next s a))) → KeepsHeld now s
 one_held_still now s a result answered memory store =
     ends_held now s (a ∷ []) (count_of result) (fault_of result) (one_ends now s a result answered memory store)

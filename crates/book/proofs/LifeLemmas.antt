@@ -16,9 +16,9 @@ use Rattle.roster.specs.State.{State}
 use Rattle.state_rows.specs.declared.fault.StoreFault.{StoreFault}
 use Rattle.state_rows.specs.declared.fault.StoreFault.TheVariants.{Store, Memory}
 use Rattle.state_rows.specs.Kept.{HoldBookOf}
-use Rattle.state_rows.specs.Outcomes.{CrashLeaves, CrashLeavesSome, either}
+use Rattle.state_rows.specs.Outcomes.{CrashLeaves, CrashLeavesSome, IsEither}
 use Rattle.book.specs.Calls.{AreCalls, Call, IsCall}
-use Rattle.book.specs.Kept.{Ends, IsClean, IsDurablyAt, IsKept, Keeps, KeepsEither, Kept, either_kept, is_some_store_fault}
+use Rattle.book.specs.Kept.{Ends, IsClean, IsDurablyAt, IsKept, Keeps, KeepsEither, Kept, IsEitherKept, is_some_store_fault}
 use Rattle.book.specs.Lives.{AreDone, AreDoneInTurn, EachLifeHolds, GoesOn, IsFoundAt, IsMadeAt, IsOpenedOver, IsReopened, IsReopenedAfter, in_turn, acknowledged, acknowledged_by, answers, doubted_by, in_doubt, is_stopped}
 use Rattle.book.proofs.CommandLists.{All, all_append, all_drop, all_of, all_take, append_all, append_none, both_none, each_of, fold_append, replies_append, replies_take, second_none, take_more}
 use Rattle.book.proofs.SessionLemmas.{take_whole}
@@ -26,22 +26,22 @@ use Rattle.book.proofs.States.{HoldEither, one_of_either}
 
 -- ---- Two states
 
-as_either : (now : conn.State) (s t s' t' : State) → s ≡ s' → t ≡ t' → CrashLeaves now (either_kept s t) → CrashLeaves now (either_kept s' t')
+as_either : (now : conn.State) (s t s' t' : State) → s ≡ s' → t ≡ t' → CrashLeaves now (IsEitherKept s t) → CrashLeaves now (IsEitherKept s' t')
 as_either now s t s' t' first second leaves =
-    subst (λ (x : State). CrashLeaves now (either_kept s' x)) second
-    (subst (λ (x : State). CrashLeaves now (either_kept x t)) first leaves)
+    subst (λ (x : State). CrashLeaves now (IsEitherKept s' x)) second
+    (subst (λ (x : State). CrashLeaves now (IsEitherKept x t)) first leaves)
 
 -- ---- One call
 
 ends_reach : (now : conn.State) (s : State) (l : List Asked) (n : ℕ) (fault : Option StoreFault) → (fault ≡ None → n ≡ length l) → Ends now s l n fault →
     ((is_some_store_fault fault ≡ false) × Keeps now (Fold s (take n l)))
-    ⊎ ((is_some_store_fault fault ≡ true) × CrashLeaves now (either_kept (Fold s (take n l)) (Fold s (take n l ++ take 1 (drop n l)))))
+    ⊎ ((is_some_store_fault fault ≡ true) × CrashLeaves now (IsEitherKept (Fold s (take n l)) (Fold s (take n l ++ take 1 (drop n l)))))
 ends_reach now s l n None whole ends =
     let all : take n l ≡ l = ap (λ k. take k l) (whole refl) ∙ take_whole l in
     inl (refl, subst (λ (m : List Asked). Keeps now (Fold s m)) (sym all) ends)
 ends_reach now s l n (Some Memory) whole ends = inl (refl, ends)
 ends_reach now s l n (Some Store) whole ends =
-    inr (refl, subst (λ (m : List Asked). CrashLeaves now (either_kept (Fold s (take n l)) (Fold s m))) (take_more l n) ends)
+    inr (refl, subst (λ (m : List Asked). CrashLeaves now (IsEitherKept (Fold s (take n l)) (Fold s m))) (take_more l n) ends)
 
 module _ {S : Type 0} (g : Ghosts S) where
   -- what a call that met no fault of the store leaves, and what one that did
@@ -50,7 +50,7 @@ module _ {S : Type 0} (g : Ghosts S) where
 
   abbrev Doubtful : State → Call → Kept S → Type 0
   Doubtful s call new = (is_stopped call ≡ true)
-      × CrashLeaves (state g new.held) (either_kept (Fold s (acknowledged_by call)) (Fold s (acknowledged_by call ++ doubted_by call)))
+      × CrashLeaves (state g new.held) (IsEitherKept (Fold s (acknowledged_by call)) (Fold s (acknowledged_by call ++ doubted_by call)))
 
   call_reaches : (call : Call) (old new : Kept S) (s : State) → IsDurablyAt g old s → IsCall g old call new → Calm s call new ⊎ Doubtful s call new
   call_reaches call old new s at is =
@@ -99,7 +99,7 @@ module _ {S : Type 0} (g : Ghosts S) where
   clean_before (call ∷ calls) old new are clean = are.1.disk (clean_before calls are.0 new are.2 clean)
 
   abbrev pub Reached : State → List Call → Kept S → Type 0
-  Reached s calls new = CrashLeaves (state g new.held) (either_kept (Fold s (acknowledged calls)) (Fold s (acknowledged calls ++ in_doubt calls)))
+  Reached s calls new = CrashLeaves (state g new.held) (IsEitherKept (Fold s (acknowledged calls)) (Fold s (acknowledged calls ++ in_doubt calls)))
 
   -- what is said of a session whose first call met no fault of the store, by what is said of the others
   module _ (call : Call) (calls : List Call) (s : State) where
@@ -127,7 +127,7 @@ module _ {S : Type 0} (g : Ghosts S) where
 
   pub reaches : (calls : List Call) (old new : Kept S) (s : State) → old.failed ≡ false → IsDurablyAt g old s → AreCalls g old calls new → Reached s calls new
   reaches [] old new s fresh at are =
-      subst (λ (b : Kept S). CrashLeaves (state g b.held) (either_kept s s)) (sym are) (one_of_either (state g old.held) s s at)
+      subst (λ (b : Kept S). CrashLeaves (state g b.held) (IsEitherKept s s)) (sym are) (one_of_either (state g old.held) s s at)
   reaches (call ∷ calls) old new s fresh at are =
       let mid = are.0 in
       let failed = are.1.failed in
@@ -256,7 +256,7 @@ pub record IsOneOf (s t : State) (first second : List Asked) : Type 0 where
   pub which : (done ≡ first) ⊎ (done ≡ second)
   pub fold : t ≡ Fold s done
 
-one_of : (s t : State) (first second : List Asked) → either (Fold s first) (Fold s second) t → IsOneOf s t first second
+one_of : (s t : State) (first second : List Asked) → IsEither (Fold s first) (Fold s second) t → IsOneOf s t first second
 one_of s t first second (inl is) = record { done = first; which = inl refl; fold = is }
 one_of s t first second (inr is) = record { done = second; which = inr refl; fold = is }
 

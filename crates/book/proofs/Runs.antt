@@ -7,8 +7,8 @@ use Rattle.roster.specs.State.{State}
 use Rattle.roster.specs.Steps.{step_of}
 use Rattle.state_rows.specs.declared.fault.StoreFault.{StoreFault}
 use Rattle.state_rows.specs.declared.fault.StoreFault.TheVariants.{Store, Memory}
-use Rattle.state_rows.specs.Outcomes.{CrashLeaves, either, one}
-use Rattle.book.specs.Kept.{Keeps, either_kept}
+use Rattle.state_rows.specs.Outcomes.{CrashLeaves, IsEither, IsJust}
+use Rattle.book.specs.Kept.{Keeps, IsEitherKept}
 
 fold_suc : (s : State) (l : List Asked) (i : ℕ) (a : Asked) → i < length l → Fold s (take (suc i) l) ≡ next (Fold s (take i l)) (get_or l i a)
 fold_suc s [] i a h = absurd (omega arith)
@@ -32,22 +32,22 @@ replies_more s l i a h = subst (λ n. take n (Replies s l) ≡ take i (Replies s
 
 -- ---- What is left is honest
 
-pub one_honest : (now : conn.State) (s : State) → CrashLeaves now (one s) → Honest s → CrashLeaves now Honest
+pub one_honest : (now : conn.State) (s : State) → CrashLeaves now (IsJust s) → Honest s → CrashLeaves now Honest
 one_honest now s leaves honest = record {
   crash = λ clean trees may. let it = leaves.crash clean trees may in (it.0, subst Honest (sym it.1) honest, it.2);
 }
 
-either_one : (s t r : State) → either s t r → Honest s → Honest t → Honest r
+either_one : (s t r : State) → IsEither s t r → Honest s → Honest t → Honest r
 either_one s t r (inl is) first second = subst Honest (sym is) first
 either_one s t r (inr is) first second = subst Honest (sym is) second
 
-pub either_honest : (now : conn.State) (s t : State) → CrashLeaves now (either_kept s t) → Honest s → Honest t → CrashLeaves now Honest
+pub either_honest : (now : conn.State) (s t : State) → CrashLeaves now (IsEitherKept s t) → Honest s → Honest t → CrashLeaves now Honest
 either_honest now s t leaves first second = record {
   crash = λ clean trees may. let it = leaves.crash clean trees may in (it.0, either_one s t it.0 it.1.0 first second, it.2);
 }
 
 -- whatever became of one command
-pub honest_left : {A : Type 0} (now : conn.State) (s t : State) (result : Result A StoreFault) → OnOk result (Keeps now t) → (result ≡ Err Memory → Keeps now s) → (result ≡ Err Store → CrashLeaves now (either_kept s t)) →
+pub honest_left : {A : Type 0} (now : conn.State) (s t : State) (result : Result A StoreFault) → OnOk result (Keeps now t) → (result ≡ Err Memory → Keeps now s) → (result ≡ Err Store → CrashLeaves now (IsEitherKept s t)) →
     Honest s → Honest t → CrashLeaves now Honest
 honest_left now s t (Ok a) answered memory store first second = one_honest now t answered.leaves second
 honest_left now s t (Err Memory) answered memory store first second = one_honest now s (memory refl).leaves first

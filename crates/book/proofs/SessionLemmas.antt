@@ -7,8 +7,8 @@ use Rattle.roster.specs.Folds.{Asked, Fold, Session, Stopped, next}
 use Rattle.roster.specs.State.{State}
 use Rattle.state_rows.specs.declared.fault.StoreFault.{StoreFault}
 use Rattle.state_rows.specs.declared.fault.StoreFault.TheVariants.{Store, Memory}
-use Rattle.state_rows.specs.Outcomes.{CrashLeaves, either}
-use Rattle.book.specs.Kept.{Ends, IsKept, Keeps, either_kept}
+use Rattle.state_rows.specs.Outcomes.{CrashLeaves, IsEither}
+use Rattle.book.specs.Kept.{Ends, IsKept, Keeps, IsEitherKept}
 use Rattle.book.specs.Sessions.{IsAfter, count_of, fault_of}
 
 stopped_append : (s : State) (l : List Session) (x : Session) → Stopped s (l ++ x ∷ []) ≡ Fold (Stopped s l) (take x.done x.asked)
@@ -95,7 +95,7 @@ module _ (s : State) (before : List Session) (l : List Asked) (n : ℕ) (t : Sta
       } in
       record { session = x; asked = refl; answered = refl; kept = kept; left = is ∙ ap (Fold (Stopped s before)) (sym (take_whole (take (n + 1) l))) ∙ sym (stopped_append s before x) }
 
-  done_or_not : either (Fold (Stopped s before) (take n l)) (Fold (Stopped s before) (take (n + 1) l)) t → IsAfter s before l n (Some Store) t
+  done_or_not : IsEither (Fold (Stopped s before) (take n l)) (Fold (Stopped s before) (take (n + 1) l)) t → IsAfter s before l n (Some Store) t
   done_or_not (inl is) = undone is
   done_or_not (inr is) = done is
 
@@ -120,7 +120,7 @@ module _ (now : conn.State) (s : State) (before : List Session) (l : List Asked)
 -- ---- One command
 
 module _ (now : conn.State) (s : State) (a : Asked) where
-  pub one_ends : {A : Type 0} (result : Result A StoreFault) → OnOk result (Keeps now (next s a)) → (result ≡ Err Memory → Keeps now s) → (result ≡ Err Store → CrashLeaves now (either_kept s (next s a))) →
+  pub one_ends : {A : Type 0} (result : Result A StoreFault) → OnOk result (Keeps now (next s a)) → (result ≡ Err Memory → Keeps now s) → (result ≡ Err Store → CrashLeaves now (IsEitherKept s (next s a))) →
       Ends now s (a ∷ []) (count_of result) (fault_of result)
   one_ends (Ok x) answered memory store = answered
   one_ends (Err Memory) answered memory store = memory refl
@@ -135,7 +135,7 @@ one_whole a (Ok x) is = refl
 one_whole a (Err fault) is = absurd (cc)
 
 pub adds_one : {A : Type 0} (now : conn.State) (s : State) (before : List Session) (a : Asked) (result : Result A StoreFault) →
-    OnOk result (Keeps now (next (Stopped s before) a)) → (result ≡ Err Memory → Keeps now (Stopped s before)) → (result ≡ Err Store → CrashLeaves now (either_kept (Stopped s before) (next (Stopped s before) a))) →
+    OnOk result (Keeps now (next (Stopped s before) a)) → (result ≡ Err Memory → Keeps now (Stopped s before)) → (result ≡ Err Store → CrashLeaves now (IsEitherKept (Stopped s before) (next (Stopped s before) a))) →
     CrashLeaves now (IsAfter s before (a ∷ []) (count_of result) (fault_of result))
 adds_one now s before a result answered memory store =
     adds_session now s before (a ∷ []) (count_of result) (one_counts a result) (fault_of result) (one_whole a result) (one_ends now (Stopped s before) a result answered memory store)

@@ -42,8 +42,8 @@ use Rattle.state_rows.specs.Rows.{FirstRows, Rows}
 use Rattle.store.specs.Found.{IsFound}
 use Rattle.store.specs.Loaded.{CrashMayMigrate, IsLoaded}
 use Rattle.state_rows.specs.Kept.{IsBookOf, IsFirstBookOf, HoldBookOf, HoldFirstBookOf}
-use Rattle.state_rows.specs.Outcomes.{CrashAddsNothing, HoldsNow, CrashLeaves, CrashLeavesSome, either, one}
-use Rattle.book.specs.Kept.{IsKept, Keeps, KeepsEither, StillHolds, either_kept}
+use Rattle.state_rows.specs.Outcomes.{CrashAddsNothing, HoldsNow, CrashLeaves, CrashLeavesSome, IsEither, IsJust}
+use Rattle.book.specs.Kept.{IsKept, Keeps, KeepsEither, StillHolds, IsEitherKept}
 
 some_same : {A : Type 0} {a b : A} → Some a ≡ Some b → a ≡ b
 some_same e = cc
@@ -114,12 +114,12 @@ still_leaves old new P left leaves = record { crash = λ clean trees may. leaves
 pub still_keeps : (old new : conn.State) (s : State) → CrashAddsNothing old new → CrashLeavesSome new → Keeps old s → Keeps new s
 still_keeps old new s left some keeps = record {
   kept = λ clean. keeps.kept (left.disk clean);
-  leaves = still_leaves old new (one s) left keeps.leaves;
+  leaves = still_leaves old new (IsJust s) left keeps.leaves;
   some = some;
 }
 
 -- what was loaded
-pub loaded : (now : conn.State) (s : State) {db : Database} → (HasCleanDisk now → IsFound s db) → CrashLeaves now (one s) → CrashLeavesSome now → Keeps now s
+pub loaded : (now : conn.State) (s : State) {db : Database} → (HasCleanDisk now → IsFound s db) → CrashLeaves now (IsJust s) → CrashLeavesSome now → Keeps now s
 loaded now s found leaves some = record {
   kept = λ clean. record { sound = (found clean).sound; instants = (found clean).instants };
   leaves = leaves;
@@ -174,19 +174,19 @@ refused_still old new s some raise keeps = record {
 begun_instants : (zone : List ℕ) → HasInstants (empty zone)
 begun_instants zone name r here = let none : None ≡ Some r = sym (fin.get-empty {X = LoggedCommand} name_cmp name) ∙ here in cc
 
-pub begun_empty : (now : conn.State) (zone : List ℕ) → CrashLeaves now (one (empty zone)) → CrashLeavesSome now → Keeps now (empty zone)
+pub begun_empty : (now : conn.State) (zone : List ℕ) → CrashLeaves now (IsJust (empty zone)) → CrashLeavesSome now → Keeps now (empty zone)
 begun_empty now zone leaves some = record {
   kept = λ _. record { sound = (starts_sound zone).0; instants = begun_instants zone };
   leaves = leaves;
   some = some;
 }
 
-pub one_of_either : (now : conn.State) (s t : State) → Keeps now s → CrashLeaves now (either_kept s t)
+pub one_of_either : (now : conn.State) (s t : State) → Keeps now s → CrashLeaves now (IsEitherKept s t)
 one_of_either now s t keeps = record {
   crash = λ clean trees may. let it = keeps.leaves.crash clean trees may in (it.0, (inl it.1, subst IsKept (sym it.1) (keeps.kept clean)), it.2);
 }
 
-pub both_kept : (s t r : State) → either s t r → IsKept s → IsKept t → IsKept r
+pub both_kept : (s t r : State) → IsEither s t r → IsKept s → IsKept t → IsKept r
 both_kept s t r (inl is) first second = subst IsKept (sym is) first
 both_kept s t r (inr is) first second = subst IsKept (sym is) second
 
@@ -236,8 +236,8 @@ module _ (old new : conn.State) (s r : State) (held : Keeps old r) (keeps : Keep
   pub shows_as : (of : State → State) (t : State) → HoldsNow new t → t ≡ of r → HoldsNow new (of s)
   shows_as of t shown is clean = let it = shown clean in (it.0, subst (λ (x : State). IsBookOf x new.now) (is ∙ ap of (same clean)) it.1)
 
-  pub either_as : (of : State → State) → CrashLeaves new (either_kept r (of r)) → CrashLeaves new (either_kept s (of s))
-  either_as of now = record { crash = λ clean trees may. subst (λ (x : State). (t : State) × either_kept x (of x) t × HoldBookOf trees t) (same clean) (now.crash clean trees may) }
+  pub either_as : (of : State → State) → CrashLeaves new (IsEitherKept r (of r)) → CrashLeaves new (IsEitherKept s (of s))
+  either_as of now = record { crash = λ clean trees may. subst (λ (x : State). (t : State) × IsEitherKept x (of x) t × HoldBookOf trees t) (same clean) (now.crash clean trees may) }
 
   pub still_as : StillHolds new r → StillHolds new s
   still_as shown clean opened = subst (λ (x : State). IsBookOf x new.now) (same clean) (shown clean opened)

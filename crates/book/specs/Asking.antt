@@ -8,7 +8,7 @@ use Rattle.state_rows.specs.declared.fault.StoreFault.TheVariants.{Store, Memory
 use Rattle.writing.specs.Beside.{KeepOthers}
 use Rattle.state_rows.specs.Outcomes.{CrashAddsOnly, CrashLeaves, CrashLeavesSome, HoldsNow}
 use Rattle.state_rows.specs.Outcomes.{StaysOpen}
-use Rattle.book.specs.Kept.{Keeps, StillHolds, either_kept}
+use Rattle.book.specs.Kept.{Keeps, StillHolds, IsEitherKept}
 
 -- What the result of a command leaves. After an answer it is the tables of the state that was
 -- wanted; after out of memory (91) those of the state that was. After a fault of the store (90) it
@@ -19,7 +19,7 @@ Done old new was wanted (Ok a) =
     Keeps new wanted × StillHolds new wanted × (HoldsNow old was → HoldsNow new wanted)
 Done old new was wanted (Err Memory) = Keeps new was × StillHolds new was
 Done old new was wanted (Err Store) =
-    CrashLeaves new (either_kept was wanted) × StillHolds new was
+    CrashLeaves new (IsEitherKept was wanted) × StillHolds new was
 
 -- what one command did, from the state that was to the state that was wanted, with its result
 pub record StepOutcome {A : Type 0} (old new : conn.State) (was wanted : State)

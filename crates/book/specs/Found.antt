@@ -1,6 +1,6 @@
 -- What files hold of a book: what is found in the files as they are opened, and what is left of
 -- them.
-use Rattle.std.specs.Prelude.{◌≡◌, ◌⊎◌, [], ⊥, ⊤}
+use Rattle.std.specs.Prelude.{◌≡◌, ◌⊎◌, [], ⊤}
 use Rattle.sqlite_disk.specs.declared.Disk.{Ghosts}
 use Rattle.sqlite_wal.specs.Files.{outcomes}
 use Rattle.sqlite_wal.specs.Reads.{AreClean}
@@ -17,8 +17,8 @@ use Rattle.entries.specs.declared.fault.LoadFault.{LoadFault}
 use Rattle.roster.specs.State.{State}
 use Rattle.store.specs.Found.{IsFoundIn}
 use Rattle.state_rows.specs.Kept.{HoldBookOf, HoldFirstBookOf}
-use Rattle.state_rows.specs.Outcomes.{HoldsNow, either}
-use Rattle.book.specs.Kept.{IsKept, Keeps, Kept, either_kept}
+use Rattle.state_rows.specs.Outcomes.{HoldsNow, IsEither}
+use Rattle.book.specs.Kept.{IsKept, Keeps, Kept, IsEitherKept}
 use Rattle.book.specs.declared.file.FilesLeft.{FilesLeft}
 use Rattle.book.specs.declared.file.FilesLeft.TheVariants.{Closed, Unclosed}
 
@@ -94,7 +94,7 @@ module _ {D : Type 0} {g : Ghosts D} where
   -- The files are left with a book in one of two states, as `LeavesBook` says of one state. (After
   -- a fault of the store a command is done or not.)
   abbrev pub LeavesEither : FilesLeft D g → State → State → Type 0
-  LeavesEither (Closed files) s t = (r : State) × either s t r × LeavesBook (Closed files) r
+  LeavesEither (Closed files) s t = (r : State) × IsEither s t r × LeavesBook (Closed files) r
   LeavesEither (Unclosed store) s t =
       (trees : Trees) → over_files.recovers store trees →
-      (r : State) × either_kept s t r × HoldBookOf trees r
+      (r : State) × IsEitherKept s t r × HoldBookOf trees r

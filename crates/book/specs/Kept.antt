@@ -16,7 +16,7 @@ use Rattle.state_rows.specs.declared.fault.StoreFault.TheVariants.{Store, Memory
 use Rattle.store.specs.Found.{IsFound}
 use Rattle.state_rows.specs.Kept.{IsBookOf}
 use Rattle.state_rows.specs.Outcomes.{CrashLeaves, CrashLeavesEither, CrashLeavesSome}
-use Rattle.state_rows.specs.Outcomes.{HoldsNow, one, either}
+use Rattle.state_rows.specs.Outcomes.{HoldsNow, IsJust, IsEither}
 use Rattle.book.specs.declared.answer.Answer.{Answer}
 use Rattle.book.specs.declared.answer.Answer.TheVariants.{Accepted, Refused}
 
@@ -47,8 +47,8 @@ pub record IsKept (s : State) : Type 0 where
   pub instants : HasInstants s
 
 -- one of two states, which tables may mean
-abbrev pub either_kept : State → State → State → Type 0
-either_kept s t = λ r. either s t r × IsKept r
+abbrev pub IsEitherKept : State → State → State → Type 0
+IsEitherKept s t = λ r. IsEither s t r × IsKept r
 
 -- a connection, while it is open, has the tables of a book in this state
 abbrev pub StillHolds : conn.State → State → Type 0
@@ -57,7 +57,7 @@ StillHolds now s = HasCleanDisk now → IsTrue now.is_open → IsBookOf s now.no
 -- a crash leaves this state, which tables may mean, and nothing else
 pub record Keeps (now : conn.State) (s : State) : Type 0 where
   pub kept : HasCleanDisk now → IsKept s
-  pub leaves : CrashLeaves now (one s)
+  pub leaves : CrashLeaves now (IsJust s)
   pub some : CrashLeavesSome now
 
 -- a crash leaves the book in this state, which tables may mean, in version 1 or in version 2, and
@@ -81,7 +81,7 @@ module _ {S : Type 0} (g : Ghosts S) (book : Kept S) where
 
   -- a crash of a book leaves one of these two states, which tables may mean
   abbrev pub IsInDoubt : State → State → Type 0
-  IsInDoubt s t = CrashLeaves (state g book.held) (either_kept s t)
+  IsInDoubt s t = CrashLeaves (state g book.held) (IsEitherKept s t)
 
   -- the tables of a book mean this state, as long as its connection is open
   abbrev pub StillHasTables : State → Type 0
@@ -124,4 +124,4 @@ abbrev pub Ends : conn.State → State → List Asked → ℕ → Option StoreFa
 Ends now s l n None = Keeps now (Fold s l)
 Ends now s l n (Some Memory) = Keeps now (Fold s (take n l))
 Ends now s l n (Some Store) =
-    CrashLeaves now (either_kept (Fold s (take n l)) (Fold s (take (n + 1) l)))
+    CrashLeaves now (IsEitherKept (Fold s (take n l)) (Fold s (take (n + 1) l)))

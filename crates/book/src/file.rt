@@ -52,7 +52,7 @@ pub struct NotTaken<D: Disk> {
 
 impl<D: Disk> NotTaken<D> {
     /// No files were opened.
-    fn unopened(fault: LoadFault) -> NotTaken<D>
+    fn without_files(fault: LoadFault) -> NotTaken<D>
         ensures fault { result.fault ≡ fault }
         ensures left { result.left ≡ None }
     {
@@ -81,11 +81,11 @@ impl<S: Start> Book<FileStore<FileFrom<S>>> {
             (λ left. IsCleanLeft left → IsFaultOf (image_at S.Start) it.fault)) }
     {
         if matches!(exists(rt, path), Ok(false)) {
-            return Err(NotTaken::unopened(LoadFault::NotABook));
+            return Err(NotTaken::without_files(LoadFault::NotABook));
         }
         match connect(rt, path, start) {
-            Ok(conn) => adopted(rt.alloc(), conn),
-            Err(fault) => Err(NotTaken::unopened(LoadFault::Fault(fault))),
+            Ok(conn) => adopt_over(rt.alloc(), conn),
+            Err(fault) => Err(NotTaken::without_files(LoadFault::Fault(fault))),
         }
     }
 }
@@ -140,7 +140,7 @@ pub fn create_from<S: Start>(
 ) -> Result<FilesLeft<FileFrom<S>>, CreateFault>
     ensures { IfOk result (λ left. IsCleanLeft left → LeavesBook left (empty zone)) }
 {
-    let book = created(rt.alloc(), connect(rt, path, start)?, zone)?;
+    let book = create_over(rt.alloc(), connect(rt, path, start)?, zone)?;
     Ok(book.close())
 }
 
@@ -151,7 +151,7 @@ pub fn create_file(rt: &HostRuntime, path: &str, zone: Zone) -> Result<(), Creat
 }
 
 /// Makes the book over a connection.
-fn created<S: Alter + Drop>(
+fn create_over<S: Alter + Drop>(
     alloc: Global,
     conn: Connection<S>,
     zone: Zone,
@@ -166,7 +166,7 @@ fn created<S: Alter + Drop>(
 }
 
 /// Adopts the book that a connection has. Of one that is refused the files are left as they are.
-fn adopted<D: Disk + Drop>(
+fn adopt_over<D: Disk + Drop>(
     alloc: Global,
     conn: Connection<FileStore<D>>,
 ) -> Result<Book<FileStore<D>>, NotTaken<D>>

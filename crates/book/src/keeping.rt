@@ -138,7 +138,7 @@ impl<S: Alter> Book<S> {
     }
 
     /// Returns whether the book has answered a fault of the store (90).
-    pub fn failed(&self) -> bool
+    pub fn has_failed(&self) -> bool
         ensures { result ≡ self.now.failed }
     {
         self.failed
@@ -174,7 +174,7 @@ impl<S: Alter> Book<S> {
         if self.failed {
             return Err(StoreFault::Store);
         }
-        let shown = self.store.shown(alloc, what);
+        let shown = self.store.read_shown(alloc, what);
         self.failed = is_of_store(&shown);
         shown
     }
@@ -272,7 +272,7 @@ impl<S: Alter> Book<S> {
         ensures { HasRun S.Store self.old self.new commands.now result }
     {
         if self.failed {
-            return stopped(Vec::new(alloc), StoreFault::Store);
+            return stop_with(Vec::new(alloc), StoreFault::Store);
         }
         if commands.is_empty() {
             return Run {
@@ -281,7 +281,7 @@ impl<S: Alter> Book<S> {
             };
         }
         let Ok(mut answers) = Vec::with_capacity(alloc, commands.len()) else {
-            return stopped(Vec::new(alloc), StoreFault::Memory);
+            return stop_with(Vec::new(alloc), StoreFault::Memory);
         };
         for (key, command) in commands {
             // As in `ask`.
@@ -290,7 +290,7 @@ impl<S: Alter> Book<S> {
                 Ok(answer) => {
                     let _ = answers.push(answer);
                 }
-                Err(fault) => return stopped(answers, fault),
+                Err(fault) => return stop_with(answers, fault),
             }
         }
         Run {
@@ -313,7 +313,7 @@ fn adding(alloc: Global, pairing: &Pairing) -> Result<Command, MemoryFault>
     }
 }
 
-fn stopped(answers: Vec<Answer>, fault: StoreFault) -> Run
+fn stop_with(answers: Vec<Answer>, fault: StoreFault) -> Run
     ensures answers { result.answers ≡ answers }
     ensures fault { result.fault ≡ Some fault }
 {

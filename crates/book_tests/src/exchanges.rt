@@ -79,7 +79,7 @@ enum Ending {
 }
 
 /// How an exchange ended, and what was written.
-fn exchanged<S: Alter>(
+fn exchange_over<S: Alter>(
     alloc: Global,
     book: &mut Book<S>,
     sent: &[u8],
@@ -166,7 +166,7 @@ fn interim(alloc: Global, sample: &Sample, length: usize) -> Result<Vec<u8>, Unt
 }
 
 /// How an exchange is to end, and what is to be written.
-fn wanted(alloc: Global, sample: &Sample, trial: Trial) -> Result<(Ending, Vec<u8>), Untold> {
+fn expected(alloc: Global, sample: &Sample, trial: Trial) -> Result<(Ending, Vec<u8>), Untold> {
     match trial {
         Trial::Whole => Ok((
             Ending::Answered,
@@ -198,8 +198,8 @@ fn try_one<S: Alter>(
     trial: Trial,
     text: &mut String,
 ) -> Result<(), Untold> {
-    let wanted = wanted(alloc, sample, trial)?;
-    let found = exchanged(alloc, book, &sample.sent, trial)?;
+    let wanted = expected(alloc, sample, trial)?;
+    let found = exchange_over(alloc, book, &sample.sent, trial)?;
     if found != wanted {
         let line = format!(in alloc; "{trial:?} of row {}: {:?}\n", sample.place, found.0)?;
         text.push_str(&line)?;

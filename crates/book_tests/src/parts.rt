@@ -49,7 +49,7 @@ const FILLED: [&str; 16] = [
 ];
 
 /// Fails unless a command is accepted.
-fn accepted(answer: &Result<Answer, StoreFault>) -> Result<(), Untold> {
+fn expect_accepted(answer: &Result<Answer, StoreFault>) -> Result<(), Untold> {
     match answer {
         Ok(Answer::Accepted(_)) => Ok(()),
         Ok(Answer::Refused(_)) => Err(Untold::Unmade),
@@ -62,7 +62,7 @@ fn ask<S: Alter>(alloc: Global, book: &mut Book<S>, number: u8, text: &str) -> R
     let command = read_canonical(alloc, text)?;
     let answer = book.ask(alloc, key(number), &command);
     drop(command);
-    accepted(&answer)
+    expect_accepted(&answer)
 }
 
 /// Fills a book with all that one can have.

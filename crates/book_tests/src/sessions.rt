@@ -77,7 +77,7 @@ fn run_all<S: Alter>(
 }
 
 /// Asks a book requests, where there is one, and closes it.
-fn answered<S: Alter>(
+fn answer_all<S: Alter>(
     alloc: Global,
     opened: Result<Book<S>, Left<S>>,
     list: &[(Key, Command)],
@@ -104,7 +104,7 @@ fn add_session<S: Alter + Drop>(
     in_one_run: bool,
     text: &mut String,
 ) -> Result<Connection<S>, Untold> {
-    let (told, conn) = answered(alloc, opened, list, in_one_run);
+    let (told, conn) = answer_all(alloc, opened, list, in_one_run);
     text.push_str(told?.as_str())?;
     Ok(conn)
 }

@@ -41,7 +41,7 @@ fn ends_as_always(states: &[String], is_answered: bool, ended: &str) -> Result<(
 }
 
 /// Fails unless files hold what a run that came so far may leave, and all commands, handed in again, end as always.
-fn checked(
+fn check_states(
     states: &[String],
     again: Option<Again>,
     place: usize,
@@ -78,7 +78,7 @@ fn calls_of<D: Stops>(
         let place = place(reached)?;
         let (again, files) = opened(alloc, restarted(alloc, files, left), HandedInAgain);
         drop(files);
-        checked(states, again, place, place == whole)?;
+        check_states(states, again, place, place == whole)?;
         if place == whole {
             return Ok(calls);
         }
@@ -110,7 +110,7 @@ fn stop_opening<D: Stops>(alloc: Global, stopped: Stopped) -> Result<u64, Fail> 
         }
         let (again, files) = opened(alloc, restarted(alloc, files, Left::Written), HandedInAgain);
         drop(files);
-        checked(states.as_slice(), again, place, true)?;
+        check_states(states.as_slice(), again, place, true)?;
         if taken == Some(Taken::Up) {
             return Ok(calls);
         }

@@ -24,14 +24,14 @@ struct Outcome {
 }
 
 /// Serves an input by a writer that takes this many bytes; where the reader fails, it does at the input's end.
-fn served(alloc: Global, input: &[u8], fails: bool, room: usize) -> Outcome {
+fn serve(alloc: Global, input: &[u8], fails: bool, room: usize) -> Outcome {
     let mut reader = Input::new(input, fails);
     let mut writer = Output::new(alloc, room);
     let mut asked = String::new(alloc);
     let served = exchange(alloc, &mut reader, &mut writer, &Clerk, &mut asked);
     Outcome {
         served,
-        unread: reader.unread(),
+        unread: reader.bytes_unread(),
         asked,
         written: writer.flushed,
         waiting: writer.waiting,

@@ -51,7 +51,7 @@ fn told(alloc: Global, adding: &Command, recording: &Command) -> Result<String, 
 }
 
 /// The same, of the texts that are kept of the commands.
-fn flown(alloc: Global, adding: &str, recording: &str) -> Result<String, Fault> {
+fn record_flown(alloc: Global, adding: &str, recording: &str) -> Result<String, Fault> {
     let adding = read_canonical(alloc, adding)?;
     let recording = read_canonical(alloc, recording)?;
     let text = told(alloc, &adding, &recording);
@@ -62,12 +62,15 @@ fn flown(alloc: Global, adding: &str, recording: &str) -> Result<String, Fault> 
 
 #[test]
 fn a_period_is_flown(rt: HostRuntime) -> Result<(), Fail> {
-    assert_eq!(rt; flown(rt.alloc(), P1, LATE)?.as_str(), "flown");
+    assert_eq!(rt; record_flown(rt.alloc(), P1, LATE)?.as_str(), "flown");
     Ok(())
 }
 
 #[test]
 fn another_number_of_segments_is_refused(rt: HostRuntime) -> Result<(), Fail> {
-    assert_eq!(rt; flown(rt.alloc(), P2, LATE)?.as_str(), "19 SegmentCount 1");
+    assert_eq!(rt;
+        record_flown(rt.alloc(), P2, LATE)?.as_str(),
+        "19 SegmentCount 1"
+    );
     Ok(())
 }

@@ -81,7 +81,7 @@ fn outside(
 }
 
 /// The id of an outside period, its report and its release.
-fn named(alloc: Global, period: &Outside) -> Result<String, Fault> {
+fn name_of(alloc: Global, period: &Outside) -> Result<String, Fault> {
     let (id, report, release) = (period.id().as_str(), period.report(), period.release());
     Ok(format!(in alloc; "{id} {} {}", report.number(), release.number())?)
 }
@@ -92,7 +92,7 @@ fn told(alloc: Global, id: &str, flown: Flown) -> Result<String, Fault> {
         Ok(period) => {
             let copy = period.try_clone(alloc)?;
             if copy == period {
-                named(alloc, &copy)
+                name_of(alloc, &copy)
             } else {
                 Err(Fault::Otherwise)
             }
@@ -110,7 +110,7 @@ fn flown_outside(alloc: Global, flown: Flown) -> Result<DutyInForce, Fault> {
 }
 
 /// A period of this airline, which reports at midnight of its zone.
-fn planned(alloc: Global, (report, flights, release): Flown) -> Result<DutyInForce, Fault> {
+fn plan_of(alloc: Global, (report, flights, release): Flown) -> Result<DutyInForce, Fault> {
     let mut segments = Vec::new(alloc);
     for (out, into) in flights {
         segments.push(Span {
@@ -122,7 +122,7 @@ fn planned(alloc: Global, (report, flights, release): Flown) -> Result<DutyInFor
 }
 
 /// The sections that a new duty breaks in the history of others, in their order.
-fn judged(alloc: Global, mut others: History, duty: DutyInForce) -> Result<String, Fault> {
+fn judge_among(alloc: Global, mut others: History, duty: DutyInForce) -> Result<String, Fault> {
     let mut new = History::empty(alloc);
     new.add(duty)?;
     others.append(alloc, &new)?;
@@ -136,19 +136,19 @@ fn judged(alloc: Global, mut others: History, duty: DutyInForce) -> Result<Strin
 /// What a period of this airline breaks after the outside period of 10 June.
 fn after_outside(alloc: Global, flown: Flown) -> Result<String, Fault> {
     let before = flown_outside(alloc, TENTH_OF_JUNE)?;
-    let new = planned(alloc, flown)?;
+    let new = plan_of(alloc, flown)?;
     let mut others = History::empty(alloc);
     others.add(before)?;
-    judged(alloc, others, new)
+    judge_among(alloc, others, new)
 }
 
 /// What a minute outside breaks beside sixty hours of this airline.
 fn beside_sixty_hours(alloc: Global) -> Result<String, Fault> {
     let mut others = History::empty(alloc);
     for flown in SIXTY_HOURS {
-        others.add(planned(alloc, flown)?)?;
+        others.add(plan_of(alloc, flown)?)?;
     }
-    judged(alloc, others, flown_outside(alloc, ONE_MINUTE)?)
+    judge_among(alloc, others, flown_outside(alloc, ONE_MINUTE)?)
 }
 
 #[test]
@@ -186,11 +186,14 @@ fn an_outside_minute_is_one_of_sixty_hours(rt: HostRuntime) -> Result<(), Fail> 
 #[test]
 fn an_outside_period_enters_no_table(rt: HostRuntime) -> Result<(), Fail> {
     let alloc = rt.alloc();
-    let (here, there) = (planned(alloc, LONG)?, flown_outside(alloc, LONG)?);
+    let (here, there) = (plan_of(alloc, LONG)?, flown_outside(alloc, LONG)?);
     assert_eq!(rt;
-        judged(alloc, History::empty(alloc), here)?.as_str(),
+        judge_among(alloc, History::empty(alloc), here)?.as_str(),
         " 117.11(a)(1) 117.13(a)"
     );
-    assert_eq!(rt; judged(alloc, History::empty(alloc), there)?.as_str(), "");
+    assert_eq!(rt;
+        judge_among(alloc, History::empty(alloc), there)?.as_str(),
+        ""
+    );
     Ok(())
 }

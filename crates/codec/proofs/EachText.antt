@@ -20,8 +20,8 @@ use Rattle.codec.specs.Bounds.{most_bytes}
 use Rattle.codec.specs.Laws.{IsScheduleOrAtFault}
 use Rattle.codec.specs.Places.{goes_on, is_same_or_next, may_begin, may_stand, standing}
 use Rattle.codec.specs.Records.{is_header, read_record}
-use Rattle.codec.specs.Schedule.{AreOf, HasRecords, IsAsPlanned, IsAtFault, IsHeaderWithSegments, IsSchedule, IsText, IsUnmade, IsUnreadRecord, differ, is_faultless_plan, period_segments, periods_segments, schedule_segments, shows}
-use Rattle.codec.specs.declared.scheduled.Place.{Place}
+use Rattle.codec.specs.Schedule.{AreOf, HasRecords, IsAsPlanned, IsAtFault, IsHeaderWithSegments, IsSchedule, IsScheduleText, IsFaultyPlanAt, IsUnreadRecord, differ, is_faultless_plan, period_segments, periods_segments, schedule_segments, shows}
+use Rattle.codec.specs.declared.scheduled.SegmentPlace.{SegmentPlace}
 use Rattle.codec.specs.declared.scheduled.ScheduledSegment.{ScheduledSegment}
 use Rattle.codec.proofs.OneList.{has_segment, in_place, place_of}
 
@@ -114,7 +114,7 @@ all_or_first {X} {Y} reads n (x ∷ xs) = by (all_or_first reads (n + 1) xs) (re
     ]
 
 -- the records of a text are the header and segments, or one isn't read
-segments_or_unread : (text : List ℕ) → IsText text → (records : List (List (List ℕ))) → HasRecords text records →
+segments_or_unread : (text : List ℕ) → IsScheduleText text → (records : List (List (List ℕ))) → HasRecords text records →
     ((segments : List ScheduledSegment) × IsHeaderWithSegments text segments) ⊎ ((n : ℕ) × IsUnreadRecord text n)
 segments_or_unread text is [] are = inr (1, inr (inr (is, [], are, refl)))
 segments_or_unread text is (names ∷ records) are = elim (cases_Bool (is_header names)) [
@@ -125,7 +125,7 @@ segments_or_unread text is (names ∷ records) are = elim (cases_Bool (is_header
   ]
 ]
 
-text_or_unread : (text : List ℕ) → IsText text ⊎ ((n : ℕ) × IsUnreadRecord text n)
+text_or_unread : (text : List ℕ) → IsScheduleText text ⊎ ((n : ℕ) × IsUnreadRecord text n)
 text_or_unread text = elim (cases_lt most_bytes (length text)) [
   | inl long ↦ inr (0, inl (long, refl))
   | inr short ↦ elim (cases_Bool (bytes_eq (strip_bom (strip_bom text)) (strip_bom text))) [
@@ -149,7 +149,7 @@ record AreGroups (begun : ℕ) (plans : List Plan) : Type 0 where
   few : begun + length plans ≤ 10_000
 
 -- what stands behind a place, grouped: segments of its period, later periods of its pairing, and then other pairings
-record IsGrouped (begun : ℕ) (before : Place) (segments : List ScheduledSegment) : Type 0 where
+record IsGrouped (begun : ℕ) (before : SegmentPlace) (segments : List ScheduledSegment) : Type 0 where
   here : List Segment
   later : List Fdp
   plans : List Plan
@@ -159,15 +159,15 @@ record IsGrouped (begun : ℕ) (before : Place) (segments : List ScheduledSegmen
   groups : AreGroups begun plans
   elsewhere : BeginsElsewhere before.pairing plans
 
-abbrev Stand : ℕ → Option Place → List ScheduledSegment → Type 0
+abbrev Stand : ℕ → Option SegmentPlace → List ScheduledSegment → Type 0
 Stand begun before segments = list_all may_stand (standing begun before segments) ≡ true
 
 -- a period that begins with this segment
-abbrev period_from : Place → Segment → List Segment → Fdp
+abbrev period_from : SegmentPlace → Segment → List Segment → Fdp
 period_from place segment more = record { planned_report = place.report; report = place.report; release = place.release; segments = segment ∷ more }
 
 -- a place is known by its four parts
-same_place : (a b : Place) → a.pairing ≡ b.pairing → a.period ≡ b.period → a.report ≡ b.report → a.release ≡ b.release → a ≡ b
+same_place : (a b : SegmentPlace) → a.pairing ≡ b.pairing → a.period ≡ b.period → a.report ≡ b.report → a.release ≡ b.release → a ≡ b
 same_place a b pairing period report release = λ i. record { pairing = pairing i; period = period i; report = report i; release = release i }
 
 not_empty : {X : Type 0} (x : X) (xs : List X) → nat_lt 0 (length (x ∷ xs)) ≡ true
@@ -179,7 +179,7 @@ groups_apart p [] away apart = refl
 groups_apart p (q ∷ qs) away apart = rw away apart
 
 -- a pairing that begins with this segment, and those that follow it
-record IsBegun (begun : ℕ) (s : ScheduledSegment) (rest : List ScheduledSegment) : Type 0 where
+record IsBegunBy (begun : ℕ) (s : ScheduledSegment) (rest : List ScheduledSegment) : Type 0 where
   first : Plan
   others : List Plan
   is : s ∷ rest ≡ schedule_segments (first ∷ others)
@@ -187,7 +187,7 @@ record IsBegun (begun : ℕ) (s : ScheduledSegment) (rest : List ScheduledSegmen
   named : first.id ≡ s.place.pairing
 
 -- of what is grouped behind its first segment
-begun_here : (begun : ℕ) (s : ScheduledSegment) (rest : List ScheduledSegment) → s.place.period ≡ 1 → begun < 10_000 → IsGrouped (begun + 1) s.place rest → IsBegun begun s rest
+begun_here : (begun : ℕ) (s : ScheduledSegment) (rest : List ScheduledSegment) → s.place.period ≡ 1 → begun < 10_000 → IsGrouped (begun + 1) s.place rest → IsBegunBy begun s rest
 begun_here begun s rest first room g =
     let f = period_from s.place s.segment g.here in
     let p : Plan = record { id = s.place.pairing; periods = f ∷ g.later } in
@@ -210,7 +210,7 @@ begun_here begun s rest first room g =
     }
 
 -- behind a place of another pairing
-begun_behind : (begun : ℕ) (before : Place) (s : ScheduledSegment) (rest : List ScheduledSegment) → goes_on (Some before) s.place ≡ false → IsBegun begun s rest → IsGrouped begun before (s ∷ rest)
+begun_behind : (begun : ℕ) (before : SegmentPlace) (s : ScheduledSegment) (rest : List ScheduledSegment) → goes_on (Some before) s.place ≡ false → IsBegunBy begun s rest → IsGrouped begun before (s ∷ rest)
 begun_behind begun before s rest away b = record {
   here = [];
   later = [];
@@ -225,7 +225,7 @@ begun_behind begun before s rest away b = record {
 none_grouped : (begun : ℕ) → begun ≤ 10_000 → AreGroups begun []
 none_grouped begun room = record { shown = refl; planned = tt; apart = refl; few = omega (arith, room) }
 
-grouped : (begun : ℕ) (before : Place) (segments : List ScheduledSegment) → begun ≤ 10_000 → Stand begun (Some before) segments → IsGrouped begun before segments
+grouped : (begun : ℕ) (before : SegmentPlace) (segments : List ScheduledSegment) → begun ≤ 10_000 → Stand begun (Some before) segments → IsGrouped begun before segments
 grouped begun before [] room stand = record {
   here = [];
   later = [];
@@ -309,7 +309,7 @@ none_or_position test n [] all = refl
 none_or_position test n (x ∷ xs) all = let parts = and_parts (test x) _ all in rw parts.0 (none_or_position test (n + 1) xs parts.1)
 
 -- the pairings before the first that is none, it, and those after it
-all_or_split : (plans : List Plan) → (list_all is_faultless_plan plans ≡ true) ⊎ ((n : ℕ) × IsUnmade plans n)
+all_or_split : (plans : List Plan) → (list_all is_faultless_plan plans ≡ true) ⊎ ((n : ℕ) × IsFaultyPlanAt plans n)
 all_or_split [] = inl refl
 all_or_split (p ∷ ps) = elim (cases_Bool (is_faultless_plan p)) [
   | inr fails ↦ inr (2, ([], ps, p, refl, refl, (λ passes. both_ways _ fails passes), refl))

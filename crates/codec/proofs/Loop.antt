@@ -9,13 +9,13 @@ use Rattle.duty.specs.Plans.{Plan}
 use Rattle.duty.specs.Pairings.{pairing_fault}
 use Rattle.duty.specs.Words.{checked, each_next}
 use Rattle.duty.specs.declared.fault.DutyFault.{DutyFault}
-use Rattle.codec.specs.Grouping.{open_place, told, told_if_open, AreAt, AreGrouped, Adds, Extends, AddsSegment, BeginsWithSegment, IsFirstUnmade, IsLonger, IsReading, IsSoFar, last_place, plans_of, told_all, told_open}
+use Rattle.codec.specs.Grouping.{open_place, told, told_if_open, AreAt, AreGrouped, Adds, Extends, AddsSegment, BeginsWithSegment, IsFirstUnmade, IsLonger, IsGroupedUpTo, IsSoFar, last_place, plans_of, told_all, told_open}
 use Rattle.codec.specs.Places.{first_misplaced, goes_on, may_begin, may_stand, standing}
-use Rattle.codec.specs.Schedule.{AreOf, IsAsPlanned, IsUnmade, differ, is_faultless_plan, periods_segments, schedule_segments, shows}
+use Rattle.codec.specs.Schedule.{AreOf, IsAsPlanned, IsFaultyPlanAt, differ, is_faultless_plan, periods_segments, schedule_segments, shows}
 use Rattle.codec.specs.declared.grouping.Draft.{Draft}
 use Rattle.codec.specs.declared.grouping.Grouping.{Grouping}
 use Rattle.codec.specs.declared.grouping.OpenPairing.{OpenPairing}
-use Rattle.codec.specs.declared.scheduled.Place.{Place}
+use Rattle.codec.specs.declared.scheduled.SegmentPlace.{SegmentPlace}
 use Rattle.codec.specs.declared.scheduled.ScheduledSegment.{ScheduledSegment}
 
 -- ---- Behind pairings one more
@@ -119,17 +119,17 @@ begun_grouped it g is (first, id, only, shown_is) none away few (shown, apart, _
 
 -- ---- A step of the loop
 
-abbrev misplaced : ℕ × Option Place × Place → Bool
+abbrev misplaced : ℕ × Option SegmentPlace × SegmentPlace → Bool
 misplaced it = not (may_stand it)
 
-abbrev begun_with : ℕ → Option Place → Place → ℕ
+abbrev begun_with : ℕ → Option SegmentPlace → SegmentPlace → ℕ
 begun_with begun before here = if goes_on before here then begun else begun + 1
 
-stands_here : (begun n : ℕ) (before : Option Place) (it : ScheduledSegment) (rest : List ScheduledSegment) → may_stand (begun, before, it.place) ≡ true →
+stands_here : (begun n : ℕ) (before : Option SegmentPlace) (it : ScheduledSegment) (rest : List ScheduledSegment) → may_stand (begun, before, it.place) ≡ true →
     position_from misplaced n (standing begun before (it ∷ rest)) ≡ position_from misplaced (n + 1) (standing (begun_with begun before it.place) (Some it.place) rest)
 stands_here begun n before it rest may = rw may refl
 
-misplaced_here : (begun n : ℕ) (before : Option Place) (it : ScheduledSegment) (rest : List ScheduledSegment) → may_stand (begun, before, it.place) ≡ false →
+misplaced_here : (begun n : ℕ) (before : Option SegmentPlace) (it : ScheduledSegment) (rest : List ScheduledSegment) → may_stand (begun, before, it.place) ≡ false →
     position_from misplaced n (standing begun before (it ∷ rest)) ≡ Some n
 misplaced_here begun n before it rest fails = rw fails refl
 
@@ -159,9 +159,9 @@ step_begun done it old new (so_far, grouped, none) place away few (is, new_is, b
 next_number : (done : List ScheduledSegment) (it : ScheduledSegment) → 2 + length (done ++ it ∷ []) ≡ 2 + length done + 1
 next_number done it = rw (length_behind done it) (omega arith)
 
-pub step : (segments done rest : List ScheduledSegment) (it : ScheduledSegment) (old new : Grouping) → IsReading segments done (it ∷ rest) old →
+pub step : (segments done rest : List ScheduledSegment) (it : ScheduledSegment) (old new : Grouping) → IsGroupedUpTo segments done (it ∷ rest) old →
     may_stand (length (told_all old), last_place old, it.place) ≡ true → last_place new ≡ Some it.place → AddsSegment (2 + length done) it old new →
-    IsReading segments (done ++ it ∷ []) rest new
+    IsGroupedUpTo segments (done ++ it ∷ []) rest new
 step segments done rest it old new (joined, so_far, found) may place grows =
     let join : (done ++ it ∷ []) ++ rest ≡ segments = append_assoc done (it ∷ []) rest ∙ joined in
     let on = sym (stands_here (length (told_all old)) (2 + length done) (last_place old) it rest may) ∙ found in
@@ -178,22 +178,22 @@ step segments done rest it old new (joined, so_far, found) may place grows =
           (join, did.0, rw (next_number done it, did.1, place) on_away)
     ]
 
-pub start : (segments : List ScheduledSegment) (g : Grouping) → told_all g ≡ [] → last_place g ≡ None → IsReading segments [] segments g
+pub start : (segments : List ScheduledSegment) (g : Grouping) → told_all g ≡ [] → last_place g ≡ None → IsGroupedUpTo segments [] segments g
 start segments g none place =
     let few : 0 ≤ 10_000 = omega arith in
     (refl, (ap (λ ts. schedule_segments (plans_of ts)) none, subst AreGrouped (sym none) (refl, refl, few, tt), λ _. none), rw (none, place) refl)
 
-pub refused : (segments done rest : List ScheduledSegment) (it : ScheduledSegment) (g : Grouping) → IsReading segments done (it ∷ rest) g →
+pub refused : (segments done rest : List ScheduledSegment) (it : ScheduledSegment) (g : Grouping) → IsGroupedUpTo segments done (it ∷ rest) g →
     may_stand (length (told_all g), last_place g, it.place) ≡ false → first_misplaced segments ≡ Some (2 + length done)
 refused segments done rest it g (joined, so_far, found) fails = sym found ∙ misplaced_here (length (told_all g)) (2 + length done) (last_place g) it rest fails
 
-pub whole : (segments done : List ScheduledSegment) (g : Grouping) → IsReading segments done [] g →
+pub whole : (segments done : List ScheduledSegment) (g : Grouping) → IsGroupedUpTo segments done [] g →
     (schedule_segments (plans_of (told_all g)) ≡ segments) × AreGrouped (told_all g) × (first_misplaced segments ≡ None)
 whole segments done g (joined, (so_far, grouped, none), found) = (so_far ∙ (sym (append-nil done) ∙ joined), grouped, sym found)
 
 -- ---- The pairings made
 
-pub unmade : (tolds : List (ℕ × Plan)) (n : ℕ) → AreAt 2 tolds → IsFirstUnmade tolds n → IsUnmade (plans_of tolds) n
+pub unmade : (tolds : List (ℕ × Plan)) (n : ℕ) → AreAt 2 tolds → IsFirstUnmade tolds n → IsFaultyPlanAt (plans_of tolds) n
 unmade tolds n at (before, after, t, is, made, none, here) =
     let split : plans_of tolds ≡ plans_of before ++ t.1 ∷ plans_of after = ap plans_of is ∙ map-append (λ u. u.1) before (t ∷ after) in
     let place = at_middle 2 before t after (subst (AreAt 2) is at) in
@@ -211,7 +211,7 @@ no_pairing fault p e = refused_plan fault p (pairing_fault p) e
 pub told_alone : (ds : List Draft) → length (map told ds ++ []) ≡ length ds
 told_alone ds = ap length (append-nil (map told ds)) ∙ length-map ds told
 
-pub stands_away : (begun count : ℕ) (before : Option Place) (here : Place) → goes_on before here ≡ false → begun ≡ count → may_stand (begun, before, here) ≡ may_begin count here
+pub stands_away : (begun count : ℕ) (before : Option SegmentPlace) (here : SegmentPlace) → goes_on before here ≡ false → begun ≡ count → may_stand (begun, before, here) ≡ may_begin count here
 stands_away begun count before here away e = rw (away, e) refl
 
 pub grows_away : (number : ℕ) (it : ScheduledSegment) (old new : Grouping) (tolds : List (ℕ × Plan)) → goes_on (last_place old) it.place ≡ false → tolds ≡ told_all old →

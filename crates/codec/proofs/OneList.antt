@@ -11,7 +11,7 @@ use Rattle.duty.specs.Words.{each_next}
 use Rattle.duty.specs.declared.fdp.Fdp.{Fdp}
 use Rattle.duty.specs.declared.segment.Segment.{Segment}
 use Rattle.codec.specs.Schedule.{IsAsPlanned, differ, period_segments, periods_segments, schedule_segments, shows}
-use Rattle.codec.specs.declared.scheduled.Place.{Place}
+use Rattle.codec.specs.declared.scheduled.SegmentPlace.{SegmentPlace}
 use Rattle.codec.specs.declared.scheduled.ScheduledSegment.{ScheduledSegment}
 use Rattle.codec.proofs.Fronts.{BeginsWithout, all_made, first_same, leads, rest_same, same_front}
 
@@ -21,10 +21,10 @@ abbrev pub has_segment : Fdp → Bool
 has_segment f = nat_lt 0 (length f.segments)
 
 -- the place of a period's segments, and a segment there
-abbrev pub place_of : List ℕ → ℕ → Fdp → Place
+abbrev pub place_of : List ℕ → ℕ → Fdp → SegmentPlace
 place_of id n f = record { pairing = id; period = n; report = f.report; release = f.release }
 
-abbrev pub in_place : Place → Segment → ScheduledSegment
+abbrev pub in_place : SegmentPlace → Segment → ScheduledSegment
 in_place place s = record { place = place; segment = s }
 
 abbrev is_of_period : ℕ → ScheduledSegment → Bool
@@ -55,11 +55,11 @@ all_of_pairing id n (f ∷ fs) =
 
 -- ---- A period
 
-segments_back : (place : Place) (xs : List Segment) → map (λ (s : ScheduledSegment). s.segment) (map (in_place place) xs) ≡ xs
+segments_back : (place : SegmentPlace) (xs : List Segment) → map (λ (s : ScheduledSegment). s.segment) (map (in_place place) xs) ≡ xs
 segments_back place [] = refl
 segments_back place (x ∷ xs) = ap (λ (ys : List Segment). x ∷ ys) (segments_back place xs)
 
-same_place : (place other : Place) (xs ys : List Segment) → nat_lt 0 (length xs) ≡ true → map (in_place place) xs ≡ map (in_place other) ys → place ≡ other
+same_place : (place other : SegmentPlace) (xs ys : List Segment) → nat_lt 0 (length xs) ≡ true → map (in_place place) xs ≡ map (in_place other) ys → place ≡ other
 same_place place other [] ys some e = absurd (false≢true some)
 same_place place other (x ∷ xs) [] some e = absurd (let f = e in cc)
 same_place place other (x ∷ xs) (y ∷ ys) some e =
@@ -70,8 +70,8 @@ same_place place other (x ∷ xs) (y ∷ ys) some e =
 same_period : (id : List ℕ) (n : ℕ) (f g : Fdp) → as_planned f ≡ f → as_planned g ≡ g → has_segment f ≡ true → period_segments id n f ≡ period_segments id n g → f ≡ g
 same_period id n f g f_planned g_planned some e =
     let place = same_place (place_of id n f) (place_of id n g) f.segments g.segments some e in
-    let report : f.report ≡ g.report = ap (λ (p : Place). p.report) place in
-    let release : f.release ≡ g.release = ap (λ (p : Place). p.release) place in
+    let report : f.report ≡ g.report = ap (λ (p : SegmentPlace). p.report) place in
+    let release : f.release ≡ g.release = ap (λ (p : SegmentPlace). p.release) place in
     let segments : f.segments ≡ g.segments = sym (segments_back (place_of id n f) f.segments)
     ∙ ap (map (λ (s : ScheduledSegment). s.segment)) e ∙ segments_back (place_of id n g) g.segments in
     let planned : f.planned_report ≡ g.planned_report = ap (λ (x : Fdp). x.planned_report) (sym f_planned)

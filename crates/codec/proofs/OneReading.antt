@@ -8,7 +8,7 @@ use Rattle.duty.specs.Plans.{Plan}
 use Rattle.codec.specs.Laws.{HasNoFault, HasOneFault, IsOfOneList}
 use Rattle.codec.specs.Places.{first_misplaced}
 use Rattle.codec.specs.Records.{first_unread, first_unread_after, read_record}
-use Rattle.codec.specs.Schedule.{AreOf, IsHeaderWithSegments, IsUnmade, IsUnreadRecord, is_faultless_plan, schedule_segments}
+use Rattle.codec.specs.Schedule.{AreOf, IsHeaderWithSegments, IsFaultyPlanAt, IsUnreadRecord, is_faultless_plan, schedule_segments}
 use Rattle.codec.specs.declared.scheduled.ScheduledSegment.{ScheduledSegment}
 use Rattle.codec.proofs.Fronts.{all_read, no_position, same_front}
 use Rattle.codec.proofs.OneList.{one_list}
@@ -33,7 +33,7 @@ not_unread text segments n holds (inr (inr unread)) =
     subst (λ (known : Bool). (if known then first_unread_after holds.1 else Some 1) ≡ None) (sym holds.4) read in
     none-some n (sym none ∙ ap first_unread same ∙ unread.3)
 
-not_unmade : (plans : List Plan) (n : ℕ) → list_all is_faultless_plan plans ≡ true → IsUnmade plans n → ⊥
+not_unmade : (plans : List Plan) (n : ℕ) → list_all is_faultless_plan plans ≡ true → IsFaultyPlanAt plans n → ⊥
 not_unmade plans n made unmade =
     let all : list_all is_faultless_plan (unmade.0 ++ unmade.2 ∷ unmade.1) ≡ true = ap (list_all is_faultless_plan) (sym unmade.3) ∙ made in
     let parts = and_parts (list_all is_faultless_plan unmade.0) _ (sym (list_all-append is_faultless_plan unmade.0 (unmade.2 ∷ unmade.1)) ∙ all) in
@@ -65,7 +65,7 @@ one_unread text n m (inr (inr a)) (inr (inr b)) =
     same_Some n m (sym a.3 ∙ ap first_unread (one_records text a.1 b.1 a.2 b.2) ∙ b.3)
 
 -- the pairings before the first that is none are the same
-one_unmade : (plans : List Plan) (n m : ℕ) → IsUnmade plans n → IsUnmade plans m → n ≡ m
+one_unmade : (plans : List Plan) (n m : ℕ) → IsFaultyPlanAt plans n → IsFaultyPlanAt plans m → n ≡ m
 one_unmade plans n m a b =
     let none_here = false_from_ne_true (is_faultless_plan a.2) a.5 in
     let none_there = false_from_ne_true (is_faultless_plan b.2) b.5 in
@@ -87,6 +87,6 @@ has_one_fault text n m (inr a) (inr b) =
         | inl there ↦ absurd (none-some m (sym here.0 ∙ same ∙ there))
         | inr there ↦
             let plans_same = one_plans a.0 b.0 here.1 there.1 (one_segments text a.0 b.0 a.1 b.1) here.2 there.2 in
-            one_unmade there.1 n m (subst (λ (ps : List Plan). IsUnmade ps n) plans_same here.3) there.3
+            one_unmade there.1 n m (subst (λ (ps : List Plan). IsFaultyPlanAt ps n) plans_same here.3) there.3
       ]
     ]

@@ -12,29 +12,29 @@ use Rattle.duty.specs.declared.fdp.Fdp.{Fdp}
 use Rattle.duty.specs.declared.segment.Segment.{Segment}
 use Rattle.codec.specs.Places.{is_same_or_next, first_misplaced, goes_on, may_begin, may_stand, standing}
 use Rattle.codec.specs.Schedule.{AreOf, differ, period_segments, periods_segments, schedule_segments, shows}
-use Rattle.codec.specs.declared.scheduled.Place.{Place}
+use Rattle.codec.specs.declared.scheduled.SegmentPlace.{SegmentPlace}
 use Rattle.codec.specs.declared.scheduled.ScheduledSegment.{ScheduledSegment}
 use Rattle.codec.proofs.Fronts.{no_position}
 use Rattle.codec.proofs.OneList.{has_segment, in_place, later_apart, off, place_of, same_id, same_number}
 
 -- behind so many pairings and this place, each of the segments may stand where it does
-abbrev Stand : ℕ → Option Place → List ScheduledSegment → Type 0
+abbrev Stand : ℕ → Option SegmentPlace → List ScheduledSegment → Type 0
 Stand begun before segments = list_all may_stand (standing begun before segments) ≡ true
 
 -- ---- One segment more at the front
 
-stands_on : (begun : ℕ) (before : Option Place) (s : ScheduledSegment) (rest : List ScheduledSegment) → goes_on before s.place ≡ true →
+stands_on : (begun : ℕ) (before : Option SegmentPlace) (s : ScheduledSegment) (rest : List ScheduledSegment) → goes_on before s.place ≡ true →
     is_same_or_next before s.place ≡ true → Stand begun (Some s.place) rest → Stand begun before (s ∷ rest)
 stands_on begun before s rest on continued stand = rw (on, continued) stand
 
-stands_first : (begun : ℕ) (before : Option Place) (s : ScheduledSegment) (rest : List ScheduledSegment) → goes_on before s.place ≡ false →
+stands_first : (begun : ℕ) (before : Option SegmentPlace) (s : ScheduledSegment) (rest : List ScheduledSegment) → goes_on before s.place ≡ false →
     may_begin begun s.place ≡ true → Stand (begun + 1) (Some s.place) rest → Stand begun before (s ∷ rest)
 stands_first begun before s rest away may stand = rw (away, may) stand
 
-continues_here : (here : Place) → is_same_or_next (Some here) here ≡ true
+continues_here : (here : SegmentPlace) → is_same_or_next (Some here) here ≡ true
 continues_here here = rw (same_number here.period, same_number here.report, same_number here.release) refl
 
-continues_next : (before here : Place) → here.period ≡ before.period + 1 → is_same_or_next (Some before) here ≡ true
+continues_next : (before here : SegmentPlace) → here.period ≡ before.period + 1 → is_same_or_next (Some before) here ≡ true
 continues_next before here number =
     let other : (here.period == before.period) ≡ false = false_from_ne_true (here.period == before.period)
     (λ e. let same = (Decides-eqb here.period before.period).0 e in omega (arith, same, number)) in
@@ -43,7 +43,7 @@ continues_next before here number =
 
 -- ---- The segments of a period
 
-more_here : (begun : ℕ) (here : Place) (xs : List Segment) (rest : List ScheduledSegment) → Stand begun (Some here) rest →
+more_here : (begun : ℕ) (here : SegmentPlace) (xs : List Segment) (rest : List ScheduledSegment) → Stand begun (Some here) rest →
     Stand begun (Some here) (map (in_place here) xs ++ rest)
 more_here begun here [] rest stand = stand
 more_here begun here (x ∷ xs) rest stand =
@@ -51,7 +51,7 @@ more_here begun here (x ∷ xs) rest stand =
     (more_here begun here xs rest stand)
 
 -- in a pairing that goes on
-next_period : (begun : ℕ) (before here : Place) (xs : List Segment) (rest : List ScheduledSegment) → nat_lt 0 (length xs) ≡ true →
+next_period : (begun : ℕ) (before here : SegmentPlace) (xs : List Segment) (rest : List ScheduledSegment) → nat_lt 0 (length xs) ≡ true →
     before.pairing ≡ here.pairing → here.period ≡ before.period + 1 → Stand begun (Some here) rest →
     Stand begun (Some before) (map (in_place here) xs ++ rest)
 next_period begun before here [] rest some same number stand = absurd (false≢true some)
@@ -60,7 +60,7 @@ next_period begun before here (x ∷ xs) rest some same number stand =
     (continues_next before here number) (more_here begun here xs rest stand)
 
 -- in a pairing that begins
-first_period : (begun : ℕ) (before : Option Place) (here : Place) (xs : List Segment) (rest : List ScheduledSegment) → nat_lt 0 (length xs) ≡ true →
+first_period : (begun : ℕ) (before : Option SegmentPlace) (here : SegmentPlace) (xs : List Segment) (rest : List ScheduledSegment) → nat_lt 0 (length xs) ≡ true →
     goes_on before here ≡ false → may_begin begun here ≡ true → Stand (begun + 1) (Some here) rest → Stand begun before (map (in_place here) xs ++ rest)
 first_period begun before here [] rest some away may stand = absurd (false≢true some)
 first_period begun before here (x ∷ xs) rest some away may stand =
@@ -70,9 +70,9 @@ first_period begun before here (x ∷ xs) rest some away may stand =
 
 -- behind any segment of the pairing
 abbrev StandBehind : ℕ → List ℕ → List ScheduledSegment → Type 0
-StandBehind begun id rest = (last : Place) → last.pairing ≡ id → Stand begun (Some last) rest
+StandBehind begun id rest = (last : SegmentPlace) → last.pairing ≡ id → Stand begun (Some last) rest
 
-later_periods : (begun : ℕ) (id : List ℕ) (n : ℕ) (before : Place) (fs : List Fdp) (rest : List ScheduledSegment) → before.pairing ≡ id → n ≡ before.period + 1 →
+later_periods : (begun : ℕ) (id : List ℕ) (n : ℕ) (before : SegmentPlace) (fs : List Fdp) (rest : List ScheduledSegment) → before.pairing ≡ id → n ≡ before.period + 1 →
     list_all has_segment fs ≡ true → StandBehind begun id rest → Stand begun (Some before) (periods_segments id n fs ++ rest)
 later_periods begun id n before [] rest same number all stand = stand before same
 later_periods begun id n before (f ∷ fs) rest same number all stand =
@@ -82,10 +82,10 @@ later_periods begun id n before (f ∷ fs) rest same number all stand =
     (next_period begun before here f.segments (periods_segments id (n + 1) fs ++ rest) parts.0 same number
     (later_periods begun id (n + 1) here fs rest refl refl parts.1 stand))
 
-abbrev GoesNotOn : Option Place → List ℕ → Type 0
-GoesNotOn before id = (here : Place) → here.pairing ≡ id → goes_on before here ≡ false
+abbrev GoesNotOn : Option SegmentPlace → List ℕ → Type 0
+GoesNotOn before id = (here : SegmentPlace) → here.pairing ≡ id → goes_on before here ≡ false
 
-all_periods : (begun : ℕ) (before : Option Place) (id : List ℕ) (fs : List Fdp) (rest : List ScheduledSegment) → nat_lt 0 (length fs) ≡ true →
+all_periods : (begun : ℕ) (before : Option SegmentPlace) (id : List ℕ) (fs : List Fdp) (rest : List ScheduledSegment) → nat_lt 0 (length fs) ≡ true →
     list_all has_segment fs ≡ true → begun < 10_000 → GoesNotOn before id → StandBehind (begun + 1) id rest → Stand begun before (periods_segments id 1 fs ++ rest)
 all_periods begun before id [] rest some all few away stand = absurd (false≢true some)
 all_periods begun before id (f ∷ fs) rest some all few away stand =
@@ -97,11 +97,11 @@ all_periods begun before id (f ∷ fs) rest some all few away stand =
 
 -- ---- Pairings
 
-abbrev IsAway : Option Place → List Plan → Type 0
+abbrev IsAway : Option SegmentPlace → List Plan → Type 0
 IsAway before [] = ⊤
 IsAway before (p ∷ ps) = GoesNotOn before p.id
 
-away_next : (p : Plan) (ps : List Plan) (last : Place) → last.pairing ≡ p.id → each_next differ (p ∷ ps) ≡ true → IsAway (Some last) ps
+away_next : (p : Plan) (ps : List Plan) (last : SegmentPlace) → last.pairing ≡ p.id → each_next differ (p ∷ ps) ≡ true → IsAway (Some last) ps
 away_next p [] last same apart = tt
 away_next p (q ∷ qs) last same apart = λ here at.
     (λ i. bytes_eq (same i) (at i)) ∙ off (bytes_eq p.id q.id) (and_parts (differ p q) _ apart).0
@@ -110,7 +110,7 @@ away_first : (ps : List Plan) → IsAway None ps
 away_first [] = tt
 away_first (p ∷ ps) = λ here at. refl
 
-all_stand : (begun : ℕ) (before : Option Place) (ps : List Plan) → list_all shows ps ≡ true → each_next differ ps ≡ true → begun + length ps ≤ 10_000 →
+all_stand : (begun : ℕ) (before : Option SegmentPlace) (ps : List Plan) → list_all shows ps ≡ true → each_next differ ps ≡ true → begun + length ps ≤ 10_000 →
     IsAway before ps → Stand begun before (schedule_segments ps)
 all_stand begun before [] shown apart few away = refl
 all_stand begun before (p ∷ ps) shown apart few away =

@@ -10,7 +10,7 @@ use Rattle.duty.specs.declared.fdp.Fdp.{Fdp}
 use Rattle.codec.specs.Places.{goes_on, may_stand, standing, first_misplaced}
 use Rattle.codec.specs.Schedule.{schedule_segments, periods_segments, shows, differ}
 use Rattle.codec.specs.Schedule.{is_faultless_plan}
-use Rattle.codec.specs.declared.scheduled.Place.{Place}
+use Rattle.codec.specs.declared.scheduled.SegmentPlace.{SegmentPlace}
 use Rattle.codec.specs.declared.scheduled.ScheduledSegment.{ScheduledSegment}
 use Rattle.codec.specs.declared.grouping.Draft.{Draft}
 use Rattle.codec.specs.declared.grouping.OpenPeriod.{OpenPeriod}
@@ -48,7 +48,7 @@ abbrev pub plans_of : List (ℕ × Plan) → List Plan
 plans_of tolds = map (λ t. t.1) tolds
 
 -- the place of the last segment of an open pairing
-abbrev pub open_place : OpenPairing → Place
+abbrev pub open_place : OpenPairing → SegmentPlace
 open_place o = record {
   pairing = o.draft.id;
   period = length o.draft.periods.items + 1;
@@ -57,7 +57,7 @@ open_place o = record {
 }
 
 -- the place of the last segment of a grouping, if there is one
-abbrev pub last_place : Grouping → Option Place
+abbrev pub last_place : Grouping → Option SegmentPlace
 last_place g = option_map open_place g.open
 
 -- each pairing's number is that of its first record; the first pairing begins at record `n`
@@ -79,8 +79,8 @@ IsSoFar done g =
     × (last_place g ≡ None → told_all g ≡ [])
 
 -- An open pairing holds this segment alone, and begins at this record.
-abbrev pub is_begun : ℕ → ScheduledSegment → OpenPairing → Type 0
-is_begun first it o =
+abbrev pub IsBegun : ℕ → ScheduledSegment → OpenPairing → Type 0
+IsBegun first it o =
     (o.draft.first ≡ first) × (o.draft.id ≡ it.place.pairing) × (o.draft.periods.items ≡ [])
     × (o.period.report ≡ it.place.report) × (o.period.release ≡ it.place.release)
     × (o.period.segments.items ≡ it.segment ∷ [])
@@ -119,9 +119,9 @@ AddsSegment number it old new =
 
 -- Of the segments of a schedule the first ones are grouped, and the rest decide which record is the
 -- first misplaced.
-abbrev pub IsReading : List ScheduledSegment → List ScheduledSegment → List ScheduledSegment →
+abbrev pub IsGroupedUpTo : List ScheduledSegment → List ScheduledSegment → List ScheduledSegment →
     Grouping → Type 0
-IsReading segments done rest g =
+IsGroupedUpTo segments done rest g =
     (done ++ rest ≡ segments) × IsSoFar done g
     × (position_from (λ it. not (may_stand it)) (2 + length done)
     (standing (length (told_all g)) (last_place g) rest) ≡ first_misplaced segments)

@@ -8,7 +8,7 @@ use Rattle.csv.specs.Records.{field_at}
 use Rattle.time117.specs.Instant.{read_instant}
 use Rattle.duty.specs.Shape.{is_id, is_flight, is_airport}
 use Rattle.duty.specs.declared.segment.Segment.{Segment}
-use Rattle.codec.specs.declared.scheduled.Place.{Place}
+use Rattle.codec.specs.declared.scheduled.SegmentPlace.{SegmentPlace}
 use Rattle.codec.specs.declared.scheduled.ScheduledSegment.{ScheduledSegment}
 
 -- whether a field is there and is this name
@@ -59,7 +59,7 @@ read_field_at place reads fields =
     with_field (field_at fields place) (λ field. if is_utf8 field then reads field else None)
 
 -- where a segment stands: what the first four fields of a record are read as
-abbrev pub read_place : List (List ℕ) → Option Place
+abbrev pub read_place : List (List ℕ) → Option SegmentPlace
 read_place fields =
     with_field (read_field_at 0 (read_text is_id) fields) (λ pairing.
     with_field (read_field_at 1 read_period_field fields) (λ period.

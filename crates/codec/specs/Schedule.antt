@@ -63,13 +63,13 @@ abbrev pub HasRecords : List ℕ → List (List (List ℕ)) → Type 0
 HasRecords text records = AreRecords default_config StartRecord (strip_bom text) records
 
 -- A text has at most 1,048,576 bytes, and at most one byte order mark at its start.
-abbrev pub IsText : List ℕ → Type 0
-IsText text = (length text ≤ most_bytes) × (strip_bom (strip_bom text) ≡ strip_bom text)
+abbrev pub IsScheduleText : List ℕ → Type 0
+IsScheduleText text = (length text ≤ most_bytes) × (strip_bom (strip_bom text) ≡ strip_bom text)
 
 -- A text is the header and then these segments, a record each.
 abbrev pub IsHeaderWithSegments : List ℕ → List ScheduledSegment → Type 0
 IsHeaderWithSegments text segments =
-    IsText text × (records : List (List (List ℕ))) × (names : List (List ℕ))
+    IsScheduleText text × (records : List (List (List ℕ))) × (names : List (List ℕ))
     × HasRecords text (names ∷ records) × (is_header names ≡ true)
     × (map read_record records ≡ map Some segments)
 
@@ -91,12 +91,12 @@ abbrev pub IsUnreadRecord : List ℕ → ℕ → Type 0
 IsUnreadRecord text n =
     ((most_bytes < length text) × (n ≡ 0))
     ⊎ ((length text ≤ most_bytes) × (strip_bom (strip_bom text) ≢ strip_bom text) × (n ≡ 1))
-    ⊎ (IsText text × (records : List (List (List ℕ))) × HasRecords text records
+    ⊎ (IsScheduleText text × (records : List (List (List ℕ))) × HasRecords text records
     × (first_unread records ≡ Some n))
 
 -- Record `n` begins the first of these plans that has a fault as a pairing.
-abbrev pub IsUnmade : List Plan → ℕ → Type 0
-IsUnmade plans n =
+abbrev pub IsFaultyPlanAt : List Plan → ℕ → Type 0
+IsFaultyPlanAt plans n =
     (before after : List Plan) × (p : Plan) × (plans ≡ before ++ p ∷ after)
     × (list_all is_faultless_plan before ≡ true) × (is_faultless_plan p ≢ true)
     × (n ≡ 2 + length (schedule_segments before))
@@ -109,4 +109,4 @@ IsAtFault text n =
     ⊎ ((segments : List ScheduledSegment) × IsHeaderWithSegments text segments
     × ((first_misplaced segments ≡ Some n)
     ⊎ ((first_misplaced segments ≡ None) × (plans : List Plan) × AreOf plans segments
-    × IsUnmade plans n)))
+    × IsFaultyPlanAt plans n)))

@@ -6,7 +6,7 @@ ghost use Rattle.csv.specs.Records.{fields_of, field_at};
 ghost use Rattle.codec.specs.Records as spec;
 ghost use Rattle.stored_json.specs.declared.part.Unread.TheVariants.{Memory};
 
-use crate::scheduled::{Place, ScheduledSegment};
+use crate::scheduled::{ScheduledSegment, SegmentPlace};
 use csv::ByteRecord;
 use duty::{Id, Segment, Shaped};
 use std::alloc::Global;
@@ -59,7 +59,7 @@ pub fn read_record(alloc: Global, row: &ByteRecord) -> Result<ScheduledSegment, 
 }
 
 /// Reads where the segment of a record stands.
-fn read_place(alloc: Global, row: &ByteRecord) -> Result<Place, Unread>
+fn read_place(alloc: Global, row: &ByteRecord) -> Result<SegmentPlace, Unread>
     ensures read { IfOk result (λ place. spec.read_place (fields_of row.now) ≡ Some place) }
     ensures refused { IfErr result
         (λ unread. (unread ≡ Memory) ⊎ (spec.read_place (fields_of row.now) ≡ None)) }
@@ -67,7 +67,7 @@ fn read_place(alloc: Global, row: &ByteRecord) -> Result<Place, Unread>
     let period = period_at(row, 1)?;
     let report = time_at(row, 2)?;
     let release = time_at(row, 3)?;
-    Ok(Place {
+    Ok(SegmentPlace {
         pairing: id_at(alloc, row, 0)?,
         period,
         report,

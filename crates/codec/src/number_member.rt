@@ -4,7 +4,7 @@ use request_number::RequestNumber;
 use serde_json::Value;
 use std::alloc::Global;
 use std::marker::Model;
-use stored_json::{Part, Unread};
+use stored_json::{JsonPart, Unread};
 
 /// The number of a request that a member of its body is: another crate's trait is implemented for a type of this crate alone.
 #[derive(Clone, Copy)]
@@ -33,7 +33,7 @@ impl NumberMember {
     }
 }
 
-impl Part for NumberMember {
+impl JsonPart for NumberMember {
     ghost use Rattle.codec.specs.Requests.{read_number};
 
     ghost reads = { read_number };

@@ -6,13 +6,13 @@ ghost use Rattle.csv.specs.Reading.{AreRecords, default_config, strip_bom};
 ghost use Rattle.csv.specs.Records.{fields_of};
 ghost use Rattle.csv.specs.declared.parser.State.TheVariants.{StartRecord};
 ghost use Rattle.codec.specs.Records as spec;
-ghost use Rattle.codec.specs.Schedule.{IsAtFault, IsSchedule, IsText, IsUnreadRecord};
+ghost use Rattle.codec.specs.Schedule.{IsAtFault, IsSchedule, IsScheduleText, IsUnreadRecord};
 ghost use Rattle.codec.specs.declared.fault.ScheduleFault.TheVariants.{Memory, Record};
 
 use crate::MOST_BYTES;
 use crate::fault::ScheduleFault;
 use crate::fields::{is_header, read_record};
-use crate::grouping::{grouped, made};
+use crate::grouping::{group_segments, make_pairings};
 use crate::scheduled::ScheduledSegment;
 use csv::{ByteRecord, ReaderBuilder};
 use duty::Pairing;
@@ -33,8 +33,8 @@ fn without_mark(text: &[u8]) -> &[u8]
 
 /// Returns the text that has the records. One byte order mark may stand before it.
 #[tactic(auto, using(crate::proofs::Marks::strip_as_long))]
-fn unmarked(text: &[u8]) -> Result<&[u8], ScheduleFault>
-    ensures text { IfOk result (λ rest. (rest.now ≡ strip_bom text.now) × IsText text.now) }
+fn strip_mark(text: &[u8]) -> Result<&[u8], ScheduleFault>
+    ensures text { IfOk result (λ rest. (rest.now ≡ strip_bom text.now) × IsScheduleText text.now) }
     ensures refused { IfErr result
         (λ fault. (n : ℕ) × (fault ≡ Record n) × IsUnreadRecord text.now n) }
 {
@@ -113,7 +113,7 @@ pub fn schedule_of_csv(alloc: Global, text: &[u8]) -> Result<Vec<Pairing>, Sched
     ensures refused { IfErr result
         (λ fault. (fault ≡ Memory) ⊎ ((n : ℕ) × (fault ≡ Record n) × IsAtFault text.now n)) }
 {
-    let records = records(alloc, unmarked(text)?)?;
+    let records = records(alloc, strip_mark(text)?)?;
     let segments = segments_of(alloc, &records)?;
-    made(alloc, grouped(alloc, segments)?)
+    make_pairings(alloc, group_segments(alloc, segments)?)
 }

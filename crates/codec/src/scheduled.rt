@@ -4,7 +4,7 @@ use time117::Minute;
 
 /// Where a segment stands in a schedule.
 #[derive(Drop)]
-pub struct Place {
+pub struct SegmentPlace {
     pub pairing: PairingId,
     /// The number of the period in its pairing, from 1.
     pub period: usize,
@@ -15,6 +15,6 @@ pub struct Place {
 /// What a record of a schedule says.
 #[derive(Drop)]
 pub struct ScheduledSegment {
-    pub place: Place,
+    pub place: SegmentPlace,
     pub segment: Segment,
 }

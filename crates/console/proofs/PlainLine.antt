@@ -19,7 +19,7 @@ use Rattle.clap.specs.declared.error.Error.{Error}
 use Rattle.clap.specs.declared.error.kind.ErrorKind.{ErrorKind}
 use Rattle.clap.specs.declared.error.kind.ErrorKind.TheVariants.{DisplayHelp, InvalidSubcommand, OutOfMemory}
 use Rattle.console.proofs.PlainWords.{defaults_are, end_of, plain_fault_of, plain_level, plain_rows, reads_flags}
-use Rattle.console.specs.CommandLine.{States, Value, arguments_of, asked, command_line, value_of}
+use Rattle.console.specs.CommandLine.{IsActionOf, Value, arguments_of, asked, command_line, value_of}
 use Rattle.console.specs.Plain.{is_plain}
 use Rattle.console.specs.declared.actions.Action.{Action}
 
@@ -148,13 +148,13 @@ same_values (x ∷ xs) (y ∷ ys) e =
 abbrev pub found : Text → List Row → List (Option Value)
 found name rows = map (value_of rows) (arguments_of name)
 
-stated_values : (a : Action) (name : Text) (rows : List Row) (values : List Value) → States a (name, rows)
+stated_values : (a : Action) (name : Text) (rows : List Row) (values : List Value) → IsActionOf a (name, rows)
     → found name rows ≡ map (λ v. Some v) values → asked a ≡ (name, values)
 stated_values a name rows values states is =
     ap₂ (λ n vs. (n, vs)) (sym states.0) (same_values (asked a).1 values (sym states.1 ∙ is))
 
 module _ (read : Result Action Error) (words : List Text)
-    (ok : IfOk read (λ a. IsSomeAnd (subcommand_of command_line words) (States a)))
+    (ok : IfOk read (λ a. IsSomeAnd (subcommand_of command_line words) (IsActionOf a)))
     (fails : FailsBy (fault_of command_line words) read) (name : Text) (given : List Text)
     (is : words ≡ name ∷ given) (known : is_known name ≡ true) where
   is_entered : Enters top name (leaf name)
@@ -166,11 +166,11 @@ module _ (read : Result Action Error) (words : List Text)
       → MatchResult read (λ a. asked a ≡ (name, values)) (λ e. kind_of e ≡ OutOfMemory)
   line_read values passes has = go read ok fails
     where
-      go : (r : Result Action Error) → IfOk r (λ a. IsSomeAnd (subcommand_of command_line words) (States a))
+      go : (r : Result Action Error) → IfOk r (λ a. IsSomeAnd (subcommand_of command_line words) (IsActionOf a))
           → FailsBy (fault_of command_line words) r
           → MatchResult r (λ a. asked a ≡ (name, values)) (λ e. kind_of e ≡ OutOfMemory)
       go (Ok a) states none =
-          stated_values a name _ values (subst (λ (o : Option (Text × List Row)). IsSomeAnd o (States a))
+          stated_values a name _ values (subst (λ (o : Option (Text × List Row)). IsSomeAnd o (IsActionOf a))
           (ap (subcommand_of command_line) is ∙ line_stated name is_entered given) states) has
       go (Err e) states kinds =
           let none : HasKind [] e = subst (λ (k : Kinds). HasKind k e)

@@ -207,6 +207,6 @@ asked (Serve file port count) =
 
 -- The action is the subcommand that was met, with the arguments that were found for that
 -- subcommand.
-abbrev pub States : Action → Text × List Row → Type 0
-States a met = (met.0 ≡ (asked a).0)
+abbrev pub IsActionOf : Action → Text × List Row → Type 0
+IsActionOf a met = (met.0 ≡ (asked a).0)
     × (map (value_of met.1) (arguments_of met.0) ≡ map (λ v. Some v) (asked a).1)

@@ -9,7 +9,7 @@ ghost use Rattle.clap.specs.Words.{FailsBy, HasKind, all_of, fault_of, first_of,
 ghost use Rattle.clap.specs.Words.{rule_of, subcommand_of, subcommand_rows_of};
 ghost use Rattle.clap.specs.declared.error.kind.ErrorKind.TheVariants.{OutOfMemory, ValueValidation};
 ghost use Rattle.console.specs.Arguments.{HasAll, HasArguments, HasFlag, HasNumber};
-ghost use Rattle.console.specs.CommandLine.{AreArguments, IsCommandOfApp, States, arguments_of, bare, command_line, connections, last_number, last_port};
+ghost use Rattle.console.specs.CommandLine.{AreArguments, IsCommandOfApp, IsActionOf, arguments_of, bare, command_line, connections, last_number, last_port};
 ghost use Rattle.console.specs.CommandLine.{is_on, most_connections, number_found, number_up_to, optional, optional_flag};
 ghost use Rattle.console.specs.CommandLine.{request_number, rule, subcommand, wanted, wanted_number};
 ghost use Rattle.console.specs.Plain.{IsDo, IsDuty, IsExceedances, IsImport, IsInit, IsLimits, IsMembers, IsPairing, IsPairings, IsRoster, IsServe};
@@ -259,7 +259,7 @@ YYYY-MM-DDThh:mmZ such as 2025-06-10T16:30Z 2025-06-10T20:30Z";
 pub fn action(alloc: Global, words: &[&str]) -> Result<Action, Error>
     // By the definition of the command line: what is asked for, or the mistake.
     ensures ok { IfOk result
-        (λ a. IsSomeAnd (subcommand_of command_line (texts words.now)) (States a)) }
+        (λ a. IsSomeAnd (subcommand_of command_line (texts words.now)) (IsActionOf a)) }
     ensures refused { FailsBy (fault_of command_line (texts words.now)) result }
 
     // What the words of each subcommand ask for, where none of them begins as an option does.
@@ -321,7 +321,7 @@ pub fn action(alloc: Global, words: &[&str]) -> Result<Action, Error>
 /// result, and not of each way in which this function may end.
 fn read(alloc: Global, words: &[&str]) -> Result<Action, Error>
     ensures ok { IfOk result
-        (λ a. IsSomeAnd (subcommand_of command_line (texts words.now)) (States a)) }
+        (λ a. IsSomeAnd (subcommand_of command_line (texts words.now)) (IsActionOf a)) }
     ensures refused { FailsBy (fault_of command_line (texts words.now)) result }
 {
     let matches = command(alloc)?.try_get_matches_from(words)?;
@@ -568,7 +568,7 @@ fn positional<'a>(alloc: Global, id: &'a str, value_name: &'a str) -> Arg<'a>
 /// Reads the action that the subcommand of the matches asks for.
 fn action_of(alloc: Global, matches: &ArgMatches<'_>) -> Result<Action, AllocError>
     requires { HasArguments (subcommand_rows_of matches.now) }
-    ensures { IfOk result (λ a. IsSomeAnd (subcommand_rows_of matches.now) (States a)) }
+    ensures { IfOk result (λ a. IsSomeAnd (subcommand_rows_of matches.now) (IsActionOf a)) }
 {
     let (name, arguments) = matches.subcommand().unwrap();
     match name {
@@ -590,7 +590,7 @@ fn action_of(alloc: Global, matches: &ArgMatches<'_>) -> Result<Action, AllocErr
 /// Reads the arguments of `duty`.
 fn duty_of(alloc: Global, matches: &ArgMatches<'_>) -> Result<Action, AllocError>
     requires { HasAll (codes "duty") (rows_of (found_of matches.now)) }
-    ensures { IfOk result (λ a. States a (codes "duty", rows_of (found_of matches.now))) }
+    ensures { IfOk result (λ a. IsActionOf a (codes "duty", rows_of (found_of matches.now))) }
 {
     Ok(Action::Duty {
         zone: text_of(alloc, matches, "zone")?,
@@ -602,7 +602,7 @@ fn duty_of(alloc: Global, matches: &ArgMatches<'_>) -> Result<Action, AllocError
 /// Reads the arguments of `init`.
 fn init_of(alloc: Global, matches: &ArgMatches<'_>) -> Result<Action, AllocError>
     requires { HasAll (codes "init") (rows_of (found_of matches.now)) }
-    ensures { IfOk result (λ a. States a (codes "init", rows_of (found_of matches.now))) }
+    ensures { IfOk result (λ a. IsActionOf a (codes "init", rows_of (found_of matches.now))) }
 {
     let file = text_of(alloc, matches, "file")?;
     let zone = text_of(alloc, matches, "zone")?;
@@ -612,7 +612,7 @@ fn init_of(alloc: Global, matches: &ArgMatches<'_>) -> Result<Action, AllocError
 /// Reads the arguments of `do`.
 fn do_of(alloc: Global, matches: &ArgMatches<'_>) -> Result<Action, AllocError>
     requires { HasAll (codes "do") (rows_of (found_of matches.now)) }
-    ensures { IfOk result (λ a. States a (codes "do", rows_of (found_of matches.now))) }
+    ensures { IfOk result (λ a. IsActionOf a (codes "do", rows_of (found_of matches.now))) }
 {
     let file = text_of(alloc, matches, "file")?;
     let dry_run = flag_of(matches, "dry-run");
@@ -627,7 +627,7 @@ fn do_of(alloc: Global, matches: &ArgMatches<'_>) -> Result<Action, AllocError>
 /// Reads the arguments of `import`.
 fn import_of(alloc: Global, matches: &ArgMatches<'_>) -> Result<Action, AllocError>
     requires { HasAll (codes "import") (rows_of (found_of matches.now)) }
-    ensures { IfOk result (λ a. States a (codes "import", rows_of (found_of matches.now))) }
+    ensures { IfOk result (λ a. IsActionOf a (codes "import", rows_of (found_of matches.now))) }
 {
     let file = text_of(alloc, matches, "file")?;
     let number = number_of(matches, "number");
@@ -637,7 +637,7 @@ fn import_of(alloc: Global, matches: &ArgMatches<'_>) -> Result<Action, AllocErr
 /// Reads the arguments of `roster`.
 fn roster_of(alloc: Global, matches: &ArgMatches<'_>) -> Result<Action, AllocError>
     requires { HasAll (codes "roster") (rows_of (found_of matches.now)) }
-    ensures { IfOk result (λ a. States a (codes "roster", rows_of (found_of matches.now))) }
+    ensures { IfOk result (λ a. IsActionOf a (codes "roster", rows_of (found_of matches.now))) }
 {
     let file = text_of(alloc, matches, "file")?;
     let crew = text_of(alloc, matches, "crew")?;
@@ -647,7 +647,7 @@ fn roster_of(alloc: Global, matches: &ArgMatches<'_>) -> Result<Action, AllocErr
 /// Reads the arguments of `pairing`.
 fn pairing_of(alloc: Global, matches: &ArgMatches<'_>) -> Result<Action, AllocError>
     requires { HasAll (codes "pairing") (rows_of (found_of matches.now)) }
-    ensures { IfOk result (λ a. States a (codes "pairing", rows_of (found_of matches.now))) }
+    ensures { IfOk result (λ a. IsActionOf a (codes "pairing", rows_of (found_of matches.now))) }
 {
     let file = text_of(alloc, matches, "file")?;
     let pairing = text_of(alloc, matches, "pairing")?;
@@ -657,7 +657,7 @@ fn pairing_of(alloc: Global, matches: &ArgMatches<'_>) -> Result<Action, AllocEr
 /// Reads the arguments of `limits`.
 fn limits_of(alloc: Global, matches: &ArgMatches<'_>) -> Result<Action, AllocError>
     requires { HasAll (codes "limits") (rows_of (found_of matches.now)) }
-    ensures { IfOk result (λ a. States a (codes "limits", rows_of (found_of matches.now))) }
+    ensures { IfOk result (λ a. IsActionOf a (codes "limits", rows_of (found_of matches.now))) }
 {
     let file = text_of(alloc, matches, "file")?;
     let crew = text_of(alloc, matches, "crew")?;
@@ -668,7 +668,8 @@ fn limits_of(alloc: Global, matches: &ArgMatches<'_>) -> Result<Action, AllocErr
 /// Reads the arguments of `exceedances`.
 fn exceedances_of(alloc: Global, matches: &ArgMatches<'_>) -> Result<Action, AllocError>
     requires { HasAll (codes "exceedances") (rows_of (found_of matches.now)) }
-    ensures { IfOk result (λ a. States a (codes "exceedances", rows_of (found_of matches.now))) }
+    ensures { IfOk result
+        (λ a. IsActionOf a (codes "exceedances", rows_of (found_of matches.now))) }
 {
     let file = text_of(alloc, matches, "file")?;
     Ok(Action::Exceedances { file })
@@ -677,7 +678,7 @@ fn exceedances_of(alloc: Global, matches: &ArgMatches<'_>) -> Result<Action, All
 /// Reads the arguments of `members`.
 fn members_of(alloc: Global, matches: &ArgMatches<'_>) -> Result<Action, AllocError>
     requires { HasAll (codes "members") (rows_of (found_of matches.now)) }
-    ensures { IfOk result (λ a. States a (codes "members", rows_of (found_of matches.now))) }
+    ensures { IfOk result (λ a. IsActionOf a (codes "members", rows_of (found_of matches.now))) }
 {
     let file = text_of(alloc, matches, "file")?;
     Ok(Action::Members { file })
@@ -686,7 +687,7 @@ fn members_of(alloc: Global, matches: &ArgMatches<'_>) -> Result<Action, AllocEr
 /// Reads the arguments of `pairings`.
 fn pairings_of(alloc: Global, matches: &ArgMatches<'_>) -> Result<Action, AllocError>
     requires { HasAll (codes "pairings") (rows_of (found_of matches.now)) }
-    ensures { IfOk result (λ a. States a (codes "pairings", rows_of (found_of matches.now))) }
+    ensures { IfOk result (λ a. IsActionOf a (codes "pairings", rows_of (found_of matches.now))) }
 {
     let file = text_of(alloc, matches, "file")?;
     let only_open = flag_of(matches, "open");
@@ -696,7 +697,7 @@ fn pairings_of(alloc: Global, matches: &ArgMatches<'_>) -> Result<Action, AllocE
 /// Reads the arguments of `serve`.
 fn serve_of(alloc: Global, matches: &ArgMatches<'_>) -> Result<Action, AllocError>
     requires { HasAll (codes "serve") (rows_of (found_of matches.now)) }
-    ensures { IfOk result (λ a. States a (codes "serve", rows_of (found_of matches.now))) }
+    ensures { IfOk result (λ a. IsActionOf a (codes "serve", rows_of (found_of matches.now))) }
 {
     let file = text_of(alloc, matches, "file")?;
     let port = port_of(matches, "port");
@@ -779,11 +780,11 @@ fn texts_of(alloc: Global, matches: &ArgMatches<'_>, id: &str) -> Result<Vec<Str
     ensures { IfOk result
         (λ v. all_of id.now (rows_of (found_of matches.now)) ≡ Some (map string_bytes v.items)) }
 {
-    owned(alloc, matches.get_strs(id).unwrap())
+    copies_of(alloc, matches.get_strs(id).unwrap())
 }
 
 /// Copies each text.
-fn owned(alloc: Global, words: &[&str]) -> Result<Vec<String>, AllocError>
+fn copies_of(alloc: Global, words: &[&str]) -> Result<Vec<String>, AllocError>
     ensures { IfOk result (λ v. map string_bytes v.items ≡ texts words.now) }
 {
     let mut copies = Vec::new(alloc);

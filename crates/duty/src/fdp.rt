@@ -59,15 +59,15 @@ impl Fdp {
         if self.segments.as_slice().len() != actual.segments().len() {
             return Err(DutyFault::SegmentCount(actual.period()));
         }
-        Ok(self.flown(alloc, actual)?)
+        Ok(self.with_times_flown(alloc, actual)?)
     }
 
     /// Gives a copy of this period the times when it was flown, segment by segment as far as both have segments; the
     /// planned report stays.
-    pub fn flown(&self, alloc: Global, actual: &Actual) -> Result<Fdp, MemoryFault>
+    pub fn with_times_flown(&self, alloc: Global, actual: &Actual) -> Result<Fdp, MemoryFault>
         ensures { IfOk result (λ f. f ≡ flown_at self.now actual.now) }
     {
-        let flown = retimed(alloc, self.segments.as_slice(), actual.segments())?;
+        let flown = retime(alloc, self.segments.as_slice(), actual.segments())?;
         Ok(Fdp {
             planned_report: self.planned_report,
             report: actual.report(),
@@ -78,7 +78,7 @@ impl Fdp {
 }
 
 /// Copies each segment with the times when it was flown.
-fn retimed(
+fn retime(
     alloc: Global,
     segments: &[Segment],
     times: &[BlockTimes],
@@ -87,7 +87,7 @@ fn retimed(
 {
     let mut flown = Vec::new(alloc);
     for (segment, times) in segments.iter().zip(times) {
-        flown.push(segment.retimed(alloc, *times)?)?;
+        flown.push(segment.retime(alloc, *times)?)?;
     }
     Ok(flown)
 }

@@ -107,7 +107,7 @@ fn absorb_at(intervals: &mut Vec<Interval>, place: usize, span: Span) -> Span
 {
     let mut merged = span;
     while begins_by(intervals.as_slice(), place, merged.to) {
-        merged = joined(merged, intervals.remove(place).span);
+        merged = join(merged, intervals.remove(place).span);
     }
     merged
 }
@@ -124,7 +124,7 @@ fn begins_by(intervals: &[Interval], place: usize, minute: Minute) -> bool
 }
 
 /// Joins the spans, from the first begin to the last end.
-fn joined(one: Span, other: Span) -> Span
+fn join(one: Span, other: Span) -> Span
     ensures { result ≡ join one other }
 {
     Span {

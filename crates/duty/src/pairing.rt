@@ -44,7 +44,7 @@ impl Pairing {
     pub fn new(id: PairingId, periods: Vec<Fdp>) -> Result<Pairing, DutyFault>
         ensures { let p = plan id periods.items in result ≡ checked (pairing_fault p) p }
     {
-        let periods = planned(periods);
+        let periods = as_planned(periods);
         check_pairing(&id, &periods)?;
         Ok(Pairing {
             id,
@@ -71,7 +71,7 @@ impl Pairing {
 }
 
 /// Makes each report the planned one.
-fn planned(periods: Vec<Fdp>) -> Vec<Fdp>
+fn as_planned(periods: Vec<Fdp>) -> Vec<Fdp>
     ensures { result.items ≡ map as_planned periods.items }
 {
     let mut periods = periods;

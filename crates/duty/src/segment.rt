@@ -32,7 +32,7 @@ impl Segment {
     }
 
     /// Copies the segment with other times.
-    pub fn retimed(&self, alloc: Global, times: BlockTimes) -> Result<Segment, MemoryFault>
+    pub fn retime(&self, alloc: Global, times: BlockTimes) -> Result<Segment, MemoryFault>
         ensures { IfOk result (λ s. s ≡ retimed (self.now, times)) }
     {
         Ok(Segment {
@@ -47,7 +47,7 @@ impl Segment {
 
 impl TryClone for Segment {
     fn try_clone(&self, alloc: Global) -> Result<Segment, MemoryFault> {
-        self.retimed(alloc, self.times())
+        self.retime(alloc, self.times())
     }
 }
 

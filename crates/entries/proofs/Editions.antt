@@ -9,7 +9,7 @@ use Rattle.tables.specs.Rows.{IsStored}
 use Rattle.tables.specs.Schema.{IsOfBook, outside_table, IsNameFree}
 use Rattle.entries.specs.Right.{AreOutsides, AreOutsidesMade, AreRight, AreRightAbove, IsLaterOfState, IsOfEdition, IsRight, IsTableOfState, down_to}
 use Rattle.state_rows.proofs.Values.{number_is}
-use Rattle.state_rows.specs.Rows.{TableName, request, base, crew_base, outside, outside_segment, table, row_of_book}
+use Rattle.state_rows.specs.Rows.{StateTable, request, base, crew_base, outside, outside_segment, table, row_of_book}
 use Rattle.state_rows.specs.declared.edition.Edition.TheVariants.{First, Second}
 
 -- a database is of one version
@@ -23,7 +23,7 @@ one_edition db first second =
 -- ---- One table after another
 
 -- of two tables that are looked at in turn: what the second is beside the first in a file of version 2, that in one of version 1 its name is free, and that its rows are told by the tables above
-pub record IsNext (above it : TableName) (Has : State → Database → Type 0) : Type 0 where
+pub record IsNext (above it : StateTable) (Has : State → Database → Type 0) : Type 0 where
   pub split : (s : State) (db : Database) → IsRight it s db → IsRight above s db × ((IsOfEdition Second db × Has s db) ⊎ (IsOfEdition First db × IsNameFree (table it) db.schema))
   pub over : (db : Database) → AreRight above db → AreRightAbove it db
   pub stored : (db : Database) → IsStored (table it) db → AllByRecursion (λ n. IsStored (table n) db) (down_to above) → AllByRecursion (λ n. IsStored (table n) db) (down_to it)
@@ -83,7 +83,7 @@ next_outside_segment = record {
 -- ---- In a file of version 2
 
 -- what the table is, with a state whose tables are right down to it
-pub its_table : (above it : TableName) {Has : State → Database → Type 0} → IsNext above it Has → (s : State) (db : Database) → IsOfEdition Second db → IsRight it s db → Has s db
+pub its_table : (above it : StateTable) {Has : State → Database → Type 0} → IsNext above it Has → (s : State) (db : Database) → IsOfEdition Second db → IsRight it s db → Has s db
 its_table above it next s db second right = elim (next.split s db right).1 [
   | inl is ↦ is.1
   | inr is ↦ absurd (one_edition db is.0 second)

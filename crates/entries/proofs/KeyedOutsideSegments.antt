@@ -19,7 +19,7 @@ use Rattle.entries.proofs.Mapping.{nothing_mapped, next_mapped, mapped_at, mappe
 use Rattle.entries.proofs.PlanKeys.{period_names_same}
 use Rattle.entries.proofs.PlanLemmas.{all_below, blamed, last_or_before, there_within}
 use Rattle.entries.specs.OneOutside.{IsOutsideToldBy, IsUntold}
-use Rattle.entries.specs.OutsideRows.{AreSegmentsOf, HasNoGaps, HasTooMany, HasUnmade, IsKeyedSegment, IsMadeFrom, IsUnmade, OutsideSegments, Outsides, OutsidesMade, SegmentsRead, name_of_segment, outside_segment_name, row_of_keyed_segment}
+use Rattle.entries.specs.OutsideRows.{AreSegmentsOf, HasNoGaps, HasTooMany, HasUnmade, IsKeyedSegment, IsMadeFrom, SaysNoOutside, OutsideSegments, Outsides, OutsidesMade, SegmentsRead, name_of_segment, outside_segment_name, row_of_keyed_segment}
 use Rattle.entries.specs.Mapping.{HasStranger, Mapped, TellsOf}
 use Rattle.entries.specs.Faults.{Blames}
 use Rattle.entries.specs.declared.fault.LoadFault.{LoadFault}
@@ -126,9 +126,9 @@ module _ (segments : OutsideSegments) (id : List ℕ) where
       (it.0, are.each 12 it.0 it.1)
 
   pub told : (it : OutsideRecord) (its : List OutsideSegmentRecord) → AreSegmentsOf segments id its → (result : Result OutsideEntry LoadFault) →
-      MatchResult result (IsOutsideToldBy it its) (Blames table_name.OutsideSegment (IsUntold it its)) → MatchResult result (IsMadeFrom segments id it) (Blames table_name.OutsideSegment (IsUnmade segments id it))
+      MatchResult result (IsOutsideToldBy it its) (Blames table_name.OutsideSegment (IsUntold it its)) → MatchResult result (IsMadeFrom segments id it) (Blames table_name.OutsideSegment (SaysNoOutside segments id it))
   told it its are (Ok o) is = (its, are, is)
-  told it its are (Err fault) blame = blamed table_name.OutsideSegment (IsUntold it its) (IsUnmade segments id it) (λ none. inr (its, are, none)) fault blame
+  told it its are (Err fault) blame = blamed table_name.OutsideSegment (IsUntold it its) (SaysNoOutside segments id it) (λ none. inr (its, are, none)) fault blame
 
 -- ---- Outside periods in turn
 
@@ -151,7 +151,7 @@ module _ (outsides : Outsides) (segments : OutsideSegments) where
     its_record : fin.get outsides x.0 ≡ Some x.1
     its_record = stands (λ (id : List ℕ). id) (λ id. fin.contains_key m id ≡ true) outsides x left making.passed
 
-    pub unmade : IsUnmade segments x.0 x.1 → HasUnmade outsides segments
+    pub unmade : SaysNoOutside segments x.0 x.1 → HasUnmade outsides segments
     unmade none = record { id = x.0; it = x.1; here = its_record; unmade = none }
 
     pub one_made : (n : fin.FinMap name_cmp OutsideEntry) (o : OutsideEntry) → IsMadeFrom segments x.0 x.1 o → n ≡ fin.insert m x.0 o → Making n left

@@ -32,9 +32,9 @@ recorded_above pairings (Outside id) is = tt
 -- the number of a period with an actual has eight bits, since a pairing has few periods
 pub period_fits : (s : State) → ArePlanned s → (named : DutyId) → IsRecorded s.pairings named → named_number named < 256
 period_fits s planned (Period p) is =
-    let r = planned p.pairing is.rostered is.of_pairing in
-    let few = few_periods is.rostered.plan r.plan in
-    let within = slice_get_within is.rostered.actuals is.place (Some is.actual) is.flown in
+    let r = planned p.pairing is.entry is.of_pairing in
+    let few = few_periods is.entry.plan r.plan in
+    let within = slice_get_within is.entry.actuals is.place (Some is.actual) is.flown in
     omega (arith, few, within, r.places, is.number)
 period_fits s planned (Outside id) is = omega arith
 

@@ -19,7 +19,7 @@ use Rattle.entries.proofs.Ascii.{id_utf8, flight_utf8, airport_utf8, zone_utf8}
 use Rattle.state_rows.proofs.FewPeriods.{all_shaped, few_periods, few_segments}
 use Rattle.entries.proofs.PlanStates.{all_at}
 use Rattle.entries.specs.Right.{AreRight, IsPlanned, IsSegmentRight, IsRecorded, IsSeatRight, IsInstantIfAny}
-use Rattle.state_rows.specs.Rows.{At, PeriodOf, SegmentOf, crew, segment, row_of_segment, times_flown, named_id, named_number, exceedance, ground_duty, seat, table, seat_number, request, book, TableName, row_of_period}
+use Rattle.state_rows.specs.Rows.{At, PeriodOf, SegmentOf, crew, segment, row_of_segment, times_flown, named_id, named_number, exceedance, ground_duty, seat, table, seat_number, request, book, StateTable, row_of_period}
 use Rattle.limits.specs.SectionText.{section_number}
 use Rattle.limits.specs.declared.section.Section.{Section}
 use Rattle.limits.specs.declared.section.Section.TheVariants.{FlightTime, FlightDutyPeriod, FlightTime672Hours, FlightTime365Days, FlightDutyPeriods168Hours, FlightDutyPeriods672Hours, ThirtyHourRest, TenHourRest}
@@ -78,7 +78,7 @@ ground_shapes g e = elim (cases_Bool (is_id g.id)) [
 ]
 
 -- where the tables down to this one are right, each row of it is one of a record
-abbrev pub HasRecords : TableName → (Row → Type 0) → Type 0
+abbrev pub HasRecords : StateTable → (Row → Type 0) → Type 0
 HasRecords it IsRecord = (db : Database) (row : Row) → Has (rows_of (table it) db) row → AreRight it db → IsRecord row
 
 pub book_rows : HasRecords book IsBookRow
@@ -124,7 +124,7 @@ ground_rows db row h right =
 
 -- the id of what is named is a text
 id_is_text : (s : State) (db : Database) → IsSeatRight s db → (named : DutyId) → IsRecorded s.pairings named → IsUtf8 (named_id named)
-id_is_text s db down (Period p) is = id_utf8 p.pairing (down.0.0.0.2 p.pairing is.rostered is.of_pairing)
+id_is_text s db down (Period p) is = id_utf8 p.pairing (down.0.0.0.2 p.pairing is.entry is.of_pairing)
 id_is_text s db down (Outside id) is = is
 
 pub exceedance_rows : HasRecords exceedance IsExceedanceRow

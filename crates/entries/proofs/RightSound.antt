@@ -66,7 +66,7 @@ module _ (s : State) (db : Database) (whole : IsRightBook s db) where
 
   named_sound : (name : List ℕ) (named : DutyId) → fin.get s.exceedances name ≡ Some named → IsRecorded s.pairings named → IsNamed s named
   named_sound name (Period p) here is = record {
-    rostered = is.rostered;
+    entry = is.entry;
     of_pairing = is.of_pairing;
     place = is.place;
     number = is.number;

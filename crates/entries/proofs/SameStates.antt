@@ -6,7 +6,7 @@ use Rattle.limits.specs.SectionText.{section_number}
 use Rattle.command.specs.declared.member.Member.{Member}
 use Rattle.command.specs.Keys.{key_name}
 use Rattle.command.specs.declared.exceedance.Reply.{Reply}
-use Rattle.roster.specs.Sound.{Crew, IsNamed, Sound}
+use Rattle.roster.specs.Sound.{Members, IsNamed, Sound}
 use Rattle.roster.specs.State.{State, exceedance_name}
 use Rattle.roster.specs.declared.state.DutyId.{DutyId}
 use Rattle.roster.specs.declared.state.DutyId.TheVariants.{Period, Outside}
@@ -30,14 +30,14 @@ bases_told s t told id zone e =
     ap (fin.get t.bases) same_id ∙ it.0.there ∙ ap Some same
 
 -- a member who is the same but for the base
-pub record Alike (members : Crew) (who : List ℕ) (m : Member) : Type 0 where
+pub record Alike (members : Members) (who : List ℕ) (m : Member) : Type 0 where
   pub other : Member
   pub there : fin.get members who ≡ Some other
   pub seat : other.seat ≡ m.seat
   pub name : other.name ≡ m.name
 
 -- each of these members is among the others, the same but for the base
-abbrev pub HasAlike : Crew → Crew → Type 0
+abbrev pub HasAlike : Members → Members → Type 0
 HasAlike members others = (who : List ℕ) (m : Member) → fin.get members who ≡ Some m → Alike others who m
 
 pub crew_told : (s t : State) → ((row : Row) → InCrew s row → InCrew t row) → HasAlike s.crew t.crew

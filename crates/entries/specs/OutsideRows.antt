@@ -95,8 +95,8 @@ IsMadeFrom segments id it o = (its : List OutsideSegmentRecord) × AreSegmentsOf
     × IsOutsideToldBy it its o
 
 -- a record of `outside` and the records of its segments give no outside period
-abbrev pub IsUnmade : OutsideSegments → List ℕ → OutsideRecord → Type 0
-IsUnmade segments id it =
+abbrev pub SaysNoOutside : OutsideSegments → List ℕ → OutsideRecord → Type 0
+SaysNoOutside segments id it =
     HasTooMany segments id
     ⊎ ((its : List OutsideSegmentRecord) × AreSegmentsOf segments id its × IsUntold it its)
 
@@ -115,4 +115,4 @@ pub record HasUnmade (outsides : Outsides) (segments : OutsideSegments) : Type 0
   pub id : List ℕ
   pub it : OutsideRecord
   pub here : fin.get outsides id ≡ Some it
-  pub unmade : IsUnmade segments id it
+  pub unmade : SaysNoOutside segments id it

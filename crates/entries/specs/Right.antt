@@ -20,7 +20,7 @@ use Rattle.stored_json.specs.Laws.{IsCommand}
 use Rattle.stored_json.specs.ReplyText.{reply_text}
 use Rattle.roster.specs.Bases.{IsBase, home_zone}
 use Rattle.roster.specs.Pairings.{is_flown, is_fully_crewed}
-use Rattle.roster.specs.Sound.{Crew, IsHolder, IsActual}
+use Rattle.roster.specs.Sound.{Members, IsHolder, IsActual}
 use Rattle.roster.specs.State.{State, exceedance_name}
 use Rattle.roster.specs.declared.state.DutyId.{DutyId}
 use Rattle.roster.specs.declared.state.DutyId.TheVariants.{Period, Outside}
@@ -35,7 +35,7 @@ use Rattle.tables.specs.Rows.{rows_of}
 use Rattle.tables.specs.declared.outside.OutsideRecord.{OutsideRecord}
 use Rattle.tables.specs.declared.period.PeriodRecord.{PeriodRecord}
 use Rattle.state_rows.specs.First.{AreOfPairings, IsFirst}
-use Rattle.state_rows.specs.Rows.{TableName, book, crew, pairing, period, segment, seat, ground_duty, exceedance, request, base, crew_base, outside, outside_segment, table, InBookOf, InTable, InPeriod, HasJust}
+use Rattle.state_rows.specs.Rows.{StateTable, book, crew, pairing, period, segment, seat, ground_duty, exceedance, request, base, crew_base, outside, outside_segment, table, InBookOf, InTable, InPeriod, HasJust}
 use Rattle.state_rows.specs.declared.edition.Edition.{Edition}
 use Rattle.state_rows.specs.declared.edition.Edition.TheVariants.{First, Second}
 
@@ -102,7 +102,7 @@ ArePlanned s = (id : List ℕ) (r : PairingEntry) → fin.get s.pairings id ≡ 
 
 -- each holder of a pairing's seat is a member of the seat's kind, and both seats are held if the
 -- pairing is flown
-pub record IsSeated (members : Crew) (r : PairingEntry) : Type 0 where
+pub record IsSeated (members : Members) (r : PairingEntry) : Type 0 where
   pub captain : IsHolder members Captain r.captain
   pub first_officer : IsHolder members FirstOfficer r.first_officer
   pub crewed : is_flown r ≡ true → is_fully_crewed r ≡ true
@@ -114,7 +114,7 @@ AreSeated s = (id : List ℕ) (r : PairingEntry) → fin.get s.pairings id ≡ S
     IsSeated s.crew r
 
 -- a ground duty is one that `Ground::new` makes, of a member
-pub record IsGround (members : Crew) (id : List ℕ) (g : GroundPlan) : Type 0 where
+pub record IsGround (members : Members) (id : List ℕ) (g : GroundPlan) : Type 0 where
   pub named : g.id ≡ id
   pub made : ground_fault g ≡ None
   pub begin : is_instant g.begin ≡ true
@@ -134,12 +134,12 @@ IsKey key = (1 ≤ key.number) × (key.number ≤ 9_223_372_036_854_775_807) × 
 
 -- a period of this pairing and number is there, and it has an actual
 pub record IsFlown (pairings : fin.FinMap name_cmp PairingEntry) (p : PeriodId) : Type 0 where
-  pub rostered : PairingEntry
-  pub of_pairing : fin.get pairings p.pairing ≡ Some rostered
+  pub entry : PairingEntry
+  pub of_pairing : fin.get pairings p.pairing ≡ Some entry
   pub place : ℕ
   pub number : p.number ≡ place + 1
   pub actual : ActualTimes
-  pub flown : slice_get rostered.actuals place ≡ Some (Some actual)
+  pub flown : slice_get entry.actuals place ≡ Some (Some actual)
 
 -- the duty that an exceedance names is a period with an actual, or an outside period by its id;
 -- only the table `outside` says whether that outside period is there
@@ -149,7 +149,7 @@ IsRecorded pairings (Outside id) = IsUtf8 id
 
 -- an exceedance is of a member, and names a period with an actual, or an outside period
 pub record IsExceedance
-    (members : Crew) (pairings : fin.FinMap name_cmp PairingEntry) (id : ExceedanceId)
+    (members : Members) (pairings : fin.FinMap name_cmp PairingEntry) (id : ExceedanceId)
     (named : DutyId) : Type 0 where
   pub is_key : IsKey id.key
   pub member : Member
@@ -199,7 +199,7 @@ abbrev pub AreBased : State → Type 0
 AreBased s = (who : List ℕ) (m : Member) → fin.get s.crew who ≡ Some m → IsBase s.bases m.base
 
 -- a row of `outside` is that of an outside period of a member, whose id has its shape
-pub record IsOutsidePeriod (members : Crew) (row : Row) : Type 0 where
+pub record IsOutsidePeriod (members : Members) (row : Row) : Type 0 where
   pub it : OutsideRecord
   pub is : row ≡ outside_row it
   pub id_shape : is_id it.id ≡ true
@@ -234,7 +234,7 @@ AreOutsidesMade s = (id : List ℕ) (o : OutsideEntry) → fin.get s.outsides id
 -- ---- The tables in turn
 
 -- the table of this name is there as its text declares it, with just the rows of the state
-abbrev pub IsTableOfState : TableName → State → Database → Type 0
+abbrev pub IsTableOfState : StateTable → State → Database → Type 0
 IsTableOfState name s db =
     IsOfBook (table name) db.schema × HasJust (table name) db (InTable s name)
 
@@ -251,7 +251,7 @@ IsBookOfState s db =
 
 -- A table that version 2 added fits the state. In a file of version 2 the table is there, with just
 -- the rows of the state; in a file of version 1 its name is free.
-abbrev pub IsLaterOfState : TableName → State → Database → Type 0
+abbrev pub IsLaterOfState : StateTable → State → Database → Type 0
 IsLaterOfState name s db =
     (IsOfEdition Second db × IsTableOfState name s db)
     ⊎ (IsOfEdition First db × IsNameFree (table name) db.schema)
@@ -328,7 +328,7 @@ IsOutsideSegmentRight s db = IsOutsideRight s db × IsLaterOfState outside s db
     × IsLaterOfState outside_segment s db × AreOutsidesMade s
 
 -- the tables from `book` to the one of this name are right, with the rows of this state
-abbrev pub IsRight : TableName → State → Database → Type 0
+abbrev pub IsRight : StateTable → State → Database → Type 0
 IsRight book = IsBookRight
 IsRight crew = IsCrewRight
 IsRight pairing = IsPairingRight
@@ -348,11 +348,11 @@ abbrev pub IsRightBook : State → Database → Type 0
 IsRightBook = IsRight outside_segment
 
 -- the tables from `book` to the one of this name are right, with the rows of some state
-abbrev pub AreRight : TableName → Database → Type 0
+abbrev pub AreRight : StateTable → Database → Type 0
 AreRight name db = (s : State) × IsRight name s db
 
 -- the tables above the one of this name are right, with the rows of some state
-abbrev pub AreRightAbove : TableName → Database → Type 0
+abbrev pub AreRightAbove : StateTable → Database → Type 0
 AreRightAbove book db = ⊤
 AreRightAbove crew db = AreRight book db
 AreRightAbove pairing db = AreRight crew db
@@ -368,12 +368,12 @@ AreRightAbove outside db = AreRight crew_base db
 AreRightAbove outside_segment db = AreRight outside db
 
 -- these are the nine tables of version 1, the last first
-abbrev pub down_to_nine : List TableName
+abbrev pub down_to_nine : List StateTable
 down_to_nine =
     request ∷ exceedance ∷ ground_duty ∷ seat ∷ segment ∷ period ∷ pairing ∷ crew ∷ book ∷ []
 
 -- these are the tables from `book` to the one of this name, the last first
-abbrev pub down_to : TableName → List TableName
+abbrev pub down_to : StateTable → List StateTable
 down_to book = book ∷ []
 down_to crew = crew ∷ book ∷ []
 down_to pairing = pairing ∷ crew ∷ book ∷ []

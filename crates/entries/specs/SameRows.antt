@@ -8,7 +8,7 @@ use Rattle.roster.specs.Sound.{Sound}
 use Rattle.roster.specs.State.{State}
 use Rattle.roster.specs.declared.state.LoggedCommand.{LoggedCommand}
 use Rattle.state_rows.specs.First.{IsFirst}
-use Rattle.state_rows.specs.Rows.{FirstRows, Rows, TableName, InTable}
+use Rattle.state_rows.specs.Rows.{FirstRows, Rows, StateTable, InTable}
 use Rattle.state_rows.specs.declared.edition.Edition.TheVariants.{First, Second}
 use Rattle.entries.specs.Right.{IsOfEdition, IsRightBook}
 
@@ -19,7 +19,7 @@ HasInstants s = (name : List ℕ) (r : LoggedCommand) → fin.get s.requests nam
 
 -- two states have the same rows in each table
 abbrev pub SameRows : State → State → Type 0
-SameRows s t = (name : TableName) (row : Row) → InTable s name row ↔ InTable t name row
+SameRows s t = (name : StateTable) (row : Row) → InTable s name row ↔ InTable t name row
 
 -- two sound states with the same rows are equal
 abbrev pub RowsSayAll : Type 0

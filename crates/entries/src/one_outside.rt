@@ -46,7 +46,7 @@ fn times_of(row: &OutsideSegmentRecord) -> Result<BlockTimes, LoadFault>
 }
 
 /// Returns the first record of this number.
-fn numbered<'a>(
+fn segment_with_number<'a>(
     segments: &'a [OutsideSegmentRecord],
     number: u32,
 ) -> Option<&'a OutsideSegmentRecord>
@@ -67,7 +67,7 @@ fn all_times(alloc: Global, segments: &[OutsideSegmentRecord]) -> Result<Vec<Blo
 {
     let mut all = Vec::new(alloc);
     for place in 0..TOO_MANY_SEGMENTS {
-        let Some(row) = numbered(segments, place + 1) else {
+        let Some(row) = segment_with_number(segments, place + 1) else {
             return Ok(all);
         };
         let times = times_of(row)?;

@@ -6,7 +6,7 @@ ghost use Rattle.std.specs.Prelude.{◌≡◌, ◌↔◌, length, map, IfOk, IsT
 ghost use Rattle.std.specs.FinMap as fin;
 ghost use Rattle.tables.specs.Records.{outside_segment_row};
 ghost use Rattle.entries.specs.Keyed.{Follows};
-ghost use Rattle.entries.specs.OutsideRows.{AreSegmentsOf, AreSegmentsWanting, AreSegmentsWhole, HasNoGaps, HasTooMany, HasUnmade, IsKeyedSegment, IsMadeFrom, IsUnmade, OutsidesMade, SegmentsRead, outside_segment_name, row_of_keyed_segment};
+ghost use Rattle.entries.specs.OutsideRows.{AreSegmentsOf, AreSegmentsWanting, AreSegmentsWhole, HasNoGaps, HasTooMany, HasUnmade, IsKeyedSegment, IsMadeFrom, SaysNoOutside, OutsidesMade, SegmentsRead, outside_segment_name, row_of_keyed_segment};
 ghost use Rattle.entries.specs.Faults.{Blames};
 ghost use Rattle.entries.specs.Mapping.{HasStranger, TellsOf};
 ghost use Rattle.entries.specs.declared.fault.TableName.TheVariants as table_name;
@@ -144,14 +144,14 @@ fn outside_of(
 ) -> Result<OutsideEntry, LoadFault>
     requires { HasNoGaps segments.now }
     ensures { MatchResult result (IsMadeFrom segments.now id.now it.now)
-        (Blames table_name.OutsideSegment (IsUnmade segments.now id.now it.now)) }
+        (Blames table_name.OutsideSegment (SaysNoOutside segments.now id.now it.now)) }
 {
     let its = segments_of(alloc, segments, id)?;
     outside_of_records(alloc, it, &its)
 }
 
 /// Makes the outside periods that their records and those of their segments give.
-pub fn all_made(
+pub fn make_all(
     alloc: Global,
     outsides: &OrdMap<OutsideId, OutsideRecord>,
     segments: &OrdMap<OutsideSegmentKey, OutsideSegmentRecord>,

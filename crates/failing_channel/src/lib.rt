@@ -24,7 +24,7 @@ impl<'b> Input<'b> {
     }
 
     /// Returns how many bytes were not read.
-    pub fn unread(&self) -> usize {
+    pub fn bytes_unread(&self) -> usize {
         self.rest.len()
     }
 }

@@ -139,7 +139,7 @@ module _ {K : Type 0} (handles : K → K → HandlerRequest → Result StatusTex
   nothing None left out old is = tt
   nothing (Some input) left out old is = (is, refl, refl)
 
-  pub no_head : (had left out out' : ChannelBytes) (old : K) (code : ℕ) → reading.IsReadBad had → IsFinalTold [] out out' code (of_fault NoHead false) false
+  pub no_head : (had left out out' : ChannelBytes) (old : K) (code : ℕ) → reading.HasNoWholeHead had → IsFinalTold [] out out' code (of_fault NoHead false) false
       → IsExchangeServed handles had left out out' old old (Answered code)
   no_head None left out out' old code none told = tt
   no_head (Some input) left out out' old code none told = (none.0, inl (none.1, (refl, told)))

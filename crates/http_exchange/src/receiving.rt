@@ -11,7 +11,7 @@ use crate::body::{BodyRead, read_body};
 use crate::sending::{ChannelFault, send, send_fault, send_no_memory};
 use http::StatusCode;
 use http_message::{
-    Action, CONTINUE, ExpectedBody, Head, Report, RequestFault, Submission, plan_of,
+    CONTINUE, ExpectedBody, Head, HeadAction, Report, RequestFault, Submission, plan_of,
 };
 use std::alloc::Global;
 use std::io::{Read, Write};
@@ -42,12 +42,12 @@ pub(crate) fn receive<'h, R: Read, W: Write>(
         return Ok(Received::Answered(send_no_memory(writer, is_head)?));
     };
     match plan.action {
-        Action::Refuse(fault) => {
+        HeadAction::Refuse(fault) => {
             let status = send_fault(alloc, writer, fault, is_head)?;
             Ok(Received::Answered(status))
         }
-        Action::Show(report) => Ok(Received::Report(report)),
-        Action::Receive(expected) => receive_body(alloc, reader, writer, expected, is_head),
+        HeadAction::Show(report) => Ok(Received::Report(report)),
+        HeadAction::Receive(expected) => receive_body(alloc, reader, writer, expected, is_head),
     }
 }
 

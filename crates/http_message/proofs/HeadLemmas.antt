@@ -10,7 +10,7 @@ use Rattle.httparse.specs.Spans.{IsRequestAt, IsRequestWithin, RequestOverflows,
 use Rattle.httparse.proofs.GrammarLemmas.{ReadsRequest-append}
 use Rattle.std.specs.Io.KnownBytes.{Consumes, IsAtEnd}
 use Rattle.http_message.specs.Heading.{heading, shown_head}
-use Rattle.http_message.specs.Reading.{HasHead, HasNoHead, IsReadBad, IsReadWhole, IsHeadUnread, is_line_end}
+use Rattle.http_message.specs.Reading.{HasHead, HasNoHead, HasNoWholeHead, IsReadWhole, IsHeadUnread, is_line_end}
 use Rattle.http_message.specs.declared.reading.ReadFault.TheVariants.{Memory}
 use Rattle.std.proofs.lemmas.Bool.Decides.{nat_tests}
 
@@ -213,7 +213,7 @@ goes_on input None bytes h = absurd h
 goes_on input (Some more) bytes h = (more, refl, h)
 
 pub hopeless_is_bad : (had was left : Option (List ℕ)) (bytes : List ℕ) (count b : ℕ) (now : List ℕ)
-    → IsFront had was bytes count → Consumes was left (b ∷ []) → now ≡ bytes ++ b ∷ [] → RequestOverflows 64 now → IsReadBad had
+    → IsFront had was bytes count → Consumes was left (b ∷ []) → now ≡ bytes ++ b ∷ [] → RequestOverflows 64 now → HasNoWholeHead had
 hopeless_is_bad None was left bytes count b now front read is over = tt
 hopeless_is_bad (Some input) was left bytes count b now front read is over =
     let on = goes_on input left (bytes ++ b ∷ []) (Consumes-trans (Some input) was left bytes (b ∷ []) front.read read) in
@@ -222,14 +222,14 @@ hopeless_is_bad (Some input) was left bytes count b now front read is over =
       subst HasNoHead (sym on.2) (no_head_hopeless (bytes ++ b ∷ []) on.0 over),
     )
 
-pub cut_is_bad : (had left : Option (List ℕ)) (bytes : List ℕ) (count : ℕ) → IsFront had left bytes count → 1 ≤ count → IsAtEnd left → IsReadBad had
+pub cut_is_bad : (had left : Option (List ℕ)) (bytes : List ℕ) (count : ℕ) → IsFront had left bytes count → 1 ≤ count → IsAtEnd left → HasNoWholeHead had
 cut_is_bad None left bytes count front some end = tt
 cut_is_bad (Some input) None bytes count front some end = absurd front.read
 cut_is_bad (Some input) (Some left) bytes count front some end =
     let all : input ≡ bytes = front.read ∙ ap (λ t. bytes ++ t) end ∙ append-nil bytes in
     (omega (arith, ap length all, front.count_is, some), no_head_at_end input (subst HasNoRequest (sym all) front.none))
 
-pub full_is_bad : (had left : Option (List ℕ)) (bytes : List ℕ) (count : ℕ) → IsFront had left bytes count → count ≡ 16_384 → IsReadBad had
+pub full_is_bad : (had left : Option (List ℕ)) (bytes : List ℕ) (count : ℕ) → IsFront had left bytes count → count ≡ 16_384 → HasNoWholeHead had
 full_is_bad None left bytes count front full = tt
 full_is_bad (Some input) left bytes count front full =
     let on = goes_on input left bytes front.read in

@@ -10,7 +10,7 @@ use Rattle.matchit.specs.Router.{RouteOf}
 use Rattle.matchit.specs.Seek.{seek, step, own, or_else, first, param_step, has_slash, segment, cuts}
 use Rattle.http_message.specs.declared.routes.Route.{Route}
 use Rattle.http_message.specs.declared.routes.Route.TheVariants.{Requests, Checks, Import, Crew, Pairing, Exceedances, Limits, LimitsWith, Members, Pairings, OpenPairings}
-use Rattle.http_message.specs.Routes.{Place, requests, checks, import, crew, pairing, exceedances, limits, members, pairings, open_pairings, place_of_path, route_table, exactly, id_after, ids_after, at_slash, both_ids, is_path_id, first_or_other}
+use Rattle.http_message.specs.Routes.{PathResource, requests, checks, import, crew, pairing, exceedances, limits, members, pairings, open_pairings, place_of_path, route_table, exactly, id_after, ids_after, at_slash, both_ids, is_path_id, first_or_other}
 
 -- ---- a walk over rows of any keys
 
@@ -49,7 +49,7 @@ slashes [] = refl
 slashes (b ∷ p) = elim (b == 47) as (λ v. cond v true (has_slash p) ≡ (v || list_any (λ b. b == 47) p)) [ true ↦ refl | false ↦ slashes p ]
 
 module _ {K : Type 0} where
-  seek_exactly : (w p : List ℕ) (k : K) (place : Place) → IsText w → seek 0 ((w, k) ∷ []) p ≡ option_map (λ _. k) (exactly w place p)
+  seek_exactly : (w p : List ℕ) (k : K) (place : PathResource) → IsText w → seek 0 ((w, k) ∷ []) p ≡ option_map (λ _. k) (exactly w place p)
   unfolding seek
   seek_exactly [] [] k place t = refl
   seek_exactly [] (b ∷ p) k place t = literal_step (([], k) ∷ []) b p refl refl ∙ seek_none 0 p
@@ -336,7 +336,7 @@ row_of OpenPairings = (get_or route_table 8 (codes "", record { pattern = []; te
 row_of Pairings = (get_or route_table 9 (codes "", record { pattern = []; text = []; names = []; value = Requests })).1
 row_of Requests = (get_or route_table 10 (codes "", record { pattern = []; text = []; names = []; value = Requests })).1
 
-abbrev pub route_to : Place → Route
+abbrev pub route_to : PathResource → Route
 route_to requests = Requests
 route_to checks = Checks
 route_to (import number) = Import
@@ -350,7 +350,7 @@ route_to pairings = Pairings
 route_to open_pairings = OpenPairings
 
 -- the row that leads to a place
-abbrev pub row_to : Option Place → Found
+abbrev pub row_to : Option PathResource → Found
 row_to place = option_map (λ place. row_of (route_to place)) place
 
 pub is_text : (w : List ℕ) → list_all (λ b. nat_lt b 256) w ≡ true → IsText w
@@ -365,21 +365,21 @@ none_after : {A : Type 0} (o : Option A) → first_or_other o None ≡ o
 none_after None = refl
 none_after (Some a) = refl
 
-exactly_to : (w p : List ℕ) (place : Place) → IsText w → seek 0 ((w, row_of (route_to place)) ∷ []) p ≡ row_to (exactly w place p)
+exactly_to : (w p : List ℕ) (place : PathResource) → IsText w → seek 0 ((w, row_of (route_to place)) ∷ []) p ≡ row_to (exactly w place p)
 exactly_to w p place t =
     seek_exactly w p (row_of (route_to place)) place t
     ∙ elim (bytes_eq w p) as (λ v. option_map (λ _. row_of (route_to place)) (if v then Some place else None) ≡ row_to (if v then Some place else None)) [ true ↦ refl | false ↦ refl ]
 
-made_to : {A : Type 0} (make : A → Place) (route : Route) (o : Option A) → ((a : A) → route_to (make a) ≡ route) → option_map (λ _. row_of route) o ≡ row_to (option_map make o)
+made_to : {A : Type 0} (make : A → PathResource) (route : Route) (o : Option A) → ((a : A) → route_to (make a) ≡ route) → option_map (λ _. row_of route) o ≡ row_to (option_map make o)
 made_to make route None leads = refl
 made_to make route (Some a) leads = ap (λ r. Some (row_of r)) (sym (leads a))
 
-either_to : (a b : Option Place) → or_else (row_to a) (row_to b) ≡ row_to (first_or_other a b)
+either_to : (a b : Option PathResource) → or_else (row_to a) (row_to b) ≡ row_to (first_or_other a b)
 either_to None b = refl
 either_to (Some a) b = refl
 
 -- the limits of a member, alone or with a pairing, where this stands before the ids
-abbrev limits_after : List ℕ → List ℕ → Option Place
+abbrev limits_after : List ℕ → List ℕ → Option PathResource
 limits_after front p = first_or_other (option_map (λ id. limits id None) (id_after front p)) (option_map (λ ids. limits ids.0 (Some ids.1)) (ids_after front p))
 
 limits_to : (w p : List ℕ) → IsText w → IsText p → seek 0 ((w ++ 256 ∷ 47 ∷ 256 ∷ [], row_of LimitsWith) ∷ (w ++ 256 ∷ [], row_of Limits) ∷ []) p ≡ row_to (limits_after w p)
@@ -392,7 +392,7 @@ limits_to w p t u =
     cong2 e f = rw (e, f) refl
 
 -- the reports, where this stands before what they are of
-abbrev reports_after : List ℕ → List ℕ → Option Place
+abbrev reports_after : List ℕ → List ℕ → Option PathResource
 reports_after front p =
     first_or_other (option_map (λ id. limits id None) (id_after (front ++ codes "limits/") p))
     (first_or_other (option_map (λ ids. limits ids.0 (Some ids.1)) (ids_after (front ++ codes "limits/") p))
@@ -412,7 +412,7 @@ ids_past (a ∷ w) v [] = refl
 ids_past (a ∷ w) v (b ∷ p) =
     elim (a == b) as (λ x. (if x then ids_after (w ++ v) p else None) ≡ option_and_then (ids_after v) (if x then after w p else None)) [ true ↦ ids_past w v p | false ↦ refl ]
 
-exactly_past : (w v p : List ℕ) (place : Place) → exactly (w ++ v) place p ≡ option_and_then (exactly v place) (after w p)
+exactly_past : (w v p : List ℕ) (place : PathResource) → exactly (w ++ v) place p ≡ option_and_then (exactly v place) (after w p)
 exactly_past [] v p place = refl
 exactly_past (a ∷ w) v [] place = refl
 exactly_past (a ∷ w) v (b ∷ p) place =
@@ -484,7 +484,7 @@ reports_found w p t u = seek_prefixed w p report_rows t ∙ by (after w p) refl 
     by (Some rest) e = rw e (report_found rest (text_left w p rest u e))
 
 -- what begins with `/r`
-abbrev after_r : List ℕ → Option Place
+abbrev after_r : List ℕ → Option PathResource
 after_r p = first_or_other (exactly (codes "equests") requests p) (reports_after (codes "eports/") p)
 
 under_req : (c : ℕ) (p : List ℕ) → IsText p → seek 0 (step c (step 101 (step 114 (step 47 route_table)))) p ≡ row_to (after_r (101 ∷ c ∷ p))
@@ -521,12 +521,12 @@ under_r (c ∷ p) t = literal_step (step 114 (step 47 route_table)) c p refl ref
     by false e = rw e (seek_none 0 p)
 
 -- an id after these bytes leads to a place
-id_to : (w p : List ℕ) (make : List ℕ → Place) (route : Route) → IsText w → IsText p → ((id : List ℕ) → route_to (make id) ≡ route)
+id_to : (w p : List ℕ) (make : List ℕ → PathResource) (route : Route) → IsText w → IsText p → ((id : List ℕ) → route_to (make id) ≡ route)
     → seek 0 ((w ++ 256 ∷ [], row_of route) ∷ []) p ≡ row_to (option_map make (id_after w p))
 id_to w p make route t u leads = seek_param w p (row_of route) t u ∙ made_to make route (id_after w p) leads
 
 -- what begins with `/c`
-abbrev pub after_c : List ℕ → Option Place
+abbrev pub after_c : List ℕ → Option PathResource
 after_c p = first_or_other (exactly (codes "hecks") checks p) (option_map crew (id_after (codes "rew/") p))
 
 under_c : (p : List ℕ) → IsText p → seek 0 (step 99 (step 47 route_table)) p ≡ row_to (after_c p)
@@ -549,7 +549,7 @@ under_c (c ∷ p) t = literal_step (step 99 (step 47 route_table)) c p refl refl
     by104 false e = by114 (114 == c) refl e
 
 -- the rest of a path after its slash
-abbrev rest_place : List ℕ → Option Place
+abbrev rest_place : List ℕ → Option PathResource
 rest_place p =
     first_or_other (exactly (codes "requests") requests p)
     (first_or_other (exactly (codes "checks") checks p)

@@ -11,7 +11,7 @@ use Rattle.matchit.specs.Router.{RouteOf}
 use Rattle.matchit.specs.Seek.{first, segment, has_slash}
 use Rattle.http_message.specs.declared.routes.Route.{Route}
 use Rattle.http_message.specs.declared.routes.Route.TheVariants.{Requests, Checks, Import, Crew, Pairing, Exceedances, Limits, LimitsWith, Members, Pairings, OpenPairings}
-use Rattle.http_message.specs.Routes.{Place, requests, checks, import, crew, pairing, exceedances, limits, members, pairings, open_pairings, place_of_path, place_by, route_table, exactly, id_after, ids_after, at_slash, both_ids, is_path_id, first_or_other}
+use Rattle.http_message.specs.Routes.{PathResource, requests, checks, import, crew, pairing, exceedances, limits, members, pairings, open_pairings, place_of_path, place_by, route_table, exactly, id_after, ids_after, at_slash, both_ids, is_path_id, first_or_other}
 use Rattle.http_message.proofs.RouteLemmas.{Found, IsText, is_text, row_of, route_to, row_to, table_found, text_of, IsCut, cut_at_slash, segment_at_slash}
 
 -- ---- parts of a path
@@ -111,15 +111,15 @@ abbrev pub taken_from : RouteOf Route → List ℕ → List (List ℕ × List �
 taken_from row path = walk row.pattern row.text path row.names 0 0
 
 -- what was found takes text from the path, which names this place
-abbrev pub Agrees : List ℕ → Found → Option Place → Type 0
+abbrev pub Agrees : List ℕ → Found → Option PathResource → Type 0
 Agrees path None place = place ≡ None
 Agrees path (Some row) place = AllText (taken_from row path) × (place_by row.value (taken_from row path) ≡ place)
 
 -- the route to a place does so
-abbrev Named : List ℕ → Place → Type 0
+abbrev Named : List ℕ → PathResource → Type 0
 Named path place = AllText (taken_from (row_of (route_to place)) path) × (place_by (route_to place) (taken_from (row_of (route_to place)) path) ≡ Some place)
 
-named_by : (path : List ℕ) (place : Place) (taken : List (List ℕ × List ℕ)) → taken_from (row_of (route_to place)) path ≡ taken → AllText taken → place_by (route_to place) taken ≡ Some place → Named path place
+named_by : (path : List ℕ) (place : PathResource) (taken : List (List ℕ × List ℕ)) → taken_from (row_of (route_to place)) path ≡ taken → AllText taken → place_by (route_to place) taken ≡ Some place → Named path place
 named_by path place taken is text names = (subst AllText (sym is) text, subst (λ taken. place_by (route_to place) taken ≡ Some place) (sym is) names)
 
 -- ASCII is UTF-8
@@ -166,14 +166,14 @@ limits_with_named id other none text more =
     (name_is_utf8 (codes "crew") refl, text, (name_is_utf8 (codes "pairing") refl, more, tt)) refl
 
 -- what a part of the table says of a path is named by its route
-abbrev Good : List ℕ → Option Place → Type 0
-Good path o = (place : Place) → o ≡ Some place → Named path place
+abbrev Good : List ℕ → Option PathResource → Type 0
+Good path o = (place : PathResource) → o ≡ Some place → Named path place
 
-good_first : (path : List ℕ) (a b : Option Place) → Good path a → Good path b → Good path (first_or_other a b)
+good_first : (path : List ℕ) (a b : Option PathResource) → Good path a → Good path b → Good path (first_or_other a b)
 good_first path None b p q = q
 good_first path (Some x) b p q = p
 
-good_name : (path text : List ℕ) (place : Place) → Named path place → Good path (exactly text place path)
+good_name : (path text : List ℕ) (place : PathResource) → Named path place → Good path (exactly text place path)
 good_name path text place named other e = by (bytes_eq text path) e
   where
     by : (v : Bool) → (if v then Some place else None) ≡ Some other → Named path other
@@ -193,7 +193,7 @@ id_stands (a ∷ front) (b ∷ path) id e = by (a == b) refl e (id_stands front 
     by true f e ih = let is : a ≡ b = grind (arith, nat_tests) in let rest = ih e in cc
     by false f e ih = absurd cc
 
-good_id : (path front : List ℕ) (make : List ℕ → Place) → IsUtf8 path → ((id : List ℕ) → IsUtf8 id → Named (front ++ 47 ∷ id) (make id)) → Good path (option_map make (id_after (front ++ 47 ∷ []) path))
+good_id : (path front : List ℕ) (make : List ℕ → PathResource) → IsUtf8 path → ((id : List ℕ) → IsUtf8 id → Named (front ++ 47 ∷ id) (make id)) → Good path (option_map make (id_after (front ++ 47 ∷ []) path))
 good_id path front make utf8 each place e = by (id_after (front ++ 47 ∷ []) path) refl e
   where
     by : (o : Option (List ℕ)) → id_after (front ++ 47 ∷ []) path ≡ o → option_map make o ≡ Some place → Named path place
@@ -223,7 +223,7 @@ ids_stand (x ∷ front) (y ∷ path) a b e = by (x == y) refl e (ids_stand front
     by true f e ih = let is : x ≡ y = grind (arith, nat_tests) in let rest = ih e in (let more = rest.0 in cc, rest.1)
     by false f e ih = absurd cc
 
-good_ids : (path front : List ℕ) (make : List ℕ × List ℕ → Place) → IsUtf8 path
+good_ids : (path front : List ℕ) (make : List ℕ × List ℕ → PathResource) → IsUtf8 path
     → ((a b : List ℕ) → has_slash a ≡ false → IsUtf8 a → IsUtf8 b → Named (front ++ 47 ∷ (a ++ 47 ∷ b)) (make (a, b))) → Good path (option_map make (ids_after (front ++ 47 ∷ []) path))
 good_ids path front make utf8 each place e = by (ids_after (front ++ 47 ∷ []) path) refl e
   where
@@ -263,7 +263,7 @@ value_is Members = refl
 value_is Pairings = refl
 value_is OpenPairings = refl
 
-agrees : (path : List ℕ) (o : Option Place) → Good path o → Agrees path (row_to o) o
+agrees : (path : List ℕ) (o : Option PathResource) → Good path o → Agrees path (row_to o) o
 agrees path None good = refl
 agrees path (Some place) good =
     let named = good place refl in

@@ -5,7 +5,7 @@ use Rattle.std.specs.Str.{is_utf8}
 use Rattle.http_message.specs.Fields.{values, has}
 use Rattle.http_message.specs.Heading.{Heading}
 use Rattle.http_message.specs.Numbers.{body_length_of, import_number}
-use Rattle.http_message.specs.Routes.{Place, place_of_path}
+use Rattle.http_message.specs.Routes.{PathResource, place_of_path}
 use Rattle.http_message.specs.Routes as place
 use Rattle.http_message.specs.Target.{path_of}
 use Rattle.http_message.specs.declared.refusals.RequestFault.{RequestFault}
@@ -15,9 +15,9 @@ use Rattle.http_message.specs.declared.refusals.RequestFault.TheVariants.{NoReso
 use Rattle.http_message.specs.declared.refusals.RequestFault.TheVariants.{NoLength, BadLength}
 use Rattle.http_message.specs.declared.refusals.RequestFault.TheVariants.{TooLong}
 use Rattle.http_message.specs.declared.refusals.Methods.TheVariants as methods
-use Rattle.http_message.specs.declared.plan.Plan.{Plan}
-use Rattle.http_message.specs.declared.plan.Action.{Action}
-use Rattle.http_message.specs.declared.plan.Action.TheVariants as rust
+use Rattle.http_message.specs.declared.plan.HeadPlan.{HeadPlan}
+use Rattle.http_message.specs.declared.plan.HeadAction.{HeadAction}
+use Rattle.http_message.specs.declared.plan.HeadAction.TheVariants as rust
 use Rattle.http_message.specs.declared.plan.ExpectedBody.{ExpectedBody}
 use Rattle.http_message.specs.declared.plan.Submission.{Submission}
 use Rattle.http_message.specs.declared.plan.Submission.TheVariants.{Command, Check, Import}
@@ -92,7 +92,7 @@ module _ (h : Heading) where
   imported (Some number) = posted (Import number)
 
   -- the step for each resource that a path names
-  abbrev pub step_of_place : Option Place → Step
+  abbrev pub step_of_place : Option PathResource → Step
   step_of_place None = refuse NoResource
   step_of_place (Some place.requests) = posted Command
   step_of_place (Some place.checks) = posted Check
@@ -139,11 +139,11 @@ subject report.Pairings = pairings
 subject report.OpenPairings = open_pairings
 
 -- an action as contracts see it
-abbrev pub step : Action → Step
+abbrev pub step : HeadAction → Step
 step (rust.Refuse fault) = refuse fault
 step (rust.Receive expected) = receive expected
 step (rust.Show what) = show (subject what)
 
 -- a plan as contracts see it
-abbrev pub planned_of : Plan → Planned
+abbrev pub planned_of : HeadPlan → Planned
 planned_of p = record { is_head = p.is_head; step = step p.action }

@@ -31,9 +31,9 @@ IsReadWhole (Some input) left head =
     × (left ≡ Some rest)
 
 -- If the reader's input is known, it isn't empty, and begins with no whole head.
-abbrev pub IsReadBad : Option (List ℕ) → Type 0
-IsReadBad None = ⊤
-IsReadBad (Some input) = (0 < length input) × HasNoHead input
+abbrev pub HasNoWholeHead : Option (List ℕ) → Type 0
+HasNoWholeHead None = ⊤
+HasNoWholeHead (Some input) = (0 < length input) × HasNoHead input
 
 -- If the reader's input is known, it has no byte.
 abbrev pub IsReadEmpty : Option (List ℕ) → Type 0
@@ -43,7 +43,7 @@ IsReadEmpty (Some input) = input ≡ []
 -- What a reader had and has left, by the outcome of its look for a head, where the input is known.
 abbrev pub IsHeadRead : Option (List ℕ) → Option (List ℕ) → HeadRead → Type 0
 IsHeadRead had left Nothing = IsReadEmpty had
-IsHeadRead had left NoHead = IsReadBad had
+IsHeadRead had left NoHead = HasNoWholeHead had
 IsHeadRead had left (Whole head) = IsReadWhole had left head
 
 -- By the fault of a read: out of memory, one byte of a known input was read.

@@ -17,10 +17,10 @@ use Rattle.http_message.specs.declared.routes.Route.TheVariants.{OpenPairings}
 -- what a path names: commands, commands that are only checked, an import, a member's roster, a
 -- pairing, the exceedances, a member's limits, alone or with a pairing, the members, the pairings,
 -- or the pairings with a free seat
-pub data Place : Type 0 where
-  requests checks exceedances members pairings open_pairings : Place
-  import crew pairing : List ℕ → Place
-  limits : List ℕ → Option (List ℕ) → Place
+pub data PathResource : Type 0 where
+  requests checks exceedances members pairings open_pairings : PathResource
+  import crew pairing : List ℕ → PathResource
+  limits : List ℕ → Option (List ℕ) → PathResource
 
 -- whether a text is an id in a path: one or more bytes without a slash
 abbrev pub is_path_id : List ℕ → Bool
@@ -57,11 +57,11 @@ first_or_other (Some a) other = Some a
 first_or_other None other = other
 
 -- this place, if the whole path is these bytes
-abbrev pub exactly : List ℕ → Place → List ℕ → Option Place
+abbrev pub exactly : List ℕ → PathResource → List ℕ → Option PathResource
 exactly name place path = if bytes_eq name path then Some place else None
 
 -- what a path names by the table of paths
-abbrev pub place_of_path : List ℕ → Option Place
+abbrev pub place_of_path : List ℕ → Option PathResource
 place_of_path path =
     first_or_other (exactly (codes "/requests") requests path)
     (first_or_other (exactly (codes "/checks") checks path)
@@ -77,7 +77,7 @@ place_of_path path =
     (exactly (codes "/reports/open") open_pairings path))))))))))
 
 -- a resource as contracts see it: the place that a path names
-abbrev pub place : Resource → Place
+abbrev pub place : Resource → PathResource
 place resource.Requests = requests
 place resource.Checks = checks
 place (resource.Import number) = import number.now
@@ -96,12 +96,12 @@ abbrev pub taken : Params → List (List ℕ × List ℕ)
 taken params = matched.walk params.pattern.now params.text.now params.path.now params.names.now 0 0
 
 -- the limits of a member with a pairing, if both ids were taken
-abbrev pub limits_with : Option (List ℕ) → Option (List ℕ) → Option Place
+abbrev pub limits_with : Option (List ℕ) → Option (List ℕ) → Option PathResource
 limits_with None other = None
 limits_with (Some id) other = option_map (λ other. limits id (Some other)) other
 
 -- what a route leads to, by what its parameters took
-abbrev pub place_by : Route → List (List ℕ × List ℕ) → Option Place
+abbrev pub place_by : Route → List (List ℕ × List ℕ) → Option PathResource
 place_by Requests taken = Some requests
 place_by Checks taken = Some checks
 place_by Import taken = option_map import (matched.named (codes "number") taken)

@@ -13,7 +13,7 @@ mod routes;
 mod target;
 
 pub use head::Head;
-pub use plan::{Action, ExpectedBody, Plan, Report, Submission, plan_of};
+pub use plan::{ExpectedBody, HeadAction, HeadPlan, Report, Submission, plan_of};
 pub use reading::{HeadRead, ReadFault, read_byte, read_head};
 pub use refusals::{Methods, RequestFault};
 pub use responses::{

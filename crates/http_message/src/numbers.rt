@@ -16,7 +16,7 @@ pub(crate) fn length_of(value: &[u8]) -> Option<usize>
     ensures { result ≡ spec.body_length_of value.now }
 {
     if is_number(value) {
-        Some(saturated(value))
+        Some(saturate(value))
     } else {
         None
     }
@@ -44,7 +44,7 @@ fn is_digit(byte: u8) -> bool
 }
 
 /// Reads the number of these digits, up to one byte more than a body may have.
-fn saturated(text: &[u8]) -> usize
+fn saturate(text: &[u8]) -> usize
     requires { spec.is_number text.now ≡ true }
     ensures { result ≡ min (digits_value 10 text.now) 1_048_577 }
 {

@@ -1,4 +1,4 @@
-//! What a head asks for, before any byte of a body is read. The definition is `plan_for_head` (`specs/Plan.antt`).
+//! What a head asks for, before any byte of a body is read. The definition is `plan_for_head` (`specs/HeadPlan.antt`).
 //! What clients send: `tests/exchanges.py`. Wrong bodies: `must-fail/`.
 ghost use Rattle.std.specs.Prelude.{◌≡◌, IfOk, Some, codes, length};
 ghost use Rattle.http_message.specs.Fields.{values};
@@ -17,16 +17,16 @@ use values::MemoryFault;
 
 /// What a head asks for.
 #[derive(Drop)]
-pub struct Plan<'h> {
+pub struct HeadPlan<'h> {
     /// Whether the method is `HEAD`, to which no response has a body (RFC 9110, section 9.3.2).
     pub is_head: bool,
     /// What is done.
-    pub action: Action<'h>,
+    pub action: HeadAction<'h>,
 }
 
 /// What is done for a head.
 #[derive(Drop)]
-pub enum Action<'h> {
+pub enum HeadAction<'h> {
     /// It is refused.
     Refuse(RequestFault),
     /// A body is taken in.
@@ -81,12 +81,12 @@ pub enum Report<'h> {
     OpenPairings,
 }
 
-/// Decides what a head asks for. Each check comes after those before it in `specs/Plan.antt`.
-pub fn plan_of(alloc: Global, head: &Head) -> Result<Plan<'_>, MemoryFault>
+/// Decides what a head asks for. Each check comes after those before it in `specs/HeadPlan.antt`.
+pub fn plan_of(alloc: Global, head: &Head) -> Result<HeadPlan<'_>, MemoryFault>
     ensures { IfOk result (λ it. spec.planned_of it ≡ spec.plan_for_head head.now) }
 {
-    match checked(alloc, head) {
-        Ok(action) => Ok(Plan {
+    match action_for_head(alloc, head) {
+        Ok(action) => Ok(HeadPlan {
             is_head: head.is_for_head(),
             action,
         }),
@@ -95,16 +95,16 @@ pub fn plan_of(alloc: Global, head: &Head) -> Result<Plan<'_>, MemoryFault>
 }
 
 /// Makes the checks from the first on.
-fn checked(alloc: Global, head: &Head) -> Result<Action<'_>, MemoryFault>
+fn action_for_head(alloc: Global, head: &Head) -> Result<HeadAction<'_>, MemoryFault>
     ensures { IfOk result (λ it. spec.step it ≡ spec.step_after_checks head.now) }
 {
     if lacks_host(head) {
-        return Ok(Action::Refuse(RequestFault::NotOneHost));
+        return Ok(HeadAction::Refuse(RequestFault::NotOneHost));
     }
     if head.count(b"transfer-encoding") > 0 {
-        return Ok(Action::Refuse(RequestFault::TransferCoding));
+        return Ok(HeadAction::Refuse(RequestFault::TransferCoding));
     }
-    placed(alloc, head, path_of(head.target()))
+    action_for_path(alloc, head, path_of(head.target()))
 }
 
 /// Returns whether a head of HTTP/1.1 hasn't one `Host`.
@@ -115,67 +115,71 @@ fn lacks_host(head: &Head) -> bool
 }
 
 /// Makes the checks from the path on.
-fn placed<'h>(alloc: Global, head: &'h Head, path: &'h [u8]) -> Result<Action<'h>, MemoryFault>
+fn action_for_path<'h>(
+    alloc: Global,
+    head: &'h Head,
+    path: &'h [u8],
+) -> Result<HeadAction<'h>, MemoryFault>
     ensures { IfOk result (λ it. spec.step it ≡ spec.at_path head.now path.now) }
 {
     let Ok(path) = from_utf8(path) else {
-        return Ok(Action::Refuse(RequestFault::NoResource));
+        return Ok(HeadAction::Refuse(RequestFault::NoResource));
     };
     let Some(resource) = resource_of(alloc, path)? else {
-        return Ok(Action::Refuse(RequestFault::NoResource));
+        return Ok(HeadAction::Refuse(RequestFault::NoResource));
     };
-    Ok(routed(head, resource))
+    Ok(action_for_route(head, resource))
 }
 
 /// Decides what a resource is asked for.
-fn routed<'h>(head: &'h Head, resource: Resource<'h>) -> Action<'h>
+fn action_for_route<'h>(head: &'h Head, resource: Resource<'h>) -> HeadAction<'h>
     ensures { spec.step result ≡ spec.step_of_place head.now (Some (place resource.entry)) }
 {
     match resource {
-        Resource::Requests => posted(head, Submission::Command),
-        Resource::Checks => posted(head, Submission::Check),
+        Resource::Requests => receive_body(head, Submission::Command),
+        Resource::Checks => receive_body(head, Submission::Check),
         Resource::Import(number) => match number_of_import(number.as_bytes()) {
-            Some(number) => posted(head, Submission::Import(number)),
-            None => Action::Refuse(RequestFault::NoResource),
+            Some(number) => receive_body(head, Submission::Import(number)),
+            None => HeadAction::Refuse(RequestFault::NoResource),
         },
-        Resource::Crew(id) => shown(head, Report::Crew(id)),
-        Resource::Pairing(id) => shown(head, Report::Pairing(id)),
-        Resource::Exceedances => shown(head, Report::Exceedances),
-        Resource::Limits { crew, with } => shown(head, Report::Limits { crew, with }),
-        Resource::Members => shown(head, Report::Members),
-        Resource::Pairings => shown(head, Report::Pairings),
-        Resource::OpenPairings => shown(head, Report::OpenPairings),
+        Resource::Crew(id) => show_report(head, Report::Crew(id)),
+        Resource::Pairing(id) => show_report(head, Report::Pairing(id)),
+        Resource::Exceedances => show_report(head, Report::Exceedances),
+        Resource::Limits { crew, with } => show_report(head, Report::Limits { crew, with }),
+        Resource::Members => show_report(head, Report::Members),
+        Resource::Pairings => show_report(head, Report::Pairings),
+        Resource::OpenPairings => show_report(head, Report::OpenPairings),
     }
 }
 
 /// Decides what is asked of a report.
-fn shown<'h>(head: &Head, report: Report<'h>) -> Action<'h>
+fn show_report<'h>(head: &Head, report: Report<'h>) -> HeadAction<'h>
     ensures { spec.step result ≡ spec.shown head.now (spec.subject report.entry) }
 {
     let method = head.method();
     if method == b"GET".as_slice() || method == b"HEAD".as_slice() {
-        Action::Show(report)
+        HeadAction::Show(report)
     } else {
-        Action::Refuse(RequestFault::NoMethod(Methods::GetAndHead))
+        HeadAction::Refuse(RequestFault::NoMethod(Methods::GetAndHead))
     }
 }
 
 /// Decides what is asked of a resource that takes a body.
-fn posted<'h>(head: &'h Head, to: Submission) -> Action<'h>
+fn receive_body<'h>(head: &'h Head, to: Submission) -> HeadAction<'h>
     ensures { spec.step result ≡ spec.posted head.now to }
 {
     if head.method() != b"POST".as_slice() {
-        return Action::Refuse(RequestFault::NoMethod(Methods::Post));
+        return HeadAction::Refuse(RequestFault::NoMethod(Methods::Post));
     }
     match head.count(b"content-length") {
-        0 => Action::Refuse(RequestFault::NoLength),
-        1 => sized(head, to),
-        _ => Action::Refuse(RequestFault::BadLength),
+        0 => HeadAction::Refuse(RequestFault::NoLength),
+        1 => receive_sized(head, to),
+        _ => HeadAction::Refuse(RequestFault::BadLength),
     }
 }
 
 /// Decides the same where one field says the length.
-fn sized<'h>(head: &'h Head, to: Submission) -> Action<'h>
+fn receive_sized<'h>(head: &'h Head, to: Submission) -> HeadAction<'h>
     requires { length (values (codes "content-length") head.now.fields) ≡ 1 }
     ensures { spec.step result
         ≡ spec.with_lengths head.now to (values (codes "content-length") head.now.fields) }
@@ -184,9 +188,9 @@ fn sized<'h>(head: &'h Head, to: Submission) -> Action<'h>
         unreachable!();
     };
     match length_of(value) {
-        None => Action::Refuse(RequestFault::BadLength),
-        Some(length) if length > MOST_BODY => Action::Refuse(RequestFault::TooLong),
-        Some(length) => Action::Receive(ExpectedBody {
+        None => HeadAction::Refuse(RequestFault::BadLength),
+        Some(length) if length > MOST_BODY => HeadAction::Refuse(RequestFault::TooLong),
+        Some(length) => HeadAction::Receive(ExpectedBody {
             to,
             length,
             continues: continues(head, length),

@@ -73,11 +73,11 @@ pub fn resource_of(alloc: Global, path: &str) -> Result<Option<Resource<'_>>, Me
     let Ok(found) = router.at(path) else {
         return Ok(None);
     };
-    Ok(named(*found.value, &found.params))
+    Ok(resource_at(*found.value, &found.params))
 }
 
 /// Names a resource by what its route took from a path.
-fn named<'p>(route: Route, params: &Params<'_, 'p>) -> Option<Resource<'p>>
+fn resource_at<'p>(route: Route, params: &Params<'_, 'p>) -> Option<Resource<'p>>
     ensures { AllText (spec.taken params.now)
         → option_map spec.place result ≡ spec.place_by route (spec.taken params.now) }
 {

@@ -18,7 +18,7 @@ pub trait Limit {
 
     /// Returns whether the new duties break the limit. `history` has the member's duties in force with the new ones in
     /// it.
-    fn broken(&self, history: &History, new: &History) -> bool
+    fn is_broken_by(&self, history: &History, new: &History) -> bool
         ensures { IsTrue result ↔ Rule SECTION history.now new.now };
 
     /// What fewer duties break, more duties break.

@@ -102,7 +102,7 @@ fn push_if(list: &mut Vec<Section>, is_broken: bool, section: Section) -> Result
 fn is_broken<L: Limit>(limit: &L, history: &History, new: &History) -> bool
     ensures { result ≡ breaks L.SECTION history.now new.now }
 {
-    limit.broken(history, new)
+    limit.is_broken_by(history, new)
 }
 
 /// Judges new duties by the eight limits. `history` has the member's duties in force with the new ones in it; a window

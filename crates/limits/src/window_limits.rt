@@ -22,7 +22,7 @@ impl Limit for FlightTime672Hours {
 
     ghost splits = { rule_splits section.FlightTime672Hours };
 
-    fn broken(&self, history: &History, new: &History) -> bool {
+    fn is_broken_by(&self, history: &History, new: &History) -> bool {
         is_over(history, new, Kind::Flight, 40_320, 6_000)
     }
 }
@@ -44,7 +44,7 @@ impl Limit for FlightDutyPeriods168Hours {
 
     ghost splits = { rule_splits section.FlightDutyPeriods168Hours };
 
-    fn broken(&self, history: &History, new: &History) -> bool {
+    fn is_broken_by(&self, history: &History, new: &History) -> bool {
         is_over(history, new, Kind::FlightDuty, 10_080, 3_600)
     }
 }
@@ -66,7 +66,7 @@ impl Limit for FlightDutyPeriods672Hours {
 
     ghost splits = { rule_splits section.FlightDutyPeriods672Hours };
 
-    fn broken(&self, history: &History, new: &History) -> bool {
+    fn is_broken_by(&self, history: &History, new: &History) -> bool {
         is_over(history, new, Kind::FlightDuty, 40_320, 11_400)
     }
 }

@@ -23,7 +23,7 @@ use Rattle.roster.specs.State.{State, zone_of}
 use Rattle.roster.specs.declared.state.PairingEntry.{PairingEntry}
 use Rattle.roster.proofs.Members.{is_first, is_later}
 use Rattle.roster.proofs.Standing.{standing}
-use Rattle.limits_report.specs.Laws.{ExceedsIsRule, ExceedsIsBroken, ExceedsIsRefused}
+use Rattle.limits_report.specs.Laws.{LineExceedsIsRule, ExceedsIsBroken, ExceedsIsRefused}
 use Rattle.limits_report.specs.LimitsText.{Judged, IsLimitsText, as_if_held}
 
 -- the new duties are the last of all
@@ -33,7 +33,7 @@ last j =
     let long : length (duties j.others) ≡ length j.others = length-map j.others (λ (p : Placed). p.1) in
     ap₂ (λ n ds. drop n ds) (sym long) joined ∙ drop-append_seam (duties j.others) (duties j.new)
 
-pub is_rule : ExceedsIsRule
+pub is_rule : LineExceedsIsRule
 is_rule s who pairing text is section =
     let j = is.of in
     near.exceeds_is_rule (duties (j.others ++ j.new)) (duties j.new) (length j.others) is.told.nearness (last j) is.told.nearest section

@@ -20,8 +20,8 @@ abbrev pub exceeding : {of : Judged} {first text : List ℕ} → IsJudgedText of
 exceeding told = filter (λ section. exceeds section told.nearness) all_sections
 
 -- A line of a limits text ends in `exceeds` if and only if the new duties break its section's rule.
-abbrev pub ExceedsIsRule : Type 0
-ExceedsIsRule = (s : State) (who : List ℕ) (pairing : Option (List ℕ)) (text : List ℕ)
+abbrev pub LineExceedsIsRule : Type 0
+LineExceedsIsRule = (s : State) (who : List ℕ) (pairing : Option (List ℕ)) (text : List ℕ)
     (is : IsLimitsText s who pairing text) (section : Section) →
     IsTrue (exceeds section is.told.nearness)
     ↔ Rule section (duties (is.of.others ++ is.of.new)) (duties is.of.new)

@@ -1,9 +1,9 @@
 //! What holds of the texts of each roster. Each of these functions does nothing; its clause is a law.
-ghost use Rattle.limits_report.specs.Laws.{EachHasText, ExceedsIsBroken, ExceedsIsRefused, ExceedsIsRule, HasOneText};
+ghost use Rattle.limits_report.specs.Laws.{EachHasText, ExceedsIsBroken, ExceedsIsRefused, LineExceedsIsRule, HasOneText};
 
 /// A line ends in `exceeds` if and only if the new duties break its section's rule.
 pub fn exceeds_is_rule()
-    ensures { ExceedsIsRule }
+    ensures { LineExceedsIsRule }
 {}
 
 /// With a pairing the lines that end in `exceeds` are those of the limits that its periods break.

@@ -43,7 +43,7 @@ pub fn limits_text(
     match with {
         None => Ok(text_as_they_are(alloc, roster, who, member)?),
         Some(id) => match roster.pairings.get(id) {
-            Some(rostered) => Ok(text_as_if_held(alloc, roster, who, member, id, rostered)?),
+            Some(entry) => Ok(text_as_if_held(alloc, roster, who, member, id, entry)?),
             None => Err(ReportFault::NoSuchPairing),
         },
     }
@@ -71,15 +71,15 @@ fn text_as_if_held(
     who: &CrewId,
     member: &Member,
     id: &PairingId,
-    rostered: &PairingEntry,
+    entry: &PairingEntry,
 ) -> Result<String, MemoryFault>
     ensures { IfOk result (λ text.
-        spec.IsJudgedText (spec.as_if_held roster.now who.now id.now rostered.now)
+        spec.IsJudgedText (spec.as_if_held roster.now who.now id.now entry.now)
         (spec.header who.now member.now (Some id.now)) (string_bytes text)) }
 {
     let mut duties = duties_of(alloc, roster, who, Some(id))?;
     let others = duties.len();
-    add_pairing(alloc, roster.zone_of(who), id, rostered, &mut duties)?;
+    add_pairing(alloc, roster.zone_of(who), id, entry, &mut duties)?;
     let first = header(alloc, who, member, Some(id))?;
     judged_text(alloc, first, &duties, others)
 }

@@ -58,9 +58,9 @@ fn add_held(
     ensures { OnOk result (list.new.items
         ≡ list.old.items ++ all_but (option_copied out.entry) (periods_of roster.now who.now)) }
 {
-    for (id, rostered) in roster.pairings.iter() {
-        if rostered.holds(who) && !is_left_out(out, id) {
-            add_pairing(alloc, roster.zone_of(who), id, rostered, list)?;
+    for (id, entry) in roster.pairings.iter() {
+        if entry.holds(who) && !is_left_out(out, id) {
+            add_pairing(alloc, roster.zone_of(who), id, entry, list)?;
         }
     }
     Ok(())
@@ -71,13 +71,13 @@ pub(crate) fn add_pairing(
     alloc: Global,
     zone: &Zone,
     id: &PairingId,
-    rostered: &PairingEntry,
+    entry: &PairingEntry,
     list: &mut Vec<NamedDuty>,
 ) -> Result<(), MemoryFault>
     ensures { OnOk result (list.new.items
-        ≡ list.old.items ++ map named (periods_at zone.now (id.now, rostered.now))) }
+        ≡ list.old.items ++ map named (periods_at zone.now (id.now, entry.now))) }
 {
-    let fdps = rostered.periods_in_force(alloc)?;
+    let fdps = entry.periods_in_force(alloc)?;
     for (index, fdp) in fdps.iter().enumerate() {
         list.push(NamedDuty {
             name: period_name(alloc, id, index + 1)?,

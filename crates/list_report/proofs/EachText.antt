@@ -18,15 +18,15 @@ use Rattle.roster.proofs.Sound.Added.{no_first}
 use Rattle.list_report.specs.Laws.{EachHasMembersText, EachHasPairingsText, EachHasPeriod}
 use Rattle.list_report.specs.MembersText.{member_line, members_header}
 use Rattle.list_report.specs.PairingsText.{IsInOrder, key_of, pairings_header, rows_of}
-use Rattle.list_report.specs.declared.row.Row.{Row}
+use Rattle.list_report.specs.declared.row.PairingRow.{PairingRow}
 use Rattle.list_report.proofs.EachOrder.{in_order, sorted}
 
 pub each_members_text : EachHasMembersText
 each_members_text s = (members_header (fin.len s.crew) ++ flat_map member_line (fin.entries s.crew), refl)
 
-each_order : (rows : List Row) → (ordered : List Row) × IsInOrder rows ordered
+each_order : (rows : List PairingRow) → (ordered : List PairingRow) × IsInOrder rows ordered
 each_order rows =
-    let before = λ (a : Row) (b : Row). is_lt (name_cmp (key_of a) (key_of b)) in
+    let before = λ (a : PairingRow) (b : PairingRow). is_lt (name_cmp (key_of a) (key_of b)) in
     let all = in_order before (ranks_by nat_list_cmp_total key_of) rows in
     (all.0, record { same = all.1; order = sorted before (ranks_by nat_list_cmp_total key_of) all.0 all.2 })
 

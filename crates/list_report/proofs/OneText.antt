@@ -17,25 +17,25 @@ use Rattle.report.proofs.OneOrder.{one_order}
 use Rattle.list_report.specs.Laws.{HasOneMembersText, HasOnePairingsText}
 use Rattle.list_report.specs.PairingsText.{IsInOrder, is_listed, key_of, pairings_header, row_of, rows_of}
 use Rattle.list_report.specs.declared.pairings.Listed.{Listed}
-use Rattle.list_report.specs.declared.row.Row.{Row}
+use Rattle.list_report.specs.declared.row.PairingRow.{PairingRow}
 
 pub one_members_text : HasOneMembersText
 one_members_text s a b x y = x ∙ sym y
 
 -- the row of the pairing with this id
-abbrev row_at : State → List ℕ → Option Row
+abbrev row_at : State → List ℕ → Option PairingRow
 row_at s id = option_map (λ r. row_of (id, r)) (fin.get s.pairings id)
 
 -- a row is the one of its id
-known_by_id : (s : State) (which : Listed) (a : Row) → Contains (rows_of s which) a → row_at s a.id ≡ Some a
+known_by_id : (s : State) (which : Listed) (a : PairingRow) → Contains (rows_of s which) a → row_at s a.id ≡ Some a
 known_by_id s which a c =
     let entry = from_map row_of (filter (λ entry. is_listed which entry.1) (fin.entries s.pairings)) a c in
     let of = from_filter (λ entry. is_listed which entry.1) (fin.entries s.pairings) entry.0 entry.1 in
     let got = from_rows s.pairings entry.0.0 entry.0.1 of.0 in
-    let id : entry.0.0 ≡ a.id = ap (λ (row : Row). row.id) entry.2 in
+    let id : entry.0.0 ≡ a.id = ap (λ (row : PairingRow). row.id) entry.2 in
     sym (ap (row_at s) id) ∙ ap (option_map (λ r. row_of (entry.0.0, r))) got ∙ ap Some entry.2
 
-known_by_key : (s : State) (which : Listed) (a b : Row) → Contains (rows_of s which) a → Contains (rows_of s which) b
+known_by_key : (s : State) (which : Listed) (a b : PairingRow) → Contains (rows_of s which) a → Contains (rows_of s which) b
     → key_of a ≡ key_of b → a ≡ b
 known_by_key s which a b in_a in_b e =
     let ids : a.id ≡ b.id = cc in
@@ -48,7 +48,7 @@ neither Greater Less e no_r no_t = absurd (cc)
 neither Greater Equal e no_r no_t = absurd (cc)
 neither Greater Greater e no_r no_t = absurd (cc)
 
-same_rows : (s : State) (which : Listed) (xs ys : List Row) → IsInOrder (rows_of s which) xs → IsInOrder (rows_of s which) ys → xs ≡ ys
+same_rows : (s : State) (which : Listed) (xs ys : List PairingRow) → IsInOrder (rows_of s which) xs → IsInOrder (rows_of s which) ys → xs ≡ ys
 same_rows s which xs ys x y =
     one_order (λ a b. is_lt (name_cmp (key_of a) (key_of b))) (ranks_by nat_list_cmp_total key_of) (rows_of s which) xs ys
     (λ a b in_a in_b no_a no_b. known_by_key s which a b in_a in_b (exact_names (key_of a) (key_of b)

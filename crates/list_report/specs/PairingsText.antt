@@ -14,7 +14,7 @@ use Rattle.roster.specs.declared.state.PairingEntry.{PairingEntry}
 use Rattle.report.specs.PairingText.{holder_text}
 use Rattle.list_report.specs.declared.pairings.Listed.{Listed}
 use Rattle.list_report.specs.declared.pairings.Listed.TheVariants as listed
-use Rattle.list_report.specs.declared.row.Row.{Row}
+use Rattle.list_report.specs.declared.row.PairingRow.{PairingRow}
 
 -- ---- The line of a pairing
 
@@ -53,20 +53,20 @@ is_listed listed.All r = true
 is_listed listed.Open r = not (is_fully_crewed r)
 
 -- a pairing as a row: its line, and the first report and the id, by which the row has its place
-abbrev pub row_of : List ℕ × PairingEntry → Row
+abbrev pub row_of : List ℕ × PairingEntry → PairingRow
 row_of (id, r) = record { report = first_report r; id = id; line = pairing_line (id, r) }
 
 -- the rows of the pairings of a state that are listed
-abbrev pub rows_of : State → (which : Listed) → List Row
+abbrev pub rows_of : State → (which : Listed) → List PairingRow
 rows_of s which = map row_of (filter (λ entry. is_listed which entry.1) (fin.entries s.pairings))
 
 -- what puts a row in its place: the first report, then the id in byte order
-abbrev pub key_of : Row → List ℕ
+abbrev pub key_of : PairingRow → List ℕ
 key_of row = row.report ∷ row.id
 
 -- The sorted list has these rows and no others, in the order of first reports, and of ids where
 -- first reports are equal.
-pub record IsInOrder (rows sorted : List Row) : Type 0 where
+pub record IsInOrder (rows sorted : List PairingRow) : Type 0 where
   pub same : IsPermutation rows sorted
   pub order : IsSorted (λ a b. name_cmp (key_of a) (key_of b)) sorted
 
@@ -79,6 +79,6 @@ pairings_header count = codes "PAIRINGS " ++ decimal count ++ codes "\n"
 -- The text of a state's pairings, all pairings or the open ones: their number, and the line of each
 -- pairing in turn, in the order of first reports, and of ids where first reports are equal.
 pub record IsPairingsText (s : State) (which : Listed) (text : List ℕ) : Type 0 where
-  pub rows : List Row
+  pub rows : List PairingRow
   pub in_order : IsInOrder (rows_of s which) rows
   pub is : text ≡ pairings_header (length rows) ++ flat_map (λ row. row.line) rows

@@ -6,7 +6,7 @@ ghost use Rattle.time117.specs.Instant.{written};
 ghost use Rattle.report.specs.PairingText.{holder_text};
 ghost use Rattle.list_report.specs.PairingsText as spec;
 
-use crate::row::{Row, in_order, text_of};
+use crate::row::{PairingRow, in_order, text_of};
 use duty::{CrewId, Fdp, PairingId};
 use report::instant;
 use roster::{PairingEntry, Roster};
@@ -24,12 +24,12 @@ pub enum Listed {
 
 impl Listed {
     /// Returns whether a pairing is listed.
-    fn lists(self, rostered: &PairingEntry) -> bool
-        ensures { result ≡ spec.is_listed self rostered.now }
+    fn lists(self, entry: &PairingEntry) -> bool
+        ensures { result ≡ spec.is_listed self entry.now }
     {
         match self {
             Listed::All => true,
-            Listed::Open => rostered.captain.is_none() || rostered.first_officer.is_none(),
+            Listed::Open => entry.captain.is_none() || entry.first_officer.is_none(),
         }
     }
 }
@@ -51,28 +51,28 @@ fn header(alloc: Global, count: usize) -> Result<String, MemoryFault>
 }
 
 /// Makes a row of each pairing that is listed, in the order of the ids.
-fn rows_of(alloc: Global, roster: &Roster, which: Listed) -> Result<Vec<Row>, MemoryFault>
+fn rows_of(alloc: Global, roster: &Roster, which: Listed) -> Result<Vec<PairingRow>, MemoryFault>
     ensures { IfOk result (λ rows. rows.items ≡ spec.rows_of roster.now which) }
 {
     let mut rows = Vec::new(alloc);
-    for (id, rostered) in roster.pairings.iter() {
-        if which.lists(rostered) {
-            rows.push(row_of(alloc, id, rostered)?)?;
+    for (id, entry) in roster.pairings.iter() {
+        if which.lists(entry) {
+            rows.push(row_of(alloc, id, entry)?)?;
         }
     }
     Ok(rows)
 }
 
-fn row_of(alloc: Global, id: &PairingId, rostered: &PairingEntry) -> Result<Row, MemoryFault>
-    ensures { IfOk result (λ row. row ≡ spec.row_of (id.now, rostered.now)) }
+fn row_of(alloc: Global, id: &PairingId, entry: &PairingEntry) -> Result<PairingRow, MemoryFault>
+    ensures { IfOk result (λ row. row ≡ spec.row_of (id.now, entry.now)) }
 {
-    let (report, release) = span_of(&rostered.periods_in_force(alloc)?);
+    let (report, release) = span_of(&entry.periods_in_force(alloc)?);
     let times = span_text(alloc, report, release)?;
-    let captain = holder_text(&rostered.captain);
-    let first_officer = holder_text(&rostered.first_officer);
-    let mut line = format!(in alloc; "{} {times} {}", id.as_str(), word(rostered))?;
+    let captain = holder_text(&entry.captain);
+    let first_officer = holder_text(&entry.first_officer);
+    let mut line = format!(in alloc; "{} {times} {}", id.as_str(), word(entry))?;
     line.push_str(&format!(in alloc; " {captain} {first_officer}\n")?)?;
-    Ok(Row {
+    Ok(PairingRow {
         report,
         id: id.try_clone(alloc)?,
         line: Text::new(line),
@@ -102,10 +102,10 @@ fn span_text(alloc: Global, report: Minute, release: Minute) -> Result<String, M
 }
 
 /// Returns `flown` where a period has an actual, else `plan`.
-fn word(rostered: &PairingEntry) -> &'static str
-    ensures { result.now ≡ spec.word rostered.now }
+fn word(entry: &PairingEntry) -> &'static str
+    ensures { result.now ≡ spec.word entry.now }
 {
-    if rostered.is_flown() { "flown" } else { "plan" }
+    if entry.is_flown() { "flown" } else { "plan" }
 }
 
 /// Returns the id of who holds a seat; a free one has a dash.

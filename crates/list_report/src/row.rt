@@ -10,7 +10,7 @@ use values::{MemoryFault, Text};
 
 /// A pairing as a row of the list. Rows are in the order of report and id.
 #[derive(PartialEq, Eq, PartialOrd, Ord, Drop)]
-pub struct Row {
+pub struct PairingRow {
     /// The report of the pairing's first period.
     pub report: Minute,
     pub id: PairingId,
@@ -18,7 +18,7 @@ pub struct Row {
 }
 
 /// Sorts the rows into their order.
-pub fn in_order(rows: Vec<Row>) -> Result<Vec<Row>, MemoryFault>
+pub fn in_order(rows: Vec<PairingRow>) -> Result<Vec<PairingRow>, MemoryFault>
     ensures { IfOk result (λ sorted. IsInOrder rows.items sorted.items) }
 {
     let mut rows = rows;
@@ -27,7 +27,7 @@ pub fn in_order(rows: Vec<Row>) -> Result<Vec<Row>, MemoryFault>
 }
 
 /// Joins a first line and the lines of the rows.
-pub fn text_of(first: String, rows: &[Row]) -> Result<String, MemoryFault>
+pub fn text_of(first: String, rows: &[PairingRow]) -> Result<String, MemoryFault>
     ensures { IfOk result
         (λ text. string_bytes text ≡ string_bytes first ++ flat_map (λ row. row.line) rows.now) }
 {

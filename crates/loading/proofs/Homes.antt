@@ -11,7 +11,7 @@ use Rattle.time117.specs.Local.{is_zone_text}
 use Rattle.duty.specs.Shape.{home, is_id}
 use Rattle.command.specs.declared.member.Member.{Member}
 use Rattle.roster.specs.Bases.{Bases, IsBase, home_zone, only_home}
-use Rattle.roster.specs.Sound.{Crew}
+use Rattle.roster.specs.Sound.{Members}
 use Rattle.roster.specs.State.{State, empty}
 use Rattle.roster.proofs.Accepted.{insert_here}
 use Rattle.state_rows.proofs.Lists.{some_same}
@@ -71,10 +71,10 @@ module _ (s : State) (first : IsFirst s) where
 
 -- ---- Members at HOME
 
-pub none_at_home : (c : Crew) → c ≡ fin.empty → AreAtHome c
-none_at_home c none who m there = absurd (let e = sym (ap (λ (x : Crew). fin.get x who) none ∙ fin.get-empty name_cmp who) ∙ there in cc)
+pub none_at_home : (c : Members) → c ≡ fin.empty → AreAtHome c
+none_at_home c none who m there = absurd (let e = sym (ap (λ (x : Members). fin.get x who) none ∙ fin.get-empty name_cmp who) ∙ there in cc)
 
-pub one_at_home : (c : Crew) (id : List ℕ) (m : Member) → m.base ≡ home → AreAtHome c → AreAtHome (fin.insert c id m)
+pub one_at_home : (c : Members) (id : List ℕ) (m : Member) → m.base ≡ home → AreAtHome c → AreAtHome (fin.insert c id m)
 one_at_home c id m here at who n there =
     let got = fin.get-insert nat_list_cmp_total c id m who in
     elim (cases_Bool (eq_by_cmp name_cmp who id)) [

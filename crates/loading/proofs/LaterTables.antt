@@ -21,14 +21,14 @@ use Rattle.entries.specs.declared.fault.LoadFault.TheVariants.{NotABook, Version
 use Rattle.entries.specs.declared.fault.TableName as name
 use Rattle.entries.specs.declared.fault.TableName.TheVariants as its
 use Rattle.state_rows.specs.First.{IsFirst}
-use Rattle.state_rows.specs.Rows.{TableName, request, base, crew_base, outside, outside_segment, table}
+use Rattle.state_rows.specs.Rows.{StateTable, request, base, crew_base, outside, outside_segment, table}
 use Rattle.state_rows.specs.declared.fault.StoreFault.TheVariants.{Store}
 use Rattle.state_rows.specs.declared.edition.Edition.TheVariants.{First, Second}
 use Rattle.entries.proofs.Editions.{one_edition, IsNext, next_base, next_crew_base, next_outside, next_outside_segment}
 
 -- ---- In a file of version 2
 
-module _ (above it : TableName) (Has : State → Database → Type 0) (next : IsNext above it Has) (s : State) (db : Database) (up : AgreesThrough above s db) where
+module _ (above it : StateTable) (Has : State → Database → Type 0) (next : IsNext above it Has) (s : State) (db : Database) (up : AgreesThrough above s db) where
   damaged : (AreRight it db → ⊥) → IsDamaged it db
   damaged wrong = record {
     book = up.book;
@@ -46,7 +46,7 @@ module _ (above it : TableName) (Has : State → Database → Type 0) (next : Is
   }
 
 -- what was read of a table, or why it was refused, as it says of the database
-module _ {A : Type 0} (above it : TableName) {Has : State → Database → Type 0} (next : IsNext above it Has) (its_name : name.TableName) (is_named : named its_name ≡ it) (s : State) (read_of : A → State)
+module _ {A : Type 0} (above it : StateTable) {Has : State → Database → Type 0} (next : IsNext above it Has) (its_name : name.TableName) (is_named : named its_name ≡ it) (s : State) (read_of : A → State)
     (old new : conn.State) (up : HasCleanDisk old → AgreesIn Second above s old.now) where
   -- with more that is so of what was read
   pub later_found : (Also : A → Type 0) (result : Result A LoadFault) → ReadsAs (λ a. IsReadAs it (read_of a) old.now × Also a) (BlamesOrFails its_name (AreRight it old.now → ⊥)) old new result →
@@ -84,7 +84,7 @@ not_stored : (it : BookTable) (db : Database) → table_found db.schema it.name 
 not_stored it db none = subst (λ found. AreNumbered (kept_in db.trees found)) (sym none) no_rows
 
 module _ (s : State) (db : Database) (up : AgreesThrough request s db) (first : IsOfEdition First db) where
-  taken : (above it : TableName) {Has : State → Database → Type 0} → IsNext above it Has → AreRight above db → (IsNameFree (table it) db.schema → ⊥) → IsDamaged it db
+  taken : (above it : StateTable) {Has : State → Database → Type 0} → IsNext above it Has → AreRight above db → (IsNameFree (table it) db.schema → ⊥) → IsDamaged it db
   taken above it next right bad = record {
     book = up.book;
     version = up.version;

@@ -9,7 +9,7 @@ use Rattle.duty.specs.Shape.{is_plain_text}
 use Rattle.command.specs.declared.member.Member.{Member}
 use Rattle.command.specs.declared.member.Seat.{Seat}
 use Rattle.roster.specs.Bases.{Bases, home_zone}
-use Rattle.roster.specs.Sound.{Crew, IsHolder}
+use Rattle.roster.specs.Sound.{Members, IsHolder}
 use Rattle.roster.specs.State.{State}
 use Rattle.roster.specs.declared.state.DutyId.{DutyId}
 use Rattle.roster.specs.declared.state.ExceedanceId.{ExceedanceId}
@@ -31,7 +31,7 @@ crew_rows s t to row is =
     let a = to at.name at.value at.there in
     (record { name = at.name; value = a.other; there = a.there }, is.1 ∙ member_row at.name at.value a.other a.seat a.name)
 
-module _ (members others : Crew) (to : HasAlike members others) where
+module _ (members others : Members) (to : HasAlike members others) where
   holder_stays : (seat : Seat) (holder : Option (List ℕ)) → IsHolder members seat holder → IsHolder others seat holder
   holder_stays seat holder is who e =
       let it = is who e in
@@ -64,12 +64,12 @@ module _ (members others : Crew) (to : HasAlike members others) where
     of_duty = is.of_duty;
   }
 
-pub alike_itself : (members : Crew) → HasAlike members members
+pub alike_itself : (members : Members) → HasAlike members members
 alike_itself members who m there = record { other = m; there = there; seat = refl; name = refl }
 
 -- ---- The tables
 
-module _ (s : State) (bases : Bases) (members : Crew) (zone : home_zone bases ≡ home_zone s.bases) (to : HasAlike s.crew members) (back : HasAlike members s.crew) (db : Database) where
+module _ (s : State) (bases : Bases) (members : Members) (zone : home_zone bases ≡ home_zone s.bases) (to : HasAlike s.crew members) (back : HasAlike members s.crew) (db : Database) where
   abbrev t : State
   t = record s { bases = bases; crew = members }
 

@@ -14,7 +14,7 @@ use Rattle.limits.specs.declared.section.Section.{Section}
 use Rattle.command.specs.Keys.{KeyParts}
 use Rattle.command.specs.declared.member.Member.{Member}
 use Rattle.roster.specs.Entries.{put}
-use Rattle.roster.specs.Sound.{Crew, SoundPairing}
+use Rattle.roster.specs.Sound.{Members, SoundPairing}
 use Rattle.roster.specs.State.{State, exceedance_name}
 use Rattle.roster.specs.declared.put.Entry.{Entry}
 use Rattle.roster.specs.declared.put.Entry.TheVariants as entry
@@ -68,7 +68,7 @@ number_fits : (named : DutyId) → IsInRange named → named_number named < 256
 number_fits (Period p) is = is.1
 number_fits (Outside id) is = omega arith
 
-module _ (edition : Edition) (members : Crew) (pairings : fin.FinMap name_cmp PairingEntry) (it : ExceedanceRecord) where
+module _ (edition : Edition) (members : Members) (pairings : fin.FinMap name_cmp PairingEntry) (it : ExceedanceRecord) where
   abbrev Tells : Option Entry → Type 0
   Tells = TellsOf (λ id named e. e ≡ entry.Exceedance id named) row_of_recorded (IsExceedanceIn edition members pairings) (exceedance_row it)
 
@@ -189,8 +189,8 @@ pairing_here s t db a b id r e =
 -- so an exceedance of one is of the same member in the other, and names the same duty
 recorded_here : (s t : State) (db : Database) → IsSeatRight s db → IsSeatRight t db → (named : DutyId) → IsRecorded t.pairings named → IsRecorded s.pairings named
 recorded_here s t db a b (Period p) is = record {
-  rostered = is.rostered;
-  of_pairing = pairing_here s t db a b p.pairing is.rostered is.of_pairing;
+  entry = is.entry;
+  of_pairing = pairing_here s t db a b p.pairing is.entry is.of_pairing;
   place = is.place;
   number = is.number;
   actual = is.actual;

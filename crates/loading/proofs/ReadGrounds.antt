@@ -16,7 +16,7 @@ use Rattle.duty.specs.declared.fault.DutyFault.{DutyFault}
 use Rattle.command.specs.declared.member.Member.{Member}
 use Rattle.stored_json.specs.Instants.{is_instant}
 use Rattle.roster.specs.Entries.{put}
-use Rattle.roster.specs.Sound.{Crew}
+use Rattle.roster.specs.Sound.{Members}
 use Rattle.roster.specs.State.{State}
 use Rattle.roster.specs.declared.put.Entry.{Entry}
 use Rattle.roster.specs.declared.put.Entry.TheVariants as entry
@@ -43,7 +43,7 @@ use Rattle.entries.proofs.RightRows.{ground_rows}
 
 -- ---- One record
 
-module _ (members : Crew) (it : GroundRecord) where
+module _ (members : Members) (it : GroundRecord) where
   abbrev Tells : Option Entry → Type 0
   Tells = TellsOf (λ id g e. e ≡ entry.Ground g) row_of_ground (IsGround members) (ground_row it)
 

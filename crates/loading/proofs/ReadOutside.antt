@@ -6,7 +6,7 @@ use Rattle.sqlite_value.specs.Order.{Row, column}
 use Rattle.sqlite_rules.specs.Lists.{Has}
 use Rattle.sqlite.specs.Effect.{Database}
 use Rattle.duty.specs.Shape.{is_id}
-use Rattle.roster.specs.Sound.{Crew}
+use Rattle.roster.specs.Sound.{Members}
 use Rattle.roster.specs.State.{State}
 use Rattle.roster.specs.declared.state.DutyId.TheVariants.{Period, Outside}
 use Rattle.stored_json.specs.Instants.{is_instant}
@@ -39,7 +39,7 @@ use Rattle.state_rows.specs.Rows.{InCrew, crew_base, named_id, named_number, out
 use Rattle.state_rows.specs.declared.edition.Edition.TheVariants.{Second}
 
 -- the record whose row it is under an id
-module _ (members : Crew) (it : OutsideRecord) (id : List ℕ) (v : OutsideRecord) (e : outside_row it ≡ row_of_keyed_outside id v) (is : IsKeyedOutside members id v) where
+module _ (members : Members) (it : OutsideRecord) (id : List ℕ) (v : OutsideRecord) (e : outside_row it ≡ row_of_keyed_outside id v) (is : IsKeyedOutside members id v) where
   same_record : v ≡ it
   same_record =
       let at_column = λ (k : ℕ). ap (λ (row : Row). column row k) e in
@@ -51,7 +51,7 @@ module _ (members : Crew) (it : OutsideRecord) (id : List ℕ) (v : OutsideRecor
 
 -- ---- One record
 
-module _ (members : Crew) (it : OutsideRecord) where
+module _ (members : Members) (it : OutsideRecord) where
   abbrev pub Tells : Option (List ℕ) → Type 0
   Tells = TellsOf (λ id v found. (found ≡ id) × (v ≡ it)) row_of_keyed_outside (IsKeyedOutside members) (outside_row it)
 
@@ -80,10 +80,10 @@ module _ (members : Crew) (it : OutsideRecord) where
 
 -- ---- Records in turn
 
-pub none_read : (members : Crew) (records : List OutsideRecord) → OutsidesRead members records 0 fin.empty
+pub none_read : (members : Members) (records : List OutsideRecord) → OutsidesRead members records 0 fin.empty
 none_read members records = record { mapped = λ once. nothing_mapped (λ id. id) (λ i j e. e) row_of_keyed_outside (IsKeyedOutside members) }
 
-module _ (members : Crew) (records : List OutsideRecord) (at : ℕ) (it : OutsideRecord) (there : slice_get records at ≡ Some it) where
+module _ (members : Members) (records : List OutsideRecord) (at : ℕ) (it : OutsideRecord) (there : slice_get records at ≡ Some it) where
   pub stranger : Tells members it None → HasStranger row_of_keyed_outside (IsKeyedOutside members) (map outside_row records)
   stranger none = record { row = outside_row it; here = mapped_at outside_row records at it there; strange = none }
 

@@ -33,7 +33,7 @@ use Rattle.entries.proofs.RightRows.{number_fits}
 use Rattle.entries.specs.Right.{AreRight, IsOfEdition, IsOutsideRight, IsOutsideSegmentRight}
 use Rattle.entries.specs.OneOutside.{IsOutsideToldBy}
 use Rattle.loading.specs.OutsideTables.{AreOutsidesSet, AreOutsidesUnset, HasOutsides}
-use Rattle.entries.specs.OutsideRows.{AreSegmentsOf, HasNoGaps, HasTooMany, IsKeyedSegment, IsMadeFrom, IsUnmade, OutsideSegments, Outsides, OutsidesMade, SegmentsRead, name_of_segment, outside_segment_name, row_of_keyed_segment}
+use Rattle.entries.specs.OutsideRows.{AreSegmentsOf, HasNoGaps, HasTooMany, IsKeyedSegment, IsMadeFrom, SaysNoOutside, OutsideSegments, Outsides, OutsidesMade, SegmentsRead, name_of_segment, outside_segment_name, row_of_keyed_segment}
 use Rattle.loading.specs.Reading.{AgreesIn, HasRows, IsReadAs, IsUnreadable}
 use Rattle.entries.specs.Mapping.{AreOnce, HasStranger, Mapped, Under}
 use Rattle.entries.specs.declared.outside_rows.OutsideSegmentKey.{OutsideSegmentKey}
@@ -251,7 +251,7 @@ module _ (s : State) (db : Database) (up : AgreesIn Second outside s db) (m : Ou
               let most = few is.0.value.period (right.3 is.0.name is.0.value is.0.there).made in
               omega (arith, number, thirteen, within, most)
 
-          never_unmade : IsUnmade n id it → ⊥
+          never_unmade : SaysNoOutside n id it → ⊥
           never_unmade (inl many) = not_many many
           never_unmade (inr none) = none.2 its_entry.0.value (said none.0 none.1)
 

@@ -33,7 +33,7 @@ use Rattle.loading.specs.PlanTables.{AreIds, HasIds, HasPeriods, HasSegmentsOf, 
 use Rattle.entries.specs.Right.{AreRight, IsCrewRight, IsPairingRight}
 use Rattle.loading.specs.Loading.{IsDamaged, Justifies, named}
 use Rattle.entries.specs.PlanRows.{IsPairingOfRows, PeriodRows, Periods, SegmentRows, Segments, period_name, segment_name}
-use Rattle.loading.specs.Reading.{AreFree, BlamesOrFails, HasNoHolder, AgreesThrough, ReadsAs}
+use Rattle.loading.specs.Reading.{HaveNoHolders, BlamesOrFails, HasNoHolder, AgreesThrough, ReadsAs}
 use Rattle.entries.specs.Faults.{Blames}
 use Rattle.state_rows.specs.Rows.{InPeriod, InSegment, crew, pairing, period, segment, row_of_pairing}
 use Rattle.entries.specs.declared.fault.LoadFault.{LoadFault}
@@ -253,7 +253,7 @@ SawSegments m old new = ReadsAs (HasSegmentsOf old.now m) (BlamesOrFails table_n
 
 module _ (s : State) (old : conn.State) (above : HasCleanDisk old → AgreesThrough crew s old.now) where
   abbrev pub Now : State → Type 0
-  Now r = AgreesThrough segment r old.now × (r ≡ record s { pairings = r.pairings }) × AreFree r
+  Now r = AgreesThrough segment r old.now × (r ≡ record s { pairings = r.pairings }) × HaveNoHolders r
 
   abbrev pub Reads : conn.State → Result State LoadFault → Type 0
   Reads new result = ReadsAs Now (λ f. Justifies f old.now) old new result
@@ -310,6 +310,6 @@ module _ (s : State) (old : conn.State) (above : HasCleanDisk old → AgreesThro
         }
 
 -- no seat is held in what was read
-pub none_held : (ids : Ids) (m : Periods) (n : Segments) (s : State) (Why : LoadFault → Type 0) (result : Result State LoadFault) → MatchResult result (PairingsRead ids m n s) Why → IfOk result AreFree
+pub none_held : (ids : Ids) (m : Periods) (n : Segments) (s : State) (Why : LoadFault → Type 0) (result : Result State LoadFault) → MatchResult result (PairingsRead ids m n s) Why → IfOk result HaveNoHolders
 none_held ids m n s Why (Ok t) read = λ id r here. (read.known id r here).free
 none_held ids m n s Why (Err fault) read = tt

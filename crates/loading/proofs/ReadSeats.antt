@@ -15,7 +15,7 @@ use Rattle.command.specs.declared.member.Member.{Member}
 use Rattle.command.specs.declared.member.Seat.{Seat}
 use Rattle.command.specs.declared.member.Seat.TheVariants.{Captain, FirstOfficer}
 use Rattle.roster.specs.Pairings.{holder, with_holder, is_flown, is_fully_crewed}
-use Rattle.roster.specs.Sound.{Crew, IsHolder}
+use Rattle.roster.specs.Sound.{Members, IsHolder}
 use Rattle.roster.specs.State.{State}
 use Rattle.roster.specs.declared.state.PairingEntry.{PairingEntry}
 use Rattle.tables.specs.Records.{seat_row}
@@ -25,19 +25,19 @@ use Rattle.entries.proofs.Entries.{values_pass}
 use Rattle.entries.proofs.Mapping.{mapped_at, mapped_place, of_appended, in_appended, of_taken, take_next, has_at}
 use Rattle.loading.proofs.ReadCrew.{seat_known, number_known}
 use Rattle.state_rows.proofs.Values.{text_is, number_is}
-use Rattle.loading.specs.Reading.{seat_of, SeatIndex, SeatsRead, IsSeatHeldBy, IsSamePlan, AreCrewed, AreFree, AreUnseated, row_of_held}
+use Rattle.loading.specs.Reading.{seat_of, SeatIndex, SeatsRead, IsSeatHeldBy, IsSamePlan, AreCrewed, HaveNoHolders, AreUnseated, row_of_held}
 use Rattle.entries.specs.Mapping.{AreOnce, TellsOf, HasStranger}
 use Rattle.entries.specs.Faults.{Blames}
 use Rattle.state_rows.specs.Rows.{InSeat, row_of_seat}
 use Rattle.entries.specs.declared.fault.LoadFault.{LoadFault}
 use Rattle.entries.specs.declared.fault.LoadFault.TheVariants.{NotABook, Version, Damaged, Fault}
 use Rattle.entries.specs.declared.fault.TableName.TheVariants as table_name
-use Rattle.loading.specs.declared.read_seats.HeldSeat.{HeldSeat}
+use Rattle.loading.specs.declared.read_seats.TakenSeat.{TakenSeat}
 
 -- ---- One record
 
-module _ (members : Crew) (pairings : fin.FinMap name_cmp PairingEntry) (it : SeatRecord) where
-  abbrev Tells : Option HeldSeat → Type 0
+module _ (members : Members) (pairings : fin.FinMap name_cmp PairingEntry) (it : SeatRecord) where
+  abbrev Tells : Option TakenSeat → Type 0
   Tells = TellsOf (λ at who held. (held.pairing ≡ at.pairing) × (held.taken.seat ≡ at.seat) × (held.taken.crew ≡ who)) row_of_held (IsSeatHeldBy members pairings) (seat_row it)
 
   same_seat : (at : SeatIndex) (who : List ℕ) → seat_row it ≡ row_of_held at who → seat_of it.seat ≡ Some at.seat
@@ -48,7 +48,7 @@ module _ (members : Crew) (pairings : fin.FinMap name_cmp PairingEntry) (it : Se
 
   pub no_pairing : fin.contains_key pairings it.pairing ≡ false → Tells None
   no_pairing none at who e is =
-      let there : fin.get pairings it.pairing ≡ Some is.rostered = ap (fin.get pairings) (text_is (ap (λ (row : Row). column row 0) e)) ∙ is.of_pairing in
+      let there : fin.get pairings it.pairing ≡ Some is.entry = ap (fin.get pairings) (text_is (ap (λ (row : Row). column row 0) e)) ∙ is.of_pairing in
       absurd (let f = sym none ∙ ap is_some there in cc)
 
   pub no_holder : (seat : Seat) → seat_of it.seat ≡ Some seat → ((m : Member) × (fin.get members it.crew ≡ Some m) × (m.seat ≡ seat) → ⊥) → Tells None
@@ -68,7 +68,7 @@ module _ (members : Crew) (pairings : fin.FinMap name_cmp PairingEntry) (it : Se
         who,
         (refl, refl, refl),
         (λ i. seat_row (record { pairing = sym is_pairing i; seat = number_known it.seat seat is_seat i; crew = sym is_crew i })),
-        record { rostered = r.0; of_pairing = r.1; member = m.0; of_member = m.1; of_kind = m.2 },
+        record { entry = r.0; of_pairing = r.1; member = m.0; of_member = m.1; of_kind = m.2 },
       )
 
 -- ---- A seat is taken
@@ -159,7 +159,7 @@ module _ (t : State) (at : SeatIndex) (who : List ℕ) (r : PairingEntry) (there
     | inr apart ↦ inr (record { name = x.0.name; value = x.0.value; there = sym (elsewhere x.0.name apart) ∙ x.0.there }, x.1, x.2)
   ]
 
-  kinds : (members : Crew) (m : Member) → fin.get members who ≡ Some m → m.seat ≡ at.seat →
+  kinds : (members : Members) (m : Member) → fin.get members who ≡ Some m → m.seat ≡ at.seat →
       ((id : List ℕ) (q : PairingEntry) (seat : Seat) → fin.get t.pairings id ≡ Some q → IsHolder members seat (holder seat q)) →
       (id : List ℕ) (q : PairingEntry) (seat : Seat) → fin.get taken.pairings id ≡ Some q → IsHolder members seat (holder seat q)
   kinds members m is_member of_kind known id q seat found w held = elim (cases_Bool (eq_by_cmp name_cmp id at.pairing)) [
@@ -190,7 +190,7 @@ no_holder_yet : (r : PairingEntry) → (r.captain ≡ None) × (r.first_officer 
 no_holder_yet r free Captain who held = absurd (let e = sym free.0 ∙ held in cc)
 no_holder_yet r free FirstOfficer who held = absurd (let e = sym free.1 ∙ held in cc)
 
-pub none_read : (records : List SeatRecord) (s : State) → AreFree s → SeatsRead records 0 s s
+pub none_read : (records : List SeatRecord) (s : State) → HaveNoHolders s → SeatsRead records 0 s s
 none_read records s free = record {
   same = refl;
   planned = λ id. plan_itself (fin.get s.pairings id);
@@ -211,9 +211,9 @@ module _ (records : List SeatRecord) (count : ℕ) (it : SeatRecord) (there : sl
 
   as_begun : (s t : State) → SeatsRead records count s t → (at : SeatIndex) (who : List ℕ) → IsSeatHeldBy s.crew s.pairings at who → IsSeatHeldBy t.crew t.pairings at who
   as_begun s t read at who is =
-      let q = pairing_was _ _ is.rostered (read.planned at.pairing) is.of_pairing in
+      let q = pairing_was _ _ is.entry (read.planned at.pairing) is.of_pairing in
       record {
-        rostered = q.0;
+        entry = q.0;
         of_pairing = q.1;
         member = is.member;
         of_member = ap (λ (x : State). fin.get x.crew who) read.same ∙ is.of_member;
@@ -228,11 +228,11 @@ module _ (records : List SeatRecord) (count : ℕ) (it : SeatRecord) (there : sl
   }
 
   one_taken : (s t : State) (at : SeatIndex) (who : List ℕ) → seat_row it ≡ row_of_held at who → (is : IsSeatHeldBy t.crew t.pairings at who) → SeatsRead records count s t →
-      SeatsRead records (count + 1) s (taken t at who is.rostered is.of_pairing)
+      SeatsRead records (count + 1) s (taken t at who is.entry is.of_pairing)
   one_taken s t at who row_is is read =
       let place = mapped_place seat_row records count it there ∙ ap Some row_is in
       let new_here = has_at rows count (row_of_held at who) place in
-      let r = is.rostered in
+      let r = is.entry in
       let found = is.of_pairing in
       let next = take_next rows count (row_of_held at who) place in
       record {
@@ -254,13 +254,13 @@ module _ (records : List SeatRecord) (count : ℕ) (it : SeatRecord) (there : sl
         known = kinds t at who r found s.crew is.member (ap (λ (x : State). fin.get x.crew who) (sym read.same) ∙ is.of_member) is.of_kind read.known;
       }
 
-  pub one_read : (s t u : State) (held : HeldSeat) → Tells t.crew t.pairings it (Some held) → SeatsRead records count s t →
+  pub one_read : (s t u : State) (held : TakenSeat) → Tells t.crew t.pairings it (Some held) → SeatsRead records count s t →
       u ≡ record t { pairings = changed_at t.pairings held.pairing (with_holder held.taken.seat (Some held.taken.crew)) } → SeatsRead records (count + 1) s u
   one_read s t u held told read made =
       let at = told.0 in
       let who = told.1 in
       let is = told.2 in
-      let same : u ≡ taken t at who told.4.rostered told.4.of_pairing = made ∙ (λ i. record t { pairings = changed_at t.pairings (is.0 i) (with_holder (is.1 i) (Some (is.2 i))) }) in
+      let same : u ≡ taken t at who told.4.entry told.4.of_pairing = made ∙ (λ i. record t { pairings = changed_at t.pairings (is.0 i) (with_holder (is.1 i) (Some (is.2 i))) }) in
       subst (SeatsRead records (count + 1) s) (sym same) (one_taken s t at who told.3 told.4 read)
 
 -- ---- That both seats of each flown pairing are held

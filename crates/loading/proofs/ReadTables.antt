@@ -10,7 +10,7 @@ use Rattle.loading.proofs.Telling.{or_fails, uncaused}
 use Rattle.loading.specs.Loading.{HasReadCause, IsCaused}
 use Rattle.loading.specs.Reading.{ReadsAs, HasRows, IsUnreadable, BlamesOrFails}
 use Rattle.entries.specs.Faults.{Blames}
-use Rattle.state_rows.specs.Rows.{TableName, table}
+use Rattle.state_rows.specs.Rows.{StateTable, table}
 use Rattle.entries.specs.declared.fault.LoadFault.{LoadFault}
 use Rattle.entries.specs.declared.fault.LoadFault.TheVariants.{NotABook, Version, Damaged, Fault}
 use Rattle.entries.specs.declared.fault.TableName as name
@@ -29,7 +29,7 @@ if_read Is Also Refuses f (Err fault) is = tt
 
 -- ---- A table whose records are read, and then looked at
 
-module _ {R A : Type 0} (it : TableName) (its : name.TableName) (IsRecord : Row → Type 0) (row : R → Row) (IsRight : Type 0) (Tells : A → Type 0)
+module _ {R A : Type 0} (it : StateTable) (its : name.TableName) (IsRecord : Row → Type 0) (row : R → Row) (IsRight : Type 0) (Tells : A → Type 0)
     (old new : State) (left : CrashLeavesNoMore old new) where
   pub not_read : (fault : LoadFault) → (HasCleanDisk old → IsUnreadable it IsRecord old.now → IsRight → ⊥) →
       (HasCleanDisk new → BlamesOrFails its (IsUnreadable it IsRecord old.now) fault) → (HasCleanDisk new → IsCaused old new fault) → ReadsAs Tells (BlamesOrFails its (IsRight → ⊥)) old new (Err fault)

@@ -6,12 +6,12 @@ use Rattle.sqlite.specs.Effect.{Database}
 use Rattle.roster.specs.State.{State}
 use Rattle.roster.specs.declared.state.PairingEntry.{PairingEntry}
 use Rattle.entries.specs.Right.{IsPlanned, IsSegmentRight}
-use Rattle.state_rows.specs.Rows.{TableName, table, HasJust, pairing, period, segment, row_of_pairing}
+use Rattle.state_rows.specs.Rows.{StateTable, table, HasJust, pairing, period, segment, row_of_pairing}
 use Rattle.entries.proofs.SamePairings.{Planned, SamePlan, same_plan}
 use Rattle.state_rows.proofs.Values.{text_is}
 
 -- what one has another has too, if both have just the rows of a table
-pub told : (it : TableName) (db : Database) (P Q : Row → Type 0) → HasJust (table it) db P → HasJust (table it) db Q → (row : Row) → P row → Q row
+pub told : (it : StateTable) (db : Database) (P Q : Row → Type 0) → HasJust (table it) db P → HasJust (table it) db Q → (row : Row) → P row → Q row
 told it db P Q p q row is = (q row).0 ((p row).1 is)
 
 of_planned : (id : List ℕ) (r : PairingEntry) → IsPlanned id r → Planned id r

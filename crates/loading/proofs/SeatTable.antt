@@ -14,7 +14,7 @@ use Rattle.duty.specs.Shape.{is_id}
 use Rattle.command.specs.declared.member.Seat.{Seat}
 use Rattle.command.specs.declared.member.Seat.TheVariants.{Captain, FirstOfficer}
 use Rattle.roster.specs.Pairings.{holder, is_fully_crewed}
-use Rattle.roster.specs.Sound.{Crew, IsHolder}
+use Rattle.roster.specs.Sound.{Members, IsHolder}
 use Rattle.roster.specs.State.{State}
 use Rattle.roster.specs.declared.state.PairingEntry.{PairingEntry}
 use Rattle.tables.proofs.KeyLemmas.{seat_once}
@@ -177,7 +177,7 @@ module _ (s : State) (db : Database) (above : AgreesThrough segment s db) where
       let m = kind held.seat held.crew held.held in
       let alike = crew_told right.0 s (told crew db _ _ right.1.0.0.0.0.1.1 above.right.0.0.0.1.1) held.crew m.0 m.1 in
       stranger.strange (record { pairing = at.name; seat = held.seat }) held.crew x.2 (record {
-        rostered = here.other;
+        entry = here.other;
         of_pairing = here.there;
         member = alike.other;
         of_member = alike.there;
@@ -220,8 +220,8 @@ module _ (s : State) (db : Database) (above : AgreesThrough segment s db) where
         subst (λ u. IsSegmentRight u db) (sym seats.same) (right_stays s t.pairings seats.planned db above.right),
         (read.there, in_table),
         λ id r e. record {
-          captain = subst (λ (c : Crew). IsHolder c Captain r.captain) (sym (ap (λ (x : State). x.crew) seats.same)) (seats.known id r Captain e);
-          first_officer = subst (λ (c : Crew). IsHolder c FirstOfficer r.first_officer) (sym (ap (λ (x : State). x.crew) seats.same)) (seats.known id r FirstOfficer e);
+          captain = subst (λ (c : Members). IsHolder c Captain r.captain) (sym (ap (λ (x : State). x.crew) seats.same)) (seats.known id r Captain e);
+          first_officer = subst (λ (c : Members). IsHolder c FirstOfficer r.first_officer) (sym (ap (λ (x : State). x.crew) seats.same)) (seats.known id r FirstOfficer e);
           crewed = crewed id r e;
         },
       );

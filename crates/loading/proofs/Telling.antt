@@ -18,7 +18,7 @@ use Rattle.tables.specs.declared.table_fault.TableFault.TheVariants as table_fau
 use Rattle.entries.specs.Faults.{load_fault_of, Blames}
 use Rattle.loading.specs.Loading.{HasReadCause, IsCaused, IsDamaged, Justifies, named}
 use Rattle.loading.specs.Reading.{ReadsAs, HasRows, IsUnreadable, BlamesOrFails}
-use Rattle.state_rows.specs.Rows.{TableName, table}
+use Rattle.state_rows.specs.Rows.{StateTable, table}
 use Rattle.entries.specs.declared.fault.LoadFault.{LoadFault}
 use Rattle.entries.specs.declared.fault.LoadFault.TheVariants.{NotABook, Version, Damaged, Fault}
 use Rattle.state_rows.specs.declared.fault.StoreFault.{StoreFault}
@@ -46,7 +46,7 @@ found_all it db found finds row =
     (has_permuted (rows_of it db) found row same, has_permuted found (rows_of it db) row (IsPermutation-sym _ _ same))
 
 -- what a call tells that reads the whole of a table
-abbrev pub Told : {A : Type 0} → TableName → name.TableName → (Row → Type 0) → (A → List Row) → State → State → Result A LoadFault → Type 0
+abbrev pub Told : {A : Type 0} → StateTable → name.TableName → (Row → Type 0) → (A → List Row) → State → State → Result A LoadFault → Type 0
 Told it its IsRecord rows old new result =
     ReadsAs (λ found. HasRows it old.now (rows found)) (BlamesOrFails its (IsUnreadable it IsRecord old.now)) old new result
 
@@ -63,7 +63,7 @@ failed_for old new cause.Unstorable h is = absurd h
 failed : (old new : State) (fault : TableFault) → Failed ⊥ old new fault → fault ≡ table_fault.Store → HasReadCause old new
 failed old new fault it is = failed_for old new it.1.0 it.1.2 (ap table_fault_of (sym it.1.1) ∙ sym it.2 ∙ is)
 
-refused : (it : TableName) (old new : State) → HasStepLimit old ⊎ (IsInOrder (table it) old.now → ⊥) → HasReadCause old new
+refused : (it : StateTable) (old new : State) → HasStepLimit old ⊎ (IsInOrder (table it) old.now → ⊥) → HasReadCause old new
 refused it old new (inl limit) = inr (inr (inl limit))
 refused it old new (inr unordered) = inr (inr (inr (it, unordered)))
 
@@ -80,7 +80,7 @@ uncaused old new its Why (Fault fault) memory is = absurd (let no : Memory ≡ S
 
 -- ---- What a table tells
 
-module _ {A : Type 0} (it : TableName) (its : name.TableName) (IsRecord : Row → Type 0) (rows : A → List Row) where
+module _ {A : Type 0} (it : StateTable) (its : name.TableName) (IsRecord : Row → Type 0) (rows : A → List Row) where
   pub found : (old new : State) (a : A) → IsOfBook (table it) old.now.schema → Loaded (table it) IsRecord rows old new (Ok a) → CrashLeavesNoMore old new → IsLive new →
       Told it its IsRecord rows old new (Ok a)
   found old new a there loaded left live = record {

@@ -3,7 +3,7 @@ use Rattle.std.specs.Prelude.{◌≡◌, ◌⊎◌, ⊤, pos, false, IsUtf8, Non
 use Rattle.sqlite_disk.specs.Disk.{MoreFaults}
 use Rattle.sqlite.specs.Effect.{Database}
 use Rattle.sqlite.specs.State as conn
-use Rattle.roster.specs.Sound.{Crew}
+use Rattle.roster.specs.Sound.{Members}
 use Rattle.roster.specs.State.{State}
 use Rattle.roster.specs.declared.state.DutyId.TheVariants.{Period, Outside}
 use Rattle.tables.specs.Calls.{HasStepLimit, IsInOrder}
@@ -15,7 +15,7 @@ use Rattle.entries.specs.declared.fault.LoadFault.TheVariants.{NotABook, Damaged
 use Rattle.entries.specs.declared.fault.TableName as name
 use Rattle.entries.specs.declared.fault.TableName.TheVariants as table_name
 use Rattle.state_rows.specs.Editions.{edition_number}
-use Rattle.state_rows.specs.Rows.{TableName, book, crew, pairing, period, segment, seat, ground_duty, exceedance, request, base, crew_base, outside, outside_segment, table, HasJust}
+use Rattle.state_rows.specs.Rows.{StateTable, book, crew, pairing, period, segment, seat, ground_duty, exceedance, request, base, crew_base, outside, outside_segment, table, HasJust}
 use Rattle.state_rows.specs.declared.edition.Edition.{Edition}
 use Rattle.state_rows.specs.declared.fault.StoreFault.TheVariants.{Store}
 use Rattle.entries.specs.Right.{AreRight, AreRightAbove}
@@ -35,7 +35,7 @@ pub record IsOfOtherVersion (db : Database) : Type 0 where
   pub other : (edition : Edition) → ¬ (it.version ≡ pos (edition_number edition))
 
 -- the table of this name is the first of the book that isn't right (41)
-pub record IsDamaged (name : TableName) (db : Database) : Type 0 where
+pub record IsDamaged (name : StateTable) (db : Database) : Type 0 where
   pub book : ¬ IsNoBook db
   pub version : ¬ IsOfOtherVersion db
   pub above : AreRightAbove name db
@@ -44,7 +44,7 @@ pub record IsDamaged (name : TableName) (db : Database) : Type 0 where
 -- ---- Refusals
 
 -- a name of a table in a refusal means this table
-abbrev pub named : name.TableName → TableName
+abbrev pub named : name.TableName → StateTable
 named table_name.Book = book
 named table_name.Crew = crew
 named table_name.Pairing = pairing
@@ -76,7 +76,7 @@ HasReadCause old new =
     MoreFaults old.faults new.faults
     ⊎ ((old.is_open ≡ false)
     ⊎ (HasStepLimit old
-    ⊎ ((name : TableName) × ¬ IsInOrder (table name) old.now)))
+    ⊎ ((name : StateTable) × ¬ IsInOrder (table name) old.now)))
 
 -- a refusal to load that reports a fault of the store (90) has a cause in the calls from one state
 -- of the connection to the other

@@ -6,7 +6,7 @@ use Rattle.sqlite_value.specs.Order.{Row}
 use Rattle.sqlite.specs.Effect.{Database}
 use Rattle.duty.specs.Shape.{is_id}
 use Rattle.command.specs.declared.member.Member.{Member}
-use Rattle.roster.specs.Sound.{Crew}
+use Rattle.roster.specs.Sound.{Members}
 use Rattle.roster.specs.State.{State}
 use Rattle.roster.specs.declared.state.DutyId.{DutyId}
 use Rattle.roster.specs.declared.state.DutyId.TheVariants.{Period, Outside}
@@ -28,7 +28,7 @@ row_of_keyed_outside id it = outside_row (record it { id = id })
 
 -- the record of an outside period of a member stands under its id, which has its shape, and is at
 -- instants
-pub record IsKeyedOutside (members : Crew) (id : List ℕ) (it : OutsideRecord) : Type 0 where
+pub record IsKeyedOutside (members : Members) (id : List ℕ) (it : OutsideRecord) : Type 0 where
   pub named : it.id ≡ id
   pub id_shape : is_id it.id ≡ true
   pub report : is_instant it.report_at ≡ true
@@ -38,7 +38,7 @@ pub record IsKeyedOutside (members : Crew) (id : List ℕ) (it : OutsideRecord) 
 
 -- the map has just this many first records of `outside`, by their ids
 pub record OutsidesRead
-    (members : Crew) (records : List OutsideRecord) (count : ℕ) (outsides : Outsides)
+    (members : Members) (records : List OutsideRecord) (count : ℕ) (outsides : Outsides)
     : Type 0 where
   pub mapped : AreOnce row_of_keyed_outside (map outside_row records) →
       Mapped (λ id. id) row_of_keyed_outside (IsKeyedOutside members)

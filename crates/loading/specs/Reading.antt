@@ -17,7 +17,7 @@ use Rattle.command.specs.declared.member.Seat.{Seat}
 use Rattle.command.specs.declared.member.Seat.TheVariants.{Captain, FirstOfficer}
 use Rattle.roster.specs.Bases.{IsBase, home_zone, only_home}
 use Rattle.roster.specs.Pairings.{holder, is_flown, is_fully_crewed}
-use Rattle.roster.specs.Sound.{Crew, IsHolder}
+use Rattle.roster.specs.Sound.{Members, IsHolder}
 use Rattle.roster.specs.State as roster
 use Rattle.roster.specs.declared.state.DutyId.{DutyId}
 use Rattle.roster.specs.declared.state.DutyId.TheVariants.{Period, Outside}
@@ -40,7 +40,7 @@ use Rattle.loading.specs.Loading.{IsCaused, IsNoBook, IsOfOtherVersion}
 use Rattle.entries.specs.Right.{IsMember, IsFlown, IsGround, IsExceedance, IsRequest, AreHeld, name_of, IsRight, IsOfEdition}
 use Rattle.state_rows.specs.Editions.{edition_number}
 use Rattle.state_rows.specs.First.{IsOfFirst}
-use Rattle.state_rows.specs.Rows.{TableName, book, crew, pairing, seat, base, crew_base, outside, outside_segment, table, row_of_member, row_of_seat, row_of_ground, row_of_request, row_of_base, row_of_post, named_number, InSeat}
+use Rattle.state_rows.specs.Rows.{StateTable, book, crew, pairing, seat, base, crew_base, outside, outside_segment, table, row_of_member, row_of_seat, row_of_ground, row_of_request, row_of_base, row_of_post, named_number, InSeat}
 use Rattle.state_rows.specs.declared.edition.Edition.{Edition}
 use Rattle.state_rows.specs.declared.edition.Edition.TheVariants.{First, Second}
 use Rattle.state_rows.specs.declared.fault.StoreFault.TheVariants.{Memory}
@@ -65,14 +65,14 @@ pub record ReadsAs {A : Type 0}
 
 -- the table of this name is there, each row of it under a number of its own, and has just these
 -- rows
-pub record HasRows (it : TableName) (db : Database) (rows : List Row) : Type 0 where
+pub record HasRows (it : StateTable) (db : Database) (rows : List Row) : Type 0 where
   pub database : IsDatabase db
   pub there : IsOfBook (table it) db.schema
   pub stored : IsStored (table it) db
   pub all : (row : Row) → Has (rows_of (table it) db) row ↔ Has rows row
 
 -- the table of this name isn't there, or some row of it is no record
-abbrev pub IsUnreadable : TableName → (Row → Type 0) → Database → Type 0
+abbrev pub IsUnreadable : StateTable → (Row → Type 0) → Database → Type 0
 IsUnreadable it IsRecord db =
     (¬ IsOfBook (table it) db.schema) ⊎ HasNoRecord (table it) (begins_with []) IsRecord db
 
@@ -86,7 +86,7 @@ BlamesOrFails it Why (Fault fault) = ⊤
 
 -- the book is of version 1 or 2, and its tables from `book` to the one of this name are right, each
 -- row under a number of its own
-pub record AgreesThrough (it : TableName) (s : roster.State) (db : Database) : Type 0 where
+pub record AgreesThrough (it : StateTable) (s : roster.State) (db : Database) : Type 0 where
   pub stored : AllByRecursion (λ name. IsStored (table name) db) (down_to it)
   pub book : ¬ IsNoBook db
   pub version : ¬ IsOfOtherVersion db
@@ -110,14 +110,14 @@ CanName Second pairings (Outside id) = ⊤
 -- an exceedance is of a member, and names a duty that an exceedance in a file of this version can
 -- name, with a number of eight bits
 pub record IsExceedanceIn
-    (edition : Edition) (members : Crew) (pairings : fin.FinMap name_cmp PairingEntry)
+    (edition : Edition) (members : Members) (pairings : fin.FinMap name_cmp PairingEntry)
     (id : ExceedanceId) (named : DutyId) : Type 0 where
   pub is : IsExceedance members pairings id named
   pub can : CanName edition pairings named
   pub fits : named_number named < 256
 
 -- the base of each of these members is HOME
-abbrev pub AreAtHome : Crew → Type 0
+abbrev pub AreAtHome : Members → Type 0
 AreAtHome members =
     (who : List ℕ) (m : Member) → fin.get members who ≡ Some m → m.base ≡ home
 
@@ -188,10 +188,10 @@ row_of_held at who = row_of_seat at.pairing at.seat who
 
 -- the pairing of a seat is there, and the holder of the seat is a member of the seat's kind
 pub record IsSeatHeldBy
-    (members : Crew) (pairings : fin.FinMap name_cmp PairingEntry) (at : SeatIndex)
+    (members : Members) (pairings : fin.FinMap name_cmp PairingEntry) (at : SeatIndex)
     (who : List ℕ) : Type 0 where
-  pub rostered : PairingEntry
-  pub of_pairing : fin.get pairings at.pairing ≡ Some rostered
+  pub entry : PairingEntry
+  pub of_pairing : fin.get pairings at.pairing ≡ Some entry
   pub member : Member
   pub of_member : fin.get members who ≡ Some member
   pub of_kind : member.seat ≡ at.seat
@@ -223,8 +223,8 @@ abbrev pub HasNoHolder : PairingEntry → Type 0
 HasNoHolder r = (r.captain ≡ None) × (r.first_officer ≡ None)
 
 -- no seat of any pairing of the state is held
-abbrev pub AreFree : roster.State → Type 0
-AreFree s = (id : List ℕ) (r : PairingEntry) → fin.get s.pairings id ≡ Some r → HasNoHolder r
+abbrev pub HaveNoHolders : roster.State → Type 0
+HaveNoHolders s = (id : List ℕ) (r : PairingEntry) → fin.get s.pairings id ≡ Some r → HasNoHolder r
 
 -- some record of `seat` is that of no seat that a member of its kind holds, or a flown pairing has
 -- a free seat
@@ -278,7 +278,7 @@ HasNoDuties s = (s.grounds ≡ fin.empty) × (s.exceedances ≡ fin.empty) × (s
 
 -- the book is of this version, and its tables from `book` to the one of this name are right
 pub record AgreesIn
-    (edition : Edition) (it : TableName) (s : roster.State) (db : Database) : Type 0 where
+    (edition : Edition) (it : StateTable) (s : roster.State) (db : Database) : Type 0 where
   pub through : AgreesThrough it s db
   pub of : IsOfEdition edition db
 
@@ -298,7 +298,7 @@ BlamesName schema fault = ⊥
 
 -- the tables from `book` to the one of this name are right, with the rows of this state, and each
 -- row of the named table is under a number of its own
-abbrev pub IsReadAs : TableName → roster.State → Database → Type 0
+abbrev pub IsReadAs : StateTable → roster.State → Database → Type 0
 IsReadAs it s db = IsRight it s db × IsStored (table it) db
 
 -- ---- The bases
@@ -353,14 +353,14 @@ pub record IsPosted (s : roster.State) (who : List ℕ) (m : Member) : Type 0 wh
 -- these are the members of the roster whom this many first records of `crew_base` name, each at the
 -- base that the record names
 pub record PostsRead
-    (s : roster.State) (records : List CrewBaseRecord) (count : ℕ) (posted : Crew)
+    (s : roster.State) (records : List CrewBaseRecord) (count : ℕ) (posted : Members)
     : Type 0 where
   pub mapped : AreOnce row_of_posted (map crew_base_row records) →
       Mapped (λ who. who) row_of_posted (IsPosted s)
       (take count (map crew_base_row records)) posted
 
 -- each of the members is among the members whom records of `crew_base` name
-abbrev pub AreAllPosted : Crew → Crew → Type 0
+abbrev pub AreAllPosted : Members → Members → Type 0
 AreAllPosted members posted = (who : List ℕ) →
     fin.contains_key members who ≡ true → fin.contains_key posted who ≡ true
 
@@ -375,5 +375,5 @@ pub record ArePosted (records : List CrewBaseRecord) (old new : roster.State) : 
 abbrev pub AreUnposted : List CrewBaseRecord → roster.State → Type 0
 AreUnposted records s =
     HasStranger row_of_posted (IsPosted s) (map crew_base_row records)
-    ⊎ ((posted : Crew) × PostsRead s records (length records) posted
+    ⊎ ((posted : Members) × PostsRead s records (length records) posted
     × (AreAllPosted s.crew posted → ⊥))

@@ -15,7 +15,7 @@ ghost use Rattle.state_rows.specs.declared.edition.Edition.TheVariants.{Second};
 ghost use Rattle.entries.specs.declared.fault.TableName.TheVariants as table_name;
 
 use duty::OutsideId;
-use entries::outside_segments::{all_by_keys, all_made};
+use entries::outside_segments::{all_by_keys, make_all};
 use entries::{LoadFault, TableName};
 use roster::Roster;
 use sqlite::{Alter, Connection};
@@ -62,7 +62,7 @@ fn set_outsides(
         (Blames table_name.OutsideSegment (AreOutsidesUnset outsides.now records.now)) }
 {
     let segments = all_by_keys(alloc, outsides, records)?;
-    let made = all_made(alloc, outsides, &segments)?;
+    let made = make_all(alloc, outsides, &segments)?;
     let mut roster = roster;
     roster.outsides = made;
     Ok(roster)

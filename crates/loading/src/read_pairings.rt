@@ -9,7 +9,7 @@ ghost use Rattle.tables.specs.Records.{pairing_row, IsPairingRow};
 ghost use Rattle.loading.specs.PlanTables.{AreIds, HasIds, HasUntold, IdsRead, IsId, PairingsRead, row_of_id};
 ghost use Rattle.loading.specs.Loading.{Justifies};
 ghost use Rattle.entries.specs.PlanRows.{AreUngapped, HasNoGaps};
-ghost use Rattle.loading.specs.Reading.{AreFree, ReadsAs, HasRows, IsUnreadable, BlamesOrFails, AgreesThrough};
+ghost use Rattle.loading.specs.Reading.{HaveNoHolders, ReadsAs, HasRows, IsUnreadable, BlamesOrFails, AgreesThrough};
 ghost use Rattle.entries.specs.Faults.{Blames};
 ghost use Rattle.entries.specs.Mapping.{HasStranger};
 ghost use Rattle.state_rows.specs.Rows.{crew, pairing, segment};
@@ -110,11 +110,11 @@ pub(crate) fn read_pairings<S: Alter>(
     requires above { HasCleanDisk (state S.Store conn.old)
         → AgreesThrough crew roster (state S.Store conn.old).now }
     ensures read { ReadsAs (λ r. AgreesThrough segment r (state S.Store conn.old).now
-        × (r ≡ record roster { pairings = r.pairings }) × AreFree r)
+        × (r ≡ record roster { pairings = r.pairings }) × HaveNoHolders r)
         (λ fault. Justifies fault (state S.Store conn.old).now) (state S.Store conn.old)
         (state S.Store conn.new) result }
     ensures rest { IfOk result (λ r. r ≡ record roster { pairings = r.pairings }) }
-    ensures free { IfOk result AreFree }
+    ensures free { IfOk result HaveNoHolders }
 {
     let ids = read_ids(alloc, conn)?;
     let periods = read_periods(alloc, conn, &ids)?;

@@ -9,7 +9,7 @@ ghost use Rattle.command.specs.declared.member.Member.{Member as MemberOf};
 ghost use Rattle.roster.specs.Pairings.{is_flown, is_fully_crewed};
 ghost use Rattle.tables.specs.Records.{seat_row, IsSeatRow};
 ghost use Rattle.loading.specs.Loading.{Justifies};
-ghost use Rattle.loading.specs.Reading.{AreCrewed, AreFree, AreUnseated, IsSeatHeldBy, SeatsRead, row_of_held, ReadsAs, HasRows, IsUnreadable, BlamesOrFails, AgreesThrough};
+ghost use Rattle.loading.specs.Reading.{AreCrewed, HaveNoHolders, AreUnseated, IsSeatHeldBy, SeatsRead, row_of_held, ReadsAs, HasRows, IsUnreadable, BlamesOrFails, AgreesThrough};
 ghost use Rattle.entries.specs.Faults.{Blames};
 ghost use Rattle.entries.specs.Mapping.{TellsOf, HasStranger};
 ghost use Rattle.state_rows.specs.Rows.{seat, segment};
@@ -37,19 +37,19 @@ impl Edit<PairingEntry> for Taken {
     ghost use Rattle.std.specs.Prelude.{Some};
     ghost use Rattle.roster.specs.Pairings.{with_holder};
 
-    ghost edited = { λ taken rostered. with_holder taken.seat (Some taken.crew) rostered };
+    ghost edited = { λ taken entry. with_holder taken.seat (Some taken.crew) entry };
 
-    fn edit(self, rostered: &mut PairingEntry) {
+    fn edit(self, entry: &mut PairingEntry) {
         match self.seat {
-            Seat::Captain => rostered.captain = Some(self.crew),
-            Seat::FirstOfficer => rostered.first_officer = Some(self.crew),
+            Seat::Captain => entry.captain = Some(self.crew),
+            Seat::FirstOfficer => entry.first_officer = Some(self.crew),
         }
     }
 }
 
 /// A seat of a pairing, and who takes it.
 #[derive(Drop)]
-struct HeldSeat {
+struct TakenSeat {
     pairing: PairingId,
     taken: Taken,
 }
@@ -94,7 +94,7 @@ fn held_seat_of(
     alloc: Global,
     roster: &Roster,
     row: &SeatRecord,
-) -> Result<Option<HeldSeat>, MemoryFault>
+) -> Result<Option<TakenSeat>, MemoryFault>
     ensures { IfOk result (TellsOf
         (λ at who it. (it.pairing ≡ at.pairing) × (it.taken.seat ≡ at.seat) × (it.taken.crew ≡ who))
         row_of_held (IsSeatHeldBy roster.now.crew roster.now.pairings) (seat_row row.now)) }
@@ -110,7 +110,7 @@ fn held_seat_of(
     if !takes(roster, &crew, seat) {
         return Ok(None);
     }
-    Ok(Some(HeldSeat {
+    Ok(Some(TakenSeat {
         pairing,
         taken: Taken { seat, crew },
     }))
@@ -118,7 +118,7 @@ fn held_seat_of(
 
 /// Puts the members into the seats that the records give.
 fn take_seats(alloc: Global, roster: Roster, records: &[SeatRecord]) -> Result<Roster, LoadFault>
-    requires { AreFree roster }
+    requires { HaveNoHolders roster }
     ensures { MatchResult result (SeatsRead records.now (length records.now) roster)
         (Blames table_name.Seat
         (HasStranger row_of_held (IsSeatHeldBy roster.crew roster.pairings)
@@ -126,7 +126,7 @@ fn take_seats(alloc: Global, roster: Roster, records: &[SeatRecord]) -> Result<R
 {
     let mut roster = roster;
     for row in records {
-        let Some(HeldSeat { pairing, taken }) = held_seat_of(alloc, &roster, row)? else {
+        let Some(TakenSeat { pairing, taken }) = held_seat_of(alloc, &roster, row)? else {
             return Err(LoadFault::Damaged(TableName::Seat));
         };
         roster.pairings.edit(&pairing, taken);
@@ -135,10 +135,10 @@ fn take_seats(alloc: Global, roster: Roster, records: &[SeatRecord]) -> Result<R
 }
 
 /// Returns whether both seats of a pairing are held, if it is flown.
-fn is_seated(rostered: &PairingEntry) -> bool
-    ensures { result ≡ not (is_flown rostered.now) || is_fully_crewed rostered.now }
+fn is_seated(entry: &PairingEntry) -> bool
+    ensures { result ≡ not (is_flown entry.now) || is_fully_crewed entry.now }
 {
-    !rostered.is_flown() || rostered.captain.is_some() && rostered.first_officer.is_some()
+    !entry.is_flown() || entry.captain.is_some() && entry.first_officer.is_some()
 }
 
 /// Returns whether both seats of each flown pairing are held.
@@ -146,8 +146,8 @@ fn is_seated(rostered: &PairingEntry) -> bool
 fn are_crewed(roster: &Roster) -> bool
     ensures { IsTrue result ↔ AreCrewed roster.now }
 {
-    for (_, rostered) in roster.pairings.iter() {
-        if !is_seated(rostered) {
+    for (_, entry) in roster.pairings.iter() {
+        if !is_seated(entry) {
             return false;
         }
     }
@@ -157,7 +157,7 @@ fn are_crewed(roster: &Roster) -> bool
 /// Puts the members into the seats that the records give, where that leaves no flown pairing with a free seat.
 #[tactic(auto, using(crate::proofs::ReadSeats::read_stranger, crate::proofs::ReadSeats::not_all_crewed))]
 fn seat_all(alloc: Global, roster: Roster, records: &[SeatRecord]) -> Result<Roster, LoadFault>
-    requires { AreFree roster }
+    requires { HaveNoHolders roster }
     ensures { MatchResult result (λ r. SeatsRead records.now (length records.now) roster r
         × AreCrewed r) (Blames table_name.Seat (AreUnseated records.now roster)) }
 {
@@ -174,7 +174,7 @@ pub(crate) fn read_seats<S: Alter>(
     conn: &mut Connection<S>,
     roster: Roster,
 ) -> Result<Roster, LoadFault>
-    requires free { AreFree roster }
+    requires free { HaveNoHolders roster }
     requires above { HasCleanDisk (state S.Store conn.old)
         → AgreesThrough segment roster (state S.Store conn.old).now }
     ensures read { ReadsAs (λ r. AgreesThrough seat r (state S.Store conn.old).now

@@ -8,7 +8,7 @@ ghost use Rattle.sqlite.specs.Held.{state};
 ghost use Rattle.sqlite.specs.State.{HasCleanDisk};
 ghost use Rattle.entries.specs.Right.{IsOfEdition};
 ghost use Rattle.loading.specs.Loading.{Justifies};
-ghost use Rattle.loading.specs.Reading.{AgreesIn, AreFree, HasNoDuties, HasNoLater, AgreesThrough, ReadsAs};
+ghost use Rattle.loading.specs.Reading.{AgreesIn, HaveNoHolders, HasNoDuties, HasNoLater, AgreesThrough, ReadsAs};
 ghost use Rattle.roster.specs.Bases.{home_zone};
 ghost use Rattle.roster.specs.State.{empty};
 ghost use Rattle.state_rows.specs.Rows.{book, ground_duty, outside_segment, request, segment};
@@ -39,7 +39,7 @@ fn read_plans<S: Alter>(
     ensures read { ReadsAs (λ r. AgreesThrough segment r (state S.Store conn.old).now)
         (λ fault. Justifies fault (state S.Store conn.old).now) (state S.Store conn.old)
         (state S.Store conn.new) result }
-    ensures free { IfOk result AreFree }
+    ensures free { IfOk result HaveNoHolders }
     ensures rest { IfOk result HasNoDuties }
     ensures first { IfOk result HasNoLater }
 {
@@ -53,7 +53,7 @@ fn read_duties<S: Alter>(
     conn: &mut Connection<S>,
     roster: Roster,
 ) -> Result<Roster, LoadFault>
-    requires free { AreFree roster }
+    requires free { HaveNoHolders roster }
     requires none { HasNoDuties roster }
     requires first { HasNoLater roster }
     requires above { HasCleanDisk (state S.Store conn.old)

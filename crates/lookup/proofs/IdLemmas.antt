@@ -14,7 +14,7 @@ use Rattle.tables.specs.Records.{crew_row, pairing_row}
 use Rattle.tables.specs.Rows.{Finds, begins_with, rows_of}
 use Rattle.tables.specs.declared.crew.CrewRecord.{CrewRecord}
 use Rattle.tables.specs.declared.pairing.PairingRecord.{PairingRecord}
-use Rattle.state_rows.specs.Rows.{At, TableName, table, crew, pairing, row_of_member, row_of_pairing}
+use Rattle.state_rows.specs.Rows.{At, StateTable, table, crew, pairing, row_of_member, row_of_pairing}
 use Rattle.state_rows.proofs.Values.{text_is}
 use Rattle.state_rows.specs.Kept.{IsBookOf}
 use Rattle.lookup.specs.Ids.{members_in, pairings_in}
@@ -39,7 +39,7 @@ module _ {R : Type 0} (row_of : R → Row) (id_of : R → List ℕ) (first : (r 
   row_id (x ∷ xs) row id (inr later) is = is_later (id_of x) (map id_of xs) id (row_id xs row id later is)
 
   -- a table with a row for each name of a map
-  module _ {V : Type 0} (m : fin.FinMap name_cmp V) (it : TableName) (db : Database) (of_row : (row : Row) → Has (rows_of (table it) db) row → (at : At m) × (column row 0 ≡ Text at.name))
+  module _ {V : Type 0} (m : fin.FinMap name_cmp V) (it : StateTable) (db : Database) (of_row : (row : Row) → Has (rows_of (table it) db) row → (at : At m) × (column row 0 ≡ Text at.name))
       (to_row : (at : At m) → (row : Row) × Has (rows_of (table it) db) row × (column row 0 ≡ Text at.name)) where
     names_are : (records : List R) → Finds (table it) (begins_with []) db (map row_of records) → AreJust (λ id. IsTrue (fin.contains_key m id)) (map id_of records)
     names_are records finds id = (

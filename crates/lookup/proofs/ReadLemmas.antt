@@ -9,7 +9,7 @@ use Rattle.tables.proofs.Answering.{has_permuted}
 use Rattle.tables.specs.Calls.{HasStepLimit, HoldsWhileOpen, CrashLeavesNoMore, Read, ReadAs, IsUnchangedOrUndone as NotMade}
 use Rattle.tables.specs.Rows.{Finds, HasNoRecord, rows_of}
 use Rattle.tables.specs.declared.table_fault.TableFault.{TableFault}
-use Rattle.state_rows.specs.Rows.{TableName, table}
+use Rattle.state_rows.specs.Rows.{StateTable, table}
 use Rattle.state_rows.specs.Faults.{store_fault_of}
 use Rattle.state_rows.specs.declared.fault.StoreFault.{StoreFault}
 use Rattle.state_rows.specs.Kept.{AreStored}
@@ -64,7 +64,7 @@ module _ {A : Type 0} (Is : Database → A → Type 0) (IsDamaged : Database →
     limit = left.limit;
   }
 
-module _ {A : Type 0} (it : TableName) (test : Row → Bool) (rows : A → List Row) (old new : State)
+module _ {A : Type 0} (it : StateTable) (test : Row → Bool) (rows : A → List Row) (old new : State)
     (left : CrashLeavesNoMore old new) (outside : IsOutside old) (same : HasCleanDisk old → IsTrue old.is_open → old.now ≡ old.committed) where
   abbrev FindsThem : Database → A → Type 0
   FindsThem db found = Finds (table it) test db (rows found)
@@ -86,7 +86,7 @@ module _ {A : Type 0} (it : TableName) (test : Row → Bool) (rows : A → List 
 
 -- ---- The tables are there
 
-pub holds_open : (it : TableName) (s : State) → IsOverBook s → HoldsWhileOpen (table it) s
+pub holds_open : (it : StateTable) (s : State) → IsOverBook s → HoldsWhileOpen (table it) s
 holds_open it s over clean opened = is_there s.now.schema (over clean opened).0 it
 
 abbrev IsFit : Database → Type 0
@@ -121,7 +121,7 @@ of_filtered test (y ∷ ys) x h =
       | false ↦ λ _ here. let it = of_filtered test ys x here in (inr it.0, it.1)
     ] refl h
 
-module _ (it : TableName) (test : Row → Bool) (db : Database) (rows : List Row) (finds : Finds (table it) test db rows) where
+module _ (it : StateTable) (test : Row → Bool) (db : Database) (rows : List Row) (finds : Finds (table it) test db rows) where
   pub in_found : (x : Row) → Has (rows_of (table it) db) x → test x ≡ true → Has rows x
   in_found x h pass = has_permuted (filter test (rows_of (table it) db)) rows x finds (has_filtered test (rows_of (table it) db) x h pass)
 
@@ -141,10 +141,10 @@ pub record IsReady (s : State) : Type 0 where
   pub settled : HasCleanDisk s → IsTrue s.is_open → s.now ≡ s.committed
 
 -- a read, by the rows that it found
-abbrev pub FindsRows : TableName → (Row → Bool) → State → State → Result (List Row) StoreFault → Type 0
+abbrev pub FindsRows : StateTable → (Row → Bool) → State → State → Result (List Row) StoreFault → Type 0
 FindsRows it test old new result = ReadsRows it test (λ (rows : List Row). rows) old new result
 
-module _ (it : TableName) (test : Row → Bool) (old new : State) (ready : IsReady old) (left : CrashLeavesNoMore old new) where
+module _ (it : StateTable) (test : Row → Bool) (old new : State) (ready : IsReady old) (left : CrashLeavesNoMore old new) where
   pub reads : (rows : List Row) → Read (table it) test (RecordOf it) (λ (found : List Row). found) old new (Ok rows) → FindsRows it test old new (Ok rows)
   reads rows read = was_read it test (λ (found : List Row). found) old new left ready.outside ready.settled rows read
 
@@ -153,7 +153,7 @@ module _ (it : TableName) (test : Row → Bool) (old new : State) (ready : IsRea
   reads_not fault told read of_fault = not_read it test (λ (found : List Row). found) old new left ready.outside ready.settled fault told read of_fault
 
 -- so it may after a read
-pub ready_on : (it : TableName) (test : Row → Bool) (old new : State) (rows : List Row) → IsReady old → FindsRows it test old new (Ok rows) → IsReady new
+pub ready_on : (it : StateTable) (test : Row → Bool) (old new : State) (rows : List Row) → IsReady old → FindsRows it test old new (Ok rows) → IsReady new
 ready_on it test old new rows ready read = record {
   outside = read.stays.outside;
   over = over_on old new read.stays ready.over;

@@ -39,7 +39,7 @@ use Rattle.entries.specs.Right.{AreRight, IsKey, name_of}
 use Rattle.entries.specs.Mapping.{AreOnce, HasStranger, Mapped}
 use Rattle.entries.specs.Exceedances.{IsDutyOf, IsInRange, row_of_recorded}
 use Rattle.lookup.specs.Reads.{ReadsRows}
-use Rattle.lookup.specs.Recorded.{AreRead, IsNumbered, IsStrange, TellsRecorded}
+use Rattle.lookup.specs.Recorded.{AreRead, AreInRange, IsStrange, TellsRecorded}
 use Rattle.lookup.proofs.Causes.{read_cause, wrong_there}
 use Rattle.lookup.proofs.RightRows.{exceedance_records, exceedances_right, segments_right}
 use Rattle.lookup.proofs.ReadLemmas.{at_rest, in_found, of_found, stays}
@@ -112,7 +112,7 @@ pub row_is : (it : ExceedanceRecord) (key : KeyParts) (section : Section) (named
 row_is it key section named number part section_is tells =
     (λ i. exceedance_row (record it { number = number i; part = part i; section = section_is i; pairing = sym tells.same_id i; period = sym tells.same_number i }), tells.in_range)
 
-module _ (it : ExceedanceRecord) (id : ExceedanceId) (named : DutyId) (same : exceedance_row it ≡ row_of_recorded id named) (is : IsNumbered id named) where
+module _ (it : ExceedanceRecord) (id : ExceedanceId) (named : DutyId) (same : exceedance_row it ≡ row_of_recorded id named) (is : AreInRange id named) where
   column_of : (k : ℕ) → column (exceedance_row it) k ≡ column (row_of_recorded id named) k
   column_of k = ap (λ (row : Row). column row k) same
 
@@ -137,7 +137,7 @@ no_duty it high id named same is = let low = period_there it id named same is in
 -- ---- Records in turn
 
 pub stranger_at : (records : List ExceedanceRecord) (at : ℕ) (it : ExceedanceRecord) → slice_get records at ≡ Some it → IsStrange it →
-    HasStranger row_of_recorded IsNumbered (map exceedance_row records)
+    HasStranger row_of_recorded AreInRange (map exceedance_row records)
 stranger_at records at it there strange = record { row = exceedance_row it; here = mapped_at exceedance_row records at it there; strange = strange }
 
 abbrev Is : ExceedanceId → DutyId → Type 0
@@ -202,7 +202,7 @@ module _ (s : roster.State) (sound : Sound s) (db : Database) (is_book : IsBookO
       ap (fin.get m) (x.known_by ∙ same.0) ∙ here.0.there ∙ ap Some (sym same.1))
 
 pub no_stranger : (db : Database) → AreRight outside_segment db → (records : List ExceedanceRecord) → Finds (table exceedance) (begins_with []) db (map exceedance_row records) →
-    HasStranger row_of_recorded IsNumbered (map exceedance_row records) → ⊥
+    HasStranger row_of_recorded AreInRange (map exceedance_row records) → ⊥
 no_stranger db right records finds x =
     let r = exceedances_right db right in
     let there = of_found exceedance (begins_with []) db (map exceedance_row records) finds x.row x.here in

@@ -12,7 +12,7 @@ use Rattle.roster.specs.State.{State}
 use Rattle.tables.specs.Records.{IsBaseRow, IsBookRow, IsCrewBaseRow, IsCrewRow, IsExceedanceRow, IsGroundRow, IsOutsideRow, IsOutsideSegmentRow, IsPairingRow, IsPeriodRow, IsRequestRow, IsSeatRow, IsSegmentRow, pairing_row}
 use Rattle.tables.specs.Rows.{HasNoRecord, cells, kept_in, rows_of}
 use Rattle.tables.specs.Schema.{BookTable, IsNameFree, base_table, crew_base_table, outside_table, outside_segment_table}
-use Rattle.state_rows.specs.Rows.{HasJust, InOutside, InOutsideSegment, TableName, table, book, crew, pairing, period, segment, seat, ground_duty, exceedance, request, base, crew_base, outside, outside_segment}
+use Rattle.state_rows.specs.Rows.{HasJust, InOutside, InOutsideSegment, StateTable, table, book, crew, pairing, period, segment, seat, ground_duty, exceedance, request, base, crew_base, outside, outside_segment}
 use Rattle.state_rows.specs.declared.edition.Edition.TheVariants.{Second}
 use Rattle.state_rows.proofs.Values.{text_is}
 use Rattle.entries.specs.Right.{AreOutsides, AreRight, IsOfEdition, IsRight}
@@ -60,7 +60,7 @@ module _ (db : Database) (right : AreRight outside_segment db) where
 -- ---- Their rows
 
 -- each row that passes a test is one of a record
-abbrev pub AreRecords : TableName → (Row → Type 0) → Type 0
+abbrev pub AreRecords : StateTable → (Row → Type 0) → Type 0
 AreRecords it IsRecord = (db : Database) (test : Row → Bool) → HasNoRecord (table it) test IsRecord db → AreRight outside_segment db → ⊥
 
 book_records : AreRecords book IsBookRow
@@ -193,7 +193,7 @@ outside_segment_records db test x right =
     )
 
 -- the rows that are records of each table
-abbrev pub RecordOf : TableName → Row → Type 0
+abbrev pub RecordOf : StateTable → Row → Type 0
 RecordOf book = IsBookRow
 RecordOf crew = IsCrewRow
 RecordOf pairing = IsPairingRow
@@ -208,7 +208,7 @@ RecordOf crew_base = IsCrewBaseRow
 RecordOf outside = IsOutsideRow
 RecordOf outside_segment = IsOutsideSegmentRow
 
-pub records_of : (it : TableName) → AreRecords it (RecordOf it)
+pub records_of : (it : StateTable) → AreRecords it (RecordOf it)
 records_of book = book_records
 records_of crew = crew_records
 records_of pairing = pairing_records

@@ -12,7 +12,7 @@ use Rattle.entries.specs.SameRows.{HasInstants}
 use Rattle.tables.specs.Calls.{HasStepLimit}
 use Rattle.tables.specs.Rows.{Finds}
 use Rattle.tables.specs.declared.seat.SeatRecord.{SeatRecord}
-use Rattle.state_rows.specs.Rows.{TableName, table, outside_segment}
+use Rattle.state_rows.specs.Rows.{StateTable, table, outside_segment}
 use Rattle.state_rows.specs.declared.fault.StoreFault.{StoreFault}
 use Rattle.state_rows.specs.declared.fault.StoreFault.TheVariants.{Store}
 use Rattle.state_rows.specs.Kept.{IsBookOf}
@@ -60,7 +60,7 @@ IsReadFault old new fault = (s : State) → Shows old s → IsCausedIfStore old 
 
 -- The rows of a table that pass a test are read. Nothing is changed, the rows are just those that
 -- pass the test, and a fault of the store has a cause.
-pub record ReadsRows {A : Type 0} (it : TableName) (test : Row → Bool) (rows : A → List Row)
+pub record ReadsRows {A : Type 0} (it : StateTable) (test : Row → Bool) (rows : A → List Row)
     (old new : conn.State) (result : Result A StoreFault) : Type 0 where
   pub stays : Stays old new
   pub told : HasCleanDisk new →

@@ -24,7 +24,7 @@ use values::TryClone;
 
 /// A base that a record gives.
 #[derive(Drop)]
-struct Told {
+struct FoundBase {
     id: BaseId,
     zone: Zone,
 }
@@ -50,7 +50,7 @@ fn base_rows<S: Alter>(
 
 /// Returns the base that a record gives.
 #[tactic(auto, using(crate::proofs::BaseLemmas::row_is))]
-fn base_told(alloc: Global, row: &BaseRecord) -> Result<Told, StoreFault>
+fn base_of_row(alloc: Global, row: &BaseRecord) -> Result<FoundBase, StoreFault>
     ensures told { IfOk result (λ it. base_row row.now ≡ row_of_base it.id it.zone) }
     ensures unread { IfErr result
         (λ fault. fault ≡ StoreFault.Store → is_zone_text row.now.zone ≡ false) }
@@ -61,18 +61,18 @@ fn base_told(alloc: Global, row: &BaseRecord) -> Result<Told, StoreFault>
         Err(ZoneFault::ZoneText) => return Err(StoreFault::Store),
     };
     let id = BaseId::new(row.id.try_clone(alloc)?);
-    Ok(Told { id, zone })
+    Ok(FoundBase { id, zone })
 }
 
 /// Returns the zone of `HOME`.
-fn home_told(alloc: Global, records: &[BaseRecord]) -> Result<Zone, StoreFault>
+fn home_of_rows(alloc: Global, records: &[BaseRecord]) -> Result<Zone, StoreFault>
     ensures told { IfOk result
         (λ zone. Has (map base_row records.now) (row_of_base home zone)) }
     ensures unread { IfErr result
         (λ fault. fault ≡ StoreFault.Store → AreOfBases records.now → ⊥) }
 {
     for row in records {
-        let Told { id, zone } = base_told(alloc, row)?;
+        let FoundBase { id, zone } = base_of_row(alloc, row)?;
         if id.is_home() {
             return Ok(zone);
         }
@@ -82,14 +82,14 @@ fn home_told(alloc: Global, records: &[BaseRecord]) -> Result<Zone, StoreFault>
 
 /// Returns the bases that the records give.
 #[tactic(auto, using(crate::proofs::BaseLemmas::home_read))]
-fn bases_told(alloc: Global, records: &[BaseRecord]) -> Result<Bases, StoreFault>
+fn bases_of_rows(alloc: Global, records: &[BaseRecord]) -> Result<Bases, StoreFault>
     ensures told { IfOk result (BasesRead records.now (length records.now)) }
     ensures unread { IfErr result
         (λ fault. fault ≡ StoreFault.Store → AreOfBases records.now → ⊥) }
 {
-    let mut all = Bases::new(alloc, home_told(alloc, records)?);
+    let mut all = Bases::new(alloc, home_of_rows(alloc, records)?);
     for row in records {
-        let Told { id, zone } = base_told(alloc, row)?;
+        let FoundBase { id, zone } = base_of_row(alloc, row)?;
         all.insert(id, zone)?;
     }
     Ok(all)
@@ -104,5 +104,5 @@ pub fn bases_at<S: Alter>(alloc: Global, conn: &mut Connection<S>) -> Result<Bas
         (state S.Store conn.new) result }
 {
     let records = base_rows(alloc, conn)?;
-    bases_told(alloc, &records)
+    bases_of_rows(alloc, &records)
 }

@@ -10,7 +10,7 @@ ghost use Rattle.entries.specs.Exceedances.{row_of_recorded};
 ghost use Rattle.state_rows.specs.Outcomes.{IsOutside};
 ghost use Rattle.state_rows.specs.Rows.{exceedance};
 ghost use Rattle.lookup.specs.Reads.{ReadsByKey, ReadsRows};
-ghost use Rattle.lookup.specs.Recorded.{AreRead, IsNumbered, IsStrange, TellsRecorded};
+ghost use Rattle.lookup.specs.Recorded.{AreRead, AreInRange, IsStrange, TellsRecorded};
 
 use duty::CrewId;
 use entries::{duty_of, key_of, section_of};
@@ -23,7 +23,7 @@ use values::{OrdMap, TryClone};
 
 /// An exceedance that a record gives.
 #[derive(Drop)]
-struct Told {
+struct FoundExceedance {
     id: ExceedanceId,
     named: DutyId,
 }
@@ -51,7 +51,7 @@ fn exceedance_rows<S: Alter>(
 
 /// Returns the exceedance that a record gives.
 #[tactic(auto, using(crate::proofs::RecordedLemmas::row_is, crate::proofs::RecordedLemmas::no_key, crate::proofs::RecordedLemmas::no_section, crate::proofs::RecordedLemmas::no_duty))]
-fn exceedance_told(alloc: Global, row: &ExceedanceRecord) -> Result<Told, StoreFault>
+fn exceedance_of_row(alloc: Global, row: &ExceedanceRecord) -> Result<FoundExceedance, StoreFault>
     ensures told { IfOk result (λ it. TellsRecorded row.now it.id it.named) }
     ensures unread { IfErr result (λ fault. fault ≡ StoreFault.Store → IsStrange row.now) }
 {
@@ -65,7 +65,7 @@ fn exceedance_told(alloc: Global, row: &ExceedanceRecord) -> Result<Told, StoreF
         return Err(StoreFault::Store);
     };
     let crew = CrewId::new(row.crew.try_clone(alloc)?);
-    Ok(Told {
+    Ok(FoundExceedance {
         id: ExceedanceId { key, crew, section },
         named,
     })
@@ -73,17 +73,17 @@ fn exceedance_told(alloc: Global, row: &ExceedanceRecord) -> Result<Told, StoreF
 
 /// Returns the exceedances that the records give.
 #[tactic(auto, using(crate::proofs::RecordedLemmas::stranger_at))]
-fn exceedances_told(
+fn exceedances_of_rows(
     alloc: Global,
     records: &[ExceedanceRecord],
 ) -> Result<OrdMap<ExceedanceId, DutyId>, StoreFault>
     ensures told { IfOk result (AreRead records.now (length records.now)) }
     ensures unread { IfErr result (λ fault. fault ≡ StoreFault.Store
-        → HasStranger row_of_recorded IsNumbered (map exceedance_row records.now)) }
+        → HasStranger row_of_recorded AreInRange (map exceedance_row records.now)) }
 {
     let mut all = OrdMap::new(alloc);
     for row in records {
-        let Told { id, named } = exceedance_told(alloc, row)?;
+        let FoundExceedance { id, named } = exceedance_of_row(alloc, row)?;
         all.insert(id, named)?;
     }
     Ok(all)
@@ -100,5 +100,5 @@ pub fn exceedances_at<S: Alter>(
         (state S.Store conn.new) result }
 {
     let records = exceedance_rows(alloc, conn)?;
-    exceedances_told(alloc, &records)
+    exceedances_of_rows(alloc, &records)
 }

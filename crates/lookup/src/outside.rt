@@ -13,7 +13,7 @@ ghost use Rattle.roster.specs.Holding.{AreJust, IsOutsideOf};
 ghost use Rattle.lookup.specs.Reads.{ReadsByKey, ReadsRows, HaveNone};
 ghost use Rattle.lookup.specs.Outsides.{HasFirstOutside, ReadsOutside, outsides_in};
 
-use crate::pairing::unread;
+use crate::pairing::as_store_fault;
 use duty::{CrewId, OutsideId};
 use entries::outside_of_records;
 use roster::OutsideEntry;
@@ -93,7 +93,7 @@ fn first_outside(
     };
     match outside_of_records(alloc, row, segments) {
         Ok(outside) => Ok(Some(outside)),
-        Err(fault) => Err(unread(fault)),
+        Err(fault) => Err(as_store_fault(fault)),
     }
 }
 

@@ -77,7 +77,7 @@ fn holder_in(
 
 /// Returns the fault of a read whose records make no pairing, or no outside period: 90, or 91 for out of memory. Making
 /// one reads no table, so a fault of the store means out of memory here.
-pub(crate) fn unread(fault: LoadFault) -> StoreFault
+pub(crate) fn as_store_fault(fault: LoadFault) -> StoreFault
     ensures { result ≡ unread_as fault }
 {
     match fault {
@@ -87,7 +87,7 @@ pub(crate) fn unread(fault: LoadFault) -> StoreFault
 }
 
 /// Returns the pairing that the records give.
-fn pairing_told(
+fn pairing_of_rows(
     alloc: Global,
     id: &PairingId,
     rows: &PlanRecords,
@@ -103,7 +103,7 @@ fn pairing_told(
     };
     let free = match pairing_of_records(alloc, id, &rows.periods, &rows.segments) {
         Ok(free) => free,
-        Err(fault) => return Err(unread(fault)),
+        Err(fault) => return Err(as_store_fault(fault)),
     };
     let captain = holder_in(alloc, 0, &rows.seats)?;
     let first_officer = holder_in(alloc, 1, &rows.seats)?;
@@ -128,5 +128,5 @@ pub fn pairing_at<S: Alter>(
         (state S.Store conn.new) result }
 {
     let rows = plan_rows(alloc, conn, id.as_str())?;
-    pairing_told(alloc, id, &rows)
+    pairing_of_rows(alloc, id, &rows)
 }

@@ -13,7 +13,7 @@ use Rattle.command.specs.declared.instruction.Instruction.TheVariants.{AddBase, 
 use Rattle.command.specs.declared.refusal.Refusal.TheVariants.{NoSuchCrew, NoSuchPairing, SeatTaken, WrongSeat, NotAssigned, Flown, Overlap, NoSuchDuty, GroundExists, SegmentCount, OutsideTaken}
 use Rattle.roster.specs.Pairings.{is_held_by, is_flown, is_fully_crewed}
 use Rattle.roster.specs.Places.{no_place, others, ground_at}
-use Rattle.roster.specs.Refusals.{Row, are_of_two_kinds, broken_by, duties_of, first_of, has_flown, has_free_seat, holder_of_own_seat, is_assigned, is_ground, is_member, is_miscounted, is_pairing, is_taken_from, over_limits, planned, refusals, refusal_of, trade_rows}
+use Rattle.roster.specs.Refusals.{RefusalRow, are_of_two_kinds, broken_by, duties_of, first_of, has_flown, has_free_seat, holder_of_own_seat, is_assigned, is_ground, is_member, is_miscounted, is_pairing, is_taken_from, over_limits, planned, refusals, refusal_of, trade_rows}
 use Rattle.roster.specs.State.{State}
 use Rattle.roster.specs.Steps.{answered, judged, step_of}
 use Rattle.roster.specs.declared.change.Verdict.{Verdict}
@@ -27,7 +27,7 @@ use Rattle.part.proofs.Alike.{Agree, first_name, second_name, same_holder, same_
 
 module _ (s : State) where
   -- the refusals of an instruction that what it names decides, as they stand first
-  abbrev early : Instruction → List Row
+  abbrev early : Instruction → List RefusalRow
   early (Assign id who) =
       (NoSuchCrew, not (is_member s who)) ∷ (NoSuchPairing, not (is_pairing s id)) ∷ (SeatTaken, is_some (holder_of_own_seat s id who)) ∷ []
   early (Swap w) =
@@ -48,7 +48,7 @@ module _ (s : State) where
   early instruction = []
 
   -- those that stand after them
-  abbrev late : Instruction → List Row
+  abbrev late : Instruction → List RefusalRow
   late (Assign id who) =
       (Overlap, overlaps (duties_of s who id) (others s who no_place))
       ∷ over_limits (broken_by who (others s who no_place) (duties_of s who id))
@@ -63,7 +63,7 @@ module _ (s : State) where
   late instruction = []
 
 -- no row of these is settled by names
-abbrev AreLate : Instruction → List Row → Type 0
+abbrev AreLate : Instruction → List RefusalRow → Type 0
 AreLate instruction [] = Unit {0}
 AreLate instruction (row ∷ rows) = (is_settled instruction (Refuse row.0) ≡ false) × AreLate instruction rows
 
@@ -88,13 +88,13 @@ splits s (RecordOutside who o) is = record { rows = refl; later = tt }
 
 module _ (s t : State) (key : KeyParts) (instruction : Instruction) (is : has_histories instruction ≡ true) where
   -- by others alone nothing is settled
-  unsettled : (rows : List Row) → AreLate instruction rows → IsTrue (is_settled instruction (judged s key instruction (first_of rows))) → ⊥
+  unsettled : (rows : List RefusalRow) → AreLate instruction rows → IsTrue (is_settled instruction (judged s key instruction (first_of rows))) → ⊥
   unsettled [] after settled = true≢false (sym settled ∙ ap not is)
   unsettled ((refusal, true) ∷ rows) after settled = true≢false (sym settled ∙ after.0)
   unsettled ((refusal, false) ∷ rows) after settled = unsettled rows after.1 settled
 
   -- the first that applies of those that names decide is the answer
-  settles : (rows before others : List Row) → AreLate instruction before →
+  settles : (rows before others : List RefusalRow) → AreLate instruction before →
       IsTrue (is_settled instruction (judged s key instruction (first_of (rows ++ before)))) →
       judged s key instruction (first_of (rows ++ before)) ≡ judged t key instruction (first_of (rows ++ others))
   settles [] before others after settled = absurd (unsettled before after settled)
@@ -198,7 +198,7 @@ settled_free s key instruction is settled =
     let n = NamedPart s key instruction in
     let here = splits n instruction is in
     let there = splits s instruction is in
-    let verdict : List Row → Verdict = λ rows. judged n key instruction (first_of rows) in
+    let verdict : List RefusalRow → Verdict = λ rows. judged n key instruction (first_of rows) in
     ap verdict here.rows
     ∙ settles n s key instruction is (early n instruction) (late n instruction) (late s instruction) here.later
     (subst (λ rows. IsTrue (is_settled instruction (verdict rows))) here.rows settled)

@@ -25,9 +25,9 @@ TellsOfState IsClean Shows Is old new result =
 
 -- why a gathering answers a fault: a call of the source failed, and says why; or the gathering
 -- found no memory beside the calls
-abbrev pub IsCaused :
+abbrev pub IsCauseOfGathering :
     {X F M : Type 0} → (X → X → F → Type 0) → (M → F → Type 0) → X → X → F → Type 0
-IsCaused {X} {F} {M} fails made old new fault =
+IsCauseOfGathering {X} {F} {M} fails made old new fault =
     fails old new fault ⊎ ((none : M) × made none fault)
 
 -- a map with what another map has under an id, if the other has anything there

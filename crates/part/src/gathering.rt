@@ -5,7 +5,7 @@ ghost use Rattle.std.specs.Prelude.{◌≡◌, ◌++◌, IfErr, OnOk};
 ghost use Rattle.command.specs.Keys.{KeyParts};
 ghost use Rattle.part.specs.Part.{NamedPart, Part};
 ghost use Rattle.roster.specs.Holding.{AreJust};
-ghost use Rattle.part.specs.Sources.{IsCaused, IsGroundOfOne, IsHeldByOne, IsOutsideOfOne, TellsOfState, bases_part, key_part};
+ghost use Rattle.part.specs.Sources.{IsCauseOfGathering, IsGroundOfOne, IsHeldByOne, IsOutsideOfOne, TellsOfState, bases_part, key_part};
 
 use crate::named::{ids_named, judged_in, members_wanted};
 use crate::pick::{pick_grounds, pick_members, pick_outsides, pick_pairings, pick_request};
@@ -35,7 +35,7 @@ fn held_by_one<S: Source>(
         (λ s found. AreJust (IsHeldByOne s judged.now) found.items) source.old source.new result }
     ensures left { S.stays source.old source.new }
     ensures caused { IfErr result
-        (IsCaused S.fails S.Fault.from_gives source.old source.new) }
+        (IsCauseOfGathering S.fails S.Fault.from_gives source.old source.new) }
     ensures serves { OnOk result (S.serves source.old source.new) }
 {
     let mut all = Vec::new(alloc);
@@ -56,7 +56,7 @@ fn grounds_of_one<S: Source>(
         (λ s found. AreJust (IsGroundOfOne s judged.now) found.items) source.old source.new result }
     ensures left { S.stays source.old source.new }
     ensures caused { IfErr result
-        (IsCaused S.fails S.Fault.from_gives source.old source.new) }
+        (IsCauseOfGathering S.fails S.Fault.from_gives source.old source.new) }
     ensures serves { OnOk result (S.serves source.old source.new) }
 {
     let mut all = Vec::new(alloc);
@@ -78,7 +78,7 @@ fn outsides_of_one<S: Source>(
         source.old source.new result }
     ensures left { S.stays source.old source.new }
     ensures caused { IfErr result
-        (IsCaused S.fails S.Fault.from_gives source.old source.new) }
+        (IsCauseOfGathering S.fails S.Fault.from_gives source.old source.new) }
     ensures serves { OnOk result (S.serves source.old source.new) }
 {
     let mut all = Vec::new(alloc);
@@ -95,7 +95,7 @@ pub(crate) fn gather_bases<S: Source>(alloc: Global, source: &mut S) -> Result<R
         source.old source.new result }
     ensures left { S.stays source.old source.new }
     ensures caused { IfErr result
-        (IsCaused S.fails S.Fault.from_gives source.old source.new) }
+        (IsCauseOfGathering S.fails S.Fault.from_gives source.old source.new) }
     ensures serves { OnOk result (S.serves source.old source.new) }
     ensures there { OnOk result (S.is_there source.new) }
 {
@@ -123,7 +123,7 @@ pub(crate) fn add_named<S: Source>(
         source.old source.new result }
     ensures left { S.stays source.old source.new }
     ensures caused { IfErr result
-        (IsCaused S.fails S.Fault.from_gives source.old source.new) }
+        (IsCauseOfGathering S.fails S.Fault.from_gives source.old source.new) }
     ensures serves { OnOk result (S.serves source.old source.new) }
 {
     let ids = ids_named(alloc, instruction)?;
@@ -146,7 +146,7 @@ pub(crate) fn add_histories<S: Source>(
         source.old source.new result }
     ensures left { S.stays source.old source.new }
     ensures caused { IfErr result
-        (IsCaused S.fails S.Fault.from_gives source.old source.new) }
+        (IsCauseOfGathering S.fails S.Fault.from_gives source.old source.new) }
     ensures serves { OnOk result (S.serves source.old source.new) }
 {
     let judged = judged_in(alloc, instruction, &part.pairings)?;
@@ -178,7 +178,7 @@ pub fn gather<S: Source>(
         (λ s it. it ≡ Part s key command.now) source.old source.new result }
     ensures left { S.stays source.old source.new }
     ensures caused { IfErr result
-        (IsCaused S.fails S.Fault.from_gives source.old source.new) }
+        (IsCauseOfGathering S.fails S.Fault.from_gives source.old source.new) }
     ensures serves { OnOk result (S.serves source.old source.new) }
     ensures there { OnOk result (S.is_there source.new) }
 {

@@ -5,7 +5,7 @@
 ghost use Rattle.std.specs.Prelude.{◌≡◌, IfErr, IfOk, IfSome, IsTrue, OnOk, Some};
 ghost use Rattle.command.specs.Keys.{KeyParts};
 ghost use Rattle.part.specs.Part.{has_histories, is_settled};
-ghost use Rattle.part.specs.Sources.{IsCaused, TellsOfState};
+ghost use Rattle.part.specs.Sources.{IsCauseOfGathering, TellsOfState};
 ghost use Rattle.roster.specs.State.{State};
 ghost use Rattle.roster.specs.Steps.{answered, step_of};
 
@@ -17,7 +17,7 @@ use std::alloc::Global;
 use values::MemoryFault;
 
 /// Answers a command by what its key holds.
-fn answer_kept(kept: LoggedCommand, command: &Command) -> Verdict
+fn answer_from_log(kept: LoggedCommand, command: &Command) -> Verdict
     ensures { (s : State) (key : KeyParts) → result ≡ answered s key command.now (Some kept) }
 {
     if kept.command == *command {
@@ -88,12 +88,12 @@ pub fn judge<S: Source>(
         (λ s verdict. verdict ≡ step_of s key command.now) source.old source.new result }
     ensures left { S.stays source.old source.new }
     ensures caused { IfErr result
-        (IsCaused S.fails S.Fault.from_gives source.old source.new) }
+        (IsCauseOfGathering S.fails S.Fault.from_gives source.old source.new) }
     ensures serves { OnOk result (S.serves source.old source.new) }
     ensures there { OnOk result (S.is_there source.new) }
 {
     if let Some(kept) = source.request(alloc, key)? {
-        return Ok(answer_kept(kept, command));
+        return Ok(answer_from_log(kept, command));
     }
     let instruction = command.instruction();
     let mut part = gather_bases(alloc, source)?;

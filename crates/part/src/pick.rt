@@ -4,7 +4,7 @@ ghost use Rattle.std.specs.Prelude.{◌≡◌, IfErr, OnOk};
 ghost use Rattle.std.specs.FinMap as fin;
 ghost use Rattle.std.specs.Option.{option_map_or};
 ghost use Rattle.command.specs.Keys.{key_name};
-ghost use Rattle.part.specs.Sources.{IsCaused, IsPartOf, TellsOfState, picked, pick};
+ghost use Rattle.part.specs.Sources.{IsCauseOfGathering, IsPartOf, TellsOfState, picked, pick};
 
 use crate::source::Source;
 use command::{Key, Member};
@@ -41,7 +41,7 @@ pub(crate) fn pick_request<S: Source>(
         source.old source.new result }
     ensures left { S.stays source.old source.new }
     ensures caused { IfErr result
-        (IsCaused S.fails S.Fault.from_gives source.old source.new) }
+        (IsCauseOfGathering S.fails S.Fault.from_gives source.old source.new) }
     ensures serves { OnOk result (S.serves source.old source.new) }
     ensures there { OnOk result (S.is_there source.new) }
 {
@@ -62,7 +62,7 @@ pub(crate) fn pick_pairings<S: Source>(
         → pairings.new ≡ picked s.pairings pairings.old ids.now) source.old source.new result }
     ensures left { S.stays source.old source.new }
     ensures caused { IfErr result
-        (IsCaused S.fails S.Fault.from_gives source.old source.new) }
+        (IsCauseOfGathering S.fails S.Fault.from_gives source.old source.new) }
     ensures serves { OnOk result (S.serves source.old source.new) }
 {
     for id in ids {
@@ -86,7 +86,7 @@ pub(crate) fn pick_grounds<S: Source>(
         → grounds.new ≡ picked s.grounds grounds.old ids.now) source.old source.new result }
     ensures left { S.stays source.old source.new }
     ensures caused { IfErr result
-        (IsCaused S.fails S.Fault.from_gives source.old source.new) }
+        (IsCauseOfGathering S.fails S.Fault.from_gives source.old source.new) }
     ensures serves { OnOk result (S.serves source.old source.new) }
 {
     for id in ids {
@@ -110,7 +110,7 @@ pub(crate) fn pick_outsides<S: Source>(
         → outsides.new ≡ picked s.outsides outsides.old ids.now) source.old source.new result }
     ensures left { S.stays source.old source.new }
     ensures caused { IfErr result
-        (IsCaused S.fails S.Fault.from_gives source.old source.new) }
+        (IsCauseOfGathering S.fails S.Fault.from_gives source.old source.new) }
     ensures serves { OnOk result (S.serves source.old source.new) }
 {
     for id in ids {
@@ -134,7 +134,7 @@ pub(crate) fn pick_members<S: Source>(
         → crew.new ≡ picked s.crew crew.old ids.now) source.old source.new result }
     ensures left { S.stays source.old source.new }
     ensures caused { IfErr result
-        (IsCaused S.fails S.Fault.from_gives source.old source.new) }
+        (IsCauseOfGathering S.fails S.Fault.from_gives source.old source.new) }
     ensures serves { OnOk result (S.serves source.old source.new) }
 {
     for id in ids {

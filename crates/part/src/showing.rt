@@ -8,7 +8,7 @@ ghost use Rattle.std.specs.Option.{option_copied};
 ghost use Rattle.std.specs.Str.{bytes_eq};
 ghost use Rattle.roster.specs.Holding.{AreJust, IsGroundOf, IsHeldBy, IsOutsideOf};
 ghost use Rattle.part.specs.Shown.{crew_part, exceedances_part, limits_part, member_part, pairing_part, pairings_part};
-ghost use Rattle.part.specs.Sources.{IsCaused, TellsOfState, pick_named};
+ghost use Rattle.part.specs.Sources.{IsCauseOfGathering, TellsOfState, pick_named};
 
 use crate::pick::{pick_grounds, pick_members, pick_outsides, pick_pairings, put_found};
 use crate::source::Source;
@@ -34,7 +34,7 @@ fn ids_held<S: Source>(alloc: Global, source: &mut S, who: &CrewId) -> Result<He
         × AreJust (IsOutsideOf s who.now) ids.outsides.items) source.old source.new result }
     ensures left { S.stays source.old source.new }
     ensures caused { IfErr result
-        (IsCaused S.fails S.Fault.from_gives source.old source.new) }
+        (IsCauseOfGathering S.fails S.Fault.from_gives source.old source.new) }
     ensures serves { OnOk result (S.serves source.old source.new) }
 {
     let pairings = source.pairings_of(alloc, who)?;
@@ -57,7 +57,7 @@ fn one_member<S: Source>(
         (λ s it. it ≡ fin.retain_keys s.crew (bytes_eq who.now)) source.old source.new result }
     ensures left { S.stays source.old source.new }
     ensures caused { IfErr result
-        (IsCaused S.fails S.Fault.from_gives source.old source.new) }
+        (IsCauseOfGathering S.fails S.Fault.from_gives source.old source.new) }
     ensures serves { OnOk result (S.serves source.old source.new) }
 {
     let found = source.member(alloc, who)?;
@@ -76,7 +76,7 @@ fn one_pairing<S: Source>(
         (λ s it. it ≡ fin.retain_keys s.pairings (bytes_eq id.now)) source.old source.new result }
     ensures left { S.stays source.old source.new }
     ensures caused { IfErr result
-        (IsCaused S.fails S.Fault.from_gives source.old source.new) }
+        (IsCauseOfGathering S.fails S.Fault.from_gives source.old source.new) }
     ensures serves { OnOk result (S.serves source.old source.new) }
 {
     let found = source.pairing(alloc, id)?;
@@ -95,7 +95,7 @@ pub fn gather_member<S: Source>(
         (λ s it. it ≡ member_part s who.now) source.old source.new result }
     ensures left { S.stays source.old source.new }
     ensures caused { IfErr result
-        (IsCaused S.fails S.Fault.from_gives source.old source.new) }
+        (IsCauseOfGathering S.fails S.Fault.from_gives source.old source.new) }
     ensures serves { OnOk result (S.serves source.old source.new) }
     ensures there { OnOk result (S.is_there source.new) }
 {
@@ -130,7 +130,7 @@ fn add_named_pairing<S: Source>(
         source.old source.new result }
     ensures left { S.stays source.old source.new }
     ensures caused { IfErr result
-        (IsCaused S.fails S.Fault.from_gives source.old source.new) }
+        (IsCauseOfGathering S.fails S.Fault.from_gives source.old source.new) }
     ensures serves { OnOk result (S.serves source.old source.new) }
 {
     if let Some(id) = named {
@@ -153,7 +153,7 @@ pub fn gather_limits<S: Source>(
         source.old source.new result }
     ensures left { S.stays source.old source.new }
     ensures caused { IfErr result
-        (IsCaused S.fails S.Fault.from_gives source.old source.new) }
+        (IsCauseOfGathering S.fails S.Fault.from_gives source.old source.new) }
     ensures serves { OnOk result (S.serves source.old source.new) }
     ensures there { OnOk result (S.is_there source.new) }
 {
@@ -172,7 +172,7 @@ pub fn gather_pairing<S: Source>(
         (λ s it. it ≡ pairing_part s id.now) source.old source.new result }
     ensures left { S.stays source.old source.new }
     ensures caused { IfErr result
-        (IsCaused S.fails S.Fault.from_gives source.old source.new) }
+        (IsCauseOfGathering S.fails S.Fault.from_gives source.old source.new) }
     ensures serves { OnOk result (S.serves source.old source.new) }
     ensures there { OnOk result (S.is_there source.new) }
 {
@@ -195,7 +195,7 @@ pub fn gather_crew<S: Source>(alloc: Global, source: &mut S) -> Result<Roster, S
         (λ s it. it ≡ crew_part s) source.old source.new result }
     ensures left { S.stays source.old source.new }
     ensures caused { IfErr result
-        (IsCaused S.fails S.Fault.from_gives source.old source.new) }
+        (IsCauseOfGathering S.fails S.Fault.from_gives source.old source.new) }
     ensures serves { OnOk result (S.serves source.old source.new) }
     ensures there { OnOk result (S.is_there source.new) }
 {
@@ -220,7 +220,7 @@ pub fn gather_pairings<S: Source>(alloc: Global, source: &mut S) -> Result<Roste
         (λ s it. it ≡ pairings_part s) source.old source.new result }
     ensures left { S.stays source.old source.new }
     ensures caused { IfErr result
-        (IsCaused S.fails S.Fault.from_gives source.old source.new) }
+        (IsCauseOfGathering S.fails S.Fault.from_gives source.old source.new) }
     ensures serves { OnOk result (S.serves source.old source.new) }
     ensures there { OnOk result (S.is_there source.new) }
 {
@@ -245,7 +245,7 @@ pub fn gather_exceedances<S: Source>(alloc: Global, source: &mut S) -> Result<Ro
         (λ s it. it ≡ exceedances_part s) source.old source.new result }
     ensures left { S.stays source.old source.new }
     ensures caused { IfErr result
-        (IsCaused S.fails S.Fault.from_gives source.old source.new) }
+        (IsCauseOfGathering S.fails S.Fault.from_gives source.old source.new) }
     ensures serves { OnOk result (S.serves source.old source.new) }
     ensures there { OnOk result (S.is_there source.new) }
 {

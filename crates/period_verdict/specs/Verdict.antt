@@ -15,16 +15,16 @@ use Rattle.limits.specs.SectionText.{section_text}
 use Rattle.limits.specs.declared.section.Section.TheVariants.{FlightTime, FlightDutyPeriod}
 use Rattle.period_verdict.specs.FlightDuty.{is_block_time_count, fdp_of}
 use Rattle.period_verdict.specs.Texts.{clock_text, hours_text}
-use Rattle.period_verdict.specs.declared.verdict.Verdict.{Verdict}
+use Rattle.period_verdict.specs.declared.verdict.TableVerdict.{TableVerdict}
 use Rattle.period_verdict.specs.declared.verdict.Against.{Against}
-use Rattle.period_verdict.specs.declared.verdict.Outcome.{Outcome}
+use Rattle.period_verdict.specs.declared.verdict.TablesExceeded.{TablesExceeded}
 use Rattle.period_verdict.specs.declared.fault.LineFault.{LineFault}
 use Rattle.period_verdict.specs.declared.fault.LineFault.TheVariants.{Zone, Time, SegmentCount}
 use Rattle.period_verdict.specs.declared.fault.LineFault.TheVariants.{BadTimes}
 
 -- the verdict on a flight duty period: its minutes beside what Tables A and B give for the minute
 -- of the day of its report
-abbrev pub verdict : ℕ → FdpTimes → Verdict
+abbrev pub verdict : ℕ → FdpTimes → TableVerdict
 verdict start fdp = record {
   start = start;
   segments = length fdp.segments;
@@ -34,14 +34,14 @@ verdict start fdp = record {
 
 -- Which tables a flight duty period exceeds. 117.11(a)(1): its flight time is above what Table A
 -- gives. 117.13(a): the period is longer than Table B gives.
-abbrev pub outcome : Verdict → Outcome
+abbrev pub outcome : TableVerdict → TablesExceeded
 outcome v = record {
   is_over_flight_time = nat_lt v.flight.limit v.flight.minutes;
   is_over_length = nat_lt v.length.limit v.length.minutes;
 }
 
 -- whether a flight duty period exceeds neither Table A nor Table B
-abbrev pub exceeds_no_table : Outcome → Bool
+abbrev pub exceeds_no_table : TablesExceeded → Bool
 exceeds_no_table o = not o.is_over_flight_time && not o.is_over_length
 
 -- the end of the line of a verdict, by whether the flight time and whether the length is over
@@ -53,7 +53,7 @@ sections_text true true =
     codes " exceeds " ++ section_text FlightTime ++ codes " " ++ section_text FlightDutyPeriod
 
 -- which tables a flight duty period exceeds, as the end of a line prints it
-unfoldable pub outcome_text : Outcome → List ℕ
+unfoldable pub outcome_text : TablesExceeded → List ℕ
 outcome_text o = sections_text o.is_over_flight_time o.is_over_length
 
 -- minutes beside the limit that a table gives, as the two are printed
@@ -61,31 +61,31 @@ unfoldable pub against_text : Against → List ℕ
 against_text a = hours_text a.minutes ++ codes " of " ++ hours_text a.limit
 
 -- the text of the line of a verdict
-unfoldable pub verdict_text : Verdict → List ℕ
+unfoldable pub verdict_text : TableVerdict → List ℕ
 verdict_text v =
     codes "report " ++ clock_text v.start ++ codes " segments " ++ decimal v.segments
     ++ codes " fdp " ++ against_text v.length ++ codes " flight " ++ against_text v.flight
     ++ outcome_text (outcome v)
 
 -- the line of a verdict: its text, and whether the line ends in `within`
-abbrev pub Line : Type 0
-Line = List ℕ × Bool
+abbrev pub VerdictLine : Type 0
+VerdictLine = List ℕ × Bool
 
 -- the line that a verdict makes: its text, and whether no table is exceeded
-abbrev pub line_of_verdict : Verdict → Line
+abbrev pub line_of_verdict : TableVerdict → VerdictLine
 line_of_verdict v = (verdict_text v, exceeds_no_table (outcome v))
 
 -- Faults are looked for in this order: the zone, the report, each time in turn, the number of
 -- times, the order of the times.
 
 -- the line of a flight duty period, if its times are in order
-abbrev pub line_of_fdp : List ℕ → Fdp → Result Line LineFault
+abbrev pub line_of_fdp : List ℕ → Fdp → Result VerdictLine LineFault
 line_of_fdp zone fdp =
     if not (is_in_order fdp.report fdp.release (map block_times fdp.segments)) then Err BadTimes
     else Ok (line_of_verdict (verdict (local_minute zone fdp.planned_report) (fdp_times zone fdp)))
 
 -- the line of a report and times, if they are block-out and block-in of 1 to 12 segments
-abbrev pub line_of_times : List ℕ → ℕ → List ℕ → Result Line LineFault
+abbrev pub line_of_times : List ℕ → ℕ → List ℕ → Result VerdictLine LineFault
 line_of_times zone report times =
     if not (is_block_time_count (length times)) then Err SegmentCount
     else line_of_fdp zone (fdp_of report times)
@@ -108,13 +108,13 @@ as_line_fault (Err fault) = Err (Time fault)
 
 -- the line of a report and times that were read, or the fault of the first that wasn't read
 abbrev pub line_of_read : List ℕ → Result ℕ TimeFault → Result (List ℕ) TimeFault →
-    Result Line LineFault
+    Result VerdictLine LineFault
 line_of_read zone (Err fault) times = Err (Time fault)
 line_of_read zone (Ok report) (Err fault) = Err (Time fault)
 line_of_read zone (Ok report) (Ok times) = line_of_times zone report times
 
 -- the line of the texts of `rosterbook duty`: a zone, a report and times
-abbrev pub line_of : List ℕ → List ℕ → List (List ℕ) → Result Line LineFault
+abbrev pub line_of : List ℕ → List ℕ → List (List ℕ) → Result VerdictLine LineFault
 line_of zone report times =
     if is_zone_text zone then line_of_read zone (read_instant report) (read_instants times)
     else Err Zone

@@ -1,4 +1,4 @@
-//! The line of `rosterbook duty`. Its definition is `line_of` (`specs/Verdict.antt`).
+//! The line of `rosterbook duty`. Its definition is `line_of` (`specs/TableVerdict.antt`).
 //! Tables A and B by it: `tests/judgement.py`; its texts: `tests/texts.py`. Wrong bodies: `must-fail/`.
 ghost use Rattle.std.specs.Prelude.{◌≡◌, ◌≤◌, ◌⊎◌, nat_lt, length, map, string_bytes, Ok, Err, IfOk, IfErr};
 ghost use Rattle.period_verdict.specs.FlightDuty.{is_block_time_count as is_count};
@@ -71,7 +71,7 @@ fn line_of_times(
         return Err(LineFault::BadTimes);
     }
     let start = zone.minute_of_day(fdp.planned_report)?;
-    let verdict = Verdict::of(start, &fdp.in_force(alloc, zone)?);
+    let verdict = TableVerdict::of(start, &fdp.in_force(alloc, zone)?);
     Ok((
         format!(in alloc; "{verdict}")?,
         verdict.outcome().is_within(),
@@ -87,7 +87,7 @@ fn is_block_time_count(times: usize) -> bool
 
 /// How one flight duty period stands against Tables A and B.
 #[derive(Clone, Copy)]
-struct Verdict {
+struct TableVerdict {
     /// The local minute of the day of the report.
     start: u16,
     segments: usize,
@@ -104,19 +104,19 @@ struct Against {
 
 /// Which of the two tables are exceeded.
 #[derive(Clone, Copy)]
-struct Outcome {
+struct TablesExceeded {
     is_over_flight_time: bool,
     is_over_length: bool,
 }
 
-impl Verdict {
+impl TableVerdict {
     /// Judges a period of 1 to 12 segments by the minute of the day of its report.
-    fn of(start: u16, fdp: &FdpInForce) -> Verdict
+    fn of(start: u16, fdp: &FdpInForce) -> TableVerdict
         requires { length fdp.now.segments ≤ 12 }
         ensures { result ≡ spec.verdict start fdp.now }
     {
         let segments = fdp.segments();
-        Verdict {
+        TableVerdict {
             start,
             segments: segments.len(),
             length: Against {
@@ -130,17 +130,17 @@ impl Verdict {
         }
     }
 
-    fn outcome(&self) -> Outcome
+    fn outcome(&self) -> TablesExceeded
         ensures { result ≡ spec.outcome self.now }
     {
-        Outcome {
+        TablesExceeded {
             is_over_flight_time: self.flight.limit < self.flight.minutes,
             is_over_length: self.length.limit < self.length.minutes,
         }
     }
 }
 
-impl Outcome {
+impl TablesExceeded {
     fn is_within(&self) -> bool
         ensures { result ≡ spec.exceeds_no_table self.now }
     {
@@ -148,7 +148,7 @@ impl Outcome {
     }
 }
 
-impl fmt::Display for Verdict {
+impl fmt::Display for TableVerdict {
     ghost use Rattle.std.specs.Prelude.{Some};
     ghost use Rattle.period_verdict.specs.Verdict.{verdict_text};
 
@@ -186,7 +186,7 @@ impl fmt::Display for Against {
     }
 }
 
-impl fmt::Display for Outcome {
+impl fmt::Display for TablesExceeded {
     ghost use Rattle.std.specs.Prelude.{Some};
     ghost use Rattle.period_verdict.specs.Verdict.{outcome_text};
 

@@ -3,12 +3,12 @@ use Rattle.std.specs.Prelude.{ℕ, List, [], ◌∷◌}
 use Rattle.std.specs.List.Sorted.{IsPermutation, IsSorted}
 use Rattle.values.specs.Name.{name_cmp, text_then}
 use Rattle.report.specs.declared.line.Line.{Line}
-use Rattle.report.specs.declared.line.Place.{Place}
-use Rattle.report.specs.declared.line.Place.TheVariants.{Period, Ground, Outside}
+use Rattle.report.specs.declared.line.LinePlace.{LinePlace}
+use Rattle.report.specs.declared.line.LinePlace.TheVariants.{Period, Ground, Outside}
 
 -- the place of a line as a list of numbers: periods before ground duties, ground duties before
 -- outside periods, then the id, then the period
-abbrev pub key_of_place : Place → List ℕ
+abbrev pub key_of_place : LinePlace → List ℕ
 key_of_place (Period id number) = 0 ∷ text_then id (number ∷ [])
 key_of_place (Ground id) = 1 ∷ text_then id []
 key_of_place (Outside id) = 2 ∷ text_then id []

@@ -19,7 +19,7 @@ use Rattle.period_verdict.specs.Texts.{hours_text}
 use Rattle.report.specs.Lines.{IsInOrder}
 use Rattle.report.specs.Periods.{pairing_periods, word, length_to_last_block_in, flight_time_of}
 use Rattle.report.specs.declared.line.Line.{Line}
-use Rattle.report.specs.declared.line.Place.TheVariants.{Period, Ground, Outside}
+use Rattle.report.specs.declared.line.LinePlace.TheVariants.{Period, Ground, Outside}
 use Rattle.report.specs.declared.periods.PeriodInForce.{PeriodInForce}
 
 -- ---- The lines

@@ -10,7 +10,7 @@ ghost use Rattle.report.specs.Periods.{word};
 
 use crate::fault::ReportFault;
 use crate::instants::instant;
-use crate::line::{Line, Place, in_order, text_of};
+use crate::line::{Line, LinePlace, in_order, text_of};
 use crate::periods::{PeriodInForce, periods_of};
 use command::Member;
 use duty::{CrewId, Ground, GroundId, OutsideId, PairingId, flight_minutes};
@@ -67,9 +67,9 @@ fn lines_of(alloc: Global, roster: &Roster, who: &CrewId) -> Result<Vec<Line>, M
     ensures { IfOk result (λ lines. lines.items ≡ spec.lines_of roster.now who.now) }
 {
     let mut lines = Vec::new(alloc);
-    for (id, rostered) in roster.pairings.iter() {
-        if rostered.holds(who) {
-            add_periods(alloc, id, rostered, &mut lines)?;
+    for (id, entry) in roster.pairings.iter() {
+        if entry.holds(who) {
+            add_periods(alloc, id, entry, &mut lines)?;
         }
     }
     add_grounds(alloc, roster, who, &mut lines)?;
@@ -81,13 +81,13 @@ fn lines_of(alloc: Global, roster: &Roster, who: &CrewId) -> Result<Vec<Line>, M
 fn add_periods(
     alloc: Global,
     id: &PairingId,
-    rostered: &PairingEntry,
+    entry: &PairingEntry,
     lines: &mut Vec<Line>,
 ) -> Result<(), MemoryFault>
     ensures { OnOk result
-        (lines.new.items ≡ lines.old.items ++ spec.roster_period_lines (id.now, rostered.now)) }
+        (lines.new.items ≡ lines.old.items ++ spec.roster_period_lines (id.now, entry.now)) }
 {
-    let periods = periods_of(alloc, rostered)?;
+    let periods = periods_of(alloc, entry)?;
     for (index, period) in periods.iter().enumerate() {
         lines.push(period_line(alloc, id, index + 1, period)?)?;
     }
@@ -146,7 +146,7 @@ fn period_line(
     Ok(Line {
         begin,
         end,
-        place: Place::Period(id.try_clone(alloc)?, number),
+        place: LinePlace::Period(id.try_clone(alloc)?, number),
         text: Text::new(text),
     })
 }
@@ -169,7 +169,7 @@ fn ground_line(alloc: Global, id: &GroundId, duty: &Ground) -> Result<Line, Memo
     Ok(Line {
         begin,
         end,
-        place: Place::Ground(id.try_clone(alloc)?),
+        place: LinePlace::Ground(id.try_clone(alloc)?),
         text: Text::new(text),
     })
 }
@@ -187,7 +187,7 @@ fn outside_line(alloc: Global, id: &OutsideId, outside: &OutsideEntry) -> Result
     Ok(Line {
         begin,
         end,
-        place: Place::Outside(id.try_clone(alloc)?),
+        place: LinePlace::Outside(id.try_clone(alloc)?),
         text: Text::new(text),
     })
 }

@@ -22,20 +22,20 @@ pub fn pairing_text(alloc: Global, roster: &Roster, id: &PairingId) -> Result<St
     ensures refused { IfErr result
         (λ fault. (fault ≡ ReportFault.NoSuchPairing) ⊎ (fault ≡ ReportFault.Memory)) }
 {
-    let Some(rostered) = roster.pairings.get(id) else {
+    let Some(entry) = roster.pairings.get(id) else {
         return Err(ReportFault::NoSuchPairing);
     };
-    Ok(lines_of(alloc, id, rostered)?)
+    Ok(lines_of(alloc, id, entry)?)
 }
 
 /// Writes the lines of a pairing that is there.
-fn lines_of(alloc: Global, id: &PairingId, rostered: &PairingEntry) -> Result<String, MemoryFault>
-    ensures { IfOk result (λ text. string_bytes text ≡ spec.pairing_lines id.now rostered.now) }
+fn lines_of(alloc: Global, id: &PairingId, entry: &PairingEntry) -> Result<String, MemoryFault>
+    ensures { IfOk result (λ text. string_bytes text ≡ spec.pairing_lines id.now entry.now) }
 {
     let mut text = format!(in alloc; "PAIRING {}\n", id.as_str())?;
-    text.push_str(&seat_line(alloc, "captain", &rostered.captain)?)?;
-    text.push_str(&seat_line(alloc, "first officer", &rostered.first_officer)?)?;
-    text.push_str(&lines_of_periods(alloc, rostered)?)?;
+    text.push_str(&seat_line(alloc, "captain", &entry.captain)?)?;
+    text.push_str(&seat_line(alloc, "first officer", &entry.first_officer)?)?;
+    text.push_str(&lines_of_periods(alloc, entry)?)?;
     Ok(text)
 }
 
@@ -51,11 +51,11 @@ fn seat_line(alloc: Global, seat: &str, holder: &Option<CrewId>) -> Result<Strin
 }
 
 /// Writes the lines of the periods in turn.
-fn lines_of_periods(alloc: Global, rostered: &PairingEntry) -> Result<String, MemoryFault>
-    ensures { IfOk result (λ text. string_bytes text ≡ spec.lines_of_periods rostered.now) }
+fn lines_of_periods(alloc: Global, entry: &PairingEntry) -> Result<String, MemoryFault>
+    ensures { IfOk result (λ text. string_bytes text ≡ spec.lines_of_periods entry.now) }
 {
     let mut text = String::new(alloc);
-    let periods = periods_of(alloc, rostered)?;
+    let periods = periods_of(alloc, entry)?;
     for (index, period) in periods.iter().enumerate() {
         text.push_str(&period_lines(alloc, index + 1, period)?)?;
     }

@@ -5,7 +5,7 @@ ghost use Rattle.std.specs.List.{All};
 ghost use Rattle.report.specs.Periods as spec;
 
 use duty::{Fdp, flight_minutes, last_block_in};
-use roster::{PairingEntry, in_force};
+use roster::{PairingEntry, with_times_in_force};
 use std::alloc::Global;
 use values::MemoryFault;
 
@@ -43,20 +43,15 @@ impl PeriodInForce {
 }
 
 /// Copies the periods of a pairing in turn, with their times in force.
-pub fn periods_of(alloc: Global, rostered: &PairingEntry) -> Result<Vec<PeriodInForce>, MemoryFault>
-    ensures periods { IfOk result (λ periods. periods.items ≡ spec.pairing_periods rostered.now) }
+pub fn periods_of(alloc: Global, entry: &PairingEntry) -> Result<Vec<PeriodInForce>, MemoryFault>
+    ensures periods { IfOk result (λ periods. periods.items ≡ spec.pairing_periods entry.now) }
     ensures few { IfOk result
         (λ periods. All (λ period. length period.fdp.segments ≤ 12) periods.items) }
 {
     let mut periods = Vec::new(alloc);
-    for (period, actual) in rostered
-        .plan
-        .periods()
-        .iter()
-        .zip(rostered.actuals.as_slice())
-    {
+    for (period, actual) in entry.plan.periods().iter().zip(entry.actuals.as_slice()) {
         periods.push(PeriodInForce {
-            fdp: in_force(alloc, period, actual)?,
+            fdp: with_times_in_force(alloc, period, actual)?,
             is_flown: actual.is_some(),
         })?;
     }

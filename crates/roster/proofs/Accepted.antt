@@ -13,7 +13,7 @@ use Rattle.command.specs.declared.exceedance.Reply.{Reply}
 use Rattle.command.specs.declared.instruction.Instruction.{Instruction}
 use Rattle.command.specs.declared.refusal.Refusal.{Refusal}
 use Rattle.command.specs.declared.refusal.Refusal.TheVariants.{NumberUsed}
-use Rattle.roster.specs.Refusals.{Row, first_of, refusals, refusal_of}
+use Rattle.roster.specs.Refusals.{RefusalRow, first_of, refusals, refusal_of}
 use Rattle.roster.specs.State.{State}
 use Rattle.roster.specs.Steps.{judged, answered, change_of, step_of}
 use Rattle.roster.specs.declared.change.Change.{Change}
@@ -23,18 +23,18 @@ use Rattle.roster.specs.declared.state.LoggedCommand.{LoggedCommand}
 -- ---- An accepted instruction
 
 -- no row applies
-abbrev pub Passed : List Row → Type 0
+abbrev pub Passed : List RefusalRow → Type 0
 Passed [] = Unit {0}
 Passed (row ∷ rows) = (row.1 ≡ false) × Passed rows
 
-passed : (rows : List Row) → first_of rows ≡ None → Passed rows
+passed : (rows : List RefusalRow) → first_of rows ≡ None → Passed rows
 passed [] e = tt
 passed ((refusal, true) ∷ rows) e = cc
 passed ((refusal, false) ∷ rows) e = (refl, passed rows e)
 
-pub passed_each : (rows : List Row) → Passed rows → (row : Row) → Contains rows row → row.1 ≡ false
+pub passed_each : (rows : List RefusalRow) → Passed rows → (row : RefusalRow) → Contains rows row → row.1 ≡ false
 passed_each [] p row (k, within, e) = absurd (omega arith)
-passed_each (x ∷ rows) p row (zero, within, e) = ap (λ (r : Row). r.1) (sym e) ∙ p.0
+passed_each (x ∷ rows) p row (zero, within, e) = ap (λ (r : RefusalRow). r.1) (sym e) ∙ p.0
 passed_each (x ∷ rows) p row (suc k, within, e) = passed_each rows p.1 row (k, omega arith, e)
 
 pub record Accepted (s : State) (key : KeyParts) (instruction : Instruction) (change : Change) : Type 0 where

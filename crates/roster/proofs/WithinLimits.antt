@@ -15,7 +15,7 @@ use Rattle.command.specs.declared.refusal.Refusal.{Refusal}
 use Rattle.command.specs.declared.refusal.Refusal.TheVariants.{Limits}
 use Rattle.roster.specs.Laws.{AcceptedWithinLimits, Gain, IsAccepted, IsBroken, PassesChecks, gains, is_assignment, number_of}
 use Rattle.roster.specs.Places.{no_place, the_pairing, others, ground_at}
-use Rattle.roster.specs.Refusals.{Row, broken_by, duties_of, first_of, over_limits, refusal_of, refusals}
+use Rattle.roster.specs.Refusals.{RefusalRow, broken_by, duties_of, first_of, over_limits, refusal_of, refusals}
 use Rattle.roster.specs.State.{State}
 use Rattle.roster.specs.Steps.{judged, change_of, recorded_by}
 use Rattle.roster.specs.declared.change.Change.{Change}
@@ -59,24 +59,24 @@ map_none f (x ∷ xs) e = cc
 
 -- ---- Which refusal applies first
 
-abbrev pub is_limit : Row → Bool
+abbrev pub is_limit : RefusalRow → Bool
 is_limit row = eqb (number_of row) 12
 
-passed_over : (row : Row) (rows : List Row) → row.1 ≡ false → first_of (row ∷ rows) ≡ first_of rows
+passed_over : (row : RefusalRow) (rows : List RefusalRow) → row.1 ≡ false → first_of (row ∷ rows) ≡ first_of rows
 passed_over row rows off =
-    ap (λ b. option_map (λ (r : Row). r.0) (cond b (Some row) (find (λ (r : Row). r.1) rows))) off
+    ap (λ b. option_map (λ (r : RefusalRow). r.0) (cond b (Some row) (find (λ (r : RefusalRow). r.1) rows))) off
 
-beside : (row : Row) (xs ys : List Row) → first_of xs ≡ first_of ys → first_of (row ∷ xs) ≡ first_of (row ∷ ys)
+beside : (row : RefusalRow) (xs ys : List RefusalRow) → first_of xs ≡ first_of ys → first_of (row ∷ xs) ≡ first_of (row ∷ ys)
 beside row xs ys same =
-    elim row.1 as (λ b. option_map (λ (r : Row). r.0) (cond b (Some row) (find (λ (r : Row). r.1) xs)) ≡
-    option_map (λ (r : Row). r.0) (cond b (Some row) (find (λ (r : Row). r.1) ys))) [
+    elim row.1 as (λ b. option_map (λ (r : RefusalRow). r.0) (cond b (Some row) (find (λ (r : RefusalRow). r.1) xs)) ≡
+    option_map (λ (r : RefusalRow). r.0) (cond b (Some row) (find (λ (r : RefusalRow). r.1) ys))) [
       | true ↦ refl
       | false ↦ same
     ]
 
 -- where no other applies, those for limits decide
-limits_decide : (rows : List Row) →
-    ((row : Row) → Contains rows row → (number_of row ≡ 12 → ⊥) → row.1 ≡ false) →
+limits_decide : (rows : List RefusalRow) →
+    ((row : RefusalRow) → Contains rows row → (number_of row ≡ 12 → ⊥) → row.1 ≡ false) →
     first_of rows ≡ first_of (filter is_limit rows)
 limits_decide [] pass = refl
 limits_decide (row ∷ rows) pass =
@@ -89,12 +89,12 @@ limits_decide (row ∷ rows) pass =
     ] refl
 
 -- a list of limits applies where it isn't empty
-applies : (broken : List Exceedance) (rest : List Row) → first_of rest ≡ None →
+applies : (broken : List Exceedance) (rest : List RefusalRow) → first_of rest ≡ None →
     (first_of (over_limits broken ∷ rest) ≡ None) ↔ (broken ≡ [])
 applies [] rest clear = (λ _. refl, λ _. clear)
 applies (e ∷ es) rest clear =
     let on : first_of (over_limits (e ∷ es) ∷ rest) ≡ Some (Limits (e ∷ es)) =
-    ap (λ b. option_map (λ (r : Row). r.0) (cond b (Some (Limits (e ∷ es), b)) (find (λ (r : Row). r.1) rest)))
+    ap (λ b. option_map (λ (r : RefusalRow). r.0) (cond b (Some (Limits (e ∷ es), b)) (find (λ (r : RefusalRow). r.1) rest)))
     (lt-ltb 0 (length (e ∷ es)) (omega arith)) in
     (λ is. absurd (let f : None ≡ Some (Limits (e ∷ es)) = sym is ∙ on in cc), λ is. absurd (cc))
 

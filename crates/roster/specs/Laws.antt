@@ -19,7 +19,7 @@ use Rattle.command.specs.declared.instruction.Instruction.TheVariants.{Assign, S
 use Rattle.roster.specs.Folds.{Asked, Fold, Replies, import}
 use Rattle.roster.specs.Honest.{Honest}
 use Rattle.roster.specs.Places.{no_place, the_pairing, others, ground_at}
-use Rattle.roster.specs.Refusals.{Row, refusals, duties_of, broken_by}
+use Rattle.roster.specs.Refusals.{RefusalRow, refusals, duties_of, broken_by}
 use Rattle.roster.specs.Sound.{Sound}
 use Rattle.roster.specs.State.{State, empty}
 use Rattle.roster.specs.Steps.{step_of, after}
@@ -31,7 +31,7 @@ use Rattle.roster.specs.declared.state.LoggedCommand.{LoggedCommand}
 -- ---- The order of refusals
 
 -- the number of the refusal in a row of the list
-abbrev pub number_of : Row → ℕ
+abbrev pub number_of : RefusalRow → ℕ
 number_of row = refusal_number row.0
 
 -- the refusals of an instruction stand in the order of their numbers, so that the first that
@@ -72,8 +72,8 @@ IsBroken gain section = Rule section (gain.others ++ gain.new) gain.new
 -- (12)
 pub record PassesChecks (s : State) (key : KeyParts) (instruction : Instruction) : Type 0 where
   pub free : fin.get s.requests (key_name key) ≡ None
-  pub passes : (row : Row) → Contains (refusals s instruction) row → (number_of row ≡ 12 → ⊥) →
-      row.1 ≡ false
+  pub passes : (row : RefusalRow) → Contains (refusals s instruction) row →
+      (number_of row ≡ 12 → ⊥) → row.1 ≡ false
 
 -- the instruction gives members duties: it is an assign, a swap, or a new ground duty
 abbrev pub is_assignment : Instruction → Bool

@@ -113,16 +113,16 @@ broken_by who others new =
 -- ---- The refusals of each instruction
 
 -- a refusal, and whether it applies
-abbrev pub Row : Type 0
-Row = Refusal × Bool
+abbrev pub RefusalRow : Type 0
+RefusalRow = Refusal × Bool
 
 -- the refusal for limits (12), which applies if some limit is broken
-abbrev pub over_limits : List Exceedance → Row
+abbrev pub over_limits : List Exceedance → RefusalRow
 over_limits broken = (Limits broken, nat_lt 0 (length broken))
 
 -- The refusals of a swap for overlap and limits, by the duties that each pairing gives the member
 -- who takes it. Each member loses the own pairing, and the duties of the other's pairing are new.
-abbrev pub trade_rows : State → swap.Swap → List DutyInForce → List DutyInForce → List Row
+abbrev pub trade_rows : State → swap.Swap → List DutyInForce → List DutyInForce → List RefusalRow
 trade_rows s w given taken =
     let rest = others s w.crew (the_pairing w.pairing) in
     let other_rest = others s w.other_crew (the_pairing w.other_pairing) in
@@ -131,7 +131,7 @@ trade_rows s w given taken =
     ∷ []
 
 -- the refusals of an instruction in the order of their numbers, each with whether it applies
-unfoldable pub refusals : State → Instruction → List Row
+unfoldable pub refusals : State → Instruction → List RefusalRow
 refusals s (AddBase id zone) = (BaseExists, is_base s id) ∷ []
 refusals s (AddCrew who member) =
     (CrewExists, is_member s who) ∷ (NoSuchBase, not (is_base s member.base)) ∷ []
@@ -179,7 +179,7 @@ refusals s (RecordOutside who o) =
     (NoSuchCrew, not (is_member s who)) ∷ (OutsideTaken, is_taken_from s who o.id) ∷ []
 
 -- the first refusal of a list that applies
-abbrev pub first_of : List Row → Option Refusal
+abbrev pub first_of : List RefusalRow → Option Refusal
 first_of rows = option_map (λ row. row.0) (find (λ row. row.1) rows)
 
 -- the first refusal of an instruction that applies

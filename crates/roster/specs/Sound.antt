@@ -26,11 +26,11 @@ use Rattle.roster.specs.declared.state.LoggedCommand.{LoggedCommand}
 use Rattle.roster.specs.declared.state.PairingEntry.{PairingEntry}
 
 -- the members by their ids
-abbrev pub Crew : Type 0
-Crew = fin.FinMap name_cmp Member
+abbrev pub Members : Type 0
+Members = fin.FinMap name_cmp Member
 
 -- the holder of a seat, if there is one, is a member of the seat's kind
-abbrev pub IsHolder : Crew → Seat → Option (List ℕ) → Type 0
+abbrev pub IsHolder : Members → Seat → Option (List ℕ) → Type 0
 IsHolder crew seat holder = (who : List ℕ) → holder ≡ Some who →
     (m : Member) × (fin.get crew who ≡ Some m) × (m.seat ≡ seat)
 
@@ -45,7 +45,7 @@ pub record IsActual (plan : Plan) (i : ℕ) (a : ActualTimes) : Type 0 where
 
 -- a pairing keeps the order of its plan, its holders are members, and each of its actuals is of one
 -- of its periods
-pub record SoundPairing (crew : Crew) (id : List ℕ) (r : PairingEntry) : Type 0 where
+pub record SoundPairing (crew : Members) (id : List ℕ) (r : PairingEntry) : Type 0 where
   pub named : r.plan.id ≡ id
   -- a plan that `Pairing::new` makes
   pub plan : pairing_fault r.plan ≡ None
@@ -60,14 +60,14 @@ pub record SoundPairing (crew : Crew) (id : List ℕ) (r : PairingEntry) : Type 
   pub crewed : is_flown r ≡ true → is_fully_crewed r ≡ true
 
 -- a ground duty is of a member, and begins before it ends
-pub record SoundGround (crew : Crew) (id : List ℕ) (g : GroundPlan) : Type 0 where
+pub record SoundGround (crew : Members) (id : List ℕ) (g : GroundPlan) : Type 0 where
   pub named : g.id ≡ id
   pub member : Member
   pub of_member : fin.get crew g.crew ≡ Some member
   pub begins : g.begin < g.end
 
 -- an outside period is of a member, and is one that `Outside::new` makes
-pub record SoundOutside (crew : Crew) (id : List ℕ) (o : OutsideEntry) : Type 0 where
+pub record SoundOutside (crew : Members) (id : List ℕ) (o : OutsideEntry) : Type 0 where
   pub named : o.period.id ≡ id
   pub member : Member
   pub of_member : fin.get crew o.crew ≡ Some member
@@ -75,12 +75,12 @@ pub record SoundOutside (crew : Crew) (id : List ℕ) (o : OutsideEntry) : Type 
 
 -- a period of a pairing has an actual
 pub record IsFlown (s : State) (p : PeriodId) : Type 0 where
-  pub rostered : PairingEntry
-  pub of_pairing : fin.get s.pairings p.pairing ≡ Some rostered
+  pub entry : PairingEntry
+  pub of_pairing : fin.get s.pairings p.pairing ≡ Some entry
   pub place : ℕ
   pub number : p.number ≡ place + 1
   pub actual : ActualTimes
-  pub flown : slice_get rostered.actuals place ≡ Some (Some actual)
+  pub flown : slice_get entry.actuals place ≡ Some (Some actual)
 
 -- the duty that an exceedance names is there: a period that has an actual, or an outside period
 abbrev pub IsNamed : State → DutyId → Type 0

@@ -100,8 +100,8 @@ impl Roster {
 
 impl PairingEntry {
     /// Makes a pairing of which both seats are free and no period is flown.
-    pub fn unheld(alloc: Global, plan: Pairing) -> Result<PairingEntry, MemoryFault>
-        ensures { IfOk result (λ rostered. rostered ≡ unheld plan) }
+    pub fn with_free_seats(alloc: Global, plan: Pairing) -> Result<PairingEntry, MemoryFault>
+        ensures { IfOk result (λ entry. entry ≡ unheld plan) }
     {
         let mut actuals = Vec::new(alloc);
         for _period in plan.periods() {
@@ -126,7 +126,7 @@ impl PairingEntry {
     }
 
     /// Finds a period as it is planned, by its number, which is at least 1.
-    pub(crate) fn planned(&self, number: u8) -> Option<&Fdp>
+    pub(crate) fn planned_period(&self, number: u8) -> Option<&Fdp>
         ensures { option_copied result ≡ slice_get self.now.plan.periods (number - 1) }
     {
         self.plan

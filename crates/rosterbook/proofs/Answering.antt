@@ -13,7 +13,7 @@ use Rattle.book.specs.Answered.{IsAnswered}
 use Rattle.book.specs.Kept.{IsDurablyAt, IsClean, Kept, result_of}
 use Rattle.book.specs.declared.answer.Answer.{Answer}
 use Rattle.asking.specs.Answers.{IsOrMemory, Reports, answer_json, answer_kind, refusal_kind}
-use Rattle.asking.specs.Requests.{HasChecked, IsCheckedAsRead, IsDoneAsRead, IsRequestAsked, IsRequestChecked, Request, asked_as}
+use Rattle.asking.specs.Requests.{HasChecked, IsCheckedAsRead, IsDoneAsRead, IsRequestAsked, IsRequestChecked, ReadRequest, asked_as}
 use Rattle.asking.specs.declared.answers.JsonAnswer.{JsonAnswer}
 use Rattle.http_exchange.specs.Exchange.{ChannelBytes}
 use Rattle.rosterbook.specs.Asking.{Answers, IsRequestAnswered, left_by_check, left_by_request, status_of_answer, status_of_kind, told_json}
@@ -56,7 +56,7 @@ answer_told answer told asked (kind, text) =
     ∙ ap (λ (s : Status). (s, answer_json (result_of answer))) (kind_ends (result_of answer))
 
 module _ {S : Type 0} (g : Ghosts S) (old new : Kept S) where
-  abbrev pub IsRequestTold : (State → Request → State) → Status × List ℕ → Request → Type 0
+  abbrev pub IsRequestTold : (State → ReadRequest → State) → Status × List ℕ → ReadRequest → Type 0
   IsRequestTold left_by told request = (answer : ReplyOrRefusal)
       × (told ≡ told_json request answer)
       × ((s : State) → IsDurablyAt g old s → IsClean g new → Answers s request answer)
@@ -72,7 +72,7 @@ module _ {S : Type 0} (g : Ghosts S) (old new : Kept S) where
   )
   command_told asked (Err fault) told is never = absurd (cc)
 
-  read_told : (request : Request) (told : JsonAnswer) → IsDoneAsRead g old new request (Ok told) → IsRequestTold left_by_request (status_of_kind told.kind, string_bytes told.text) request
+  read_told : (request : ReadRequest) (told : JsonAnswer) → IsDoneAsRead g old new request (Ok told) → IsRequestTold left_by_request (status_of_kind told.kind, string_bytes told.text) request
   read_told (Ok asked) told it = command_told asked it.answer told it.answered it.reported
   read_told (Err fault) told (same, (kind, text)) = (
     Err refusals.NumberUsed,
@@ -115,7 +115,7 @@ module _ {S : Type 0} (g : Ghosts S) (old new : Kept S) where
   )
   command_checked asked (Err fault) told is never = absurd (cc)
 
-  read_checked : (request : Request) (told : JsonAnswer) → IsCheckedAsRead g old new request (Ok told) → IsRequestTold left_by_check (status_of_kind told.kind, string_bytes told.text) request
+  read_checked : (request : ReadRequest) (told : JsonAnswer) → IsCheckedAsRead g old new request (Ok told) → IsRequestTold left_by_check (status_of_kind told.kind, string_bytes told.text) request
   read_checked (Ok asked) told it = command_checked asked it.answer told it.checked it.reported
   read_checked (Err fault) told (same, (kind, text)) = (
     Err refusals.NumberUsed,

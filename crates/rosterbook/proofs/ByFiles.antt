@@ -22,7 +22,7 @@ use Rattle.book.proofs.Left.{leaves_either}
 use Rattle.book.proofs.LifeLemmas as life
 use Rattle.book.proofs.States.{one_of_either}
 use Rattle.http_exchange.specs.Exchange.{ChannelBytes}
-use Rattle.asking.specs.Requests.{Request}
+use Rattle.asking.specs.Requests.{ReadRequest}
 use Rattle.rosterbook.specs.Asking.{IsAskStopped, IsImported, IsImportStopped, IsLeftAfterAnswers, IsRequestAnswered, IsStoppedIn, asked_by_request, left_by_check, left_by_request}
 use Rattle.rosterbook.specs.ByFiles.{AreLeftAfter, AreLeftAsFound, AreLeftByImport, AreLetGo, AreLeftByLines, AreLeftByRequest, AreLinesCheckedBy, AreLinesDoneBy, HaveSession, IsByFiles, IsDoneBy, IsImportedBy, IsRefusedAs, IsSession, IsShownBy}
 use Rattle.rosterbook.specs.InLines.{AreLinesAnswered, AreLinesChecked, AreLinesStopped, AreRequestsAnswered, commands_of, requests_of}
@@ -46,7 +46,7 @@ module _ {S : Type 0} (g : store.Ghosts S) (new : Kept S) (s : State) where
         (one_of_either (state g new.held) (Fold s asked) _ at),
   )
 
-  request_reached : (request : Request) → IsDurablyAt g new (left_by_request s request) → IsReached (asked_by_request request)
+  request_reached : (request : ReadRequest) → IsDurablyAt g new (left_by_request s request) → IsReached (asked_by_request request)
   request_reached (Ok asked) at = all_reached _ at
   request_reached (Err fault) at = all_reached [] at
 
@@ -165,7 +165,7 @@ module _ {D : Type 0} {g : Ghosts D} (image : Image) (old new : Kept (FileStore 
     request_left held out out' (Err stop) it (inl none) = inl (same_left none.unchanged)
     request_left held out out' (Err stop) it (inr some) = inr (some.0, some.2, left_by_stop _ some.1 stop some.3)
 
-    answered_left : (out out' : ChannelBytes) (requests : List Request) (status : Status) → AreRequestsAnswered over_files old new out out' requests status →
+    answered_left : (out out' : ChannelBytes) (requests : List ReadRequest) (status : Status) → AreRequestsAnswered over_files old new out out' requests status →
         AreLeftAfter (Some left) image (commands_of requests)
     answered_left out out' requests status it =
         let asked = commands_of requests in

@@ -8,7 +8,7 @@ use Rattle.state_rows.specs.declared.fault.StoreFault.{StoreFault}
 use Rattle.book.specs.Kept.{IsDurablyAt, Kept}
 use Rattle.book.specs.declared.answer.Answer.{Answer}
 use Rattle.asking.specs.Answers.{Reports}
-use Rattle.asking.specs.Requests.{HasChecked, IsCheckedAsRead, IsRequestChecked, Request, asked_as}
+use Rattle.asking.specs.Requests.{HasChecked, IsCheckedAsRead, IsRequestChecked, ReadRequest, asked_as}
 use Rattle.asking.specs.declared.answers.AskFault.{AskFault}
 use Rattle.asking.specs.declared.answers.AskFault.TheVariants as ask
 use Rattle.asking.specs.declared.answers.JsonAnswer.{JsonAnswer}
@@ -20,7 +20,7 @@ use Rattle.rosterbook.proofs.Showing.{not_of_book}
 use Rattle.rosterbook.proofs.Stopping.{has_failed}
 
 module _ {S : Type 0} (g : Ghosts S) (old new : Kept S) where
-  kept_as_read : (r : Result JsonAnswer AskFault) (request : Request) → IsCheckedAsRead g old new request r → (s : State) → IsDurablyAt g old s → IsDurablyAt g new s
+  kept_as_read : (r : Result JsonAnswer AskFault) (request : ReadRequest) → IsCheckedAsRead g old new request r → (s : State) → IsDurablyAt g old s → IsDurablyAt g new s
   kept_as_read r (Ok asked) it s at = it.checked.call.kept s at
   kept_as_read r (Err fault) it s at = subst (λ (b : Kept S). IsDurablyAt g b s) (sym it.0) at
 
@@ -42,7 +42,7 @@ module _ {S : Type 0} (g : Ghosts S) (old new : Kept S) where
           failed = has_failed Answer met old.failed new.failed has.call.failed;
         })
 
-    stopped_as_read : (request : Request) → IsCheckedAsRead g old new request (Err fault) → IsShowStopped new out out (stop_of fault)
+    stopped_as_read : (request : ReadRequest) → IsCheckedAsRead g old new request (Err fault) → IsShowStopped new out out (stop_of fault)
     stopped_as_read (Ok asked) it = command_stopped asked it.answer it.checked it.reported
     stopped_as_read (Err unread) (same, memory) = for_memory memory
 

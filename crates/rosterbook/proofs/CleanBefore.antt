@@ -16,7 +16,7 @@ use Rattle.roster.specs.declared.change.Verdict.{Verdict}
 use Rattle.roster.specs.declared.change.Verdict.TheVariants.{Accept, Refuse, Repeat}
 use Rattle.roster.specs.declared.state.LoggedCommand.{LoggedCommand}
 use Rattle.book.specs.Kept.{IsClean, IsDurablyAt, Kept}
-use Rattle.asking.specs.Requests.{Request}
+use Rattle.asking.specs.Requests.{ReadRequest}
 use Rattle.rosterbook.specs.Asking.{left_by_request}
 
 -- a command is kept under no key
@@ -39,7 +39,7 @@ odd_fold : (asked : List Asked) (s : State) → IsOdd s → IsOdd (Fold s asked)
 odd_fold [] s odd = odd
 odd_fold (one ∷ asked) s odd = odd_fold asked (next s one) (odd_next s one odd)
 
-odd_request : (request : Request) (s : State) → IsOdd s → IsOdd (left_by_request s request)
+odd_request : (request : ReadRequest) (s : State) → IsOdd s → IsOdd (left_by_request s request)
 odd_request (Ok asked) s odd = odd_next s _ odd
 odd_request (Err fault) s odd = odd
 
@@ -70,7 +70,7 @@ module _ {S : Type 0} (g : Ghosts S) (old new : Kept S) where
   pub clean_before_same : ((s : State) → IsDurablyAt g old s → IsDurablyAt g new s) → IsClean g new → IsClean g old
   clean_before_same = clean_before (λ s. s) (λ s odd. odd)
 
-  pub clean_before_request : (request : Request) → ((s : State) → IsDurablyAt g old s → IsDurablyAt g new (left_by_request s request)) → IsClean g new → IsClean g old
+  pub clean_before_request : (request : ReadRequest) → ((s : State) → IsDurablyAt g old s → IsDurablyAt g new (left_by_request s request)) → IsClean g new → IsClean g old
   clean_before_request request = clean_before (λ s. left_by_request s request) (odd_request request)
 
   pub clean_before_all : (asked : List Asked) → ((s : State) → IsDurablyAt g old s → IsDurablyAt g new (Fold s asked)) → IsClean g new → IsClean g old

@@ -13,7 +13,7 @@ use Rattle.roster.specs.State.{State}
 use Rattle.state_rows.specs.declared.fault.StoreFault.TheVariants as faults
 use Rattle.book.specs.Kept.{IsClean, IsDurablyAt, IsInDoubt, Kept}
 use Rattle.book.proofs.CommandLists.{fold_append, replies_append}
-use Rattle.asking.specs.Requests.{IsDoneAsRead, IsRequestAsked, Request}
+use Rattle.asking.specs.Requests.{IsDoneAsRead, IsRequestAsked, ReadRequest}
 use Rattle.asking.specs.declared.answers.AskFault.{AskFault}
 use Rattle.asking.specs.declared.answers.AskFault.TheVariants as ask
 use Rattle.http_exchange.specs.Exchange.{ChannelBytes}
@@ -50,10 +50,10 @@ status_from status (one ∷ told) =
 status_both : (told more : Told) → status_of_told (told ++ more) ≡ status_after (status_of_told told) (status_of_told more)
 status_both told more = fold-append (λ s one. status_after s one.0) Done told more ∙ status_from (status_of_told told) more
 
-pub commands_both : (requests more : List Request) → commands_of (requests ++ more) ≡ commands_of requests ++ commands_of more
+pub commands_both : (requests more : List ReadRequest) → commands_of (requests ++ more) ≡ commands_of requests ++ commands_of more
 commands_both requests more = flat_map-append asked_by_request requests more
 
-told_both : (requests more : List Request) (answers others : List ReplyOrRefusal) → length answers ≡ length (commands_of requests) →
+told_both : (requests more : List ReadRequest) (answers others : List ReplyOrRefusal) → length answers ≡ length (commands_of requests) →
     told_of (requests ++ more) (answers ++ others) ≡ told_of requests answers ++ told_of more others
 told_both [] more [] others each = refl
 told_both [] more (answer ∷ answers) others each = absurd (omega (arith, each))
@@ -61,13 +61,13 @@ told_both (Err fault ∷ requests) more answers others each = ap (λ t. (Refused
 told_both (Ok asked ∷ requests) more [] others each = absurd (omega (arith, each))
 told_both (Ok asked ∷ requests) more (answer ∷ answers) others each = ap (λ t. told_json (Ok asked) answer ∷ t) (told_both requests more answers others (omega (arith, each)))
 
-printed_both : (requests more : List Request) (answers others : List ReplyOrRefusal) → length answers ≡ length (commands_of requests) →
+printed_both : (requests more : List ReadRequest) (answers others : List ReplyOrRefusal) → length answers ≡ length (commands_of requests) →
     printed_of (told_of (requests ++ more) (answers ++ others)) ≡ printed_of (told_of requests answers) ++ printed_of (told_of more others)
 printed_both requests more answers others each =
     ap printed_of (told_both requests more answers others each) ∙ flat_map-append (λ one. one.1 ++ line_end) (told_of requests answers) (told_of more others)
 
 -- requests were told, and others then
-pub told_then : (out out_mid out' : ChannelBytes) (requests more : List Request) (answers others : List ReplyOrRefusal) (status next : Status) →
+pub told_then : (out out_mid out' : ChannelBytes) (requests more : List ReadRequest) (answers others : List ReplyOrRefusal) (status next : Status) →
     AreRequestsTold requests answers status out out_mid → AreRequestsTold more others next out_mid out' →
     AreRequestsTold (requests ++ more) (answers ++ others) (status_after status next) out out'
 told_then out out_mid out' requests more answers others status next first second = record {
@@ -127,7 +127,7 @@ module _ {S : Type 0} (g : Ghosts S) where
       ∙ ap (λ l. take (length (answers ++ others)) (l ++ after)) first
       ∙ ap (take (length (answers ++ others))) (sym (replies_append s asked more))
 
-  module _ (old mid new : Kept S) (out out_mid out' : ChannelBytes) (requests more : List Request) (status : Status) (first : AreRequestsAnswered g old mid out out_mid requests status) where
+  module _ (old mid new : Kept S) (out out_mid out' : ChannelBytes) (requests more : List ReadRequest) (status : Status) (first : AreRequestsAnswered g old mid out out_mid requests status) where
     abbrev asked : List Asked
     asked = commands_of requests
 
@@ -220,7 +220,7 @@ module _ {S : Type 0} (g : Ghosts S) (old new : Kept S) (out out' : ChannelBytes
   one_printed told is same printed =
       subst (λ (t : Status × List ℕ). Appends out out' (printed_of (t ∷ []))) same (subst (Appends out out') (sym (append-nil (told.1 ++ line_end))) printed)
 
-  one_answered : (request : Request) (told : Status × List ℕ) (status : Status) → IsRequestTold g old new left_by_request told request → status ≡ told.0 → Appends out out' (told.1 ++ line_end) →
+  one_answered : (request : ReadRequest) (told : Status × List ℕ) (status : Status) → IsRequestTold g old new left_by_request told request → status ≡ told.0 → Appends out out' (told.1 ++ line_end) →
       AreRequestsAnswered g old new out out' (request ∷ []) status
   one_answered (Ok asked) told status (answer, is, answered, left) ends printed = record {
     answers = answer ∷ [];
@@ -247,18 +247,18 @@ module _ {S : Type 0} (g : Ghosts S) (old new : Kept S) (out out' : ChannelBytes
   body_answered body status it = one_answered (read_request body) _ status (request_told g old new body it.answer it.asked) it.ends it.printed
 
   -- one that has no answer is told nothing
-  nothing_told : (request : Request) (answers : List ReplyOrRefusal) → out' ≡ out → length answers < length (commands_of (request ∷ [])) →
+  nothing_told : (request : ReadRequest) (answers : List ReplyOrRefusal) → out' ≡ out → length answers < length (commands_of (request ∷ [])) →
       Appends out out' (printed_of (told_of (request ∷ []) answers))
   nothing_told (Ok asked) [] silent fewer = subst (λ o. Appends out o []) (sym silent) (appends_nothing out)
   nothing_told (Ok asked) (answer ∷ answers) silent fewer = absurd (omega (arith, fewer))
   nothing_told (Err fault) answers silent fewer = absurd (omega (arith, fewer))
 
-  at_most_one : (request : Request) → length (commands_of (request ∷ [])) ≤ 1
+  at_most_one : (request : ReadRequest) → length (commands_of (request ∷ [])) ≤ 1
   at_most_one (Ok asked) = omega arith
   at_most_one (Err fault) = omega arith
 
   -- it was asked nothing
-  one_unasked : (request : Request) → new ≡ old → out' ≡ out → AreStoppedAtLast g old new out out' (request ∷ []) Memory
+  one_unasked : (request : ReadRequest) → new ≡ old → out' ≡ out → AreStoppedAtLast g old new out out' (request ∷ []) Memory
   one_unasked request same silent = record {
     answers = [];
     asked = untold g old new (commands_of (request ∷ [])) 0 [] Memory (inl refl) (omega arith) refl
@@ -268,14 +268,14 @@ module _ {S : Type 0} (g : Ghosts S) (old new : Kept S) (out out' : ChannelBytes
   }
 
   -- it has no answer
-  one_unanswered : (request : Request) (fault : AskFault) → IsDoneAsRead g old new request (Err fault) → out' ≡ out → AreStoppedAtLast g old new out out' (request ∷ []) (stop_of fault)
+  one_unanswered : (request : ReadRequest) (fault : AskFault) → IsDoneAsRead g old new request (Err fault) → out' ≡ out → AreStoppedAtLast g old new out out' (request ∷ []) (stop_of fault)
   one_unanswered (Ok asked) fault it silent =
       let stopped = command_stopped g old new asked it.answer fault it.answered it.reported in
       record { answers = stopped.0; asked = stopped.1; at_last = omega arith; printed = λ fewer. nothing_told (Ok asked) stopped.0 silent fewer }
   one_unanswered (Err unread) fault (same, memory) silent = subst (λ f. AreStoppedAtLast g old new out out' (Err unread ∷ []) (stop_of f)) (sym memory) (one_unasked (Err unread) same silent)
 
   -- its line was not written
-  one_unwritten : (request : Request) (answers : List ReplyOrRefusal) (stop : Stop) → IsStoppedIn g old new (asked_by_request request) answers stop →
+  one_unwritten : (request : ReadRequest) (answers : List ReplyOrRefusal) (stop : Stop) → IsStoppedIn g old new (asked_by_request request) answers stop →
       (length answers < length (asked_by_request request) → ⊥) → AreStoppedAtLast g old new out out' (request ∷ []) stop
   one_unwritten (Ok asked) answers stop it whole = record { answers = answers; asked = it; at_last = omega arith; printed = λ fewer. absurd (whole fewer) }
   one_unwritten (Err fault) answers stop it whole = record { answers = answers; asked = it; at_last = omega arith; printed = λ fewer. absurd (whole fewer) }

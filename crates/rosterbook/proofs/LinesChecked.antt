@@ -8,7 +8,7 @@ use Rattle.roster.specs.Folds.{answer_of}
 use Rattle.roster.specs.State.{State}
 use Rattle.roster.specs.Steps.{step_of}
 use Rattle.book.specs.Kept.{IsClean, IsDurablyAt, Kept}
-use Rattle.asking.specs.Requests.{IsRequestChecked, Request}
+use Rattle.asking.specs.Requests.{IsRequestChecked, ReadRequest}
 use Rattle.http_exchange.specs.Exchange.{ChannelBytes}
 use Rattle.rosterbook.specs.Asking.{IsBodyTold, left_by_check, told_json}
 use Rattle.rosterbook.specs.InLines.{AreRequestsChecked, answers_in, commands_of, requests_of, status_after}
@@ -29,7 +29,7 @@ module _ {S : Type 0} (g : Ghosts S) where
     left = λ s at. at;
   }
 
-  both_checked : (old mid new : Kept S) (out out_mid out' : ChannelBytes) (requests more : List Request) (status next : Status) →
+  both_checked : (old mid new : Kept S) (out out_mid out' : ChannelBytes) (requests more : List ReadRequest) (status next : Status) →
       AreRequestsChecked g old mid out out_mid requests status → AreRequestsChecked g mid new out_mid out' more next →
       AreRequestsChecked g old new out out' (requests ++ more) (status_after status next)
   both_checked old mid new out out_mid out' requests more status next first second = record {
@@ -55,7 +55,7 @@ module _ {S : Type 0} (g : Ghosts S) where
 -- ---- One request
 
 module _ {S : Type 0} (g : Ghosts S) (old new : Kept S) (out out' : ChannelBytes) where
-  one_checked : (request : Request) (told : Status × List ℕ) (status : Status) → IsRequestTold g old new left_by_check told request → status ≡ told.0 → Appends out out' (told.1 ++ line_end) →
+  one_checked : (request : ReadRequest) (told : Status × List ℕ) (status : Status) → IsRequestTold g old new left_by_check told request → status ≡ told.0 → Appends out out' (told.1 ++ line_end) →
       AreRequestsChecked g old new out out' (request ∷ []) status
   one_checked (Ok asked) told status (answer, is, answered, left) ends printed = record {
     answers = answer ∷ [];

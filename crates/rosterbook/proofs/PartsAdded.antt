@@ -21,8 +21,8 @@ use Rattle.book.specs.Kept.{Ends, Kept, is_some_store_fault, result_of}
 use Rattle.book.specs.declared.answer.Answer.{Answer}
 use Rattle.book.proofs.CommandLists.{replies_take}
 use Rattle.asking.specs.Schedules.{ArePartsAsked, HasHeard, IsScheduleAsked}
-use Rattle.asking.specs.declared.schedules.ScheduleFault.{ScheduleFault}
-use Rattle.asking.specs.declared.schedules.ScheduleFault.TheVariants.{Unread, Ask, Unheard}
+use Rattle.asking.specs.declared.schedules.NotAllAsked.{NotAllAsked}
+use Rattle.asking.specs.declared.schedules.NotAllAsked.TheVariants.{Unread, Ask, Unheard}
 use Rattle.asking.specs.declared.answers.AskFault.{AskFault}
 use Rattle.asking.specs.declared.answers.AskFault.TheVariants as ask
 use Rattle.asking.proofs.Chains.{all_parts, length-replies, parts_heard, parts_to_fault}
@@ -76,10 +76,10 @@ module _ {S O : Type 0} (g : Ghosts S) (contents : O → ChannelBytes) (old new 
     abbrev parts : List Asked
     parts = import number plans
 
-    abbrev Asked_so : Result ⊤ (ScheduleFault Error) → Type 0
+    abbrev Asked_so : Result ⊤ (NotAllAsked Error) → Type 0
     Asked_so result = ArePartsAsked g (Hears contents) old new begun heard parts result
 
-    written : (result : Result ⊤ (ScheduleFault Error)) (it : Asked_so result) → heard ≡ it.heard → AreWritten contents begun heard 1 (map result_of it.answers)
+    written : (result : Result ⊤ (NotAllAsked Error)) (it : Asked_so result) → heard ≡ it.heard → AreWritten contents begun heard 1 (map result_of it.answers)
     written result it same = all_written contents 1 it.answers begun heard (subst (λ (l : PartLines O). HasHeard (Hears contents) begun 1 it.answers l) (sym same) it.all_heard)
 
     -- all were answered, and are told
@@ -147,7 +147,7 @@ module _ {S O : Type 0} (g : Ghosts S) (contents : O → ChannelBytes) (old new 
   -- ---- A schedule
 
   module _ (text : List ℕ) where
-    abbrev Asked_with : Result ⊤ (ScheduleFault Error) → Type 0
+    abbrev Asked_with : Result ⊤ (NotAllAsked Error) → Type 0
     Asked_with result = IsScheduleAsked g (Hears contents) old new begun heard number text result
 
     -- the lines are written by the writer that was lent

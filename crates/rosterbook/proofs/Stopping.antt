@@ -12,7 +12,7 @@ use Rattle.book.specs.Kept.{IsDurablyAt, IsClean, IsInDoubt, Kept, is_store_faul
 use Rattle.book.specs.declared.answer.Answer.{Answer}
 use Rattle.roster.specs.Folds.{ReplyOrRefusal}
 use Rattle.asking.specs.Answers.{Reports}
-use Rattle.asking.specs.Requests.{IsDoneAsRead, IsRequestAsked, Request, asked_as}
+use Rattle.asking.specs.Requests.{IsDoneAsRead, IsRequestAsked, ReadRequest, asked_as}
 use Rattle.asking.specs.declared.answers.AskFault.{AskFault}
 use Rattle.asking.specs.declared.answers.AskFault.TheVariants as ask
 use Rattle.asking.specs.declared.answers.JsonAnswer.{JsonAnswer}
@@ -91,7 +91,7 @@ err_told (Err e) P Q it weaker = weaker e it
 
 -- a command has no answer
 module _ {S : Type 0} (g : Ghosts S) (old new : Kept S) where
-  abbrev pub IsStoppedAt : Request → AskFault → Type 0
+  abbrev pub IsStoppedAt : ReadRequest → AskFault → Type 0
   IsStoppedAt request fault = (answers : List ReplyOrRefusal) × IsStoppedIn g old new (asked_by_request request) answers (stop_of fault)
 
   pub command_stopped : (asked : ℕ × Instruction) (answered : Result Answer StoreFault) (fault : AskFault) → IsAnswered g old new (asked_as asked) answered → Reports answered (Err fault)
@@ -115,7 +115,7 @@ module _ {S : Type 0} (g : Ghosts S) (old new : Kept S) (held out : ChannelBytes
   unasked : (fault : AskFault) → fault ≡ ask.Memory → new ≡ old → IsAskStopped g old new held out out (stop_of fault)
   unasked fault memory same = inl (record { unchanged = same; silent = refl; told = inl (ap stop_of memory) })
 
-  read_stopped : (request : Request) → read_request input ≡ request → (fault : AskFault) → IsDoneAsRead g old new request (Err fault) → IsAskStopped g old new held out out (stop_of fault)
+  read_stopped : (request : ReadRequest) → read_request input ≡ request → (fault : AskFault) → IsDoneAsRead g old new request (Err fault) → IsAskStopped g old new held out out (stop_of fault)
   read_stopped (Ok asked) is fault it =
       let stopped = subst (λ r. IsStoppedAt g old new r fault) (sym is) (command_stopped g old new asked it.answer fault it.answered it.reported) in
       inr (input, stopped.0, read, stopped.1, λ _. refl)
@@ -126,7 +126,7 @@ module _ {S : Type 0} (g : Ghosts S) (old new : Kept S) (held out : ChannelBytes
   request_stopped fault (inl done) = read_stopped (read_request input) refl fault done
 
 -- the answer was not written
-pub answer_untold : {S : Type 0} (g : Ghosts S) (old new : Kept S) (request : Request) (answer : ReplyOrRefusal) (stop : Stop) → IsOfChannel stop →
+pub answer_untold : {S : Type 0} (g : Ghosts S) (old new : Kept S) (request : ReadRequest) (answer : ReplyOrRefusal) (stop : Stop) → IsOfChannel stop →
     ((s : State) → IsDurablyAt g old s → IsClean g new → Answers s request answer) →
     ((s : State) → IsDurablyAt g old s → IsDurablyAt g new (left_by_request s request)) →
     (answers : List ReplyOrRefusal) × IsStoppedIn g old new (asked_by_request request) answers stop × (length answers < length (asked_by_request request) → ⊥)

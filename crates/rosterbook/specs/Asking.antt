@@ -16,7 +16,7 @@ use Rattle.state_rows.specs.declared.fault.StoreFault.{StoreFault}
 use Rattle.state_rows.specs.declared.fault.StoreFault.TheVariants.{Store}
 use Rattle.book.specs.Kept.{IsDurablyAt, IsClean, IsInDoubt, Kept}
 use Rattle.asking.specs.Answers.{answer_json}
-use Rattle.asking.specs.Requests.{Request, asked_as}
+use Rattle.asking.specs.Requests.{ReadRequest, asked_as}
 use Rattle.asking.specs.declared.answers.AnswerKind.{AnswerKind}
 use Rattle.asking.specs.declared.answers.AnswerKind.TheVariants as kind
 use Rattle.asking.specs.declared.answers.AskFault.{AskFault}
@@ -83,7 +83,7 @@ pub record IsUnasked {S : Type 0} (old new : Kept S) (out out' : ChannelBytes) (
 -- ---- `do`
 
 -- what `do` reports of a request: why it isn't read, or its answer
-abbrev pub told_json : Request → ReplyOrRefusal → Status × List ℕ
+abbrev pub told_json : ReadRequest → ReplyOrRefusal → Status × List ℕ
 told_json (Ok asked) answer = (status_of_answer answer, answer_json answer)
 told_json (Err fault) answer = (Refused, json.fault_reply fault)
 
@@ -94,27 +94,27 @@ pub record IsRequestReadAndTold (held out out' : ChannelBytes) (status : Status)
   pub printed : Prints (told_json (read_request input) answer) status out out'
 
 -- the state gives this answer to a request; of a request that isn't read nothing is said
-abbrev pub Answers : State → Request → ReplyOrRefusal → Type 0
+abbrev pub Answers : State → ReadRequest → ReplyOrRefusal → Type 0
 Answers s (Ok asked) answer = answer ∷ [] ≡ Replies s (asked_as asked ∷ [])
 Answers s (Err fault) answer = ⊤
 
 -- the state after a request; a request that isn't read changes nothing
-abbrev pub left_by_request : State → Request → State
+abbrev pub left_by_request : State → ReadRequest → State
 left_by_request s (Ok asked) = next s (asked_as asked)
 left_by_request s (Err fault) = s
 
 -- the state after a request that is only checked is the state before it
-abbrev pub left_by_check : State → Request → State
+abbrev pub left_by_check : State → ReadRequest → State
 left_by_check s request = s
 
 -- the commands that a request asks: one, or none if the request isn't read
-abbrev pub asked_by_request : Request → List Asked
+abbrev pub asked_by_request : ReadRequest → List Asked
 asked_by_request (Ok asked) = asked_as asked ∷ []
 asked_by_request (Err fault) = []
 
 -- A request was read and its answer printed. Where the state of the book is known, the answer is
 -- that of the state, and `left_by` gives the state that is left.
-pub record IsRequestAnswered {S : Type 0} (g : Ghosts S) (left_by : State → Request → State)
+pub record IsRequestAnswered {S : Type 0} (g : Ghosts S) (left_by : State → ReadRequest → State)
     (old new : Kept S) (held out out' : ChannelBytes) (status : Status) : Type 0 where
   pub input : List ℕ
   pub answer : ReplyOrRefusal

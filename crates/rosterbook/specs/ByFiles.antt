@@ -25,7 +25,7 @@ use Rattle.console.specs.declared.actions.Action.{Action}
 use Rattle.console.specs.declared.actions.Action.TheVariants.{Init, Do, Import}
 use Rattle.console.specs.declared.actions.Action.TheVariants.{Roster, Limits, Pairing, Exceedances}
 use Rattle.console.specs.declared.actions.Action.TheVariants.{Members, Pairings, Serve}
-use Rattle.asking.specs.Requests.{Request}
+use Rattle.asking.specs.Requests.{ReadRequest}
 use Rattle.http_exchange.specs.Exchange.{ChannelBytes}
 use Rattle.rosterbook.specs.Asking.{Answers, AreTold, IsNoSchedule, IsRequestReadAndTold}
 use Rattle.rosterbook.specs.Asking.{asked_by_request, left_by_check, left_by_request}
@@ -158,8 +158,8 @@ module _ {D : Type 0} {g : Ghosts D} (left : Option (FilesLeft D g)) (image : Im
 module _ (By : Account) where
   -- A request was read, and its answer printed. `By` gives the state whose answer it is, and the
   -- state after the request.
-  pub record IsDoneBy (left_by : State → Request → State) (held out out' err err' : ChannelBytes)
-      (status : Status) : Type 0 where
+  pub record IsDoneBy (left_by : State → ReadRequest → State)
+      (held out out' err err' : ChannelBytes) (status : Status) : Type 0 where
     pub input : List ℕ
     pub answer : ReplyOrRefusal
     pub told : IsRequestReadAndTold held out out' status input answer

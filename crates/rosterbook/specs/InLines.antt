@@ -12,7 +12,7 @@ use Rattle.roster.specs.State.{State}
 use Rattle.roster.specs.Steps.{step_of}
 use Rattle.book.specs.Kept.{IsClean, IsDurablyAt, Kept}
 use Rattle.codec.specs.RefusalText as json
-use Rattle.asking.specs.Requests.{Request}
+use Rattle.asking.specs.Requests.{ReadRequest}
 use Rattle.http_exchange.specs.Exchange.{ChannelBytes}
 use Rattle.rosterbook.specs.Asking.{IsStoppedIn, asked_by_request, told_json}
 use Rattle.rosterbook.specs.Showing.{IsShowStopped}
@@ -49,18 +49,18 @@ ReadsFirstLines None lines = ⊤
 ReadsFirstLines (Some bytes) lines = lines ≡ take (length lines) (lines_of bytes)
 
 -- the requests of these lines: each line is the body of one
-abbrev pub requests_of : List (List ℕ) → List Request
+abbrev pub requests_of : List (List ℕ) → List ReadRequest
 requests_of lines = map read_request lines
 
 -- the commands of requests: a request that isn't read has none
-abbrev pub commands_of : List Request → List Asked
+abbrev pub commands_of : List ReadRequest → List Asked
 commands_of requests = flat_map asked_by_request requests
 
 -- ---- What is printed
 
 -- What is reported of requests, in turn, where their commands got these answers. Of a request that
 -- isn't read it is reported why. From the first command without an answer on nothing is reported.
-abbrev pub told_of : List Request → List ReplyOrRefusal → List (Status × List ℕ)
+abbrev pub told_of : List ReadRequest → List ReplyOrRefusal → List (Status × List ℕ)
 told_of [] answers = []
 told_of (Err fault ∷ requests) answers =
     (Refused, json.fault_reply fault) ∷ told_of requests answers
@@ -82,7 +82,7 @@ abbrev pub status_of_told : List (Status × List ℕ) → Status
 status_of_told told = fold (λ status one. status_after status one.0) Done told
 
 -- the answers to the commands of these requests were printed, one line for each request
-pub record AreRequestsTold (requests : List Request) (answers : List ReplyOrRefusal)
+pub record AreRequestsTold (requests : List ReadRequest) (answers : List ReplyOrRefusal)
     (status : Status) (out out' : ChannelBytes) : Type 0 where
   pub each : length answers ≡ length (commands_of requests)
   pub printed : Appends out out' (printed_of (told_of requests answers))
@@ -97,7 +97,7 @@ answers_in s asked = map (λ one. answer_of (step_of s one.0 one.1)) asked
 module _ {S : Type 0} (g : Ghosts S) (old new : Kept S) where
   -- The commands of these requests were asked in turn, and the answers printed. Where the state of
   -- the book is known, the answers are those of the state.
-  pub record AreRequestsAnswered (out out' : ChannelBytes) (requests : List Request)
+  pub record AreRequestsAnswered (out out' : ChannelBytes) (requests : List ReadRequest)
       (status : Status) : Type 0 where
     pub answers : List ReplyOrRefusal
     pub told : AreRequestsTold requests answers status out out'
@@ -108,7 +108,7 @@ module _ {S : Type 0} (g : Ghosts S) (old new : Kept S) where
 
   -- For each of these requests it was printed how the book would answer it in its state. Where the
   -- state is known, the answers are those of the state, and nothing was done.
-  pub record AreRequestsChecked (out out' : ChannelBytes) (requests : List Request)
+  pub record AreRequestsChecked (out out' : ChannelBytes) (requests : List ReadRequest)
       (status : Status) : Type 0 where
     pub answers : List ReplyOrRefusal
     pub told : AreRequestsTold requests answers status out out'
@@ -119,7 +119,7 @@ module _ {S : Type 0} (g : Ghosts S) (old new : Kept S) where
   -- The program stopped at the last of these requests. All commands before the last one were
   -- answered. If the last command has no answer, the lines of the requests before it were printed,
   -- and no other.
-  pub record AreStoppedAtLast (out out' : ChannelBytes) (requests : List Request)
+  pub record AreStoppedAtLast (out out' : ChannelBytes) (requests : List ReadRequest)
       (stop : Stop) : Type 0 where
     pub answers : List ReplyOrRefusal
     pub asked : IsStoppedIn g old new (commands_of requests) answers stop
@@ -134,7 +134,7 @@ module _ {S : Type 0} (g : Ghosts S) (old new : Kept S) where
 
   -- no line could be read after these requests, which were answered; or the program stopped at the
   -- last of these requests
-  abbrev pub IsStoppedAfter : ChannelBytes → ChannelBytes → List Request → Stop → Type 0
+  abbrev pub IsStoppedAfter : ChannelBytes → ChannelBytes → List ReadRequest → Stop → Type 0
   IsStoppedAfter out out' requests stop =
       (IsOfChannel stop × ((status : Status) × AreRequestsAnswered out out' requests status))
       ⊎ AreStoppedAtLast out out' requests stop

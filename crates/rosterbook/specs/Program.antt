@@ -16,7 +16,7 @@ use Rattle.http_exchange.specs.Exchange.{ChannelBytes}
 pub use Rattle.rosterbook.specs.Streams.{line_end, refused_line}
 use Rattle.writing.specs.Faults.{create_text}
 use Rattle.writing.specs.declared.fault.CreateFault.{CreateFault}
-use Rattle.period_verdict.specs.Verdict.{Line, line_of}
+use Rattle.period_verdict.specs.Verdict.{VerdictLine, line_of}
 use Rattle.console.specs.declared.actions.Action.{Action}
 use Rattle.console.specs.declared.actions.Action.TheVariants.{Duty, Init, Do, Import, Roster}
 use Rattle.console.specs.declared.actions.Action.TheVariants.{Limits, Pairing, Exceedances, Members}
@@ -49,7 +49,7 @@ abbrev pub refusal_line : LineFault → List ℕ
 refusal_line fault = refused_line (line_fault_text fault)
 
 -- what `duty` answers: the line, or the refusal
-abbrev pub duty_answer : Result Line LineFault → ProgramOutput
+abbrev pub duty_answer : Result VerdictLine LineFault → ProgramOutput
 duty_answer (Ok line) =
     record { status = verdict_status line.1; out = line.0 ++ line_end; err = [] }
 duty_answer (Err fault) = record { status = Refused; out = []; err = refusal_line fault }

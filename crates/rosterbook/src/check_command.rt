@@ -52,7 +52,7 @@ pub(crate) fn answer_check<S: Start, R: Read, O: Write>(
                 refused: None,
             }
         }
-        Err(refused) => Ended::refused(refused),
+        Err(refused) => Ended::of_refusal(refused),
     }
 }
 
@@ -126,7 +126,7 @@ pub(crate) fn answer_line_checks<S: Start, R: Read, O: Write>(
                 refused: None,
             }
         }
-        Err(refused) => Ended::refused(refused),
+        Err(refused) => Ended::of_refusal(refused),
     }
 }
 

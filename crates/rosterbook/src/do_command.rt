@@ -45,7 +45,7 @@ pub(crate) fn answer_do<S: Start, R: Read, O: Write>(
                 refused: None,
             }
         }
-        Err(refused) => Ended::refused(refused),
+        Err(refused) => Ended::of_refusal(refused),
     }
 }
 

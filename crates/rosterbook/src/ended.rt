@@ -21,7 +21,7 @@ pub(crate) struct Ended<D: Disk> {
 
 impl<D: Disk> Ended<D> {
     /// Ends with no files opened.
-    pub(crate) fn unopened(done: Result<Status, Stop>) -> Ended<D>
+    pub(crate) fn without_files(done: Result<Status, Stop>) -> Ended<D>
         ensures done { result.done ≡ done }
         ensures left { result.left ≡ None }
         ensures refused { result.refused ≡ None }
@@ -34,7 +34,7 @@ impl<D: Disk> Ended<D> {
     }
 
     /// Ends where no book was taken up.
-    pub(crate) fn refused(it: NotTaken<D>) -> Ended<D>
+    pub(crate) fn of_refusal(it: NotTaken<D>) -> Ended<D>
         ensures done { result.done ≡ Err (Load it.fault) }
         ensures left { result.left ≡ None }
         ensures refused { result.refused ≡ it.left }

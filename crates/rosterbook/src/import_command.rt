@@ -13,7 +13,7 @@ use crate::ended::Ended;
 use crate::lines::{read_input, refuse};
 use crate::status::Status;
 use crate::stop::Stop;
-use asking::{Listener, ScheduleFault, ask_schedule};
+use asking::{Listener, NotAllAsked, ask_schedule};
 use book::{Answer, Book};
 use request_number::RequestNumber;
 use sqlite::{Alter, FileFrom, Start};
@@ -52,7 +52,7 @@ pub(crate) fn answer_import<S: Start, R: Read, O: Write, E: Write>(
                 refused: None,
             }
         }
-        Err(refused) => Ended::refused(refused),
+        Err(refused) => Ended::of_refusal(refused),
     }
 }
 
@@ -81,12 +81,12 @@ pub fn import_csv<S: Alter, R: Read, O: Write, E: Write>(
     };
     match ask_schedule(alloc, book, number, &text, &mut lines) {
         Ok(()) => Ok(lines.status),
-        Err(ScheduleFault::Unread(fault)) => {
+        Err(NotAllAsked::Unread(fault)) => {
             refuse(err, &fault)?;
             Ok(Status::Refused)
         }
-        Err(ScheduleFault::Ask(fault)) => Err(Stop::from(fault)),
-        Err(ScheduleFault::Unheard(error)) => Err(Stop::from(error)),
+        Err(NotAllAsked::Ask(fault)) => Err(Stop::from(fault)),
+        Err(NotAllAsked::Unheard(error)) => Err(Stop::from(error)),
     }
 }
 

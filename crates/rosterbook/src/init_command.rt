@@ -39,7 +39,7 @@ pub(crate) fn answer_init<S: Start, O: Write, E: Write>(
 {
     match Zone::read(rt.alloc(), zone) {
         Ok(zone) => make_and_tell(rt, file, start, zone, out, err),
-        Err(fault) => Ended::unopened(done_of(refuse_zone(fault, err))),
+        Err(fault) => Ended::without_files(done_of(refuse_zone(fault, err))),
     }
 }
 
@@ -63,16 +63,16 @@ fn make_and_tell<S: Start, O: Write, E: Write>(
 {
     match create_from(rt, file, zone, start) {
         Ok(left) => Ended {
-            done: done_of(tell_made(Ok(()), out, err)),
+            done: done_of(report_made(Ok(()), out, err)),
             left: Some(left),
             refused: None,
         },
-        Err(fault) => Ended::unopened(done_of(tell_made(Err(fault), out, err))),
+        Err(fault) => Ended::without_files(done_of(report_made(Err(fault), out, err))),
     }
 }
 
 /// Tells how the making of a book went.
-fn tell_made<O: Write, E: Write>(
+fn report_made<O: Write, E: Write>(
     made: Result<(), CreateFault>,
     out: &mut O,
     err: &mut E,

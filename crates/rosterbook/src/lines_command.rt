@@ -43,7 +43,7 @@ pub(crate) fn answer_lines<S: Start, R: Read, O: Write>(
                 refused: None,
             }
         }
-        Err(refused) => Ended::refused(refused),
+        Err(refused) => Ended::of_refusal(refused),
     }
 }
 

@@ -94,7 +94,7 @@ pub fn perform_from<S: Start, R: Read, O: Write, E: Write>(
             times,
         } => {
             let done = done_of(answer_duty(rt.alloc(), zone, report, times, out, err));
-            finish(Ended::unopened(done), err)
+            finish(Ended::without_files(done), err)
         }
         Action::Init { file, zone } => { finish(answer_init(rt, file, start, zone, out, err), err) }
         Action::Do {

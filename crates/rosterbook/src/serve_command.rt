@@ -39,8 +39,8 @@ impl<S: Alter> Server for BookServer<S> {
         serve_one(alloc, &self.listener, &mut self.book)
     }
 
-    fn failed(&self) -> bool {
-        self.book.failed()
+    fn has_failed(&self) -> bool {
+        self.book.has_failed()
     }
 }
 
@@ -79,7 +79,7 @@ pub(crate) fn answer_serve<S: Start, O: Write, E: Write>(
 {
     let book = match Book::open_from(rt, file, start) {
         Ok(book) => book,
-        Err(refused) => return Ended::refused(refused),
+        Err(refused) => return Ended::of_refusal(refused),
     };
     let Ok(listener) = TcpListener::bind(rt, (Ipv4Addr::LOCALHOST, port)) else {
         return Ended {

@@ -25,7 +25,7 @@ pub(crate) trait Server {
         ensures { serves self.old self.new result };
 
     /// Returns whether its store has failed.
-    fn failed(&self) -> bool
+    fn has_failed(&self) -> bool
         ensures { result ≡ fails self.now };
 }
 
@@ -53,7 +53,7 @@ pub(crate) fn serve_all<V: Server, E: Write>(
     for _connection in 0..connections {
         let outcome = server.serve_one(alloc);
         told &= tell_outcome(outcome, err);
-        if server.failed() {
+        if server.has_failed() {
             return Ending { failed: true, told };
         }
     }

@@ -194,7 +194,7 @@ fn show_file<S: Start, O: Write, E: Write>(
                 refused: None,
             }
         }
-        Err(refused) => Ended::refused(refused),
+        Err(refused) => Ended::of_refusal(refused),
     }
 }
 

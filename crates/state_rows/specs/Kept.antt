@@ -7,11 +7,11 @@ use Rattle.roster.specs.State.{State}
 use Rattle.tables.specs.Schema.{IsBook, IsNameFree, IsOfBook}
 use Rattle.tables.specs.Rows.{IsStored}
 use Rattle.state_rows.specs.First.{IsFirst}
-use Rattle.state_rows.specs.Rows.{FirstRows, TableName, is_later, table, Rows}
+use Rattle.state_rows.specs.Rows.{FirstRows, StateTable, is_later, table, Rows}
 
 -- each row of each table of the book is stored under a number of its own
 abbrev pub AreStored : Database → Type 0
-AreStored db = (name : TableName) → IsStored (table name) db
+AreStored db = (name : StateTable) → IsStored (table name) db
 
 -- the database has the tables of a book with the rows of this state, each row under a number of its
 -- own
@@ -33,8 +33,8 @@ HoldBookOf trees s = (schema : Schema) × IsBookOf s (record { schema = schema; 
 pub record IsFirstBookOf (s : State) (db : Database) : Type 0 where
   -- the trees list the schema, and obey it
   pub database : IsDatabase db
-  pub tables : (name : TableName) → is_later name ≡ false → IsOfBook (table name) db.schema
-  pub free : (name : TableName) → is_later name ≡ true → IsNameFree (table name) db.schema
+  pub tables : (name : StateTable) → is_later name ≡ false → IsOfBook (table name) db.schema
+  pub free : (name : StateTable) → is_later name ≡ true → IsNameFree (table name) db.schema
   pub stored : AreStored db
   pub rows : FirstRows s db
   -- tables of version 1 can say all of the state

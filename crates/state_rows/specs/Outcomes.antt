@@ -10,12 +10,12 @@ use Rattle.state_rows.specs.Kept.{IsBookOf, IsFirstBookOf, HoldBookOf, HoldFirst
 -- Each fact of this file holds as long as the disk has returned what was written.
 
 -- a state `t` is the state `s`
-abbrev pub one : roster.State → roster.State → Type 0
-one s = λ t. t ≡ s
+abbrev pub IsJust : roster.State → roster.State → Type 0
+IsJust s = λ t. t ≡ s
 
 -- a state `r` is one of the two states `s` and `t`
-abbrev pub either : roster.State → roster.State → roster.State → Type 0
-either s t = λ r. (r ≡ s) ⊎ (r ≡ t)
+abbrev pub IsEither : roster.State → roster.State → roster.State → Type 0
+IsEither s t = λ r. (r ≡ s) ⊎ (r ≡ t)
 
 -- a crash leaves the tables of a book in a state of which P holds, and nothing else
 pub record CrashLeaves (now : State) (P : roster.State → Type 0) : Type 0 where

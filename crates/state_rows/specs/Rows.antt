@@ -284,23 +284,23 @@ InOutsideSegment s row = (at : At s.outsides) × (g : OutsideSegmentOf at.value.
 -- ---- The thirteen tables
 
 -- the thirteen tables of the book have these names
-pub data TableName : Type 0 where
-  book : TableName
-  crew : TableName
-  pairing : TableName
-  period : TableName
-  segment : TableName
-  seat : TableName
-  ground_duty : TableName
-  exceedance : TableName
-  request : TableName
-  base : TableName
-  crew_base : TableName
-  outside : TableName
-  outside_segment : TableName
+pub data StateTable : Type 0 where
+  book : StateTable
+  crew : StateTable
+  pairing : StateTable
+  period : StateTable
+  segment : StateTable
+  seat : StateTable
+  ground_duty : StateTable
+  exceedance : StateTable
+  request : StateTable
+  base : StateTable
+  crew_base : StateTable
+  outside : StateTable
+  outside_segment : StateTable
 
 -- the table of this name is declared as this table of the book
-abbrev pub table : TableName → BookTable
+abbrev pub table : StateTable → BookTable
 table book = book_table
 table crew = crew_table
 table pairing = pairing_table
@@ -316,7 +316,7 @@ table outside = outside_table
 table outside_segment = outside_segment_table
 
 -- version 2 of the tables has the table of this name, and version 1 lacks it
-abbrev pub is_later : TableName → Bool
+abbrev pub is_later : StateTable → Bool
 is_later base = true
 is_later crew_base = true
 is_later outside = true
@@ -324,7 +324,7 @@ is_later outside_segment = true
 is_later name = false
 
 -- the row is one that the state has in the table of this name, in version 2
-abbrev pub InTable : State → TableName → Row → Type 0
+abbrev pub InTable : State → StateTable → Row → Type 0
 InTable s book = InBook s
 InTable s crew = InCrew s
 InTable s pairing = InPairing s
@@ -340,7 +340,7 @@ InTable s outside = InOutside s
 InTable s outside_segment = InOutsideSegment s
 
 -- the row is one that the state has in the table of this name, in version 1
-abbrev pub InFirst : State → TableName → Row → Type 0
+abbrev pub InFirst : State → StateTable → Row → Type 0
 InFirst s book = InBookOf First s
 InFirst s name = InTable s name
 
@@ -350,9 +350,9 @@ HasJust kept db Is = (row : Row) → Has (rows_of kept db) row ↔ Is row
 
 -- each table of version 2 has just the rows of this state
 abbrev pub Rows : State → Database → Type 0
-Rows s db = (name : TableName) → HasJust (table name) db (InTable s name)
+Rows s db = (name : StateTable) → HasJust (table name) db (InTable s name)
 
 -- each table of version 1 has just the rows of this state in version 1
 abbrev pub FirstRows : State → Database → Type 0
-FirstRows s db = (name : TableName) → is_later name ≡ false →
+FirstRows s db = (name : StateTable) → is_later name ≡ false →
     HasJust (table name) db (InFirst s name)

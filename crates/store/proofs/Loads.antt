@@ -14,7 +14,7 @@ use Rattle.tables.specs.Schema.{later_tables}
 use Rattle.writing.specs.Commits.{IsMigrated}
 use Rattle.state_rows.specs.Kept.{HoldBookOf, IsBookOf, IsFirstBookOf}
 use Rattle.writing.specs.Beside.{KeepBeside}
-use Rattle.state_rows.specs.Outcomes.{CrashAddsNothing, CrashLeaves, CrashLeavesOnly, CrashLeavesSome, HoldsNow, IsOutside, IsOverBook, ShowsFirst, ShowsOnly, one}
+use Rattle.state_rows.specs.Outcomes.{CrashAddsNothing, CrashLeaves, CrashLeavesOnly, CrashLeavesSome, HoldsNow, IsOutside, IsOverBook, ShowsFirst, ShowsOnly, IsJust}
 use Rattle.loading.specs.Reading.{AgreesIn, ReadsAs}
 use Rattle.state_rows.specs.Rows.{outside_segment}
 use Rattle.state_rows.specs.declared.edition.Edition.{Edition}
@@ -27,7 +27,7 @@ use Rattle.entries.proofs.Editions.{one_edition}
 use Rattle.state_rows.proofs.Outcomes.{clean_before}
 use Rattle.entries.proofs.RightSound.{right_sound, right_instants}
 use Rattle.store.specs.Found.{IsFound}
-use Rattle.store.specs.Loaded.{CrashMayMigrate, IsLoaded, IsNotLoaded, IsOfFirst, AreMigrated, ShowsWhatIsLeft}
+use Rattle.store.specs.Loaded.{CrashMayMigrate, IsLoaded, IsNotLoaded, ShowsFirstEdition, AreMigrated, ShowsWhatIsLeft}
 use Rattle.entries.specs.declared.fault.LoadFault.{LoadFault}
 use Rattle.entries.specs.declared.fault.LoadFault.TheVariants.{Fault}
 
@@ -55,7 +55,7 @@ module _ {S : Type 0} (g : Ghosts S) (old : State) (new : Held S) (r : roster.St
 
   -- it is what was committed last, and that is all that a crash leaves
   pub loaded_leaves : CrashLeavesNoMore old (state g new) → ((state g new).in_transaction ≡ false → IsTrue (state g new).is_open → (state g new).now ≡ (state g new).committed) →
-      ((it : S) (trees : Trees) → IsTrue (g.view it).is_open → g.recovers it trees → trees ≡ (g.view it).committed) → edition ≡ Second → CrashLeaves (state g new) (one r)
+      ((it : S) (trees : Trees) → IsTrue (g.view it).is_open → g.recovers it trees → trees ≡ (g.view it).committed) → edition ≡ Second → CrashLeaves (state g new) (IsJust r)
   loaded_leaves left settled law is = record {
     crash = λ clean trees may.
         let opened = (told clean).0.0.is_open in
@@ -118,10 +118,10 @@ not_read old new fault told caused left nothing_new some outside = record {
 
 module _ (old new : State) (r : roster.State) (saw : HasCleanDisk new → IsUnchanged old new × AgreesIn Second outside_segment r old.now) (left : CrashLeavesNoMore old new)
     (found : HasCleanDisk new → IsFound r old.now) (shows : HasCleanDisk new → ShowsWhatIsLeft old) where
-  no_first : HasCleanDisk new → IsOfFirst old → ⊥
+  no_first : HasCleanDisk new → ShowsFirstEdition old → ⊥
   no_first clean first = one_edition old.now first (saw clean).1.of
 
-  pub second_loaded : CrashAddsNothing old new → CrashLeaves new (one r) → CrashLeavesSome new → HoldsNow new r → IsLoaded old new r
+  pub second_loaded : CrashAddsNothing old new → CrashLeaves new (IsJust r) → CrashLeavesSome new → HoldsNow new r → IsLoaded old new r
   second_loaded nothing_new crash some shown = record {
     found = found;
     left = shows;
@@ -145,7 +145,7 @@ module _ {A : Type 0} (old mid new : State) (r : roster.State) (result : Result 
   clean_first : HasCleanDisk new → HasCleanDisk old
   clean_first clean = clean_before old mid left (migrated.disk clean)
 
-  is_first : HasCleanDisk new → IsOfFirst old
+  is_first : HasCleanDisk new → ShowsFirstEdition old
   is_first clean = (saw (migrated.disk clean)).1.of
 
   same_now : HasCleanDisk new → mid.now ≡ old.now
@@ -157,7 +157,7 @@ module _ {A : Type 0} (old mid new : State) (r : roster.State) (result : Result 
   same_limit : new.step_limit ≡ old.step_limit
   same_limit = migrated.limit ∙ left.limit
 
-  pub first_loaded : CrashLeaves new (one r) → HoldsNow new r → CrashLeavesOnly new (KeepBeside later_tables mid.now) →
+  pub first_loaded : CrashLeaves new (IsJust r) → HoldsNow new r → CrashLeavesOnly new (KeepBeside later_tables mid.now) →
       ShowsOnly new (KeepBeside later_tables mid.now) → IsLoaded old new r
   first_loaded crash shown others others_shown = record {
     found = λ clean. found (migrated.disk clean);
@@ -197,7 +197,7 @@ module _ {A : Type 0} (old mid new : State) (r : roster.State) (result : Result 
   more_faults : MoreFaults mid.faults new.faults → MoreFaults old.faults new.faults
   more_faults more = let before = left.counts in omega (arith, more, before)
 
-  nothing : (f : StoreFault) → (f ≡ Memory → CrashAddsNothing mid new) → (Fault f ≡ Fault Store → IsOfFirst old → ⊥) → CrashAddsNothing old new
+  nothing : (f : StoreFault) → (f ≡ Memory → CrashAddsNothing mid new) → (Fault f ≡ Fault Store → ShowsFirstEdition old → ⊥) → CrashAddsNothing old new
   nothing Memory memory unless = let same = memory refl in record {
     disk = clean_first;
     crash = λ clean trees may. no_outcome trees (migrated.disk clean) (same.crash clean trees may);

@@ -7,7 +7,7 @@ use Rattle.tables.specs.Schema.{IsNameFree, IsOfBook}
 use Rattle.entries.proofs.Editions.{one_edition}
 use Rattle.entries.specs.Right.{IsOfEdition, IsLaterOfState, IsRight, IsTableOfState}
 use Rattle.loading.specs.Reading.{AgreesThrough}
-use Rattle.state_rows.specs.Rows.{table, HasJust, InBookOf, InFirst, InTable, TableName, is_later, book, crew, pairing, period, segment, seat, ground_duty, exceedance, request, base, crew_base, outside, outside_segment}
+use Rattle.state_rows.specs.Rows.{table, HasJust, InBookOf, InFirst, InTable, StateTable, is_later, book, crew, pairing, period, segment, seat, ground_duty, exceedance, request, base, crew_base, outside, outside_segment}
 use Rattle.state_rows.specs.declared.edition.Edition.{Edition}
 use Rattle.state_rows.specs.declared.edition.Edition.TheVariants.{First, Second}
 use Rattle.state_rows.specs.Kept.{IsBookOf, IsFirstBookOf}
@@ -20,11 +20,11 @@ its_edition First Second s db just of = absurd (one_edition db of (s, just))
 its_edition Second First s db just of = absurd (one_edition db (s, just) of)
 
 -- of a later table, what is so of a database of that version
-its_table : (name : TableName) (s : State) (db : Database) → IsLaterOfState name s db → IsOfEdition Second db → IsTableOfState name s db
+its_table : (name : StateTable) (s : State) (db : Database) → IsLaterOfState name s db → IsOfEdition Second db → IsTableOfState name s db
 its_table name s db (inl is) second = is.1
 its_table name s db (inr is) second = absurd (one_edition db is.0 second)
 
-its_name : (name : TableName) (s : State) (db : Database) → IsLaterOfState name s db → IsOfEdition First db → IsNameFree (table name) db.schema
+its_name : (name : StateTable) (s : State) (db : Database) → IsLaterOfState name s db → IsOfEdition First db → IsNameFree (table name) db.schema
 its_name name s db (inl is) first = absurd (one_edition db first is.0)
 its_name name s db (inr is) first = is.1
 
@@ -68,7 +68,7 @@ module _ (s : State) (db : Database) (database : IsDatabase db) (read : AgreesTh
   bk : IsRight book s db
   bk = cr.0
 
-  each_stored : (name : TableName) → IsStored (table name) db
+  each_stored : (name : StateTable) → IsStored (table name) db
   each_stored name =
       let stored = read.stored in
       elim name as (λ n. IsStored (table n) db) [

@@ -16,12 +16,12 @@ use Rattle.state_rows.specs.Kept.{HoldBookOf, IsFirstBookOf}
 use Rattle.writing.specs.Beside.{KeepBeside}
 use Rattle.state_rows.specs.Outcomes.{CrashAddsNothing, CrashAddsOnly, CrashLeaves, CrashLeavesOnly}
 use Rattle.state_rows.specs.Outcomes.{CrashLeavesSome, HoldsNow, IsOutside, ShowsOnly, StaysOpen}
-use Rattle.state_rows.specs.Outcomes.{one}
+use Rattle.state_rows.specs.Outcomes.{IsJust}
 use Rattle.store.specs.Found.{IsFound}
 
 -- the connection shows a database whose table `book` says version 1
-abbrev pub IsOfFirst : conn.State → Type 0
-IsOfFirst s = IsOfEdition First s.now
+abbrev pub ShowsFirstEdition : conn.State → Type 0
+ShowsFirstEdition s = IsOfEdition First s.now
 
 -- what the connection shows is what a crash could leave of the connection
 abbrev pub ShowsWhatIsLeft : conn.State → Type 0
@@ -54,16 +54,16 @@ pub record IsLoaded (old new : conn.State) (s : State) : Type 0 where
   -- what was found is what a crash could have left
   pub left : HasCleanDisk new → ShowsWhatIsLeft old
   -- the book now, of version 2: what a crash leaves, and what is shown
-  pub crash : CrashLeaves new (one s)
+  pub crash : CrashLeaves new (IsJust s)
   pub some_left : CrashLeavesSome new
   pub shown : HoldsNow new s
   -- of a book of version 2 nothing was changed
-  pub nothing_new : ¬ IsOfFirst old → CrashAddsNothing old new
-  pub unchanged : HasCleanDisk new → ¬ IsOfFirst old → IsUnchanged old new
+  pub nothing_new : ¬ ShowsFirstEdition old → CrashAddsNothing old new
+  pub unchanged : HasCleanDisk new → ¬ ShowsFirstEdition old → IsUnchanged old new
   -- beside a book of version 1 all else stays that was there, and nothing else is made than the
   -- tables of version 2: what a crash leaves, and what is shown
-  pub others_crash : IsOfFirst old → CrashLeavesOnly new (KeepBeside later_tables old.now)
-  pub others_shown : IsOfFirst old → ShowsOnly new (KeepBeside later_tables old.now)
+  pub others_crash : ShowsFirstEdition old → CrashLeavesOnly new (KeepBeside later_tables old.now)
+  pub others_shown : ShowsFirstEdition old → ShowsOnly new (KeepBeside later_tables old.now)
   -- the disk, and the limit of a statement's steps, if one is set
   pub disk : HasCleanDisk new → HasCleanDisk old
   pub limit : new.step_limit ≡ old.step_limit
@@ -77,7 +77,7 @@ pub record IsNotLoaded (old new : conn.State) (fault : LoadFault) : Type 0 where
   pub caused : HasCleanDisk new → fault ≡ Fault Store → HasReadCause old new ⊎ ShowsFirstBook old
   -- what a crash leaves
   pub crash : CrashMayMigrate old new
-  pub nothing_new : (fault ≡ Fault Store → ¬ IsOfFirst old) → CrashAddsNothing old new
+  pub nothing_new : (fault ≡ Fault Store → ¬ ShowsFirstEdition old) → CrashAddsNothing old new
   pub others_left : CrashAddsOnly old new (KeepBeside later_tables old.now)
   pub some_left : CrashLeavesSome new
   -- the connection, and the limit of a statement's steps, if one is set

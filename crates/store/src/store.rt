@@ -12,7 +12,7 @@ ghost use Rattle.lookup.specs.Reads.{ChangesNothing, IsOpen, IsReadFault, Shows}
 ghost use Rattle.writing.specs.Commits.{IsCommitted, AreTablesMade, IsNotMade};
 ghost use Rattle.loading.specs.Loading.{Justifies};
 ghost use Rattle.writing.specs.Making.{IsFree};
-ghost use Rattle.state_rows.specs.Outcomes.{CrashLeaves, CrashLeavesSome, CrashAddsNothing, HoldsNow, IsOutside, IsOverBook, ShowsFirst, one};
+ghost use Rattle.state_rows.specs.Outcomes.{CrashLeaves, CrashLeavesSome, CrashAddsNothing, HoldsNow, IsOutside, IsOverBook, ShowsFirst, IsJust};
 ghost use Rattle.loading.specs.Reading.{AgreesIn, ReadsAs};
 ghost use Rattle.state_rows.specs.Rows.{outside_segment};
 ghost use Rattle.store.specs.Found.{IsFound};
@@ -155,7 +155,7 @@ impl<S: Alter> Store<S> {
 
     /// Reads by key a roster with what the text of a member, of a member's limits, of a pairing, of the exceedances or of a
     /// list needs, in no transaction, and changes nothing. A store's fault is 90, out of memory 91.
-    pub fn shown(&mut self, alloc: Global, what: &Show) -> Result<Roster, StoreFault>
+    pub fn read_shown(&mut self, alloc: Global, what: &Show) -> Result<Roster, StoreFault>
         ensures part { (s : State) → Shows (state S.Store self.old) s
             → HasCleanDisk (state S.Store self.new) → IfOk result (λ r. r ≡ shown_part s what.now) }
         ensures text { (s : State) → Shows (state S.Store self.old) s
@@ -239,7 +239,7 @@ fn read<S: Alter>(alloc: Global, conn: &mut Connection<S>) -> Result<(Roster, Ed
 
     // Where it is of version 2: what a crash leaves, and what the tables show.
     ensures crash { IfOk result
-        (λ r. r.1 ≡ Edition.Second → CrashLeaves (state S.Store conn.new) (one r.0)) }
+        (λ r. r.1 ≡ Edition.Second → CrashLeaves (state S.Store conn.new) (IsJust r.0)) }
     ensures shown { IfOk result
         (λ r. r.1 ≡ Edition.Second → HoldsNow (state S.Store conn.new) r.0) }
     ensures over { IfOk result

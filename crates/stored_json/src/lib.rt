@@ -20,5 +20,5 @@ pub use fault::CodecFault;
 pub use field::JsonField;
 pub use kept_text::canonical;
 pub use objects::{Scalar, object_of, object_with_list};
-pub use part::{Part, Unread, field as json_field};
+pub use part::{JsonPart, Unread, field as json_field};
 pub use reply_text::{read_reply, reply_to_json};

@@ -71,7 +71,7 @@ impl<T: Drop> From<AllocFailed<T>> for Unread {
 }
 
 /// What is read of a JSON value.
-pub trait Part: Drop {
+pub trait JsonPart: Drop {
     ghost use Rattle.std.specs.Prelude.{◌≡◌, ◌⊎◌, Option, Some, None, IfOk, IfErr};
     ghost use Rattle.serde_json.specs.Data.{Data};
     ghost use Rattle.serde_json.specs.View.{view};
@@ -87,7 +87,7 @@ pub trait Part: Drop {
 }
 
 /// Reads a member of an object, by its name.
-pub fn member<T: Part>(alloc: Global, object: &Value, name: &str) -> Result<T, Unread>
+pub fn member<T: JsonPart>(alloc: Global, object: &Value, name: &str) -> Result<T, Unread>
     ensures read { IfOk result
         (λ part. read_named_part T.reads name.now (view object.now) ≡ Some part) }
     ensures refused { IfErr result
@@ -98,7 +98,7 @@ pub fn member<T: Part>(alloc: Global, object: &Value, name: &str) -> Result<T, U
 }
 
 /// Reads a member that is a list of parts.
-pub fn member_list<T: Part>(alloc: Global, object: &Value, name: &str) -> Result<Vec<T>, Unread>
+pub fn member_list<T: JsonPart>(alloc: Global, object: &Value, name: &str) -> Result<Vec<T>, Unread>
     ensures read { IfOk result
         (λ parts. read_named_part (read_list T.reads) name.now (view object.now)
         ≡ Some parts.items) }
@@ -111,7 +111,7 @@ pub fn member_list<T: Part>(alloc: Global, object: &Value, name: &str) -> Result
 }
 
 /// Reads the part that each value is.
-fn each<T: Part>(alloc: Global, values: &[Value]) -> Result<Vec<T>, Unread>
+fn each<T: JsonPart>(alloc: Global, values: &[Value]) -> Result<Vec<T>, Unread>
     ensures read { IfOk result
         (λ parts. read_each T.reads (items_view values.now) ≡ Some parts.items) }
     ensures refused { IfErr result
@@ -125,7 +125,7 @@ fn each<T: Part>(alloc: Global, values: &[Value]) -> Result<Vec<T>, Unread>
 }
 
 /// Reads a member of a command.
-pub fn field<T: Part>(alloc: Global, object: &Value, field: JsonField) -> Result<T, CodecFault>
+pub fn field<T: JsonPart>(alloc: Global, object: &Value, field: JsonField) -> Result<T, CodecFault>
     ensures read { IfOk result (λ part. field_of T.reads field (view object.now) ≡ Ok part) }
     ensures refused { IfErr result (λ fault. (fault ≡ codec_fault.Memory)
         ⊎ (field_of T.reads field (view object.now) ≡ Err fault)) }
@@ -137,7 +137,7 @@ pub fn field<T: Part>(alloc: Global, object: &Value, field: JsonField) -> Result
 }
 
 /// Reads a member of a command that is a list.
-pub fn field_list<T: Part>(
+pub fn field_list<T: JsonPart>(
     alloc: Global,
     object: &Value,
     field: JsonField,

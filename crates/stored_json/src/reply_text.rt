@@ -43,14 +43,14 @@ pub fn read_reply(alloc: Global, text: &str) -> Result<Reply, CodecFault>
         (λ fault. (fault ≡ Memory) ⊎ (spec.read_reply text.now ≡ Err fault)) }
 {
     let value = body(alloc, text)?;
-    match accepted(alloc, &value) {
+    match read_accepted(alloc, &value) {
         Ok(reply) => Ok(reply),
         Err(Unread::Refused) => Err(CodecFault::BadJson(JsonField::Body)),
         Err(Unread::Memory) => Err(CodecFault::Memory),
     }
 }
 
-fn accepted(alloc: Global, value: &Value) -> Result<Reply, Unread>
+fn read_accepted(alloc: Global, value: &Value) -> Result<Reply, Unread>
     ensures read { IfOk result (λ reply. spec.read_accepted (view value.now) ≡ Some reply) }
     ensures refused { IfErr result
         (λ fault. (fault ≡ unread.Memory) ⊎ (spec.read_accepted (view value.now) ≡ None)) }

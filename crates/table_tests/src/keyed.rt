@@ -157,7 +157,7 @@ fn lines_of<R: Told>(
 }
 
 /// Lines as one text.
-fn joined(alloc: Global, lines: &[String]) -> Result<String, Untold> {
+fn join_lines(alloc: Global, lines: &[String]) -> Result<String, Untold> {
     let mut all = String::new(alloc);
     for line in lines {
         all.push_str(line.as_str())?;
@@ -173,12 +173,12 @@ pub fn in_order<R: Told>(
 ) -> Result<String, Untold> {
     let mut lines = lines_of(alloc, records)?;
     lines.sort()?;
-    joined(alloc, lines.as_slice())
+    join_lines(alloc, lines.as_slice())
 }
 
 /// What is found, as it comes.
 fn in_turn<R: Told>(alloc: Global, records: Result<Vec<R>, TableFault>) -> Result<String, Untold> {
-    joined(alloc, lines_of(alloc, records)?.as_slice())
+    join_lines(alloc, lines_of(alloc, records)?.as_slice())
 }
 
 fn yes(alloc: Global, holds: bool) -> Result<String, Untold> {
@@ -216,7 +216,11 @@ fn found<S: Alter>(alloc: Global, conn: &mut Connection<S>, step: Step) -> Resul
 }
 
 /// What is reported of a step; nothing of a statement.
-fn done<S: Alter>(alloc: Global, conn: &mut Connection<S>, step: Step) -> Result<String, Untold> {
+fn do_step<S: Alter>(
+    alloc: Global,
+    conn: &mut Connection<S>,
+    step: Step,
+) -> Result<String, Untold> {
     match step {
         Step::Run(statement) => {
             conn.execute_batch(statement)?;
@@ -229,14 +233,14 @@ fn done<S: Alter>(alloc: Global, conn: &mut Connection<S>, step: Step) -> Result
 }
 
 /// What is reported of steps that are taken in turn.
-fn all_done<S: Alter>(
+fn do_all_steps<S: Alter>(
     alloc: Global,
     conn: &mut Connection<S>,
     steps: &[Step],
 ) -> Result<String, Untold> {
     let mut text = String::new(alloc);
     for step in steps {
-        text.push_str(done(alloc, conn, *step)?.as_str())?;
+        text.push_str(do_step(alloc, conn, *step)?.as_str())?;
     }
     Ok(text)
 }
@@ -248,9 +252,9 @@ fn told_over<S: Alter + Drop>(
     before: &[Step],
     steps: &[Step],
 ) -> Result<String, Untold> {
-    let mut text = all_done(alloc, &mut conn, before)?;
+    let mut text = do_all_steps(alloc, &mut conn, before)?;
     make_tables(alloc, &mut conn)?;
-    text.push_str(all_done(alloc, &mut conn, steps)?.as_str())?;
+    text.push_str(do_all_steps(alloc, &mut conn, steps)?.as_str())?;
     Ok(text)
 }
 

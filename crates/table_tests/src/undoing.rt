@@ -12,11 +12,11 @@ use writing::take_back;
 /// What is reported of a transaction that is begun and has one savepoint, where the store shuts behind this many of them.
 fn told(alloc: Global, savepoints: u64) -> Option<Result<(), StoreFault>> {
     let mut conn = shutting_behind(alloc, savepoints)?;
-    begun(&mut conn)?;
+    begin(&mut conn)?;
     Some(take_back(&mut conn))
 }
 
-fn begun<S: Alter>(conn: &mut Connection<S>) -> Option<()> {
+fn begin<S: Alter>(conn: &mut Connection<S>) -> Option<()> {
     conn.execute("BEGIN", &[]).ok()?;
     conn.execute("SAVEPOINT one", &[]).ok()?;
     Some(())

@@ -106,13 +106,13 @@ impl Minute {
         ensures length { length (spec.written self.now) ≡ 17 }
         ensures read_back { spec.read_instant (spec.written self.now) ≡ Ok self.now }
     {
-        text.extend_from_slice(&self.written())?;
+        text.extend_from_slice(&self.to_ascii())?;
         Ok(())
     }
 
     /// Writes the minute in its first form.
     #[tactic(auto, unfolding(crate::specs::Instant::written))]
-    fn written(self) -> [u8; 17]
+    fn to_ascii(self) -> [u8; 17]
         ensures text { result ≡ spec.written self }
         ensures length { length (spec.written self) ≡ 17 }
         ensures read_back { spec.read_instant (spec.written self) ≡ Ok self }

@@ -25,7 +25,7 @@ use Rattle.list_report.specs.PairingsText.{IsPairingsText, pairings_header, rows
 use Rattle.list_report.specs.PairingsText as lists
 use Rattle.list_report.specs.declared.pairings.Listed.{Listed}
 use Rattle.list_report.specs.declared.pairings.Listed.TheVariants.{All, Open}
-use Rattle.list_report.specs.declared.row.Row.{Row}
+use Rattle.list_report.specs.declared.row.PairingRow.{PairingRow}
 use Rattle.report.specs.ExceedanceText.{ExceedanceEntry, IsExceedanceText, exceedances_header, line}
 use Rattle.report.specs.Lines.{IsInOrder, key_of}
 use Rattle.report.specs.PairingText.{pairing_text}
@@ -46,7 +46,7 @@ use Rattle.http_exchange.specs.Handler as http
 use Rattle.http_exchange.specs.Handler.{StatusText, submit}
 use Rattle.web.specs.Acts.{Asks, Commands, IsAnswer, commands_of, request_answer, show_of}
 use Rattle.web.specs.Answers.{fault_answer, parts_answer, report_answer}
-use Rattle.web.specs.Response.{IsFinal, IsResponseTo, Response}
+use Rattle.web.specs.Response.{IsFinal, IsResponseTo, WholeResponse}
 
 -- ---- Lines in an order
 
@@ -112,7 +112,7 @@ roster_text s who member there =
 
 pairings_text : (s : State) (which : Listed) → (text : List ℕ) × IsPairingsText s which text
 pairings_text s which =
-    let before = λ (a : Row) (b : Row). is_lt (name_cmp (lists.key_of a) (lists.key_of b)) in
+    let before = λ (a : PairingRow) (b : PairingRow). is_lt (name_cmp (lists.key_of a) (lists.key_of b)) in
     let all = in_order before (ranks_by nat_list_cmp_total lists.key_of) (rows_of s which) in
     let placed = sorted before (ranks_by nat_list_cmp_total lists.key_of) all.0 all.2 in
     (pairings_header (length all.0) ++ flat_map (λ row. row.line) all.0, record { rows = all.0; in_order = record { same = all.1; order = placed }; is = refl })
@@ -207,7 +207,7 @@ module _ (s : State) where
       let met = each_met sound asked in
       (met.commands, of_answer (Ok met.answer) is_head, (met.asks_them, (met.answer, met.told, refl)))
 
-  pub each_response_to : Sound s → (p : Planned) (rest : List ℕ) → (r : Response) × IsResponseTo s p rest r
+  pub each_response_to : Sound s → (p : Planned) (rest : List ℕ) → (r : WholeResponse) × IsResponseTo s p rest r
   each_response_to sound p rest =
       let done = each_final sound (asks p.step rest) p.is_head in (
         record { interim = exchange.interim p.step; final = done.1; commands = done.0; unread = Some (exchange.unread p.step rest) },

@@ -28,7 +28,7 @@ use Rattle.http_exchange.specs.declared.sending.ChannelFault.{ChannelFault}
 use Rattle.http_exchange.specs.declared.sending.ChannelFault.TheVariants.{Reader, Writer}
 use Rattle.web.specs.Acts.{Asks, Commands, IsAnsweredShut}
 use Rattle.web.specs.Handling.{IsDone, IsHandled}
-use Rattle.web.specs.Response.{IsFinal, Response, no_head}
+use Rattle.web.specs.Response.{IsFinal, WholeResponse, no_head}
 use Rattle.web.specs.Serving.{AsksOnce, IsBegun, IsBegunOf, IsBrokenOff, IsGiven, IsLeftBy, IsMemoryTold, IsRequestFor, IsServed, IsServedShut, IsStoreTold, StillMeans}
 use Rattle.web.proofs.Handled.{or_false, still_honest, still_means}
 
@@ -100,7 +100,7 @@ module _ {S : Type 0} (g : Ghosts S) where
         abbrev p : Planned
         p = plan_for_head (heading h)
 
-        abbrev given : HandlerRequest → StatusText → Commands → Response
+        abbrev given : HandlerRequest → StatusText → Commands → WholeResponse
         given asked a commands = record { interim = interim p.step; final = of_answer (Ok a) p.is_head; commands = commands; unread = Some (unread p.step rest) }
 
         at_head : new ≡ old → left ≡ Some rest → IsSent [] out out' code (of_no_memory p.is_head) → Ends

@@ -33,7 +33,7 @@ use Rattle.book.specs.declared.answer.Answer as book
 use Rattle.store.specs.declared.show.Show.{Show}
 use Rattle.asking.specs.Answers.{IsOrMemory, Reports, ReportsUnread, answer_json, answer_kind, refusal_kind}
 use Rattle.asking.specs.Reports.{HasShown, IsReportAsked, ReportsShown}
-use Rattle.asking.specs.Requests.{HasChecked, IsCheckedAsRead, IsDoneAsRead, IsRequestAsked, IsRequestChecked, Request, asked_as}
+use Rattle.asking.specs.Requests.{HasChecked, IsCheckedAsRead, IsDoneAsRead, IsRequestAsked, IsRequestChecked, ReadRequest, asked_as}
 use Rattle.asking.specs.declared.answers.AskFault.{AskFault}
 use Rattle.asking.specs.declared.answers.AskFault.TheVariants as ask
 use Rattle.asking.specs.declared.answers.JsonAnswer.{JsonAnswer}
@@ -46,7 +46,7 @@ use Rattle.http_exchange.specs.Handler.{StatusText, submit}
 use Rattle.http_exchange.specs.declared.handler.HandlerFault.{HandlerFault}
 use Rattle.http_exchange.specs.declared.handler.HandlerFault.TheVariants.{Store, Memory}
 use Rattle.web.specs.Acts.{Commands, show_of}
-use Rattle.web.specs.Answers.{IsInJson, IsResponseToReport, TellsAnswer, answer_status, command_answer, fault_answer, handler_fault_of, json, parts_answer, refusal_status, report_answer, response_to_command, status_of_kind}
+use Rattle.web.specs.Answers.{IsInJsonUnder, IsResponseToReport, TellsAnswer, answer_status, command_answer, fault_answer, handler_fault_of, json, parts_answer, refusal_status, report_answer, response_to_command, status_of_kind}
 use Rattle.web.specs.Handling.{HoldsWhateverIsAsked, IsHandled, IsLeftByCommands, answers_store_fault}
 use Rattle.web.specs.Serving.{StillMeans}
 
@@ -168,7 +168,7 @@ told_as (Ok answer) r is = told_answer (result_of answer) r is
 told_as (Err fault) r is = ap response_to_command is
 
 -- a text in JSON is told, or there is none
-pub tells_text : (status : ℕ) (r : Result (String Global) MemoryFault) (text : List ℕ) (told : Result StatusText HandlerFault) → IfOk r (λ t. string_bytes t ≡ text) → IsInJson status r told
+pub tells_text : (status : ℕ) (r : Result (String Global) MemoryFault) (text : List ℕ) (told : Result StatusText HandlerFault) → IfOk r (λ t. string_bytes t ≡ text) → IsInJsonUnder status r told
     → TellsAnswer (json status text) told
 tells_text status (Ok t) text told is tells = subst (TellsAnswer (json status text)) (sym tells) (ap (json status) is)
 tells_text status (Err f) text told is tells = subst (TellsAnswer (json status text)) (sym tells) tt
@@ -286,7 +286,7 @@ module _ {S : Type 0} (g : Ghosts S) (old new : Kept S) where
       (subst (λ (b : Kept S). IsHandled g old b (submit Command body) (Err Memory)) (sym same) (no_memory g old (submit Command body)))
   request_handled body r (inl done) calls = go (read_request body) refl done
     where
-      go : (read : Request) → read_request body ≡ read → IsDoneAsRead g old new read r → IsHandled g old new (submit Command body) (response_to_command r)
+      go : (read : ReadRequest) → read_request body ≡ read → IsDoneAsRead g old new read r → IsHandled g old new (submit Command body) (response_to_command r)
       go (Ok (number, instruction)) is asked =
           command_read body number instruction (response_to_command r) is
           (asked_by (asked_as (number, instruction)) asked.answer (response_to_command r) (told_as asked.answer r asked.reported) asked.answered calls)
@@ -346,7 +346,7 @@ module _ {S : Type 0} (g : Ghosts S) (old new : Kept S) where
       (subst (λ (b : Kept S). IsHandled g old b (submit Check body) (Err Memory)) (sym same) (no_memory g old (submit Check body)))
   check_handled body r (inl done) calls = go (read_request body) refl done
     where
-      go : (read : Request) → read_request body ≡ read → IsCheckedAsRead g old new read r → IsHandled g old new (submit Check body) (response_to_command r)
+      go : (read : ReadRequest) → read_request body ≡ read → IsCheckedAsRead g old new read r → IsHandled g old new (submit Check body) (response_to_command r)
       go (Ok (number, instruction)) is checked =
           checked_by calls body number instruction is checked.answer (response_to_command r) (told_as checked.answer r checked.reported) checked.checked
       go (Err fault) is (same, unread) =

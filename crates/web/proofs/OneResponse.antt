@@ -24,7 +24,7 @@ use Rattle.http_exchange.specs.Handler.{StatusText, submit}
 use Rattle.web.specs.Acts.{Asks, Commands, IsAnswer, show_of}
 use Rattle.web.specs.Answers.{fault_answer, parts_answer, report_answer}
 use Rattle.web.specs.Laws.{HasOneResponse}
-use Rattle.web.specs.Response.{IsFinal, IsResponseTo, Response}
+use Rattle.web.specs.Response.{IsFinal, IsResponseTo, WholeResponse}
 
 -- ---- the commands that are asked
 
@@ -103,17 +103,17 @@ module _ (s : State) where
   one_final (Ok asked) is_head a b f f' (listed, (answer, told, is)) (listed', (answer', told', is')) =
       (one_list asked a b listed listed', is ∙ ap (λ t. of_answer (Ok t) is_head) (one_answer asked answer answer' told told') ∙ sym is')
 
-  abbrev made : List ℕ → Final → Commands → Option (List ℕ) → Response
+  abbrev made : List ℕ → Final → Commands → Option (List ℕ) → WholeResponse
   made interim final commands unread = record { interim = interim; final = final; commands = commands; unread = unread }
 
-  same_response : (r other : Response) → r.interim ≡ other.interim → r.final ≡ other.final → r.commands ≡ other.commands → r.unread ≡ other.unread → r ≡ other
+  same_response : (r other : WholeResponse) → r.interim ≡ other.interim → r.final ≡ other.final → r.commands ≡ other.commands → r.unread ≡ other.unread → r ≡ other
   same_response r other a b c d =
       ap (λ i. made i r.final r.commands r.unread) a
       ∙ ap (λ f. made other.interim f r.commands r.unread) b
       ∙ ap (λ l. made other.interim other.final l r.unread) c
       ∙ ap (λ u. made other.interim other.final other.commands u) d
 
-  one_response_to : (p : Planned) (rest : List ℕ) (r other : Response) → IsResponseTo s p rest r → IsResponseTo s p rest other → r ≡ other
+  one_response_to : (p : Planned) (rest : List ℕ) (r other : WholeResponse) → IsResponseTo s p rest r → IsResponseTo s p rest other → r ≡ other
   one_response_to p rest r other is is' =
       let final = one_final (asks p.step rest) p.is_head r.commands other.commands r.final other.final is.final_is is'.final_is in
       same_response r other (is.interim_is ∙ sym is'.interim_is) final.1 final.0 (is.unread_is ∙ sym is'.unread_is)

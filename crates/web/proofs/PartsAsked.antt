@@ -22,8 +22,8 @@ use Rattle.asking.proofs.Chains.{AreAskedUpTo, all_parts, parts_heard, parts_to_
 use Rattle.asking.proofs.Parts.{schedule_made}
 use Rattle.asking.specs.Answers.{answer_json}
 use Rattle.asking.specs.Schedules.{HasHeard, IsScheduleAsked}
-use Rattle.asking.specs.declared.schedules.ScheduleFault.{ScheduleFault}
-use Rattle.asking.specs.declared.schedules.ScheduleFault.TheVariants.{Unread, Ask, Unheard}
+use Rattle.asking.specs.declared.schedules.NotAllAsked.{NotAllAsked}
+use Rattle.asking.specs.declared.schedules.NotAllAsked.TheVariants.{Unread, Ask, Unheard}
 use Rattle.asking.specs.declared.answers.AskFault.{AskFault}
 use Rattle.asking.specs.declared.answers.AskFault.TheVariants as ask
 use Rattle.http_message.specs.declared.plan.Submission.TheVariants.{Import}
@@ -157,7 +157,7 @@ module _ {S : Type 0} (g : Ghosts S) (old new : Kept S) (calls : IsAfterCalls g 
 -- ---- what became of a schedule
 
 module _ {S : Type 0} (g : Ghosts S) (old new : Kept S) (calls : IsAfterCalls g old new) (begun heard : PartsText) (number : ℕ) (body : List ℕ) where
-  abbrev Asked_so : Result ⊤ (ScheduleFault MemoryFault) → Type 0
+  abbrev Asked_so : Result ⊤ (NotAllAsked MemoryFault) → Type 0
   Asked_so result = IsScheduleAsked g IsPartAdded old new begun heard number body result
 
   abbrev Handled_so : Result StatusText HandlerFault → Type 0

@@ -81,8 +81,8 @@ IsNoCommand body answer =
     (fault : CodecFault) × (read_request body ≡ Err fault) × (answer ≡ fault_answer fault)
 
 -- the body is a command
-abbrev pub IsCommand : List ℕ → Type 0
-IsCommand body =
+abbrev pub IsCommandBody : List ℕ → Type 0
+IsCommandBody body =
     (number : ℕ) × (instruction : Instruction) × (read_request body ≡ Ok (number, instruction))
 
 -- a body isn't read, and the answer says why, in whichever state the book is
@@ -95,8 +95,8 @@ IsToldUnread (http.show what) answer = ⊥
 
 -- the request is a command or a schedule that is read, or a report
 abbrev pub IsRead : http.HandlerRequest → Type 0
-IsRead (submit Command body) = IsCommand body
-IsRead (submit Check body) = IsCommand body
+IsRead (submit Command body) = IsCommandBody body
+IsRead (submit Check body) = IsCommandBody body
 IsRead (submit (Import number) body) = (plans : List Plan) × IsSchedule body plans
 IsRead (http.show what) = ⊤
 

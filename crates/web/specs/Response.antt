@@ -17,18 +17,18 @@ use Rattle.web.specs.Acts.{Asks, Commands, IsAnswer}
 
 -- A response: what is written before a body is read, and in the end; the commands that are done;
 -- and what is left unread, if that is said.
-pub record Response : Type 0 where
+pub record WholeResponse : Type 0 where
   pub interim : List ℕ
   pub final : Final
   pub commands : Commands
   pub unread : Option (List ℕ)
 
 -- all bytes that are written for a response
-abbrev pub bytes : Response → List ℕ
+abbrev pub bytes : WholeResponse → List ℕ
 bytes r = r.interim ++ r.final.bytes
 
 -- the response where there is no whole head; it doesn't say what is left unread
-abbrev pub no_head : Response
+abbrev pub no_head : WholeResponse
 no_head = record { interim = []; final = of_fault NoHead false; commands = []; unread = None }
 
 module _ (s : State) where
@@ -41,13 +41,13 @@ module _ (s : State) where
       × ((answer : StatusText) × IsAnswer s asked answer × (final ≡ of_answer (Ok answer) is_head))
 
   -- the response to a head with this plan, after which these bytes stand
-  pub record IsResponseTo (p : Planned) (rest : List ℕ) (r : Response) : Type 0 where
+  pub record IsResponseTo (p : Planned) (rest : List ℕ) (r : WholeResponse) : Type 0 where
     pub interim_is : r.interim ≡ exchange.interim p.step
     pub final_is : IsFinal (asks p.step rest) p.is_head r.commands r.final
     pub unread_is : r.unread ≡ Some (exchange.unread p.step rest)
 
   -- the response to an input
-  abbrev pub IsResponse : List ℕ → Response → Type 0
+  abbrev pub IsResponse : List ℕ → WholeResponse → Type 0
   IsResponse input r =
       (0 < length input) × (
       (HasNoHead input × (r ≡ no_head))

@@ -22,7 +22,7 @@ use Rattle.http_exchange.specs.declared.exchanges.Served.TheVariants.{Answered, 
 use Rattle.http_exchange.specs.declared.sending.ChannelFault.{ChannelFault}
 use Rattle.http_exchange.specs.declared.sending.ChannelFault.TheVariants.{Reader, Writer}
 use Rattle.web.specs.Acts.{Asks, Commands, IsAnsweredShut}
-use Rattle.web.specs.Response.{IsResponse, Response, bytes}
+use Rattle.web.specs.Response.{IsResponse, WholeResponse, bytes}
 
 -- the input has a head which, by its plan and these bytes after the head, is this request, and the
 -- request asks these commands
@@ -35,9 +35,9 @@ pub record IsRequestFor (input : List ℕ) (p : Planned) (rest : List ℕ) (aske
   pub listed : Asks asked commands
 
 -- what is left unread is what a response says, if the response says it
-abbrev pub IsUnread : Option (List ℕ) → ChannelBytes → Type 0
-IsUnread None left = ⊤
-IsUnread (Some rest) left = left ≡ Some rest
+abbrev pub IsLeftUnread : Option (List ℕ) → ChannelBytes → Type 0
+IsLeftUnread None left = ⊤
+IsLeftUnread (Some rest) left = left ≡ Some rest
 
 -- the tables of the new book mean this state as long as its connection is open; it is open if it
 -- was, unless the disk failed or refused a call
@@ -61,11 +61,11 @@ module _ {S : Type 0} (g : Ghosts S) (s : State) where
   -- the response to the input was given, and its commands are done
   pub record IsGiven (input : List ℕ) (left out out' : ChannelBytes) (old new : Kept S) (code : ℕ)
       : Type 0 where
-    pub response : Response
+    pub response : WholeResponse
     pub is : IsResponse s input response
     pub status : code ≡ response.final.status
     pub written : Appends out out' (bytes response)
-    pub left_is : IsUnread response.unread left
+    pub left_is : IsLeftUnread response.unread left
     pub failed : new.failed ≡ old.failed
     pub state : IsDurablyAt g new (Fold s response.commands)
     pub tables : HasTables g old s → HasTables g new (Fold s response.commands)

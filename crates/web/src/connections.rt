@@ -92,12 +92,12 @@ fn reader_of(alloc: Global, stream: &TcpStream) -> BufReader<&TcpStream>
 {
     match BufReader::new(alloc, stream) {
         Ok(reader) => reader,
-        Err(_) => unbuffered(alloc, stream),
+        Err(_) => without_buffer(alloc, stream),
     }
 }
 
 /// Makes a reader with a buffer of no byte, which takes no memory.
-fn unbuffered(alloc: Global, stream: &TcpStream) -> BufReader<&TcpStream>
+fn without_buffer(alloc: Global, stream: &TcpStream) -> BufReader<&TcpStream>
     ensures { reader_inner result ≡ stream.entry }
 {
     let Ok(reader) = BufReader::with_capacity(alloc, 0, stream) else {

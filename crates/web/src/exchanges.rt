@@ -13,7 +13,7 @@ ghost use Rattle.asking.specs.Reports as reports;
 ghost use Rattle.web.specs.Acts.{show_of};
 ghost use Rattle.web.specs.Serving as spec;
 
-use crate::answers::{answered, shown};
+use crate::answers::{respond, show};
 use crate::imports::answer_schedule;
 use asking::{Subject, ask_report, ask_request, check_request};
 use book::Book;
@@ -39,12 +39,12 @@ impl<S: Alter> Handler<Book<S>> for BookHandler {
         request: &Request<'_>,
     ) -> Result<Response, HandlerFault> {
         match request {
-            Request::Submit(Submission::Command, body) => answered(ask_request(alloc, book, body)),
-            Request::Submit(Submission::Check, body) => answered(check_request(alloc, book, body)),
+            Request::Submit(Submission::Command, body) => respond(ask_request(alloc, book, body)),
+            Request::Submit(Submission::Check, body) => respond(check_request(alloc, book, body)),
             Request::Submit(Submission::Import(number), body) => {
                 answer_schedule(alloc, book, *number, body)
             }
-            Request::Show(report) => shown(alloc, ask_report(alloc, book, subject_of(report))),
+            Request::Show(report) => show(alloc, ask_report(alloc, book, subject_of(report))),
         }
     }
 }

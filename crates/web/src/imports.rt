@@ -4,9 +4,9 @@ ghost use Rattle.http_message.specs.declared.plan.Submission.TheVariants as subm
 ghost use Rattle.http_exchange.specs.Handler.{answer_or_fault, submit};
 ghost use Rattle.web.specs.Handling as spec;
 
-use crate::answers::{fault_of, in_json, unread};
+use crate::answers::{fault_of, in_json, respond_unread};
 use crate::parts::PartsText;
-use asking::{ScheduleFault, ask_schedule};
+use asking::{NotAllAsked, ask_schedule};
 use book::Book;
 use http::StatusCode;
 use http_exchange::{HandlerFault, Response};
@@ -29,10 +29,10 @@ pub(crate) fn answer_schedule<S: Alter>(
         return Err(HandlerFault::Memory);
     };
     match ask_schedule(alloc, book, number, body, &mut parts) {
-        Ok(()) if book.failed() => Err(HandlerFault::Store),
+        Ok(()) if book.has_failed() => Err(HandlerFault::Store),
         Ok(()) => in_json(StatusCode::OK, parts.end()),
-        Err(ScheduleFault::Unread(fault)) => unread(alloc, fault),
-        Err(ScheduleFault::Ask(fault)) => Err(fault_of(fault)),
-        Err(ScheduleFault::Unheard(_)) => Err(HandlerFault::Memory),
+        Err(NotAllAsked::Unread(fault)) => respond_unread(alloc, fault),
+        Err(NotAllAsked::Ask(fault)) => Err(fault_of(fault)),
+        Err(NotAllAsked::Unheard(_)) => Err(HandlerFault::Memory),
     }
 }

@@ -15,7 +15,7 @@ use Rattle.tables.specs.Calls.{Begun, Committed, IsUnchangedOrUndone as NotMade}
 use Rattle.writing.specs.Calls.{Changed, IsFit, IsReady, Wrote}
 use Rattle.state_rows.specs.Kept.{IsBookOf}
 use Rattle.writing.specs.Next.{IsAcceptedChange}
-use Rattle.state_rows.specs.Outcomes.{CrashLeaves, IsOverBook, one, either, StillShows}
+use Rattle.state_rows.specs.Outcomes.{CrashLeaves, IsOverBook, IsJust, IsEither, StillShows}
 use Rattle.writing.specs.Writing.{Writes}
 use Rattle.writing.proofs.Chaining.{keeps_then}
 use Rattle.writing.proofs.Effects.{written}
@@ -26,7 +26,7 @@ use Rattle.state_rows.proofs.Outcomes.{unbegun_shows}
 
 -- an open connection shows the state that a crash would leave
 pub shown : {S : Type 0} (g : Ghosts S) → ((it : S) → IsTrue (g.view it).is_open → g.recovers it (g.view it).committed) → (h : Held S) (s : roster.State) →
-    IsLive (state g h) → CrashLeaves (state g h) (one s) → HasCleanDisk (state g h) → IsTrue (state g h).is_open → IsBookOf s (state g h).committed
+    IsLive (state g h) → CrashLeaves (state g h) (IsJust s) → HasCleanDisk (state g h) → IsTrue (state g h).is_open → IsBookOf s (state g h).committed
 shown g stays h s live leaves clean opened =
     let it = leaves.crash clean (state g h).committed.trees (stays h.store opened) in
     let book = it.2.1 in
@@ -45,7 +45,7 @@ begun_ready old begun before over begins = record {
 
 pub begun_holds : {S : Type 0} (g : Ghosts S) → ((it : S) → IsTrue (g.view it).is_open → g.recovers it (g.view it).committed) → (h : Held S) (begun : State) (s : roster.State) →
     IsLive (state g h) → (HasCleanDisk (state g h) → IsTrue (state g h).is_open → (state g h).now ≡ (state g h).committed) → (HasCleanDisk begun → HasCleanDisk (state g h)) →
-    (HasCleanDisk begun → Begun (state g h) begun) → CrashLeaves (state g h) (one s) → HasCleanDisk begun → IsBookOf s begun.now
+    (HasCleanDisk begun → Begun (state g h) begun) → CrashLeaves (state g h) (IsJust s) → HasCleanDisk begun → IsBookOf s begun.now
 begun_holds g stays h begun s live settled before begins leaves clean =
     let is = (begins clean).0 in
     subst (IsBookOf s) (sym (is.now_is ∙ settled (before clean) is.was_open)) (shown g stays h s live leaves (before clean) is.was_open)
@@ -76,7 +76,7 @@ kept_leaves old new P survives leaves = record {
 }
 
 pub either_leaves : (old last new : State) (s t : roster.State) (Done : Type 0) → Survives old new (λ trees. Done × (trees ≡ last.now.trees)) →
-    (HasCleanDisk new → Done → IsBookOf t last.now) → CrashLeaves old (one s) → CrashLeaves new (either s t)
+    (HasCleanDisk new → Done → IsBookOf t last.now) → CrashLeaves old (IsJust s) → CrashLeaves new (IsEither s t)
 either_leaves old last new s t Done survives holds leaves = record {
   crash = λ clean trees may. elim (survives.crash clean trees may) [
     | inl was ↦ let it = leaves.crash (omega (arith, survives.clean)) trees was in (it.0, inl it.1, it.2)
@@ -127,5 +127,5 @@ pub none_done : {A E : Type 0} (r : Result A E) (e : E) → r ≡ Err e → IsOk
 none_done (Ok a) e same is = absurd (cc)
 none_done (Err x) e same is = absurd (cc)
 
-pub weaker : (new : State) (s t : roster.State) → CrashLeaves new (one s) → CrashLeaves new (either s t)
+pub weaker : (new : State) (s t : roster.State) → CrashLeaves new (IsJust s) → CrashLeaves new (IsEither s t)
 weaker new s t leaves = record { crash = λ clean trees may. let it = leaves.crash clean trees may in (it.0, inl it.1, it.2) }

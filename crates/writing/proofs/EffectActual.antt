@@ -30,7 +30,7 @@ use Rattle.tables.specs.Rows.{begins_with}
 use Rattle.tables.specs.declared.period.PeriodRecord.{PeriodRecord}
 use Rattle.tables.proofs.PeriodTexts.{with_period_times_is}
 use Rattle.writing.specs.Calls.{IsFit, Then}
-use Rattle.state_rows.specs.Rows.{TableName, pairing, period, segment, seat, exceedance, At, PeriodOf, SegmentOf, ExceedanceAt, InTable, InPairing, InPeriod, InSegment, InSeat, InExceedance, Rows, row_of_period, row_of_segment, times_flown}
+use Rattle.state_rows.specs.Rows.{StateTable, pairing, period, segment, seat, exceedance, At, PeriodOf, SegmentOf, ExceedanceAt, InTable, InPairing, InPeriod, InSegment, InSeat, InExceedance, Rows, row_of_period, row_of_segment, times_flown}
 use Rattle.writing.specs.Writing.{FliesPeriod, FliesSegments, RecordsAll}
 use Rattle.writing.proofs.Growing.{SomeOf, each_grows}
 use Rattle.writing.proofs.EffectRecords.{NewExceedance, exceedances_words}
@@ -336,7 +336,7 @@ module _ (s : State) (id : List ℕ) (a : ActualTimes) (r : PairingEntry) (there
     abbrev third : sets.Sets
     third = sets.put exceedance (λ x. SomeOf (NewExceedance key the_period) 0 es x ⊎ InExceedance s x) second
 
-    flown_words : (name : TableName) (row : Row) → third name row ↔ InTable reflown name row
+    flown_words : (name : StateTable) (row : Row) → third name row ↔ InTable reflown name row
     flown_words pairing row = pairings_stay row
     flown_words period row = periods_words row
     flown_words segment row = segments_words row

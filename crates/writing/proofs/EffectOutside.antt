@@ -17,7 +17,7 @@ use Rattle.roster.specs.declared.state.DutyId.TheVariants as duty_id
 use Rattle.roster.specs.declared.state.OutsideEntry.{OutsideEntry}
 use Rattle.tables.specs.Rows.{begins_with}
 use Rattle.writing.specs.Calls.{IsFit, Then}
-use Rattle.state_rows.specs.Rows.{TableName, exceedance, outside, outside_segment, At, ExceedanceAt, OutsideSegmentOf, InTable, InExceedance, InOutside, InOutsideSegment, Rows, row_of_outside, row_of_outside_segment}
+use Rattle.state_rows.specs.Rows.{StateTable, exceedance, outside, outside_segment, At, ExceedanceAt, OutsideSegmentOf, InTable, InExceedance, InOutside, InOutsideSegment, Rows, row_of_outside, row_of_outside_segment}
 use Rattle.writing.specs.Writing.{RemovesOutside, AddsOutside, RecordsAll}
 use Rattle.writing.proofs.EffectRecords.{NewExceedance, exceedances_words}
 use Rattle.writing.proofs.Growing.{SomeOf, placed, some_of, each_grows}
@@ -130,7 +130,7 @@ module _ (s : State) (who : List ℕ) (o : OutsidePlan) where
     abbrev Told : sets.Sets
     Told = sets.put exceedance (λ x. SomeOf (NewExceedance key the_period) 0 es x ⊎ InExceedance s x) Added
 
-    told_words : (name : TableName) (row : Row) → Told name row ↔ InTable told name row
+    told_words : (name : StateTable) (row : Row) → Told name row ↔ InTable told name row
     told_words outside row = periods_words row
     told_words outside_segment row = segments_words row
     told_words exceedance row = exceedances_words key the_period s.exceedances es fresh row

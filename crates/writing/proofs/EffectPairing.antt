@@ -17,7 +17,7 @@ use Rattle.roster.specs.State.{State}
 use Rattle.roster.specs.declared.state.PairingEntry.{PairingEntry}
 use Rattle.tables.specs.Rows.{begins_with}
 use Rattle.writing.specs.Calls.{IsFit}
-use Rattle.state_rows.specs.Rows.{TableName, book, crew, pairing, period, segment, seat, ground_duty, exceedance, request, table, At, PeriodOf, SegmentOf, InTable, InPairing, InPeriod, InSegment, InSeat, Rows, row_of_pairing, row_of_period, row_of_segment}
+use Rattle.state_rows.specs.Rows.{StateTable, book, crew, pairing, period, segment, seat, ground_duty, exceedance, request, table, At, PeriodOf, SegmentOf, InTable, InPairing, InPeriod, InSegment, InSeat, Rows, row_of_pairing, row_of_period, row_of_segment}
 use Rattle.writing.specs.Writing.{AddsPairing, RemovesPairing}
 use Rattle.writing.proofs.Growing.{SomeOf, placed, some_of, each_grows}
 use Rattle.state_rows.proofs.Lists.{one_value}
@@ -131,7 +131,7 @@ module _ (s : State) (plan : Plan) (free : fin.get s.pairings plan.id ≡ None) 
   abbrev third : sets.Sets
   third = sets.put segment (λ x. SomeOf (NewSegments plan.id) 0 plan.periods x ⊎ InSegment s x) second
 
-  added_words : (name : TableName) (row : Row) → third name row ↔ InTable added name row
+  added_words : (name : StateTable) (row : Row) → third name row ↔ InTable added name row
   added_words pairing row = pairing_added row
   added_words period row = periods_added row
   added_words segment row = segments_added row
@@ -217,7 +217,7 @@ module _ (s : State) (id : List ℕ) (uncrewed_there : (r : PairingEntry) → fi
   abbrev left_third : sets.Sets
   left_third = sets.put pairing (λ x. InPairing s x × (of_id x ≡ false)) left_second
 
-  gone_words : (name : TableName) (row : Row) → left_third name row ↔ InTable gone name row
+  gone_words : (name : StateTable) (row : Row) → left_third name row ↔ InTable gone name row
   gone_words pairing row = pairing_gone row
   gone_words period row = periods_gone row
   gone_words segment row = segments_gone row

@@ -16,7 +16,7 @@ use Rattle.roster.specs.declared.change.SeatChange.{SeatChange}
 use Rattle.roster.specs.declared.state.PairingEntry.{PairingEntry}
 use Rattle.tables.specs.Rows.{Changes, begins_with, rows_of}
 use Rattle.writing.specs.Calls.{Then, Each, IsFit}
-use Rattle.state_rows.specs.Rows.{TableName, pairing, period, segment, seat, table, At, HeldSeat, InTable, InSeat, Rows, row_of_seat, seat_number}
+use Rattle.state_rows.specs.Rows.{StateTable, pairing, period, segment, seat, table, At, HeldSeat, InTable, InSeat, Rows, row_of_seat, seat_number}
 use Rattle.writing.specs.Writing.{FreesSeat, Seats, Reseats}
 use Rattle.writing.proofs.EffectPlans.{Pairings, SamePlan, SamePlans, pairing_told, period_told, segment_told}
 use Rattle.writing.proofs.Growing.{changed_twice}
@@ -178,7 +178,7 @@ module _ (s : State) (c : SeatChange) (r : PairingEntry) (there : fin.get s.pair
         inr ((at, h.1, h.2), ap (of_seat c) h.2 ∙ plain_row h.0.name h.1.seat h.1.crew (λ e _. it.0 e))
   ]
 
-  seat_words : (name : TableName) (row : Row) →
+  seat_words : (name : StateTable) (row : Row) →
       sets.put seat (λ x. NewRow c c.holder x ⊎ (InSeat s x × (of_seat c x ≡ false))) (InTable s) name row ↔ InTable after name row
   seat_words seat row = (seat_forth row, seat_back row)
   seat_words pairing row = (pairing_told s (reseated s.pairings c) (plans_forth s.pairings c r there) row, pairing_told after s.pairings (plans_back s.pairings c r there) row)

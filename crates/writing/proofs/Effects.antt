@@ -91,11 +91,11 @@ module _ (s : State) (key : KeyParts) (free : fin.get s.requests (key_name key) 
   effect_rows (Actual id a) made passed old mid fit rows is =
       let f = found s id a passed in
       let positive = made.1.0 in
-      let within : a.period - 1 < length f.rostered.actuals =
-      let places = (sound.pairings id f.rostered f.there).places in
-      let planned = get_within f.rostered.plan.periods (a.period - 1) f.fdp f.planned in
+      let within : a.period - 1 < length f.entry.actuals =
+      let places = (sound.pairings id f.entry f.there).places in
+      let planned = get_within f.entry.plan.periods (a.period - 1) f.fdp f.planned in
       omega (arith, places, planned) in
-      actual_flown s id a f.rostered f.there (a.period - 1) (omega (arith, positive)) f.fdp f.planned f.count within
+      actual_flown s id a f.entry f.there (a.period - 1) (omega (arith, positive)) f.fdp f.planned f.count within
       key (recorded_by s (Actual id a)) fresh old mid fit rows is
   effect_rows (RecordOutside who o) made passed old mid fit rows is = outside_recorded s who o key (recorded_by s (RecordOutside who o)) fresh old mid fit rows is
 

@@ -14,7 +14,7 @@ use Rattle.roster.specs.State.{empty}
 use Rattle.tables.specs.Schema.{base_table, book_table, book_tables}
 use Rattle.tables.specs.Rows.{Inserts}
 use Rattle.state_rows.specs.declared.edition.Edition.TheVariants.{Second}
-use Rattle.state_rows.specs.Rows.{At, TableName, book, crew, pairing, period, segment, seat, ground_duty, exceedance, request, base, crew_base, outside, outside_segment, InTable, Rows, row_of_base, row_of_book}
+use Rattle.state_rows.specs.Rows.{At, StateTable, book, crew, pairing, period, segment, seat, ground_duty, exceedance, request, base, crew_base, outside, outside_segment, InTable, Rows, row_of_base, row_of_book}
 use Rattle.writing.specs.Calls.{Changed, IsFit, Then}
 use Rattle.state_rows.specs.Kept.{IsBookOf}
 use Rattle.writing.specs.Making.{HasEmpty, MakesTables}
@@ -58,7 +58,7 @@ module _ (mid : Database) (made : HasEmpty book_tables mid) where
   none_shown name row = (λ h. subst (λ (rows : List Row). Has rows row) (no_rows mid book_tables made name (λ P it. of_all P it name)) h, λ none. absurd none)
 
 -- no table but `book` and `base` has a row of the empty book
-empty_words : (zone : List ℕ) (name : TableName) (row : Row) →
+empty_words : (zone : List ℕ) (name : StateTable) (row : Row) →
     sets.put base (λ x. (x ≡ row_of_base home zone) ⊎ ⊥) (sets.put book (λ x. (x ≡ row_of_book Second zone) ⊎ ⊥) NoRows) name row ↔ InTable (empty zone) name row
 empty_words zone book row = (
   λ h. elim h [ inl is ↦ is ∙ ap (row_of_book Second) (sym (only_zone zone)) | inr none ↦ absurd none ],

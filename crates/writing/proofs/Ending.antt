@@ -8,7 +8,7 @@ use Rattle.sqlite.specs.Held.{Held, state}
 use Rattle.roster.specs.State as roster
 use Rattle.tables.specs.Calls.{Committed}
 use Rattle.state_rows.specs.Kept.{IsBookOf, HoldBookOf}
-use Rattle.state_rows.specs.Outcomes.{CrashLeaves, CrashMayAdd, HoldsNow, IsOverBook, one}
+use Rattle.state_rows.specs.Outcomes.{CrashLeaves, CrashMayAdd, HoldsNow, IsOverBook, IsJust}
 
 -- ---- Answers
 
@@ -36,7 +36,7 @@ of_trees t db trees is book = (db.schema, subst (λ ts. IsBookOf t (record { sch
 module _ {S : Type 0} (g : Ghosts S) (last : State) (new : Held S) (t : roster.State)
     (ended : HasCleanDisk (state g new) → Committed last (state g new)) (holds : HasCleanDisk (state g new) → IsBookOf t last.now) where
   -- what was committed is all that a crash leaves
-  pub ended_leaves : ((it : S) (trees : Trees) → IsTrue (g.view it).is_open → g.recovers it trees → trees ≡ (g.view it).committed) → CrashLeaves (state g new) (one t)
+  pub ended_leaves : ((it : S) (trees : Trees) → IsTrue (g.view it).is_open → g.recovers it trees → trees ≡ (g.view it).committed) → CrashLeaves (state g new) (IsJust t)
   ended_leaves law = record {
     crash = λ clean trees may.
         let shows = (ended clean).1 in

@@ -8,7 +8,7 @@ use Rattle.sqlite.specs.Effect.{Database}
 use Rattle.tables.specs.Schema.{BookTable, IsTable}
 use Rattle.tables.specs.Rows.{IsStored, Changes, rows_of, stored}
 use Rattle.writing.specs.Calls.{Each, IsFit}
-use Rattle.state_rows.specs.Rows.{TableName, table}
+use Rattle.state_rows.specs.Rows.{StateTable, table}
 use Rattle.state_rows.proofs.Lists.{some_same}
 use Rattle.writing.proofs.Tables.{fit_after}
 
@@ -84,7 +84,7 @@ some_of New from (w ∷ vs) x zero v at is =
 some_of New from (w ∷ vs) x (suc place) v at is =
     inr (some_of New (suc from) vs x place v at (subst (λ n. New n v x) (let e : from + suc place ≡ suc from + place = omega arith in e) is))
 
-module _ {V : Type 0} (a : TableName) (Is : ℕ → V → Database → Database → Type 0) (New : ℕ → V → Row → Type 0)
+module _ {V : Type 0} (a : StateTable) (Is : ℕ → V → Database → Database → Type 0) (New : ℕ → V → Row → Type 0)
     (grows : (place : ℕ) (v : V) (old new : Database) → IsFit old → Is place v old new → Changes (table a) old new (λ x. New place v x ⊎ Has (rows_of (table a) old) x)) where
   pub each_grows : (from : ℕ) (vs : List V) (old new : Database) → IsFit old → Each Is from vs old new →
       Changes (table a) old new (λ x. SomeOf New from vs x ⊎ Has (rows_of (table a) old) x)

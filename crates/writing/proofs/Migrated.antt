@@ -20,7 +20,7 @@ use Rattle.tables.specs.Schema.{IsOfBook, IsTable, IsUnreferenced, later_tables}
 use Rattle.tables.specs.declared.book.BookRecord.{BookRecord}
 use Rattle.tables.proofs.BookTexts.{with_version_is}
 use Rattle.state_rows.specs.First.{IsFirst}
-use Rattle.state_rows.specs.Rows.{At, TableName, book, base, crew_base, outside, outside_segment, is_later, table, InCrewBase, InFirst, InTable, HasJust, Rows, row_of_base, row_of_book, row_of_post}
+use Rattle.state_rows.specs.Rows.{At, StateTable, book, base, crew_base, outside, outside_segment, is_later, table, InCrewBase, InFirst, InTable, HasJust, Rows, row_of_base, row_of_book, row_of_post}
 use Rattle.state_rows.specs.declared.edition.Edition.TheVariants.{First, Second}
 use Rattle.state_rows.specs.declared.fault.StoreFault.{StoreFault}
 use Rattle.state_rows.proofs.Tests.{passes}
@@ -53,13 +53,13 @@ module _ (s : roster.State) (old mid : Database) (was : IsFirstBookOf s old) (ma
   made : HasEmpty later_tables mid
   made = makes.empty [] (record { there = tt; guarded = tt; unreferenced = none_refers; on_tables = on_tables old was.database })
 
-  kept : (a : TableName) → is_later a ≡ false → IsTable (table a) mid.schema × (stored (table a) mid ≡ stored (table a) old)
+  kept : (a : StateTable) → is_later a ≡ false → IsTable (table a) mid.schema × (stored (table a) mid ≡ stored (table a) old)
   kept a early = makes.keeps (table a) (was.tables a early).0
 
-  unreferenced_now : (a : TableName) → IsUnreferenced (table a) mid.schema
+  unreferenced_now : (a : StateTable) → IsUnreferenced (table a) mid.schema
   unreferenced_now a = of_all (λ t. IsUnreferenced t mid.schema) made.unreferenced a
 
-  early_fit : (a : TableName) → is_later a ≡ false → IsOfBook (table a) mid.schema
+  early_fit : (a : StateTable) → is_later a ≡ false → IsOfBook (table a) mid.schema
   early_fit a early = let it = was.tables a early in ((kept a early).0, (unreferenced_now a, makes.guarded (table a) it.0 it.1.1))
 
   pub made_fit : IsFit mid
@@ -68,10 +68,10 @@ module _ (s : roster.State) (old mid : Database) (was : IsFirstBookOf s old) (ma
     by_edition (λ a. IsStored (table a) mid) (λ a early. subst AreNumbered (sym (kept a early).1) (was.stored a)) (λ a late. none_stored mid later_tables made a (λ P it. of_later P it a late)),
   )
 
-  early_rows : (a : TableName) → is_later a ≡ false → HasJust (table a) mid (InFirst s a)
+  early_rows : (a : StateTable) → is_later a ≡ false → HasJust (table a) mid (InFirst s a)
   early_rows a early = subst (λ (rows : List Row). (row : Row) → Has rows row ↔ InFirst s a row) (sym (ap (map (cells (table a))) (kept a early).1)) (was.rows a early)
 
-  late_rows : (a : TableName) → is_later a ≡ true → HasJust (table a) mid (λ row. ⊥)
+  late_rows : (a : StateTable) → is_later a ≡ true → HasJust (table a) mid (λ row. ⊥)
   late_rows a late row = (λ h. subst (λ (rows : List Row). Has rows row) (no_rows mid later_tables made a (λ P it. of_later P it a late)) h, λ none. absurd none)
 
   first_shown : sets.Shows (FirstSets s) mid
@@ -170,7 +170,7 @@ module _ (s : roster.State) (all_home : IsFirst s) (old mid new : Database) (was
   none_outside : At s.outsides → ⊥
   none_outside at = nothing at.name at.value (ap (λ outsides. fin.get outsides at.name) (sym all_home.outsides) ∙ at.there)
 
-  words : (name : TableName) (row : Row) → Versioned name row ↔ InTable s name row
+  words : (name : StateTable) (row : Row) → Versioned name row ↔ InTable s name row
   words book row = version_set (home_zone s.bases) row
   words base row = subst (λ bases. ((row ≡ row_of_base home (home_zone s.bases)) ⊎ ⊥) ↔ OfBases bases row) (sym all_home.bases) (home_row (home_zone s.bases) row)
   words crew_base row = posts_are s row

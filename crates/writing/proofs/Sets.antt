@@ -5,21 +5,21 @@ use Rattle.sqlite_rules.specs.Lists.{Has}
 use Rattle.sqlite.specs.Effect.{Database}
 use Rattle.tables.specs.Rows.{Changes, Inserts, Deletes, Updates}
 use Rattle.writing.specs.Calls.{IsFit}
-use Rattle.state_rows.specs.Rows.{TableName, table, HasJust}
+use Rattle.state_rows.specs.Rows.{StateTable, table, HasJust}
 use Rattle.writing.proofs.Tables.{is_same, same_name, rows_stay}
 
 -- a set of rows for each table
 abbrev pub Sets : Type 1
-Sets = TableName → Row → Type 0
+Sets = StateTable → Row → Type 0
 
 abbrev pub Shows : Sets → Database → Type 0
-Shows sets db = (name : TableName) → HasJust (table name) db (sets name)
+Shows sets db = (name : StateTable) → HasJust (table name) db (sets name)
 
 -- one of the sets is another
-abbrev pub put : TableName → (Row → Type 0) → Sets → Sets
+abbrev pub put : StateTable → (Row → Type 0) → Sets → Sets
 put a P sets b = elim (is_same a b) as (λ _. Row → Type 0) [ true ↦ P | false ↦ sets b ]
 
-module _ (a : TableName) (old new : Database) (fit : IsFit old) (sets : Sets) (shows : Shows sets old) where
+module _ (a : StateTable) (old new : Database) (fit : IsFit old) (sets : Sets) (shows : Shows sets old) where
   pub changed : (Is P : Row → Type 0) → Changes (table a) old new Is → ((row : Row) → Is row ↔ P row) → Shows (put a P sets) new
   changed Is P changes same b =
       elim (is_same a b) as (λ t. is_same a b ≡ t → HasJust (table b) new (elim t as (λ _. Row → Type 0) [ true ↦ P | false ↦ sets b ])) [
@@ -44,5 +44,5 @@ module _ (a : TableName) (old new : Database) (fit : IsFit old) (sets : Sets) (s
   ))
 
 -- the same sets in other words
-pub shows_as : (sets other : Sets) (db : Database) → ((name : TableName) (row : Row) → sets name row ↔ other name row) → Shows sets db → Shows other db
+pub shows_as : (sets other : Sets) (db : Database) → ((name : StateTable) (row : Row) → sets name row ↔ other name row) → Shows sets db → Shows other db
 shows_as sets other db same shows name row = (λ h. (same name row).0 ((shows name row).0 h), λ h. (shows name row).1 ((same name row).1 h))

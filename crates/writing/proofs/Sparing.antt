@@ -33,7 +33,7 @@ use Rattle.state_rows.specs.Kept.{IsFirstBookOf}
 use Rattle.writing.specs.Migration.{AddsHome, AddsPost, AddsPosts, Fills, Migrates, SetsVersion}
 use Rattle.writing.specs.Making.{MakesTables}
 use Rattle.state_rows.specs.Outcomes.{CrashLeavesOnly, CrashAddsOnly, ShowsOnly}
-use Rattle.state_rows.specs.Rows.{TableName, table, crew, pairing, period, segment, seat, ground_duty, exceedance, request, base, book, crew_base, outside, outside_segment, row_of_base, row_of_post, row_of_member, row_of_pairing, row_of_period, row_of_segment, row_of_seat, row_of_ground, row_of_exceedance, row_of_request, row_of_outside, row_of_outside_segment, seat_number}
+use Rattle.state_rows.specs.Rows.{StateTable, table, crew, pairing, period, segment, seat, ground_duty, exceedance, request, base, book, crew_base, outside, outside_segment, row_of_base, row_of_post, row_of_member, row_of_pairing, row_of_period, row_of_segment, row_of_seat, row_of_ground, row_of_exceedance, row_of_request, row_of_outside, row_of_outside_segment, seat_number}
 use Rattle.writing.specs.Writing.{AddsPeriods, AddsSegmentOf, AddsSegmentsOf, AddsSegments, FreesSeat, Seats, Reseats, FliesPeriod, FliesSegment, FliesSegments, Records, RecordsAll, RecordsFlown, RecordsOutsideOf, RemovesOutside, AddsOutsideRow, AddsOutsideSegment, AddsOutsideSegments, AddsOutside, Writes, WritesInstruction}
 use Rattle.writing.proofs.Migrated.{made_fit}
 use Rattle.writing.proofs.Tables.{fit_after}
@@ -52,7 +52,7 @@ spares_then a b c one two = record {
   others = λ t there other. two.others t (subst (λ (s : Schema). Has s.tables t) (sym one.schema) there) other ∙ one.others t there other;
 }
 
-spares_by : (old new : Database) (a : TableName) (Is : Row → Type 0) → Changes (table a) old new Is → Spares old new
+spares_by : (old new : Database) (a : StateTable) (Is : Row → Type 0) → Changes (table a) old new Is → Spares old new
 spares_by old new a Is changes = record {
   schema = changes.schema;
   others = λ t there other. all_has _ old.schema.tables t changes.others there (other a);
@@ -64,13 +64,13 @@ spares_by old new a Is changes = record {
 abbrev Safe : (Database → Database → Type 0) → Type 0
 Safe Is = (old new : Database) → IsFit old → Is old new → IsFit new × Spares old new
 
-safe_insert : (a : TableName) (row : Row) → Safe (Inserts (table a) row)
+safe_insert : (a : StateTable) (row : Row) → Safe (Inserts (table a) row)
 safe_insert a row old new fit is = (fit_after old new fit a _ is, spares_by old new a _ is)
 
-safe_delete : (a : TableName) (test : Row → Bool) → Safe (Deletes (table a) test)
+safe_delete : (a : StateTable) (test : Row → Bool) → Safe (Deletes (table a) test)
 safe_delete a test old new fit is = (fit_after old new fit a _ (is (fit.1 a)), spares_by old new a _ (is (fit.1 a)))
 
-safe_update : (a : TableName) (test : Row → Bool) (change : Row → Row) → Safe (Updates (table a) test change)
+safe_update : (a : StateTable) (test : Row → Bool) (change : Row → Row) → Safe (Updates (table a) test change)
 safe_update a test change old new fit is = (fit_after old new fit a _ (is (fit.1 a)), spares_by old new a _ (is (fit.1 a)))
 
 safe_nothing : Safe (λ old new. new ≡ old)

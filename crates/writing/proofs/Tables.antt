@@ -9,13 +9,13 @@ use Rattle.tables.specs.Schema.{BookTable, IsBook, IsOfBook, IsTable, IsUnrefere
 use Rattle.tables.specs.Rows.{AreNumbered, IsStored, Changes, Inserts, Deletes, Updates, cells, rows_of, stored}
 use Rattle.writing.specs.Calls.{IsFit}
 use Rattle.writing.specs.Making.{HasEmpty}
-use Rattle.state_rows.specs.Rows.{TableName, book, crew, pairing, period, segment, seat, ground_duty, exceedance, request, base, crew_base, outside, outside_segment, table}
+use Rattle.state_rows.specs.Rows.{StateTable, book, crew, pairing, period, segment, seat, ground_duty, exceedance, request, base, crew_base, outside, outside_segment, table}
 use Rattle.writing.proofs.Chaining.{Keeps}
 use Rattle.state_rows.proofs.EachTable.{of_all, is_there}
 
 -- ---- Names
 
-abbrev place : TableName → ℕ
+abbrev place : StateTable → ℕ
 place book = 0
 place crew = 1
 place pairing = 2
@@ -30,13 +30,13 @@ place crew_base = 10
 place outside = 11
 place outside_segment = 12
 
-abbrev pub is_same : TableName → TableName → Bool
+abbrev pub is_same : StateTable → StateTable → Bool
 is_same a b = nat_eq (place a) (place b)
 
-name_at : ℕ → TableName
+name_at : ℕ → StateTable
 name_at n = slice_index_or (book ∷ crew ∷ pairing ∷ period ∷ segment ∷ seat ∷ ground_duty ∷ exceedance ∷ request ∷ base ∷ crew_base ∷ outside ∷ outside_segment ∷ []) n book
 
-named : (a : TableName) → name_at (place a) ≡ a
+named : (a : StateTable) → name_at (place a) ≡ a
 unfolding name_at
 named book = refl
 named crew = refl
@@ -52,13 +52,13 @@ named crew_base = refl
 named outside = refl
 named outside_segment = refl
 
-pub same_name : (a b : TableName) → is_same a b ≡ true → a ≡ b
+pub same_name : (a b : StateTable) → is_same a b ≡ true → a ≡ b
 same_name a b same = sym (named a) ∙ ap name_at (eqb-true (place a) (place b) same) ∙ named b
 
 place_of : List ℕ → ℕ
 place_of name = unwrap_or (position_from (λ (t : BookTable). bytes_eq t.name name) 0 book_tables) 0
 
-at_place : (a : TableName) → place_of (table a).name ≡ place a
+at_place : (a : StateTable) → place_of (table a).name ≡ place a
 unfolding place_of
 at_place book = refl
 at_place crew = refl
@@ -75,12 +75,12 @@ at_place outside = refl
 at_place outside_segment = refl
 
 -- two tables have two names
-apart : (a b : TableName) → is_same a b ≡ false → (table b).name ≢ (table a).name
+apart : (a b : StateTable) → is_same a b ≡ false → (table b).name ≢ (table a).name
 apart a b differ e = true≢false (sym (eq-eqb _ _ (sym (at_place a) ∙ ap place_of (sym e) ∙ at_place b)) ∙ differ)
 
 -- ---- A fact of each table
 
-module _ (old new : Database) (tables : IsBook old.schema) (a : TableName) (Is : Row → Type 0) (changes : Changes (table a) old new Is) (b : TableName) (differ : is_same a b ≡ false) where
+module _ (old new : Database) (tables : IsBook old.schema) (a : StateTable) (Is : Row → Type 0) (changes : Changes (table a) old new Is) (b : StateTable) (differ : is_same a b ≡ false) where
   tree_stays : stored (table b) new ≡ stored (table b) old
   tree_stays = changes.keeps (table b) (is_there old.schema tables b) (apart a b differ)
 
@@ -92,7 +92,7 @@ module _ (old new : Database) (tables : IsBook old.schema) (a : TableName) (Is :
   stored_stays numbered = subst AreNumbered (sym tree_stays) numbered
 
 -- a change of one table leaves the tables of a book
-pub fit_after : (old new : Database) → IsFit old → (a : TableName) (Is : Row → Type 0) → Changes (table a) old new Is → IsFit new
+pub fit_after : (old new : Database) → IsFit old → (a : StateTable) (Is : Row → Type 0) → Changes (table a) old new Is → IsFit new
 fit_after old new fit a Is changes = (
   subst IsBook (sym changes.schema) fit.0,
   λ b. elim (is_same a b) as (λ t. is_same a b ≡ t → IsStored (table b) new) [
@@ -101,18 +101,18 @@ fit_after old new fit a Is changes = (
   ] refl,
 )
 
-pub inserts_keep : (a : TableName) (row : Row) → Keeps (Inserts (table a) row)
+pub inserts_keep : (a : StateTable) (row : Row) → Keeps (Inserts (table a) row)
 inserts_keep a row old new fit inserts = fit_after old new fit a _ inserts
 
-pub deletes_keep : (a : TableName) (test : Row → Bool) → Keeps (Deletes (table a) test)
+pub deletes_keep : (a : StateTable) (test : Row → Bool) → Keeps (Deletes (table a) test)
 deletes_keep a test old new fit deletes = fit_after old new fit a _ (deletes (fit.1 a))
 
-pub updates_keep : (a : TableName) (test : Row → Bool) (change : Row → Row) → Keeps (Updates (table a) test change)
+pub updates_keep : (a : StateTable) (test : Row → Bool) (change : Row → Row) → Keeps (Updates (table a) test change)
 updates_keep a test change old new fit updates = fit_after old new fit a _ (updates (fit.1 a))
 
 -- ---- Tables that were just made
 
-module _ (db : Database) (made : List BookTable) (it : HasEmpty made db) (a : TableName) (of : (P : BookTable → Type 0) → AllByRecursion P made → P (table a)) where
+module _ (db : Database) (made : List BookTable) (it : HasEmpty made db) (a : StateTable) (of : (P : BookTable → Type 0) → AllByRecursion P made → P (table a)) where
   is_empty : IsTable (table a) db.schema × (stored (table a) db ≡ [])
   is_empty = of (λ t. IsTable t db.schema × (stored t db ≡ [])) it.there
 

@@ -10,13 +10,13 @@ use Rattle.sqlite.specs.Does.{lacks_sequence}
 use Rattle.sqlite.specs.Effect.{Database, IsDatabase}
 use Rattle.tables.specs.Schema.{BookTable, IsTable, table_of}
 use Rattle.tables.specs.Rows.{stored}
-use Rattle.state_rows.specs.Rows.{TableName, table}
+use Rattle.state_rows.specs.Rows.{StateTable, table}
 
 -- ---- Other tables
 
 -- no table of a book has this name
 abbrev pub IsOther : List ℕ → Type 0
-IsOther name = (it : TableName) → name ≢ (table it).name
+IsOther name = (it : StateTable) → name ≢ (table it).name
 
 -- the trees list the schema of this database, and each table that isn't of the book has the rows
 -- that it has in the database

@@ -15,14 +15,14 @@ use Rattle.tables.specs.Schema.{book_tables, later_tables}
 use Rattle.writing.specs.Beside.{KeepBeside, KeepOthers}
 use Rattle.writing.specs.Making.{IsFree}
 use Rattle.writing.specs.Next.{IsAcceptedChange}
-use Rattle.state_rows.specs.Outcomes.{CrashAddsNothing, CrashAddsOnly, HoldsNow, IsOutside, CrashLeaves, CrashLeavesEither, CrashLeavesFirst, CrashLeavesOnly, CrashLeavesSome, CrashMayAdd, ShowsOnly, StaysOpen, StillShows, either, one}
+use Rattle.state_rows.specs.Outcomes.{CrashAddsNothing, CrashAddsOnly, HoldsNow, IsOutside, CrashLeaves, CrashLeavesEither, CrashLeavesFirst, CrashLeavesOnly, CrashLeavesSome, CrashMayAdd, ShowsOnly, StaysOpen, StillShows, IsEither, IsJust}
 use Rattle.writing.specs.declared.fault.CreateFault.{CreateFault}
 use Rattle.writing.specs.declared.fault.CreateFault.TheVariants.{Fault, NotEmpty}
 
 -- the call that makes a book made the tables of a book in this state
 pub record AreTablesMade (old new : State) (s : roster.State) : Type 0 where
   -- the book: what a crash leaves, and what is shown
-  pub crash : CrashLeaves new (one s)
+  pub crash : CrashLeaves new (IsJust s)
   pub some_left : CrashLeavesSome new
   pub shown : HoldsNow new s
   -- all that was there, and that nothing else is made: what a crash leaves, and what is shown
@@ -54,14 +54,14 @@ pub record IsNotMade {S : Type 0}
 pub record IsCommitted {A : Type 0}
     (old new : State) (change : Change) (result : Result A StoreFault) : Type 0 where
   -- the tables: the change is kept; after 91 nothing of it, after 90 all or nothing
-  pub crash : (s : roster.State) → IsAcceptedChange s change → CrashLeaves old (one s) →
-      OnOk result (CrashLeaves new (one (after s change)))
-  pub memory : (s : roster.State) → CrashLeaves old (one s) → result ≡ Err Memory →
-      CrashLeaves new (one s)
-  pub store : (s : roster.State) → IsAcceptedChange s change → CrashLeaves old (one s) →
-      result ≡ Err Store → CrashLeaves new (either s (after s change))
+  pub crash : (s : roster.State) → IsAcceptedChange s change → CrashLeaves old (IsJust s) →
+      OnOk result (CrashLeaves new (IsJust (after s change)))
+  pub memory : (s : roster.State) → CrashLeaves old (IsJust s) → result ≡ Err Memory →
+      CrashLeaves new (IsJust s)
+  pub store : (s : roster.State) → IsAcceptedChange s change → CrashLeaves old (IsJust s) →
+      result ≡ Err Store → CrashLeaves new (IsEither s (after s change))
   pub some_left : CrashLeavesSome new
-  pub shown : (s : roster.State) → IsAcceptedChange s change → CrashLeaves old (one s) →
+  pub shown : (s : roster.State) → IsAcceptedChange s change → CrashLeaves old (IsJust s) →
       OnOk result (HoldsNow new (after s change))
   pub still_shown : OnErr result (StillShows old new)
   -- where the change is kept, or may be, its instants are of their type
@@ -83,7 +83,7 @@ pub record IsMigrated {A : Type 0}
     (old new : State) (s : roster.State) (result : Result A StoreFault) : Type 0 where
   -- the tables: they are of version 2; after 91 a crash leaves nothing new, and after 90 what it
   -- could leave before, or version 2
-  pub crash : OnOk result (CrashLeaves new (one s))
+  pub crash : OnOk result (CrashLeaves new (IsJust s))
   pub memory : result ≡ Err Memory → CrashAddsNothing old new
   pub store : CrashMayAdd old new s
   pub some_left : CrashLeavesSome new

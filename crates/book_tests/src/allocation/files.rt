@@ -2,7 +2,7 @@
 //! again; after a fault of the store (90) its files are opened again, and all commands are handed in again. In the end its tables have
 //! the rows of a run with all memory.
 
-use crate::allocation::shown::shown;
+use crate::allocation::shown::read_all;
 use crate::allocation::told::Told;
 use crate::contents;
 use crate::fault::Untold;
@@ -36,7 +36,10 @@ enum NoBook {
 }
 
 /// Makes a book.
-fn made<S: Alter>(alloc: Global, conn: Connection<S>) -> Result<Book<S>, (NoBook, Connection<S>)> {
+fn make_book<S: Alter>(
+    alloc: Global,
+    conn: Connection<S>,
+) -> Result<Book<S>, (NoBook, Connection<S>)> {
     if !conn.is_autocommit() {
         return Err((NoBook::Otherwise, conn));
     }
@@ -51,13 +54,16 @@ fn made<S: Alter>(alloc: Global, conn: Connection<S>) -> Result<Book<S>, (NoBook
 }
 
 /// Takes up the book that is there, or makes one.
-fn begun<S: Alter>(alloc: Global, conn: Connection<S>) -> Result<Book<S>, (NoBook, Connection<S>)> {
+fn begin_book<S: Alter>(
+    alloc: Global,
+    conn: Connection<S>,
+) -> Result<Book<S>, (NoBook, Connection<S>)> {
     if !conn.is_autocommit() {
         return Err((NoBook::Otherwise, conn));
     }
     match Book::adopt(alloc, conn) {
         Ok(book) => Ok(book),
-        Err((LoadFault::NotABook, conn)) => made(alloc, conn),
+        Err((LoadFault::NotABook, conn)) => make_book(alloc, conn),
         Err((LoadFault::Fault(fault), conn)) => Err((NoBook::Fault(fault), conn)),
         Err((_fault, conn)) => Err((NoBook::Otherwise, conn)),
     }
@@ -69,10 +75,10 @@ fn begun_in_the_end<S: Alter>(
     conn: Connection<S>,
     is_memory_told: &mut bool,
 ) -> Result<Book<S>, (NoBook, Connection<S>)> {
-    match begun(alloc, conn) {
+    match begin_book(alloc, conn) {
         Err((NoBook::Fault(StoreFault::Memory), conn)) => {
             *is_memory_told = true;
-            begun(alloc, conn)
+            begin_book(alloc, conn)
         }
         begun => begun,
     }
@@ -100,13 +106,13 @@ fn ask_twice<S: Alter>(
     at: usize,
     is_memory_told: &mut bool,
 ) -> Result<Heard, Untold> {
-    let before = shown(alloc, book)?;
+    let before = read_all(alloc, book)?;
     let heard = ask_once(alloc, book, import, at)?;
     if heard != Heard::NoMemory {
         return Ok(heard);
     }
     *is_memory_told = true;
-    if shown(alloc, book)? != before {
+    if read_all(alloc, book)? != before {
         return Ok(Heard::Otherwise);
     }
     ask_once(alloc, book, import, at)

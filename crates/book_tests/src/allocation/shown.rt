@@ -51,7 +51,7 @@ fn show_of(alloc: Global, report: Report) -> Result<Show, Untold> {
 }
 
 /// A report of a list.
-fn listed(text: Result<String, MemoryFault>) -> Result<String, ReportFault> {
+fn as_report(text: Result<String, MemoryFault>) -> Result<String, ReportFault> {
     match text {
         Ok(text) => Ok(text),
         Err(_) => Err(ReportFault::Memory),
@@ -68,8 +68,8 @@ fn text_of<S: Alter>(alloc: Global, book: &mut Book<S>, what: &Show) -> Result<S
         Show::Limits { crew, with } => limits_text(alloc, &roster, crew, with.as_ref()),
         Show::Pairing(id) => pairing_text(alloc, &roster, id),
         Show::Exceedances => exceedance_text(alloc, &roster),
-        Show::Members => listed(members_text(alloc, &roster)),
-        Show::Pairings(which) => listed(pairings_text(alloc, &roster, *which)),
+        Show::Members => as_report(members_text(alloc, &roster)),
+        Show::Pairings(which) => as_report(pairings_text(alloc, &roster, *which)),
     };
     drop(roster);
     match text {
@@ -80,7 +80,7 @@ fn text_of<S: Alter>(alloc: Global, book: &mut Book<S>, what: &Show) -> Result<S
 }
 
 /// All that a book shows.
-pub fn shown<S: Alter>(alloc: Global, book: &mut Book<S>) -> Result<String, Untold> {
+pub fn read_all<S: Alter>(alloc: Global, book: &mut Book<S>) -> Result<String, Untold> {
     let mut all = String::new(alloc);
     for report in REPORTS {
         let what = show_of(alloc, report)?;

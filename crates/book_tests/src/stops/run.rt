@@ -4,7 +4,7 @@ use crate::contents::told;
 use crate::fault::Untold;
 use crate::opening::create;
 use crate::requests::{CAPTAIN, requests};
-use crate::stops::states::{ANSWERS, COMMANDS, FIRST, IMPORT, asked, is_part, pairings};
+use crate::stops::states::{ANSWERS, COMMANDS, FIRST, IMPORT, command_at, is_part, pairings};
 use book::{Answer, Book, Import, LoadFault, Run, Show};
 use duty::{CrewId, PairingId};
 use sqlite::{Alter, Connection, Files, Options};
@@ -48,7 +48,7 @@ pub enum Reached {
 }
 
 /// How the command at this place is answered.
-fn compared(at: usize, answer: &Result<Answer, StoreFault>) -> Heard {
+fn compare(at: usize, answer: &Result<Answer, StoreFault>) -> Heard {
     let number = match answer {
         Ok(Answer::Accepted(_)) => 0,
         Ok(Answer::Refused(refusal)) => refusal.number(),
@@ -64,8 +64,8 @@ fn compared(at: usize, answer: &Result<Answer, StoreFault>) -> Heard {
 
 /// Asks a book the command at this place, which is no part of the import.
 pub fn ask<S: Alter>(alloc: Global, book: &mut Book<S>, at: usize) -> Result<Heard, Untold> {
-    let (key, command) = asked(alloc, at)?;
-    Ok(compared(at, &book.ask(alloc, key, &command)))
+    let (key, command) = command_at(alloc, at)?;
+    Ok(compare(at, &book.ask(alloc, key, &command)))
 }
 
 /// The import, whose parts come next.
@@ -85,7 +85,7 @@ pub fn ask_part<S: Alter>(
     at: usize,
 ) -> Heard {
     match import.next(alloc, book) {
-        Some(answer) => compared(at, &answer),
+        Some(answer) => compare(at, &answer),
         None => Heard::Otherwise,
     }
 }
@@ -157,7 +157,7 @@ fn runs_nothing<S: Alter>(alloc: Global, book: &mut Book<S>) -> Result<bool, Unt
 /// Whether every further call of a book is answered 90.
 fn is_closed<S: Alter>(alloc: Global, book: &mut Book<S>) -> Result<bool, Untold> {
     Ok(
-        book.failed()
+        book.has_failed()
             && shows_nothing(alloc, book)?
             && asks_nothing(alloc, book)?
             && runs_nothing(alloc, book)?,

@@ -110,7 +110,7 @@ pub fn pairings(alloc: Global) -> Result<Vec<Pairing>, Untold> {
 }
 
 /// The number and the text of the command at this place, where it is no part of the import.
-fn numbered(alloc: Global, at: usize) -> Result<(u8, String), Untold> {
+fn numbered_text(alloc: Global, at: usize) -> Result<(u8, String), Untold> {
     let (number, text) = match at {
         0 => (1, CAPTAIN),
         5 => (3, ASSIGNED),
@@ -125,8 +125,8 @@ fn numbered(alloc: Global, at: usize) -> Result<(u8, String), Untold> {
 }
 
 /// The command at this place with its key, where it is no part of the import.
-pub fn asked(alloc: Global, at: usize) -> Result<(Key, Command), Untold> {
-    let (number, text) = numbered(alloc, at)?;
+pub fn command_at(alloc: Global, at: usize) -> Result<(Key, Command), Untold> {
+    let (number, text) = numbered_text(alloc, at)?;
     Ok((key(number), read_canonical(alloc, text.as_str())?))
 }
 

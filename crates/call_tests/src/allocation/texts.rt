@@ -59,7 +59,7 @@ enum Report<'a> {
 }
 
 /// Makes a report of a list.
-fn listed(text: Result<String, MemoryFault>) -> Result<String, ReportFault> {
+fn as_report(text: Result<String, MemoryFault>) -> Result<String, ReportFault> {
     match text {
         Ok(text) => Ok(text),
         Err(_) => Err(ReportFault::Memory),
@@ -72,8 +72,8 @@ fn report_once(alloc: Global, roster: &Roster, report: Report<'_>) -> Result<Str
         Report::Limits(who) => limits_text(alloc, roster, who, None),
         Report::Pairing(id) => pairing_text(alloc, roster, id),
         Report::Exceedances => exceedance_text(alloc, roster),
-        Report::Members => listed(members_text(alloc, roster)),
-        Report::Pairings(which) => listed(pairings_text(alloc, roster, which)),
+        Report::Members => as_report(members_text(alloc, roster)),
+        Report::Pairings(which) => as_report(pairings_text(alloc, roster, which)),
     }
 }
 

@@ -1,5 +1,5 @@
 //! Whole exchanges, byte for byte, whole and cut, and over channels that fail.
-use crate::clerk::{served, with_line_ends};
+use crate::clerk::{serve, with_line_ends};
 use http_exchange::{ChannelFault, Served};
 use std::alloc::Global;
 use std::test::Fail;
@@ -97,7 +97,7 @@ fn rows(alloc: Global) -> Result<Vec<Sample>, Fail> {
 #[test]
 fn exchanges_byte_for_byte(rt: HostRuntime) -> Result<(), Fail> {
     for (place, row) in rows(rt.alloc())?.iter().enumerate() {
-        let outcome = served(rt.alloc(), &row.sent, false, 1_000);
+        let outcome = serve(rt.alloc(), &row.sent, false, 1_000);
         assert_eq!(rt; outcome.written, row.written, "row {place}");
         assert_eq!(rt; outcome.unread, 0, "row {place}");
     }
@@ -124,7 +124,7 @@ fn a_cut_request_asks_nothing(rt: HostRuntime) -> Result<(), Fail> {
     for (place, row) in rows(alloc)?.iter().enumerate() {
         for length in 0..row.sent.len() {
             let cut = &row.sent[..length];
-            let ended = served(alloc, cut, false, 1_000);
+            let ended = serve(alloc, cut, false, 1_000);
             assert_eq!(rt;
                 ended.written,
                 cut_response(alloc, row, length)?,
@@ -132,7 +132,7 @@ fn a_cut_request_asks_nothing(rt: HostRuntime) -> Result<(), Fail> {
             );
             assert_eq!(rt; ended.served == Ok(Served::Nothing), length == 0);
             assert_eq!(rt; ended.asked.as_str(), "", "row {place} at {length}");
-            let failed = served(alloc, cut, true, 1_000);
+            let failed = serve(alloc, cut, true, 1_000);
             assert_eq!(rt;
                 failed.served,
                 Err(ChannelFault::Reader),
@@ -151,7 +151,7 @@ fn a_cut_request_asks_nothing(rt: HostRuntime) -> Result<(), Fail> {
 
 /// Whether a writer that takes this many bytes fails and has the front of the response, and this is asked.
 fn has_front(alloc: Global, row: &Sample, room: usize, asked: &str) -> Result<bool, Fail> {
-    let outcome = served(alloc, &row.sent, false, room);
+    let outcome = serve(alloc, &row.sent, false, room);
     let is_told = outcome.served == Err(ChannelFault::Writer) && outcome.asked.as_str() == asked;
     let mut taken = outcome.written;
     taken.extend_from_slice(&outcome.waiting)?;
@@ -160,7 +160,7 @@ fn has_front(alloc: Global, row: &Sample, room: usize, asked: &str) -> Result<bo
 
 /// What is asked of a row that is served whole, if all of its response is written to a writer that takes no more.
 fn asked_of(alloc: Global, row: &Sample) -> Result<String, Fail> {
-    let whole = served(alloc, &row.sent, false, row.written.len());
+    let whole = serve(alloc, &row.sent, false, row.written.len());
     if whole.written != row.written {
         return Err(Fail::from("a response is not whole"));
     }

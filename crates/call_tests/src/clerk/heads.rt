@@ -1,5 +1,5 @@
 //! What heads and lengths come to.
-use crate::clerk::{served, with_line_ends};
+use crate::clerk::{serve, with_line_ends};
 use http::StatusCode;
 use http_exchange::Served;
 use std::alloc::Global;
@@ -74,7 +74,7 @@ POST /requests HTTP/1.1|Host: x||ab => 411 2
 
 /// What an input comes to, in words. At 400 it isn't stated what of a bad head is left unread.
 fn told(alloc: Global, input: &[u8]) -> Result<String, Fail> {
-    let outcome = served(alloc, input, false, 1_000);
+    let outcome = serve(alloc, input, false, 1_000);
     let asked = &outcome.asked;
     match outcome.served {
         Ok(Served::Answered(StatusCode::BAD_REQUEST)) => Ok(format!(in alloc; "400 - {asked}")?),

@@ -20,7 +20,7 @@ impl Handler<String> for Clerk {
         notes: &mut String,
         request: &Request<'_>,
     ) -> Result<Response, HandlerFault> {
-        let Ok(note) = noted(alloc, request) else {
+        let Ok(note) = note_of(alloc, request) else {
             return Err(HandlerFault::Memory);
         };
         if notes.push_str(&note).is_err() {
@@ -31,7 +31,7 @@ impl Handler<String> for Clerk {
 }
 
 /// What is asked, in words.
-fn noted(alloc: Global, request: &Request<'_>) -> Result<String, AllocError> {
+fn note_of(alloc: Global, request: &Request<'_>) -> Result<String, AllocError> {
     match request {
         Request::Submit(Submission::Command, body) => {
             format!(in alloc; "command {}", text_of(body))

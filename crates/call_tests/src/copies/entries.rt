@@ -49,7 +49,7 @@ pub fn entries(alloc: Global, roster: &Roster) -> Result<Vec<Entry>, Fail> {
 /// The duty of an entry, where it is one: the first period of a pairing, a ground duty, or an outside period.
 fn duty_of(alloc: Global, entry: &Entry) -> Result<Option<Duty>, Fail> {
     match entry {
-        Entry::Pairing(rostered) => match rostered.plan.periods().first() {
+        Entry::Pairing(entry) => match entry.plan.periods().first() {
             Some(period) => Ok(Some(Duty::Fdp(period.try_clone(alloc)?))),
             None => Ok(None),
         },

@@ -9,9 +9,9 @@ returns-in-Ok g c =
     let checked = c.check-answer.ensures in
     let call : HasRead g.S.Store c.args.book.now c.check-answer.new.self c.check-answer.result = record { failed = checked.failed; shut = checked.shut; unchanged = checked.unchanged; kept = checked.kept } in
     record {
-      checked = check_read g.S.Store c.args.book.now c.check-answer.new.self c.args.body.now c.in-Ok.number c.in-Ok.command c.new.result c.reported.result
+      checked = check_read g.S.Store c.args.book.now c.check-answer.new.self c.args.body.now c.in-Ok.number c.in-Ok.command c.new.result c.report_answer.result
           c.in-Ok.ensures.command c.new.ensures
-          (record { answer = c.check-answer.result; checked = record { call = call; reply = checked.reply; tables = checked.shown }; reported = c.reported.ensures });
+          (record { answer = c.check-answer.result; checked = record { call = call; reply = checked.reply; tables = checked.shown }; reported = c.report_answer.ensures });
       calls = one_call g.S.Store (call_for_reading c.check-answer.result) (is_reading_call g.S.Store c.check-answer.result call);
     }
 
@@ -22,7 +22,7 @@ pub returns-in-Err : goal.returns-in-Err
 returns-in-Err g c = record {
   checked = elim c.in-Err.ensures.refused [
     | inl memory ↦ absurd (search (rules, memory))
-    | inr is ↦ check_unread g.S.Store c.args.book.now c.args.body.now c.in-Err.fault c.unread.result is c.unread.ensures
+    | inr is ↦ check_unread g.S.Store c.args.book.now c.args.body.now c.in-Err.fault c.refuse_unread.result is c.refuse_unread.ensures
   ];
   calls = no_calls g.S.Store refl;
 }

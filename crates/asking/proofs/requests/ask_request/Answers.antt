@@ -6,9 +6,9 @@ use Rattle.asking.proofs.requests.ask_request.Goals as goal
 
 pub returns-in-Ok : goal.returns-in-Ok
 returns-in-Ok g c = record {
-  asked = request_read g.S.Store c.args.book.now c.ask-answer.new.self c.args.body.now c.in-Ok.number c.in-Ok.command c.new.result c.reported.result
+  asked = request_read g.S.Store c.args.book.now c.ask-answer.new.self c.args.body.now c.in-Ok.number c.in-Ok.command c.new.result c.report_answer.result
       c.in-Ok.ensures.command c.new.ensures
-      (record { answer = c.ask-answer.result; answered = c.ask-answer.ensures; reported = c.reported.ensures });
+      (record { answer = c.ask-answer.result; answered = c.ask-answer.ensures; reported = c.report_answer.ensures });
   calls = one_call g.S.Store (call_for_one (c.new.result, c.in-Ok.command) c.ask-answer.result)
       (is_one_call g.S.Store (c.new.result, c.in-Ok.command) c.ask-answer.result c.instruction-made.ensures.made c.ask-answer.ensures);
 }
@@ -20,7 +20,7 @@ pub returns-in-Err : goal.returns-in-Err
 returns-in-Err g c = record {
   asked = elim c.in-Err.ensures.refused [
     | inl memory ↦ absurd (search (rules, memory))
-    | inr is ↦ request_unread g.S.Store c.args.book.now c.args.body.now c.in-Err.fault c.unread.result is c.unread.ensures
+    | inr is ↦ request_unread g.S.Store c.args.book.now c.args.body.now c.in-Err.fault c.refuse_unread.result is c.refuse_unread.ensures
   ];
   calls = no_calls g.S.Store refl;
 }

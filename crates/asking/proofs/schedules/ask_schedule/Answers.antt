@@ -1,7 +1,7 @@
 use Rattle.std.proofs.Common.{rules, inl, inr, refl, ap, Err}
 use Rattle.book.proofs.CallLemmas.{no_calls}
 use Rattle.asking.proofs.Parts.{schedule_made}
-use Rattle.asking.specs.declared.schedules.ScheduleFault.TheVariants.{Unread}
+use Rattle.asking.specs.declared.schedules.NotAllAsked.TheVariants.{Unread}
 use Rattle.asking.proofs.schedules.ask_schedule.Goals as goal
 
 pub ask_parts-requires-clause-made : goal.ask_parts-requires-clause-made

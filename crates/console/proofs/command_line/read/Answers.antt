@@ -2,7 +2,7 @@ use Rattle.std.proofs.Common.{rules, subst, List, Option}
 use Rattle.std.specs.Prelude.{IsSomeAnd}
 use Rattle.clap.specs.Walk.{Row, Text, texts}
 use Rattle.console.proofs.Entered.{arguments_there, fault_told, no_fault, rows_stated}
-use Rattle.console.specs.CommandLine.{States}
+use Rattle.console.specs.CommandLine.{IsActionOf}
 use Rattle.console.proofs.command_line.read.Goals as goal
 
 pub action_of-requires : goal.action_of-requires
@@ -21,6 +21,6 @@ returns-in_err-matches-clause-refused c =
 
 pub returns-clause-ok : goal.returns-clause-ok
 returns-clause-ok c =
-    subst (λ (met : Option (Text × List Row)). IsSomeAnd met (States c.in_ok-action_of.field-0))
+    subst (λ (met : Option (Text × List Row)). IsSomeAnd met (IsActionOf c.in_ok-action_of.field-0))
     (rows_stated _ (texts c.args.words.now) c.in_ok-command.ensures.0 c.in_ok-matches.matches
     c.in_ok-matches.ensures.matches) c.in_ok-action_of.ensures

@@ -12,4 +12,4 @@ pub returns : goal.returns
 returns c =
     let read = texts_read (found_of c.args.matches.now) c.args.id.now c.get_strs.result c.unwrap.result
     c.get_strs.ensures c.unwrap.ensures in
-    IfOk-weaker c.owned.result _ _ (λ v copied. read ∙ ap Some (sym copied)) c.owned.ensures
+    IfOk-weaker c.copies_of.result _ _ (λ v copied. read ∙ ap Some (sym copied)) c.copies_of.ensures

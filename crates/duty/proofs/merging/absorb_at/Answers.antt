@@ -23,7 +23,7 @@ loop-intervals-preserved c =
     let is : get_or items c.args.place next ≡ next = sym c.remove.ensures.value in
     let fits : next.span.from ≤ c.loop-intervals.merged.to = rw is at (begins next) in
     record {
-      absorbing = rw (c.remove.ensures.items, c.joined-merged.ensures) (absorbing-more c.args.intervals.now.items c.args.place c.args.span items
+      absorbing = rw (c.remove.ensures.items, c.join-merged.ensures) (absorbing-more c.args.intervals.now.items c.args.place c.args.span items
           c.loop-intervals.merged next now some is fits);
       fewer = omega arith;
       capacity = omega arith;

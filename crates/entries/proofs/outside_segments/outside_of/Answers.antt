@@ -1,7 +1,7 @@
 use Rattle.std.proofs.Common.{rules, ◌≡◌, inl, subst, Err, MatchResult, List}
 use Rattle.tables.specs.declared.outside_segment.OutsideSegmentRecord.{OutsideSegmentRecord}
 use Rattle.entries.specs.OneOutside.{IsOutsideToldBy, IsUntold}
-use Rattle.entries.specs.OutsideRows.{HasTooMany, IsMadeFrom, IsUnmade}
+use Rattle.entries.specs.OutsideRows.{HasTooMany, IsMadeFrom, SaysNoOutside}
 use Rattle.entries.specs.Faults.{Blames}
 use Rattle.entries.specs.declared.fault.TableName.TheVariants as table_name
 use Rattle.entries.proofs.PlanLemmas.{passed_on}
@@ -15,7 +15,7 @@ returns-in_err-its c =
     let it = c.args.it.now in
     let fault = c.in_err-its.field-0.0 in
     let is : c.from_residual.result ≡ Err fault = search rules in
-    passed_on (IsMadeFrom segments id it) table_name.OutsideSegment (HasTooMany segments id) (IsUnmade segments id it) c.from_residual.result fault is (λ many. inl many) c.in_err-its.ensures
+    passed_on (IsMadeFrom segments id it) table_name.OutsideSegment (HasTooMany segments id) (SaysNoOutside segments id it) c.from_residual.result fault is (λ many. inl many) c.in_err-its.ensures
 
 pub returns : goal.returns
 returns c =

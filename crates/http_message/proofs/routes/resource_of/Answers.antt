@@ -9,5 +9,5 @@ returns-in_default-at c =
 pub returns : goal.returns
 returns c =
     let agrees = routed_by c.in-Ok.router c.args.path.now _ c.in-Ok.ensures c.in-Ok-at.ensures.found c.type_inv.path c.utf8.path in
-    let named = rw c.in-Ok-at.ensures.path at c.named.ensures in
+    let named = rw c.in-Ok-at.ensures.path at c.resource_at.ensures in
     named agrees.0 ∙ agrees.1

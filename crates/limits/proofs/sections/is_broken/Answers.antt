@@ -5,5 +5,5 @@ use Rattle.limits.proofs.sections.is_broken.Goals as goal
 pub returns : goal.returns
 returns g c =
     let section = g.L.Limit.SECTION in
-    same_from_decides c.broken.result (breaks section c.args.history.now c.args.new.now) c.broken.ensures
+    same_from_decides c.is_broken_by.result (breaks section c.args.history.now c.args.new.now) c.is_broken_by.ensures
     (breaks_is section c.args.history.now c.args.new.now)

@@ -28,7 +28,7 @@ returns-in_ok-text_as_if_held-in-Some-get-clause-text c =
     let told : IsLimitsText s who (Some id) text = record {
       member = c.in-Some.member.now;
       is_there = sym c.in-Some.ensures;
-      of = as_if_held s who id c.in-Some-get.rostered.now;
+      of = as_if_held s who id c.in-Some-get.entry.now;
       are_judged = ap (option_map (as_if_held s who id)) (sym c.in-Some-get.ensures);
       told = c.in_ok-text_as_if_held-in-Some-get.ensures;
     } in

@@ -10,7 +10,7 @@ returns c =
     let s = c.args.roster.now in
     let who = c.args.who.now in
     let id = c.args.id.now in
-    let r = c.args.rostered.now in
+    let r = c.args.entry.now in
     let first = header who c.args.member.now (Some id) in
     let listed = listed_as_if_held s who c.zone_of.result.now id r c.in_ok-duties.duties.items c.add_pairing.new.list.items c.deref.result.now
     c.in_ok-duties.ensures c.zone_of.ensures c.in_ok-add_pairing.ensures c.deref.ensures.value in

@@ -7,13 +7,13 @@ use Rattle.loading.specs.Loading.{Justifies}
 use Rattle.loading.specs.OutsideTables.{HasOutsides}
 use Rattle.entries.specs.OutsideRows.{Outsides}
 use Rattle.loading.specs.Reading.{AgreesIn, ReadsAs}
-use Rattle.state_rows.specs.Rows.{TableName, base, crew_base, outside, outside_segment}
+use Rattle.state_rows.specs.Rows.{StateTable, base, crew_base, outside, outside_segment}
 use Rattle.state_rows.specs.declared.edition.Edition.TheVariants.{Second}
 use Rattle.entries.specs.declared.fault.LoadFault.{LoadFault}
 use Rattle.loading.proofs.ReadTables.{refused_as, seen_here, then_saw}
 use Rattle.loading.proofs.later.read_later_tables.Goals as goal
 
-abbrev Tells : TableName → Database → State → Type 0
+abbrev Tells : StateTable → Database → State → Type 0
 Tells it db r = AgreesIn Second it r db
 
 abbrev Found : State → Database → Outsides → Type 0

@@ -5,12 +5,12 @@ use Rattle.roster.specs.State.{State}
 use Rattle.entries.specs.Right.{IsOfEdition}
 use Rattle.loading.specs.Loading.{Justifies}
 use Rattle.loading.specs.Reading.{AgreesThrough}
-use Rattle.state_rows.specs.Rows.{TableName, ground_duty, request, segment}
+use Rattle.state_rows.specs.Rows.{StateTable, ground_duty, request, segment}
 use Rattle.entries.specs.declared.fault.LoadFault.{LoadFault}
 use Rattle.loading.proofs.ReadTables.{still_here, then_saw}
 use Rattle.loading.proofs.whole.read_first.Goals as goal
 
-abbrev Tells : TableName → Database → State → Type 0
+abbrev Tells : StateTable → Database → State → Type 0
 Tells it db r = AgreesThrough it r db
 
 abbrev Refuses : Database → LoadFault → Type 0

@@ -16,7 +16,7 @@ returns-in-Some-clause-told g c = (
   c.request.ensures.told.0,
   λ clean s shows.
       let it = c.in_ok-kept.ensures.told.1 clean s shows in
-      (it.0, c.answer_kept.ensures s c.args.key ∙ by_key s c.args.key c.args.command.now (Some c.in-Some.kept) (sym c.in-Some.is ∙ it.1)),
+      (it.0, c.answer_from_log.ensures s c.args.key ∙ by_key s c.args.key c.args.command.now (Some c.in-Some.kept) (sym c.in-Some.is ∙ it.1)),
 )
 
 -- what is named doesn't settle the verdict

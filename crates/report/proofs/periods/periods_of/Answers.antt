@@ -17,10 +17,10 @@ returns c =
       | inl e ↦ ap (λ xs. map period_of (zip xs actuals)) e
       | inr e ↦ ap (λ ys. map period_of (zip periods ys)) e ∙ ap (map period_of) (zip-empty periods)
     ] in
-    let all : c.loop-period.periods.items ≡ pairing_periods c.args.rostered.now =
+    let all : c.loop-period.periods.items ≡ pairing_periods c.args.entry.now =
     sym (append-nil c.loop-period.periods.items) ∙ ap (λ ys. c.loop-period.periods.items ++ ys) (sym none)
     ∙ c.loop-period.invariant in
     record {
       periods = all;
-      few = subst (All Few) (sym all) (few_in_force c.args.rostered.now c.periods.ensures.sound);
+      few = subst (All Few) (sym all) (few_in_force c.args.entry.now c.periods.ensures.sound);
     }

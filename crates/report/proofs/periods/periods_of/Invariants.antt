@@ -7,4 +7,4 @@ use Rattle.report.proofs.periods.periods_of.Given as goal
 abbrev pub invariant-loop-period : goal.invariant-loop-period
 invariant-loop-period l =
     l.periods.items ++ map period_of (zip (iter_rest l.period-iterator.a) (iter_rest l.period-iterator.b))
-    ≡ pairing_periods l.rostered
+    ≡ pairing_periods l.entry

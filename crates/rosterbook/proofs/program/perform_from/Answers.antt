@@ -101,9 +101,9 @@ returns-in-Serve-clause-left g c =
 
 pub returns-in-Duty-clause-by_files : goal.returns-in-Duty-clause-by_files
 returns-in-Duty-clause-by_files g c =
-    performed_so _ c.unopened.result.left c.finish.result.left c.finish.ensures.left g.E.Write.contents c.args.action.now _ _ _ _ c.unopened.result.done _ c.answer_duty.new.err _
+    performed_so _ c.without_files.result.left c.finish.result.left c.finish.ensures.left g.E.Write.contents c.args.action.now _ _ _ _ c.without_files.result.done _ c.answer_duty.new.err _
     c.finish.ensures.done c.finish.ensures.failed
-    (rw c.unopened.ensures.done (passed_on _ c.answer_duty.result c.done_of-done.result c.done_of-done.ensures
+    (rw c.without_files.ensures.done (passed_on _ c.answer_duty.result c.done_of-done.result c.done_of-done.ensures
     (IfOk-weaker c.answer_duty.result _ _ (λ status it other. rw c.in-Duty.is (rw (c.deref.ensures, c.deref-in-Duty.ensures, c.deref-in-Duty-2.ensures.value) at (it other)))
     (not_for_memory _ c.answer_duty.result _ _ _ _ c.answer_duty.ensures))))
 

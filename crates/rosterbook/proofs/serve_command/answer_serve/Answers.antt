@@ -9,7 +9,7 @@ use Rattle.rosterbook.proofs.serve_command.answer_serve.Goals as goal
 
 -- (the book isn't opened)
 pub returns-in-Err-clause-refused : goal.returns-in-Err-clause-refused
-returns-in-Err-clause-refused g c = refused_as _ _ c.refused.ensures.left c.in-Err.refused.fault c.in-Err.refused.left _ _ c.refused.ensures.refused c.refused.ensures.done c.in-Err.ensures.refused
+returns-in-Err-clause-refused g c = refused_as _ _ c.of_refusal.ensures.left c.in-Err.refused.fault c.in-Err.refused.left _ _ c.of_refusal.ensures.refused c.of_refusal.ensures.done c.in-Err.ensures.refused
 
 -- (the port isn't bound)
 pub returns-in_default-clause-stopped : goal.returns-in_default-clause-stopped

@@ -13,10 +13,10 @@ returns-in-Ok-clause-left g c = (
 )
 
 pub returns-in-Err-clause-left : goal.returns-in-Err-clause-left
-returns-in-Err-clause-left g c = none_let_go _ _ c.refused.ensures.left
+returns-in-Err-clause-left g c = none_let_go _ _ c.of_refusal.ensures.left
 
 pub returns-in-Err-clause-refused : goal.returns-in-Err-clause-refused
-returns-in-Err-clause-refused g c = refused_as _ _ c.refused.ensures.left c.in-Err.refused.fault c.in-Err.refused.left _ _ c.refused.ensures.refused c.refused.ensures.done c.in-Err.ensures.refused
+returns-in-Err-clause-refused g c = refused_as _ _ c.of_refusal.ensures.left c.in-Err.refused.fault c.in-Err.refused.left _ _ c.of_refusal.ensures.refused c.of_refusal.ensures.done c.in-Err.ensures.refused
 
 pub returns-in-Ok-clause-session : goal.returns-in-Ok-clause-session
 returns-in-Ok-clause-session g c = (
@@ -26,4 +26,4 @@ returns-in-Ok-clause-session g c = (
 )
 
 pub returns-in-Err-clause-session : goal.returns-in-Err-clause-session
-returns-in-Err-clause-session g c = no_session _ _ c.refused.ensures.left
+returns-in-Err-clause-session g c = no_session _ _ c.of_refusal.ensures.left

@@ -6,4 +6,4 @@ use Rattle.stored_json.proofs.part.each.Given as goal
 
 abbrev pub invariant-loop-value : goal.invariant-loop-value
 invariant-loop-value g l =
-    read_from g.T.Part.reads l.parts.items (drop l.value-index l.values) ≡ read_each g.T.Part.reads (items_view l.values)
+    read_from g.T.JsonPart.reads l.parts.items (drop l.value-index l.values) ≡ read_each g.T.JsonPart.reads (items_view l.values)

@@ -12,19 +12,19 @@ pub returns-in-Ok-ask_schedule : goal.returns-in-Ok-ask_schedule
 returns-in-Ok-ask_schedule g c =
     let it = c.in-Ok-ask_schedule.ensures in
     added_by_failed g.S.Store c.args.book.now c.ask_schedule.new.book it.calls c.in-Ok.parts c.ask_schedule.new.listener c.args.number c.args.body.now
-    (sym c.failed.ensures ∙ c.if-failed.true) it.asked
+    (sym c.has_failed.ensures ∙ c.if-has_failed.true) it.asked
 
 pub returns-in-Ok-2 : goal.returns-in-Ok-2
 returns-in-Ok-2 g c =
     let it = c.in-Ok-2.ensures in
     added g.S.Store c.args.book.now c.ask_schedule.new.book it.calls c.in-Ok.parts c.ask_schedule.new.listener c.args.number c.args.body.now
-    c.in-Ok.ensures (sym c.failed.ensures ∙ c.if-failed.false) (answer_or_fault c.in_json.result) (tells_text _ c.end.result _ (answer_or_fault c.in_json.result) c.end.ensures c.in_json.ensures) it.asked
+    c.in-Ok.ensures (sym c.has_failed.ensures ∙ c.if-has_failed.false) (answer_or_fault c.in_json.result) (tells_text _ c.end.result _ (answer_or_fault c.in_json.result) c.end.ensures c.in_json.ensures) it.asked
 
 pub returns-in-Err-Unread : goal.returns-in-Err-Unread
 returns-in-Err-Unread g c =
     let it = c.in-Err-Unread.ensures in
     not_read g.S.Store c.args.book.now c.ask_schedule.new.book it.calls c.in-Ok.parts c.ask_schedule.new.listener c.args.number c.args.body.now
-    c.in-Err-Unread.fault (answer_or_fault c.unread.result) c.unread.ensures (rw c.in-Err-Unread.field-0-is at it.asked)
+    c.in-Err-Unread.fault (answer_or_fault c.respond_unread.result) c.respond_unread.ensures (rw c.in-Err-Unread.field-0-is at it.asked)
 
 pub returns-in-Err-Ask : goal.returns-in-Err-Ask
 returns-in-Err-Ask g c =

@@ -5,7 +5,7 @@ use Rattle.sqlite.proofs.StateLemmas.{survives_then, survives_weaker}
 use Rattle.roster.specs.Steps.{after}
 use Rattle.roster.specs.State.{State}
 use Rattle.writing.specs.Next.{IsAcceptedChange}
-use Rattle.state_rows.specs.Outcomes.{CrashLeaves, one}
+use Rattle.state_rows.specs.Outcomes.{CrashLeaves, IsJust}
 use Rattle.writing.proofs.Committing.{begun_ready, begun_holds, written_holds, kept_leaves, either_leaves, ended_fit, undone_fit, none_done, over_at_end, unbegun_over, undone_shows, on_err_of, weaker}
 use Rattle.state_rows.proofs.Outcomes.{unbegun_shows}
 use Rattle.writing.proofs.Ending.{on_ok, on_err, ended_leaves, ended_now}
@@ -19,7 +19,7 @@ returns-in_err-begin-clause-committed g c =
     let new = state g.S.Store c.begin.new.conn in
     let settled = λ (clean : HasCleanDisk old). c.is_autocommit-settled.ensures.settled (c.is_autocommit-settled.ensures.value ∙ ap not (c.requires.outside clean)) in
     let before = λ (clean : HasCleanDisk new). let d : HasCleanDisk old = omega (arith, c.in_err-begin.ensures.crash.clean) in d in
-    let kept = λ (s : State) (leaves : CrashLeaves old (one s)). kept_leaves old new (one s) c.in_err-begin.ensures.crash leaves in
+    let kept = λ (s : State) (leaves : CrashLeaves old (IsJust s)). kept_leaves old new (IsJust s) c.in_err-begin.ensures.crash leaves in
     record {
       crash = search rules;
       memory = λ s leaves _. kept s leaves;
@@ -50,7 +50,7 @@ returns-clause-committed g c =
     let before = λ (clean : HasCleanDisk begun). let d : HasCleanDisk old = omega (arith, c.in_ok-begin.ensures.crash.clean) in d in
     let late = λ (clean : HasCleanDisk new). let d : HasCleanDisk last = omega (arith, ended.crash.clean) in d in
     let ready = begun_ready old begun before c.requires.over c.in_ok-begin.ensures.gave in
-    let holds = λ (s : State) (next : IsAcceptedChange s c.args.change.now) (leaves : CrashLeaves old (one s)) (clean : HasCleanDisk new) (is : IsOk c.write_change-done.result).
+    let holds = λ (s : State) (next : IsAcceptedChange s c.args.change.now) (leaves : CrashLeaves old (IsJust s)) (clean : HasCleanDisk new) (is : IsOk c.write_change-done.result).
     written_holds s c.args.change.now next c.in_ok-row.ensures.command.0 begun last c.write_change-done.result c.write_change-done.ensures ready
     (begun_holds G g.met.S.Store.stays c.args.conn.now begun s c.schema-live.ensures.live settled before c.in_ok-begin.ensures.gave leaves) ended.live (omega (arith, ended.crash.clean)) is in
     let keeps = λ (clean : HasCleanDisk new) (is : IsOk c.write_change-done.result).
@@ -62,7 +62,7 @@ returns-clause-committed g c =
           on_ok c.end.result ended.whole ended.ok (λ is ended. ended_leaves G last c.end.new.conn (after s c.args.change.now) ended (λ clean. holds s next leaves clean is) g.met.S.Store.settled);
       memory = λ s leaves e.
           let ending = survives_weaker last new _ _ (λ _ _ reached. none_done c.write_change-done.result _ (ended.memory e) reached.0) ended.crash in
-          kept_leaves old new (one s) (survives_then old last new _ _ _ (λ _ _ none. none) (λ _ _ none. none) first ending) leaves;
+          kept_leaves old new (IsJust s) (survives_then old last new _ _ _ (λ _ _ none. none) (λ _ _ none. none) first ending) leaves;
       store = λ s next leaves _. either_leaves old last new s (after s c.args.change.now) (IsOk c.write_change-done.result) whole (holds s next leaves) leaves;
       some_left = g.met.S.Store.survives c.end.new.conn.store;
       shown = λ s next leaves.

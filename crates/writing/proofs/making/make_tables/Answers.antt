@@ -1,7 +1,7 @@
 use Rattle.std.proofs.Common.{◌≡◌, sym, subst, arith, [], ◌++◌, Ok}
 use Rattle.sqlite.specs.Held.{state}
 use Rattle.sqlite.specs.State.{State, HasCleanDisk}
-use Rattle.state_rows.specs.Rows.{TableName, base, book, table}
+use Rattle.state_rows.specs.Rows.{StateTable, base, book, table}
 use Rattle.tables.specs.Calls.{HoldsTable}
 use Rattle.tables.specs.Records.{base_row, book_row}
 use Rattle.tables.specs.Rows.{Inserts, stored}
@@ -22,7 +22,7 @@ all_made old one two three four a b c d first second third later =
     made_next first_tables later_tables old three four c d nine later
 
 -- the tables are there
-there : {A E : Type 0} (old made : State) (a : A) → (HasCleanDisk old → HasEmpty [] old.now) → Changed {E = E} (MakesTables book_tables) old made (Ok a) → (name : TableName) → HoldsTable (table name) made
+there : {A E : Type 0} (old made : State) (a : A) → (HasCleanDisk old → HasEmpty [] old.now) → Changed {E = E} (MakesTables book_tables) old made (Ok a) → (name : StateTable) → HoldsTable (table name) made
 there old made a free changed name clean =
     let has = (changed.done clean).0.empty [] (free (let d : HasCleanDisk old = omega (arith, changed.left.clean) in d)) in
     (of_all (λ t. IsTable t made.now.schema × (stored t made.now ≡ [])) has.there name).0

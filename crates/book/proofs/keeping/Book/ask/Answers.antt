@@ -6,7 +6,7 @@ use Rattle.roster.specs.State.{State}
 use Rattle.roster.specs.Steps.{step_of}
 use Rattle.state_rows.specs.declared.fault.StoreFault.TheVariants.{Memory, Store}
 use Rattle.state_rows.specs.Outcomes.{CrashLeaves}
-use Rattle.book.specs.Kept.{Keeps, either_kept, result_of}
+use Rattle.book.specs.Kept.{Keeps, IsEitherKept, result_of}
 use Rattle.book.proofs.Runs.{honest_left}
 use Rattle.book.proofs.States.{honest_next, same_state}
 use Rattle.book.proofs.Holding.{accepts_within, now_holds, one_held_still, step_repeats}
@@ -56,7 +56,7 @@ returns g c =
     let disk : HasCleanDisk new → HasCleanDisk before = rw (← c.self.view_is) did.disk in
     let answered : (s : State) → Keeps before s → OnOk result (Keeps new (of s)) = rw (← c.self.view_is) (λ s at. told_ok old new one.it of one.keeps s at did.disk result did.done) in
     let memory : (s : State) → Keeps before s → result ≡ Err Memory → Keeps new s = rw (← c.self.view_is) (λ s at. told_memory old new one.it of one.keeps s at did.disk result did.done) in
-    let store : (s : State) → Keeps before s → result ≡ Err Store → CrashLeaves new (either_kept s (of s)) = rw (← c.self.view_is) (λ s at. told_store old new one.it of one.keeps s at did.disk result did.done) in
+    let store : (s : State) → Keeps before s → result ≡ Err Store → CrashLeaves new (IsEitherKept s (of s)) = rw (← c.self.view_is) (λ s at. told_store old new one.it of one.keeps s at did.disk result did.done) in
     let reply : (s : State) → Keeps before s → HasCleanDisk new → IfOk result (λ a. result_of a ≡ answer_of (step_of s c.args.key c.args.command.now)) = rw (← c.self.view_is) (λ s at clean.
     told_reply old new one.it of one.keeps s at did.disk result result_of (λ (x : State). answer_of (step_of x c.args.key c.args.command.now)) (decided.reply clean) clean) in
     record {

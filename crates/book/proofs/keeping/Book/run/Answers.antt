@@ -62,9 +62,9 @@ loop-key-preserved g c =
 pub returns-then-self : goal.returns-then-self
 returns-then-self g c =
     let now = state g.S.Store c.args.self.now.held in
-    let none : length c.stopped.result.answers.items ≡ 0 = rw (c.stopped.ensures.answers, c.new.ensures.items) refl in
-    let outcome : (s : State) → IsDurablyAt g.S.Store c.args.self.now s → Ends now s c.args.commands.now (length c.stopped.result.answers.items) c.stopped.result.fault = λ s at.
-    rw (none, c.stopped.ensures.fault) (one_of_either now s (Fold s (take 1 c.args.commands.now)) at) in
+    let none : length c.stop_with.result.answers.items ≡ 0 = rw (c.stop_with.ensures.answers, c.new.ensures.items) refl in
+    let outcome : (s : State) → IsDurablyAt g.S.Store c.args.self.now s → Ends now s c.args.commands.now (length c.stop_with.result.answers.items) c.stop_with.result.fault = λ s at.
+    rw (none, c.stop_with.ensures.fault) (one_of_either now s (Fold s (take 1 c.args.commands.now)) at) in
     record {
       count = search rules;
       whole = search rules;
@@ -73,7 +73,7 @@ returns-then-self g c =
       replies = search rules;
       outcome = outcome;
       sessions = λ s before at. adds_session now s before _ _ (search rules) _ (search rules) (outcome (Stopped s before) at);
-      held = λ s at. ends_held now s c.args.commands.now (length c.stopped.result.answers.items) c.stopped.result.fault (outcome s at);
+      held = λ s at. ends_held now s c.args.commands.now (length c.stop_with.result.answers.items) c.stop_with.result.fault (outcome s at);
       honest = λ s at honest. one_honest now s at.leaves honest;
       some_left = search rules;
       shown = search rules;
@@ -121,9 +121,9 @@ returns-then-is_empty g c =
 pub returns-in_default : goal.returns-in_default
 returns-in_default g c =
     let now = state g.S.Store c.args.self.now.held in
-    let none : length c.stopped-in_default.result.answers.items ≡ 0 = rw (c.stopped-in_default.ensures.answers, c.new-in_default.ensures.items) refl in
-    let outcome : (s : State) → IsDurablyAt g.S.Store c.args.self.now s → Ends now s c.args.commands.now (length c.stopped-in_default.result.answers.items) c.stopped-in_default.result.fault = λ s at.
-    rw (none, c.stopped-in_default.ensures.fault) at in
+    let none : length c.stop_with-in_default.result.answers.items ≡ 0 = rw (c.stop_with-in_default.ensures.answers, c.new-in_default.ensures.items) refl in
+    let outcome : (s : State) → IsDurablyAt g.S.Store c.args.self.now s → Ends now s c.args.commands.now (length c.stop_with-in_default.result.answers.items) c.stop_with-in_default.result.fault = λ s at.
+    rw (none, c.stop_with-in_default.ensures.fault) at in
     record {
       count = search rules;
       whole = search rules;
@@ -132,7 +132,7 @@ returns-in_default g c =
       replies = search rules;
       outcome = outcome;
       sessions = λ s before at. adds_session now s before _ _ (search rules) _ (search rules) (outcome (Stopped s before) at);
-      held = λ s at. ends_held now s c.args.commands.now (length c.stopped-in_default.result.answers.items) c.stopped-in_default.result.fault (outcome s at);
+      held = λ s at. ends_held now s c.args.commands.now (length c.stop_with-in_default.result.answers.items) c.stop_with-in_default.result.fault (outcome s at);
       honest = λ s at honest. one_honest now s at.leaves honest;
       some_left = search rules;
       shown = search rules;
@@ -154,7 +154,7 @@ returns-in-Err g c =
     let was = c.loop-key.invariant in
     let asked = c.loop-key-item.result in
     let now = state g.S.Store c.ask.new.self.held in
-    let count : length c.stopped-in-Err.result.answers.items ≡ i = rw c.stopped-in-Err.ensures.answers was.count in
+    let count : length c.stop_with-in-Err.result.answers.items ≡ i = rw c.stop_with-in-Err.ensures.answers was.count in
     let ends : (s : State) → IsDurablyAt g.S.Store c.args.self.now s → (fault : StoreFault) → c.ask.result ≡ Err fault → Ends now s xs i (Some fault) = λ s at.
     let so_far = Fold s (take i xs) in
     let more : Fold s (take (i + 1) xs) ≡ next so_far asked = rw c.loop-key-item.is (fold_more s xs i asked c.loop-key-test.true) in
@@ -162,8 +162,8 @@ returns-in-Err g c =
       | Store ↦ λ is. rw more (c.ask.ensures.store so_far (was.outcome s at) is)
       | Memory ↦ λ is. c.ask.ensures.memory so_far (was.outcome s at) is
     ] in
-    let outcome : (s : State) → IsDurablyAt g.S.Store c.args.self.now s → Ends now s xs (length c.stopped-in-Err.result.answers.items) c.stopped-in-Err.result.fault = λ s at.
-    rw (count, c.stopped-in-Err.ensures.fault) (ends s at c.in-Err.fault c.in-Err.is) in
+    let outcome : (s : State) → IsDurablyAt g.S.Store c.args.self.now s → Ends now s xs (length c.stop_with-in-Err.result.answers.items) c.stop_with-in-Err.result.fault = λ s at.
+    rw (count, c.stop_with-in-Err.ensures.fault) (ends s at c.in-Err.fault c.in-Err.is) in
     let honest : (s : State) → IsDurablyAt g.S.Store c.args.self.now s → Honest s → (fault : StoreFault) → c.ask.result ≡ Err fault → CrashLeaves now Honest = λ s at honest.
     let before = was.outcome s at in
     let so_far = Fold s (take i xs) in
@@ -187,7 +187,7 @@ returns-in-Err g c =
       replies = search rules;
       outcome = outcome;
       sessions = λ s before at. adds_session now s before _ _ (search rules) _ (search rules) (outcome (Stopped s before) at);
-      held = λ s at. ends_held now s xs (length c.stopped-in-Err.result.answers.items) c.stopped-in-Err.result.fault (outcome s at);
+      held = λ s at. ends_held now s xs (length c.stop_with-in-Err.result.answers.items) c.stop_with-in-Err.result.fault (outcome s at);
       honest = λ s at is. honest s at is c.in-Err.fault c.in-Err.is;
       some_left = search rules;
       shown = search rules;
@@ -199,7 +199,7 @@ returns-in-Err g c =
       disk = search rules;
       limit = c.ask.ensures.limit ∙ was.limit;
       still_open = λ is.
-          let fault : Some c.in-Err.fault ≡ Some Memory = rw (← c.stopped-in-Err.ensures.fault) is in
+          let fault : Some c.in-Err.fault ≡ Some Memory = rw (← c.stop_with-in-Err.ensures.fault) is in
           spared_open g.S.Store c.args.self.now c.loop-key.self c.ask.new.self c.ask.ensures.disk was.counts was.spared (c.ask.ensures.still_open (c.in-Err.is ∙ (let same : c.in-Err.fault ≡ Memory = cc in ap Err same)));
     }
 

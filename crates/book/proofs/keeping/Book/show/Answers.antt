@@ -11,33 +11,33 @@ use Rattle.book.proofs.keeping.Book.show.Goals as goal
 pub invariant_of-self : goal.invariant_of-self
 invariant_of-self g c =
     let one = c.self.invariant.1 c.if-self.false in
-    let read = c.shown-shown.ensures.unchanged in (
-      c.shown-shown.ensures.some_left,
+    let read = c.read_shown-shown.ensures.unchanged in (
+      c.read_shown-shown.ensures.some_left,
       λ _. record {
         it = one.it;
-        keeps = still_keeps _ _ one.it read.nothing_new c.shown-shown.ensures.some_left one.keeps;
-        shown = shown_on (state g.S.Store c.self.inside.store) (state g.S.Store c.shown-shown.new.self) one.it read.nothing_new.disk read.still_shown one.shown;
+        keeps = still_keeps _ _ one.it read.nothing_new c.read_shown-shown.ensures.some_left one.keeps;
+        shown = shown_on (state g.S.Store c.self.inside.store) (state g.S.Store c.read_shown-shown.new.self) one.it read.nothing_new.disk read.still_shown one.shown;
       },
     )
 
 pub returns-clause-text : goal.returns-clause-text
 returns-clause-text g c = rw (← c.self.view_is) (λ s at clean.
     let one = c.self.invariant.1 c.if-self.false in
-    let before = c.shown-shown.ensures.unchanged.nothing_new.disk clean in
+    let before = c.read_shown-shown.ensures.unchanged.nothing_new.disk clean in
     let same = same_state (state g.S.Store c.self.inside.store) one.it s one.keeps at before in
-    subst (λ (x : State). IfOk c.shown-shown.result (λ roster. (shown : Result (List ℕ) Absence) → IsShown roster c.args.what.now shown ↔ IsShown x c.args.what.now shown)) same
-    (c.shown-shown.ensures.text one.it (shows_it (state g.S.Store c.self.inside.store) one.it one.keeps one.shown before) clean))
+    subst (λ (x : State). IfOk c.read_shown-shown.result (λ roster. (shown : Result (List ℕ) Absence) → IsShown roster c.args.what.now shown ↔ IsShown x c.args.what.now shown)) same
+    (c.read_shown-shown.ensures.text one.it (shows_it (state g.S.Store c.self.inside.store) one.it one.keeps one.shown before) clean))
 
 pub returns-clause-kept : goal.returns-clause-kept
-returns-clause-kept g c = rw (← c.self.view_is) (λ s at. still_keeps _ _ s c.shown-shown.ensures.unchanged.nothing_new c.shown-shown.ensures.some_left at)
+returns-clause-kept g c = rw (← c.self.view_is) (λ s at. still_keeps _ _ s c.read_shown-shown.ensures.unchanged.nothing_new c.read_shown-shown.ensures.some_left at)
 
 pub returns-then-self-clause-unchanged : goal.returns-then-self-clause-unchanged
 returns-then-self-clause-unchanged g c = nothing_changes (state g.S.Store c.args.self.now.held)
 
 pub returns-clause-unchanged : goal.returns-clause-unchanged
-returns-clause-unchanged g c = rw (← c.self.view_is) c.shown-shown.ensures.unchanged
+returns-clause-unchanged g c = rw (← c.self.view_is) c.read_shown-shown.ensures.unchanged
 
 pub returns-clause-caused : goal.returns-clause-caused
 returns-clause-caused g c = rw (← c.self.view_is) (λ _.
     let one = c.self.invariant.1 c.if-self.false in
-    read_fault (state g.S.Store c.self.inside.store) (state g.S.Store c.shown-shown.new.self) one.it c.shown-shown.result c.shown-shown.ensures.unchanged.nothing_new.disk one.keeps one.shown c.shown-shown.ensures.caused)
+    read_fault (state g.S.Store c.self.inside.store) (state g.S.Store c.read_shown-shown.new.self) one.it c.read_shown-shown.result c.read_shown-shown.ensures.unchanged.nothing_new.disk one.keeps one.shown c.read_shown-shown.ensures.caused)

@@ -11,7 +11,7 @@ returns-then-place-number-clause-segments c =
 pub returns-clause-segments : goal.returns-clause-segments
 returns-clause-segments c =
     let fs = c.args.self.draft.periods.items in
-    let more : c.push-2.new.self.items ≡ fs ++ open_fdp c.args.self.period ∷ [] = search (rules, c.in_ok-push-2.ensures.items, c.closed.ensures) in
+    let more : c.push-2.new.self.items ≡ fs ++ open_fdp c.args.self.period ∷ [] = search (rules, c.in_ok-push-2.ensures.items, c.into_fdp.ensures) in
     let number : c.args.it.place.period ≡ length (fs ++ open_fdp c.args.self.period ∷ []) + 1 = search rules in
     let begun = c.in_ok-period.ensures.begun in
     rw (more, begun.0, begun.1, begun.2) (period_more c.args.self.draft.id (fs ++ open_fdp c.args.self.period ∷ []) c.args.it number)
@@ -25,6 +25,6 @@ returns-then-place-number-clause-shown c shown =
 pub returns-clause-shown : goal.returns-clause-shown
 returns-clause-shown c shown =
     let fs = c.args.self.draft.periods.items in
-    let more : c.push-2.new.self.items ≡ fs ++ open_fdp c.args.self.period ∷ [] = search (rules, c.in_ok-push-2.ensures.items, c.closed.ensures) in
+    let more : c.push-2.new.self.items ≡ fs ++ open_fdp c.args.self.period ∷ [] = search (rules, c.in_ok-push-2.ensures.items, c.into_fdp.ensures) in
     let begun = c.in_ok-period.ensures.begun in
     rw more (shows_more c.args.self.draft.id (fs ++ open_fdp c.args.self.period ∷ []) _ shown (rw begun.2 refl))

@@ -8,7 +8,7 @@ use Rattle.duty.proofs.pairing.Pairing.new.Goals as goal
 
 pub invariant_of-result : goal.invariant_of-result
 invariant_of-result c =
-    let whole = c.new.ensures ∙ c.planned-periods.ensures in
+    let whole = c.new.ensures ∙ c.as_planned-periods.ensures in
     let of : List Fdp → Plan = λ periods. record { id = c.args.id; periods = periods } in (
       ap (λ periods. pairing_fault (of periods)) (c.new.ensures ∙ sym c.deref.ensures.value)
           ∙ no_fault (pairing_fault (of c.deref.result.now)) tt tt (sym c.in_ok-check_pairing.ensures),

@@ -10,20 +10,20 @@ pub returns-in-Submit-Command-default : goal.returns-in-Submit-Command-default
 returns-in-Submit-Command-default g c =
     let here = c.in-Submit-Command-default in
     let it = c.ask_request.ensures in
-    let did : IsHandled g.S.Store c.args.book.now c.ask_request.new.book (submit Command here.body.now) (answer_or_fault c.answered.result) =
-    rw c.answered.ensures (request_handled g.S.Store c.args.book.now c.ask_request.new.book here.body.now c.ask_request.result it.asked it.calls) in
+    let did : IsHandled g.S.Store c.args.book.now c.ask_request.new.book (submit Command here.body.now) (answer_or_fault c.respond.result) =
+    rw c.respond.ensures (request_handled g.S.Store c.args.book.now c.ask_request.new.book here.body.now c.ask_request.result it.asked it.calls) in
     search (rules, did)
 
 pub returns-in-Submit-Check-default : goal.returns-in-Submit-Check-default
 returns-in-Submit-Check-default g c =
     let here = c.in-Submit-Check-default in
     let it = c.check_request.ensures in
-    let did : IsHandled g.S.Store c.args.book.now c.check_request.new.book (submit Check here.body.now) (answer_or_fault c.answered-in-Submit-Check-default.result) =
-    rw c.answered-in-Submit-Check-default.ensures (check_handled g.S.Store c.args.book.now c.check_request.new.book here.body.now c.check_request.result it.checked it.calls) in
+    let did : IsHandled g.S.Store c.args.book.now c.check_request.new.book (submit Check here.body.now) (answer_or_fault c.respond-in-Submit-Check-default.result) =
+    rw c.respond-in-Submit-Check-default.ensures (check_handled g.S.Store c.args.book.now c.check_request.new.book here.body.now c.check_request.result it.checked it.calls) in
     search (rules, did)
 
 pub returns-in-Show : goal.returns-in-Show
 returns-in-Show g c =
     let it = c.ask_report.ensures in
-    rw c.in-Show.is (report_handled g.S.Store c.args.book.now c.ask_report.new.book (subject c.in-Show.report) it.calls c.ask_report.result (answer_or_fault c.shown.result)
-    (rw c.subject_of.ensures at it.asked) c.shown.ensures)
+    rw c.in-Show.is (report_handled g.S.Store c.args.book.now c.ask_report.new.book (subject c.in-Show.report) it.calls c.ask_report.result (answer_or_fault c.show.result)
+    (rw c.subject_of.ensures at it.asked) c.show.ensures)

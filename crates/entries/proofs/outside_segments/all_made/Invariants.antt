@@ -1,5 +1,0 @@
-use Rattle.entries.proofs.KeyedOutsideSegments.{Making}
-use Rattle.entries.proofs.outside_segments.all_made.Given as goal
-
-abbrev pub invariant-loop-id : goal.invariant-loop-id
-invariant-loop-id l = Making l.outsides l.segments l.made l.id-iterator

@@ -1,5 +1,0 @@
-use Rattle.limits.specs.Laws.LookBack.{thirty_hours_decides}
-use Rattle.limits.proofs.rest_limits.ThirtyHourRestLimit.broken.Goals as goal
-
-pub returns : goal.returns
-returns c = rw c.some_lacks_rest.ensures (thirty_hours_decides c.args.history.now c.args.new.now)

@@ -1,5 +1,0 @@
-use Rattle.lookup.specs.Bases.{BasesRead}
-use Rattle.lookup.proofs.bases.bases_told.Given as goal
-
-abbrev pub invariant-loop-row : goal.invariant-loop-row
-invariant-loop-row l = BasesRead l.records l.row-index l.all

@@ -1,5 +1,0 @@
-use Rattle.lookup.proofs.BaseLemmas.{HaveNoHome}
-use Rattle.lookup.proofs.bases.home_told.Given as goal
-
-abbrev pub invariant-loop-row : goal.invariant-loop-row
-invariant-loop-row l = HaveNoHome l.records l.row-index

@@ -1,5 +1,0 @@
-use Rattle.lookup.specs.Recorded.{AreRead}
-use Rattle.lookup.proofs.exceedance.exceedances_told.Given as goal
-
-abbrev pub invariant-loop-row : goal.invariant-loop-row
-invariant-loop-row l = AreRead l.records l.row-index l.all
