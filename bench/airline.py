@@ -1,7 +1,7 @@
 #!/usr/bin/env python3
 """Makes books of a small airline, and the commands that are timed on them. The times are drawn with a fixed seed.
 
-    airline.py fill BOOK TIMES          fills an empty book with a year, of so many airlines together
+    airline.py fill BOOK TIMES          fills an empty book with a year, of this many airlines together
     airline.py ask FOLDER TIMES COUNT   writes the commands for it, a file of lines each kind
     airline.py same BOOK OTHER          whether two books have the same rows in all tables
 

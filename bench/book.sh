@@ -10,7 +10,7 @@ trap 'rm -rf "$room"' EXIT
 cd "$room"
 pairings=1000
 
-# schedule COUNT: so many pairings of one segment.
+# schedule COUNT: this many pairings of one segment.
 schedule() {
     echo pairing,period,report,release,flight,from,out,to,in
     for ((n = 1; n <= $1; n++)); do

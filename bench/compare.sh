@@ -3,7 +3,7 @@
 #
 #     bench/compare.sh [COUNT [TIMES..]]
 #
-# COUNT is how many pairings are added and assigned, 300 where none is told. TIMES are the books: 0 is an empty one, 1 has the year of a
+# COUNT is how many pairings are added and assigned, 300 if none is given. TIMES are the books: 0 is an empty one, 1 has the year of a
 # small airline (60 members, 10,000 pairings, 50,000 requests) and 10 that of ten. All three have the same tables and commit each command
 # to the disk before the next. The program is asked by HTTP, one connection each, and that is part of its time. C SQLite alone
 # (rows.py) writes the rows that the commands leave, without judging them. The plain program (plain.py) judges and answers as the
@@ -28,8 +28,8 @@ taken() {
     { "$@" >answers; } 2>&1
 }
 
-# told WHAT PROGRAM ROWS PLAIN: a line of the table, with how many times as long the program took as each of the others.
-told() {
+# reported WHAT PROGRAM ROWS PLAIN: a line of the table, with how many times as long the program took as each of the others.
+reported() {
     awk -v what="$1" -v program="$2" -v rows="$3" -v plain="$4" '
         function ratio(other) { return other + 0 > 0 ? sprintf("%.1f", program / other) : "" }
         BEGIN { printf "| %s | %s | %s | %s | %s | %s |\n", what, program, rows == "-" ? "" : rows, plain, ratio(rows), ratio(plain) }'
@@ -69,15 +69,15 @@ compared() {
     begin=$(date +%s%N)
     listen program.db
     program=$(awk -v nanoseconds=$(($(date +%s%N) - begin)) 'BEGIN { printf "%.3f", nanoseconds / 1000000 }')
-    told 'opening the book' "$program" "$(taken "$top/bench/rows.py" rows.db none none)" "$(taken "$top/bench/plain.py" plain.db <none)"
-    told 'a request that names nothing, by HTTP' "$(python3 "$top/bench/ask.py" $port 1000 404 /nothing)" - ''
+    reported 'opening the book' "$program" "$(taken "$top/bench/rows.py" rows.db none none)" "$(taken "$top/bench/plain.py" plain.db <none)"
+    reported 'a request that names nothing, by HTTP' "$(python3 "$top/bench/ask.py" $port 1000 404 /nothing)" - ''
     for file in lines/*; do
         program=$(taken "$top/bench/lines.py" $port "$file")
         cp answers wanted
         plain=$(taken "$top/bench/plain.py" plain.db <"$file")
         cmp wanted answers
         rows=$(taken "$top/bench/rows.py" rows.db "$file" wanted)
-        told "${file#* }, $(wc -l <"$file") of them" "$program" "$rows" "$plain"
+        reported "${file#* }, $(wc -l <"$file") of them" "$program" "$rows" "$plain"
     done
     hush
     "$top/bench/airline.py" same program.db rows.db

@@ -1,10 +1,10 @@
 #!/usr/bin/env bash
-# Times the limits of a captain, by which it is told how near the captain is to each of them, beside the captain's roster:
+# Times the limits of a captain, which say how near the captain is to each of them, beside the captain's roster:
 #
 #     bench/limits.sh [PORT [COUNT]]
 #
-# The captain holds 120 pairings of a year, one every third day, each of one flight duty period with so many segments. The limits are asked
-# without a pairing, and with one that nobody holds. Each is asked of a server COUNT times, 300 where none is told; what HTTP costs, as a
+# The captain holds 120 pairings of a year, one every third day, each of one flight duty period with this many segments. The limits are asked
+# without a pairing, and with one that nobody holds. Each is asked of a server COUNT times, 300 if none is given; what HTTP costs, as a
 # path that names nothing shows it, is taken off. The last column is by how much limits without a pairing take longer than the roster.
 set -eu
 top=$(cd "$(dirname "$(readlink -f "${BASH_SOURCE[0]}")")/.." && pwd)
@@ -44,8 +44,8 @@ listen() {
     until grep -q . listening; do sleep 0.1; done
 }
 
-# told SEGMENTS HTTP ROSTER LIMITS WITH: a line of the table.
-told() {
+# reported SEGMENTS HTTP ROSTER LIMITS WITH: a line of the table.
+reported() {
     awk -v segments="$1" -v http="$2" -v roster="$3" -v limits="$4" -v with="$5" 'BEGIN {
         printf "| %d | %.3f ms | %.3f ms | %.3f ms | %.3f ms |\n", segments, roster - http, limits - http, with - http, limits - roster
     }'
@@ -61,7 +61,7 @@ for segments in 1 2 6; do
     listen roster.db
     asked $held 200 /requests '{"number":1000%d,"do":"assign","pairing":"P%d","crew":"C1"}' >/dev/null
     http=$(asked "$count" 404 /nothing)
-    told $segments "$http" "$(asked "$count" 200 /crew/C1)" "$(asked "$count" 200 /reports/limits/C1)" \
+    reported $segments "$http" "$(asked "$count" 200 /crew/C1)" "$(asked "$count" 200 /reports/limits/C1)" \
         "$(asked "$count" 200 /reports/limits/C1/P$((held + 1)))"
     kill "$server"
     wait "$server" 2>/dev/null || true

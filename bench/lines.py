@@ -11,7 +11,7 @@ import sys
 import time
 from pathlib import Path
 
-from rows import told
+from rows import reported
 
 
 def ask(port, given):
@@ -28,7 +28,7 @@ def main(port, lines):
     requests = [b"POST /requests HTTP/1.1\r\nHost: x\r\nContent-Length: %d\r\n\r\n%s" % (len(body), body) for body in bodies]
     started = time.perf_counter()
     answers = [ask(int(port), given) for given in requests]
-    told(started, len(answers))
+    reported(started, len(answers))
     sys.stdout.buffer.write(b"".join(it.partition(b"\r\n\r\n")[2] + b"\n" for it in answers))
 
 

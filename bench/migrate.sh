@@ -5,7 +5,7 @@
 #     bench/migrate.sh [OLDER]
 #
 # OLDER is a program of version 1, which is timed too over the file of version 1. Each opening is of a new copy, in turn with the
-# others, and is that of a command that is refused; the least time of seven is told. The file of version 1 has the rows of the other
+# others, and is that of a command that is refused; the least time of seven is printed. The file of version 1 has the rows of the other
 # in the tables of tests/tables/version_1.sql.
 set -eu
 top=$(cd "$(dirname "$(readlink -f "${BASH_SOURCE[0]}")")/.." && pwd)

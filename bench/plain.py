@@ -18,7 +18,7 @@ from bisect import bisect_left
 from datetime import datetime
 from typing import NamedTuple
 
-from rows import KEPT, SEATS, SECTIONS, changes, compact, minute_of, opened, told, write
+from rows import KEPT, SEATS, SECTIONS, changes, compact, minute_of, opened, reported, write
 
 DAY, UNIX_EPOCH = 1_440, 946_684_800
 TABLE_A = ((0, 8), (5 * 60, 9), (20 * 60, 8))
@@ -45,7 +45,7 @@ MEMBERS = {
 
 
 class Refused(Exception):
-    """A refusal: its number and its name, and what is told with it."""
+    """A refusal: its number and its name, and what is said with it."""
 
     def __init__(self, number, name, **more):
         super().__init__(number, name)
@@ -86,19 +86,19 @@ class Minutes:
         return zip(self.begins[first:last], self.ends[first:last])
 
     def most(self, length, begin, end):
-        """The most of them in so many minutes in a row that meet those from begin up to end."""
+        """The most of them in this many minutes in a row that meet those from begin up to end."""
         low, high = begin - length + 1, end - 1
         edges = [it for pair in self.near(low, high + length) for it in pair]
         starts = {low, high, *(at for edge in edges for at in (edge, edge - length) if low <= at <= high)}
         return max(self.between(at, at + length) for at in starts)
 
     def most_in_days(self, days, begin, end):
-        """The most of them in so many days in a row that meet those from begin up to end."""
+        """The most of them in this many days in a row that meet those from begin up to end."""
         first, last = begin // DAY - days + 1, (end - 1) // DAY
         return max(self.between(DAY * at, DAY * (at + days)) for at in range(first, last + 1))
 
     def is_free(self, begin, end, length):
-        """Whether so many minutes in a row, from begin up to end, are none of them."""
+        """Whether this many minutes in a row, from begin up to end, are none of them."""
         for first, last in self.near(begin, end):
             if first - begin >= length:
                 return True
@@ -158,7 +158,7 @@ def judge(others, new):
     new_flights, new_periods = ([it for it in spans(new) if it[0] < it[1]] for spans in (flight_spans, period_spans))
 
     def touched(look_back):
-        """The reports before which new duties are within so many minutes."""
+        """The reports before which new duties are within this many minutes."""
         added = Minutes(duty_spans(new))
         yield from (it.report for it in new if it.segments)
         yield from (it.report for it in others if it.segments and added.between(it.report - look_back, it.report))
@@ -402,10 +402,10 @@ def main(file):
     started = time.perf_counter()
     book = Book(file)
     if not lines:
-        return told(started, 1)
+        return reported(started, 1)
     started = time.perf_counter()
     answers = [book.answer(line) for line in lines]
-    told(started, len(lines))
+    reported(started, len(lines))
     print("\n".join(answers))
 
 

@@ -13,7 +13,7 @@ cd "$room"
 port=${1:-8117}
 held=120
 
-# filled COUNT: the SQL of the long book with so many pairings; the days of a century are used again after 36,000.
+# filled COUNT: the SQL of the long book with this many pairings; the days of a century are used again after 36,000.
 filled() {
     sed -e "s/n < 49999/n < $((5 * $1 - 1))/" -e "s/n < 10000/n < $1/" -e "s/n < 200/n < $(($1 / 50))/" \
         -e 's/n \* 1440/n % 36000 * 1440/g' "$top/bench/long_book.sql"
@@ -47,8 +47,8 @@ listen() {
     until grep -q . listening; do sleep 0.1; done
 }
 
-# told WHAT MILLISECONDS LESS
-told() {
+# reported WHAT MILLISECONDS LESS
+reported() {
     awk -v what="$1" -v all="$2" -v less="$3" 'BEGIN { printf "%-60s %8.3f ms\n", what, all - less }'
 }
 
@@ -62,9 +62,9 @@ for count in 10000 100000; do
     listen book.db
     asked $held 200 /requests '{"number":91000%d,"do":"assign","pairing":"C%d","crew":"C1"}' >/dev/null
     http=$(asked 2000 404 /nothing)
-    told "$count pairings: an assignment, $held pairings held" "$(asked 300 409 /requests '{"number":92000%d,"do":"assign","pairing":"O1","crew":"C1"}')" "$http"
-    told "$count pairings: an assignment of a seat that is held" "$(asked 2000 409 /requests '{"number":94000%d,"do":"assign","pairing":"C1","crew":"C1"}')" "$http"
-    told "$count pairings: a release" "$(asked 2000 409 /requests "{\"number\":93000%d,\"do\":\"release\",\"pairing\":\"C$((held + 1))\",\"crew\":\"C1\"}")" "$http"
+    reported "$count pairings: an assignment, $held pairings held" "$(asked 300 409 /requests '{"number":92000%d,"do":"assign","pairing":"O1","crew":"C1"}')" "$http"
+    reported "$count pairings: an assignment of a seat that is held" "$(asked 2000 409 /requests '{"number":94000%d,"do":"assign","pairing":"C1","crew":"C1"}')" "$http"
+    reported "$count pairings: a release" "$(asked 2000 409 /requests "{\"number\":93000%d,\"do\":\"release\",\"pairing\":\"C$((held + 1))\",\"crew\":\"C1\"}")" "$http"
     kill "$server"
     wait "$server" 2>/dev/null || true
     server=

@@ -88,7 +88,7 @@ def write(book, statements):
         raise
 
 
-def told(started, count):
+def reported(started, count):
     print(f"{(time.perf_counter() - started) * 1_000 / count:.3f}" if count else "-", file=sys.stderr)
 
 
@@ -97,7 +97,7 @@ def main(file, lines, answers):
     book = opened(file)
     book.execute("SELECT zone FROM book").fetchone()
     if not Path(lines).stat().st_size:
-        return told(started, 1)
+        return reported(started, 1)
     seats, work = dict(book.execute("SELECT id, seat FROM crew")), []
     for line, answer in zip(Path(lines).read_text().splitlines(), Path(answers).read_text().splitlines()):
         command, reply = json.loads(line), json.loads(answer)
@@ -112,7 +112,7 @@ def main(file, lines, answers):
             write(book, statements)
         else:
             book.execute(KEPT, (number,)).fetchone()
-    return told(started, len(work))
+    return reported(started, len(work))
 
 
 if __name__ == "__main__":

@@ -21,12 +21,12 @@ schedule() {
     done
 }
 
-# told WHAT MILLISECONDS [COUNT [LESS]]: how long one of so many takes, less what they take beside.
-told() {
+# reported WHAT MILLISECONDS [COUNT [LESS]]: how long one of this many takes, less what they take beside.
+reported() {
     awk -v what="$1" -v all="$2" -v count="${3:-1}" -v less="${4:-0}" 'BEGIN {
         one = (all - less) / count
         if (one > 0) printf "%-46s %9.3f ms, %7.0f a second\n", what, one, 1000 / one
-        else printf "%-46s too little to be told\n", what
+        else printf "%-46s too little to measure\n", what
     }'
 }
 
@@ -34,10 +34,10 @@ told() {
 asked() {
     local one
     one=$(python3 "$top/bench/ask.py" "$port" "${@:2}")
-    told "$1" "$one"
+    reported "$1" "$one"
 }
 
-# took RUNS COMMAND..: its milliseconds, the least of so many runs.
+# took RUNS COMMAND..: its milliseconds, the least of this many runs.
 took() {
     local runs=$1 begin now least=
     shift
@@ -58,7 +58,7 @@ listen() {
     until grep -q . listening; do sleep 0.1; done
 }
 
-# hush: stops it, after telling what memory it held at most.
+# hush: stops it, after printing what memory it held at most.
 hush() {
     sed -n 's/^VmHWM:\s*/the most memory of the server: /p' "/proc/$server/status"
     kill "$server"
@@ -66,16 +66,16 @@ hush() {
     server=
 }
 
-# alone FILE CREW COUNT: what the book takes without HTTP, with so many pairings accepted and then refused.
+# alone FILE CREW COUNT: what the book takes without HTTP, with this many pairings accepted and then refused.
 alone() {
     local opening
     schedule 0 >none.csv
     schedule "$3" >more.csv
     opening=$(input=none.csv took 3 "$top/rosterbook" import "$1" 900001)
-    told "to open the book" "$opening"
-    told "a roster, alone" "$(took 3 "$top/rosterbook" roster "$1" "$2")" 1 "$opening"
-    told "an accepted part of an import, alone" "$(input=more.csv took 1 "$top/rosterbook" import "$1" 900002)" "$3" "$opening"
-    told "a refused one, alone" "$(input=more.csv took 3 "$top/rosterbook" import "$1" 900003)" "$3" "$opening"
+    reported "to open the book" "$opening"
+    reported "a roster, alone" "$(took 3 "$top/rosterbook" roster "$1" "$2")" 1 "$opening"
+    reported "an accepted part of an import, alone" "$(input=more.csv took 1 "$top/rosterbook" import "$1" 900002)" "$3" "$opening"
+    reported "a refused one, alone" "$(input=more.csv took 3 "$top/rosterbook" import "$1" 900003)" "$3" "$opening"
 }
 
 # measured FILE CREW COUNT: all of it, on a book that has this member.

@@ -1,6 +1,6 @@
 #!/usr/bin/env bash
 # Times the program over an assignment that is judged against a year: a captain takes 120 pairings, one every third day, each of
-# one flight duty period with so many segments. The last assignment is judged by all eight limits in every window of the others.
+# one flight duty period with this many segments. The last assignment is judged by all eight limits in every window of the others.
 set -eu
 top=$(cd "$(dirname "$(readlink -f "${BASH_SOURCE[0]}")")/.." && pwd)
 "$top/rosterbook" --version >/dev/null

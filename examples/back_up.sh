@@ -9,6 +9,9 @@
 # before and started again after; whoever asks it meanwhile finds nobody there, and asks again. A copy is read whole, by `sqlite3`
 # and by `rosterbook`, before it gets its name.
 #
+# Before a new version of the program is installed, make a copy while the earlier `rosterbook` is still on the PATH: a newer one may
+# bring what it reads to a newer version, also the copy, and then the earlier one can't open it any more (42).
+#
 # To put a copy back: stop the service, move BOOK and BOOK-wal away, run "install -o rosterbook -g rosterbook -m 600 COPY BOOK" (where the
 # user of the service is rosterbook), start the service, and hand in again, in their order and under their numbers, the lines and schedules
 # that were accepted since. So keep all that you send.

@@ -292,7 +292,7 @@ def legend():
 
 
 def paper(rows, lines):
-    """An empty figure for so many members and lines below, and the axes of the month in it."""
+    """An empty figure for this many members and lines below, and the axes of the month in it."""
     width, foot = LEFT + MONTH + RIGHT, BOTTOM + FOOT * lines
     height = TOP + ROW * rows + foot
     figure = Figure(figsize=(width, height))

@@ -36,7 +36,7 @@ def stop(why, status=1):
 
 
 def needs(package, debian):
-    """Ends the script for want of a package."""
+    """Ends the script because a package is missing."""
     stop(f"it needs the package {package} (Debian: {debian})", 2)
 
 
@@ -241,7 +241,7 @@ class File(Source):
     program: str
 
     def text(self, report, *ids):
-        """What the program prints; it tells a refusal itself."""
+        """What the program prints; it reports a refusal itself."""
         try:
             ran = subprocess.run([self.program, report, "--", self.path, *ids], stdout=subprocess.PIPE)
         except OSError as fault:

@@ -12,6 +12,8 @@ import re
 import sys
 from pathlib import Path
 
+from counting import Desk
+
 TOP = Path(__file__).resolve().parent.parent
 WIDTH = 100
 TESTS = ("book_tests", "call_tests", "table_tests")
@@ -46,16 +48,14 @@ def cases():
 
 
 def main():
-    passed = failed = 0
+    if sys.argv[1:]:
+        sys.exit(__doc__)
+    desk = Desk()
     for path, lines in cases():
         too_wide = wide(path, lines(path.read_text()))
-        for told in too_wide:
-            print(told, file=sys.stderr)
-        passed += not too_wide
-        failed += bool(too_wide)
-    print(f"{passed} passed, {failed} failed")
-    return failed > 0
+        desk.expect(not too_wide, ", ".join(too_wide))
+    desk.end()
 
 
 if __name__ == "__main__":
-    sys.exit(main())
+    main()

@@ -716,10 +716,10 @@ def log_of(book):
     return held if len(held) >= WITH_A_FRAME else b""
 
 
-def shown(book, words):
+def shown(book, words, given=""):
     """What a report of the book is, and whether it left the file as it was, and in the log what that held."""
     file, log = book.file.read_bytes(), log_of(book)
-    ran = rosterbook(*words)
+    ran = rosterbook(*words, given=given)
     return ran, book.file.read_bytes() == file and log_of(book).startswith(log)
 
 
@@ -859,6 +859,12 @@ def a_log_stays_as_it_is(room):
             ROSTER C1 captain Ann Oh
             2025-06-10T11:00Z 2025-06-10T20:00Z pairing P1/1 plan fdp 8:30 flight 7:30
         """), ""))  # fmt: skip
+    given = compact({"number": 900, **order("release P1 C1")})
+    reports = ["limits C1", "limits C1 --with P1", "pairing P1", "exceedances", "members", "pairings", "pairings --open"]
+    for words in (*reports, "do --dry-run", "do --lines --dry-run"):
+        command, *rest = words.split(" ")
+        ran, is_same = shown(left, [command, left.file, *rest], given)
+        bad += [] if is_same and ran.status == 0 else [f"{words}: the log was copied, or {ran}"]
     bad += carry_out(left, "900 release P1 C1")
     return bad + differs(left, ["roster", "C1"], Ran(0, "ROSTER C1 captain Ann Oh\n", ""))
 
