@@ -216,7 +216,7 @@ helps() {
         'record 1' '90 Store' 'Exit status'
     help_of roster roster FILE CREW 'rosterbook roster roster.db C1' 'hours and minutes' 'Exit status'
     help_of pairing pairing FILE PAIRING 'rosterbook pairing roster.db B101' 'Exit status'
-    help_of limits limits FILE CREW '--with <PAIRING>' 'rosterbook limits roster.db C1 --with B102' "'exceeds' or 'within'" '12 Limits' \
+    help_of limits limits FILE CREW '--with <PAIRING>' 'rosterbook limits roster.db C1 --with B102' "'exceeds' or" "'within'" '12 Limits' \
         'Exit status'
     help_of exceedances exceedances FILE 'rosterbook exceedances roster.db' "'outside'" 'Exit status'
     help_of members members FILE 'rosterbook members roster.db' 'order of the ids' 'Exit status'

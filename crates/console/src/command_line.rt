@@ -91,14 +91,16 @@ base is HOME. Members of other names are ignored.
   flight          1 to 8 of A-Z and 0-9
   from, to        an airport: 3 or 4 of A-Z and 0-9
 
-If you send a command again under its number, you get the first answer again,
-and it is done once. 'rosterbook --help' says where refusals are explained.
+If you send an accepted command again under its number, you get its answer
+again, and it is done once. A refused one is judged anew. 'rosterbook --help'
+says where refusals are explained.
 One program at a time has a book: the others are refused with 90 Store.
 
 --dry-run prints the answer that the command would get now, and keeps nothing.
 --lines reads one command a line, and prints one reply a line, each once its
 command is kept: up to the end of the input, or to a fault. Empty lines are
-skipped.
+skipped, and a reply doesn't say its number. With both, each line is judged
+alone: lines that are accepted one by one may break a limit together.
 
 Exit status: 0 accepted, 1 refused, 2 a mistake in the command line, 3 there is
 no book in the file, or the file, memory, the input or the output fails";
@@ -148,13 +150,15 @@ Example:
 
 Prints the member's id, seat and name, and then a line for each of the eight
 limits. It says what is nearest to the limit: the section of 14 CFR Part 117,
-how much of how much in hours and minutes, the flight duty period or the first
-minute of the window where that is, and 'exceeds' or 'within'. The last two
-lines are of rest, of which there must be at least so much. Times are UTC.
+the hours and minutes that there are and those of the limit, the flight duty
+period or the first minute of the window where that is, and 'exceeds' or
+'within'. The last two lines are of rest: there must be at least this much.
+Times are UTC.
 
 With --with the pairing is judged beside the member's other duties, as if the
-member held it, and nothing is kept. The lines with 'exceeds' are the sections
-for which an assignment of it would be refused with 12 Limits.
+member held it, and nothing is kept. If the member doesn't hold it, the lines
+with 'exceeds' are the sections for which an assignment of it would be refused
+with 12 Limits.
 
 Exit status: 0 done, also where a limit is exceeded, 1 there is no such member
 or pairing, 2 a mistake in the command line, 3 there is no book in the file, or

@@ -1,4 +1,4 @@
-//! What a head asks for, before any byte of a body is read. The definition is `plan_for_head` (`specs/HeadPlan.antt`).
+//! What a head asks for, before any byte of a body is read. The definition is `plan_for_head` (`specs/Plan.antt`).
 //! What clients send: `tests/exchanges.py`. Wrong bodies: `must-fail/`.
 ghost use Rattle.std.specs.Prelude.{◌≡◌, IfOk, Some, codes, length};
 ghost use Rattle.http_message.specs.Fields.{values};
@@ -81,7 +81,7 @@ pub enum Report<'h> {
     OpenPairings,
 }
 
-/// Decides what a head asks for. Each check comes after those before it in `specs/HeadPlan.antt`.
+/// Decides what a head asks for. Each check comes after those before it in `specs/Plan.antt`.
 pub fn plan_of(alloc: Global, head: &Head) -> Result<HeadPlan<'_>, MemoryFault>
     ensures { IfOk result (λ it. spec.planned_of it ≡ spec.plan_for_head head.now) }
 {

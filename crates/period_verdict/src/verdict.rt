@@ -1,4 +1,4 @@
-//! The line of `rosterbook duty`. Its definition is `line_of` (`specs/TableVerdict.antt`).
+//! The line of `rosterbook duty`. Its definition is `line_of` (`specs/Verdict.antt`).
 //! Tables A and B by it: `tests/judgement.py`; its texts: `tests/texts.py`. Wrong bodies: `must-fail/`.
 ghost use Rattle.std.specs.Prelude.{◌≡◌, ◌≤◌, ◌⊎◌, nat_lt, length, map, string_bytes, Ok, Err, IfOk, IfErr};
 ghost use Rattle.period_verdict.specs.FlightDuty.{is_block_time_count as is_count};
