@@ -30,7 +30,7 @@ try:
     from matplotlib.patches import Patch
     from matplotlib.textpath import TextPath
 except ImportError:
-    needs("matplotlib", "python3-matplotlib")
+    matplotlib = None  # `--help` needs no package
 
 DAY = timedelta(days=1)
 
@@ -362,6 +362,8 @@ def arguments():
 
 def main():
     asked = arguments()
+    if not matplotlib:
+        needs("matplotlib", "python3-matplotlib")
     set_zone(asked.zone or "UTC0")
     source = source_of(asked)
     rosters = [source.roster(crew) for crew in asked.crew or source.members()]

@@ -19,7 +19,7 @@ from reports import Ground, Outside, Period, add_source, needs, source_of
 try:
     from icalendar import Calendar, Event, vDatetime
 except ImportError:
-    needs("icalendar", "python3-icalendar")
+    Calendar = None  # `--help` needs no package
 
 MAKER = "-//rosterbook//duty_calendar//EN"
 
@@ -98,6 +98,8 @@ def arguments():
 
 def main():
     asked = arguments()
+    if not Calendar:
+        needs("icalendar", "python3-icalendar")
     source = source_of(asked)
     roster = source.roster(asked.crew)
     ids = {duty.pairing for duty in roster.duties if isinstance(duty, Period)}

@@ -450,11 +450,14 @@ def the_program_is_found(examples, script):
 
 
 def a_missing_package_is_named(examples, script):
-    """A module of the name that can't be imported stands for none."""
+    """A module of the name that can't be imported stands for none. Help is there without the package."""
     folder, (package, debian) = examples.folder(), PACKAGES[script]
     (folder / f"{package}.py").write_text("raise ModuleNotFoundError\n")
-    ran = examples.run(script, "roster.db", "C1", PYTHONPATH=str(folder))
-    return unlike("what is told", ran, Ran(2, "", f"{script}: it needs the package {package} (Debian: {debian})\n"))
+    more = ["--output", folder / "chart.svg"] if script == CHART else []
+    ran = examples.run(script, "roster.db", "C1", *more, PYTHONPATH=str(folder))
+    bad = unlike("what is told", ran, Ran(2, "", f"{script}: it needs the package {package} (Debian: {debian})\n"))
+    ran = examples.run(script, "--help", PYTHONPATH=str(folder))
+    return bad + unlike("--help", (ran.status, ran.out.split()[:2], ran.err), (0, ["usage:", script], ""))
 
 
 def nothing_is_left_beside_a_script(examples, script):

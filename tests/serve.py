@@ -632,34 +632,43 @@ fi
 """
 
 
-def back_up(desk, book, *service, server=""):
-    """How examples/back_up.sh ends, the files that it leaves, and what it asks of systemd."""
+def back_up(desk, book, *service, server="", on_path=True):
+    """How examples/back_up.sh ends, the files that it leaves, what it asks of systemd, and what it prints on standard error."""
     folder = Path(tempfile.mkdtemp(dir=desk.room))
     commands, copies, asked = folder / "bin", folder / "copies", folder / "asked"
     commands.mkdir()
     copies.mkdir()
     asked.touch()
-    (commands / "rosterbook").symlink_to(PROGRAM)
+    path = os.environ["PATH"]
+    if on_path:
+        (commands / "rosterbook").symlink_to(PROGRAM)
+    else:
+        path = ":".join(it for it in path.split(":") if not (Path(it) / "rosterbook").exists())
     (commands / "systemctl").write_text(SYSTEMCTL.format(asked=asked, server=server))
     (commands / "systemctl").chmod(0o755)
     words = [TOP / "examples" / "back_up.sh", book.file, copies, *service]
-    done = subprocess.run(words, env={**os.environ, "PATH": f"{commands}:{os.environ['PATH']}"}, capture_output=True)
-    return done.returncode, sorted(copies.iterdir()), asked.read_text().splitlines()
+    done = subprocess.run(words, env={**os.environ, "PATH": f"{commands}:{path}"}, capture_output=True)
+    return done.returncode, sorted(copies.iterdir()), asked.read_text().splitlines(), done.stderr.decode()
 
 
 def try_back_up(desk):
-    """A copy is a whole book in one file, and none is made of a book that a server has, or that is damaged."""
+    """A copy is a whole book in one file, and none is made of a book that a server has, or that is damaged.
+
+    Without the program on the PATH the script takes the one beside its folder.
+    """
     if not shutil.which("sqlite3"):
         desk.skip("no sqlite3 is on the PATH")
         return
     book = desk.book()
     with serving(book, 2) as server:
         desk.expect("the answer", server.exchange(HIRE), response(200, ACCEPTED))
-        status, files, _ = back_up(desk, book)
-        desk.expect("while it is served", (status != 0, files), (True, []))
-        status, files, asked = back_up(desk, book, "rosterbook.service", server=server.process.pid)
+        status, files, _, errors = back_up(desk, book)
+        desk.expect("while it is served", (status != 0, files, "as SERVICE" in errors), (True, [], True))
+        status, files, asked, _ = back_up(desk, book, "rosterbook.service", server=server.process.pid)
     desk.expect("of a service", (status, asked), (0, ["stop rosterbook.service", "start rosterbook.service"]))
-    for name, made in (("of a service", files), ("of a book", back_up(desk, book)[1])):
+    beside = back_up(desk, book, on_path=False)
+    desk.expect("by the program beside the script", (beside[0], beside[3]), (0, ""))
+    for name, made in (("of a service", files), ("of a book", back_up(desk, book)[1]), ("by the program beside", beside[1])):
         desk.expect(f"the files {name}", len(made), 1)
         copy = Book(Path(tempfile.mkdtemp(dir=desk.room)))
         shutil.copyfile(made[0], copy.file)
@@ -668,7 +677,7 @@ def try_back_up(desk):
     with closing(sqlite3.connect(book.file)) as tables:
         tables.execute("DROP TABLE seat")
         tables.commit()
-    status, files, asked = back_up(desk, book, "rosterbook.service")
+    status, files, asked, _ = back_up(desk, book, "rosterbook.service")
     desk.expect("of a damaged book", (status != 0, files, asked[-1]), (True, [], "start rosterbook.service"))
 
 

@@ -598,7 +598,8 @@ def numbers_table(found):
     asserted, declared = (told_lines(item for item in found.asserted.values() if item.is_of_specs is it) for it in (True, False))
     rows = (
         ("What the claim says", f"{asserted} lines of definitions, and {declared} of types and laws of the code"),
-        ("Of which runs", f"{told_lines(found.premise.values())} lines, and {told_lines(found.beside.values())} on CONTRACTS"),
+        ("Which runs it is about", f"{told_lines(found.premise.values())} lines"),
+        ("Behind some of their words", f"{told_lines(found.beside.values())} lines on CONTRACTS, which needn't be believed: they leave out no real run"),
         ("Of the kit", f"{len(kit)} words of {len({name.home for name in kit})} modules"),
     )
     return "| What | How much |\n|---|---|\n" + "".join(f"| {first} | {second} |\n" for first, second in rows)

@@ -194,7 +194,10 @@ def life_of_two_sessions(desk, said):
         desk.expect("acknowledged", [row[4] for row in rows if row[0] == session and row[4]], sure)
         desk.expect("in doubt", [row[5] for row in rows if row[0] == session and row[5]], doubted)
         done = [before + its for before in done for its in ([sure, sure + doubted[:1]] if doubted else [sure])]
-        lists = " or ".join(f"{'that after ' * (session == '1')}{', '.join(its)}" for its in done)
+        lists = " or ".join(", ".join(its) for its in done)
+        if session == "1":
+            states = (f"{', '.join(its[:-1])} and {its[-1]}" for its in done)
+            lists = "the state after commands " + ", or the one after ".join(states)
         desk.expect("the page has what is done", lists in re.sub(r"\s+", " ", page), True)
     desk.expect("the same commands", len({tuple(dict.fromkeys(its)) for its in done}), 1)
     desk.expect("the number that is asked again", said, [int(rows[-1][1])])
