@@ -20,7 +20,7 @@ use Rattle.http_exchange.specs.declared.sending.ChannelFault.{ChannelFault}
 use Rattle.http_exchange.specs.declared.sending.ChannelFault.TheVariants.{Reader, Writer}
 use Rattle.http_exchange.specs.declared.exchanges.Served.TheVariants.{Answered, Nothing}
 use Rattle.http_exchange.specs.Exchange.{ChannelBytes, asks, interim, interim_bytes, receiving, IsSettled, Responds, IsExchangeServed, MayHaveAsked, BreaksOff, IsExchangeBrokenOff}
-use Rattle.http_exchange.specs.Receiving.{AsksFor, unasked}
+use Rattle.http_exchange.specs.Receiving.{AsksFor, IsNeverAsked}
 
 -- what was written after other bytes
 told_after : (front : List ℕ) (out mid out' : ChannelBytes) (code : ℕ) (final : Final) (is_head : Bool) → Appends out mid front → IsFinalTold [] mid out' code final is_head → IsFinalTold front out out' code final is_head
@@ -44,19 +44,19 @@ module _ {K : Type 0} (handles : K → K → HandlerRequest → Result StatusTex
   -- ---- a request that asks nothing
 
   nothing_settled : (a : Result HandlerRequest RequestFault) (front : List ℕ) (is_head : Bool) (out out' : ChannelBytes) (old : K) (code : ℕ)
-      → IsSettled unasked a front is_head out out' tt tt code → IsSettled handles a front is_head out out' old old code
+      → IsSettled IsNeverAsked a front is_head out out' tt tt code → IsSettled handles a front is_head out out' old old code
   nothing_settled (Err fault) front is_head out out' old code is = (refl, is.1)
   nothing_settled (Ok asked) front is_head out out' old code is = absurd is.1
 
   pub nothing_responds : (p : Planned) (had left out out' : ChannelBytes) (old : K) (code : ℕ)
-      → Responds unasked p had left out out' tt tt code → Responds handles p had left out out' old old code
+      → Responds IsNeverAsked p had left out out' tt tt code → Responds handles p had left out out' old old code
   nothing_responds p None left out out' old code is = tt
   nothing_responds p (Some rest) left out out' old code (inl is) =
       inl (record { left_is = is.left_is; settled = nothing_settled (asks p.step rest) (interim p.step) p.is_head out out' old code is.settled })
   nothing_responds p (Some rest) left out out' old code (inr is) = inr (record { left_is = is.left_is; unasked = refl; sent = is.sent })
 
   pub nothing_broken : (p : Planned) (had out out' : ChannelBytes) (old : K) (fault : ChannelFault)
-      → BreaksOff unasked p had out out' tt tt fault → BreaksOff handles p had out out' old old fault
+      → BreaksOff IsNeverAsked p had out out' tt tt fault → BreaksOff handles p had out out' old old fault
   nothing_broken p had out out' old Reader is = (refl, is.1)
   nothing_broken p None out out' old Writer is = tt
   nothing_broken p (Some rest) out out' old Writer is = may_stay (asks p.step rest) old

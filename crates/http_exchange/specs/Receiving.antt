@@ -11,8 +11,8 @@ use Rattle.http_exchange.specs.declared.sending.ChannelFault.{ChannelFault}
 
 -- a handler that answers nothing: what holds of a request with this handler holds of a request that
 -- asks nothing
-abbrev pub unasked : ⊤ → ⊤ → HandlerRequest → Result StatusText HandlerFault → Type 0
-unasked old new asked answer = ⊥
+abbrev pub IsNeverAsked : ⊤ → ⊤ → HandlerRequest → Result StatusText HandlerFault → Type 0
+IsNeverAsked old new asked answer = ⊥
 
 -- What the plan asks for stood after the head and was read, and the interim response was written.
 pub record IsAskedFor (p : Planned) (rest : List ℕ) (left out out' : ChannelBytes)
@@ -33,10 +33,10 @@ abbrev pub IsReceived : Planned → ChannelBytes → ChannelBytes → ChannelByt
     Received → Type 0
 IsReceived p had left out out' (Body to body) = AsksFor p had left out out' (submit to body.items)
 IsReceived p had left out out' (Report what) = AsksFor p had left out out' (show (subject what))
-IsReceived p had left out out' (Answered code) = Responds unasked p had left out out' tt tt code
+IsReceived p had left out out' (Answered code) = Responds IsNeverAsked p had left out out' tt tt code
 
 -- A request was received, or the channel failed and nothing is asked.
 abbrev pub IsReceivedOrFails : Planned → ChannelBytes → ChannelBytes → ChannelBytes → ChannelBytes →
     Result Received ChannelFault → Type 0
 IsReceivedOrFails p had left out out' (Ok it) = IsReceived p had left out out' it
-IsReceivedOrFails p had left out out' (Err fault) = BreaksOff unasked p had out out' tt tt fault
+IsReceivedOrFails p had left out out' (Err fault) = BreaksOff IsNeverAsked p had out out' tt tt fault
