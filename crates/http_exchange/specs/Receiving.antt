@@ -33,10 +33,12 @@ abbrev pub IsReceived : Planned → ChannelBytes → ChannelBytes → ChannelByt
     Received → Type 0
 IsReceived p had left out out' (Body to body) = AsksFor p had left out out' (submit to body.items)
 IsReceived p had left out out' (Report what) = AsksFor p had left out out' (show (subject what))
-IsReceived p had left out out' (Answered code) = Responds IsNeverAsked p had left out out' tt tt code
+IsReceived p had left out out' (Answered code) =
+    Responds IsNeverAsked p had left out out' tt tt code
 
 -- A request was received, or the channel failed and nothing is asked.
 abbrev pub IsReceivedOrFails : Planned → ChannelBytes → ChannelBytes → ChannelBytes → ChannelBytes →
     Result Received ChannelFault → Type 0
 IsReceivedOrFails p had left out out' (Ok it) = IsReceived p had left out out' it
-IsReceivedOrFails p had left out out' (Err fault) = BreaksOff IsNeverAsked p had out out' tt tt fault
+IsReceivedOrFails p had left out out' (Err fault) =
+    BreaksOff IsNeverAsked p had out out' tt tt fault
