@@ -9,9 +9,9 @@ which they keep the promise. In each of its rows
 - what stands in code under *Where* is a function, a type or a trait: of a crate of the heading if the name is there, or of any other;
 - what stands in code under *Clause* is a label of a clause of one of these, a field of a record that one of these clauses names, what a
   trait or a type has to show (`ghost`), or a definition or a type;
-- of `its one clause` each function that is named has one.
+- of *one* each function that is named has one clause.
 
-A cell without code, such as *each*, stands for every function of the heading's crates. In lists and text, what stands in code and is
+A cell without code, such as *each*, stands for every function of the heading's crates. Wherever it stands, what is in code and
 written as a path of the repository, as a call (`Book::ask`) or as a definition (`IsOver`) has to be there too. What isn't there is told
 on standard error. The last line is 'N passed, M failed', and the exit status 1 where M isn't 0.
 """
@@ -27,7 +27,7 @@ from sources import TOP, constructors, files, items, named_by, source, specs
 PAGE = TOP / "docs/PROMISES.md"
 COLUMNS = (["Promise", "Where", "Clause"], ["Claim", "Where", "Clause"])
 KIT = {"Display", "Ord", "PartialEq", "Eq", "LawfulEq", "Drop", "Clone", "Copy", "Write", "Read"}  # traits that types of the book have
-ONE = "its one clause"
+ONE = "one"  # its one clause
 NAME = re.compile(r"\w+(?:::\w+)*")
 
 # ---- What the sources have.
@@ -251,8 +251,8 @@ def try_headings(desk, text):
 
 
 def try_text(desk, text):
-    """The paths and calls that stand in code outside the tables of promises."""
-    for told in sorted({it for line in text.split("\n") if not line.startswith("|") for it in marked(line)}):
+    """The paths, calls and definitions that stand in code."""
+    for told in sorted({it for line in text.split("\n") for it in marked(line)}):
         if re.fullmatch(r"(tests|docs|crates|examples|bench)/[\w./-]+", told):
             desk.expect((TOP / told).exists(), f"{told} isn't there")
         elif re.fullmatch(r"[A-Z]\w+::[a-z]\w+", told):
