@@ -1,5 +1,5 @@
 //! Reports: a text by what a book shows. The definition is `IsReportAsked` (`specs/Reports.antt`).
-//! Worked texts: `tests/reports.py`. Wrong bodies: `must-fail/`.
+//! Worked texts: `tests/reports.py`. Wrong bodies: `must-fail-more/`.
 ghost use Rattle.std.specs.Prelude.{◌≡◌, IfOk};
 ghost use Rattle.std.specs.Option.{option_copied};
 ghost use Rattle.book.specs.Calls.{IsAfterCalls};

@@ -1,5 +1,5 @@
 //! Schedules: their pairings are added in turn. The definition is `IsScheduleAsked` (`specs/Schedules.antt`).
-//! Transcript: `tests/transcripts/import.txt`; of the server: `tests/exchanges.py`. Wrong bodies: `must-fail/`.
+//! Transcript: `tests/transcripts/import.txt`; of the server: `tests/exchanges.py`. Wrong bodies: `must-fail-more/`.
 ghost use Rattle.std.specs.Prelude.{◌≤◌, length};
 ghost use Rattle.roster.specs.Folds.{import};
 ghost use Rattle.roster.specs.Laws.{AreMade};

@@ -120,7 +120,7 @@ impl<S: Alter> Book<S> {
             → IfErr result (λ e. KeepsEither (state S.Store e.1) s) }
     {
         match Store::load(alloc, conn) {
-            Ok((store, _roster)) => Ok(Book::over(store)),
+            Ok(store) => Ok(Book::over(store)),
             Err(refused) => Err(refused),
         }
     }

@@ -1,18 +1,21 @@
 //! The part of a book's state that a command needs, as the store reads it by key: what it holds, and that the machine answers by it
-//! as by the whole roster.
+//! as by the whole roster, which the machine alone made.
+
+ghost use Rattle.roster.specs.Steps.{IsUnderFreeKey};
 
 use crate::fault::Untold;
-use crate::opening::{create, opened};
+use crate::opening::{EASTERN, create, opened};
 use crate::requests::{AT_DENVER, AT_NO_BASE, DENVER, key, plan};
 use book::{Answer, Book};
 use command::{Command, Key};
 use duty::Id;
-use roster::Roster;
+use roster::{Roster, Verdict};
 use sqlite::{Alter, Connection};
 use std::alloc::Global;
 use std::test::Fail;
 use store::{Store, StoreFault};
 use stored_json::read_canonical;
+use time117::Zone;
 use values::{OrdMap, TryClone};
 
 /// The pairings of the book: C1 holds P7, P8, P13A and P13B, F1 holds P13A, and C2 holds P91. P92 is free, and D1 holds none.
@@ -76,6 +79,43 @@ fn fill<S: Alter>(alloc: Global, book: &mut Book<S>) -> Result<(), Untold> {
     for text in FILLED {
         number = number.saturating_add(1);
         ask(alloc, book, number, text)?;
+    }
+    Ok(())
+}
+
+/// Makes what a roster accepts.
+fn make(alloc: Global, roster: &mut Roster, verdict: &Verdict) -> Result<(), Untold>
+    requires { IsUnderFreeKey roster.old verdict.now }
+{
+    match verdict {
+        Verdict::Accept(change, _reply) => Ok(roster.apply(alloc, change)?),
+        Verdict::Repeat(_) | Verdict::Refuse(_) => Err(Untold::Unmade),
+    }
+}
+
+/// Asks a roster a command by the machine alone, and makes what it accepts.
+fn play(alloc: Global, roster: &mut Roster, key: Key, command: &Command) -> Result<(), Untold> {
+    let verdict = roster.step(alloc, key, command)?;
+    make(alloc, roster, &verdict)
+}
+
+/// Asks a roster the command of a text.
+fn play_text(alloc: Global, roster: &mut Roster, number: u8, text: &str) -> Result<(), Untold> {
+    let command = read_canonical(alloc, text)?;
+    play(alloc, roster, key(number), &command)
+}
+
+/// Fills a roster as the book is filled.
+fn fill_roster(alloc: Global, roster: &mut Roster) -> Result<(), Untold> {
+    let mut number = 0u8;
+    for (id, times) in PLANS {
+        number = number.saturating_add(1);
+        let text = plan(alloc, id, times)?;
+        play_text(alloc, roster, number, text.as_str())?;
+    }
+    for text in FILLED {
+        number = number.saturating_add(1);
+        play_text(alloc, roster, number, text)?;
     }
     Ok(())
 }
@@ -210,12 +250,16 @@ fn parts<S: Alter>(alloc: Global, store: &mut Store<S>, roster: &Roster) -> Resu
     Ok(text)
 }
 
-/// What is reported of the parts that a store reads of a book, beside a copy of the roster that it loads.
-fn told_over<S: Alter + Drop>(alloc: Global, conn: Connection<S>) -> Result<String, Untold> {
+/// What is reported of the parts that a store reads of a book, beside a copy of its roster.
+fn told_over<S: Alter + Drop>(
+    alloc: Global,
+    conn: Connection<S>,
+    roster: &Roster,
+) -> Result<String, Untold> {
     if !conn.is_autocommit() {
         return Err(Untold::Unread);
     }
-    let Ok((mut store, roster)) = Store::load(alloc, conn) else {
+    let Ok(mut store) = Store::load(alloc, conn) else {
         return Err(Untold::Unread);
     };
     let whole = roster.try_clone(alloc)?;
@@ -224,9 +268,14 @@ fn told_over<S: Alter + Drop>(alloc: Global, conn: Connection<S>) -> Result<Stri
 
 /// What is reported over memory.
 fn told_of_parts(alloc: Global) -> Result<String, Untold> {
+    let Ok(zone) = Zone::read(alloc, EASTERN) else {
+        return Err(Untold::Unmade);
+    };
+    let mut roster = Roster::empty(alloc, zone)?;
+    fill_roster(alloc, &mut roster)?;
     let mut book = opened(create(alloc, Connection::open_in_memory(alloc)?))?;
     fill(alloc, &mut book)?;
-    told_over(alloc, book.into_connection())
+    told_over(alloc, book.into_connection(), &roster)
 }
 
 /// The pairings, the members, the ground duties and the outside periods of each part, and its exceedances and requests.

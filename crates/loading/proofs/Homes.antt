@@ -105,11 +105,3 @@ duties_without_later s t (Err fault) at one two = tt
 
 pub exceedances_without_later : (s t : State) → HasNoLater s → t ≡ record s { exceedances = t.exceedances } → HasNoLater t
 exceedances_without_later s t at one = subst HasNoLater (sym one) at
-
-pub requests_without_later : (s t : State) → HasNoLater s → t ≡ record s { requests = t.requests } → HasNoLater t
-requests_without_later s t at one = subst HasNoLater (sym one) at
-
-pub records_without_later : (s t : State) (result : Result State LoadFault) → HasNoLater s → t ≡ record s { exceedances = t.exceedances } → IfOk result (λ u. u ≡ record t { requests = u.requests }) →
-    IfOk result HasNoLater
-records_without_later s t (Ok u) at one two = requests_without_later t u (exceedances_without_later s t at one) two
-records_without_later s t (Err fault) at one two = tt

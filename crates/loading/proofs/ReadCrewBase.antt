@@ -43,7 +43,7 @@ has_value (Some v) e = (v, refl)
 
 module _ (s : State) (it : CrewBaseRecord) where
   abbrev Tells : Option (List ℕ × Member) → Type 0
-  Tells = TellsOf (λ who m x. (x.0 ≡ who) × (x.1 ≡ m)) row_of_posted (IsPosted s) (crew_base_row it)
+  Tells = TellsOf (λ who m x. (x.0 ≡ who) × (x.1 ≡ m)) row_of_posted (IsPosted s.bases s.crew) (crew_base_row it)
 
   pub no_base : fin.contains_key s.bases it.base ≡ false → Tells None
   no_base none who m e is =
@@ -72,35 +72,35 @@ module _ (s : State) (it : CrewBaseRecord) where
 
 -- ---- Records in turn
 
-pub none_read : (s : State) (records : List CrewBaseRecord) → PostsRead s records 0 fin.empty
-none_read s records = record { mapped = λ once. nothing_mapped (λ who. who) (λ i j e. e) row_of_posted (IsPosted s) }
+pub none_read : (s : State) (records : List CrewBaseRecord) → PostsRead s.bases s.crew records 0 fin.empty
+none_read s records = record { mapped = λ once. nothing_mapped (λ who. who) (λ i j e. e) row_of_posted (IsPosted s.bases s.crew) }
 
 module _ (s : State) (records : List CrewBaseRecord) (at : ℕ) (it : CrewBaseRecord) (there : slice_get records at ≡ Some it) where
-  pub stranger : Tells s it None → HasStranger row_of_posted (IsPosted s) (map crew_base_row records)
+  pub stranger : Tells s it None → HasStranger row_of_posted (IsPosted s.bases s.crew) (map crew_base_row records)
   stranger none = record { row = crew_base_row it; here = mapped_at crew_base_row records at it there; strange = none }
 
-  pub one_read : (a b : Members) (x : List ℕ × Member) → Tells s it (Some x) → PostsRead s records at a → b ≡ fin.insert a x.0 x.1 → PostsRead s records (at + 1) b
+  pub one_read : (a b : Members) (x : List ℕ × Member) → Tells s it (Some x) → PostsRead s.bases s.crew records at a → b ≡ fin.insert a x.0 x.1 → PostsRead s.bases s.crew records (at + 1) b
   one_read a b x told read made =
       let who = told.0 in
       let m = told.1 in
       let is : b ≡ fin.insert a who m = made ∙ (λ i. fin.insert a (told.2.0 i) (told.2.1 i)) in
       record {
-        mapped = λ once. subst (Mapped (λ w. w) row_of_posted (IsPosted s) (take (at + 1) (map crew_base_row records))) (sym is)
-            (next_mapped (λ w. w) (λ i j e. e) row_of_posted (IsPosted s) a who m (map crew_base_row records) at
+        mapped = λ once. subst (Mapped (λ w. w) row_of_posted (IsPosted s.bases s.crew) (take (at + 1) (map crew_base_row records))) (sym is)
+            (next_mapped (λ w. w) (λ i j e. e) row_of_posted (IsPosted s.bases s.crew) a who m (map crew_base_row records) at
             (mapped_place crew_base_row records at it there ∙ ap Some told.3) (read.mapped once) told.4 once);
       }
 
-pub post_stranger : (records : List CrewBaseRecord) (s : State) (fault : LoadFault) → Blames table_name.CrewBase (HasStranger row_of_posted (IsPosted s) (map crew_base_row records)) fault →
+pub post_stranger : (records : List CrewBaseRecord) (s : State) (fault : LoadFault) → Blames table_name.CrewBase (HasStranger row_of_posted (IsPosted s.bases s.crew) (map crew_base_row records)) fault →
     Blames table_name.CrewBase (AreUnposted records s) fault
 post_stranger records s NotABook blame = blame
 post_stranger records s Version blame = blame
 post_stranger records s (Damaged other) blame = (blame.0, inl blame.1)
 post_stranger records s (Fault fault) blame = blame
 
-pub not_all_posted : (records : List CrewBaseRecord) (s : State) (posted : Members) → PostsRead s records (length records) posted → (AreAllPosted s.crew posted → ⊥) → AreUnposted records s
+pub not_all_posted : (records : List CrewBaseRecord) (s : State) (posted : Members) → PostsRead s.bases s.crew records (length records) posted → (AreAllPosted s.crew posted → ⊥) → AreUnposted records s
 not_all_posted records s posted read none = inr (posted, read, none)
 
-pub all_posted : (records : List CrewBaseRecord) (s t : State) (posted : Members) → PostsRead s records (length records) posted → AreAllPosted s.crew posted → t ≡ record s { crew = posted } →
+pub all_posted : (records : List CrewBaseRecord) (s t : State) (posted : Members) → PostsRead s.bases s.crew records (length records) posted → AreAllPosted s.crew posted → t ≡ record s { crew = posted } →
     ArePosted records s t
 all_posted records s t posted read all is =
     subst (ArePosted records s) (sym is) (record { same = refl; read = read; all = all })
@@ -127,17 +127,17 @@ module _ (s : State) (db : Database) (up : AgreesIn Second base s db) (records :
       once_by_one crew_base_table db (1 ∷ []) [] refl read.there.0 read.database read.stored (row_of_posted who v) (row_of_posted who w)
       ((read.all (row_of_posted who v)).1 first) ((read.all (row_of_posted who w)).1 second) (Text who) refl (λ r. refl) refl (itself who v) (itself who w)
 
-  whole : (posted : Members) → PostsRead s records (length records) posted → Mapped (λ who. who) row_of_posted (IsPosted s) (map crew_base_row records) posted
-  whole posted all = subst (λ l. Mapped (λ who. who) row_of_posted (IsPosted s) l posted) (all_taken crew_base_row records) (all.mapped posts_once)
+  whole : (posted : Members) → PostsRead s.bases s.crew records (length records) posted → Mapped (λ who. who) row_of_posted (IsPosted s.bases s.crew) (map crew_base_row records) posted
+  whole posted all = subst (λ l. Mapped (λ who. who) row_of_posted (IsPosted s.bases s.crew) l posted) (all_taken crew_base_row records) (all.mapped posts_once)
 
   -- a member who is posted was one before
-  posted_back : (posted : Members) → PostsRead s records (length records) posted → HasAlike posted s.crew
+  posted_back : (posted : Members) → PostsRead s.bases s.crew records (length records) posted → HasAlike posted s.crew
   posted_back posted all who m there =
       let known = (whole posted all).known who m there in
       let is = known.2 in
       record { other = is.before; there = ap (fin.get s.crew) known.1 ∙ is.there; seat = sym is.seat; name = sym is.name }
 
-  posted_to : (posted : Members) → PostsRead s records (length records) posted → AreAllPosted s.crew posted → HasAlike s.crew posted
+  posted_to : (posted : Members) → PostsRead s.bases s.crew records (length records) posted → AreAllPosted s.crew posted → HasAlike s.crew posted
   posted_to posted all each who m there =
       let here = has_value (fin.get posted who) (each who (is_there (fin.get s.crew who) m there)) in
       let back = posted_back posted all who here.0 here.1 in

@@ -1,9 +1,10 @@
 -- The table `request`: what its records tell, and when it is right.
-use Rattle.std.proofs.Common.{◌≡◌, inl, inr, refl, sym, ap, subst, ◌∙◌, ℕ, pos, true, List, [], ◌∷◌, ◌++◌, append_assoc, ◌↔◌, Bool, map, take, slice_get, ◌+◌, length, Option, Some, None, Result, Ok, Err, MatchResult, IsTrue, IsUtf8}
+use Rattle.std.proofs.Common.{◌≡◌, inl, inr, refl, sym, ap, subst, ◌∙◌, ℕ, pos, true, List, [], ◌∷◌, ◌++◌, append_assoc, ◌↔◌, Bool, map, slice_get, ◌+◌, length, Option, Some, None, Result, Ok, Err, MatchResult, cond, IsTrue, IsUtf8}
 use Rattle.std.specs.FinMap as fin
 use Rattle.std.specs.List.{list_all}
 use Rattle.std.specs.Prelude.{is_some}
 use Rattle.std.specs.Ordering.{eq_by_cmp}
+use Rattle.std.specs.Cmp.Lexicographic.{nat_list_cmp_total}
 use Rattle.std.specs.Str.{bytes_eq}
 use Rattle.std.proofs.lemmas.Slice.Eq.{bytes_eq-Decides}
 use Rattle.std.proofs.lemmas.Bool.{and_parts, and_from, cases_Bool}
@@ -28,17 +29,13 @@ use Rattle.stored_json.specs.CommandJson.{read_kept}
 use Rattle.stored_json.specs.KeptText.{kept_text}
 use Rattle.stored_json.specs.Laws.{IsCommand}
 use Rattle.stored_json.specs.ReplyText.{reply_text}
-use Rattle.roster.specs.Entries.{put}
 use Rattle.roster.specs.State.{State}
-use Rattle.roster.specs.declared.put.Entry.{Entry}
-use Rattle.roster.specs.declared.put.Entry.TheVariants as entry
 use Rattle.roster.specs.declared.state.LoggedCommand.{LoggedCommand}
 use Rattle.tables.proofs.KeyLemmas.{request_once}
 use Rattle.tables.specs.Calls.{CrashLeavesNoMore}
 use Rattle.tables.specs.Records.{IsRequestRow, request_row}
 use Rattle.tables.specs.Rows.{begins_with}
 use Rattle.tables.specs.declared.request.RequestRecord.{RequestRecord}
-use Rattle.loading.proofs.Homes.{requests_without_later}
 use Rattle.entries.proofs.Editions.{one_edition}
 use Rattle.entries.proofs.Mapping.{all_taken, nothing_mapped, next_mapped, mapped_at, mapped_place}
 use Rattle.state_rows.proofs.Tests.{passes}
@@ -47,13 +44,14 @@ use Rattle.loading.proofs.Telling.{unread, of_blame, or_fails, uncaused}
 use Rattle.state_rows.proofs.Outcomes.{clean_before}
 use Rattle.loading.specs.Loading.{IsCaused, IsDamaged, Justifies}
 use Rattle.entries.specs.Right.{IsKey, IsRequest, name_of, IsRight, AreRight, AreHeld, IsOfEdition}
-use Rattle.loading.specs.Reading.{AreWanting, CanKeep, HasNoLater, IsRequestIn, RequestsRead, ReadsAs, BlamesOrFails, HasRows, IsUnreadable, AgreesThrough}
+use Rattle.loading.specs.Reading.{AreKeysOf, AreWanting, CanKeep, HasNoLater, HaveKeys, HoldsAll, IsRequestIn, Keys, KeysRead, RequestsRead, ReadsAs, BlamesOrFails, HasRows, IsUnreadable, AgreesThrough}
 use Rattle.entries.specs.Faults.{Blames}
 use Rattle.entries.specs.Mapping.{Mapped, AreOnce, TellsOf, HasStranger}
 use Rattle.entries.specs.declared.fault.LoadFault.{LoadFault}
 use Rattle.entries.specs.declared.fault.LoadFault.TheVariants.{NotABook, Damaged, Version, Fault}
 use Rattle.entries.specs.declared.fault.TableName.TheVariants as table_name
-use Rattle.state_rows.specs.First.{AreOfPairings, IsOfFirst}
+use Rattle.state_rows.specs.First.{IsOfFirst}
+use Rattle.state_rows.specs.Requests.{Requests, with_requests}
 use Rattle.state_rows.specs.declared.edition.Edition.{Edition}
 use Rattle.state_rows.specs.declared.edition.Edition.TheVariants.{First, Second}
 use Rattle.state_rows.specs.Rows.{RequestAt, ExceedanceAt, row_of_request, row_of_exceedance, request, exceedance}
@@ -80,8 +78,8 @@ is_at_home base = (λ yes. (bytes_eq-Decides base home).0 yes, λ same. (bytes_e
 -- ---- One record
 
 module _ (edition : Edition) (it : RequestRecord) where
-  abbrev Tells : Option Entry → Type 0
-  Tells = TellsOf (λ key kept e. e ≡ entry.LoggedCommand key kept) row_of_request (IsRequestIn edition) (request_row it)
+  abbrev Tells : Option KeyParts → Type 0
+  Tells = TellsOf (λ key kept found. found ≡ key) row_of_request (IsRequestIn edition) (request_row it)
 
   pub no_key : ((key : KeyParts) → IsKey key → it.number ≡ pos key.number → it.part ≡ key.part → ⊥) → Tells None
   no_key none key r e is = none key is.is.is_key (int_is (ap (λ (row : Row). column row 0) e)) (number_is (ap (λ (row : Row). column row 1) e))
@@ -94,7 +92,7 @@ module _ (edition : Edition) (it : RequestRecord) where
 
   pub tells : (key : KeyParts) (command : Instruction) (reply : Reply) → IsKey key × (it.number ≡ pos key.number) × (it.part ≡ key.part) →
       IsCommand command × CanKeep edition command × (kept_text command ≡ it.command) × IsUtf8 it.command → (reply_text reply ≡ it.reply) × IsUtf8 it.reply →
-      Tells (Some (entry.LoggedCommand key (record { command = command; reply = reply })))
+      Tells (Some key)
   tells key command reply is_key is_command is_reply = (
     key,
     record { command = command; reply = reply },
@@ -112,28 +110,46 @@ module _ (edition : Edition) (it : RequestRecord) where
 
 -- ---- Records in turn
 
-pub none_read : (edition : Edition) (records : List RequestRecord) (s : State) → s.requests ≡ fin.empty → RequestsRead edition records 0 s s
-none_read edition records s none = record {
-  same = refl;
-  mapped = λ once. subst (Mapped key_name row_of_request (IsRequestIn edition) (take 0 (map request_row records))) (sym none) (nothing_mapped key_name keys_same row_of_request (IsRequestIn edition));
-}
+pub none_read : (edition : Edition) (records : List RequestRecord) (keys : Keys) → keys ≡ fin.empty → KeysRead edition records 0 keys
+none_read edition records keys none = (
+  fin.empty,
+  record { mapped = λ once. nothing_mapped key_name keys_same row_of_request (IsRequestIn edition) },
+  λ name. ap (λ (m : Keys). fin.contains_key m name) none ∙ ap is_some (fin.get-empty name_cmp name) ∙ sym (ap is_some (fin.get-empty name_cmp name)),
+)
+
+-- one key more, and its command with its reply
+one_key : (kept : Requests) (keys : Keys) (name : List ℕ) (r : LoggedCommand) → AreKeysOf kept keys → AreKeysOf (fin.insert kept name r) (fin.insert keys name tt)
+one_key kept keys name r same other =
+    let held = fin.get-insert nat_list_cmp_total kept name r other in
+    let listed = fin.get-insert nat_list_cmp_total keys name tt other in
+    elim (cases_Bool (eq_by_cmp name_cmp other name)) [
+      | inl tied ↦
+          ap is_some (listed ∙ ap (λ b. cond b (Some tt) (fin.get keys other)) tied)
+          ∙ sym (ap is_some (held ∙ ap (λ b. cond b (Some r) (fin.get kept other)) tied))
+      | inr apart ↦
+          ap is_some (listed ∙ ap (λ b. cond b (Some tt) (fin.get keys other)) apart) ∙ same other
+          ∙ sym (ap is_some (held ∙ ap (λ b. cond b (Some r) (fin.get kept other)) apart))
+    ]
 
 module _ (edition : Edition) (records : List RequestRecord) (at : ℕ) (it : RequestRecord) (there : slice_get records at ≡ Some it) where
   pub stranger : Tells edition it None → HasStranger row_of_request (IsRequestIn edition) (map request_row records)
   stranger none = record { row = request_row it; here = mapped_at request_row records at it there; strange = none }
 
-  pub one_read : (s t u : State) (e : Entry) → Tells edition it (Some e) → RequestsRead edition records at s t → u ≡ put t e → RequestsRead edition records (at + 1) s u
-  one_read s t u e told read made =
+  pub one_read : (keys more : Keys) (found : KeyParts) → Tells edition it (Some found) → KeysRead edition records at keys → more ≡ fin.insert keys (key_name found) tt →
+      KeysRead edition records (at + 1) more
+  one_read keys more found told read made =
       let key = told.0 in
       let r = told.1 in
-      let is : u ≡ record t { requests = fin.insert t.requests (key_name key) r } = made ∙ ap (put t) told.2 in
-      let requests_are : u.requests ≡ fin.insert t.requests (key_name key) r = ap (λ (x : State). x.requests) is in
-      record {
-        same = is ∙ (λ i. record (read.same i) { requests = fin.insert t.requests (key_name key) r }) ∙ (λ i. record s { requests = sym requests_are i });
-        mapped = λ once. subst (λ c. Mapped key_name row_of_request (IsRequestIn edition) (take (at + 1) (map request_row records)) c) (sym requests_are)
-            (next_mapped key_name keys_same row_of_request (IsRequestIn edition) t.requests key r (map request_row records) at
-            (mapped_place request_row records at it there ∙ ap Some told.3) (read.mapped once) told.4 once);
-      }
+      let kept = read.0 in (
+        fin.insert kept (key_name key) r,
+        record {
+          mapped = λ once.
+              next_mapped key_name keys_same row_of_request (IsRequestIn edition) kept key r (map request_row records) at
+              (mapped_place request_row records at it there ∙ ap Some told.3) (read.1.mapped once) told.4 once;
+        },
+        subst (AreKeysOf (fin.insert kept (key_name key) r)) (sym (made ∙ ap (λ (k : KeyParts). fin.insert keys (key_name k) tt) told.2))
+            (one_key kept keys (key_name key) r read.2),
+      )
 
 -- ---- The table
 
@@ -178,16 +194,16 @@ module _ (edition : Edition) (s : State) (db : Database) (above : AgreesThrough 
       ((read.all (row_of_request key m)).1 first) ((read.all (row_of_request key n)).1 second) (itself key m) (itself key n)
 
   -- all but that each key of an exceedance is held
-  pub kept_requests : (rows : List Row) (t : State) → HasRows request db rows → HasNoLater s → t ≡ record s { requests = t.requests } →
-      (AreOnce row_of_request rows → Mapped key_name row_of_request (IsRequestIn edition) rows t.requests) → AreHeld t → AgreesThrough request t db
-  kept_requests rows t read none same mapped held =
+  pub kept_requests : (rows : List Row) (kept : Requests) → HasRows request db rows → HasNoLater s →
+      (AreOnce row_of_request rows → Mapped key_name row_of_request (IsRequestIn edition) rows kept) → AreHeld (with_requests kept s) → AgreesThrough request (with_requests kept s) db
+  kept_requests rows kept read none mapped held =
       let map = mapped (requests_once rows read) in
       record {
         stored = (read.stored, above.stored);
         book = above.book;
         version = above.version;
         right = (
-          subst (λ u. IsRight exceedance u db) (sym same) above.right,
+          above.right,
           (
             read.there,
             λ row. (
@@ -196,11 +212,11 @@ module _ (edition : Edition) (s : State) (db : Database) (above : AgreesThrough 
             ),
           ),
           (λ name r e. let known = map.known name r e in (known.0, known.1, known.2.is), held),
-          λ first. let at = requests_without_later s t none same in record {
-            bases = at.0;
-            members = at.1;
-            outsides = at.2;
-            records = subst AreOfPairings (sym same) (above.right.3 first);
+          λ first. record {
+            bases = none.0;
+            members = none.1;
+            outsides = none.2;
+            records = above.right.3 first;
             commands = λ name r e. of_first db edition of first r.command (map.known name r e).2.can;
           },
         );
@@ -256,14 +272,19 @@ is_there : {V : Type 0} (o : Option V) → is_some o ≡ true → (v : V) × (o 
 is_there None e = absurd (cc)
 is_there (Some v) e = (v, refl)
 
--- each exceedance has its request where all that are listed have
-pub held_if : (s : State) (items : Listed) → named_rows name_of items ≡ fin.entries s.exceedances → (all : Bool) →
-    all ≡ list_all (λ (x : ExceedanceId × DutyId). fin.contains_key s.requests (key_name x.0.key)) items → (all ≡ true) ↔ AreHeld s
-held_if s items listed all is =
-    let both = passes_all (λ id. fin.contains_key s.requests (key_name id.key)) items s.exceedances listed in (
-      λ yes id p there. is_there (fin.get s.requests (key_name id.key)) (both.0 (sym is ∙ yes) id p there),
-      λ held. is ∙ both.1 (λ id p there. ap is_some (held id p there).1),
-    )
+-- the key of each exceedance is there where it is of all that are listed
+pub keys_if : (s : State) (keys : Keys) (items : Listed) → named_rows name_of items ≡ fin.entries s.exceedances → (all : Bool) →
+    all ≡ list_all (λ (x : ExceedanceId × DutyId). fin.contains_key keys (key_name x.0.key)) items → (all ≡ true) ↔ HaveKeys s keys
+keys_if s keys items listed all is =
+    let both = passes_all (λ id. fin.contains_key keys (key_name id.key)) items s.exceedances listed in
+    (λ yes. both.0 (sym is ∙ yes), λ each. is ∙ both.1 each)
+
+-- so each exceedance has its request among the kept commands whose keys they are
+pub held_by_keys : (s : State) (kept : Requests) (keys : Keys) → AreKeysOf kept keys → HaveKeys s keys → AreHeld (with_requests kept s)
+held_by_keys s kept keys same each id p there = is_there (fin.get kept (key_name id.key)) (sym (same (key_name id.key)) ∙ each id p there)
+
+pub keys_of_held : (s : State) (kept : Requests) (keys : Keys) → AreKeysOf kept keys → AreHeld (with_requests kept s) → HaveKeys s keys
+keys_of_held s kept keys same held id p there = same (key_name id.key) ∙ ap is_some (held id p there).1
 
 -- equal rows have equal keys
 exceedance_key : (a b : KeyParts) (x y : List ℕ) (m n : Section) (p q : DutyId) → row_of_exceedance a x m p ≡ row_of_exceedance b y n q → a ≡ b
@@ -278,35 +299,34 @@ request_key a b r q e =
     let part : a.part ≡ b.part = number_is (ap (λ (row : Row). column row 1) e) in
     λ i. record { number = number i; part = part i }
 
-module _ (s t u : State) (db : Database) (rows : List Row) (read : HasRows request db rows) (above : IsRight exceedance s db) (same : t ≡ record s { requests = t.requests })
-    (edition : Edition) (map : Mapped key_name row_of_request (IsRequestIn edition) rows t.requests) (right : IsRight request u db) where
+module _ (s u : State) (kept : Requests) (db : Database) (rows : List Row) (read : HasRows request db rows) (above : IsRight exceedance s db)
+    (edition : Edition) (map : Mapped key_name row_of_request (IsRequestIn edition) rows kept) (right : IsRight request u db) where
   -- an exceedance of this state has the key of one of the other
-  in_other : (id : ExceedanceId) (p : DutyId) → fin.get t.exceedances (name_of id) ≡ Some p →
+  in_other : (id : ExceedanceId) (p : DutyId) → fin.get s.exceedances (name_of id) ≡ Some p →
       (other : ExceedanceId) × (q : DutyId) × (fin.get u.exceedances (name_of other) ≡ Some q) × (id.key ≡ other.key)
   in_other id p there =
-      let old : fin.get s.exceedances (name_of id) ≡ Some p = ap (λ (x : State). fin.get x.exceedances (name_of id)) (sym same) ∙ there in
-      let at : ExceedanceAt s.exceedances = record { key = id.key; crew = id.crew; section = id.section; named = p; there = old } in
+      let at : ExceedanceAt s.exceedances = record { key = id.key; crew = id.crew; section = id.section; named = p; there = there } in
       let row = row_of_exceedance id.key id.crew id.section p in
       let it = (right.0.1.1 row).0 ((above.1.1 row).1 (at, refl)) in
       let other : ExceedanceId = record { key = it.0.key; crew = it.0.crew; section = it.0.section } in
       (other, it.0.named, it.0.there, exceedance_key id.key it.0.key id.crew it.0.crew id.section it.0.section p it.0.named it.1)
 
   -- a key that is held in the other is held in this one
-  from_other : (key : KeyParts) (r : LoggedCommand) → fin.get u.requests (key_name key) ≡ Some r → (q : LoggedCommand) × (fin.get t.requests (key_name key) ≡ Some q)
+  from_other : (key : KeyParts) (r : LoggedCommand) → fin.get u.requests (key_name key) ≡ Some r → (q : LoggedCommand) × (fin.get kept (key_name key) ≡ Some q)
   from_other key r there =
       let row = row_of_request key r in
-      let kept : RequestAt u.requests = record { key = key; kept = r; there = there } in
-      let told = map.has row ((read.all row).0 ((right.1.1 row).1 (kept, refl))) in
+      let at : RequestAt u.requests = record { key = key; kept = r; there = there } in
+      let told = map.has row ((read.all row).0 ((right.1.1 row).1 (at, refl))) in
       let same_key : key ≡ told.0.index = request_key key told.0.index r told.0.value told.1 in
-      (told.0.value, ap (λ (k : KeyParts). fin.get t.requests (key_name k)) same_key ∙ told.0.there)
+      (told.0.value, ap (λ (k : KeyParts). fin.get kept (key_name k)) same_key ∙ told.0.there)
 
   -- so each exceedance has its request in this one, since it has in the other
-  held_here : AreHeld t
+  held_here : AreHeld (with_requests kept s)
   held_here id p there =
       let other = in_other id p there in
       let held = right.2.1 other.0 other.1 other.2 in
       let here = from_other other.0.key held.0 held.1 in
-      (here.0, ap (λ (k : KeyParts). fin.get t.requests (key_name k)) other.3 ∙ here.1)
+      (here.0, ap (λ (k : KeyParts). fin.get kept (key_name k)) other.3 ∙ here.1)
 
 -- ---- The call
 
@@ -317,46 +337,56 @@ read_stranger edition records s Version blame = blame
 read_stranger edition records s (Damaged other) blame = (blame.0, inl blame.1)
 read_stranger edition records s (Fault fault) blame = blame
 
-pub not_all_held : (edition : Edition) (records : List RequestRecord) (s r : State) → RequestsRead edition records (length records) s r → (AreHeld r → ⊥) → AreWanting edition records s
-not_all_held edition records s r read none = inr (r, read, none)
+pub all_held : (edition : Edition) (records : List RequestRecord) (s : State) (keys : Keys) → KeysRead edition records (length records) keys → HaveKeys s keys → HoldsAll edition records s
+all_held edition records s keys read each = (read.0, read.1, held_by_keys s read.0 keys read.2 each)
+
+pub not_all_held : (edition : Edition) (records : List RequestRecord) (s : State) (keys : Keys) → KeysRead edition records (length records) keys → (HaveKeys s keys → ⊥) → AreWanting edition records s
+not_all_held edition records s keys read none = inr (read.0, read.1, λ held. none (keys_of_held s read.0 keys read.2 held))
 
 module _ (edition : Edition) (s : State) (old new : conn.State) (above : HasCleanDisk old → AgreesThrough exceedance s old.now) (of : HasCleanDisk old → IsOfEdition edition old.now) where
-  abbrev pub Now : State → Type 0
-  Now r = AgreesThrough request r old.now
+  abbrev pub Now : Requests → Unit {0} → Type 0
+  Now kept it = AgreesThrough request (with_requests kept s) old.now
 
-  pub not_read : (fault : LoadFault) → (HasCleanDisk new → BlamesOrFails table_name.Request (IsUnreadable request IsRequestRow old.now) fault) → (HasCleanDisk new → IsCaused old new fault) → CrashLeavesNoMore old new →
-      ReadsAs Now (λ f. Justifies f old.now) old new (Err fault)
-  not_read fault told caused left = unread table_name.Request _ Now old new fault (λ clean. unreadable edition s old.now (above clean) (of clean)) told caused left
+  abbrev Refuses : LoadFault → Type 0
+  Refuses f = Justifies f old.now
 
-  all_mapped : (records : List RequestRecord) (r : State) → RequestsRead edition records (length records) s r → AreOnce row_of_request (map request_row records) →
-      Mapped key_name row_of_request (IsRequestIn edition) (map request_row records) r.requests
-  all_mapped records r read once = subst (λ l. Mapped key_name row_of_request (IsRequestIn edition) l r.requests) (all_taken request_row records) (read.mapped once)
+  pub not_read : (kept : Requests) (fault : LoadFault) → (HasCleanDisk new → BlamesOrFails table_name.Request (IsUnreadable request IsRequestRow old.now) fault) → (HasCleanDisk new → IsCaused old new fault) →
+      CrashLeavesNoMore old new → ReadsAs (Now kept) Refuses old new (Err fault)
+  not_read kept fault told caused left = unread table_name.Request _ (Now kept) old new fault (λ clean. unreadable edition s old.now (above clean) (of clean)) told caused left
+
+  all_mapped : (records : List RequestRecord) (kept : Requests) → RequestsRead edition records (length records) kept → AreOnce row_of_request (map request_row records) →
+      Mapped key_name row_of_request (IsRequestIn edition) (map request_row records) kept
+  all_mapped records kept read once = subst (λ l. Mapped key_name row_of_request (IsRequestIn edition) l kept) (all_taken request_row records) (read.mapped once)
 
   -- some row is wrong, or some exceedance has no request in any state with these rows
   wanting : (records : List RequestRecord) → AgreesThrough exceedance s old.now → IsOfEdition edition old.now → HasRows request old.now (map request_row records) → AreWanting edition records s → IsDamaged request old.now
   wanting records up is read (inl stranger) = strange edition s old.now up is (map request_row records) read stranger
   wanting records up is read (inr it) = damaged edition s old.now up is (λ right.
-      it.2 (held_here s it.0 right.0 old.now (map request_row records) read up.right it.1.same
+      it.2 (held_here s right.0 it.0 old.now (map request_row records) read up.right
       edition (all_mapped records it.0 it.1 (requests_once edition s old.now up is (map request_row records) read)) right.1))
 
-  pub is_read : (records seen : List RequestRecord) (result : Result State LoadFault) → HasNoLater s → seen ≡ records →
+  pub is_checked : (records : List RequestRecord) (result : Result (Unit {0}) LoadFault) → HasNoLater s →
       (HasCleanDisk new → IsUnchanged old new × HasRows request old.now (map request_row records)) → CrashLeavesNoMore old new →
-      MatchResult result (λ r. RequestsRead edition seen (length seen) s r × AreHeld r) (Blames table_name.Request (AreWanting edition seen s)) →
-      ReadsAs Now (λ f. Justifies f old.now) old new result
-  is_read records seen (Ok r) none same saw left done = record {
-    told = λ clean.
-        let it = saw clean in
-        let read = subst (λ l. RequestsRead edition l (length l) s r) same done.0 in
-        let before = clean_before old new left clean in
-        (it.0, kept_requests edition s old.now (above before) (of before) (map request_row records) r it.1 none read.same (all_mapped records r read) done.1);
-    caused = λ clean. tt;
-    left = left;
-  }
-  is_read records seen (Err fault) none same saw left blame = record {
-    told = λ clean.
-        let why = subst (λ l. Blames table_name.Request (AreWanting edition l s) fault) same blame in
-        let before = clean_before old new left clean in
-        of_blame table_name.Request _ old.now (wanting records (above before) (of before) (saw clean).1) fault (or_fails table_name.Request _ fault why);
-    caused = λ clean. uncaused old new table_name.Request (AreWanting edition seen s) fault blame;
-    left = left;
-  }
+      MatchResult result (λ _. HoldsAll edition records s) (Blames table_name.Request (AreWanting edition records s)) →
+      (kept : Requests) × ReadsAs (Now kept) Refuses old new result
+  is_checked records (Ok it) none saw left done = (
+    done.0,
+    record {
+      told = λ clean.
+          let seen = saw clean in
+          let before = clean_before old new left clean in
+          (seen.0, kept_requests edition s old.now (above before) (of before) (map request_row records) done.0 seen.1 none (all_mapped records done.0 done.1) done.2);
+      caused = λ clean. tt;
+      left = left;
+    },
+  )
+  is_checked records (Err fault) none saw left blame = (
+    fin.empty,
+    record {
+      told = λ clean.
+          let before = clean_before old new left clean in
+          of_blame table_name.Request _ old.now (wanting records (above before) (of before) (saw clean).1) fault (or_fails table_name.Request _ fault blame);
+      caused = λ clean. uncaused old new table_name.Request (AreWanting edition records s) fault blame;
+      left = left;
+    },
+  )

@@ -15,7 +15,7 @@ use Rattle.command.specs.declared.instruction.Instruction.{Instruction}
 use Rattle.command.specs.declared.member.Member.{Member}
 use Rattle.command.specs.declared.member.Seat.{Seat}
 use Rattle.command.specs.declared.member.Seat.TheVariants.{Captain, FirstOfficer}
-use Rattle.roster.specs.Bases.{IsBase, home_zone, only_home}
+use Rattle.roster.specs.Bases.{Bases, IsBase, home_zone, only_home}
 use Rattle.roster.specs.Pairings.{holder, is_flown, is_fully_crewed}
 use Rattle.roster.specs.Sound.{Members, IsHolder}
 use Rattle.roster.specs.State as roster
@@ -40,6 +40,7 @@ use Rattle.loading.specs.Loading.{IsCaused, IsNoBook, IsOfOtherVersion}
 use Rattle.entries.specs.Right.{IsMember, IsFlown, IsGround, IsExceedance, IsRequest, AreHeld, name_of, IsRight, IsOfEdition}
 use Rattle.state_rows.specs.Editions.{edition_number}
 use Rattle.state_rows.specs.First.{IsOfFirst}
+use Rattle.state_rows.specs.Requests.{Requests, with_requests}
 use Rattle.state_rows.specs.Rows.{StateTable, book, crew, pairing, seat, base, crew_base, outside, outside_segment, table, row_of_member, row_of_seat, row_of_ground, row_of_request, row_of_base, row_of_post, named_number, InSeat}
 use Rattle.state_rows.specs.declared.edition.Edition.{Edition}
 use Rattle.state_rows.specs.declared.edition.Edition.TheVariants.{First, Second}
@@ -158,22 +159,48 @@ pub record IsRequestIn (edition : Edition) (key : KeyParts) (r : LoggedCommand) 
   pub is : IsRequest key r
   pub can : CanKeep edition r.command
 
--- the kept commands of this many first records of `request` were set in a roster; a book of this
--- version can keep each of the commands
+-- these are the kept commands of this many first records of `request`; a book of this version can
+-- keep each of the commands
 pub record RequestsRead
-    (edition : Edition) (records : List RequestRecord) (count : ℕ) (old new : roster.State)
-    : Type 0 where
-  pub same : new ≡ record old { requests = new.requests }
+    (edition : Edition) (records : List RequestRecord) (count : ℕ) (kept : Requests) : Type 0 where
   pub mapped : AreOnce row_of_request (map request_row records) →
       Mapped key_name row_of_request (IsRequestIn edition)
-      (take count (map request_row records)) new.requests
+      (take count (map request_row records)) kept
+
+-- the keys of requests, each under its name
+abbrev pub Keys : Type 0
+Keys = fin.FinMap name_cmp ⊤
+
+-- these are the keys of the kept commands, and no others
+abbrev pub AreKeysOf : Requests → Keys → Type 0
+AreKeysOf kept keys =
+    (name : List ℕ) → fin.contains_key keys name ≡ fin.contains_key kept name
+
+-- these are the keys of the kept commands of this many first records of `request`
+abbrev pub KeysRead : Edition → List RequestRecord → ℕ → Keys → Type 0
+KeysRead edition records count keys =
+    (kept : Requests) × RequestsRead edition records count kept × AreKeysOf kept keys
+
+-- the key of each exceedance of the state is one of these
+abbrev pub HaveKeys : roster.State → Keys → Type 0
+HaveKeys s keys = (id : ExceedanceId) (named : DutyId) →
+    fin.get s.exceedances (name_of id) ≡ Some named →
+    fin.contains_key keys (key_name id.key) ≡ true
+
+-- each record of `request` is that of a kept command; with these kept commands the state has the
+-- key of each of its exceedances
+abbrev pub HoldsAll : Edition → List RequestRecord → roster.State → Type 0
+HoldsAll edition records s =
+    (kept : Requests) × RequestsRead edition records (length records) kept
+    × AreHeld (with_requests kept s)
 
 -- some record of `request` is that of no request that a book of this version can keep, or some
 -- exceedance has a key that isn't held
 abbrev pub AreWanting : Edition → List RequestRecord → roster.State → Type 0
 AreWanting edition records s =
     HasStranger row_of_request (IsRequestIn edition) (map request_row records)
-    ⊎ ((r : roster.State) × RequestsRead edition records (length records) s r × (AreHeld r → ⊥))
+    ⊎ ((kept : Requests) × RequestsRead edition records (length records) kept
+    × (AreHeld (with_requests kept s) → ⊥))
 
 -- ---- The holders of seats
 
@@ -342,21 +369,22 @@ AreNoBases records s =
 abbrev pub row_of_posted : List ℕ → Member → Row
 row_of_posted who m = row_of_post who m.base
 
--- the roster has a member under this id with the seat and the name of `m`, and has the base of `m`
-pub record IsPosted (s : roster.State) (who : List ℕ) (m : Member) : Type 0 where
+-- one of the members under this id has the seat and the name of `m`, and the base of `m` is one of
+-- the bases
+pub record IsPosted (bases : Bases) (members : Members) (who : List ℕ) (m : Member) : Type 0 where
   pub before : Member
-  pub there : fin.get s.crew who ≡ Some before
+  pub there : fin.get members who ≡ Some before
   pub seat : m.seat ≡ before.seat
   pub name : m.name ≡ before.name
-  pub based : IsBase s.bases m.base
+  pub based : IsBase bases m.base
 
--- these are the members of the roster whom this many first records of `crew_base` name, each at the
--- base that the record names
+-- these are the members whom this many first records of `crew_base` name, each at the one of the
+-- bases that the record names
 pub record PostsRead
-    (s : roster.State) (records : List CrewBaseRecord) (count : ℕ) (posted : Members)
-    : Type 0 where
+    (bases : Bases) (members : Members) (records : List CrewBaseRecord) (count : ℕ)
+    (posted : Members) : Type 0 where
   pub mapped : AreOnce row_of_posted (map crew_base_row records) →
-      Mapped (λ who. who) row_of_posted (IsPosted s)
+      Mapped (λ who. who) row_of_posted (IsPosted bases members)
       (take count (map crew_base_row records)) posted
 
 -- each of the members is among the members whom records of `crew_base` name
@@ -367,13 +395,13 @@ AreAllPosted members posted = (who : List ℕ) →
 -- each member of a roster was set at the base that a record of `crew_base` names for the member
 pub record ArePosted (records : List CrewBaseRecord) (old new : roster.State) : Type 0 where
   pub same : new ≡ record old { crew = new.crew }
-  pub read : PostsRead old records (length records) new.crew
+  pub read : PostsRead old.bases old.crew records (length records) new.crew
   pub all : AreAllPosted old.crew new.crew
 
 -- some record of `crew_base` names no member or no base of the roster, or some member of the roster
 -- has no record
 abbrev pub AreUnposted : List CrewBaseRecord → roster.State → Type 0
 AreUnposted records s =
-    HasStranger row_of_posted (IsPosted s) (map crew_base_row records)
-    ⊎ ((posted : Members) × PostsRead s records (length records) posted
+    HasStranger row_of_posted (IsPosted s.bases s.crew) (map crew_base_row records)
+    ⊎ ((posted : Members) × PostsRead s.bases s.crew records (length records) posted
     × (AreAllPosted s.crew posted → ⊥))

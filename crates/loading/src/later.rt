@@ -1,5 +1,5 @@
 //! The tables that version 2 added: in a file of version 1 their names are free, in one of version 2 they are read.
-//! Files with such a damage: `tests/tables.py`. Wrong bodies: `must-fail/`.
+//! Files with such a damage: `tests/tables.py`. Wrong bodies: `must-fail-more/`.
 
 ghost use Rattle.std.specs.Prelude.{IsTrue, MatchResult};
 ghost use Rattle.sqlite.specs.Held.{state};
@@ -7,6 +7,7 @@ ghost use Rattle.sqlite.specs.State.{HasCleanDisk};
 ghost use Rattle.tables.specs.Schema.{AreFree, later_tables};
 ghost use Rattle.loading.specs.Loading.{Justifies};
 ghost use Rattle.loading.specs.Reading.{AgreesIn, BlamesName, HasNoLater, ReadsAs};
+ghost use Rattle.state_rows.specs.Requests.{Requests, with_requests};
 ghost use Rattle.state_rows.specs.Rows.{request, outside_segment};
 ghost use Rattle.state_rows.specs.declared.edition.Edition.TheVariants.{Second};
 
@@ -49,9 +50,10 @@ fn read_later_tables<S: Alter>(
     roster: Roster,
 ) -> Result<Roster, LoadFault>
     requires first { HasNoLater roster }
-    requires above { HasCleanDisk (state S.Store conn.old)
-        → AgreesIn Second request roster (state S.Store conn.old).now }
-    ensures { ReadsAs (λ r. AgreesIn Second outside_segment r (state S.Store conn.old).now)
+    requires above { (kept : Requests) × (HasCleanDisk (state S.Store conn.old)
+        → AgreesIn Second request (with_requests kept roster) (state S.Store conn.old).now) }
+    ensures { (kept : Requests) × ReadsAs (λ r. AgreesIn Second outside_segment
+        (with_requests kept r) (state S.Store conn.old).now)
         (λ fault. Justifies fault (state S.Store conn.old).now) (state S.Store conn.old)
         (state S.Store conn.new) result }
 {
@@ -71,9 +73,10 @@ pub(crate) fn read_later<S: Alter>(
     requires opened { HasCleanDisk (state S.Store conn.old)
         → IsTrue (state S.Store conn.old).is_open }
     requires first { HasNoLater roster }
-    requires above { HasCleanDisk (state S.Store conn.old)
-        → AgreesIn edition request roster (state S.Store conn.old).now }
-    ensures { ReadsAs (λ r. AgreesIn edition outside_segment r (state S.Store conn.old).now)
+    requires above { (kept : Requests) × (HasCleanDisk (state S.Store conn.old)
+        → AgreesIn edition request (with_requests kept roster) (state S.Store conn.old).now) }
+    ensures { (kept : Requests) × ReadsAs (λ r. AgreesIn edition outside_segment
+        (with_requests kept r) (state S.Store conn.old).now)
         (λ fault. Justifies fault (state S.Store conn.old).now) (state S.Store conn.old)
         (state S.Store conn.new) result }
 {

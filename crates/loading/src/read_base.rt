@@ -12,6 +12,7 @@ ghost use Rattle.loading.specs.Loading.{Justifies};
 ghost use Rattle.loading.specs.Reading.{AgreesIn, AreBasesRead, AreNoBases, BasesRead, BlamesOrFails, HasHome, HasRows, IsShaped, IsUnreadable, ReadsAs};
 ghost use Rattle.entries.specs.Faults.{Blames};
 ghost use Rattle.entries.specs.Mapping.{HasStranger, TellsOf};
+ghost use Rattle.state_rows.specs.Requests.{Requests, with_requests};
 ghost use Rattle.state_rows.specs.Rows.{row_of_base, base, request};
 ghost use Rattle.state_rows.specs.declared.edition.Edition.TheVariants.{Second};
 ghost use Rattle.entries.specs.declared.fault.TableName.TheVariants as table_name;
@@ -122,9 +123,10 @@ pub(crate) fn read_base<S: Alter>(
     roster: Roster,
 ) -> Result<Roster, LoadFault>
     requires home { roster.bases ≡ only_home (home_zone roster.bases) }
-    requires above { HasCleanDisk (state S.Store conn.old)
-        → AgreesIn Second request roster (state S.Store conn.old).now }
-    ensures { ReadsAs (λ r. AgreesIn Second base r (state S.Store conn.old).now)
+    requires above { (kept : Requests) × (HasCleanDisk (state S.Store conn.old)
+        → AgreesIn Second request (with_requests kept roster) (state S.Store conn.old).now) }
+    ensures { (kept : Requests) × ReadsAs
+        (λ r. AgreesIn Second base (with_requests kept r) (state S.Store conn.old).now)
         (λ fault. Justifies fault (state S.Store conn.old).now) (state S.Store conn.old)
         (state S.Store conn.new) result }
 {

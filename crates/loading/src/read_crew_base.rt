@@ -10,6 +10,7 @@ ghost use Rattle.loading.specs.Loading.{Justifies};
 ghost use Rattle.loading.specs.Reading.{AgreesIn, AreAllPosted, ArePosted, AreUnposted, BlamesOrFails, HasRows, IsPosted, IsUnreadable, PostsRead, ReadsAs, row_of_posted};
 ghost use Rattle.entries.specs.Faults.{Blames};
 ghost use Rattle.entries.specs.Mapping.{HasStranger, TellsOf};
+ghost use Rattle.state_rows.specs.Requests.{Requests, with_requests};
 ghost use Rattle.state_rows.specs.Rows.{base, crew_base};
 ghost use Rattle.state_rows.specs.declared.edition.Edition.TheVariants.{Second};
 ghost use Rattle.entries.specs.declared.fault.TableName.TheVariants as table_name;
@@ -56,7 +57,7 @@ fn posted_of(
     row: &CrewBaseRecord,
 ) -> Result<Option<(CrewId, Member)>, MemoryFault>
     ensures { IfOk result (TellsOf (λ who m it. (it.0 ≡ who) × (it.1 ≡ m)) row_of_posted
-        (IsPosted roster.now) (crew_base_row row.now)) }
+        (IsPosted roster.now.bases roster.now.crew) (crew_base_row row.now)) }
 {
     let base = BaseId::new(row.base.try_clone(alloc)?);
     if !roster.bases.contains(&base) {
@@ -77,9 +78,10 @@ fn posted_members(
     roster: &Roster,
     records: &[CrewBaseRecord],
 ) -> Result<OrdMap<CrewId, Member>, LoadFault>
-    ensures { MatchResult result (PostsRead roster.now records.now (length records.now))
-        (Blames table_name.CrewBase (HasStranger row_of_posted (IsPosted roster.now)
-        (map crew_base_row records.now))) }
+    ensures { MatchResult result
+        (PostsRead roster.now.bases roster.now.crew records.now (length records.now))
+        (Blames table_name.CrewBase (HasStranger row_of_posted
+        (IsPosted roster.now.bases roster.now.crew) (map crew_base_row records.now))) }
 {
     let mut posted = OrdMap::new(alloc);
     for row in records {
@@ -124,9 +126,10 @@ pub(crate) fn read_crew_base<S: Alter>(
     conn: &mut Connection<S>,
     roster: Roster,
 ) -> Result<Roster, LoadFault>
-    requires { HasCleanDisk (state S.Store conn.old)
-        → AgreesIn Second base roster (state S.Store conn.old).now }
-    ensures { ReadsAs (λ r. AgreesIn Second crew_base r (state S.Store conn.old).now)
+    requires { (kept : Requests) × (HasCleanDisk (state S.Store conn.old)
+        → AgreesIn Second base (with_requests kept roster) (state S.Store conn.old).now) }
+    ensures { (kept : Requests) × ReadsAs
+        (λ r. AgreesIn Second crew_base (with_requests kept r) (state S.Store conn.old).now)
         (λ fault. Justifies fault (state S.Store conn.old).now) (state S.Store conn.old)
         (state S.Store conn.new) result }
 {

@@ -1,6 +1,6 @@
 //! The table `outside`, as it is loaded from a file of version 2. What is right is `IsOutsideRight`
 //! (`specs/Right.antt` of `entries`).
-//! Files with such a damage: `tests/tables.py`. Wrong bodies: `must-fail/`.
+//! Files with such a damage: `tests/tables.py`. Wrong bodies: `must-fail-more/`.
 
 ghost use Rattle.std.specs.Prelude.{◌≡◌, ◌↔◌, length, map, true, IfOk, IsTrue, MatchResult};
 ghost use Rattle.sqlite.specs.Held.{state};
@@ -12,6 +12,7 @@ ghost use Rattle.loading.specs.OutsideTables.{AreNoOutsides, AreOutsidesRead, Ar
 ghost use Rattle.loading.specs.Reading.{AgreesIn, BlamesOrFails, HasRows, IsUnreadable, ReadsAs};
 ghost use Rattle.entries.specs.Faults.{Blames};
 ghost use Rattle.entries.specs.Mapping.{HasStranger, TellsOf};
+ghost use Rattle.state_rows.specs.Requests.{Requests, with_requests};
 ghost use Rattle.state_rows.specs.Rows.{crew_base, outside};
 ghost use Rattle.state_rows.specs.declared.edition.Edition.TheVariants.{Second};
 ghost use Rattle.entries.specs.declared.fault.TableName.TheVariants as table_name;
@@ -147,9 +148,10 @@ pub(crate) fn read_outside<S: Alter>(
     conn: &mut Connection<S>,
     roster: &Roster,
 ) -> Result<OrdMap<OutsideId, OutsideRecord>, LoadFault>
-    requires { HasCleanDisk (state S.Store conn.old)
-        → AgreesIn Second crew_base roster.now (state S.Store conn.old).now }
-    ensures { ReadsAs (λ found. AgreesIn Second outside roster.now (state S.Store conn.old).now
+    requires { (kept : Requests) × (HasCleanDisk (state S.Store conn.old)
+        → AgreesIn Second crew_base (with_requests kept roster.now) (state S.Store conn.old).now) }
+    ensures { (kept : Requests) × ReadsAs (λ found. AgreesIn Second outside
+        (with_requests kept roster.now) (state S.Store conn.old).now
         × HasOutsides roster.now (state S.Store conn.old).now found)
         (λ fault. Justifies fault (state S.Store conn.old).now) (state S.Store conn.old)
         (state S.Store conn.new) result }

@@ -10,6 +10,7 @@ ghost use Rattle.loading.specs.Loading.{Justifies};
 ghost use Rattle.loading.specs.OutsideTables.{AreOutsidesSet, AreOutsidesUnset, HasOutsides};
 ghost use Rattle.loading.specs.Reading.{AgreesIn, BlamesOrFails, HasRows, IsUnreadable, ReadsAs};
 ghost use Rattle.entries.specs.Faults.{Blames};
+ghost use Rattle.state_rows.specs.Requests.{Requests, with_requests};
 ghost use Rattle.state_rows.specs.Rows.{outside, outside_segment};
 ghost use Rattle.state_rows.specs.declared.edition.Edition.TheVariants.{Second};
 ghost use Rattle.entries.specs.declared.fault.TableName.TheVariants as table_name;
@@ -75,11 +76,12 @@ pub(crate) fn read_outside_segment<S: Alter>(
     roster: Roster,
     outsides: &OrdMap<OutsideId, OutsideRecord>,
 ) -> Result<Roster, LoadFault>
-    requires above { HasCleanDisk (state S.Store conn.old)
-        → AgreesIn Second outside roster (state S.Store conn.old).now }
+    requires above { (kept : Requests) × (HasCleanDisk (state S.Store conn.old)
+        → AgreesIn Second outside (with_requests kept roster) (state S.Store conn.old).now) }
     requires found { HasCleanDisk (state S.Store conn.old)
         → HasOutsides roster (state S.Store conn.old).now outsides.now }
-    ensures { ReadsAs (λ r. AgreesIn Second outside_segment r (state S.Store conn.old).now)
+    ensures { (kept : Requests) × ReadsAs (λ r. AgreesIn Second outside_segment
+        (with_requests kept r) (state S.Store conn.old).now)
         (λ fault. Justifies fault (state S.Store conn.old).now) (state S.Store conn.old)
         (state S.Store conn.new) result }
 {

@@ -11,6 +11,7 @@ ghost use Rattle.loading.specs.Loading.{Justifies};
 ghost use Rattle.loading.specs.Reading.{AgreesIn, HaveNoHolders, HasNoDuties, HasNoLater, AgreesThrough, ReadsAs};
 ghost use Rattle.roster.specs.Bases.{home_zone};
 ghost use Rattle.roster.specs.State.{empty};
+ghost use Rattle.state_rows.specs.Requests.{Requests, with_requests};
 ghost use Rattle.state_rows.specs.Rows.{book, ground_duty, outside_segment, request, segment};
 
 use crate::later::read_later;
@@ -19,7 +20,7 @@ use crate::read_crew::read_crew;
 use crate::read_exceedances::read_exceedances;
 use crate::read_grounds::read_grounds;
 use crate::read_pairings::read_pairings;
-use crate::read_requests::read_requests;
+use crate::read_requests::check_requests;
 use crate::read_seats::read_seats;
 use entries::LoadFault;
 use roster::Roster;
@@ -68,7 +69,7 @@ fn read_duties<S: Alter>(
     read_grounds(alloc, conn, roster)
 }
 
-/// Reads the exceedances and the requests into a roster of duties, of a file of this version.
+/// Reads the exceedances into a roster of duties, of a file of this version, and checks the requests.
 fn read_records<S: Alter>(
     alloc: Global,
     conn: &mut Connection<S>,
@@ -81,16 +82,19 @@ fn read_records<S: Alter>(
         → AgreesThrough ground_duty roster (state S.Store conn.old).now }
     requires of { HasCleanDisk (state S.Store conn.old)
         → IsOfEdition edition (state S.Store conn.old).now }
-    ensures read { ReadsAs (λ r. AgreesThrough request r (state S.Store conn.old).now)
+    ensures read { (kept : Requests) × ReadsAs
+        (λ r. AgreesThrough request (with_requests kept r) (state S.Store conn.old).now)
         (λ fault. Justifies fault (state S.Store conn.old).now) (state S.Store conn.old)
         (state S.Store conn.new) result }
     ensures first { IfOk result HasNoLater }
 {
     let roster = read_exceedances(alloc, conn, roster, edition)?;
-    read_requests(alloc, conn, roster, edition)
+    check_requests(alloc, conn, &roster, edition)?;
+    Ok(roster)
 }
 
-/// Reads the tables of version 1 after `book`, into a roster of nothing but HOME, of a file of this version.
+/// Reads the tables of version 1 after `book` into a roster of nothing but HOME, of a file of this version. The requests
+/// are checked, and not kept.
 fn read_first<S: Alter>(
     alloc: Global,
     conn: &mut Connection<S>,
@@ -102,7 +106,8 @@ fn read_first<S: Alter>(
         → AgreesThrough book roster (state S.Store conn.old).now }
     requires of { HasCleanDisk (state S.Store conn.old)
         → IsOfEdition edition (state S.Store conn.old).now }
-    ensures read { ReadsAs (λ r. AgreesThrough request r (state S.Store conn.old).now)
+    ensures read { (kept : Requests) × ReadsAs
+        (λ r. AgreesThrough request (with_requests kept r) (state S.Store conn.old).now)
         (λ fault. Justifies fault (state S.Store conn.old).now) (state S.Store conn.old)
         (state S.Store conn.new) result }
     ensures first { IfOk result HasNoLater }
@@ -112,14 +117,16 @@ fn read_first<S: Alter>(
     read_records(alloc, conn, roster, edition)
 }
 
-/// Reads a whole book of version 1 or 2, table by table, with the version that it is of, and changes nothing. Refused
-/// are a database without a table `book` (40), tables of another version (42), and one in which a table is damaged (41,
-/// with the first). A fault of the store is 90, and out of memory 91.
+/// Reads a whole book of version 1 or 2, table by table, with the version that it is of, and changes nothing. The roster
+/// has all but the kept commands: these are checked too, but not kept. Refused are a database without a table `book` (40),
+/// tables of another version (42), and one in which a table is damaged (41, with the first). A fault of the store is 90,
+/// and out of memory 91.
 pub fn read_all<S: Alter>(
     alloc: Global,
     conn: &mut Connection<S>,
 ) -> Result<(Roster, Edition), LoadFault>
-    ensures read { ReadsAs (λ r. AgreesIn r.1 outside_segment r.0 (state S.Store conn.old).now)
+    ensures read { (kept : Requests) × ReadsAs
+        (λ r. AgreesIn r.1 outside_segment (with_requests kept r.0) (state S.Store conn.old).now)
         (λ fault. Justifies fault (state S.Store conn.old).now) (state S.Store conn.old)
         (state S.Store conn.new) result }
 {

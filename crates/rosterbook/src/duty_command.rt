@@ -1,5 +1,5 @@
 //! `rosterbook duty`: one flight duty period against Tables A and B, without a book.
-//! Transcript: `tests/transcripts/duty.txt`. Wrong bodies: `must-fail/`.
+//! Transcript: `tests/transcripts/duty.txt`. Wrong bodies: `must-fail-more/`.
 ghost use Rattle.std.specs.Prelude.{◌≡◌, ◌⊎◌, map, string_bytes, IfOk};
 ghost use Rattle.rosterbook.specs.Program as spec;
 ghost use Rattle.period_verdict.specs.Verdict.{line_of};

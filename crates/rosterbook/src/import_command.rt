@@ -1,6 +1,6 @@
 //! `rosterbook import`: a schedule on standard input, its pairings asked one after the other. The definitions are in
 //! `specs/Asking.antt`.
-//! Transcript: `tests/transcripts/import.txt`. Wrong bodies: `must-fail/`.
+//! Transcript: `tests/transcripts/import.txt`. Wrong bodies: `must-fail-more/`.
 ghost use Rattle.std.specs.Prelude.{◌≡◌, IfErr, IfOk, IsErr, None, OnOk};
 ghost use Rattle.sqlite_wal.specs.Files.{image_at};
 ghost use Rattle.std.specs.Io.KnownBytes.{Appends};

@@ -1,5 +1,5 @@
 //! `rosterbook init`: a book of a zone, made in a new or empty file.
-//! Books that are made: `tests/program.sh`. Wrong bodies: `must-fail/`.
+//! Books that are made: `tests/program.sh`. Wrong bodies: `must-fail-more/`.
 ghost use Rattle.std.specs.Prelude.{◌≡◌, ◌⊎◌, IfErr, IfOk, IfSome, IsOk, None};
 ghost use Rattle.rosterbook.specs.ByFiles.{AreLeftEmpty, IsLeftEmpty};
 ghost use Rattle.std.specs.Io.KnownBytes.{Appends};

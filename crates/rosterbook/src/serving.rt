@@ -1,5 +1,5 @@
 //! Connections that are served one after the other. The definition is `HasEnded` (`specs/Serving.antt`).
-//! A server and its clients: `tests/serve.py`. Wrong bodies: `must-fail/`.
+//! A server and its clients: `tests/serve.py`. Wrong bodies: `must-fail-more/`.
 ghost use Rattle.std.specs.Prelude.{◌≡◌, IfOk, true};
 ghost use Rattle.std.specs.Io.KnownBytes.{Appends};
 ghost use Rattle.rosterbook.specs.Serving as spec;

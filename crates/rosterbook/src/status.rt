@@ -1,5 +1,5 @@
 //! The four exit statuses.
-//! Wrong bodies: `must-fail/`.
+//! Wrong bodies: `must-fail-more/`.
 ghost use Rattle.std.specs.Prelude.{◌≡◌, ◌≢◌};
 
 use period_verdict::LineFault;

@@ -1,3 +1,4 @@
 pub mod Found
 pub mod Shown
 pub mod Loaded
+pub mod Reading

@@ -10,13 +10,11 @@ ghost use Rattle.roster.specs.Steps.{step_of};
 ghost use Rattle.part.specs.Part.{Part};
 ghost use Rattle.lookup.specs.Reads.{ChangesNothing, IsOpen, IsReadFault, Shows};
 ghost use Rattle.writing.specs.Commits.{IsCommitted, AreTablesMade, IsNotMade};
-ghost use Rattle.loading.specs.Loading.{Justifies};
 ghost use Rattle.writing.specs.Making.{IsFree};
-ghost use Rattle.state_rows.specs.Outcomes.{CrashLeaves, CrashLeavesSome, CrashAddsNothing, HoldsNow, IsOutside, IsOverBook, ShowsFirst, IsJust};
-ghost use Rattle.loading.specs.Reading.{AgreesIn, ReadsAs};
-ghost use Rattle.state_rows.specs.Rows.{outside_segment};
-ghost use Rattle.store.specs.Found.{IsFound};
+ghost use Rattle.state_rows.specs.Outcomes.{CrashLeavesSome, CrashAddsNothing, IsOutside, IsOverBook};
+ghost use Rattle.state_rows.specs.Requests.{Requests};
 ghost use Rattle.store.specs.Loaded.{IsLoaded, IsNotLoaded, ShowsWhatIsLeft};
+ghost use Rattle.store.specs.Reading.{IsRead};
 ghost use Rattle.store.specs.Shown.{Absence, IsShown, shown_part};
 
 use crate::show::Show;
@@ -88,15 +86,15 @@ impl<S: Alter> Store<S> {
     pub fn load(
         alloc: Global,
         mut conn: Connection<S>,
-    ) -> Result<(Store<S>, Roster), (LoadFault, Connection<S>)>
+    ) -> Result<Store<S>, (LoadFault, Connection<S>)>
         requires { IsOutside (state S.Store conn) }
         ensures loaded { IfOk result
-            (λ it. IsLoaded (state S.Store conn) (state S.Store it.0) it.1) }
+            (λ it. (s : State) × IsLoaded (state S.Store conn) (state S.Store it) s) }
         ensures not_loaded { IfErr result
             (λ e. IsNotLoaded (state S.Store conn) (state S.Store e.1) e.0) }
     {
         match read_migrated(alloc, &mut conn) {
-            Ok(roster) => Ok((Store { conn }, roster)),
+            Ok(()) => Ok(Store { conn }),
             Err(fault) => Err((fault, conn)),
         }
     }
@@ -201,9 +199,10 @@ impl<S: Alter> Store<S> {
 }
 
 /// Reads a book, and brings one of version 1 to version 2.
-fn read_migrated<S: Alter>(alloc: Global, conn: &mut Connection<S>) -> Result<Roster, LoadFault>
+fn read_migrated<S: Alter>(alloc: Global, conn: &mut Connection<S>) -> Result<(), LoadFault>
     requires { IsOutside (state S.Store conn.old) }
-    ensures loaded { IfOk result (IsLoaded (state S.Store conn.old) (state S.Store conn.new)) }
+    ensures loaded { IfOk result
+        (λ _. (s : State) × IsLoaded (state S.Store conn.old) (state S.Store conn.new) s) }
     ensures not_loaded { IfErr result
         (IsNotLoaded (state S.Store conn.old) (state S.Store conn.new)) }
     ensures over { IfOk result (λ _. IsOverBook (state S.Store conn.new)) }
@@ -212,10 +211,10 @@ fn read_migrated<S: Alter>(alloc: Global, conn: &mut Connection<S>) -> Result<Ro
     let (roster, edition) = read(alloc, conn)?;
     match edition {
         Edition::First => match migrate_book(alloc, conn, &roster) {
-            Ok(()) => Ok(roster),
+            Ok(()) => Ok(()),
             Err(fault) => Err(LoadFault::Fault(fault)),
         },
-        Edition::Second => Ok(roster),
+        Edition::Second => Ok(()),
     }
 }
 
@@ -225,23 +224,10 @@ fn read<S: Alter>(alloc: Global, conn: &mut Connection<S>) -> Result<(Roster, Ed
     requires { IsOutside (state S.Store conn.old) }
 
     // What is read, or what is true of the database; and that a crash could have left the database.
-    ensures saw { ReadsAs (λ r. AgreesIn r.1 outside_segment r.0 (state S.Store conn.old).now)
-        (λ fault. Justifies fault (state S.Store conn.old).now) (state S.Store conn.old)
-        (state S.Store conn.new) result }
-    ensures found { IfOk result
-        (λ r. HasCleanDisk (state S.Store conn.new) → IsFound r.0 (state S.Store conn.old).now) }
+    ensures read { (kept : Requests) × IsRead kept (state S.Store conn.old) (state S.Store conn.new)
+        result }
     ensures left { IfOk result (λ _. HasCleanDisk (state S.Store conn.new)
         → ShowsWhatIsLeft (state S.Store conn.old)) }
-
-    // Where it is of version 1: what the tables show.
-    ensures first { IfOk result
-        (λ r. r.1 ≡ Edition.First → ShowsFirst (state S.Store conn.new) r.0) }
-
-    // Where it is of version 2: what a crash leaves, and what the tables show.
-    ensures crash { IfOk result
-        (λ r. r.1 ≡ Edition.Second → CrashLeaves (state S.Store conn.new) (IsJust r.0)) }
-    ensures shown { IfOk result
-        (λ r. r.1 ≡ Edition.Second → HoldsNow (state S.Store conn.new) r.0) }
     ensures over { IfOk result
         (λ r. r.1 ≡ Edition.Second → IsOverBook (state S.Store conn.new)) }
     ensures some_left { CrashLeavesSome (state S.Store conn.new) }

@@ -1,5 +1,5 @@
 //! The connection of a client, from its taking to its end.
-//! Clients that wait, stop or break off: `tests/serve.py`. Wrong bodies: `must-fail/`.
+//! Clients that wait, stop or break off: `tests/serve.py`. Wrong bodies: `must-fail-more/`.
 ghost use Rattle.std.specs.Prelude.{◌≡◌, Err, IfErr};
 ghost use Rattle.std.specs.Io.Buffered.{reader_inner};
 ghost use Rattle.web.specs.Connections.{IsServedOnce};

@@ -1,5 +1,5 @@
 //! Schedules that are posted.
-//! What clients send and are answered: `tests/exchanges.py`. Wrong bodies: `must-fail/`.
+//! What clients send and are answered: `tests/exchanges.py`. Wrong bodies: `must-fail-more/`.
 ghost use Rattle.http_message.specs.declared.plan.Submission.TheVariants as submission;
 ghost use Rattle.http_exchange.specs.Handler.{answer_or_fault, submit};
 ghost use Rattle.web.specs.Handling as spec;

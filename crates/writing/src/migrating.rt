@@ -10,6 +10,7 @@ ghost use Rattle.writing.specs.Commits.{IsMigrated};
 ghost use Rattle.state_rows.specs.Kept.{IsFirstBookOf};
 ghost use Rattle.writing.specs.Migration.{AddsHome, AddsPost, AddsPosts, Fills, Migrates, SetsVersion};
 ghost use Rattle.state_rows.specs.Outcomes.{IsOutside, IsOverBook, ShowsFirst};
+ghost use Rattle.state_rows.specs.Requests.{Requests, with_requests};
 
 use crate::making::make_later;
 use crate::records::{home_record, post_record};
@@ -28,19 +29,24 @@ use time117::Zone;
 use values::OrdMap;
 
 /// Makes a book of version 1 one of version 2, in one transaction: the tables that version 1 lacks, with the base that every
-/// book has and the base of each member, and the version. The roster is what was read of it.
+/// book has and the base of each member, and the version. The roster is what was read of it, whatever commands it has kept.
 pub fn migrate_book<S: Alter>(
     alloc: Global,
     conn: &mut Connection<S>,
     roster: &Roster,
 ) -> Result<(), StoreFault>
     requires outside { IsOutside (state S.Store conn.old) }
-    requires found { ShowsFirst (state S.Store conn.old) roster.now }
-    ensures migrated { IsMigrated (state S.Store conn.old) (state S.Store conn.new) roster.now
-        result }
+    requires found { (kept : Requests) × ShowsFirst (state S.Store conn.old)
+        (with_requests kept roster.now) }
+    ensures migrated { (kept : Requests)
+        → ShowsFirst (state S.Store conn.old) (with_requests kept roster.now)
+        → IsMigrated (state S.Store conn.old) (state S.Store conn.new)
+        (with_requests kept roster.now) result }
     // what a store over it goes by
     ensures over { OnOk result (IsOverBook (state S.Store conn.new)) }
-    ensures again { OnErr result (ShowsFirst (state S.Store conn.new) roster.now) }
+    ensures again { (kept : Requests)
+        → ShowsFirst (state S.Store conn.old) (with_requests kept roster.now)
+        → OnErr result (ShowsFirst (state S.Store conn.new) (with_requests kept roster.now)) }
     ensures outside { IsOutside (state S.Store conn.new) }
 {
     // The clauses of these calls say that an open connection shows a database, and outside a transaction what is committed.
@@ -58,8 +64,8 @@ fn write_later<S: Alter>(
     roster: &Roster,
 ) -> Result<(), StoreFault>
     requires inside { IsInside (state S.Store conn.old) }
-    requires found { HasCleanDisk (state S.Store conn.old)
-        → IsFirstBookOf roster.now (state S.Store conn.old).now }
+    requires found { (kept : Requests) × (HasCleanDisk (state S.Store conn.old)
+        → IsFirstBookOf (with_requests kept roster.now) (state S.Store conn.old).now) }
     ensures { Changed (Migrates roster.now) (state S.Store conn.old) (state S.Store conn.new)
         result }
 {

@@ -5,7 +5,7 @@ use Rattle.loading.proofs.ReadCrewBase.{none_read, stranger, one_read}
 use Rattle.loading.proofs.read_crew_base.posted_members.Goals as goal
 
 pub loop-row-init : goal.loop-row-init
-loop-row-init c = subst (PostsRead c.args.roster.now c.args.records.now 0) (sym c.new-posted.ensures) (none_read c.args.roster.now c.args.records.now)
+loop-row-init c = subst (PostsRead c.args.roster.now.bases c.args.roster.now.crew c.args.records.now 0) (sym c.new-posted.ensures) (none_read c.args.roster.now c.args.records.now)
 
 pub returns-in_default : goal.returns-in_default
 returns-in_default c = (
@@ -21,4 +21,4 @@ loop-row-preserved c =
     c.loop-row.posted c.insert.new.self (c.in-Some.who, c.in-Some.member) (search rules) c.loop-row.invariant c.in_ok-insert.ensures.ok
 
 pub returns : goal.returns
-returns c = subst (λ (n : ℕ). PostsRead c.args.roster.now c.args.records.now n c.loop-row.posted) (search rules) c.loop-row.invariant
+returns c = subst (λ (n : ℕ). PostsRead c.args.roster.now.bases c.args.roster.now.crew c.args.records.now n c.loop-row.posted) (search rules) c.loop-row.invariant

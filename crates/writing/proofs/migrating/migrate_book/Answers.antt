@@ -2,6 +2,7 @@ use Rattle.std.proofs.Common.{◌≡◌, not, ap, ◌∙◌, arith, rules, Err, 
 use Rattle.sqlite.specs.Held.{state}
 use Rattle.sqlite.specs.State.{HasCleanDisk}
 use Rattle.sqlite.proofs.StateLemmas.{survives_then, survives_weaker}
+use Rattle.state_rows.specs.Requests.{with_requests}
 use Rattle.state_rows.specs.declared.fault.StoreFault.TheVariants.{Memory}
 use Rattle.tables.specs.Schema.{later_tables}
 use Rattle.writing.specs.Beside.{KeepBeside}
@@ -14,10 +15,10 @@ use Rattle.writing.proofs.Sparing.{adds_nothing, leaves_only, migrated_keeps, ma
 use Rattle.writing.proofs.migrating.migrate_book.Goals as goal
 
 pub returns-in_err-begin-clause-migrated : goal.returns-in_err-begin-clause-migrated
-returns-in_err-begin-clause-migrated g c =
+returns-in_err-begin-clause-migrated g c kept shows =
     let old = state g.S.Store c.args.conn.now in
     let new = state g.S.Store c.begin.new.conn in
-    let s = c.args.roster.now in
+    let s = with_requests kept c.args.roster.now in
     let settled = λ (clean : HasCleanDisk old). c.is_autocommit-settled.ensures.settled (c.is_autocommit-settled.ensures.value ∙ ap not (c.requires.outside clean)) in
     let before = λ (clean : HasCleanDisk new). let d : HasCleanDisk old = omega (arith, c.in_err-begin.ensures.crash.clean) in d in
     let nothing = added_nothing old new c.in_err-begin.ensures.crash in
@@ -41,18 +42,18 @@ returns-in_err-begin-clause-migrated g c =
     }
 
 pub returns-clause-migrated : goal.returns-clause-migrated
-returns-clause-migrated g c =
+returns-clause-migrated g c kept shows =
     let G = g.S.Store in
     let old = state G c.args.conn.now in
     let begun = state G c.begin.new.conn in
     let last = state G c.write_later-done.new.conn in
     let new = state G c.end.new.conn in
-    let s = c.args.roster.now in
+    let s = with_requests kept c.args.roster.now in
     let ended = c.end.ensures in
     let settled = λ (clean : HasCleanDisk old). c.is_autocommit-settled.ensures.settled (c.is_autocommit-settled.ensures.value ∙ ap not (c.requires.outside clean)) in
     let before = λ (clean : HasCleanDisk begun). let d : HasCleanDisk old = omega (arith, c.in_ok-begin.ensures.crash.clean) in d in
     let late = λ (clean : HasCleanDisk new). let d : HasCleanDisk last = omega (arith, ended.crash.clean) in d in
-    let found = begun_first old begun s before c.requires.found c.in_ok-begin.ensures.gave in
+    let found = begun_first old begun s before shows c.in_ok-begin.ensures.gave in
     let holds = λ (clean : HasCleanDisk new) (is : IsOk c.write_later-done.result).
     migrated_holds s begun last c.write_later-done.result found c.write_later-done.ensures ended.live (late clean) is in
     let keeps = λ (clean : HasCleanDisk new) (is : IsOk c.write_later-done.result).
@@ -89,11 +90,11 @@ returns-clause-over g c =
     let begun = state G c.begin.new.conn in
     let last = state G c.write_later-done.new.conn in
     let new = state G c.end.new.conn in
-    let s = c.args.roster.now in
+    let s = with_requests c.requires.found.0 c.args.roster.now in
     let ended = c.end.ensures in
     let before = λ (clean : HasCleanDisk begun). let d : HasCleanDisk old = omega (arith, c.in_ok-begin.ensures.crash.clean) in d in
     let late = λ (clean : HasCleanDisk new). let d : HasCleanDisk last = omega (arith, ended.crash.clean) in d in
-    let found = begun_first old begun s before c.requires.found c.in_ok-begin.ensures.gave in
+    let found = begun_first old begun s before c.requires.found.1 c.in_ok-begin.ensures.gave in
     on_ok c.end.result ended.whole ended.ok (λ is done.
     ended_over G last c.end.new.conn s done (λ clean. migrated_holds s begun last c.write_later-done.result found c.write_later-done.ensures ended.live (late clean) is))
 
@@ -103,14 +104,15 @@ write_later-done-requires-clause-found g c =
     let old = state G c.args.conn.now in
     let begun = state G c.begin.new.conn in
     let before = λ (clean : HasCleanDisk begun). let d : HasCleanDisk old = omega (arith, c.in_ok-begin.ensures.crash.clean) in d in
-    begun_first old begun c.args.roster.now before c.requires.found c.in_ok-begin.ensures.gave
+    let found = c.requires.found in
+    (found.0, begun_first old begun (with_requests found.0 c.args.roster.now) before found.1 c.in_ok-begin.ensures.gave)
 
 pub returns-clause-again : goal.returns-clause-again
-returns-clause-again g c =
-    let migrated = returns-clause-migrated g c in
-    first_again (state g.S.Store c.args.conn.now) (state g.S.Store c.end.new.conn) c.args.roster.now c.end.result migrated.disk c.requires.found migrated.still_shown
+returns-clause-again g c kept shows =
+    let migrated = returns-clause-migrated g c kept shows in
+    first_again (state g.S.Store c.args.conn.now) (state g.S.Store c.end.new.conn) (with_requests kept c.args.roster.now) c.end.result migrated.disk shows migrated.still_shown
 
 pub returns-in_err-begin-clause-again : goal.returns-in_err-begin-clause-again
-returns-in_err-begin-clause-again g c =
-    let migrated = returns-in_err-begin-clause-migrated g c in
-    first_again (state g.S.Store c.args.conn.now) (state g.S.Store c.begin.new.conn) c.args.roster.now _ migrated.disk c.requires.found migrated.still_shown
+returns-in_err-begin-clause-again g c kept shows =
+    let migrated = returns-in_err-begin-clause-migrated g c kept shows in
+    first_again (state g.S.Store c.args.conn.now) (state g.S.Store c.begin.new.conn) (with_requests kept c.args.roster.now) _ migrated.disk shows migrated.still_shown

@@ -1,6 +1,7 @@
 use Rattle.std.proofs.Common.{arith}
 use Rattle.sqlite.specs.Held.{state}
 use Rattle.sqlite.specs.State.{HasCleanDisk}
+use Rattle.state_rows.specs.Requests.{with_requests}
 use Rattle.writing.proofs.Chaining.{still_inside, then_call}
 use Rattle.writing.proofs.Migrated.{made_fit}
 use Rattle.writing.proofs.migrating.write_later.Goals as goal
@@ -13,7 +14,7 @@ fill_later-requires g c =
     record {
       inside = still_inside old mid tt made;
       opened = λ clean. (made.done clean).1.is_open;
-      fit = λ clean. made_fit c.args.roster.now old.now mid.now (c.requires.found (let d : HasCleanDisk old = omega (arith, made.left.clean) in d)) (made.done clean).0;
+      fit = λ clean. made_fit (with_requests c.requires.found.0 c.args.roster.now) old.now mid.now (c.requires.found.1 (let d : HasCleanDisk old = omega (arith, made.left.clean) in d)) (made.done clean).0;
     }
 
 pub returns : goal.returns

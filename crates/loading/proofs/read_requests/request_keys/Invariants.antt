@@ -1,9 +1,9 @@
 use Rattle.std.proofs.Common.{◌≡◌, ◌++◌, length}
 use Rattle.std.specs.Vec.Iter.{into_iter_items}
-use Rattle.loading.specs.Reading.{RequestsRead}
-use Rattle.loading.proofs.read_requests.add_requests.Given as goal
+use Rattle.loading.specs.Reading.{KeysRead}
+use Rattle.loading.proofs.read_requests.request_keys.Given as goal
 
 abbrev pub invariant-loop-row : goal.invariant-loop-row
 invariant-loop-row l =
     (l.yielded ++ into_iter_items l.row-iterator ≡ l.fn.records.items)
-    × RequestsRead l.fn.edition l.fn.records.items (length l.yielded) l.fn.roster l.roster
+    × KeysRead l.fn.edition l.fn.records.items (length l.yielded) l.keys
