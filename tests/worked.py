@@ -21,7 +21,6 @@ from judgement import (
     Period,
     Training,
     before,
-    breaks_tables,
     broken,
     duty_spans,
     flight_spans,
@@ -372,15 +371,6 @@ def ten_hours(desk, said):
         desk.expect_judged("117.25(e)", [earlier], new, sections)
 
 
-def two_sections(desk, said):
-    report, local, out, block_in, report_again, flight, fdp, given_a, given_b = said
-    it = period(at(10, report), [(at(10, out), at(11, block_in))], at(11, block_in + 30))
-    desk.expect("the local time", [local, report_again], [ZONE.clock(since_2000(at(10, report))), report])
-    desk.expect("the lengths", [flight, fdp], [at(11, block_in) - at(10, out), it.last_in - it.report])
-    desk.expect("the tables", [given_a, given_b], [table_a(local), table_b(local, 1)])
-    desk.expect("117.13(a) alone", breaks_tables(it, BASE), (False, True))
-
-
 def in_force(desk, said):
     day, report, out, block_in, release, start, seven = said
     noon = since_2000(at(day))
@@ -577,17 +567,13 @@ CHECKS = {
     "A member has a flight duty period from 12:00 to 24:00 on Monday": periods_672_hours,
     "Ground duties 12:00-20:00": thirty_hours,
     "A period is released at": ten_hours,
-    "A period that is planned with a report": two_sections,
-    "A period is planned `": None,
-    "The period of the last example": in_force,
+    "A period of 2025-06-10, in": in_force,
     "The exceedance of C1": name_of_exceedance,
-    "C1 holds P13A and P13B": None,
     "C1 is a captain, and C2": seat_taken,
     "Request 20 assigns C1": requests,
     "C1 holds a period that is released": accepted_or_limits,
     "C1's P13A/1 is flown": honest,
     "The book holds P20.": list_of_commands,
-    "The import of P10, another": None,
     "C1 holds the captain's seat": rows_of_tables,
     "Minute 13,381,140 is written": kept_texts,
     "`P-801` is an id.": ids,
@@ -601,18 +587,9 @@ CHECKS = {
     "With the period of 541": exceeding,
     "Import 500 of P10": None,
     "The commit of a command": None,
-    "A book that was just made": None,
-    "A call was asked three": None,
-    "Request 20 was accepted.": None,
     "A book is durably at the state in which": None,
     "Import 500 of three": None,
-    "A book is durably at s, and is called": None,
-    "A book is durably at s, and in s": None,
     "A book is made in an empty": None,
-    "A crash left the state": None,
-    "A book is durably at s, and is closed": None,
-    "A client sends a command": None,
-    "The file of a book holds": None,
     "A book whose table `seat`": None,
 }
 
