@@ -95,7 +95,7 @@ module _ {S : Type 0} (g : Ghosts S) (book : Kept S) (asked : Asked) (some : Cra
     still_open = λ is. absurd (cc);
   }
 
-  -- for want of memory
+  -- out of memory
   pub was_not_asked : book.failed ≡ false → IsAnswered g book book asked (Err Memory)
   was_not_asked is = record {
     failed = rw is refl;

@@ -46,7 +46,7 @@ module _ (s : State) (before : List Session) (l : List Asked) (n : ℕ) (t : Sta
       } in
       record { session = x; asked = refl; answered = refl; kept = kept; left = is ∙ ap (Fold (Stopped s before)) (sym (take_whole l)) ∙ sym (stopped_append s before x) }
 
-  -- one met want of memory
+  -- one ran out of memory
   some_done : t ≡ Fold (Stopped s before) (take n l) → IsAfter s before l n (Some Memory) t
   some_done is =
       let counted : length (take n l) ≡ n = length-take-le n l count in

@@ -14,7 +14,7 @@ use stored_json::{CodecFault, JsonField, command_of, json_field, object};
 
 /// Reads the command of a request's body, under its number from 1 to 9,223,372,036,854,775,807. Members are read as of
 /// a text that the book keeps. A fault is the first of: a body of over 1,048,576 bytes, one that isn't UTF-8 or no
-/// object of JSON; `number`; and then what `read_canonical` looks for. Want of memory comes wherever memory is refused.
+/// object of JSON; `number`; and then what `read_canonical` looks for. Out of memory comes wherever memory is refused.
 pub fn command_of_json(alloc: Global, body: &[u8]) -> Result<(u64, Command), CodecFault>
     ensures command { IfOk result (λ asked. read_request body.now ≡ Ok asked) }
     ensures low { IfOk result (λ asked. 1 ≤ asked.0) }

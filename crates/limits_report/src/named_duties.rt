@@ -1,5 +1,5 @@
 //! A member's duties in force, each with its name.
-//! Wrong bodies: `must-fail/`.
+//! Wrong bodies: `must-fail-more/`.
 ghost use Rattle.std.specs.Prelude.{◌≡◌, ◌++◌, ℕ, IfOk, OnOk, map};
 ghost use Rattle.std.specs.Option.{option_copied};
 ghost use Rattle.roster.specs.Places.{period, periods_at, periods_of, grounds_of, outsides_of, history_of};

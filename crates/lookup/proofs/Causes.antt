@@ -85,7 +85,7 @@ shows_on a b s p shows = record {
 pub fault_then : (a b c : State) (fault : StoreFault) → ChangesNothing a b → ChangesNothing b c → IsReadFault b c fault → IsReadFault a c fault
 fault_then a b c fault p q caused s shows clean is = cause_then a b c p q clean (caused s (shows_on a b s p shows) clean is)
 
--- want of memory is no fault of the store
+-- out of memory is no fault of the store
 pub memory_fault : (a b : State) (fault : StoreFault) → fault ≡ Memory → IsReadFault a b fault
 memory_fault a b fault memory s shows clean is = absurd (let no : Memory ≡ Store = sym memory ∙ is in cc)
 

@@ -1,5 +1,5 @@
 //! How much rest a member has before a report, for 117.25(b) and 117.25(e).
-//! Wrong bodies: `must-fail/` and `must-fail-more/`.
+//! Wrong bodies: `must-fail-more/`.
 ghost use Rattle.std.specs.Prelude.{pos, ◌-ℤ◌};
 ghost use Rattle.duty.specs.Minutes.{minutes_in};
 ghost use Rattle.duty.specs.declared.kind.Kind.TheVariants.{Duty};

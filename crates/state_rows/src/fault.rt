@@ -1,5 +1,5 @@
 //! The refusals 90 and 91, of every call on the tables of a book.
-//! Want of memory at each call: `tests/allocations.py`. Wrong bodies: `must-fail-more/`.
+//! Out of memory at each call: `tests/allocations.py`. Wrong bodies: `must-fail-more/`.
 use std::alloc::AllocError;
 use std::fmt;
 use tables::TableFault;

@@ -36,7 +36,7 @@ module _ {A : Type 0} (Is : roster.State → A → Type 0) (old new : State) (re
   pub is_told : IfOk result (Is s)
   is_told = on_ok result (told clean s shows) (λ a it. it.1)
 
--- a fault of a gathering is one of a read, or want of memory
+-- a fault of a gathering is one of a read, or out of memory
 pub read_fault : {A : Type 0} (M : Type 0) (old new : State) (result : Result A StoreFault) → IfErr result (λ fault. IsReadFault old new fault ⊎ ((none : M) × (fault ≡ Memory))) → IfErr result (IsReadFault old new)
 read_fault M old new (Ok a) fault = tt
 read_fault M old new (Err fault) (inl failed) = failed

@@ -15,7 +15,7 @@ use Rattle.store.specs.Found.{IsFound}
 
 -- A roster was read with the version of its book; the state of the book is this roster with these
 -- kept commands. Or the book was refused.
-pub record IsRead
+pub record IsBookRead
     (kept : Requests) (old new : conn.State) (result : Result (State × Edition) LoadFault)
     : Type 0 where
   -- what was read, or what is true of the database

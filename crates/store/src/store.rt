@@ -14,7 +14,7 @@ ghost use Rattle.writing.specs.Making.{IsFree};
 ghost use Rattle.state_rows.specs.Outcomes.{CrashLeavesSome, CrashAddsNothing, IsOutside, IsOverBook};
 ghost use Rattle.state_rows.specs.Requests.{Requests};
 ghost use Rattle.store.specs.Loaded.{IsLoaded, IsNotLoaded, ShowsWhatIsLeft};
-ghost use Rattle.store.specs.Reading.{IsRead};
+ghost use Rattle.store.specs.Reading.{IsBookRead};
 ghost use Rattle.store.specs.Shown.{Absence, IsShown, shown_part};
 
 use crate::show::Show;
@@ -224,8 +224,8 @@ fn read<S: Alter>(alloc: Global, conn: &mut Connection<S>) -> Result<(Roster, Ed
     requires { IsOutside (state S.Store conn.old) }
 
     // What is read, or what is true of the database; and that a crash could have left the database.
-    ensures read { (kept : Requests) × IsRead kept (state S.Store conn.old) (state S.Store conn.new)
-        result }
+    ensures read { (kept : Requests) × IsBookRead kept (state S.Store conn.old)
+        (state S.Store conn.new) result }
     ensures left { IfOk result (λ _. HasCleanDisk (state S.Store conn.new)
         → ShowsWhatIsLeft (state S.Store conn.old)) }
     ensures over { IfOk result

@@ -6,6 +6,7 @@ pub mod Inserting
 pub mod Statements
 pub mod Answering
 pub mod Refusing
+pub mod Rising
 pub mod Deleting
 pub mod Updating
 pub mod Guarding

@@ -249,28 +249,6 @@ module _ (kept : BookTable) (text : List ℕ) (names : List (List ℕ))
     unnumbered = all_numbered;
   }
 
--- numbered records show their rows behind their numbers
-pub numbered_unordered : {N R : Type 0} (numbered : List N) (number : N → ℤ) (entry : N → R) (row : R → Row) (sql : List ℕ) (old new : State)
-    → Shown sql [] old new (map (λ it. Int (number it) ∷ row (entry it)) numbered) → rises (map number numbered) ≡ false → ShowsUnordered sql old new
-numbered_unordered {N} numbered number entry row sql old new h fall =
-    let pair : N → ℤ × Row = λ it. (number it, row (entry it)) in (
-      map pair numbered,
-      subst (Shown sql [] old new) (sym (map-map (λ (it : ℤ × Row). Int it.0 ∷ it.1) pair numbered)) h,
-      subst (λ l. rises l ≡ false) (sym (map-map (λ (it : ℤ × Row). it.0) pair numbered)) fall,
-    )
-
-pub numbered_shown : {N R : Type 0} (numbered : List N) (number : N → ℤ) (entry : N → R) (row : R → Row) (sql : List ℕ) (old new : State)
-    → Shown sql [] old new (map (λ it. Int (number it) ∷ row (entry it)) numbered) → IsTrue (rises (map number numbered))
-    → {A : Type 0} (result : Result A TableFault) (items : A → List R) → IfOk result (λ all. items all ≡ map entry numbered) → IfOk result (λ all. ShowsNumbered sql old new (map row (items all)))
-numbered_shown numbered number entry row sql old new h rise (Err fault) items same = same
-numbered_shown {N} numbered number entry row sql old new h rise (Ok all) items same =
-    let pair : N → ℤ × Row = λ it. (number it, row (entry it)) in (
-      map pair numbered,
-      subst (Shown sql [] old new) (sym (map-map (λ (it : ℤ × Row). Int it.0 ∷ it.1) pair numbered)) h,
-      subst (λ l. IsTrue (rises l)) (sym (map-map (λ (it : ℤ × Row). it.0) pair numbered)) rise,
-      map-map (λ (it : ℤ × Row). it.1) pair numbered ∙ sym (map-map row entry numbered) ∙ ap (map row) (sym same),
-    )
-
 -- ---- from the clauses of `load` to those of a function
 
 module _ {text : List ℕ} {kept : BookTable} {B : Type 0} (old new : State) (owed : HasCleanDisk old → B) (reads : B → Loader text kept old) {X : Trees → Type 0} (survives : Survives old new X) where

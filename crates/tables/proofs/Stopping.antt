@@ -47,7 +47,7 @@ caused old new A B f cause.Unstorable h = f h
 pub failed_for : (old new : State) (A B : Type 0) → (A → B) → (e : Error) → Fails old new A e → Failed B old new (table_fault_of e)
 failed_for old new A B f e h = (e, (h.0, h.1, caused old new A B f h.0 h.2, h.3, h.4), refl)
 
--- a refusal is never told as want of memory
+-- a refusal is never reported as out of memory
 pub told : (e f : Error) → e ≡ f → table_fault_of f ≡ Store → table_fault_of e ≡ Store
 told e f is store = ap table_fault_of is ∙ store
 
@@ -77,7 +77,7 @@ is_statement s text params e plain whole (inr (c, is, inl (short, _))) = let w =
 is_statement s text params e plain whole (inr (c, is, inr (inl (differ, _)))) = differ (subst (IsWhole text (length params)) is whole).1
 is_statement s text params e plain whole (inr (c, is, inr (inr (some, _)))) = some (subst IsPlain is plain).1
 
--- a text that is none is not told as want of memory either
+-- a text that is none is not reported as out of memory either
 pub statement_told : (s : State) (text : List ℕ) (params : Row) (e : Error) → IsNoStatement s text params e → table_fault_of e ≡ Store
 statement_told s text params e (inl (fault, _, is)) = ap table_fault_of is
 statement_told s text params e (inr (c, _, inl (_, is))) = ap table_fault_of is

@@ -8,9 +8,9 @@ ghost use Rattle.sqlite.specs.Held.{state};
 ghost use Rattle.sqlite.specs.Given.{IsPlain};
 ghost use Rattle.sqlite.specs.Listing.{understood};
 ghost use Rattle.tables.specs.Calls.{CrashLeavesNoMore};
-ghost use Rattle.tables.specs.Texts.{HasInvalid, IsUnnumbered, ShowsNumbered, Unloaded, rises, rises_from};
+ghost use Rattle.tables.specs.Texts.{HasInvalid, IsUnnumbered, ShowsNumbered, Unloaded, above};
 
-use crate::reading::{Record, read_all};
+use crate::reading::Record;
 use crate::table_fault::TableFault;
 use sqlite::{Alter, Connection, Row};
 use std::alloc::Global;
@@ -40,34 +40,14 @@ impl<R: Record> Record for Numbered<R> {
     }
 }
 
-/// Returns whether each number is above the one before it.
-fn do_rise<R>(numbered: &[Numbered<R>]) -> bool
-    ensures { result ≡ rises (map (λ it. it.number) numbered.now) }
+/// Returns whether a number is above the one before it, if there is one.
+fn is_above(number: i64, before: Option<i64>) -> bool
+    ensures { result ≡ above before number }
 {
-    let [first, more @ ..] = numbered else {
-        return true;
-    };
-    let mut last = first.number;
-    for it in more {
-        if it.number <= last {
-            return false;
-        }
-        last = it.number;
+    match before {
+        Some(last) => number > last,
+        None => true,
     }
-    true
-}
-
-/// Keeps the records alone.
-fn records_of<R: Record>(alloc: Global, numbered: Vec<Numbered<R>>) -> Result<Vec<R>, TableFault>
-    ensures ok { IfOk result (λ all. all.items ≡ map (λ it. it.entry) numbered.items) }
-    ensures err { IfErr result (λ fault. fault ≡ TableFault.Memory) }
-{
-    let mut all = Vec::new(alloc);
-    for it in numbered {
-        let Numbered { number: _, entry } = it;
-        all.push(entry)?;
-    }
-    Ok(all)
 }
 
 /// Reads all records of the answer to a text that shows each row's number first, and orders the rows by it.
@@ -96,9 +76,23 @@ pub(crate) fn load<S: Alter, R: Record>(
     // A crash meanwhile.
     ensures crash { CrashLeavesNoMore (state S.Store conn.old) (state S.Store conn.new) }
 {
-    let numbered: Vec<Numbered<R>> = read_all(alloc, conn, sql, &[])?;
-    if !do_rise(numbered.as_slice()) {
-        return Err(TableFault::Store);
+    let mut all = Vec::new(alloc);
+    // (only the number of the last row is kept: a table can have hundreds of thousands of rows)
+    let mut last = None;
+    let mut do_rise = true;
+    let mut rows = conn.query(sql, &[])?;
+    'rows: for _ in 0..u64::MAX {
+        let Some(row) = rows.next()? else {
+            return if do_rise {
+                Ok(all)
+            } else {
+                Err(TableFault::Store)
+            };
+        };
+        let Numbered { number, entry } = Numbered::<R>::read(&row, 0)?;
+        do_rise = do_rise && is_above(number, last);
+        last = Some(number);
+        all.push(entry)?;
     }
-    records_of(alloc, numbered)
+    Err(TableFault::Memory)
 }

@@ -1,4 +1,4 @@
-//! Want of memory, the one fault that every call that makes something may have. The program prints it as 91.
+//! Out of memory, the one fault that every call that makes something may have. The program prints it as 91.
 //! Tested by `tests/allocations.py`, which refuses the program one call for memory after the other.
 use std::alloc::{AllocError, AllocFailed};
 use std::error::Error;

@@ -1,5 +1,5 @@
 //! The end of a transaction.
-//! Want of memory at each call: `tests/allocations.py`. Wrong bodies: `must-fail-more/`.
+//! Out of memory at each call: `tests/allocations.py`. Wrong bodies: `must-fail-more/`.
 
 ghost use Rattle.std.specs.Prelude.{◌≡◌, ◌⊎◌, false, IfErr, IsErr, IsOk, IsTrue, Err, OnOk, OnErr};
 ghost use Rattle.sqlite_disk.specs.Disk.{MoreFaults};
