@@ -33,7 +33,7 @@ impl Part {
 }
 
 /// What comes of a part. Where it finds no memory for what it needs besides the calls that it tries, it begins anew.
-fn tried(alloc: Global, part: Part, told: &mut Told) -> Result<bool, Untold> {
+fn try_part(alloc: Global, part: Part, told: &mut Told) -> Result<bool, Untold> {
     match part.try_once(alloc, told) {
         Err(Untold::Memory) => part.try_once(alloc, told),
         done => done,
@@ -43,7 +43,7 @@ fn tried(alloc: Global, part: Part, told: &mut Told) -> Result<bool, Untold> {
 /// The same; how out of memory was reported in it is written to standard error.
 fn is_well(rt: &HostRuntime, part: Part) -> Result<bool, Fail> {
     let mut told = Told::new();
-    let done = tried(rt.alloc(), part, &mut told);
+    let done = try_part(rt.alloc(), part, &mut told);
     told.print(&mut rt.stderr())?;
     Ok(done?)
 }

@@ -78,7 +78,7 @@ fn add_lines<S: Alter>(
 }
 
 /// Lines in the order of the alphabet, as one text.
-pub fn sorted(alloc: Global, mut lines: Vec<String>) -> Result<String, Untold> {
+pub fn in_order(alloc: Global, mut lines: Vec<String>) -> Result<String, Untold> {
     lines.sort()?;
     let mut all = String::new(alloc);
     for line in &lines {
@@ -89,7 +89,7 @@ pub fn sorted(alloc: Global, mut lines: Vec<String>) -> Result<String, Untold> {
 }
 
 /// The rows that a SELECT finds, as lines under this name.
-pub fn found<S: Alter>(
+pub fn lines_of<S: Alter>(
     alloc: Global,
     conn: &mut Connection<S>,
     name: &str,
@@ -97,16 +97,16 @@ pub fn found<S: Alter>(
 ) -> Result<String, Untold> {
     let mut lines = Vec::new(alloc);
     add_lines(alloc, conn, name, select, &mut lines)?;
-    sorted(alloc, lines)
+    in_order(alloc, lines)
 }
 
 /// All rows of the tables of a book that are there, as lines that begin with the name of their table.
-pub fn told<S: Alter>(alloc: Global, conn: &mut Connection<S>) -> Result<String, Untold> {
+pub fn rows_of<S: Alter>(alloc: Global, conn: &mut Connection<S>) -> Result<String, Untold> {
     let mut lines = Vec::new(alloc);
     for (name, select) in TABLES {
         if has_table(conn, name) {
             add_lines(alloc, conn, name, select, &mut lines)?;
         }
     }
-    sorted(alloc, lines)
+    in_order(alloc, lines)
 }

@@ -2,7 +2,7 @@
 
 use crate::contents;
 use crate::fault::Untold;
-use crate::opening::{create, opened, take_up};
+use crate::opening::{book_of, create, take_up};
 use book::Book;
 use failing_channel::{Input, Output};
 use sqlite::{Alter, Connection};
@@ -166,7 +166,7 @@ fn interim(alloc: Global, sample: &Sample, length: usize) -> Result<Vec<u8>, Unt
 }
 
 /// How an exchange is to end, and what is to be written.
-fn expected(alloc: Global, sample: &Sample, trial: Trial) -> Result<(Ending, Vec<u8>), Untold> {
+fn ending_of(alloc: Global, sample: &Sample, trial: Trial) -> Result<(Ending, Vec<u8>), Untold> {
     match trial {
         Trial::Whole => Ok((
             Ending::Answered,
@@ -198,7 +198,7 @@ fn try_one<S: Alter>(
     trial: Trial,
     text: &mut String,
 ) -> Result<(), Untold> {
-    let wanted = expected(alloc, sample, trial)?;
+    let wanted = ending_of(alloc, sample, trial)?;
     let found = exchange_over(alloc, book, &sample.sent, trial)?;
     if found != wanted {
         let line = format!(in alloc; "{trial:?} of row {}: {:?}\n", sample.place, found.0)?;
@@ -240,14 +240,14 @@ fn try_whole<S: Alter>(
 }
 
 /// Tries with a new book what leaves it as it is, and notes its rows; and then what it keeps.
-fn tried<S: Alter + Drop>(alloc: Global, conn: Connection<S>) -> Result<String, Untold> {
+fn try_all<S: Alter + Drop>(alloc: Global, conn: Connection<S>) -> Result<String, Untold> {
     let samples = samples(alloc)?;
     let mut text = String::new(alloc);
-    let mut book = opened(create(alloc, conn))?;
+    let mut book = book_of(create(alloc, conn))?;
     try_cut(alloc, &mut book, &samples, &mut text)?;
     let mut conn = book.into_connection();
-    text.push_str(&contents::told(alloc, &mut conn)?)?;
-    let mut book = opened(take_up(alloc, conn))?;
+    text.push_str(&contents::rows_of(alloc, &mut conn)?)?;
+    let mut book = book_of(take_up(alloc, conn))?;
     try_whole(alloc, &mut book, &samples, &mut text)?;
     Ok(text)
 }
@@ -257,7 +257,7 @@ fn tried<S: Alter + Drop>(alloc: Global, conn: Connection<S>) -> Result<String, 
 #[test]
 fn exchanges_come_to_what_is_stated(rt: HostRuntime) -> Result<(), Fail> {
     let conn = Connection::open_in_memory(rt.alloc())?;
-    let text = tried(rt.alloc(), conn)?;
+    let text = try_all(rt.alloc(), conn)?;
     assert_eq!(rt;
         text.as_str(),
         "base HOME|EST5EDT,M3.2.0,M11.1.0\nbook 1|2|EST5EDT,M3.2.0,M11.1.0\n"

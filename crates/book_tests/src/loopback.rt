@@ -1,6 +1,6 @@
 //! A client that speaks to a book over loopback, in one thread.
 
-use crate::opening::{create, opened};
+use crate::opening::{book_of, create};
 use book::Book;
 use sqlite::{Alter, Connection};
 use std::io;
@@ -24,7 +24,7 @@ fn first_response<S: Alter + Drop>(
     conn: Connection<S>,
     request: &str,
 ) -> Result<String, Fail> {
-    let mut book = opened(create(rt.alloc(), conn))?;
+    let mut book = book_of(create(rt.alloc(), conn))?;
     response(rt, &mut book, request)
 }
 

@@ -13,7 +13,7 @@ pub const EASTERN: &str = "EST5EDT,M3.2.0,M11.1.0";
 pub type Left<S> = (Result<String, Untold>, Connection<S>);
 
 /// The book that was made or taken up, where there is one.
-pub fn opened<S: Alter + Drop>(book: Result<Book<S>, Left<S>>) -> Result<Book<S>, Untold> {
+pub fn book_of<S: Alter + Drop>(book: Result<Book<S>, Left<S>>) -> Result<Book<S>, Untold> {
     match book {
         Ok(book) => Ok(book),
         Err((_told, _conn)) => Err(Untold::Unread),

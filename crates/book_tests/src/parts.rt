@@ -4,7 +4,7 @@
 ghost use Rattle.roster.specs.Steps.{IsUnderFreeKey};
 
 use crate::fault::Untold;
-use crate::opening::{EASTERN, create, opened};
+use crate::opening::{EASTERN, book_of, create};
 use crate::requests::{AT_DENVER, AT_NO_BASE, DENVER, key, plan};
 use book::{Answer, Book};
 use command::{Command, Key};
@@ -131,7 +131,7 @@ fn add_ids<T, V>(table: &OrdMap<Id<T>, V>, text: &mut String) -> Result<(), Unto
 }
 
 /// The ids of its pairings, members, ground duties and outside periods, and how many exceedances and requests it has.
-fn told(alloc: Global, part: &Roster) -> Result<String, Untold> {
+fn ids_of(alloc: Global, part: &Roster) -> Result<String, Untold> {
     let mut text = String::new(alloc);
     add_ids(&part.pairings, &mut text)?;
     add_ids(&part.crew, &mut text)?;
@@ -162,7 +162,7 @@ fn add_part<S: Alter>(
     text: &mut String,
 ) -> Result<(), Untold> {
     let part = store.part(alloc, key, &command)?;
-    text.push_str(told(alloc, &part)?.as_str())?;
+    text.push_str(ids_of(alloc, &part)?.as_str())?;
     if !has_bases(&part, roster) {
         text.push_str("other bases\n")?;
     }
@@ -273,7 +273,7 @@ fn told_of_parts(alloc: Global) -> Result<String, Untold> {
     };
     let mut roster = Roster::empty(alloc, zone)?;
     fill_roster(alloc, &mut roster)?;
-    let mut book = opened(create(alloc, Connection::open_in_memory(alloc)?))?;
+    let mut book = book_of(create(alloc, Connection::open_in_memory(alloc)?))?;
     fill(alloc, &mut book)?;
     told_over(alloc, book.into_connection(), &roster)
 }

@@ -117,26 +117,26 @@ fn add_rows<S: Alter>(
     noted: &str,
     text: &mut String,
 ) -> Result<(), Untold> {
-    let found = contents::told(alloc, conn)?;
+    let found = contents::rows_of(alloc, conn)?;
     text.push_str(if found.as_str() == noted {
         "\nsame\n"
     } else {
         found.as_str()
     })?;
-    let seats = contents::found(alloc, conn, "seat", "SELECT pairing, seat, crew FROM seat")?;
+    let seats = contents::lines_of(alloc, conn, "seat", "SELECT pairing, seat, crew FROM seat")?;
     text.push_str(seats.as_str())?;
-    let bases = contents::found(alloc, conn, "base", "SELECT id, zone FROM base")?;
+    let bases = contents::lines_of(alloc, conn, "base", "SELECT id, zone FROM base")?;
     text.push_str(bases.as_str())?;
-    let members = contents::found(alloc, conn, "member", "SELECT crew, base FROM crew_base")?;
+    let members = contents::lines_of(alloc, conn, "member", "SELECT crew, base FROM crew_base")?;
     text.push_str(members.as_str())?;
-    let kept = contents::found(alloc, conn, "kept", "SELECT number FROM request")?;
+    let kept = contents::lines_of(alloc, conn, "kept", "SELECT number FROM request")?;
     text.push_str(kept.as_str())?;
     Ok(())
 }
 
 /// What is reported of the same requests in two sessions over one database, and of the rows that the second one leaves, beside those
 /// that the first one left.
-fn told_over<S: Alter + Drop>(
+fn report_over<S: Alter + Drop>(
     alloc: Global,
     conn: Connection<S>,
     list: &[(Key, Command)],
@@ -145,7 +145,7 @@ fn told_over<S: Alter + Drop>(
     let mut text = String::new(alloc);
     let opened = create(alloc, conn);
     let mut conn = add_session(alloc, opened, list, in_one_run, &mut text)?;
-    let noted = contents::told(alloc, &mut conn)?;
+    let noted = contents::rows_of(alloc, &mut conn)?;
     text.push_str(" |")?;
     let opened = take_up(alloc, conn);
     let mut conn = add_session(alloc, opened, list, in_one_run, &mut text)?;
@@ -154,9 +154,9 @@ fn told_over<S: Alter + Drop>(
 }
 
 /// What is reported over memory.
-fn told(alloc: Global, in_one_run: bool) -> Result<String, Untold> {
+fn report_of(alloc: Global, in_one_run: bool) -> Result<String, Untold> {
     let list = requests(alloc, &REQUESTS)?;
-    told_over(alloc, Connection::open_in_memory(alloc)?, &list, in_one_run)
+    report_over(alloc, Connection::open_in_memory(alloc)?, &list, in_one_run)
 }
 
 /// In the second session request 30 is held.
@@ -169,13 +169,13 @@ const TOLD: &str =
 
 #[test]
 fn requests_that_are_asked_one_by_one_act_once(rt: HostRuntime) -> Result<(), Fail> {
-    assert_eq!(rt; told(rt.alloc(), false)?.as_str(), TOLD);
+    assert_eq!(rt; report_of(rt.alloc(), false)?.as_str(), TOLD);
     Ok(())
 }
 
 #[test]
 fn requests_of_one_run_act_once(rt: HostRuntime) -> Result<(), Fail> {
-    assert_eq!(rt; told(rt.alloc(), true)?.as_str(), TOLD);
+    assert_eq!(rt; report_of(rt.alloc(), true)?.as_str(), TOLD);
     Ok(())
 }
 

@@ -6,8 +6,10 @@ pub mod disk;
 pub mod run;
 pub mod states;
 
-use crate::stops::disk::{Left, Stopped, Stops, limited, restarted, taking};
-use crate::stops::run::{Again, Asking, HandedInAgain, Lowering, Reached, Taken, TakingUp, opened};
+use crate::stops::disk::{Left, Stopped, Stops, after_restart, taking, with_limit};
+use crate::stops::run::{
+    Again, Asking, HandedInAgain, Lowering, Reached, Taken, TakingUp, with_opened,
+};
 use crate::stops::states::{COMMANDS, FIRST, first, states};
 use sqlite::Files;
 use sqlite_disk::{Fuse, Memory};
@@ -74,9 +76,13 @@ fn calls_of<D: Stops>(
 ) -> Result<u64, Fail> {
     let whole = count.saturating_add(1);
     for calls in first..first.saturating_add(2_000) {
-        let (reached, files) = opened(alloc, taking::<D>(alloc, stopped, calls), Asking { count });
+        let (reached, files) = with_opened(
+            alloc,
+            taking::<D>(alloc, stopped, calls),
+            Asking { count },
+        );
         let place = place(reached)?;
-        let (again, files) = opened(alloc, restarted(alloc, files, left), HandedInAgain);
+        let (again, files) = with_opened(alloc, after_restart(alloc, files, left), HandedInAgain);
         drop(files);
         check_states(states, again, place, place == whole)?;
         if place == whole {
@@ -101,14 +107,22 @@ fn stop<D: Stops>(alloc: Global, stopped: Stopped, left: Left) -> Result<u64, Fa
 fn stop_opening<D: Stops>(alloc: Global, stopped: Stopped) -> Result<u64, Fail> {
     let states = states(alloc)?;
     let new = taking::<D>(alloc, stopped, u64::MAX);
-    let (reached, whole) = opened(alloc, new, Asking { count: COMMANDS });
+    let (reached, whole) = with_opened(alloc, new, Asking { count: COMMANDS });
     let place = place(reached)?;
     for calls in 0..2_000 {
-        let (taken, files) = opened(alloc, limited(alloc, &whole, stopped, calls), TakingUp);
+        let (taken, files) = with_opened(
+            alloc,
+            with_limit(alloc, &whole, stopped, calls),
+            TakingUp,
+        );
         if taken == Some(Taken::Otherwise) {
             return Err(Fail::from("a stop that is told otherwise"));
         }
-        let (again, files) = opened(alloc, restarted(alloc, files, Left::Written), HandedInAgain);
+        let (again, files) = with_opened(
+            alloc,
+            after_restart(alloc, files, Left::Written),
+            HandedInAgain,
+        );
         drop(files);
         check_states(states.as_slice(), again, place, true)?;
         if taken == Some(Taken::Up) {
@@ -116,6 +130,38 @@ fn stop_opening<D: Stops>(alloc: Global, stopped: Stopped) -> Result<u64, Fail> 
         }
     }
     Err(Fail::from("no book was taken up"))
+}
+
+/// The same over files in memory.
+fn in_memory(rt: &HostRuntime, stopped: Stopped, left: Left) -> Result<u64, Fail> {
+    stop::<Fuse<Memory>>(rt.alloc(), stopped, left)
+}
+
+#[test]
+fn each_call_of_the_log(rt: HostRuntime) -> Result<(), Fail> {
+    assert!(rt; in_memory(&rt, Stopped::Log, Left::Written)? > 40);
+    Ok(())
+}
+
+#[test]
+fn each_call_of_the_log_before_a_sync(rt: HostRuntime) -> Result<(), Fail> {
+    assert!(rt; in_memory(&rt, Stopped::Log, Left::Synced)? > 40);
+    Ok(())
+}
+
+#[test]
+fn each_call_of_the_database(rt: HostRuntime) -> Result<(), Fail> {
+    assert!(rt; in_memory(&rt, Stopped::Database, Left::Written)? > 0);
+    assert!(rt; in_memory(&rt, Stopped::Database, Left::Synced)? > 0);
+    Ok(())
+}
+
+#[test]
+fn each_call_while_a_book_is_opened(rt: HostRuntime) -> Result<(), Fail> {
+    let alloc = rt.alloc();
+    assert!(rt; stop_opening::<Fuse<Memory>>(alloc, Stopped::Log)? > 0);
+    assert!(rt; stop_opening::<Fuse<Memory>>(alloc, Stopped::Database)? > 0);
+    Ok(())
 }
 
 /// Whether files hold a whole book in version 1, whose rows these are, and not in version 2. Fails unless it is one of them, and all
@@ -149,11 +195,11 @@ fn stop_migration_at<D: Stops>(
     calls: u64,
     (first, states): (&str, &[String]),
 ) -> Result<(bool, bool), Fail> {
-    let (taken, files) = opened(alloc, limited(alloc, files, stopped, calls), TakingUp);
+    let (taken, files) = with_opened(alloc, with_limit(alloc, files, stopped, calls), TakingUp);
     if taken == Some(Taken::Otherwise) {
         return Err(Fail::from("a stop that is told otherwise"));
     }
-    let (again, files) = opened(alloc, restarted(alloc, files, left), HandedInAgain);
+    let (again, files) = with_opened(alloc, after_restart(alloc, files, left), HandedInAgain);
     drop(files);
     let is_up = taken == Some(Taken::Up);
     Ok((is_up, is_in_first(first, states, again)?))
@@ -168,7 +214,7 @@ fn stop_migration<D: Stops>(
 ) -> Result<(u64, u64), Fail> {
     let (first, states) = (first(alloc)?, states(alloc)?);
     let wanted = (first.as_str(), states.as_slice());
-    let (lowered, files) = opened(alloc, taking::<D>(alloc, stopped, u64::MAX), Lowering);
+    let (lowered, files) = with_opened(alloc, taking::<D>(alloc, stopped, u64::MAX), Lowering);
     if lowered != Some(true) {
         return Err(Fail::from("no book of version 1"));
     }
@@ -185,29 +231,29 @@ fn stop_migration<D: Stops>(
 }
 
 /// The same over files in memory.
-fn migration(rt: &HostRuntime, stopped: Stopped, left: Left) -> Result<(u64, u64), Fail> {
+fn migration_in_memory(rt: &HostRuntime, stopped: Stopped, left: Left) -> Result<(u64, u64), Fail> {
     stop_migration::<Fuse<Memory>>(rt.alloc(), stopped, left)
 }
 
 #[test]
 fn each_call_of_the_log_in_a_migration(rt: HostRuntime) -> Result<(), Fail> {
-    let (in_first, in_second) = migration(&rt, Stopped::Log, Left::Written)?;
+    let (in_first, in_second) = migration_in_memory(&rt, Stopped::Log, Left::Written)?;
     assert!(rt; in_first > 20 && in_second > 0);
     Ok(())
 }
 
 #[test]
 fn each_call_of_the_log_before_a_sync_in_a_migration(rt: HostRuntime) -> Result<(), Fail> {
-    let (in_first, in_second) = migration(&rt, Stopped::Log, Left::Synced)?;
+    let (in_first, in_second) = migration_in_memory(&rt, Stopped::Log, Left::Synced)?;
     assert!(rt; in_first > 20 && in_second == 0);
     Ok(())
 }
 
 #[test]
 fn each_call_of_the_database_in_a_migration(rt: HostRuntime) -> Result<(), Fail> {
-    let (in_first, _) = migration(&rt, Stopped::Database, Left::Written)?;
+    let (in_first, _) = migration_in_memory(&rt, Stopped::Database, Left::Written)?;
     assert!(rt; in_first > 0);
-    let (in_first, _) = migration(&rt, Stopped::Database, Left::Synced)?;
+    let (in_first, _) = migration_in_memory(&rt, Stopped::Database, Left::Synced)?;
     assert!(rt; in_first > 0);
     Ok(())
 }

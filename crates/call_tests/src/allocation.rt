@@ -17,7 +17,7 @@ use std::alloc::Global;
 use std::test::Fail;
 
 /// What comes of a part. Where it finds no memory for what it needs besides the calls that it tries, it begins anew.
-fn tried(alloc: Global, part: Part, told: &mut Told) -> Result<String, Fault> {
+fn try_part(alloc: Global, part: Part, told: &mut Told) -> Result<String, Fault> {
     match part.try_once(alloc, told) {
         Err(Fault::Memory) => part.try_once(alloc, told),
         text => text,
@@ -27,7 +27,7 @@ fn tried(alloc: Global, part: Part, told: &mut Told) -> Result<String, Fault> {
 /// The same; how out of memory was reported in it is written to standard error.
 fn text_of(rt: &HostRuntime, part: Part) -> Result<String, Fail> {
     let mut told = Told::new();
-    let text = tried(rt.alloc(), part, &mut told);
+    let text = try_part(rt.alloc(), part, &mut told);
     told.print(&mut rt.stderr())?;
     Ok(text?)
 }

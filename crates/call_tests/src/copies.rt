@@ -36,7 +36,7 @@ fn all_are_copied<T: TryClone + PartialEq>(alloc: Global, list: &[T]) -> bool {
 }
 
 /// A mark for each verdict that accepts (`+`) or repeats (`=`), each refusal's number, and whether all are copied.
-fn told(alloc: Global, verdicts: &[Verdict]) -> Result<String, Fail> {
+fn marks_of(alloc: Global, verdicts: &[Verdict]) -> Result<String, Fail> {
     let mut told = String::new(alloc);
     for verdict in verdicts {
         match verdict {
@@ -88,7 +88,7 @@ fn copied_zones(alloc: Global, roster: &Roster) -> Result<String, Fail> {
 fn verdicts_are_copied(rt: HostRuntime) -> Result<(), Fail> {
     let played = asked_all(rt.alloc())?;
     assert_eq!(rt;
-        told(rt.alloc(), &played.verdicts)?.as_str(),
+        marks_of(rt.alloc(), &played.verdicts)?.as_str(),
         "+++++++++++++++++++++++== 1 2 3 4 5 6 7 8 9 10 11 12 13 14 15 19 20 21 22, copied"
     );
     Ok(())

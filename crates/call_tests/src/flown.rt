@@ -37,7 +37,7 @@ fn told_of(alloc: Global, period: &Fdp, actual: &Actual) -> Result<String, Fault
 }
 
 /// How the first period of a command that adds a pairing takes the times of one that records an actual.
-fn told(alloc: Global, adding: &Command, recording: &Command) -> Result<String, Fault> {
+fn text_of(alloc: Global, adding: &Command, recording: &Command) -> Result<String, Fault> {
     let (Instruction::AddPairing(pairing), Instruction::Actual(_, actual)) = (
         adding.instruction(),
         recording.instruction(),
@@ -54,7 +54,7 @@ fn told(alloc: Global, adding: &Command, recording: &Command) -> Result<String, 
 fn record_flown(alloc: Global, adding: &str, recording: &str) -> Result<String, Fault> {
     let adding = read_canonical(alloc, adding)?;
     let recording = read_canonical(alloc, recording)?;
-    let text = told(alloc, &adding, &recording);
+    let text = text_of(alloc, &adding, &recording);
     drop(recording);
     drop(adding);
     text

@@ -62,7 +62,7 @@ fn june(alloc: Global) -> Result<History, Fault> {
 }
 
 /// How many duties it has, and how many minutes of flight, of flight duty and of duty in the week before 12 June.
-fn told(alloc: Global, history: &History) -> Result<String, Fault> {
+fn counts_of(alloc: Global, history: &History) -> Result<String, Fault> {
     let (from, to) = (13_373_280, 13_383_360);
     let flight = history.flight_minutes(from, to);
     let flight_duty = history.fdp_minutes(from, to);
@@ -101,7 +101,10 @@ fn told_of_runs(alloc: Global, history: &History) -> Result<String, Fault> {
 #[test]
 fn counts_its_minutes_once(rt: HostRuntime) -> Result<(), Fail> {
     let history = june(rt.alloc())?;
-    assert_eq!(rt; told(rt.alloc(), &history)?.as_str(), "5 1590 3600 3630");
+    assert_eq!(rt;
+        counts_of(rt.alloc(), &history)?.as_str(),
+        "5 1590 3600 3630"
+    );
     assert_eq!(rt;
         told_of_all(rt.alloc(), &history)?.as_str(),
         "1590 3600 3630"

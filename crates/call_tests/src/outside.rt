@@ -87,7 +87,7 @@ fn name_of(alloc: Global, period: &Outside) -> Result<String, Fault> {
 }
 
 /// How an outside period is refused, or what its copy, which is equal to it, is named.
-fn told(alloc: Global, id: &str, flown: Flown) -> Result<String, Fault> {
+fn fault_or_name(alloc: Global, id: &str, flown: Flown) -> Result<String, Fault> {
     match outside(alloc, id, flown)? {
         Ok(period) => {
             let copy = period.try_clone(alloc)?;
@@ -155,18 +155,21 @@ fn beside_sixty_hours(alloc: Global) -> Result<String, Fault> {
 fn faults_of_an_outside_period_have_an_order(rt: HostRuntime) -> Result<(), Fail> {
     let alloc = rt.alloc();
     assert_eq!(rt;
-        told(alloc, "x1", (1, &[], 0))?.as_str(),
+        fault_or_name(alloc, "x1", (1, &[], 0))?.as_str(),
         "18 BadField outside"
     );
     assert_eq!(rt;
-        told(alloc, "X1", (1, &[], 0))?.as_str(),
+        fault_or_name(alloc, "X1", (1, &[], 0))?.as_str(),
         "19 SegmentCount 0"
     );
     assert_eq!(rt;
-        told(alloc, "X1", (1, &[(0, 1)], 1))?.as_str(),
+        fault_or_name(alloc, "X1", (1, &[(0, 1)], 1))?.as_str(),
         "16 BadTimes 0"
     );
-    assert_eq!(rt; told(alloc, "X1", LONG)?.as_str(), "X1 13380720 13381680");
+    assert_eq!(rt;
+        fault_or_name(alloc, "X1", LONG)?.as_str(),
+        "X1 13380720 13381680"
+    );
     Ok(())
 }
 

@@ -6,7 +6,7 @@ use Rattle.std.proofs.Math.Seq.{drop-cons}
 use Rattle.std.proofs.Common.{length-drop}
 use Rattle.duty.specs.DutiesInForce.{fdp_times}
 use Rattle.duty.specs.declared.segment.Segment.{Segment}
-use Rattle.period_verdict.specs.FlightDuty.{segments_of, timed, fdp_of, is_block_time_count}
+use Rattle.period_verdict.specs.FlightDuty.{segments_of, timed_segment, fdp_of, is_block_time_count}
 
 -- a time that is left over makes no segment
 segments_of-short : (times : List ℕ) → length times ≤ 1 → segments_of times ≡ []
@@ -22,15 +22,15 @@ segments_of-rest segments times i h e =
     sym same ∙ e
 
 -- the next two times make the next segment
-pub segments_of-next : (segments : List Segment) (times : List ℕ) (i a b : ℕ) → 2 * i + 1 < length times → a ≡ get_or times (2 * i) a → b ≡ get_or times (2 * i + 1) b → segments ++ segments_of (drop (2 * i) times) ≡ segments_of times → (segments ++ timed a b ∷ []) ++ segments_of (drop (2 * (i + 1)) times) ≡ segments_of times
+pub segments_of-next : (segments : List Segment) (times : List ℕ) (i a b : ℕ) → 2 * i + 1 < length times → a ≡ get_or times (2 * i) a → b ≡ get_or times (2 * i + 1) b → segments ++ segments_of (drop (2 * i) times) ≡ segments_of times → (segments ++ timed_segment a b ∷ []) ++ segments_of (drop (2 * (i + 1)) times) ≡ segments_of times
 segments_of-next segments times i a b h ea eb e =
     let first : drop (2 * i) times ≡ get_or times (2 * i) a ∷ drop (suc (2 * i)) times = drop-cons times (2 * i) a (omega arith) in
     let second : drop (suc (2 * i)) times ≡ get_or times (suc (2 * i)) b ∷ drop (suc (suc (2 * i))) times = drop-cons times (suc (2 * i)) b (omega arith) in
     let one : suc (2 * i) ≡ 2 * i + 1 = omega arith in
     let two : suc (suc (2 * i)) ≡ 2 * (i + 1) = omega arith in
     let pair : drop (2 * i) times ≡ a ∷ b ∷ drop (2 * (i + 1)) times = cc in
-    let made : segments_of (drop (2 * i) times) ≡ timed a b ∷ segments_of (drop (2 * (i + 1)) times) = ap segments_of pair in
-    let moved : (segments ++ timed a b ∷ []) ++ segments_of (drop (2 * (i + 1)) times) ≡ segments ++ (timed a b ∷ segments_of (drop (2 * (i + 1)) times)) = append_assoc segments _ _ in
+    let made : segments_of (drop (2 * i) times) ≡ timed_segment a b ∷ segments_of (drop (2 * (i + 1)) times) = ap segments_of pair in
+    let moved : (segments ++ timed_segment a b ∷ []) ++ segments_of (drop (2 * (i + 1)) times) ≡ segments ++ (timed_segment a b ∷ segments_of (drop (2 * (i + 1)) times)) = append_assoc segments _ _ in
     moved ∙ sym (ap (λ rest. segments ++ rest) made) ∙ e
 
 -- half as many segments as times

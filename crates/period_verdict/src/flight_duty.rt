@@ -24,14 +24,14 @@ fn read_segments(alloc: Global, times: &[Minute]) -> Result<Vec<Segment>, AllocE
 {
     let mut segments = Vec::new(alloc);
     for i in 0..times.len() / 2 {
-        segments.push(timed(alloc, times[2 * i], times[2 * i + 1]))?;
+        segments.push(timed_segment(alloc, times[2 * i], times[2 * i + 1]))?;
     }
     Ok(segments)
 }
 
 /// Makes a segment of which only the times are given.
-fn timed(alloc: Global, block_out: Minute, block_in: Minute) -> Segment
-    ensures { result ≡ spec.timed block_out block_in }
+fn timed_segment(alloc: Global, block_out: Minute, block_in: Minute) -> Segment
+    ensures { result ≡ spec.timed_segment block_out block_in }
 {
     Segment {
         flight: Flight::new(Text::new(String::new(alloc))),

@@ -197,7 +197,11 @@ pub fn look<S: Alter>(alloc: Global, conn: &Connection<S>) -> Result<(), Untold>
 }
 
 /// The records that are found.
-fn found<S: Alter>(alloc: Global, conn: &mut Connection<S>, step: Step) -> Result<String, Untold> {
+fn records_of<S: Alter>(
+    alloc: Global,
+    conn: &mut Connection<S>,
+    step: Step,
+) -> Result<String, Untold> {
     look(alloc, conn)?;
     match step {
         Step::Book => in_order(alloc, load_book(alloc, conn)),
@@ -228,7 +232,7 @@ fn do_step<S: Alter>(
         }
         Step::IsEmpty => yes(alloc, is_empty(conn)),
         Step::IsBook => yes(alloc, is_book(alloc, conn)?),
-        _ => found(alloc, conn, step),
+        _ => records_of(alloc, conn, step),
     }
 }
 

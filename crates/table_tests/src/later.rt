@@ -118,7 +118,7 @@ fn make<S: Alter>(alloc: Global, conn: &mut Connection<S>, change: Change) -> Re
 }
 
 /// The records that are found.
-fn found<S: Alter>(
+fn records_of<S: Alter>(
     alloc: Global,
     conn: &mut Connection<S>,
     search: Search,
@@ -145,7 +145,7 @@ const ALL: [Search; 8] = [
 ];
 
 /// What is reported of these changes, and of the records that are found then.
-fn changed<S: Alter>(
+fn report_of<S: Alter>(
     alloc: Global,
     conn: &mut Connection<S>,
     changes: &[Change],
@@ -155,7 +155,7 @@ fn changed<S: Alter>(
     }
     let mut text = String::new(alloc);
     for search in ALL {
-        text.push_str(found(alloc, conn, search)?.as_str())?;
+        text.push_str(records_of(alloc, conn, search)?.as_str())?;
     }
     Ok(text)
 }
@@ -172,10 +172,10 @@ fn told_over<S: Alter + Drop>(alloc: Global, mut conn: Connection<S>) -> Result<
         Change::Segment("X1", 2, 310, 690),
         Change::Segment("X2", 1, 810, 890),
     ];
-    let mut text = changed(alloc, &mut conn, &added)?;
+    let mut text = report_of(alloc, &mut conn, &added)?;
     text.push_str("then\n")?;
     let removed = [Change::NoOutside("X1"), Change::NoSegmentsOf("X1")];
-    text.push_str(changed(alloc, &mut conn, &removed)?.as_str())?;
+    text.push_str(report_of(alloc, &mut conn, &removed)?.as_str())?;
     Ok(text)
 }
 

@@ -10,7 +10,7 @@ use std::test::Fail;
 use writing::take_back;
 
 /// What is reported of a transaction that is begun and has one savepoint, where the store shuts behind this many of them.
-fn told(alloc: Global, savepoints: u64) -> Option<Result<(), StoreFault>> {
+fn report_behind(alloc: Global, savepoints: u64) -> Option<Result<(), StoreFault>> {
     let mut conn = shutting_behind(alloc, savepoints)?;
     begin(&mut conn)?;
     Some(take_back(&mut conn))
@@ -24,7 +24,7 @@ fn begin<S: Alter>(conn: &mut Connection<S>) -> Option<()> {
 
 #[test]
 fn a_rollback_that_is_refused_is_told_as_90(rt: HostRuntime) -> Result<(), Fail> {
-    assert!(rt; told(rt.alloc(), 2) == Some(Ok(())));
-    assert!(rt; told(rt.alloc(), 1) == Some(Err(StoreFault::Store)));
+    assert!(rt; report_behind(rt.alloc(), 2) == Some(Ok(())));
+    assert!(rt; report_behind(rt.alloc(), 1) == Some(Err(StoreFault::Store)));
     Ok(())
 }

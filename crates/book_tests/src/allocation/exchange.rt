@@ -30,7 +30,7 @@ const NO_MEMORY: &str = "HTTP/1.1 503 Service Unavailable\r\n\
     {\"name\":\"Memory\",\"refusal\":91,\"result\":\"refused\"}";
 
 /// What a client gets.
-fn got<S: Alter>(alloc: Global, book: &mut Book<S>) -> Result<Vec<u8>, ChannelFault> {
+fn response_to<S: Alter>(alloc: Global, book: &mut Book<S>) -> Result<Vec<u8>, ChannelFault> {
     let mut reader = REQUEST.as_bytes();
     let mut written = Vec::new(alloc);
     web::exchange(alloc, &mut reader, &mut written, book)?;
@@ -43,14 +43,14 @@ fn got_in_the_end<S: Alter>(
     told: &mut Told,
     book: &mut Book<S>,
 ) -> Result<Vec<u8>, ChannelFault> {
-    match got(alloc, book) {
+    match response_to(alloc, book) {
         Ok(response) if response.as_slice() == NO_MEMORY.as_bytes() => {
             told.unavailable = true;
-            got(alloc, book)
+            response_to(alloc, book)
         }
         Err(_) => {
             told.channel = true;
-            got(alloc, book)
+            response_to(alloc, book)
         }
         got => got,
     }

@@ -7,8 +7,8 @@ use crate::allocation::told::Told;
 use crate::contents;
 use crate::fault::Untold;
 use crate::opening::EASTERN;
-use crate::stops::disk::{Left, Stopped, Stops, restarted, taking};
-use crate::stops::run::{Act, Heard, ask, ask_part, import, opened};
+use crate::stops::disk::{Left, Stopped, Stops, after_restart, taking};
+use crate::stops::run::{Act, Heard, ask, ask_part, import, with_opened};
 use crate::stops::states::{COMMANDS, is_part, states};
 use book::{Book, CreateFault, Import, LoadFault};
 use sqlite::{Alter, Connection};
@@ -161,7 +161,7 @@ impl Act for Answering {
             Ok(mut book) => {
                 let heard = ask_all(alloc, &mut book, &mut is_memory_told);
                 let mut conn = book.into_connection();
-                let rows = contents::told(alloc, &mut conn);
+                let rows = contents::rows_of(alloc, &mut conn);
                 let session = Session {
                     heard,
                     is_memory_told,
@@ -192,7 +192,7 @@ fn heard(told: &mut Told, session: &Session) -> Result<Heard, Untold> {
 }
 
 /// Whether all is answered as always and the rows are there; nothing where the files are to be opened again.
-fn ended(alloc: Global, told: &mut Told, session: &Session) -> Result<Option<bool>, Untold> {
+fn is_as_always(alloc: Global, told: &mut Told, session: &Session) -> Result<Option<bool>, Untold> {
     match heard(told, session)? {
         Heard::AsAlways => match &session.rows {
             Ok(rows) => Ok(Some(are_rows_well(alloc, rows)?)),
@@ -210,7 +210,7 @@ fn ended_if_held(
     session: Option<Session>,
 ) -> Result<Option<bool>, Untold> {
     match session {
-        Some(session) => ended(alloc, told, &session),
+        Some(session) => is_as_always(alloc, told, &session),
         None => Ok(None),
     }
 }
@@ -219,11 +219,11 @@ fn ended_if_held(
 pub fn is_answered<D: Stops>(alloc: Global, told: &mut Told) -> Result<bool, Untold> {
     let mut files = taking::<D>(alloc, Stopped::Log, u64::MAX);
     for _ in 0..MOST_OPENINGS {
-        let (session, left) = opened(alloc, files, Answering);
+        let (session, left) = with_opened(alloc, files, Answering);
         if let Some(is_well) = ended_if_held(alloc, told, session)? {
             return Ok(is_well);
         }
-        files = restarted(alloc, left, Left::Written);
+        files = after_restart(alloc, left, Left::Written);
     }
     Ok(false)
 }

@@ -26,14 +26,14 @@ pub trait Stops: Disk + Drop {
     fn taking(alloc: Global, calls: u64) -> Self;
 
     /// The file as the machine finds it after a stop, which takes all calls.
-    fn restarted(self, alloc: Global, left: Left) -> Self;
+    fn after_restart(self, alloc: Global, left: Left) -> Self;
 
     /// What is written in the file, in one that takes this many calls.
-    fn limited(&self, alloc: Global, calls: u64) -> Self;
+    fn with_limit(&self, alloc: Global, calls: u64) -> Self;
 }
 
 /// What is written in a file, in a file that takes this many calls, and that has synced it.
-fn written(alloc: Global, file: &Fuse<Memory>, calls: u64) -> Fuse<Memory> {
+fn copy_of(alloc: Global, file: &Fuse<Memory>, calls: u64) -> Fuse<Memory> {
     let mut copy = Memory::new(alloc);
     if copy.may_be_used() && copy.write_at(0, file.inner().bytes()).is_ok() {
         let _ = copy.sync();
@@ -42,7 +42,7 @@ fn written(alloc: Global, file: &Fuse<Memory>, calls: u64) -> Fuse<Memory> {
 }
 
 /// What is synced of a file, in a file that takes all calls.
-fn synced(mut file: Fuse<Memory>) -> Fuse<Memory> {
+fn after_crash(mut file: Fuse<Memory>) -> Fuse<Memory> {
     file.crash();
     file
 }
@@ -52,15 +52,15 @@ impl Stops for Fuse<Memory> {
         Fuse::new(Memory::new(alloc), calls)
     }
 
-    fn restarted(self, alloc: Global, left: Left) -> Fuse<Memory> {
+    fn after_restart(self, alloc: Global, left: Left) -> Fuse<Memory> {
         match left {
-            Left::Written => written(alloc, &self, u64::MAX),
-            Left::Synced => synced(self),
+            Left::Written => copy_of(alloc, &self, u64::MAX),
+            Left::Synced => after_crash(self),
         }
     }
 
-    fn limited(&self, alloc: Global, calls: u64) -> Fuse<Memory> {
-        written(alloc, self, calls)
+    fn with_limit(&self, alloc: Global, calls: u64) -> Fuse<Memory> {
+        copy_of(alloc, self, calls)
     }
 }
 
@@ -84,16 +84,16 @@ pub fn taking<D: Stops>(alloc: Global, stopped: Stopped, calls: u64) -> Files<D>
 }
 
 /// The files as the machine finds them after a stop.
-pub fn restarted<D: Stops>(alloc: Global, files: Files<D>, left: Left) -> Files<D> {
+pub fn after_restart<D: Stops>(alloc: Global, files: Files<D>, left: Left) -> Files<D> {
     let Files { log, db } = files;
     Files {
-        log: log.restarted(alloc, left),
-        db: db.restarted(alloc, left),
+        log: log.after_restart(alloc, left),
+        db: db.after_restart(alloc, left),
     }
 }
 
 /// Copies of the files with what is written in them, one of which takes this many calls.
-pub fn limited<D: Stops>(
+pub fn with_limit<D: Stops>(
     alloc: Global,
     files: &Files<D>,
     stopped: Stopped,
@@ -101,7 +101,7 @@ pub fn limited<D: Stops>(
 ) -> Files<D> {
     let (log, db) = stopped.calls(calls);
     Files {
-        log: files.log.limited(alloc, log),
-        db: files.db.limited(alloc, db),
+        log: files.log.with_limit(alloc, log),
+        db: files.db.with_limit(alloc, db),
     }
 }

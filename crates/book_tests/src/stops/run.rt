@@ -1,6 +1,6 @@
 //! A book in files that is asked the commands, and what is found in the files when they are opened again.
 
-use crate::contents::told;
+use crate::contents::rows_of;
 use crate::fault::Untold;
 use crate::opening::create;
 use crate::requests::{CAPTAIN, requests};
@@ -274,7 +274,7 @@ impl Act for HandedInAgain {
         alloc: Global,
         mut conn: Connection<S>,
     ) -> (Again, Connection<S>) {
-        let held = told(alloc, &mut conn);
+        let held = rows_of(alloc, &mut conn);
         let (is_answered, mut conn) = match there(alloc, conn) {
             Ok(mut book) => (
                 answers_first(alloc, &mut book, COMMANDS),
@@ -282,7 +282,7 @@ impl Act for HandedInAgain {
             ),
             Err(conn) => (false, conn),
         };
-        let ended = told(alloc, &mut conn);
+        let ended = rows_of(alloc, &mut conn);
         let again = Again {
             held,
             is_answered,
@@ -320,7 +320,7 @@ impl Act for TakingUp {
 }
 
 /// Opens files, does this with the database in them, and closes them. Nothing is reported where they don't open.
-pub fn opened<D: Disk + Drop, A: Act>(
+pub fn with_opened<D: Disk + Drop, A: Act>(
     alloc: Global,
     files: Files<D>,
     act: A,

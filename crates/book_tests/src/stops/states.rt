@@ -1,7 +1,7 @@
 //! Eleven commands, three of them the parts of an import, and the rows of the book after each of them. Times are in minutes since
 //! 2000-01-01T00:00Z.
 
-use crate::contents::sorted;
+use crate::contents::in_order;
 use crate::fault::Untold;
 use crate::requests::{CAPTAIN, OFFICER, key, plan};
 use command::{Command, Instruction, Key};
@@ -323,7 +323,7 @@ fn add_rows(alloc: Global, count: usize, lines: &mut Vec<String>) -> Result<(), 
 fn after(alloc: Global, count: usize) -> Result<String, Untold> {
     let mut lines = Vec::new(alloc);
     add_rows(alloc, count, &mut lines)?;
-    sorted(alloc, lines)
+    in_order(alloc, lines)
 }
 
 /// No tables, the rows of the empty book, and the rows after each command.
@@ -352,5 +352,5 @@ pub fn first(alloc: Global) -> Result<String, Untold> {
             lines.push(line)?;
         }
     }
-    sorted(alloc, lines)
+    in_order(alloc, lines)
 }

@@ -1,6 +1,6 @@
 //! Entries that are set in a roster, as one who reads it from a file does.
 
-use crate::allocation::machine::{empty, played};
+use crate::allocation::machine::{empty, last_state};
 use crate::allocation::same::are_rosters_same;
 use crate::allocation::told::Told;
 use crate::fault::Fault;
@@ -107,7 +107,7 @@ fn put_of(alloc: Global, told: &mut Told, source: &Roster) -> Result<String, Fau
 
 /// Sets the entries of a roster in an empty one.
 pub fn put(alloc: Global, told: &mut Told) -> Result<String, Fault> {
-    let source = played(alloc)?;
+    let source = last_state(alloc)?;
     let text = put_of(alloc, told, &source);
     drop(source);
     text

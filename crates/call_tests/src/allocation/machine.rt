@@ -20,7 +20,7 @@ pub fn empty(alloc: Global) -> Result<Roster, Fault> {
 }
 
 /// The verdict on a command, asked for twice where there is no memory.
-fn judged(
+fn verdict_on(
     alloc: Global,
     told: &mut Told,
     roster: &Roster,
@@ -134,7 +134,7 @@ fn ask(
     (key, command): &(Key, Command),
     marks: &mut String,
 ) -> Result<(), Fault> {
-    let verdict = judged(alloc, told, roster, *key, command)?;
+    let verdict = verdict_on(alloc, told, roster, *key, command)?;
     let answered = answer(alloc, told, roster, other, &verdict, marks);
     drop(verdict);
     answered?;
@@ -205,6 +205,6 @@ fn state(alloc: Global, requests: &[(Key, Command)]) -> Result<Roster, Fault> {
 }
 
 /// The state that all requests leave.
-pub fn played(alloc: Global) -> Result<Roster, Fault> {
+pub fn last_state(alloc: Global) -> Result<Roster, Fault> {
     state(alloc, &requests(alloc, &REQUESTS)?)
 }

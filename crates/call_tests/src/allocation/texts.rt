@@ -1,6 +1,6 @@
 //! Texts that are made, and texts that are read. Such a call changes nothing, so it can only be made again.
 
-use crate::allocation::machine::played;
+use crate::allocation::machine::last_state;
 use crate::allocation::told::Told;
 use crate::fault::Fault;
 use crate::requests::{REQUESTS, requests};
@@ -119,7 +119,7 @@ fn reports(alloc: Global, told: &mut Told, roster: &Roster) -> Result<String, Fa
 
 /// Makes all reports of a roster.
 pub fn report_all(alloc: Global, told: &mut Told) -> Result<String, Fault> {
-    let roster = played(alloc)?;
+    let roster = last_state(alloc)?;
     let text = reports(alloc, told, &roster);
     drop(roster);
     text
@@ -141,7 +141,7 @@ const DAMAGED: &str = "pairing,period,report,release,flight,from,out,to,in\n\
     P20,1,2025-06-31T06:30Z,2025-06-21T11:00Z,RB1,BOS,2025-06-21T07:30Z,IAD,2025-06-21T10:30Z\n";
 
 /// The pairings of a schedule, which is read twice where there is no memory.
-fn read(alloc: Global, told: &mut Told, text: &str) -> Result<Vec<Pairing>, CodecFault> {
+fn read_schedule(alloc: Global, told: &mut Told, text: &str) -> Result<Vec<Pairing>, CodecFault> {
     match schedule_of_csv(alloc, text.as_bytes()) {
         Err(CodecFault::Memory) => {
             told.memory = true;
@@ -169,7 +169,7 @@ fn add_schedule(
     schedule: &str,
     text: &mut String,
 ) -> Result<(), Fault> {
-    match read(alloc, told, schedule) {
+    match read_schedule(alloc, told, schedule) {
         Ok(pairings) => {
             for pairing in &pairings {
                 add_pairing(alloc, pairing, text)?;

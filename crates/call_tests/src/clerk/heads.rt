@@ -73,7 +73,7 @@ POST /requests HTTP/1.1|Host: x||ab => 411 2
 ";
 
 /// What an input comes to, in words. At 400 it isn't stated what of a bad head is left unread.
-fn told(alloc: Global, input: &[u8]) -> Result<String, Fail> {
+fn outcome_of(alloc: Global, input: &[u8]) -> Result<String, Fail> {
     let outcome = serve(alloc, input, false, 1_000);
     let asked = &outcome.asked;
     match outcome.served {
@@ -94,7 +94,7 @@ fn each_head_and_length_comes_to_what_is_stated(rt: HostRuntime) -> Result<(), F
         };
         let input_bytes = with_line_ends(rt.alloc(), input)?;
         assert_eq!(rt;
-            told(rt.alloc(), &input_bytes)?.as_str(),
+            outcome_of(rt.alloc(), &input_bytes)?.as_str(),
             want,
             "at {input}"
         );
@@ -106,11 +106,11 @@ fn each_head_and_length_comes_to_what_is_stated(rt: HostRuntime) -> Result<(), F
 fn bytes_that_are_no_text_come_to_what_is_stated(rt: HostRuntime) -> Result<(), Fail> {
     let alloc = rt.alloc();
     let feeds = b"GET /exceedances HTTP/1.1\nHost: x\n\nmore".as_slice();
-    assert_eq!(rt; told(alloc, feeds)?.as_str(), "200 4 exceedances");
+    assert_eq!(rt; outcome_of(alloc, feeds)?.as_str(), "200 4 exceedances");
     let nul = b"GET /exceedances HTTP/1.1\r\nHost: x\0\r\n\r\n".as_slice();
-    assert_eq!(rt; told(alloc, nul)?.as_str(), "400 - ");
+    assert_eq!(rt; outcome_of(alloc, nul)?.as_str(), "400 - ");
     let no_text = b"GET /crew/\xff HTTP/1.1\r\nHost: x\r\n\r\n".as_slice();
-    assert_eq!(rt; told(alloc, no_text)?.as_str(), "400 - ");
+    assert_eq!(rt; outcome_of(alloc, no_text)?.as_str(), "400 - ");
     Ok(())
 }
 
@@ -140,7 +140,7 @@ fn a_head_has_at_most_16_384_bytes_and_64_fields(rt: HostRuntime) -> Result<(), 
     ] {
         let input = head(alloc, length, fields)?;
         assert_eq!(rt;
-            told(alloc, &input)?.as_str(),
+            outcome_of(alloc, &input)?.as_str(),
             want,
             "{length} bytes and {fields} fields"
         );

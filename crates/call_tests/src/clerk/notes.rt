@@ -59,25 +59,25 @@ fn text_of(bytes: &[u8]) -> &str {
 
 fn answer_to(alloc: Global, note: &str) -> Result<Response, HandlerFault> {
     match note {
-        "exceedances" => told(
+        "exceedances" => answer_of(
             alloc,
             StatusCode::OK,
             MediaType::PlainText,
             "EXCEEDANCES 0\n",
         ),
-        "crew C9" => told(
+        "crew C9" => answer_of(
             alloc,
             StatusCode::NOT_FOUND,
             MediaType::Json,
             "{\"name\":\"NoSuchCrew\",\"refusal\":2,\"result\":\"refused\"}",
         ),
-        "command {\"number\":1,\"do\":\"cancel-ground\",\"ground\":\"G1\"}" => told(
+        "command {\"number\":1,\"do\":\"cancel-ground\",\"ground\":\"G1\"}" => answer_of(
             alloc,
             StatusCode::CONFLICT,
             MediaType::Json,
             "{\"name\":\"NoSuchGround\",\"refusal\":15,\"result\":\"refused\"}",
         ),
-        "command " => told(
+        "command " => answer_of(
             alloc,
             StatusCode::UNPROCESSABLE_ENTITY,
             MediaType::Json,
@@ -85,7 +85,7 @@ fn answer_to(alloc: Global, note: &str) -> Result<Response, HandlerFault> {
         ),
         "command store" => Err(HandlerFault::Store),
         "command memory" => Err(HandlerFault::Memory),
-        _ => told(
+        _ => answer_of(
             alloc,
             StatusCode::OK,
             MediaType::Json,
@@ -94,7 +94,7 @@ fn answer_to(alloc: Global, note: &str) -> Result<Response, HandlerFault> {
     }
 }
 
-fn told(
+fn answer_of(
     alloc: Global,
     status: StatusCode,
     media_type: MediaType,

@@ -106,7 +106,7 @@ fn make(alloc: Global, roster: &mut Roster, verdict: &Verdict) -> Result<(), Fai
 }
 
 /// The verdict on a command, which is made where it is accepted.
-fn judged(
+fn verdict_on(
     alloc: Global,
     roster: &mut Roster,
     key: Key,
@@ -119,7 +119,7 @@ fn judged(
 
 fn ask(alloc: Global, played: &mut Played, (number, text): Line) -> Result<(), Fail> {
     let command = read_canonical(alloc, text)?;
-    let verdict = judged(alloc, &mut played.roster, key(number), &command);
+    let verdict = verdict_on(alloc, &mut played.roster, key(number), &command);
     drop(command);
     played.verdicts.push(verdict?)?;
     Ok(())
