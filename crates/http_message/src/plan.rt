@@ -1,5 +1,5 @@
 //! What a head asks for, before any byte of a body is read. The definition is `plan_for_head` (`specs/Plan.antt`).
-//! What clients send: `tests/exchanges.py`. Wrong bodies: `must-fail/`.
+//! What clients send: `tests/exchanges.py`. Wrong bodies: `must-fail-more/`.
 ghost use Rattle.std.specs.Prelude.{◌≡◌, IfOk, Some, codes, length};
 ghost use Rattle.http_message.specs.Fields.{values};
 ghost use Rattle.http_message.specs.Plan as spec;

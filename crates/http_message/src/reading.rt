@@ -1,5 +1,5 @@
 //! A head as a reader gives it. What is a whole head is `HasHead` (`specs/Reading.antt`).
-//! What clients send: `tests/exchanges.py`. Wrong bodies: `must-fail/`.
+//! What clients send: `tests/exchanges.py`. Wrong bodies: `must-fail-more/`.
 ghost use Rattle.std.specs.Prelude.{◌≡◌, [], ◌∷◌, IfErr, IfOk, MatchOption};
 ghost use Rattle.std.specs.Io.KnownBytes.{Consumes, IsAtEnd, Keeps};
 ghost use Rattle.http_message.specs.Reading as spec;

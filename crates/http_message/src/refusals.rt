@@ -1,5 +1,5 @@
 //! Why a request is refused by its head or its length alone.
-//! What clients are answered: `tests/exchanges.py`. Wrong bodies: `must-fail/`.
+//! What clients are answered: `tests/exchanges.py`. Wrong bodies: `must-fail-more/`.
 ghost use Rattle.std.specs.Prelude.{◌≡◌};
 ghost use Rattle.http_message.specs.Refusals as spec;
 

@@ -1,5 +1,5 @@
 //! A response as bytes. The definitions are in `specs/Response.antt`.
-//! What clients are answered: `tests/exchanges.py`. Wrong bodies: `must-fail/`.
+//! What clients are answered: `tests/exchanges.py`. Wrong bodies: `must-fail-more/`.
 ghost use Rattle.std.specs.Prelude.{◌≡◌, ◌++◌, IfOk, string_bytes};
 ghost use Rattle.http_message.specs.Response as spec;
 

@@ -1,5 +1,5 @@
 //! The resources of a book, by their paths. The definition is `place_of_path` (`specs/Routes.antt`).
-//! What clients send: `tests/exchanges.py`. Wrong bodies: `must-fail/` and `must-fail-more/`.
+//! What clients send: `tests/exchanges.py`. Wrong bodies: `must-fail-more/`.
 ghost use Rattle.std.specs.Prelude.{◌≡◌, IfOk, option_map};
 ghost use Rattle.matchit.specs.Params.{AllText};
 ghost use Rattle.http_message.specs.Routes as spec;

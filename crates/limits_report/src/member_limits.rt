@@ -1,5 +1,5 @@
 //! How near a member's duties are to each limit, as a text. Its definition is `IsLimitsText` (`specs/LimitsText.antt`).
-//! Wrong bodies: `must-fail/`.
+//! Wrong bodies: `must-fail-more/`.
 ghost use Rattle.std.specs.Prelude.{◌≡◌, ◌≤◌, ◌↔◌, ◌⊎◌, length, IsSome, Err, None, Some, IfOk, IfErr, string_bytes};
 ghost use Rattle.std.specs.FinMap as fin;
 ghost use Rattle.std.specs.Option.{option_copied};

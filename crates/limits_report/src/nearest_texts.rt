@@ -1,5 +1,5 @@
 //! What is nearest to a limit, as it is printed.
-//! Wrong bodies: `must-fail/`.
+//! Wrong bodies: `must-fail-more/`.
 ghost use Rattle.std.specs.Prelude.{◌≡◌, ◌<ℤ◌, IfOk, IfSome, IfNone, pos, string_bytes};
 ghost use Rattle.duty.specs.Minutes.{minutes_in};
 ghost use Rattle.limits_report.specs.LimitsText as spec;

@@ -1,5 +1,5 @@
 //! The members of the crew as a text. Its definition is `IsMembersText` (`specs/MembersText.antt`).
-//! Wrong bodies: `must-fail/`.
+//! Wrong bodies: `must-fail-more/`.
 ghost use Rattle.std.specs.Prelude.{◌≡◌, IfOk, string_bytes};
 ghost use Rattle.list_report.specs.MembersText as spec;
 

@@ -1,5 +1,5 @@
 //! The pairings as a text. Its definition is `IsPairingsText` (`specs/PairingsText.antt`).
-//! Wrong bodies: `must-fail/`.
+//! Wrong bodies: `must-fail-more/`.
 ghost use Rattle.std.specs.Prelude.{◌≡◌, ◌-◌, ◌++◌, IfOk, codes, length, slice_get, string_bytes};
 ghost use Rattle.std.specs.Option.{option_map_or};
 ghost use Rattle.time117.specs.Instant.{written};

@@ -1,5 +1,5 @@
 //! The rows of the list of pairings, and their order.
-//! Wrong bodies: `must-fail/`.
+//! Wrong bodies: `must-fail-more/`.
 ghost use Rattle.std.specs.Prelude.{◌≡◌, ◌++◌, IfOk, string_bytes};
 ghost use Rattle.std.specs.List.{flat_map};
 ghost use Rattle.list_report.specs.PairingsText.{IsInOrder};

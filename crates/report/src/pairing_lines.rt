@@ -1,5 +1,5 @@
 //! A pairing as a text, and who flies it. Its definition is `pairing_text` (`specs/PairingText.antt`).
-//! Worked texts: `tests/reports.py`. Wrong bodies: `must-fail/`.
+//! Worked texts: `tests/reports.py`. Wrong bodies: `must-fail-more/`.
 ghost use Rattle.std.specs.Prelude.{◌≡◌, ◌↔◌, ◌⊎◌, ◌++◌, Err, None, Some, IfOk, IfErr, codes, string_bytes};
 ghost use Rattle.std.specs.FinMap as fin;
 ghost use Rattle.report.specs.PairingText as spec;

@@ -1,5 +1,5 @@
 //! The periods of a pairing with their times in force.
-//! Worked texts: `tests/reports.py`. Wrong bodies: `must-fail/`.
+//! Worked texts: `tests/reports.py`. Wrong bodies: `must-fail-more/`.
 ghost use Rattle.std.specs.Prelude.{◌≡◌, ◌≤◌, IfOk, length};
 ghost use Rattle.std.specs.List.{All};
 ghost use Rattle.report.specs.Periods as spec;

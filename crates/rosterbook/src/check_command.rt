@@ -1,6 +1,6 @@
 //! `rosterbook do --dry-run`: a request on standard input, or one a line, of which a book is asked how it would answer now. The
 //! definitions are in `specs/Asking.antt` and `specs/InLines.antt`.
-//! Wrong bodies: `must-fail/` and `must-fail-more/`.
+//! Wrong bodies: `must-fail-more/`.
 ghost use Rattle.std.specs.Prelude.{◌≡◌, ◌∷◌, [], IfErr, IfOk, IsErr, None};
 ghost use Rattle.sqlite_wal.specs.Files.{image_at};
 ghost use Rattle.http_exchange.specs.Exchange.{ChannelBytes};

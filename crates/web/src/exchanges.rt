@@ -1,5 +1,5 @@
 //! One exchange with a book. The response to an input in a state is `specs/Response.antt`.
-//! What clients send and are answered: `tests/exchanges.py`. Wrong bodies: `must-fail/`.
+//! What clients send and are answered: `tests/exchanges.py`. Wrong bodies: `must-fail-more/`.
 ghost use Rattle.std.specs.Prelude.{◌≡◌, IfErr, IfOk, IsTrue};
 ghost use Rattle.roster.specs.Honest.{Honest};
 ghost use Rattle.roster.specs.State.{State};
