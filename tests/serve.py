@@ -95,7 +95,7 @@ def try_answers(desk):
 
 
 def try_hour(desk):
-    """All five paths over a book, each report also by HEAD; and the same hour by Python's own client, over another."""
+    """Each path over a book, each report also by HEAD; and the same hour by Python's own client, over another."""
     book, other = desk.book(), desk.book()
     desk.expect_served(book, list(hour()))
     with serving(other, len(HOUR)) as server:

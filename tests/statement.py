@@ -46,7 +46,6 @@ from functools import cached_property
 from counting import Desk
 from sources import (
     TOP,
-    Item,
     files,
     items,
     items_of,

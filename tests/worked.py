@@ -549,7 +549,7 @@ def exceeding(desk, said):
     desk.expect("the limits", [most, hours, more, flight], [60 * 60, 168, most + 1, 541])
 
 
-# An example by its first words, and what counts it; or nothing, where it has no number to count.
+# An example by its first words, and what counts it; or nothing, where it has no number to count but those that other examples count.
 CHECKS = {
     "C1 is added, then P10": life_of_two_sessions,
     "`IsOver width most all new` has": None,

@@ -32,10 +32,11 @@ impl Part {
     }
 }
 
-/// What comes of a part. Where it finds no memory for what it needs besides the calls that it tries, it begins anew.
+/// What comes of a part. Where it finds no memory for what it needs besides the calls that it tries, it begins anew; but not where one of
+/// these has found none, since the same call, made again, has all memory.
 fn try_part(alloc: Global, part: Part, told: &mut Told) -> Result<bool, Untold> {
     match part.try_once(alloc, told) {
-        Err(Untold::Memory) => part.try_once(alloc, told),
+        Err(Untold::Memory) if !told.memory => part.try_once(alloc, told),
         done => done,
     }
 }

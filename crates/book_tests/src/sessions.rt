@@ -214,6 +214,7 @@ fn what_is_refused_hands_the_connection_back(rt: HostRuntime) -> Result<(), Fail
             ("DELETE FROM seat", false),
             ("", true),
             ("UPDATE book SET version = 7", false),
+            ("UPDATE book SET version = 2", false),
         ],
     )?;
     assert_eq!(rt;

@@ -16,10 +16,11 @@ use crate::fault::Fault;
 use std::alloc::Global;
 use std::test::Fail;
 
-/// What comes of a part. Where it finds no memory for what it needs besides the calls that it tries, it begins anew.
+/// What comes of a part. Where it finds no memory for what it needs besides the calls that it tries, it begins anew; but not where one of
+/// these has found none, since the same call, made again, has all memory.
 fn try_part(alloc: Global, part: Part, told: &mut Told) -> Result<String, Fault> {
     match part.try_once(alloc, told) {
-        Err(Fault::Memory) => part.try_once(alloc, told),
+        Err(Fault::Memory) if !told.memory => part.try_once(alloc, told),
         text => text,
     }
 }

@@ -1,5 +1,5 @@
 //! The refusal of a schedule, by its record, before it becomes a refusal 30.
-//! Each record's: `tests/texts.py`.
+//! Each record's: `tests/texts.py` and `tests/transcripts/schedules.txt`.
 use std::alloc::{AllocError, AllocFailed};
 use stored_json::Unread;
 use values::MemoryFault;

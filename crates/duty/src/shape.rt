@@ -1,5 +1,5 @@
 //! Which texts are ids, flights, airports, names and tasks.
-//! Texts on both sides of each shape: `tests/texts.py`. Wrong bodies: `must-fail-more/`.
+//! Texts on both sides of each shape: `tests/answers.py`. Wrong bodies: `must-fail-more/`.
 ghost use Rattle.std.specs.Prelude.{◌≡◌};
 ghost use Rattle.std.specs.List.{list_all};
 ghost use Rattle.duty.specs.Shape as spec;
