@@ -13,12 +13,12 @@ use Rattle.sqlite.specs.Files.{file_state, over_files}
 use Rattle.sqlite.specs.Held.{Held}
 use Rattle.roster.specs.State.{State}
 use Rattle.state_rows.specs.Kept.{HoldBookOf}
-use Rattle.book.specs.Found.{HoldsBookAlone, LeavesBook, LeavesByCrash, LeavesEither}
+use Rattle.book.specs.Found.{HoldsStateAlone, LeavesBook, LeavesByCrash, LeavesEither}
 use Rattle.book.specs.Kept.{IsClean, IsInDoubt, IsKept, Keeps, Kept}
 use Rattle.book.specs.declared.file.FilesLeft.{FilesLeft}
 use Rattle.book.specs.declared.file.FilesLeft.TheVariants.{Closed, Unclosed}
 
-held : (image : Image) (trees : Trees) (s : State) → HoldsAlone image trees → HoldBookOf trees s → IsKept s → HoldsBookAlone image s
+held : (image : Image) (trees : Trees) (s : State) → HoldsAlone image trees → HoldBookOf trees s → IsKept s → HoldsStateAlone image s
 held image trees s holds tables kept = record {
   both = record { trees = trees; in_files = holds.both; tables = inr tables; kept = kept };
   alone = record { trees = trees; in_files = holds.alone; tables = inr tables; kept = kept };

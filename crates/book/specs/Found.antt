@@ -24,7 +24,7 @@ use Rattle.book.specs.declared.file.FilesLeft.TheVariants.{Closed, Unclosed}
 
 -- the database file and its log hold the tables of a book in this state, which tables may mean, in
 -- version 1 or 2
-pub record HoldsBook (image : Image) (s : State) : Type 0 where
+pub record HoldsState (image : Image) (s : State) : Type 0 where
   pub trees : Trees
   pub in_files : ∥ HoldsDatabase image trees ∥₁
   pub tables : HoldFirstBookOf trees s ⊎ HoldBookOf trees s
@@ -35,7 +35,7 @@ pub record FindsBook (image : Image) (s : State) : Type 0 where
   pub trees : Trees
   pub in_files : AreFoundIn image trees
   pub found : IsFoundIn s trees
-  pub only : (t : State) → HoldsBook image t → t ≡ s
+  pub only : (t : State) → HoldsState image t → t ≡ s
 
 -- a book in some state is found in the files; the connection shows that state, and a crash leaves
 -- it and nothing else
@@ -56,9 +56,9 @@ pub record IsFaultOf (image : Image) (fault : LoadFault) : Type 0 where
 
 -- the database file and its log hold a book in this state, and so does the database file with no
 -- log
-pub record HoldsBookAlone (image : Image) (s : State) : Type 0 where
-  pub both : HoldsBook image s
-  pub alone : HoldsBook (record image { log = [] }) s
+pub record HoldsStateAlone (image : Image) (s : State) : Type 0 where
+  pub both : HoldsState image s
+  pub alone : HoldsState (record image { log = [] }) s
 
 module _ {D : Type 0} {g : Ghosts D} where
   -- the disk of the files has returned what was written
@@ -75,8 +75,8 @@ module _ {D : Type 0} {g : Ghosts D} where
   -- that were not closed, whatever is found after a crash is a book in this state.
   abbrev pub LeavesBook : FilesLeft D g → State → Type 0
   LeavesBook (Closed files) s =
-      HoldsBookAlone (image_of g files) s
-      × ((image : Image) → outcomes g files.log files.db image → HoldsBookAlone image s)
+      HoldsStateAlone (image_of g files) s
+      × ((image : Image) → outcomes g files.log files.db image → HoldsStateAlone image s)
   LeavesBook (Unclosed store) s =
       IsKept s × ((trees : Trees) → over_files.recovers store trees → HoldBookOf trees s)
 

@@ -22,7 +22,7 @@ use Rattle.console.proofs.Filled.{given_found, has_default, has_rule, rows_fille
 use Rattle.console.proofs.FlagRead.{flag_there, is_flag_checked}
 use Rattle.console.proofs.NumberRead.{is_number_checked, number_there}
 use Rattle.console.specs.CommandLine.{Argument, a_number, a_text, command_line, flag, option_number, option_text}
-use Rattle.console.specs.CommandLine.{some_texts, table}
+use Rattle.console.specs.CommandLine.{some_texts, subcommand_table}
 use Rattle.console.specs.Arguments.{Has, HasArguments, HasEach, IsAmong}
 
 -- these rules have the argument be there
@@ -145,14 +145,14 @@ line_among top words subcommands fit required none =
 
 -- ---- the program
 
-each_fits : fit_each (built command_line).subs table ≡ true
+each_fits : fit_each (built command_line).subs subcommand_table ≡ true
 each_fits = refl
 
 is_met : (words : List Text) → fault_of command_line words ≡ []
-    → IsSomeAnd (subcommand_of command_line words) (λ met. IsAmong met table)
-is_met words none = line_among (built command_line) words table each_fits refl none
+    → IsSomeAnd (subcommand_of command_line words) (λ met. IsAmong met subcommand_table)
+is_met words none = line_among (built command_line) words subcommand_table each_fits refl none
 
-is_there : (met : Option (Text × List Row)) → IsSomeAnd met (λ p. IsAmong p table) → HasArguments met
+is_there : (met : Option (Text × List Row)) → IsSomeAnd met (λ p. IsAmong p subcommand_table) → HasArguments met
 is_there None h = absurd h
 is_there (Some p) h = h
 

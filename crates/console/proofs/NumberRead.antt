@@ -21,7 +21,7 @@ use Rattle.clap.specs.declared.error.kind.ErrorKind.TheVariants.{ValueValidation
 use Rattle.clap.specs.declared.parser.matches.Found.{Found}
 use Rattle.duty.specs.Shape.{is_within}
 use Rattle.console.proofs.Checked.{all_accepted, good_there, is_checked, rows_read}
-use Rattle.console.specs.Arguments.{HasNumber}
+use Rattle.console.specs.Arguments.{HasWholeNumber}
 use Rattle.console.specs.CommandLine.{last_number, number_found, number_up_to}
 
 -- what a line comes to whose only number is one, or isn't
@@ -91,7 +91,7 @@ is_number_checked most id = is_checked id (is_number most) (takes_numbers most)
 -- the rows of a level that met no fault have such a number where they have the argument
 pub number_there : (most : ℕ) (id : Text) (s : Shape) (words : List Text)
     → list_all (is_number_checked most id) s.rules ≡ true → level_fault s [] nothing_held words false [] ≡ []
-    → is_some (first_of id (rows_after s.rules [] words)) ≡ true → HasNumber most id (rows_after s.rules [] words)
+    → is_some (first_of id (rows_after s.rules [] words)) ≡ true → HasWholeNumber most id (rows_after s.rules [] words)
 number_there most id s words ok none some =
     let rows : List Row = rows_after s.rules [] words in
     let found = good_there id (is_number most) (takes_numbers most) rows
@@ -123,7 +123,7 @@ module _ (most : ℕ) where
 
   pub number_taken : (f : Found) (id : Text) (E : Type 0) (r : Option ℕ) (G : List ℕ → Result ℕ E → Type 0)
       → ((t : Text) → one_text f id ≡ Some t → ReadsOne G t r)
-      → ((u : List ℕ) (x : Result ℕ E) → G u x → ParsesUnsigned 64 10 u x) → HasNumber most id (rows_of f)
+      → ((u : List ℕ) (x : Result ℕ E) → G u x → ParsesUnsigned 64 10 u x) → HasWholeNumber most id (rows_of f)
       → option_and_then (number_up_to most) (first_of id (rows_of f)) ≡ r
   number_taken f id E r G read only has = go (first_of id (rows_of f)) refl has.number
     where
@@ -152,7 +152,7 @@ module _ (most : ℕ) where
           let bad : ⊥ = cc in
           absurd bad
 
-pub number_at_most : (most : ℕ) (id : Text) (rows : List Row) (n : ℕ) → HasNumber most id rows
+pub number_at_most : (most : ℕ) (id : Text) (rows : List Row) (n : ℕ) → HasWholeNumber most id rows
     → number_found most id rows ≡ Some n → n ≤ most
 number_at_most most id rows n has e = leb-true n most (both (nat_le 1 n) _ (number_within most (first_of id rows) n e)).1
 
@@ -163,7 +163,7 @@ pub taken_there : (o r : Option ℕ) → o ≡ r → is_some o ≡ true → IsSo
 taken_there None r e some = absurd (true≢false (sym some))
 taken_there (Some n) r e some = rw (← e) refl
 
-pub number_made : (id : Text) (rows : List Row) (n : ℕ) (r : Option ℕ) → HasNumber last_number id rows
+pub number_made : (id : Text) (rows : List Row) (n : ℕ) (r : Option ℕ) → HasWholeNumber last_number id rows
     → number_found last_number id rows ≡ Some n
     → r ≡ cond (is_within 1 last_number n) (Some n) None → r ≡ Some n
 number_made id rows n r has e made = made ∙ rw (number_within last_number (first_of id rows) n e) refl

@@ -19,7 +19,7 @@ use Rattle.clap.specs.declared.error.Error.{Error}
 use Rattle.clap.specs.declared.error.kind.ErrorKind.{ErrorKind}
 use Rattle.clap.specs.declared.error.kind.ErrorKind.TheVariants.{DisplayHelp, InvalidSubcommand, OutOfMemory}
 use Rattle.console.proofs.PlainWords.{defaults_are, end_of, plain_fault_of, plain_level, plain_rows, reads_flags}
-use Rattle.console.specs.CommandLine.{IsActionOf, Value, arguments_of, asked, command_line, value_of}
+use Rattle.console.specs.CommandLine.{IsActionOf, Value, arguments_of, call_of, command_line, value_of}
 use Rattle.console.specs.Plain.{is_plain}
 use Rattle.console.specs.declared.actions.Action.{Action}
 
@@ -149,9 +149,9 @@ abbrev pub found : Text → List Row → List (Option Value)
 found name rows = map (value_of rows) (arguments_of name)
 
 stated_values : (a : Action) (name : Text) (rows : List Row) (values : List Value) → IsActionOf a (name, rows)
-    → found name rows ≡ map (λ v. Some v) values → asked a ≡ (name, values)
+    → found name rows ≡ map (λ v. Some v) values → call_of a ≡ (name, values)
 stated_values a name rows values states is =
-    ap₂ (λ n vs. (n, vs)) (sym states.0) (same_values (asked a).1 values (sym states.1 ∙ is))
+    ap₂ (λ n vs. (n, vs)) (sym states.0) (same_values (call_of a).1 values (sym states.1 ∙ is))
 
 module _ (read : Result Action Error) (words : List Text)
     (ok : IfOk read (λ a. IsSomeAnd (subcommand_of command_line words) (IsActionOf a)))
@@ -163,12 +163,12 @@ module _ (read : Result Action Error) (words : List Text)
   -- it reads a line that meets no fault as what its subcommand found
   pub line_read : (values : List Value) → level_fault (leaf name) [] nothing_held given false [] ≡ []
       → found name (rows_after (leaf name).rules [] given) ≡ map (λ v. Some v) values
-      → MatchResult read (λ a. asked a ≡ (name, values)) (λ e. kind_of e ≡ OutOfMemory)
+      → MatchResult read (λ a. call_of a ≡ (name, values)) (λ e. kind_of e ≡ OutOfMemory)
   line_read values passes has = go read ok fails
     where
       go : (r : Result Action Error) → IfOk r (λ a. IsSomeAnd (subcommand_of command_line words) (IsActionOf a))
           → FailsBy (fault_of command_line words) r
-          → MatchResult r (λ a. asked a ≡ (name, values)) (λ e. kind_of e ≡ OutOfMemory)
+          → MatchResult r (λ a. call_of a ≡ (name, values)) (λ e. kind_of e ≡ OutOfMemory)
       go (Ok a) states none =
           stated_values a name _ values (subst (λ (o : Option (Text × List Row)). IsSomeAnd o (IsActionOf a))
           (ap (subcommand_of command_line) is ∙ line_stated name is_entered given) states) has
@@ -198,7 +198,7 @@ module _ (read : Result Action Error) (words : List Text)
   -- it reads a line of plain words as what its subcommand finds at their places
   pub plain_read : (values : List Value) → list_all is_plain given ≡ true → plain_fault_of (leaf name) given ≡ []
       → found name (finished (leaf name).rules (end_of (leaf name) given)) ≡ map (λ v. Some v) values
-      → MatchResult read (λ a. asked a ≡ (name, values)) (λ e. kind_of e ≡ OutOfMemory)
+      → MatchResult read (λ a. call_of a ≡ (name, values)) (λ e. kind_of e ≡ OutOfMemory)
   plain_read values plain passes has =
       line_read values (plain_level (leaf name) flags given plain ∙ passes)
       (ap (found name) (plain_rows (leaf name) flags given plain) ∙ has)

@@ -5,10 +5,10 @@ use Rattle.std.specs.Option.{option_map_or}
 use Rattle.std.specs.Str.{bytes_eq}
 use Rattle.clap.specs.Words.{Row, Text, all_of, first_of, one_of}
 use Rattle.console.specs.CommandLine.{Argument, a_number, a_text, arguments_of, flag, number_found}
-use Rattle.console.specs.CommandLine.{option_number, option_text, some_texts, table}
+use Rattle.console.specs.CommandLine.{option_number, option_text, some_texts, subcommand_table}
 
 -- The argument has a whole number from 1 to `most`, which is read as it was written.
-pub record HasNumber (most : ℕ) (id : Text) (rows : List Row) : Type 0 where
+pub record HasWholeNumber (most : ℕ) (id : Text) (rows : List Row) : Type 0 where
   pub number : is_some (number_found most id rows) ≡ true
   pub as_written : one_of id rows ≡ first_of id rows
 
@@ -25,8 +25,8 @@ pub record HasFlag (id : Text) (rows : List Row) : Type 0 where
 abbrev pub Has : List Row → Argument → Type 0
 Has rows (a_text id) = is_some (first_of id rows) ≡ true
 Has rows (some_texts id) = is_some (all_of id rows) ≡ true
-Has rows (a_number most id) = HasNumber most id rows
-Has rows (option_number most default id) = HasNumber most id rows
+Has rows (a_number most id) = HasWholeNumber most id rows
+Has rows (option_number most default id) = HasWholeNumber most id rows
 Has rows (option_text id) = Unit {0}
 Has rows (flag id) = HasFlag id rows
 
@@ -47,4 +47,4 @@ IsAmong met (row ∷ rest) = ((met.0 ≡ row.0) × HasEach met.1 row.1) ⊎ IsAm
 -- A subcommand was met; it is one of the program's subcommands, with its arguments.
 abbrev pub HasArguments : Option (Text × List Row) → Type 0
 HasArguments None = ⊥
-HasArguments (Some met) = IsAmong met table
+HasArguments (Some met) = IsAmong met subcommand_table

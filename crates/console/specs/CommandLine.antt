@@ -52,8 +52,8 @@ abbrev pub connections : Argument
 connections = option_number most_connections (codes "1000000") (codes "connections")
 
 -- the subcommands, each with its arguments in order
-abbrev pub table : List (Text × List Argument)
-table =
+abbrev pub subcommand_table : List (Text × List Argument)
+subcommand_table =
     (codes "duty", a_text (codes "zone") ∷ a_text (codes "report") ∷ some_texts (codes "time") ∷ [])
     ∷ (codes "init", a_text (codes "file") ∷ a_text (codes "zone") ∷ [])
     ∷ (codes "do", a_text (codes "file") ∷ flag (codes "dry-run") ∷ flag (codes "lines") ∷ [])
@@ -72,7 +72,8 @@ table =
 
 -- the arguments of the subcommand of this name
 abbrev pub arguments_of : Text → List Argument
-arguments_of name = option_map_or (λ row. row.1) (find (λ row. bytes_eq row.0 name) table) []
+arguments_of name =
+    option_map_or (λ row. row.1) (find (λ row. bytes_eq row.0 name) subcommand_table) []
 
 -- ---- the rules that `clap` gets
 
@@ -132,7 +133,8 @@ bare = on_top (λ s. record s {
 
 -- the program's command line
 abbrev pub command_line : App
-command_line = fold (λ app row. with_subcommand app (with_arguments row.0 row.1).top) bare table
+command_line =
+    fold (λ app row. with_subcommand app (with_arguments row.0 row.1).top) bare subcommand_table
 
 -- The command of `clap` is built as `app` says.
 abbrev pub IsCommandOfApp : App → Command → Type 0
@@ -183,30 +185,31 @@ value_of rows (option_text id) = Some (maybe (first_of id rows))
 value_of rows (flag id) = Some (given (is_on id rows))
 
 -- the subcommand of an action, and what is given for each of its arguments
-abbrev pub asked : Action → Text × List Value
-asked (Duty zone report times) = (
+abbrev pub call_of : Action → Text × List Value
+call_of (Duty zone report times) = (
   codes "duty",
   one (string_bytes zone) ∷ one (string_bytes report) ∷ several (map string_bytes times.items) ∷ [],
 )
-asked (Init file zone) = (codes "init", one (string_bytes file) ∷ one (string_bytes zone) ∷ [])
-asked (Do file dry_run lines) =
+call_of (Init file zone) = (codes "init", one (string_bytes file) ∷ one (string_bytes zone) ∷ [])
+call_of (Do file dry_run lines) =
     (codes "do", one (string_bytes file) ∷ given dry_run ∷ given lines ∷ [])
-asked (Import file number) = (codes "import", one (string_bytes file) ∷ whole number ∷ [])
-asked (Roster file crew) = (codes "roster", one (string_bytes file) ∷ one (string_bytes crew) ∷ [])
-asked (Pairing file id) = (codes "pairing", one (string_bytes file) ∷ one (string_bytes id) ∷ [])
-asked (Limits file crew id) = (
+call_of (Import file number) = (codes "import", one (string_bytes file) ∷ whole number ∷ [])
+call_of (Roster file crew) =
+    (codes "roster", one (string_bytes file) ∷ one (string_bytes crew) ∷ [])
+call_of (Pairing file id) = (codes "pairing", one (string_bytes file) ∷ one (string_bytes id) ∷ [])
+call_of (Limits file crew id) = (
   codes "limits",
   one (string_bytes file) ∷ one (string_bytes crew) ∷ maybe (option_map string_bytes id) ∷ [],
 )
-asked (Exceedances file) = (codes "exceedances", one (string_bytes file) ∷ [])
-asked (Members file) = (codes "members", one (string_bytes file) ∷ [])
-asked (Pairings file only_open) =
+call_of (Exceedances file) = (codes "exceedances", one (string_bytes file) ∷ [])
+call_of (Members file) = (codes "members", one (string_bytes file) ∷ [])
+call_of (Pairings file only_open) =
     (codes "pairings", one (string_bytes file) ∷ given only_open ∷ [])
-asked (Serve file port count) =
+call_of (Serve file port count) =
     (codes "serve", one (string_bytes file) ∷ whole port ∷ whole count ∷ [])
 
 -- The action is the subcommand that was met, with the arguments that were found for that
 -- subcommand.
 abbrev pub IsActionOf : Action → Text × List Row → Type 0
-IsActionOf a met = (met.0 ≡ (asked a).0)
-    × (map (value_of met.1) (arguments_of met.0) ≡ map (λ v. Some v) (asked a).1)
+IsActionOf a met = (met.0 ≡ (call_of a).0)
+    × (map (value_of met.1) (arguments_of met.0) ≡ map (λ v. Some v) (call_of a).1)

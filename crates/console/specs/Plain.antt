@@ -2,7 +2,7 @@
 use Rattle.std.specs.Prelude.{◌≡◌, ◌==◌, ◌++◌, ℕ, Bool, true, not, List, [], ◌∷◌, Option, Some}
 use Rattle.std.specs.Prelude.{None, codes, if◌then◌else◌}
 use Rattle.clap.specs.Walk.{Text}
-use Rattle.console.specs.CommandLine.{asked, given, maybe, most_connections, number_up_to, one}
+use Rattle.console.specs.CommandLine.{call_of, given, maybe, most_connections, number_up_to, one}
 use Rattle.console.specs.CommandLine.{several, whole}
 use Rattle.console.specs.declared.actions.Action.{Action}
 
@@ -17,7 +17,7 @@ duty_words zone report time times = codes "duty" ∷ zone ∷ report ∷ time �
 
 -- the action is `duty` with exactly these arguments
 abbrev pub IsDuty : Text → Text → List Text → Action → Type 0
-IsDuty zone report times a = asked a ≡ (codes "duty", one zone ∷ one report ∷ several times ∷ [])
+IsDuty zone report times a = call_of a ≡ (codes "duty", one zone ∷ one report ∷ several times ∷ [])
 
 -- the words of `init FILE ZONE`
 abbrev pub init_words : Text → Text → List Text
@@ -25,7 +25,7 @@ init_words file zone = codes "init" ∷ file ∷ zone ∷ []
 
 -- the action is `init` with exactly these arguments
 abbrev pub IsInit : Text → Text → Action → Type 0
-IsInit file zone a = asked a ≡ (codes "init", one file ∷ one zone ∷ [])
+IsInit file zone a = call_of a ≡ (codes "init", one file ∷ one zone ∷ [])
 
 -- the word of a flag, if the flag is given
 abbrev pub word_if : Bool → Text → List Text
@@ -41,7 +41,7 @@ do_words file dry_run lines = codes "do" ∷ file ∷ do_flags dry_run lines
 
 -- the action is `do` with exactly these arguments
 abbrev pub IsDo : Text → Bool → Bool → Action → Type 0
-IsDo file dry_run lines a = asked a ≡ (codes "do", one file ∷ given dry_run ∷ given lines ∷ [])
+IsDo file dry_run lines a = call_of a ≡ (codes "do", one file ∷ given dry_run ∷ given lines ∷ [])
 
 -- the words of `import FILE NUMBER`
 abbrev pub import_words : Text → Text → List Text
@@ -49,7 +49,7 @@ import_words file number = codes "import" ∷ file ∷ number ∷ []
 
 -- the action is `import` with exactly these arguments
 abbrev pub IsImport : Text → ℕ → Action → Type 0
-IsImport file number a = asked a ≡ (codes "import", one file ∷ whole number ∷ [])
+IsImport file number a = call_of a ≡ (codes "import", one file ∷ whole number ∷ [])
 
 -- the words of `roster FILE CREW`
 abbrev pub roster_words : Text → Text → List Text
@@ -57,7 +57,7 @@ roster_words file crew = codes "roster" ∷ file ∷ crew ∷ []
 
 -- the action is `roster` with exactly these arguments
 abbrev pub IsRoster : Text → Text → Action → Type 0
-IsRoster file crew a = asked a ≡ (codes "roster", one file ∷ one crew ∷ [])
+IsRoster file crew a = call_of a ≡ (codes "roster", one file ∷ one crew ∷ [])
 
 -- the words of `pairing FILE PAIRING`
 abbrev pub pairing_words : Text → Text → List Text
@@ -65,7 +65,7 @@ pairing_words file id = codes "pairing" ∷ file ∷ id ∷ []
 
 -- the action is `pairing` with exactly these arguments
 abbrev pub IsPairing : Text → Text → Action → Type 0
-IsPairing file id a = asked a ≡ (codes "pairing", one file ∷ one id ∷ [])
+IsPairing file id a = call_of a ≡ (codes "pairing", one file ∷ one id ∷ [])
 
 -- the words of `limits FILE CREW`, and of `--with PAIRING` if a pairing is given
 abbrev pub limits_words : Text → Text → Option Text → List Text
@@ -74,7 +74,7 @@ limits_words file crew (Some id) = codes "limits" ∷ file ∷ crew ∷ codes "-
 
 -- the action is `limits` with exactly these arguments
 abbrev pub IsLimits : Text → Text → Option Text → Action → Type 0
-IsLimits file crew id a = asked a ≡ (codes "limits", one file ∷ one crew ∷ maybe id ∷ [])
+IsLimits file crew id a = call_of a ≡ (codes "limits", one file ∷ one crew ∷ maybe id ∷ [])
 
 -- the words of `exceedances FILE`
 abbrev pub exceedances_words : Text → List Text
@@ -82,7 +82,7 @@ exceedances_words file = codes "exceedances" ∷ file ∷ []
 
 -- the action is `exceedances` with exactly this argument
 abbrev pub IsExceedances : Text → Action → Type 0
-IsExceedances file a = asked a ≡ (codes "exceedances", one file ∷ [])
+IsExceedances file a = call_of a ≡ (codes "exceedances", one file ∷ [])
 
 -- the words of `members FILE`
 abbrev pub members_words : Text → List Text
@@ -90,7 +90,7 @@ members_words file = codes "members" ∷ file ∷ []
 
 -- the action is `members` with exactly this argument
 abbrev pub IsMembers : Text → Action → Type 0
-IsMembers file a = asked a ≡ (codes "members", one file ∷ [])
+IsMembers file a = call_of a ≡ (codes "members", one file ∷ [])
 
 -- the words of `pairings FILE`, and then `--open`, if it is given
 abbrev pub pairings_words : Text → Bool → List Text
@@ -98,7 +98,7 @@ pairings_words file only_open = codes "pairings" ∷ file ∷ word_if only_open 
 
 -- the action is `pairings` with exactly these arguments
 abbrev pub IsPairings : Text → Bool → Action → Type 0
-IsPairings file only_open a = asked a ≡ (codes "pairings", one file ∷ given only_open ∷ [])
+IsPairings file only_open a = call_of a ≡ (codes "pairings", one file ∷ given only_open ∷ [])
 
 -- the words of `serve FILE PORT`, and of `--connections N` if N is given
 abbrev pub serve_words : Text → Text → Option Text → List Text
@@ -113,4 +113,4 @@ asked_connections (Some count) = number_up_to most_connections count
 
 -- the action is `serve` with exactly these arguments
 abbrev pub IsServe : Text → ℕ → ℕ → Action → Type 0
-IsServe file port count a = asked a ≡ (codes "serve", one file ∷ whole port ∷ whole count ∷ [])
+IsServe file port count a = call_of a ≡ (codes "serve", one file ∷ whole port ∷ whole count ∷ [])

@@ -8,7 +8,7 @@ ghost use Rattle.clap.specs.Walk.{Text, texts};
 ghost use Rattle.clap.specs.Words.{FailsBy, HasKind, all_of, fault_of, first_of, found_of, kind_of, rows_of};
 ghost use Rattle.clap.specs.Words.{rule_of, subcommand_of, subcommand_rows_of};
 ghost use Rattle.clap.specs.declared.error.kind.ErrorKind.TheVariants.{OutOfMemory, ValueValidation};
-ghost use Rattle.console.specs.Arguments.{HasAll, HasArguments, HasFlag, HasNumber};
+ghost use Rattle.console.specs.Arguments.{HasAll, HasArguments, HasFlag, HasWholeNumber};
 ghost use Rattle.console.specs.CommandLine.{AreArguments, IsCommandOfApp, IsActionOf, arguments_of, bare, command_line, connections, last_number, last_port};
 ghost use Rattle.console.specs.CommandLine.{is_on, most_connections, number_found, number_up_to, optional, optional_flag};
 ghost use Rattle.console.specs.CommandLine.{request_number, rule, subcommand, wanted, wanted_number};
@@ -715,7 +715,7 @@ fn serve_of(alloc: Global, matches: &ArgMatches<'_>) -> Result<Action, AllocErro
 
 /// Reads the value of an argument that is a port.
 fn port_of(matches: &ArgMatches<'_>, id: &str) -> u16
-    requires { HasNumber last_port id.now (rows_of (found_of matches.now)) }
+    requires { HasWholeNumber last_port id.now (rows_of (found_of matches.now)) }
     ensures { number_found last_port id.now (rows_of (found_of matches.now)) ≡ Some result }
 {
     whole_of(matches, id) as u16
@@ -723,7 +723,7 @@ fn port_of(matches: &ArgMatches<'_>, id: &str) -> u16
 
 /// Reads the value of an argument that is a number of connections.
 fn connections_of(matches: &ArgMatches<'_>, id: &str) -> u32
-    requires { HasNumber most_connections id.now (rows_of (found_of matches.now)) }
+    requires { HasWholeNumber most_connections id.now (rows_of (found_of matches.now)) }
     ensures { number_found most_connections id.now (rows_of (found_of matches.now)) ≡ Some result }
 {
     whole_of(matches, id) as u32
@@ -731,7 +731,7 @@ fn connections_of(matches: &ArgMatches<'_>, id: &str) -> u32
 
 /// Reads the value of an argument that is a request's number.
 fn number_of(matches: &ArgMatches<'_>, id: &str) -> RequestNumber
-    requires { HasNumber last_number id.now (rows_of (found_of matches.now)) }
+    requires { HasWholeNumber last_number id.now (rows_of (found_of matches.now)) }
     ensures { number_found last_number id.now (rows_of (found_of matches.now)) ≡ Some result }
 {
     RequestNumber::new(whole_of(matches, id)).unwrap()
@@ -739,8 +739,8 @@ fn number_of(matches: &ArgMatches<'_>, id: &str) -> RequestNumber
 
 /// Reads the value of an argument that is a whole number.
 fn whole_of(matches: &ArgMatches<'_>, id: &str) -> u64
-    requires { (most : ℕ) × HasNumber most id.now (rows_of (found_of matches.now)) }
-    ensures { (most : ℕ) → HasNumber most id.now (rows_of (found_of matches.now))
+    requires { (most : ℕ) × HasWholeNumber most id.now (rows_of (found_of matches.now)) }
+    ensures { (most : ℕ) → HasWholeNumber most id.now (rows_of (found_of matches.now))
         → number_found most id.now (rows_of (found_of matches.now)) ≡ Some result }
 {
     matches.get_one::<u64>(id).unwrap()

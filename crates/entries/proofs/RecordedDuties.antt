@@ -16,21 +16,21 @@ use Rattle.tables.specs.Schema.{exceedance_table}
 use Rattle.entries.proofs.Duties.{IsAboveZero}
 use Rattle.state_rows.proofs.FewPeriods.{few_periods}
 use Rattle.state_rows.proofs.Values.{ids_same}
-use Rattle.entries.specs.Right.{IsExceedance, IsRecorded, ArePlanned, IsRight}
+use Rattle.entries.specs.Right.{IsExceedance, IsDutyIn, ArePlanned, IsRight}
 use Rattle.entries.specs.Exceedances.{row_of_recorded}
 use Rattle.state_rows.specs.Rows.{named_number, exceedance}
 
 -- ---- One record
 
 -- the number of a period with an actual is above 0
-pub recorded_above : (pairings : fin.FinMap name_cmp PairingEntry) (named : DutyId) → IsRecorded pairings named → IsAboveZero named
+pub recorded_above : (pairings : fin.FinMap name_cmp PairingEntry) (named : DutyId) → IsDutyIn pairings named → IsAboveZero named
 recorded_above pairings (Period p) is = let n = is.number in omega (arith, n)
 recorded_above pairings (Outside id) is = tt
 
 -- ---- States with the same rows down to the seats have the same pairings
 
 -- the number of a period with an actual has eight bits, since a pairing has few periods
-pub period_fits : (s : State) → ArePlanned s → (named : DutyId) → IsRecorded s.pairings named → named_number named < 256
+pub period_fits : (s : State) → ArePlanned s → (named : DutyId) → IsDutyIn s.pairings named → named_number named < 256
 period_fits s planned (Period p) is =
     let r = planned p.pairing is.entry is.of_pairing in
     let few = few_periods is.entry.plan r.plan in

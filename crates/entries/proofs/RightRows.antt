@@ -18,7 +18,7 @@ use Rattle.tables.specs.declared.segment.SegmentRecord.{SegmentRecord}
 use Rattle.entries.proofs.Ascii.{id_utf8, flight_utf8, airport_utf8, zone_utf8}
 use Rattle.state_rows.proofs.FewPeriods.{all_shaped, few_periods, few_segments}
 use Rattle.entries.proofs.PlanStates.{all_at}
-use Rattle.entries.specs.Right.{AreRight, IsPlanned, IsSegmentRight, IsRecorded, IsSeatRight, IsInstantIfAny}
+use Rattle.entries.specs.Right.{AreRight, IsPlanned, IsSegmentRight, IsDutyIn, IsSeatRight, IsInstantIfAny}
 use Rattle.state_rows.specs.Rows.{At, PeriodOf, SegmentOf, crew, segment, row_of_segment, times_flown, named_id, named_number, exceedance, ground_duty, seat, table, seat_number, request, book, StateTable, row_of_period}
 use Rattle.limits.specs.SectionText.{section_number}
 use Rattle.limits.specs.declared.section.Section.{Section}
@@ -123,7 +123,7 @@ ground_rows db row h right =
     )
 
 -- the id of what is named is a text
-id_is_text : (s : State) (db : Database) → IsSeatRight s db → (named : DutyId) → IsRecorded s.pairings named → IsUtf8 (named_id named)
+id_is_text : (s : State) (db : Database) → IsSeatRight s db → (named : DutyId) → IsDutyIn s.pairings named → IsUtf8 (named_id named)
 id_is_text s db down (Period p) is = id_utf8 p.pairing (down.0.0.0.2 p.pairing is.entry is.of_pairing)
 id_is_text s db down (Outside id) is = is
 

@@ -17,7 +17,7 @@ use Rattle.roster.specs.declared.state.DutyId.TheVariants.{Period, Outside}
 use Rattle.roster.specs.declared.state.OutsideEntry.{OutsideEntry}
 use Rattle.tables.specs.Records.{outside_row}
 use Rattle.entries.proofs.Editions.{FitsOutside, HasBothOutside, its_table, next_outside, next_outside_segment}
-use Rattle.entries.specs.Right.{IsOfEdition, IsRecorded, IsRight, IsRightBook}
+use Rattle.entries.specs.Right.{IsOfEdition, IsDutyIn, IsRight, IsRightBook}
 use Rattle.entries.specs.SameRows.{HasInstants, IsSaidByFirst}
 use Rattle.state_rows.proofs.Values.{text_is}
 use Rattle.state_rows.specs.First.{IsFirst}
@@ -64,7 +64,7 @@ module _ (s : State) (db : Database) (whole : IsRightBook s db) where
       (λ first. absurd (let e = sym (ap (λ (x : fin.FinMap name_cmp OutsideEntry). fin.get x id) first.outsides ∙ fin.get-empty name_cmp id) ∙ here in cc)) in
       record { named = is.named; member = of_member.0; of_member = of_member.1; made = is.made }
 
-  named_sound : (name : List ℕ) (named : DutyId) → fin.get s.exceedances name ≡ Some named → IsRecorded s.pairings named → IsNamed s named
+  named_sound : (name : List ℕ) (named : DutyId) → fin.get s.exceedances name ≡ Some named → IsDutyIn s.pairings named → IsNamed s named
   named_sound name (Period p) here is = record {
     entry = is.entry;
     of_pairing = is.of_pairing;

@@ -133,7 +133,7 @@ abbrev pub IsKey : KeyParts → Type 0
 IsKey key = (1 ≤ key.number) × (key.number ≤ 9_223_372_036_854_775_807) × (key.part ≤ 10_000)
 
 -- a period of this pairing and number is there, and it has an actual
-pub record IsFlown (pairings : fin.FinMap name_cmp PairingEntry) (p : PeriodId) : Type 0 where
+pub record IsFlownIn (pairings : fin.FinMap name_cmp PairingEntry) (p : PeriodId) : Type 0 where
   pub entry : PairingEntry
   pub of_pairing : fin.get pairings p.pairing ≡ Some entry
   pub place : ℕ
@@ -143,9 +143,9 @@ pub record IsFlown (pairings : fin.FinMap name_cmp PairingEntry) (p : PeriodId) 
 
 -- the duty that an exceedance names is a period with an actual, or an outside period by its id;
 -- only the table `outside` says whether that outside period is there
-abbrev pub IsRecorded : fin.FinMap name_cmp PairingEntry → DutyId → Type 0
-IsRecorded pairings (Period p) = IsFlown pairings p
-IsRecorded pairings (Outside id) = IsUtf8 id
+abbrev pub IsDutyIn : fin.FinMap name_cmp PairingEntry → DutyId → Type 0
+IsDutyIn pairings (Period p) = IsFlownIn pairings p
+IsDutyIn pairings (Outside id) = IsUtf8 id
 
 -- an exceedance is of a member, and names a period with an actual, or an outside period
 pub record IsExceedance
@@ -154,7 +154,7 @@ pub record IsExceedance
   pub is_key : IsKey id.key
   pub member : Member
   pub of_member : fin.get members id.crew ≡ Some member
-  pub of_duty : IsRecorded pairings named
+  pub of_duty : IsDutyIn pairings named
 
 -- an exceedance stands under this name
 abbrev pub name_of : ExceedanceId → List ℕ

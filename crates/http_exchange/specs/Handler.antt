@@ -22,9 +22,9 @@ pub record StatusText : Type 0 where
 -- ---- requests and responses as the program holds them
 
 -- a request as contracts see it
-abbrev pub asked : Request → HandlerRequest
-asked (rust.Submit to body) = submit to body.now
-asked (rust.Show report) = show (subject report)
+abbrev pub handler_request : Request → HandlerRequest
+handler_request (rust.Submit to body) = submit to body.now
+handler_request (rust.Show report) = show (subject report)
 
 -- a response as contracts see it
 abbrev pub answer : Response → StatusText

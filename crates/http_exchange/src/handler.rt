@@ -49,6 +49,6 @@ pub trait Handler<K> {
         kept: &mut K,
         request: &Request<'_>,
     ) -> Result<Response, HandlerFault>
-        ensures { handles kept.old kept.new (spec.asked request.now)
+        ensures { handles kept.old kept.new (spec.handler_request request.now)
             (spec.answer_or_fault result) };
 }

@@ -77,17 +77,17 @@ place_of_path path =
     (exactly (codes "/reports/open") open_pairings path))))))))))
 
 -- a resource as contracts see it: the place that a path names
-abbrev pub place : Resource → PathResource
-place resource.Requests = requests
-place resource.Checks = checks
-place (resource.Import number) = import number.now
-place (resource.Crew id) = crew id.now
-place (resource.Pairing id) = pairing id.now
-place resource.Exceedances = exceedances
-place (resource.Limits id with) = limits id.now (option_map (λ id. id.now) with)
-place resource.Members = members
-place resource.Pairings = pairings
-place resource.OpenPairings = open_pairings
+abbrev pub path_resource : Resource → PathResource
+path_resource resource.Requests = requests
+path_resource resource.Checks = checks
+path_resource (resource.Import number) = import number.now
+path_resource (resource.Crew id) = crew id.now
+path_resource (resource.Pairing id) = pairing id.now
+path_resource resource.Exceedances = exceedances
+path_resource (resource.Limits id with) = limits id.now (option_map (λ id. id.now) with)
+path_resource resource.Members = members
+path_resource resource.Pairings = pairings
+path_resource resource.OpenPairings = open_pairings
 
 -- ---- What the router works with
 

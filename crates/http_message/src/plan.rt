@@ -3,7 +3,7 @@
 ghost use Rattle.std.specs.Prelude.{◌≡◌, IfOk, Some, codes, length};
 ghost use Rattle.http_message.specs.Fields.{values};
 ghost use Rattle.http_message.specs.Plan as spec;
-ghost use Rattle.http_message.specs.Routes.{place};
+ghost use Rattle.http_message.specs.Routes.{path_resource};
 
 use crate::head::Head;
 use crate::numbers::{MOST_BODY, length_of, number_of_import};
@@ -133,7 +133,7 @@ fn action_for_path<'h>(
 
 /// Decides what a resource is asked for.
 fn action_for_route<'h>(head: &'h Head, resource: Resource<'h>) -> HeadAction<'h>
-    ensures { spec.step result ≡ spec.step_of_place head.now (Some (place resource.entry)) }
+    ensures { spec.step result ≡ spec.step_of_place head.now (Some (path_resource resource.entry)) }
 {
     match resource {
         Resource::Requests => receive_body(head, Submission::Command),

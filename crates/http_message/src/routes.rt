@@ -65,7 +65,7 @@ pub enum Route {
 
 /// Finds what a path names.
 pub fn resource_of(alloc: Global, path: &str) -> Result<Option<Resource<'_>>, MemoryFault>
-    ensures { IfOk result (λ it. option_map spec.place it ≡ spec.place_of_path path.now) }
+    ensures { IfOk result (λ it. option_map spec.path_resource it ≡ spec.place_of_path path.now) }
 {
     let Ok(router) = router(alloc) else {
         return Err(MemoryFault);
@@ -79,7 +79,7 @@ pub fn resource_of(alloc: Global, path: &str) -> Result<Option<Resource<'_>>, Me
 /// Names a resource by what its route took from a path.
 fn resource_at<'p>(route: Route, params: &Params<'_, 'p>) -> Option<Resource<'p>>
     ensures { AllText (spec.taken params.now)
-        → option_map spec.place result ≡ spec.place_by route (spec.taken params.now) }
+        → option_map spec.path_resource result ≡ spec.place_by route (spec.taken params.now) }
 {
     let resource = match route {
         Route::Requests => Resource::Requests,

@@ -8,7 +8,7 @@ use Rattle.nearness.proofs.EachNearness.{each_nearness}
 use Rattle.roster.specs.Places.{duties}
 use Rattle.roster.specs.State.{State}
 use Rattle.limits_report.specs.Laws.{EachHasText}
-use Rattle.limits_report.specs.LimitsText.{Judged, IsJudgedText, header, judged, names, section_line}
+use Rattle.limits_report.specs.LimitsText.{Judged, IsJudgedText, header, judged_duties, names, section_line}
 
 each_judged : (j : Judged) (first : List ℕ) → (text : List ℕ) × IsJudgedText j first text
 each_judged j first =

@@ -11,7 +11,7 @@ use Rattle.roster.specs.Places.{Placed, duties, history_of, periods_at}
 use Rattle.roster.specs.State.{State, zone_of}
 use Rattle.roster.specs.declared.state.PairingEntry.{PairingEntry}
 use Rattle.limits_report.specs.LimitsText.{Judged, IsJudgedText, names, others_than, section_line}
-use Rattle.limits_report.specs.Listing.{IsTextOf, all_but, named, names_of, times_of}
+use Rattle.limits_report.specs.Listing.{IsTextOf, all_but_pairing, named_duty, names_of, times_of}
 use Rattle.limits_report.specs.declared.named_duties.NamedDuty.{NamedDuty}
 
 -- one line more
@@ -36,21 +36,21 @@ pub times_from : (n : ℕ) (list : List NamedDuty) (all new : List DutyInForce) 
 times_from n list all new is are = ap (drop n) is ∙ drop-map (λ (d : NamedDuty). d.duty) n list ∙ sym are
 
 -- named duties have the times and the names of their places
-times_named : (xs : List Placed) → times_of (map named xs) ≡ duties xs
+times_named : (xs : List Placed) → times_of (map named_duty xs) ≡ duties xs
 times_named [] = refl
 times_named (x ∷ xs) = ap (λ ds. x.1 ∷ ds) (times_named xs)
 
-names_named : (xs : List Placed) → names_of (map named xs) ≡ names xs
+names_named : (xs : List Placed) → names_of (map named_duty xs) ≡ names xs
 names_named [] = refl
-names_named (x ∷ xs) = ap (λ ns. (named x).name ∷ ns) (names_named xs)
+names_named (x ∷ xs) = ap (λ ns. (named_duty x).name ∷ ns) (names_named xs)
 
-pub judged_from : (j : Judged) (list : List NamedDuty) (others : ℕ) (first head text : List ℕ) → list ≡ map named (j.others ++ j.new) →
+pub judged_from : (j : Judged) (list : List NamedDuty) (others : ℕ) (first head text : List ℕ) → list ≡ map named_duty (j.others ++ j.new) →
     others ≡ length j.others → first ≡ head → IsTextOf list others first text → IsJudgedText j head text
 judged_from j list others first head text is count begins told =
     let all : times_of list ≡ duties (j.others ++ j.new) = ap times_of is ∙ times_named (j.others ++ j.new) in
-    let split : list ≡ map named j.others ++ map named j.new = is ∙ map-append named j.others j.new in
-    let long : others ≡ length (map named j.others) = count ∙ sym (length-map j.others named) in
-    let last : drop others list ≡ map named j.new = ap₂ drop long split ∙ drop-append_seam (map named j.others) (map named j.new) in
+    let split : list ≡ map named_duty j.others ++ map named_duty j.new = is ∙ map-append named_duty j.others j.new in
+    let long : others ≡ length (map named_duty j.others) = count ∙ sym (length-map j.others named_duty) in
+    let last : drop others list ≡ map named_duty j.new = ap₂ drop long split ∙ drop-append_seam (map named_duty j.others) (map named_duty j.new) in
     let new : times_of (drop others list) ≡ duties j.new = ap times_of last ∙ times_named j.new in
     let is_named : names_of list ≡ names (j.others ++ j.new) = ap names_of is ∙ names_named (j.others ++ j.new) in
     record {
@@ -63,22 +63,22 @@ judged_from j list others first head text is count begins told =
     }
 
 -- the list of a member's duties, of which none is left out
-but_none : (xs : List Placed) → all_but None xs ≡ map named xs
+but_none : (xs : List Placed) → all_but_pairing None xs ≡ map named_duty xs
 but_none [] = refl
-but_none (x ∷ xs) = ap (λ ds. named x ∷ ds) (but_none xs)
+but_none (x ∷ xs) = ap (λ ds. named_duty x ∷ ds) (but_none xs)
 
-pub listed_as_they_are : (s : State) (who : List ℕ) (a b : List NamedDuty) → a ≡ all_but None (history_of s who) → b ≡ a →
-    b ≡ map named ([] ++ history_of s who)
+pub listed_as_they_are : (s : State) (who : List ℕ) (a b : List NamedDuty) → a ≡ all_but_pairing None (history_of s who) → b ≡ a →
+    b ≡ map named_duty ([] ++ history_of s who)
 listed_as_they_are s who a b all is = is ∙ all ∙ but_none (history_of s who)
 
 -- the list of a member's duties but for a pairing, and then the periods of the pairing
-pub listed_as_if_held : (s : State) (who own id : List ℕ) (r : PairingEntry) (a b c : List NamedDuty) → a ≡ all_but (Some id) (history_of s who) →
-    own ≡ zone_of s who → b ≡ a ++ map named (periods_at own (id, r)) → c ≡ b →
-    c ≡ map named (others_than s who id ++ periods_at (zone_of s who) (id, r))
+pub listed_as_if_held : (s : State) (who own id : List ℕ) (r : PairingEntry) (a b c : List NamedDuty) → a ≡ all_but_pairing (Some id) (history_of s who) →
+    own ≡ zone_of s who → b ≡ a ++ map named_duty (periods_at own (id, r)) → c ≡ b →
+    c ≡ map named_duty (others_than s who id ++ periods_at (zone_of s who) (id, r))
 listed_as_if_held s who own id r a b c all same added is =
-    is ∙ added ∙ ap₂ (λ ds z. ds ++ map named (periods_at z (id, r))) all same
-    ∙ sym (map-append named (others_than s who id) (periods_at (zone_of s who) (id, r)))
+    is ∙ added ∙ ap₂ (λ ds z. ds ++ map named_duty (periods_at z (id, r))) all same
+    ∙ sym (map-append named_duty (others_than s who id) (periods_at (zone_of s who) (id, r)))
 
-pub count_of_others : (s : State) (who id : List ℕ) (a : List NamedDuty) (n : ℕ) → a ≡ all_but (Some id) (history_of s who) → n ≡ length a →
+pub count_of_others : (s : State) (who id : List ℕ) (a : List NamedDuty) (n : ℕ) → a ≡ all_but_pairing (Some id) (history_of s who) → n ≡ length a →
     n ≡ length (others_than s who id)
-count_of_others s who id a n all count = count ∙ ap length all ∙ length-map (others_than s who id) named
+count_of_others s who id a n all count = count ∙ ap length all ∙ length-map (others_than s who id) named_duty

@@ -11,7 +11,7 @@ use Rattle.duty.specs.declared.duty_in_force.DutyInForce.TheVariants.{Fdp}
 use Rattle.duty.specs.declared.kind.Kind.TheVariants.{Flight, FlightDuty, Duty}
 use Rattle.nearness.specs.Fullest.{IsFullest, IsFullestYear}
 use Rattle.nearness.specs.Nearest.{Counts, IsNearest, HasNone, minutes_left, minutes_set}
-use Rattle.nearness.specs.Nearness.{IsNearness, IsPeriod, IsWindow, IsYear}
+use Rattle.nearness.specs.Nearness.{IsNearness, IsNearestPeriod, IsWindow, IsYear}
 use Rattle.nearness.specs.declared.all_limits.Nearness.{Nearness}
 use Rattle.nearness.specs.declared.periods.MeasuredPeriod.{MeasuredPeriod}
 use Rattle.nearness.specs.declared.periods.PeriodLimit.{PeriodLimit}
@@ -129,8 +129,8 @@ no_period : (limit : PeriodLimit) (all new : List DutyInForce) (others : ℕ) (p
 no_period limit all new others p x none =
     none p.index p.minutes p.limit (slice_get_within all p.index (Fdp x.measured.fdp) x.measured.at) x.measured
 
-one_period : (limit : PeriodLimit) (all new : List DutyInForce) (others : ℕ) (a b : Option MeasuredPeriod) → IsPeriod limit all new others a →
-    IsPeriod limit all new others b → a ≡ b
+one_period : (limit : PeriodLimit) (all new : List DutyInForce) (others : ℕ) (a b : Option MeasuredPeriod) → IsNearestPeriod limit all new others a →
+    IsNearestPeriod limit all new others b → a ≡ b
 one_period limit all new others None None x y = refl
 one_period limit all new others (Some p) (Some q) x y = ap Some (one_nearest limit all new others p q x.some y.some)
 one_period limit all new others (Some p) None x y = absurd (no_period limit all new others p x.some y.none)

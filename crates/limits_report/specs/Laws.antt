@@ -12,7 +12,7 @@ use Rattle.roster.specs.Pairings.{holds}
 use Rattle.roster.specs.Places.{duties, no_place, others, the_pairing}
 use Rattle.roster.specs.Refusals.{broken_by, duties_of}
 use Rattle.roster.specs.State.{State}
-use Rattle.limits_report.specs.LimitsText.{IsLimitsText, IsJudgedText, Judged, judged}
+use Rattle.limits_report.specs.LimitsText.{IsLimitsText, IsJudgedText, Judged, judged_duties}
 
 -- the sections whose lines in a limits text end in `exceeds`, in their order
 abbrev pub exceeding : {of : Judged} {first text : List ℕ} → IsJudgedText of first text →
@@ -46,7 +46,7 @@ ExceedsIsRefused = (s : State) (who id text : List ℕ) (is : IsLimitsText s who
 abbrev pub EachHasText : Type 0
 EachHasText = (s : State) (who : List ℕ) (pairing : Option (List ℕ)) (member : Member)
     (of : Judged) →
-    fin.get s.crew who ≡ Some member → judged s who pairing ≡ Some of →
+    fin.get s.crew who ≡ Some member → judged_duties s who pairing ≡ Some of →
     (text : List ℕ) × IsLimitsText s who pairing text
 
 -- A member has at most one limits text, with each pairing or without one.

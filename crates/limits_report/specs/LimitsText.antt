@@ -46,9 +46,9 @@ as_if_held s who id r =
 
 -- the duties of a member that are judged, with a pairing or without one; no duties are judged with
 -- a pairing that isn't there
-abbrev pub judged : State → (who : List ℕ) → (pairing : Option (List ℕ)) → Option Judged
-judged s who None = Some (as_they_are s who)
-judged s who (Some id) = option_map (as_if_held s who id) (fin.get s.pairings id)
+abbrev pub judged_duties : State → (who : List ℕ) → (pairing : Option (List ℕ)) → Option Judged
+judged_duties s who None = Some (as_they_are s who)
+judged_duties s who (Some id) = option_map (as_if_held s who id) (fin.get s.pairings id)
 
 -- ---- What is nearest to a limit
 
@@ -72,17 +72,17 @@ abbrev pub of_limit : (minutes limit : ℕ) → List ℕ
 of_limit minutes limit = hours_text minutes ++ codes " of " ++ hours_text limit
 
 -- a flight duty period as it is printed: its minutes, the minutes that are set for it, and its name
-abbrev pub period_text : List (List ℕ) → MeasuredPeriod → List ℕ
-period_text names p = of_limit p.minutes p.limit ++ codes " " ++ name_at names p.index
+abbrev pub measured_period_text : List (List ℕ) → MeasuredPeriod → List ℕ
+measured_period_text names p = of_limit p.minutes p.limit ++ codes " " ++ name_at names p.index
 
 -- what is nearest to Table A or Table B: a period, or a dash if no period enters the table
 abbrev pub table_text : List (List ℕ) → Option MeasuredPeriod → List ℕ
-table_text names (Some p) = period_text names p
+table_text names (Some p) = measured_period_text names p
 table_text names None = codes "-"
 
 -- what is nearest to a limit on rest: a period, or a dash and the limit if there is no period
 abbrev pub rest_text : List (List ℕ) → (limit : ℕ) → Option MeasuredPeriod → List ℕ
-rest_text names limit (Some p) = period_text names p
+rest_text names limit (Some p) = measured_period_text names p
 rest_text names limit None = codes "- of " ++ hours_text limit
 
 -- the first minute of a window: an instant, or the words that the minute is before the first
@@ -115,9 +115,9 @@ nearest_text names n section.TenHourRest = rest_text names 600 n.ten_hour_rest
 -- ---- The text
 
 -- the word for whether a limit is exceeded
-abbrev pub word : Bool → List ℕ
-word true = codes "exceeds"
-word false = codes "within"
+abbrev pub exceeds_word : Bool → List ℕ
+exceeds_word true = codes "exceeds"
+exceeds_word false = codes "within"
 
 -- the line of a section: the section's text, what is nearest to its limit, and whether the limit is
 -- exceeded
@@ -125,7 +125,7 @@ abbrev pub section_line : List (List ℕ) → Nearness → Section → List ℕ
 section_line names n section =
     (section_text section ++ codes " ")
     ++ nearest_text names n section
-    ++ codes " " ++ word (exceeds section n) ++ codes "\n"
+    ++ codes " " ++ exceeds_word (exceeds section n) ++ codes "\n"
 
 -- the end of the first line, which names the pairing, if there is one
 abbrev pub with_text : (pairing : Option (List ℕ)) → List ℕ
@@ -160,5 +160,5 @@ pub record IsLimitsText (s : State) (who : List ℕ) (pairing : Option (List ℕ
   pub member : Member
   pub is_there : fin.get s.crew who ≡ Some member
   pub of : Judged
-  pub are_judged : judged s who pairing ≡ Some of
+  pub are_judged : judged_duties s who pairing ≡ Some of
   pub told : IsJudgedText of (header who member pairing) text

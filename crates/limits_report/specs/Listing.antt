@@ -12,8 +12,8 @@ use Rattle.limits_report.specs.LimitsText.{place_text, section_line}
 use Rattle.limits_report.specs.declared.named_duties.NamedDuty.{NamedDuty}
 
 -- a duty with the name of its place
-abbrev pub named : Placed → NamedDuty
-named p = record { name = place_text p.0; duty = p.1 }
+abbrev pub named_duty : Placed → NamedDuty
+named_duty p = record { name = place_text p.0; duty = p.1 }
 
 -- the names of the duties of a list
 abbrev pub names_of : List NamedDuty → List (List ℕ)
@@ -29,8 +29,8 @@ is_of (Some id) place = the_pairing id place
 is_of None place = false
 
 -- the duties of a list with their names, but for the periods of this pairing, if a pairing is given
-abbrev pub all_but : Option (List ℕ) → List Placed → List NamedDuty
-all_but out placed = map named (filter (λ p. not (is_of out p.0)) placed)
+abbrev pub all_but_pairing : Option (List ℕ) → List Placed → List NamedDuty
+all_but_pairing out placed = map named_duty (filter (λ p. not (is_of out p.0)) placed)
 
 -- the set has a minute from `start` on
 pub record HasFrom (set : ℤ → Bool) (start : ℤ) : Type 0 where

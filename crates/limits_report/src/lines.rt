@@ -111,7 +111,7 @@ impl Limits<'_> {
 
 /// Returns `exceeds` or `within`.
 fn word(exceeds: bool) -> &'static str
-    ensures { result.now ≡ spec.word exceeds }
+    ensures { result.now ≡ spec.exceeds_word exceeds }
 {
     if exceeds { "exceeds" } else { "within" }
 }

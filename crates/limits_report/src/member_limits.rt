@@ -33,7 +33,7 @@ pub fn limits_text(
         ↔ (fin.get roster.now.crew who.now ≡ None) }
     ensures no_pairing { (result ≡ Err ReportFault.NoSuchPairing)
         ↔ (IsSome (fin.get roster.now.crew who.now)
-        × (spec.judged roster.now who.now (option_copied with.entry) ≡ None)) }
+        × (spec.judged_duties roster.now who.now (option_copied with.entry) ≡ None)) }
     ensures refused { IfErr result (λ fault. (fault ≡ ReportFault.NoSuchCrew)
         ⊎ ((fault ≡ ReportFault.NoSuchPairing) ⊎ (fault ≡ ReportFault.Memory))) }
 {

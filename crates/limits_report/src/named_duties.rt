@@ -4,7 +4,7 @@ ghost use Rattle.std.specs.Prelude.{◌≡◌, ◌++◌, ℕ, IfOk, OnOk, map};
 ghost use Rattle.std.specs.Option.{option_copied};
 ghost use Rattle.roster.specs.Places.{period, periods_at, periods_of, grounds_of, outsides_of, history_of};
 ghost use Rattle.limits_report.specs.LimitsText.{place_text};
-ghost use Rattle.limits_report.specs.Listing.{all_but, is_of, named, times_of};
+ghost use Rattle.limits_report.specs.Listing.{all_but_pairing, is_of, named_duty, times_of};
 
 use duty::{CrewId, DutyInForce, History, PairingId, Span};
 use roster::{PairingEntry, Roster};
@@ -28,7 +28,8 @@ pub(crate) fn duties_of(
     out: Option<&PairingId>,
 ) -> Result<Vec<NamedDuty>, MemoryFault>
     ensures { IfOk result
-        (λ list. list.items ≡ all_but (option_copied out.entry) (history_of roster.now who.now)) }
+        (λ list. list.items
+            ≡ all_but_pairing (option_copied out.entry) (history_of roster.now who.now)) }
 {
     let mut list = Vec::new(alloc);
     add_held(alloc, roster, who, out, &mut list)?;
@@ -56,7 +57,8 @@ fn add_held(
     list: &mut Vec<NamedDuty>,
 ) -> Result<(), MemoryFault>
     ensures { OnOk result (list.new.items
-        ≡ list.old.items ++ all_but (option_copied out.entry) (periods_of roster.now who.now)) }
+        ≡ list.old.items
+            ++ all_but_pairing (option_copied out.entry) (periods_of roster.now who.now)) }
 {
     for (id, entry) in roster.pairings.iter() {
         if entry.holds(who) && !is_left_out(out, id) {
@@ -75,7 +77,7 @@ pub(crate) fn add_pairing(
     list: &mut Vec<NamedDuty>,
 ) -> Result<(), MemoryFault>
     ensures { OnOk result (list.new.items
-        ≡ list.old.items ++ map named (periods_at zone.now (id.now, entry.now))) }
+        ≡ list.old.items ++ map named_duty (periods_at zone.now (id.now, entry.now))) }
 {
     let fdps = entry.periods_in_force(alloc)?;
     for (index, fdp) in fdps.iter().enumerate() {
@@ -102,7 +104,7 @@ fn add_grounds(
     list: &mut Vec<NamedDuty>,
 ) -> Result<(), MemoryFault>
     ensures { OnOk result
-        (list.new.items ≡ list.old.items ++ map named (grounds_of roster.now who.now)) }
+        (list.new.items ≡ list.old.items ++ map named_duty (grounds_of roster.now who.now)) }
 {
     for (id, ground) in roster.grounds.iter() {
         if ground.crew() == who {
@@ -126,7 +128,7 @@ fn add_outsides(
     list: &mut Vec<NamedDuty>,
 ) -> Result<(), MemoryFault>
     ensures { OnOk result
-        (list.new.items ≡ list.old.items ++ map named (outsides_of roster.now who.now)) }
+        (list.new.items ≡ list.old.items ++ map named_duty (outsides_of roster.now who.now)) }
 {
     for (id, outside) in roster.outsides.iter() {
         if outside.crew == *who {

@@ -42,7 +42,7 @@ fn period_text(
     period: MeasuredPeriod,
 ) -> Result<String, MemoryFault>
     ensures { IfOk result (λ text. string_bytes text
-        ≡ spec.period_text (names_of duties.now) period) }
+        ≡ spec.measured_period_text (names_of duties.now) period) }
 {
     let nearness = of_limit(alloc, period.minutes, period.limit)?;
     let name = name_at(duties, period.index);

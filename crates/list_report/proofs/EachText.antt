@@ -17,22 +17,22 @@ use Rattle.roster.specs.Pairings.{flown}
 use Rattle.roster.proofs.Sound.Added.{no_first}
 use Rattle.list_report.specs.Laws.{EachHasMembersText, EachHasPairingsText, EachHasPeriod}
 use Rattle.list_report.specs.MembersText.{member_line, members_header}
-use Rattle.list_report.specs.PairingsText.{IsInOrder, key_of, pairings_header, rows_of}
+use Rattle.list_report.specs.PairingsText.{AreRowsInOrder, row_key, pairings_header, listed_rows}
 use Rattle.list_report.specs.declared.row.PairingRow.{PairingRow}
 use Rattle.list_report.proofs.EachOrder.{in_order, sorted}
 
 pub each_members_text : EachHasMembersText
 each_members_text s = (members_header (fin.len s.crew) ++ flat_map member_line (fin.entries s.crew), refl)
 
-each_order : (rows : List PairingRow) → (ordered : List PairingRow) × IsInOrder rows ordered
+each_order : (rows : List PairingRow) → (ordered : List PairingRow) × AreRowsInOrder rows ordered
 each_order rows =
-    let before = λ (a : PairingRow) (b : PairingRow). is_lt (name_cmp (key_of a) (key_of b)) in
-    let all = in_order before (ranks_by nat_list_cmp_total key_of) rows in
-    (all.0, record { same = all.1; order = sorted before (ranks_by nat_list_cmp_total key_of) all.0 all.2 })
+    let before = λ (a : PairingRow) (b : PairingRow). is_lt (name_cmp (row_key a) (row_key b)) in
+    let all = in_order before (ranks_by nat_list_cmp_total row_key) rows in
+    (all.0, record { same = all.1; order = sorted before (ranks_by nat_list_cmp_total row_key) all.0 all.2 })
 
 pub each_pairings_text : EachHasPairingsText
 each_pairings_text s which =
-    let rows = each_order (rows_of s which) in
+    let rows = each_order (listed_rows s which) in
     (pairings_header (length rows.0) ++ flat_map (λ row. row.line) rows.0, record { rows = rows.0; in_order = rows.1; is = refl })
 
 -- ---- Periods

@@ -7,7 +7,7 @@ use Rattle.std.specs.List.Sorted.{IsSorted}
 use Rattle.std.specs.Ordering.{is_lt, nat_cmp, ordering_then}
 use Rattle.values.specs.Name.{name_cmp}
 use Rattle.values.proofs.Names.{then_assoc}
-use Rattle.list_report.specs.PairingsText.{key_of}
+use Rattle.list_report.specs.PairingsText.{row_key}
 use Rattle.list_report.specs.contracts.row.PairingRowOrd.TheImpl.{ghosts as rows}
 use Rattle.list_report.specs.declared.row.PairingRow.{PairingRow}
 
@@ -16,7 +16,7 @@ not_before Less t e = cc
 not_before Equal t e = refl
 not_before Greater t e = refl
 
-by_key : (a b : PairingRow) → is_lt (rows.cmp a b) ≡ false → is_lt (name_cmp (key_of a) (key_of b)) ≡ false
+by_key : (a b : PairingRow) → is_lt (rows.cmp a b) ≡ false → is_lt (name_cmp (row_key a) (row_key b)) ≡ false
 by_key a b e =
     let report = nat_cmp a.report b.report in
     let id = name_cmp a.id b.id in
@@ -24,5 +24,5 @@ by_key a b e =
     let grouped : rows.cmp a b ≡ ordering_then (ordering_then report id) line = sym (then_assoc report id line) in
     not_before (ordering_then report id) line (ap is_lt (sym grouped) ∙ e)
 
-pub sorted_by_key : (xs : List PairingRow) → IsSorted rows.cmp xs → IsSorted (λ a b. name_cmp (key_of a) (key_of b)) xs
+pub sorted_by_key : (xs : List PairingRow) → IsSorted rows.cmp xs → IsSorted (λ a b. name_cmp (row_key a) (row_key b)) xs
 sorted_by_key xs sorted = λ k d from next. by_key (slice_index_or xs (k + 1) d) (slice_index_or xs k d) (sorted k d from next)

@@ -15,7 +15,7 @@ use Rattle.roster.specs.State.{State}
 use Rattle.roster.proofs.Members.{from_filter, from_map, from_rows}
 use Rattle.report.proofs.OneOrder.{one_order}
 use Rattle.list_report.specs.Laws.{HasOneMembersText, HasOnePairingsText}
-use Rattle.list_report.specs.PairingsText.{IsInOrder, is_listed, key_of, pairings_header, row_of, rows_of}
+use Rattle.list_report.specs.PairingsText.{AreRowsInOrder, is_listed, row_key, pairings_header, listed_row, listed_rows}
 use Rattle.list_report.specs.declared.pairings.Listed.{Listed}
 use Rattle.list_report.specs.declared.row.PairingRow.{PairingRow}
 
@@ -24,19 +24,19 @@ one_members_text s a b x y = x ∙ sym y
 
 -- the row of the pairing with this id
 abbrev row_at : State → List ℕ → Option PairingRow
-row_at s id = option_map (λ r. row_of (id, r)) (fin.get s.pairings id)
+row_at s id = option_map (λ r. listed_row (id, r)) (fin.get s.pairings id)
 
 -- a row is the one of its id
-known_by_id : (s : State) (which : Listed) (a : PairingRow) → Contains (rows_of s which) a → row_at s a.id ≡ Some a
+known_by_id : (s : State) (which : Listed) (a : PairingRow) → Contains (listed_rows s which) a → row_at s a.id ≡ Some a
 known_by_id s which a c =
-    let entry = from_map row_of (filter (λ entry. is_listed which entry.1) (fin.entries s.pairings)) a c in
+    let entry = from_map listed_row (filter (λ entry. is_listed which entry.1) (fin.entries s.pairings)) a c in
     let of = from_filter (λ entry. is_listed which entry.1) (fin.entries s.pairings) entry.0 entry.1 in
     let got = from_rows s.pairings entry.0.0 entry.0.1 of.0 in
     let id : entry.0.0 ≡ a.id = ap (λ (row : PairingRow). row.id) entry.2 in
-    sym (ap (row_at s) id) ∙ ap (option_map (λ r. row_of (entry.0.0, r))) got ∙ ap Some entry.2
+    sym (ap (row_at s) id) ∙ ap (option_map (λ r. listed_row (entry.0.0, r))) got ∙ ap Some entry.2
 
-known_by_key : (s : State) (which : Listed) (a b : PairingRow) → Contains (rows_of s which) a → Contains (rows_of s which) b
-    → key_of a ≡ key_of b → a ≡ b
+known_by_key : (s : State) (which : Listed) (a b : PairingRow) → Contains (listed_rows s which) a → Contains (listed_rows s which) b
+    → row_key a ≡ row_key b → a ≡ b
 known_by_key s which a b in_a in_b e =
     let ids : a.id ≡ b.id = cc in
     same_Some a b (sym (known_by_id s which a in_a) ∙ ap (row_at s) ids ∙ known_by_id s which b in_b)
@@ -48,11 +48,11 @@ neither Greater Less e no_r no_t = absurd (cc)
 neither Greater Equal e no_r no_t = absurd (cc)
 neither Greater Greater e no_r no_t = absurd (cc)
 
-same_rows : (s : State) (which : Listed) (xs ys : List PairingRow) → IsInOrder (rows_of s which) xs → IsInOrder (rows_of s which) ys → xs ≡ ys
+same_rows : (s : State) (which : Listed) (xs ys : List PairingRow) → AreRowsInOrder (listed_rows s which) xs → AreRowsInOrder (listed_rows s which) ys → xs ≡ ys
 same_rows s which xs ys x y =
-    one_order (λ a b. is_lt (name_cmp (key_of a) (key_of b))) (ranks_by nat_list_cmp_total key_of) (rows_of s which) xs ys
-    (λ a b in_a in_b no_a no_b. known_by_key s which a b in_a in_b (exact_names (key_of a) (key_of b)
-    (neither (name_cmp (key_of a) (key_of b)) (name_cmp (key_of b) (key_of a)) (nat_list_cmp_total.antisymm (key_of a) (key_of b)) no_a no_b)))
+    one_order (λ a b. is_lt (name_cmp (row_key a) (row_key b))) (ranks_by nat_list_cmp_total row_key) (listed_rows s which) xs ys
+    (λ a b in_a in_b no_a no_b. known_by_key s which a b in_a in_b (exact_names (row_key a) (row_key b)
+    (neither (name_cmp (row_key a) (row_key b)) (name_cmp (row_key b) (row_key a)) (nat_list_cmp_total.antisymm (row_key a) (row_key b)) no_a no_b)))
     x.same y.same x.order y.order
 
 pub one_pairings_text : HasOnePairingsText

@@ -33,15 +33,15 @@ last_release r =
     option_map_or (λ p. p.release) (slice_get periods (length periods - 1)) 0
 
 -- the word for whether some period of a pairing has an actual
-abbrev pub word : PairingEntry → List ℕ
-word r = if is_flown r then codes "flown" else codes "plan"
+abbrev pub flown_word : PairingEntry → List ℕ
+flown_word r = if is_flown r then codes "flown" else codes "plan"
 
 -- the line of a pairing: its id, its first report and last release, whether it is flown, and who
 -- holds its seats, the captain's first
 abbrev pub pairing_line : List ℕ × PairingEntry → List ℕ
 pairing_line (id, r) =
     (id ++ codes " " ++ written (first_report r) ++ codes " " ++ written (last_release r))
-    ++ (codes " " ++ word r)
+    ++ (codes " " ++ flown_word r)
     ++ codes " " ++ holder_text r.captain ++ codes " " ++ holder_text r.first_officer ++ codes "\n"
 
 -- ---- The rows
@@ -53,22 +53,23 @@ is_listed listed.All r = true
 is_listed listed.Open r = not (is_fully_crewed r)
 
 -- a pairing as a row: its line, and the first report and the id, by which the row has its place
-abbrev pub row_of : List ℕ × PairingEntry → PairingRow
-row_of (id, r) = record { report = first_report r; id = id; line = pairing_line (id, r) }
+abbrev pub listed_row : List ℕ × PairingEntry → PairingRow
+listed_row (id, r) = record { report = first_report r; id = id; line = pairing_line (id, r) }
 
 -- the rows of the pairings of a state that are listed
-abbrev pub rows_of : State → (which : Listed) → List PairingRow
-rows_of s which = map row_of (filter (λ entry. is_listed which entry.1) (fin.entries s.pairings))
+abbrev pub listed_rows : State → (which : Listed) → List PairingRow
+listed_rows s which =
+    map listed_row (filter (λ entry. is_listed which entry.1) (fin.entries s.pairings))
 
 -- what puts a row in its place: the first report, then the id in byte order
-abbrev pub key_of : PairingRow → List ℕ
-key_of row = row.report ∷ row.id
+abbrev pub row_key : PairingRow → List ℕ
+row_key row = row.report ∷ row.id
 
 -- The sorted list has these rows and no others, in the order of first reports, and of ids where
 -- first reports are equal.
-pub record IsInOrder (rows sorted : List PairingRow) : Type 0 where
+pub record AreRowsInOrder (rows sorted : List PairingRow) : Type 0 where
   pub same : IsPermutation rows sorted
-  pub order : IsSorted (λ a b. name_cmp (key_of a) (key_of b)) sorted
+  pub order : IsSorted (λ a b. name_cmp (row_key a) (row_key b)) sorted
 
 -- ---- The text
 
@@ -80,5 +81,5 @@ pairings_header count = codes "PAIRINGS " ++ decimal count ++ codes "\n"
 -- pairing in turn, in the order of first reports, and of ids where first reports are equal.
 pub record IsPairingsText (s : State) (which : Listed) (text : List ℕ) : Type 0 where
   pub rows : List PairingRow
-  pub in_order : IsInOrder (rows_of s which) rows
+  pub in_order : AreRowsInOrder (listed_rows s which) rows
   pub is : text ≡ pairings_header (length rows) ++ flat_map (λ row. row.line) rows

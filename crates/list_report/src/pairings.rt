@@ -52,7 +52,7 @@ fn header(alloc: Global, count: usize) -> Result<String, MemoryFault>
 
 /// Makes a row of each pairing that is listed, in the order of the ids.
 fn rows_of(alloc: Global, roster: &Roster, which: Listed) -> Result<Vec<PairingRow>, MemoryFault>
-    ensures { IfOk result (λ rows. rows.items ≡ spec.rows_of roster.now which) }
+    ensures { IfOk result (λ rows. rows.items ≡ spec.listed_rows roster.now which) }
 {
     let mut rows = Vec::new(alloc);
     for (id, entry) in roster.pairings.iter() {
@@ -64,7 +64,7 @@ fn rows_of(alloc: Global, roster: &Roster, which: Listed) -> Result<Vec<PairingR
 }
 
 fn row_of(alloc: Global, id: &PairingId, entry: &PairingEntry) -> Result<PairingRow, MemoryFault>
-    ensures { IfOk result (λ row. row ≡ spec.row_of (id.now, entry.now)) }
+    ensures { IfOk result (λ row. row ≡ spec.listed_row (id.now, entry.now)) }
 {
     let (report, release) = span_of(&entry.periods_in_force(alloc)?);
     let times = span_text(alloc, report, release)?;
@@ -103,7 +103,7 @@ fn span_text(alloc: Global, report: Minute, release: Minute) -> Result<String, M
 
 /// Returns `flown` where a period has an actual, else `plan`.
 fn word(entry: &PairingEntry) -> &'static str
-    ensures { result.now ≡ spec.word entry.now }
+    ensures { result.now ≡ spec.flown_word entry.now }
 {
     if entry.is_flown() { "flown" } else { "plan" }
 }

@@ -2,7 +2,7 @@
 //! Wrong bodies: `must-fail-more/`.
 ghost use Rattle.std.specs.Prelude.{◌≡◌, ◌++◌, IfOk, string_bytes};
 ghost use Rattle.std.specs.List.{flat_map};
-ghost use Rattle.list_report.specs.PairingsText.{IsInOrder};
+ghost use Rattle.list_report.specs.PairingsText.{AreRowsInOrder};
 
 use duty::PairingId;
 use time117::Minute;
@@ -19,7 +19,7 @@ pub struct PairingRow {
 
 /// Sorts the rows into their order.
 pub fn in_order(rows: Vec<PairingRow>) -> Result<Vec<PairingRow>, MemoryFault>
-    ensures { IfOk result (λ sorted. IsInOrder rows.items sorted.items) }
+    ensures { IfOk result (λ sorted. AreRowsInOrder rows.items sorted.items) }
 {
     let mut rows = rows;
     rows.sort()?;

@@ -14,7 +14,7 @@ use Rattle.loading.proofs.ReadTables.{told_as}
 use Rattle.state_rows.proofs.Outcomes.{clean_before}
 use Rattle.loading.proofs.Telling.{nothing_left, of_blame}
 use Rattle.entries.specs.Right.{AreOutsidesMade, AreRight, IsOfEdition, IsRight}
-use Rattle.loading.specs.Loading.{IsDamaged, Justifies, named}
+use Rattle.loading.specs.Loading.{IsDamaged, Justifies, state_table}
 use Rattle.loading.specs.Reading.{AgreesIn, AgreesThrough, BlamesName, BlamesOrFails, IsReadAs, ReadsAs}
 use Rattle.entries.specs.declared.fault.LoadFault.{LoadFault}
 use Rattle.entries.specs.declared.fault.LoadFault.TheVariants.{NotABook, Version, Damaged, Fault}
@@ -46,7 +46,7 @@ module _ (above it : StateTable) (Has : State → Database → Type 0) (next : I
   }
 
 -- what was read of a table, or why it was refused, as it says of the database
-module _ {A : Type 0} (above it : StateTable) {Has : State → Database → Type 0} (next : IsNext above it Has) (its_name : name.TableName) (is_named : named its_name ≡ it) (s : State) (read_of : A → State)
+module _ {A : Type 0} (above it : StateTable) {Has : State → Database → Type 0} (next : IsNext above it Has) (its_name : name.TableName) (is_named : state_table its_name ≡ it) (s : State) (read_of : A → State)
     (old new : conn.State) (up : HasCleanDisk old → AgreesIn Second above s old.now) where
   -- with more that is so of what was read
   pub later_found : (Also : A → Type 0) (result : Result A LoadFault) → ReadsAs (λ a. IsReadAs it (read_of a) old.now × Also a) (BlamesOrFails its_name (AreRight it old.now → ⊥)) old new result →

@@ -18,7 +18,7 @@ use Rattle.loading.proofs.Homes.{begun, begun_empty}
 use Rattle.entries.proofs.Mapping.{mapped_at}
 use Rattle.loading.proofs.Telling.{nothing_left, unread}
 use Rattle.state_rows.proofs.Values.{text_is}
-use Rattle.loading.specs.Loading.{IsCaused, IsNoBook, IsOfOtherVersion, IsDamaged, Justifies, named}
+use Rattle.loading.specs.Loading.{IsCaused, IsNoBook, IsOfOtherVersion, IsDamaged, Justifies, state_table}
 use Rattle.entries.specs.Right.{AreRight}
 use Rattle.loading.specs.Reading.{AgreesIn, ReadsAs, BlamesBook, BlamesOrFails, HasRows, IsEditionNumber, IsNoBookRow, IsOnly, IsUnreadable, book_of}
 use Rattle.state_rows.specs.Editions.{edition_number}
@@ -192,7 +192,7 @@ module _ (old new : conn.State) (there : IsNoBook old.now → ⊥) where
   said : (records : List BookRecord) → HasRows book old.now (map book_row records) → (fault : LoadFault) → BlamesBook records fault → Justifies fault old.now
   said records read NotABook blame = absurd blame
   said records read Version blame = other_version old.now there records read blame.0 blame.1 blame.2 blame.3
-  said records read (Damaged other) blame = subst (λ t. IsDamaged (named t) old.now) (sym blame.0) (no_book_row old.now there records read blame.1)
+  said records read (Damaged other) blame = subst (λ t. IsDamaged (state_table t) old.now) (sym blame.0) (no_book_row old.now there records read blame.1)
   said records read (Fault fault) blame = tt
 
   pub is_read : (records seen : List BookRecord) (result : Result (State × Edition) LoadFault) → seen ≡ records →

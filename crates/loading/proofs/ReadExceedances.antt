@@ -38,7 +38,7 @@ use Rattle.state_rows.proofs.Values.{ids_same, int_is, text_is, number_is}
 use Rattle.loading.proofs.Telling.{unread, of_blame, or_fails, uncaused}
 use Rattle.state_rows.proofs.Outcomes.{clean_before}
 use Rattle.loading.specs.Loading.{IsCaused, IsDamaged, Justifies}
-use Rattle.entries.specs.Right.{IsKey, IsExceedance, IsOfEdition, IsRecorded, ArePlanned, AreSeated, name_of, IsRight, IsSeatRight, AreRight}
+use Rattle.entries.specs.Right.{IsKey, IsExceedance, IsOfEdition, IsDutyIn, ArePlanned, AreSeated, name_of, IsRight, IsSeatRight, AreRight}
 use Rattle.loading.specs.Reading.{CanName, ExceedancesRead, IsExceedanceIn, ReadsAs, BlamesOrFails, HasRows, IsUnreadable, AgreesThrough}
 use Rattle.entries.specs.Exceedances.{IsDutyOf, IsInRange, row_of_recorded}
 use Rattle.entries.specs.Faults.{Blames}
@@ -59,7 +59,7 @@ range_above (Period p) is = is.0
 range_above (Outside id) is = tt
 
 -- what can be named is recorded, where its id is a text
-pub is_recorded : (edition : Edition) (pairings : fin.FinMap name_cmp PairingEntry) (named : DutyId) → CanName edition pairings named → IsUtf8 (named_id named) → IsRecorded pairings named
+pub is_recorded : (edition : Edition) (pairings : fin.FinMap name_cmp PairingEntry) (named : DutyId) → CanName edition pairings named → IsUtf8 (named_id named) → IsDutyIn pairings named
 is_recorded edition pairings (Period p) can utf8 = can
 is_recorded First pairings (Outside id) can utf8 = utf8
 is_recorded Second pairings (Outside id) can utf8 = utf8
@@ -187,7 +187,7 @@ pairing_here s t db a b id r e =
     (of_other seat_table db _ _ b.1.1 a.1.1) (of_other seat_table db _ _ a.1.1 b.1.1))
 
 -- so an exceedance of one is of the same member in the other, and names the same duty
-recorded_here : (s t : State) (db : Database) → IsSeatRight s db → IsSeatRight t db → (named : DutyId) → IsRecorded t.pairings named → IsRecorded s.pairings named
+recorded_here : (s t : State) (db : Database) → IsSeatRight s db → IsSeatRight t db → (named : DutyId) → IsDutyIn t.pairings named → IsDutyIn s.pairings named
 recorded_here s t db a b (Period p) is = record {
   entry = is.entry;
   of_pairing = pairing_here s t db a b p.pairing is.entry is.of_pairing;
@@ -209,7 +209,7 @@ known_here s t db a b id named is = let alike = members_same s t db (crew_part s
 -- ---- The table
 
 -- and what each names, one in a file of this version can name
-can_name : (s : State) (db : Database) (edition : Edition) → IsOfEdition edition db → (named : DutyId) → IsRecorded s.pairings named → (IsOfEdition First db → IsOfPairing named) → CanName edition s.pairings named
+can_name : (s : State) (db : Database) (edition : Edition) → IsOfEdition edition db → (named : DutyId) → IsDutyIn s.pairings named → (IsOfEdition First db → IsOfPairing named) → CanName edition s.pairings named
 can_name s db edition of (Period p) is first = is
 can_name s db First of (Outside id) is first = first of
 can_name s db Second of (Outside id) is first = tt

@@ -31,7 +31,7 @@ use Rattle.state_rows.proofs.Values.{text_is}
 use Rattle.entries.specs.Keyed.{Ids, IsSegmentTable}
 use Rattle.loading.specs.PlanTables.{AreIds, HasIds, HasPeriods, HasSegmentsOf, HasUntold, IsPairingOf, IsPeriodTable, PairingsRead}
 use Rattle.entries.specs.Right.{AreRight, IsCrewRight, IsPairingRight}
-use Rattle.loading.specs.Loading.{IsDamaged, Justifies, named}
+use Rattle.loading.specs.Loading.{IsDamaged, Justifies, state_table}
 use Rattle.entries.specs.PlanRows.{IsPairingOfRows, PeriodRows, Periods, SegmentRows, Segments, period_name, segment_name}
 use Rattle.loading.specs.Reading.{HaveNoHolders, BlamesOrFails, HasNoHolder, AgreesThrough, ReadsAs}
 use Rattle.entries.specs.Faults.{Blames}
@@ -235,7 +235,7 @@ module _ (s : State) (db : Database) (above : AgreesThrough crew s db) where
 -- ---- The call
 
 refuses : {A B : Type 0} (Is : A → Type 0) (Tells : B → Type 0) (its : name.TableName) (Why : Type 0) (old new : conn.State) (fault : LoadFault) → ReadsAs Is (BlamesOrFails its Why) old new (Err fault) →
-    (HasCleanDisk new → Why → IsDamaged (named its) old.now) → ReadsAs Tells (λ f. Justifies f old.now) old new (Err fault)
+    (HasCleanDisk new → Why → IsDamaged (state_table its) old.now) → ReadsAs Tells (λ f. Justifies f old.now) old new (Err fault)
 refuses Is Tells its Why old new fault saw damaged = record {
   told = λ clean. of_blame its Why old.now (damaged clean) fault (saw.told clean);
   caused = saw.caused;

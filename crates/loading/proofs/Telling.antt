@@ -16,7 +16,7 @@ use Rattle.tables.specs.Schema.{BookTable, IsOfBook}
 use Rattle.tables.specs.declared.table_fault.TableFault.{TableFault}
 use Rattle.tables.specs.declared.table_fault.TableFault.TheVariants as table_fault
 use Rattle.entries.specs.Faults.{load_fault_of, Blames}
-use Rattle.loading.specs.Loading.{HasReadCause, IsCaused, IsDamaged, Justifies, named}
+use Rattle.loading.specs.Loading.{HasReadCause, IsCaused, IsDamaged, Justifies, state_table}
 use Rattle.loading.specs.Reading.{ReadsAs, HasRows, IsUnreadable, BlamesOrFails}
 use Rattle.state_rows.specs.Rows.{StateTable, table}
 use Rattle.entries.specs.declared.fault.LoadFault.{LoadFault}
@@ -134,10 +134,10 @@ module _ {A : Type 0} (it : StateTable) (its : name.TableName) (IsRecord : Row �
   not_there s none = record { told = λ clean. (refl, inl none); caused = λ clean is. absurd (cc); left = nothing_left s }
 
 -- a fault of one table, for a reason by which the table is damaged
-pub of_blame : (its : name.TableName) (Why : Type 0) (db : Database) → (Why → IsDamaged (named its) db) → (fault : LoadFault) → BlamesOrFails its Why fault → Justifies fault db
+pub of_blame : (its : name.TableName) (Why : Type 0) (db : Database) → (Why → IsDamaged (state_table its) db) → (fault : LoadFault) → BlamesOrFails its Why fault → Justifies fault db
 of_blame its Why db damaged NotABook blame = absurd blame
 of_blame its Why db damaged Version blame = absurd blame
-of_blame its Why db damaged (Damaged other) blame = subst (λ t. IsDamaged (named t) db) (sym blame.0) (damaged blame.1)
+of_blame its Why db damaged (Damaged other) blame = subst (λ t. IsDamaged (state_table t) db) (sym blame.0) (damaged blame.1)
 of_blame its Why db damaged (Fault fault) blame = tt
 
 -- what records are refused for, a table is
@@ -149,7 +149,7 @@ or_fails its Why (Fault fault) blame = tt
 
 -- a table that couldn't be read
 pub unread : {B : Type 0} (its : name.TableName) (Why : Type 0) (Tells : B → Type 0) (old new : State) (fault : LoadFault) →
-    (HasCleanDisk old → Why → IsDamaged (named its) old.now) → (HasCleanDisk new → BlamesOrFails its Why fault) → (HasCleanDisk new → IsCaused old new fault) → CrashLeavesNoMore old new →
+    (HasCleanDisk old → Why → IsDamaged (state_table its) old.now) → (HasCleanDisk new → BlamesOrFails its Why fault) → (HasCleanDisk new → IsCaused old new fault) → CrashLeavesNoMore old new →
     ReadsAs Tells (λ f. Justifies f old.now) old new (Err fault)
 unread its Why Tells old new fault damaged told caused left = record {
   told = λ clean. of_blame its Why old.now (damaged (clean_before old new left clean)) fault (told clean);

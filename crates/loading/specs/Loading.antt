@@ -44,27 +44,27 @@ pub record IsDamaged (name : StateTable) (db : Database) : Type 0 where
 -- ---- Refusals
 
 -- a name of a table in a refusal means this table
-abbrev pub named : name.TableName → StateTable
-named table_name.Book = book
-named table_name.Crew = crew
-named table_name.Pairing = pairing
-named table_name.Period = period
-named table_name.Segment = segment
-named table_name.Seat = seat
-named table_name.Ground = ground_duty
-named table_name.Exceedance = exceedance
-named table_name.Request = request
-named table_name.Base = base
-named table_name.CrewBase = crew_base
-named table_name.Outside = outside
-named table_name.OutsideSegment = outside_segment
+abbrev pub state_table : name.TableName → StateTable
+state_table table_name.Book = book
+state_table table_name.Crew = crew
+state_table table_name.Pairing = pairing
+state_table table_name.Period = period
+state_table table_name.Segment = segment
+state_table table_name.Seat = seat
+state_table table_name.Ground = ground_duty
+state_table table_name.Exceedance = exceedance
+state_table table_name.Request = request
+state_table table_name.Base = base
+state_table table_name.CrewBase = crew_base
+state_table table_name.Outside = outside
+state_table table_name.OutsideSegment = outside_segment
 
 -- A refusal to load says this of the database. It says nothing if it reports a fault of the store
 -- (90), or that the program is out of memory (91).
 abbrev pub Justifies : LoadFault → Database → Type 0
 Justifies NotABook db = IsNoBook db
 Justifies Version db = IsOfOtherVersion db
-Justifies (Damaged it) db = IsDamaged (named it) db
+Justifies (Damaged it) db = IsDamaged (state_table it) db
 Justifies (Fault fault) db = ⊤
 
 -- A read of the tables has a cause for a fault of the store (90). The disk failed or refused a call

@@ -37,7 +37,7 @@ use Rattle.tables.specs.declared.ground.GroundRecord.{GroundRecord}
 use Rattle.tables.specs.declared.request.RequestRecord.{RequestRecord}
 use Rattle.tables.specs.declared.seat.SeatRecord.{SeatRecord}
 use Rattle.loading.specs.Loading.{IsCaused, IsNoBook, IsOfOtherVersion}
-use Rattle.entries.specs.Right.{IsMember, IsFlown, IsGround, IsExceedance, IsRequest, AreHeld, name_of, IsRight, IsOfEdition}
+use Rattle.entries.specs.Right.{IsMember, IsFlownIn, IsGround, IsExceedance, IsRequest, AreHeld, name_of, IsRight, IsOfEdition}
 use Rattle.state_rows.specs.Editions.{edition_number}
 use Rattle.state_rows.specs.First.{IsOfFirst}
 use Rattle.state_rows.specs.Requests.{Requests, with_requests}
@@ -104,7 +104,7 @@ seat_of (suc (suc n)) = None
 -- an exceedance in a file of this version can name the duty: a period with an actual or, in
 -- version 2, an outside period
 abbrev pub CanName : Edition → fin.FinMap name_cmp PairingEntry → DutyId → Type 0
-CanName edition pairings (Period p) = IsFlown pairings p
+CanName edition pairings (Period p) = IsFlownIn pairings p
 CanName First pairings (Outside id) = ⊥
 CanName Second pairings (Outside id) = ⊤
 

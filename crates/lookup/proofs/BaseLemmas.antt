@@ -24,7 +24,7 @@ use Rattle.state_rows.specs.Kept.{IsBookOf}
 use Rattle.entries.proofs.Mapping.{all_taken, has_at, mapped_at, mapped_place, nothing_mapped, of_taken, one_more, take_next}
 use Rattle.entries.specs.Right.{AreRight}
 use Rattle.entries.specs.Mapping.{AreOnce, Mapped}
-use Rattle.lookup.specs.Bases.{AreOfBases, BasesRead}
+use Rattle.lookup.specs.Bases.{AreOfBases, AreFirstBases}
 use Rattle.lookup.proofs.ReadLemmas.{in_found, of_found}
 use Rattle.lookup.proofs.RightRows.{bases_right, no_row}
 
@@ -78,7 +78,7 @@ no_home records passed are = passed.none are.place are.of_home (slice_get_within
 
 -- ---- Records in turn
 
-pub home_read : (records : List BaseRecord) (zone : List ℕ) (bases : Bases) → Has (map base_row records) (row_of_base home zone) → bases ≡ only_home zone → BasesRead records 0 bases
+pub home_read : (records : List BaseRecord) (zone : List ℕ) (bases : Bases) → Has (map base_row records) (row_of_base home zone) → bases ≡ only_home zone → AreFirstBases records 0 bases
 home_read records zone bases here made = record {
   zone = zone;
   of_home = here;
@@ -87,7 +87,7 @@ home_read records zone bases here made = record {
 }
 
 pub one_read : (records : List BaseRecord) (at : ℕ) (it : BaseRecord) → slice_get records at ≡ Some it → (m n : Bases) (id zone : List ℕ) →
-    base_row it ≡ row_of_base id zone → n ≡ fin.insert m id zone → BasesRead records at m → BasesRead records (at + 1) n
+    base_row it ≡ row_of_base id zone → n ≡ fin.insert m id zone → AreFirstBases records at m → AreFirstBases records (at + 1) n
 one_read records at it there m n id zone told made read =
     let rows = map base_row records in
     let here : slice_get rows at ≡ Some (row_of_base id zone) = mapped_place base_row records at it there ∙ ap Some told in
@@ -128,7 +128,7 @@ module _ (s : roster.State) (db : Database) (is_book : IsBookOf s db) (records :
   once : AreOnce row_of_base (map base_row records)
   once id v w first second = ap (row_of_base id) (one_value (of_state id v first) (of_state id w second))
 
-  pub bases_are : (m : Bases) → BasesRead records (length records) m → m ≡ s.bases
+  pub bases_are : (m : Bases) → AreFirstBases records (length records) m → m ≡ s.bases
   bases_are m read =
       let of_home = row_of_base home read.zone in
       let mapped = subst (λ l. Mapped (λ id. id) row_of_base Is (of_home ∷ l) m) (all_taken base_row records) (read.mapped once) in

@@ -20,7 +20,7 @@ pub record AreOfBases (records : List BaseRecord) : Type 0 where
 
 -- the map has the base HOME, as one of the records of `base` gives it, and the bases of this many
 -- first records, by their ids
-pub record BasesRead (records : List BaseRecord) (count : ℕ) (bases : Bases) : Type 0 where
+pub record AreFirstBases (records : List BaseRecord) (count : ℕ) (bases : Bases) : Type 0 where
   pub zone : List ℕ
   pub of_home : Has (map base_row records) (row_of_base home zone)
   pub mapped : AreOnce row_of_base (map base_row records) →

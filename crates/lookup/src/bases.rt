@@ -11,7 +11,7 @@ ghost use Rattle.tables.specs.Rows.{begins_with};
 ghost use Rattle.state_rows.specs.Outcomes.{IsOutside, IsOverBook};
 ghost use Rattle.state_rows.specs.Rows.{base, row_of_base};
 ghost use Rattle.lookup.specs.Reads.{ReadsByKey, ReadsRows};
-ghost use Rattle.lookup.specs.Bases.{AreOfBases, BasesRead};
+ghost use Rattle.lookup.specs.Bases.{AreOfBases, AreFirstBases};
 
 use duty::BaseId;
 use roster::Bases;
@@ -83,7 +83,7 @@ fn home_of_rows(alloc: Global, records: &[BaseRecord]) -> Result<Zone, StoreFaul
 /// Returns the bases that the records give.
 #[tactic(auto, using(crate::proofs::BaseLemmas::home_read))]
 fn bases_of_rows(alloc: Global, records: &[BaseRecord]) -> Result<Bases, StoreFault>
-    ensures told { IfOk result (BasesRead records.now (length records.now)) }
+    ensures told { IfOk result (AreFirstBases records.now (length records.now)) }
     ensures unread { IfErr result
         (λ fault. fault ≡ StoreFault.Store → AreOfBases records.now → ⊥) }
 {

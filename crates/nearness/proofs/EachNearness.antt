@@ -14,7 +14,7 @@ use Rattle.duty.proofs.Counting.{meets_or_free, meets-count, window_end}
 use Rattle.duty.proofs.SpanFacts.{covers-true, no_negative}
 use Rattle.nearness.specs.Fullest.{HasNoMinute}
 use Rattle.nearness.specs.Nearest.{Counts, Touches, minutes_set, minutes_left, IsMeasured, IsNearest, HasNone}
-use Rattle.nearness.specs.Nearness.{IsNearness, IsPeriod, IsWindow, IsYear}
+use Rattle.nearness.specs.Nearness.{IsNearness, IsNearestPeriod, IsWindow, IsYear}
 use Rattle.nearness.specs.declared.all_limits.Nearness.{Nearness}
 use Rattle.nearness.specs.declared.periods.MeasuredPeriod.{MeasuredPeriod}
 use Rattle.nearness.specs.declared.periods.PeriodLimit.{PeriodLimit}
@@ -228,7 +228,7 @@ nearest_or_none limit all new others (suc n) = rw next (elim (measured_or_aside 
     next : suc n ≡ n + 1
     next = omega arith
 
-each_period : (limit : PeriodLimit) (all new : List DutyInForce) (others : ℕ) → (answer : Option MeasuredPeriod) × IsPeriod limit all new others answer
+each_period : (limit : PeriodLimit) (all new : List DutyInForce) (others : ℕ) → (answer : Option MeasuredPeriod) × IsNearestPeriod limit all new others answer
 each_period limit all new others = elim (nearest_or_none limit all new others (length all)) [
   | inl nearest ↦ (Some nearest.0, record { some = nearest.1; none = tt })
   | inr none ↦ (None, record { some = tt; none = none })

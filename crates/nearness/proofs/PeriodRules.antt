@@ -16,7 +16,7 @@ use Rattle.limits.specs.Judgement.{IsWithin}
 use Rattle.limits.specs.Rules.{IsOverTableA, IsOverTableB, IsTouched, ThirtyHourRest, TenHourRest}
 use Rattle.limits.specs.Tables.{table_a, table_b}
 use Rattle.nearness.specs.Nearest.{IsNearest, HasNone, IsMeasured}
-use Rattle.nearness.specs.Nearness.{IsPeriod, is_over_table, lacks_rest}
+use Rattle.nearness.specs.Nearness.{IsNearestPeriod, is_over_table, has_too_little_rest}
 use Rattle.nearness.specs.declared.periods.MeasuredPeriod.{MeasuredPeriod}
 use Rattle.nearness.specs.declared.periods.PeriodLimit.TheVariants.{TableA, TableB, ThirtyHours, TenHours}
 use Rattle.nearness.proofs.FreeTime.{longest_of, free_of, meets_more, worked_short}
@@ -252,22 +252,22 @@ none_ten all new others same none rule =
     let free = free_of (minutes_in Duty all) (pos rule.fdp.report) 10_080 in
     none c.k free.0 600 c.within (record { fdp = rule.fdp; at = c.at; touches = c.touches; counts = free.1; sets = refl })
 
-pub a_rule : (all new : List DutyInForce) (others : ℕ) (p : Option MeasuredPeriod) → drop others all ≡ new → IsPeriod TableA all new others p →
+pub a_rule : (all new : List DutyInForce) (others : ℕ) (p : Option MeasuredPeriod) → drop others all ≡ new → IsNearestPeriod TableA all new others p →
     IsTrue (is_over_table p) ↔ IsOverTableA all new
 a_rule all new others (Some p) same is = by_test p.limit p.minutes _ (over_a all new others p same is.some)
 a_rule all new others None same is = never _ (none_a all new others same is.none)
 
-pub b_rule : (all new : List DutyInForce) (others : ℕ) (p : Option MeasuredPeriod) → drop others all ≡ new → IsPeriod TableB all new others p →
+pub b_rule : (all new : List DutyInForce) (others : ℕ) (p : Option MeasuredPeriod) → drop others all ≡ new → IsNearestPeriod TableB all new others p →
     IsTrue (is_over_table p) ↔ IsOverTableB all new
 b_rule all new others (Some p) same is = by_test p.limit p.minutes _ (over_b all new others p same is.some)
 b_rule all new others None same is = never _ (none_b all new others same is.none)
 
 pub thirty_rule : (all new : List DutyInForce) (others : ℕ) (p : Option MeasuredPeriod) → drop others all ≡ new →
-    IsPeriod ThirtyHours all new others p → IsTrue (lacks_rest p) ↔ ThirtyHourRest all new
+    IsNearestPeriod ThirtyHours all new others p → IsTrue (has_too_little_rest p) ↔ ThirtyHourRest all new
 thirty_rule all new others (Some p) same is = by_test p.minutes p.limit _ (lacks_thirty all new others p same is.some)
 thirty_rule all new others None same is = never _ (none_thirty all new others same is.none)
 
 pub ten_rule : (all new : List DutyInForce) (others : ℕ) (p : Option MeasuredPeriod) → drop others all ≡ new →
-    IsPeriod TenHours all new others p → IsTrue (lacks_rest p) ↔ TenHourRest all new
+    IsNearestPeriod TenHours all new others p → IsTrue (has_too_little_rest p) ↔ TenHourRest all new
 ten_rule all new others (Some p) same is = by_test p.minutes p.limit _ (lacks_ten all new others p same is.some)
 ten_rule all new others None same is = never _ (none_ten all new others same is.none)

@@ -18,13 +18,13 @@ use Rattle.limits.specs.Laws.Windows.{held}
 use Rattle.limits.specs.Laws.SumRule.{members, held-before, trimmed}
 use Rattle.limits.specs.Laws.Parts.{IsPart, meets-part}
 use Rattle.nearness.specs.declared.windows.Window.{Window}
-use Rattle.nearness.specs.Searches.{IsHeld, IsAsGood, IsKept, IsMet, IsTried}
+use Rattle.nearness.specs.Searches.{IsCounted, IsAsGood, IsNoWorse, IsMet, IsTried}
 use Rattle.nearness.specs.Fullest.{IsFullest, HasNoMinute}
 use Rattle.nearness.proofs.Slides.{below-le, begun, span_begin, span_end, slid, earlier, later}
 
 -- what was tried stays so
 pub kept_tried : (all : List Span) (new : ℤ → Bool) (width : ℕ) (old best : Window) (after_begin : ℕ) (span : Span) →
-    IsKept all width old best → IsTried all new width old after_begin span →
+    IsNoWorse all width old best → IsTried all new width old after_begin span →
     IsTried all new width best after_begin span
 kept_tried all new width old best after_begin span kept tried = record {
   at_begin = λ m. kept (span.from + after_begin) (tried.at_begin m);
@@ -261,7 +261,7 @@ good_meeting : (all new : List Span) (width : ℕ) (best : Window) → 0 < width
 good_meeting all new width best some are start m = good_from all new width best some are start m.minute m.from_start m.before_end m.member
 
 pub is_fullest : (all new : List Span) (width : ℕ) (best : Window) → 0 < width → AreAllTried all new width best →
-    IsHeld all width best → IsMet (minutes_of new) width best → 0 < best.minutes →
+    IsCounted all width best → IsMet (minutes_of new) width best → 0 < best.minutes →
     IsFullest (minutes_of all) (minutes_of new) width best.minutes (pos best.end -ℤ pos width)
 is_fullest all new width best some are is met more = let held_there = is.holds in record {
   meets = met more;
@@ -293,7 +293,7 @@ no_minute all new width best some are none minute is =
     absurd (omega arith)
 
 -- the window that ends with the year 1999 is empty
-pub nothing_held : (all : List Span) (width : ℕ) → IsHeld all width (record { minutes = 0; end = 0 })
+pub nothing_held : (all : List Span) (width : ℕ) → IsCounted all width (record { minutes = 0; end = 0 })
 nothing_held all width =
     let z : below (members all) 0 ≡ 0 = below-zero (members all) in
     let e = held-before all 0 width in

@@ -11,7 +11,7 @@ use Rattle.limits.specs.Laws.Windows.{held}
 use Rattle.limits.specs.Laws.SumRule.{members}
 use Rattle.limits.specs.Laws.Parts.{IsPart, meets-part}
 use Rattle.nearness.specs.declared.windows.Window.{Window}
-use Rattle.nearness.specs.Searches.{IsHeld, IsAsGood, IsMet}
+use Rattle.nearness.specs.Searches.{IsCounted, IsAsGood, IsMet}
 use Rattle.nearness.specs.Fullest.{IsFullestYear, HasNoMinute}
 
 -- the years that may meet the new minutes, from the one that ends with the day of the first to the one that begins with that of the last
@@ -62,7 +62,7 @@ year_back : (days : ℕ) → pos (days * 1_440) -ℤ pos 525_600 ≡ (pos days -
 year_back days = omega (arith, ints)
 
 pub is_fullest_year : (all new : List Span) (best : Window) (from to first last : ℕ) →
-    AreYearsTried all new best from to first last → IsHeld all 525_600 best → IsMet (minutes_of new) 525_600 best → (q : ℕ) →
+    AreYearsTried all new best from to first last → IsCounted all 525_600 best → IsMet (minutes_of new) 525_600 best → (q : ℕ) →
     best.end ≡ q * 1_440 → 0 < best.minutes →
     IsFullestYear (minutes_of all) (minutes_of new) best.minutes (pos best.end -ℤ pos 525_600)
 is_fullest_year all new best from to first last are is met q aligned some = let held_there = is.holds in record {

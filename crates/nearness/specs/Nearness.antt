@@ -32,7 +32,7 @@ pub record IsYear (all new : ℤ → Bool) (answer : Option FullestWindow) : Typ
 
 -- The answer for a limit on each flight duty period: the nearest of the periods that new duties
 -- touch, or none if new duties touch no period for which the regulation sets minutes.
-pub record IsPeriod (limit : PeriodLimit) (all new : List DutyInForce) (others : ℕ)
+pub record IsNearestPeriod (limit : PeriodLimit) (all new : List DutyInForce) (others : ℕ)
     (answer : Option MeasuredPeriod) : Type 0 where
   pub some : IfSome answer (λ period. IsNearest (length all) limit all new others period)
   pub none : IfNone answer (HasNone (length all) limit all new others)
@@ -43,8 +43,8 @@ pub record IsPeriod (limit : PeriodLimit) (all new : List DutyInForce) (others :
 -- of 672 hours (117.23(c)(2)), and the flight duty period by the rest in the 168 hours before its
 -- report (117.25(b)) and just before its report (117.25(e)).
 pub record IsNearness (all new : List DutyInForce) (others : ℕ) (nearness : Nearness) : Type 0 where
-  pub flight_time : IsPeriod TableA all new others nearness.flight_time
-  pub flight_duty_period : IsPeriod TableB all new others nearness.flight_duty_period
+  pub flight_time : IsNearestPeriod TableA all new others nearness.flight_time
+  pub flight_duty_period : IsNearestPeriod TableB all new others nearness.flight_duty_period
   pub flight_time_672_hours :
       IsWindow (minutes_in Flight all) (minutes_in Flight new) 40_320
       nearness.flight_time_672_hours
@@ -56,8 +56,8 @@ pub record IsNearness (all new : List DutyInForce) (others : ℕ) (nearness : Ne
   pub flight_duty_periods_672_hours :
       IsWindow (minutes_in FlightDuty all) (minutes_in FlightDuty new) 40_320
       nearness.flight_duty_periods_672_hours
-  pub thirty_hour_rest : IsPeriod ThirtyHours all new others nearness.thirty_hour_rest
-  pub ten_hour_rest : IsPeriod TenHours all new others nearness.ten_hour_rest
+  pub thirty_hour_rest : IsNearestPeriod ThirtyHours all new others nearness.thirty_hour_rest
+  pub ten_hour_rest : IsNearestPeriod TenHours all new others nearness.ten_hour_rest
 
 -- whether there is a window of 117.23 and it holds more than `most` minutes
 abbrev pub holds_over : ℕ → Option FullestWindow → Bool
@@ -71,9 +71,9 @@ is_over_table (Some period) = nat_lt period.limit period.minutes
 is_over_table None = false
 
 -- whether there is a period and it has less rest before its report than 117.25(b) or 117.25(e) sets
-abbrev pub lacks_rest : Option MeasuredPeriod → Bool
-lacks_rest (Some period) = nat_lt period.minutes period.limit
-lacks_rest None = false
+abbrev pub has_too_little_rest : Option MeasuredPeriod → Bool
+has_too_little_rest (Some period) = nat_lt period.minutes period.limit
+has_too_little_rest None = false
 
 -- whether what is nearest to a section's limit exceeds that limit: 100 hours of flight time in 672
 -- hours and 1,000 in 365 days, 60 hours of flight duty periods in 168 hours and 190 in 672, what
@@ -85,8 +85,8 @@ exceeds section.FlightTime672Hours n = holds_over 6_000 n.flight_time_672_hours
 exceeds section.FlightTime365Days n = holds_over 60_000 n.flight_time_365_days
 exceeds section.FlightDutyPeriods168Hours n = holds_over 3_600 n.flight_duty_periods_168_hours
 exceeds section.FlightDutyPeriods672Hours n = holds_over 11_400 n.flight_duty_periods_672_hours
-exceeds section.ThirtyHourRest n = lacks_rest n.thirty_hour_rest
-exceeds section.TenHourRest n = lacks_rest n.ten_hour_rest
+exceeds section.ThirtyHourRest n = has_too_little_rest n.thirty_hour_rest
+exceeds section.TenHourRest n = has_too_little_rest n.ten_hour_rest
 
 -- Each section's limit is exceeded if and only if the new duties break its rule (`Rule` of
 -- `limits`).

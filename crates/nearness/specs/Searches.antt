@@ -10,15 +10,15 @@ use Rattle.nearness.specs.declared.windows.Window.{Window}
 use Rattle.nearness.specs.declared.windows.Windows.{Windows}
 
 -- the spans of one kind of all duties
-abbrev pub spans_in : Windows → List Span
-spans_in w = flat_map (spans_of w.kind) w.all.now
+abbrev pub spans_of_all : Windows → List Span
+spans_of_all w = flat_map (spans_of w.kind) w.all.now
 
 -- the minutes of one kind of the new duties
 abbrev pub new_in : Windows → ℤ → Bool
 new_in w = minutes_in w.kind w.new.now
 
 -- A window of `width` minutes holds as many minutes as it names, and ends before minute 2 ^ 40.
-pub record IsHeld (all : List Span) (width : ℕ) (window : Window) : Type 0 where
+pub record IsCounted (all : List Span) (width : ℕ) (window : Window) : Type 0 where
   pub holds : held all window.end width ≡ window.minutes
   pub near : window.end < 2 ^ 40
 
@@ -29,8 +29,8 @@ pub record IsAsGood (all : List Span) (width : ℕ) (best : Window) (end : ℕ) 
   pub first : end < best.end → held all end width < best.minutes
 
 -- The new best window is as good as each window that the old best window was as good as.
-abbrev pub IsKept : List Span → ℕ → (old new : Window) → Type 0
-IsKept all width old new = (end : ℕ) → IsAsGood all width old end → IsAsGood all width new end
+abbrev pub IsNoWorse : List Span → ℕ → (old new : Window) → Type 0
+IsNoWorse all width old new = (end : ℕ) → IsAsGood all width old end → IsAsGood all width new end
 
 -- A window meets a new minute, or the window is empty.
 abbrev pub IsMet : (ℤ → Bool) → ℕ → Window → Type 0

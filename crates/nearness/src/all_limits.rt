@@ -2,7 +2,7 @@
 //! its limit if and only if `limits` has the rule broken is a clause of both functions.
 //! Wrong bodies: `must-fail/` and `must-fail-more/`.
 ghost use Rattle.std.specs.Prelude.{◌≡◌, drop};
-ghost use Rattle.nearness.specs.Nearness.{IsNearness, ExceedsIsRule, exceeds as is_exceeded, holds_over as holds_over_it, is_over_table as is_over_it, lacks_rest as lacks_it};
+ghost use Rattle.nearness.specs.Nearness.{IsNearness, ExceedsIsRule, exceeds as is_exceeded, holds_over as holds_over_it, is_over_table as is_over_it, has_too_little_rest as lacks_it};
 
 use super::periods::{MeasuredPeriod, PeriodLimit, nearest_period};
 use super::windows::{FullestWindow, fullest_window};

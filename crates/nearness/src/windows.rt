@@ -8,7 +8,7 @@ ghost use Rattle.duty.specs.declared.span.Span.{Span as Minutes};
 ghost use Rattle.duty.specs.declared.duty_in_force.DutyInForce.{DutyInForce as InForce};
 ghost use Rattle.limits.specs.Judgement.{IsWithin};
 ghost use Rattle.nearness.specs.Fullest.{IsFullest, HasNoMinute};
-ghost use Rattle.nearness.specs.Searches.{IsHeld, IsAsGood, IsKept, IsMet, IsTried, spans_in, new_in};
+ghost use Rattle.nearness.specs.Searches.{IsCounted, IsAsGood, IsNoWorse, IsMet, IsTried, spans_of_all, new_in};
 
 use duty::{DutyInForce, History, Kind};
 
@@ -56,13 +56,13 @@ impl Windows<'_> {
     /// ends earlier; else the best one.
     pub(crate) fn better(&self, best: Window, end: u64) -> Window
         requires near { end < 2 ^ 40 }
-        requires held { IsHeld (spans_in self.now) self.now.width best }
+        requires held { IsCounted (spans_of_all self.now) self.now.width best }
         requires met { IsMet (new_in self.now) self.now.width best }
-        ensures holds { IsHeld (spans_in self.now) self.now.width result }
+        ensures holds { IsCounted (spans_of_all self.now) self.now.width result }
         ensures met { IsMet (new_in self.now) self.now.width result }
-        ensures kept { IsKept (spans_in self.now) self.now.width best result }
+        ensures kept { IsNoWorse (spans_of_all self.now) self.now.width best result }
         ensures tried { Meets (new_in self.now) (pos end -ℤ pos self.now.width) self.now.width
-            → IsAsGood (spans_in self.now) self.now.width result end }
+            → IsAsGood (spans_of_all self.now) self.now.width result end }
         ensures one { (result.end ≡ best.end) ⊎ (result.end ≡ end) }
     {
         if !self.new.meets(self.kind, end, self.width as u64) {
@@ -79,13 +79,13 @@ impl Windows<'_> {
     /// Tries the windows that end `after_begin` minutes after a span of the duty begins, and those that end where one
     /// ends.
     fn try_duty(&self, duty: &DutyInForce, mut best: Window, after_begin: u32) -> Window
-        requires held { IsHeld (spans_in self.now) self.now.width best }
+        requires held { IsCounted (spans_of_all self.now) self.now.width best }
         requires met { IsMet (new_in self.now) self.now.width best }
-        ensures holds { IsHeld (spans_in self.now) self.now.width result }
+        ensures holds { IsCounted (spans_of_all self.now) self.now.width result }
         ensures met { IsMet (new_in self.now) self.now.width result }
-        ensures kept { IsKept (spans_in self.now) self.now.width best result }
+        ensures kept { IsNoWorse (spans_of_all self.now) self.now.width best result }
         ensures tried { (k : ℕ) (d : Minutes) → k < length (spans_of self.now.kind duty.now)
-            → IsTried (spans_in self.now) (new_in self.now) self.now.width result after_begin
+            → IsTried (spans_of_all self.now) (new_in self.now) self.now.width result after_begin
             (slice_index_or (spans_of self.now.kind duty.now) k d) }
     {
         for index in 0..duty.span_count(self.kind) {
@@ -98,14 +98,14 @@ impl Windows<'_> {
 
     /// Tries these windows of each of the duties.
     fn try_duties(&self, duties: &[DutyInForce], mut best: Window, after_begin: u32) -> Window
-        requires held { IsHeld (spans_in self.now) self.now.width best }
+        requires held { IsCounted (spans_of_all self.now) self.now.width best }
         requires met { IsMet (new_in self.now) self.now.width best }
-        ensures holds { IsHeld (spans_in self.now) self.now.width result }
+        ensures holds { IsCounted (spans_of_all self.now) self.now.width result }
         ensures met { IsMet (new_in self.now) self.now.width result }
-        ensures kept { IsKept (spans_in self.now) self.now.width best result }
+        ensures kept { IsNoWorse (spans_of_all self.now) self.now.width best result }
         ensures tried { (j : ℕ) (e : InForce) (k : ℕ) (d : Minutes) → j < length duties.now
             → k < length (spans_of self.now.kind (slice_index_or duties.now j e))
-            → IsTried (spans_in self.now) (new_in self.now) self.now.width result after_begin
+            → IsTried (spans_of_all self.now) (new_in self.now) self.now.width result after_begin
             (slice_index_or (spans_of self.now.kind (slice_index_or duties.now j e)) k d) }
     {
         for duty in duties {

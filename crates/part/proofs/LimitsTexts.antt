@@ -5,7 +5,7 @@ use Rattle.std.specs.List.{filter, flat_map}
 use Rattle.std.specs.Option.{option_map, option_map_or}
 use Rattle.std.specs.Str.{bytes_eq}
 use Rattle.duty.specs.Shape.{home}
-use Rattle.limits_report.specs.LimitsText.{IsLimitsText, judged}
+use Rattle.limits_report.specs.LimitsText.{IsLimitsText, judged_duties}
 use Rattle.roster.specs.Bases.{zone_at}
 use Rattle.roster.specs.Pairings.{holds}
 use Rattle.roster.specs.Places.{Placed, ground_at, history_of, outside_at, periods_at, the_pairing}
@@ -38,14 +38,14 @@ module _ (s : State) (who : List ℕ) (named : Option (List ℕ)) where
       ++ map ground_at (grounds_same s who i)
       ++ map outside_at (outsides_same s who i)
 
-judged_same : (s : State) (who : List ℕ) (named : Option (List ℕ)) → judged (limits_part s who named) who named ≡ judged s who named
+judged_same : (s : State) (who : List ℕ) (named : Option (List ℕ)) → judged_duties (limits_part s who named) who named ≡ judged_duties s who named
 judged_same s who None i = Some (record { others = []; new = history_same s who None i })
 judged_same s who (Some id) i = option_map (λ r. record {
   others = filter (λ (p : Placed). not (the_pairing id p.0)) (history_same s who (Some id) i);
   new = periods_at (zone_same s who (Some id) i) (id, r);
 }) (retained s.pairings (is_held_or_named s who (Some id)) id (or_right (is_held_of s who id) (bytes_eq id id) (same_name id)) i)
 
-module _ (s t : State) (who : List ℕ) (named : Option (List ℕ)) (crew : fin.get s.crew who ≡ fin.get t.crew who) (same : judged s who named ≡ judged t who named) where
+module _ (s t : State) (who : List ℕ) (named : Option (List ℕ)) (crew : fin.get s.crew who ≡ fin.get t.crew who) (same : judged_duties s who named ≡ judged_duties t who named) where
   limits_on : (text : List ℕ) → IsLimitsText s who named text → IsLimitsText t who named text
   limits_on text is = record {
     member = is.member;

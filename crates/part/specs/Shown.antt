@@ -3,7 +3,7 @@ use Rattle.std.specs.Prelude.{◌≡◌, ◌↔◌, false, ◌||◌, ℕ, Bool, 
 use Rattle.std.specs.FinMap as fin
 use Rattle.std.specs.Option.{option_map_or}
 use Rattle.std.specs.Str.{bytes_eq}
-use Rattle.limits_report.specs.LimitsText.{IsLimitsText, judged}
+use Rattle.limits_report.specs.LimitsText.{IsLimitsText, judged_duties}
 use Rattle.list_report.specs.MembersText.{IsMembersText}
 use Rattle.list_report.specs.PairingsText.{IsPairingsText}
 use Rattle.list_report.specs.declared.pairings.Listed.{Listed}
@@ -114,7 +114,7 @@ HasMemberText = (s : State) (who : List ℕ) →
 abbrev pub HasLimitsText : Type 0
 HasLimitsText = (s : State) (who : List ℕ) (named : Option (List ℕ)) →
     (fin.get (limits_part s who named).crew who ≡ fin.get s.crew who)
-    × (judged (limits_part s who named) who named ≡ judged s who named)
+    × (judged_duties (limits_part s who named) who named ≡ judged_duties s who named)
     × ((text : List ℕ) → IsLimitsText (limits_part s who named) who named text
     ↔ IsLimitsText s who named text)
 

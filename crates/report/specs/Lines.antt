@@ -19,6 +19,6 @@ abbrev pub key_of : Line → List ℕ
 key_of line = line.begin ∷ line.end ∷ key_of_place line.place
 
 -- The sorted list has these lines and no others, in the order of their keys.
-pub record IsInOrder (lines sorted : List Line) : Type 0 where
+pub record AreLinesInOrder (lines sorted : List Line) : Type 0 where
   pub same : IsPermutation lines sorted
   pub order : IsSorted (λ a b. name_cmp (key_of a) (key_of b)) sorted

@@ -8,7 +8,7 @@ use Rattle.time117.specs.Instant.{written}
 use Rattle.duty.specs.declared.segment.Segment.{Segment}
 use Rattle.roster.specs.State.{State}
 use Rattle.roster.specs.declared.state.PairingEntry.{PairingEntry}
-use Rattle.report.specs.Periods.{pairing_periods, word}
+use Rattle.report.specs.Periods.{pairing_periods, times_word}
 use Rattle.report.specs.declared.periods.PeriodInForce.{PeriodInForce}
 
 -- who holds a seat, or a dash
@@ -23,7 +23,7 @@ seat_line seat holder = seat ++ codes " " ++ holder_text holder ++ codes "\n"
 -- the line of a period: its number, whether it is planned or flown, and its times in force
 abbrev pub pairing_period_line : ℕ → PeriodInForce → List ℕ
 pairing_period_line number p =
-    (decimal number ++ codes " " ++ word p)
+    (decimal number ++ codes " " ++ times_word p)
     ++ codes " report " ++ written p.fdp.report ++ codes " release " ++ written p.fdp.release
     ++ codes "\n"
 

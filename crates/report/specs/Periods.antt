@@ -24,8 +24,8 @@ source true = codes "actual"
 source false = codes "plan"
 
 -- the word for where the times of a period come from: as flown, or as planned
-abbrev pub word : PeriodInForce → List ℕ
-word p = source p.is_flown
+abbrev pub times_word : PeriodInForce → List ℕ
+times_word p = source p.is_flown
 
 -- the length of a flight duty period (117.3), from its report to the last block-in
 abbrev pub length_to_last_block_in : Fdp → ℕ

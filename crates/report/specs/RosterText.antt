@@ -16,8 +16,8 @@ use Rattle.roster.specs.State.{State}
 use Rattle.roster.specs.declared.state.OutsideEntry.{OutsideEntry}
 use Rattle.roster.specs.declared.state.PairingEntry.{PairingEntry}
 use Rattle.period_verdict.specs.Texts.{hours_text}
-use Rattle.report.specs.Lines.{IsInOrder}
-use Rattle.report.specs.Periods.{pairing_periods, word, length_to_last_block_in, flight_time_of}
+use Rattle.report.specs.Lines.{AreLinesInOrder}
+use Rattle.report.specs.Periods.{pairing_periods, times_word, length_to_last_block_in, flight_time_of}
 use Rattle.report.specs.declared.line.Line.{Line}
 use Rattle.report.specs.declared.line.LinePlace.TheVariants.{Period, Ground, Outside}
 use Rattle.report.specs.declared.periods.PeriodInForce.{PeriodInForce}
@@ -41,7 +41,7 @@ roster_period_line id (number, p) = record {
   end = p.fdp.release;
   place = Period id number;
   text = span_text p.fdp.report p.fdp.release
-      ++ (codes " pairing " ++ id ++ codes "/" ++ decimal number ++ codes " " ++ word p)
+      ++ (codes " pairing " ++ id ++ codes "/" ++ decimal number ++ codes " " ++ times_word p)
       ++ lengths_text (length_to_last_block_in p.fdp) (flight_time_of p.fdp);
 }
 
@@ -103,7 +103,7 @@ roster_header who member =
 -- The roster text of this member: the first line, and then the member's lines in their order.
 pub record IsMemberText (s : State) (who : List ℕ) (member : Member) (text : List ℕ) : Type 0 where
   pub lines : List Line
-  pub in_order : IsInOrder (lines_of s who) lines
+  pub in_order : AreLinesInOrder (lines_of s who) lines
   pub is : text ≡ roster_header who member ++ flat_map (λ line. line.text) lines
 
 -- The roster text of the member with this id, who is in the state.

@@ -6,7 +6,7 @@ ghost use Rattle.std.specs.FinMap as fin;
 ghost use Rattle.time117.specs.Instant.{written};
 ghost use Rattle.period_verdict.specs.Texts.{hours_text};
 ghost use Rattle.report.specs.RosterText as spec;
-ghost use Rattle.report.specs.Periods.{word};
+ghost use Rattle.report.specs.Periods.{times_word};
 
 use crate::fault::ReportFault;
 use crate::instants::instant;

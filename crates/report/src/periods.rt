@@ -20,7 +20,7 @@ pub struct PeriodInForce {
 impl PeriodInForce {
     /// Returns `actual` or `plan`, by where the period's times come from.
     pub fn word(&self) -> &'static str
-        ensures { result.now ≡ spec.word self.now }
+        ensures { result.now ≡ spec.times_word self.now }
     {
         if self.is_flown { "actual" } else { "plan" }
     }

@@ -25,7 +25,7 @@ use Rattle.http_exchange.specs.Exchange.{ChannelBytes}
 use Rattle.asking.specs.Requests.{ReadRequest}
 use Rattle.rosterbook.specs.Asking.{IsAskStopped, IsImported, IsImportStopped, IsLeftAfterAnswers, IsRequestAnswered, IsStoppedIn, asked_by_request, left_by_check, left_by_request}
 use Rattle.rosterbook.specs.ByFiles.{AreLeftAfter, AreLeftAsFound, AreLeftByImport, AreLetGo, AreLeftByLines, AreLeftByRequest, AreLinesCheckedBy, AreLinesDoneBy, HaveSession, IsByFiles, IsDoneBy, IsImportedBy, IsRefusedAs, IsSession, IsShownBy}
-use Rattle.rosterbook.specs.InLines.{AreLinesAnswered, AreLinesChecked, AreLinesStopped, AreRequestsAnswered, commands_of, requests_of}
+use Rattle.rosterbook.specs.InLines.{AreLinesAnswered, AreLinesChecked, AreLinesStopped, AreRequestsAnswered, commands_in, requests_of}
 use Rattle.rosterbook.specs.Showing.{IsToldOf}
 use Rattle.rosterbook.specs.declared.status.Status.{Status}
 use Rattle.rosterbook.specs.declared.stop.Stop.{Stop}
@@ -98,7 +98,7 @@ module _ {D : Type 0} {g : Ghosts D} (image : Image) (old new : Kept (FileStore 
       read = read;
       told = it.told;
       silent = refl;
-      by = by_files _ _ (clean_before_all over_files old new (commands_of (requests_of lines)) it.left) it.answered it.left;
+      by = by_files _ _ (clean_before_all over_files old new (commands_in (requests_of lines)) it.left) it.answered it.left;
     }
 
     pub lines_checked_at : (held out out' err : ChannelBytes) (status : Status) → AreLinesChecked over_files old new held out out' status →
@@ -166,9 +166,9 @@ module _ {D : Type 0} {g : Ghosts D} (image : Image) (old new : Kept (FileStore 
     request_left held out out' (Err stop) it (inr some) = inr (some.0, some.2, left_by_stop _ some.1 stop some.3)
 
     answered_left : (out out' : ChannelBytes) (requests : List ReadRequest) (status : Status) → AreRequestsAnswered over_files old new out out' requests status →
-        AreLeftAfter (Some left) image (commands_of requests)
+        AreLeftAfter (Some left) image (commands_in requests)
     answered_left out out' requests status it =
-        let asked = commands_of requests in
+        let asked = commands_in requests in
         left_after asked (clean_before_all over_files old new asked it.left) (λ s at. all_reached over_files new s asked (it.left s at))
 
     pub lines_left : (held out out' : ChannelBytes) (result : Result Status Stop) → IfOk result (AreLinesAnswered over_files old new held out out') →

@@ -18,7 +18,7 @@ use Rattle.asking.specs.declared.answers.AskFault.{AskFault}
 use Rattle.asking.specs.declared.answers.AskFault.TheVariants as ask
 use Rattle.http_exchange.specs.Exchange.{ChannelBytes}
 use Rattle.rosterbook.specs.Asking.{IsBodyTold, IsBodyUntold, IsLeftAfterAnswers, IsStoppedIn, asked_by_request, left_by_request, status_of_answer, stop_of, told_json}
-use Rattle.rosterbook.specs.InLines.{AreRequestsAnswered, AreRequestsTold, AreStoppedAtLast, commands_of, printed_of, requests_of, status_after, status_of_told, told_of}
+use Rattle.rosterbook.specs.InLines.{AreRequestsAnswered, AreRequestsTold, AreStoppedAtLast, commands_in, printed_of, requests_of, status_after, status_of_told, told_of}
 use Rattle.rosterbook.specs.Streams.{line_end}
 use Rattle.rosterbook.specs.declared.status.Status.{Status}
 use Rattle.rosterbook.specs.declared.status.Status.TheVariants.{Done, Refused}
@@ -50,10 +50,10 @@ status_from status (one ∷ told) =
 status_both : (told more : Told) → status_of_told (told ++ more) ≡ status_after (status_of_told told) (status_of_told more)
 status_both told more = fold-append (λ s one. status_after s one.0) Done told more ∙ status_from (status_of_told told) more
 
-pub commands_both : (requests more : List ReadRequest) → commands_of (requests ++ more) ≡ commands_of requests ++ commands_of more
+pub commands_both : (requests more : List ReadRequest) → commands_in (requests ++ more) ≡ commands_in requests ++ commands_in more
 commands_both requests more = flat_map-append asked_by_request requests more
 
-told_both : (requests more : List ReadRequest) (answers others : List ReplyOrRefusal) → length answers ≡ length (commands_of requests) →
+told_both : (requests more : List ReadRequest) (answers others : List ReplyOrRefusal) → length answers ≡ length (commands_in requests) →
     told_of (requests ++ more) (answers ++ others) ≡ told_of requests answers ++ told_of more others
 told_both [] more [] others each = refl
 told_both [] more (answer ∷ answers) others each = absurd (omega (arith, each))
@@ -61,7 +61,7 @@ told_both (Err fault ∷ requests) more answers others each = ap (λ t. (Refused
 told_both (Ok asked ∷ requests) more [] others each = absurd (omega (arith, each))
 told_both (Ok asked ∷ requests) more (answer ∷ answers) others each = ap (λ t. told_json (Ok asked) answer ∷ t) (told_both requests more answers others (omega (arith, each)))
 
-printed_both : (requests more : List ReadRequest) (answers others : List ReplyOrRefusal) → length answers ≡ length (commands_of requests) →
+printed_both : (requests more : List ReadRequest) (answers others : List ReplyOrRefusal) → length answers ≡ length (commands_in requests) →
     printed_of (told_of (requests ++ more) (answers ++ others)) ≡ printed_of (told_of requests answers) ++ printed_of (told_of more others)
 printed_both requests more answers others each =
     ap printed_of (told_both requests more answers others each) ∙ flat_map-append (λ one. one.1 ++ line_end) (told_of requests answers) (told_of more others)
@@ -73,7 +73,7 @@ pub told_then : (out out_mid out' : ChannelBytes) (requests more : List ReadRequ
 told_then out out_mid out' requests more answers others status next first second = record {
   each =
       let both = commands_both requests more in
-      omega (arith, length-append answers others, length-append (commands_of requests) (commands_of more), ap length both, first.each, second.each);
+      omega (arith, length-append answers others, length-append (commands_in requests) (commands_in more), ap length both, first.each, second.each);
   printed = subst (Appends out out') (sym (printed_both requests more answers others first.each)) (appends_both out out_mid out' _ _ first.printed second.printed);
   ends =
       ap (λ t. status_after t next) first.ends
@@ -129,10 +129,10 @@ module _ {S : Type 0} (g : Ghosts S) where
 
   module _ (old mid new : Kept S) (out out_mid out' : ChannelBytes) (requests more : List ReadRequest) (status : Status) (first : AreRequestsAnswered g old mid out out_mid requests status) where
     abbrev asked : List Asked
-    asked = commands_of requests
+    asked = commands_in requests
 
     abbrev others : List Asked
-    others = commands_of more
+    others = commands_in more
 
     was_clean : IsClean g mid → IsClean g old
     was_clean = clean_before_all g old mid asked first.left
@@ -247,13 +247,13 @@ module _ {S : Type 0} (g : Ghosts S) (old new : Kept S) (out out' : ChannelBytes
   body_answered body status it = one_answered (read_request body) _ status (request_told g old new body it.answer it.asked) it.ends it.printed
 
   -- one that has no answer is told nothing
-  nothing_told : (request : ReadRequest) (answers : List ReplyOrRefusal) → out' ≡ out → length answers < length (commands_of (request ∷ [])) →
+  nothing_told : (request : ReadRequest) (answers : List ReplyOrRefusal) → out' ≡ out → length answers < length (commands_in (request ∷ [])) →
       Appends out out' (printed_of (told_of (request ∷ []) answers))
   nothing_told (Ok asked) [] silent fewer = subst (λ o. Appends out o []) (sym silent) (appends_nothing out)
   nothing_told (Ok asked) (answer ∷ answers) silent fewer = absurd (omega (arith, fewer))
   nothing_told (Err fault) answers silent fewer = absurd (omega (arith, fewer))
 
-  at_most_one : (request : ReadRequest) → length (commands_of (request ∷ [])) ≤ 1
+  at_most_one : (request : ReadRequest) → length (commands_in (request ∷ [])) ≤ 1
   at_most_one (Ok asked) = omega arith
   at_most_one (Err fault) = omega arith
 
@@ -261,7 +261,7 @@ module _ {S : Type 0} (g : Ghosts S) (old new : Kept S) (out out' : ChannelBytes
   one_unasked : (request : ReadRequest) → new ≡ old → out' ≡ out → AreStoppedAtLast g old new out out' (request ∷ []) Memory
   one_unasked request same silent = record {
     answers = [];
-    asked = untold g old new (commands_of (request ∷ [])) 0 [] Memory (inl refl) (omega arith) refl
+    asked = untold g old new (commands_in (request ∷ [])) 0 [] Memory (inl refl) (omega arith) refl
         (λ clean. subst (IsClean g) same clean) (λ s at clean. refl) (λ s at. subst (λ (b : Kept S). IsDurablyAt g b s) (sym same) at);
     at_last = omega (arith, at_most_one request);
     printed = λ fewer. nothing_told request [] silent fewer;

@@ -11,7 +11,7 @@ use Rattle.book.specs.Kept.{IsClean, IsDurablyAt, Kept}
 use Rattle.asking.specs.Requests.{IsRequestChecked, ReadRequest}
 use Rattle.http_exchange.specs.Exchange.{ChannelBytes}
 use Rattle.rosterbook.specs.Asking.{IsBodyTold, left_by_check, told_json}
-use Rattle.rosterbook.specs.InLines.{AreRequestsChecked, answers_in, commands_of, requests_of, status_after}
+use Rattle.rosterbook.specs.InLines.{AreRequestsChecked, answers_in, commands_in, requests_of, status_after}
 use Rattle.rosterbook.specs.Streams.{line_end}
 use Rattle.rosterbook.specs.declared.status.Status.{Status}
 use Rattle.rosterbook.specs.declared.status.Status.TheVariants.{Done}
@@ -38,8 +38,8 @@ module _ {S : Type 0} (g : Ghosts S) where
     answered = λ s at clean.
         let is_clean = clean_before_same g mid new second.left clean in
         ap (λ l. l ++ second.answers) (first.answered s at is_clean)
-        ∙ ap (λ l. answers_in s (commands_of requests) ++ l) (second.answered s (first.left s at) clean)
-        ∙ sym (map-append (λ one. answer_of (step_of s one.0 one.1)) (commands_of requests) (commands_of more))
+        ∙ ap (λ l. answers_in s (commands_in requests) ++ l) (second.answered s (first.left s at) clean)
+        ∙ sym (map-append (λ one. answer_of (step_of s one.0 one.1)) (commands_in requests) (commands_in more))
         ∙ ap (answers_in s) (sym (commands_both requests more));
     left = λ s at. second.left s (first.left s at);
   }

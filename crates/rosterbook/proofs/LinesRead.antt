@@ -9,7 +9,7 @@ use Rattle.std.specs.Io.BufRead.{DropsThrough, drop_through, first_piece, strip_
 use Rattle.std.specs.Io.KnownBytes.{IsAtEnd, prepend_known}
 use Rattle.std.specs.List.{slice_split}
 use Rattle.http_exchange.specs.Exchange.{ChannelBytes}
-use Rattle.rosterbook.specs.InLines.{ReadsFirstLines, ReadsLines, has_bytes, lines_of, not_empty}
+use Rattle.rosterbook.specs.InLines.{ReadsFirstLines, ReadsLines, has_bytes, input_lines, not_empty}
 
 -- ---- The first line
 
@@ -31,7 +31,7 @@ parts bytes = slice_split (λ byte. byte == 10) bytes
 record IsCut (bytes : List ℕ) : Type 0 where
   pub others : List (List ℕ)
   pub cut : parts bytes ≡ first_piece 10 bytes ∷ others
-  pub rest : not_empty others ≡ lines_of (drop_through 10 bytes)
+  pub rest : not_empty others ≡ input_lines (drop_through 10 bytes)
 
 cut : (bytes : List ℕ) → IsCut bytes
 cut [] = record { others = []; cut = refl; rest = refl }
@@ -46,7 +46,7 @@ cut (x ∷ xs) = elim (cases_Bool (x == 10)) [
       }
 ]
 
-lines_cut : (bytes : List ℕ) → lines_of bytes ≡ not_empty (first_piece 10 bytes ∷ []) ++ lines_of (drop_through 10 bytes)
+lines_cut : (bytes : List ℕ) → input_lines bytes ≡ not_empty (first_piece 10 bytes ∷ []) ++ input_lines (drop_through 10 bytes)
 lines_cut bytes =
     let it = cut bytes in
     ap not_empty it.cut ∙ filter-append has_bytes (first_piece 10 bytes ∷ []) it.others ∙ ap (λ l. not_empty (first_piece 10 bytes ∷ []) ++ l) it.rest
@@ -57,7 +57,7 @@ lines_cut bytes =
 abbrev pub AreReadSoFar : ChannelBytes → ChannelBytes → List (List ℕ) → Type 0
 AreReadSoFar None known lines = ⊤
 AreReadSoFar (Some bytes) None lines = ⊥
-AreReadSoFar (Some bytes) (Some rest) lines = lines_of bytes ≡ lines ++ lines_of rest
+AreReadSoFar (Some bytes) (Some rest) lines = input_lines bytes ≡ lines ++ input_lines rest
 
 pub none_so_far : (held known : ChannelBytes) (capacity : ℕ) (ahead : List ℕ) → capacity ≡ 8192 → ahead ≡ [] → known ≡ (if capacity == 0 then None else prepend_known ahead held) →
     AreReadSoFar held known []
@@ -72,17 +72,17 @@ one_more byte line (Some bytes) None known' lines feed step so_far = absurd so_f
 one_more byte line (Some bytes) (Some xs) known' lines feed step so_far =
     let first : line ≡ first_piece 10 xs = rw feed at step.0.1 in
     let rest : known' ≡ Some (drop_through 10 xs) = rw feed at step.1 in
-    rw (rest, first) (so_far ∙ ap (λ l. lines ++ l) (lines_cut xs) ∙ sym (append_assoc lines (not_empty (first_piece 10 xs ∷ [])) (lines_of (drop_through 10 xs))))
+    rw (rest, first) (so_far ∙ ap (λ l. lines ++ l) (lines_cut xs) ∙ sym (append_assoc lines (not_empty (first_piece 10 xs ∷ [])) (input_lines (drop_through 10 xs))))
 
 pub all_read : (held known : ChannelBytes) (lines : List (List ℕ)) → IsAtEnd known → AreReadSoFar held known lines → ReadsLines held lines
 all_read None known lines end so_far = tt
 all_read (Some bytes) None lines end so_far = absurd so_far
-all_read (Some bytes) (Some xs) lines end so_far = sym (so_far ∙ ap (λ l. lines ++ lines_of l) end ∙ append-nil lines)
+all_read (Some bytes) (Some xs) lines end so_far = sym (so_far ∙ ap (λ l. lines ++ input_lines l) end ∙ append-nil lines)
 
 pub first_read : (held known : ChannelBytes) (lines : List (List ℕ)) → AreReadSoFar held known lines → ReadsFirstLines held lines
 first_read None known lines so_far = tt
 first_read (Some bytes) None lines so_far = absurd so_far
-first_read (Some bytes) (Some xs) lines so_far = sym (ap (take (length lines)) so_far ∙ take-append_seam lines (lines_of xs))
+first_read (Some bytes) (Some xs) lines so_far = sym (ap (take (length lines)) so_far ∙ take-append_seam lines (input_lines xs))
 
 pub none_read : (held : ChannelBytes) → ReadsFirstLines held []
 none_read None = tt
@@ -90,7 +90,7 @@ none_read (Some bytes) = refl
 
 pub all_are_first : (held : ChannelBytes) (lines : List (List ℕ)) → ReadsLines held lines → ReadsFirstLines held lines
 all_are_first None lines read = tt
-all_are_first (Some bytes) lines read = read ∙ sym (take_all (length lines) (lines_of bytes) (omega (arith, ap length read)))
+all_are_first (Some bytes) lines read = read ∙ sym (take_all (length lines) (input_lines bytes) (omega (arith, ap length read)))
 
 -- a line that has a byte is one
 pub one_line : (line : List ℕ) → false ≡ (length line == 0) → not_empty (line ∷ []) ≡ line ∷ []

@@ -36,10 +36,10 @@ status_of_answer (Ok reply) = Done
 status_of_answer (Err refusal) = Refused
 
 -- the status with which the program ends after an answer of this kind
-abbrev pub status_of_kind : AnswerKind → Status
-status_of_kind kind.Accepted = Done
-status_of_kind kind.Refused = Refused
-status_of_kind kind.Unfit = Refused
+abbrev pub exit_status_of_kind : AnswerKind → Status
+exit_status_of_kind kind.Accepted = Done
+exit_status_of_kind kind.Refused = Refused
+exit_status_of_kind kind.Unfit = Refused
 
 -- ---- Where the program stops
 
@@ -141,7 +141,7 @@ module _ (Asks : Result JsonAnswer AskFault → Type 0) (out out' : ChannelBytes
   pub record IsBodyTold (status : Status) : Type 0 where
     pub answer : JsonAnswer
     pub asked : Asks (Ok answer)
-    pub ends : status ≡ status_of_kind answer.kind
+    pub ends : status ≡ exit_status_of_kind answer.kind
     pub printed : Appends out out' (string_bytes answer.text ++ line_end)
 
   -- a body has no answer, and nothing was written; or the line of its answer could not be written

@@ -30,7 +30,7 @@ use Rattle.http_exchange.specs.Exchange.{ChannelBytes}
 use Rattle.rosterbook.specs.Asking.{Answers, AreTold, IsNoSchedule, IsRequestReadAndTold}
 use Rattle.rosterbook.specs.Asking.{asked_by_request, left_by_check, left_by_request}
 use Rattle.rosterbook.specs.InLines.{AreRequestsTold, ReadsFirstLines, ReadsLines}
-use Rattle.rosterbook.specs.InLines.{answers_in, commands_of, requests_of}
+use Rattle.rosterbook.specs.InLines.{answers_in, commands_in, requests_of}
 use Rattle.rosterbook.specs.Program.{PerformsAction, exit_status}
 use Rattle.rosterbook.specs.Serving.{IsServeDone, IsServeStopped, ServesBook, has_failed}
 use Rattle.rosterbook.specs.Showing.{IsToldOf, listed_by}
@@ -100,7 +100,7 @@ module _ {D : Type 0} {g : Ghosts D} (left : Option (FilesLeft D g)) (image : Im
   -- the files are left with the state after the commands of the first lines that a reader has
   abbrev pub AreLeftByLines : ChannelBytes → Type 0
   AreLeftByLines held = (lines : List (List ℕ)) × ReadsFirstLines held lines
-      × AreLeftAfter (commands_of (requests_of lines))
+      × AreLeftAfter (commands_in (requests_of lines))
 
   -- what `do` leaves of the files, by whether nothing is kept, and by whether there is a command on
   -- each line
@@ -176,7 +176,7 @@ module _ (By : Account) where
     pub read : ReadsLines held lines
     pub told : AreRequestsTold (requests_of lines) answers status out out'
     pub silent : err' ≡ err
-    pub by : By (λ s. answers ≡ answers_in s (commands_of (requests_of lines))) (λ s. s)
+    pub by : By (λ s. answers ≡ answers_in s (commands_in (requests_of lines))) (λ s. s)
 
   -- lines were read, the state's answers to their requests were printed, and the commands of the
   -- requests are done
@@ -186,8 +186,8 @@ module _ (By : Account) where
     pub read : ReadsLines held lines
     pub told : AreRequestsTold (requests_of lines) answers status out out'
     pub silent : err' ≡ err
-    pub by : By (λ s. answers ≡ Replies s (commands_of (requests_of lines)))
-        (λ s. Fold s (commands_of (requests_of lines)))
+    pub by : By (λ s. answers ≡ Replies s (commands_in (requests_of lines)))
+        (λ s. Fold s (commands_in (requests_of lines)))
 
   -- what `do` answers, by whether nothing is kept, and by whether there is a command on each line
   abbrev pub IsDoneAs : (dry_run lines : Bool) → ChannelBytes → ChannelBytes → ChannelBytes →

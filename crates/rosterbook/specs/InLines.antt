@@ -34,27 +34,27 @@ not_empty lines = filter has_bytes lines
 
 -- the lines of an input, without the line feeds (10) that end them, and without the empty lines;
 -- what stands after the last line feed is a line too
-abbrev pub lines_of : List ℕ → List (List ℕ)
-lines_of bytes = not_empty (slice_split (λ byte. byte == 10) bytes)
+abbrev pub input_lines : List ℕ → List (List ℕ)
+input_lines bytes = not_empty (slice_split (λ byte. byte == 10) bytes)
 
 -- all lines that a reader has were read; if its bytes aren't known, these may be any lines
 abbrev pub ReadsLines : ChannelBytes → List (List ℕ) → Type 0
 ReadsLines None lines = ⊤
-ReadsLines (Some bytes) lines = lines ≡ lines_of bytes
+ReadsLines (Some bytes) lines = lines ≡ input_lines bytes
 
 -- the first lines that a reader has were read, however many; if its bytes aren't known, these may
 -- be any lines
 abbrev pub ReadsFirstLines : ChannelBytes → List (List ℕ) → Type 0
 ReadsFirstLines None lines = ⊤
-ReadsFirstLines (Some bytes) lines = lines ≡ take (length lines) (lines_of bytes)
+ReadsFirstLines (Some bytes) lines = lines ≡ take (length lines) (input_lines bytes)
 
 -- the requests of these lines: each line is the body of one
 abbrev pub requests_of : List (List ℕ) → List ReadRequest
 requests_of lines = map read_request lines
 
 -- the commands of requests: a request that isn't read has none
-abbrev pub commands_of : List ReadRequest → List Asked
-commands_of requests = flat_map asked_by_request requests
+abbrev pub commands_in : List ReadRequest → List Asked
+commands_in requests = flat_map asked_by_request requests
 
 -- ---- What is printed
 
@@ -84,7 +84,7 @@ status_of_told told = fold (λ status one. status_after status one.0) Done told
 -- the answers to the commands of these requests were printed, one line for each request
 pub record AreRequestsTold (requests : List ReadRequest) (answers : List ReplyOrRefusal)
     (status : Status) (out out' : ChannelBytes) : Type 0 where
-  pub each : length answers ≡ length (commands_of requests)
+  pub each : length answers ≡ length (commands_in requests)
   pub printed : Appends out out' (printed_of (told_of requests answers))
   pub ends : status ≡ status_of_told (told_of requests answers)
 
@@ -102,9 +102,9 @@ module _ {S : Type 0} (g : Ghosts S) (old new : Kept S) where
     pub answers : List ReplyOrRefusal
     pub told : AreRequestsTold requests answers status out out'
     pub answered : (s : State) → IsDurablyAt g old s → IsClean g new →
-        answers ≡ Replies s (commands_of requests)
+        answers ≡ Replies s (commands_in requests)
     pub left : (s : State) → IsDurablyAt g old s →
-        IsDurablyAt g new (Fold s (commands_of requests))
+        IsDurablyAt g new (Fold s (commands_in requests))
 
   -- For each of these requests it was printed how the book would answer it in its state. Where the
   -- state is known, the answers are those of the state, and nothing was done.
@@ -113,7 +113,7 @@ module _ {S : Type 0} (g : Ghosts S) (old new : Kept S) where
     pub answers : List ReplyOrRefusal
     pub told : AreRequestsTold requests answers status out out'
     pub answered : (s : State) → IsDurablyAt g old s → IsClean g new →
-        answers ≡ answers_in s (commands_of requests)
+        answers ≡ answers_in s (commands_in requests)
     pub left : (s : State) → IsDurablyAt g old s → IsDurablyAt g new s
 
   -- The program stopped at the last of these requests. All commands before the last one were
@@ -122,9 +122,9 @@ module _ {S : Type 0} (g : Ghosts S) (old new : Kept S) where
   pub record AreStoppedAtLast (out out' : ChannelBytes) (requests : List ReadRequest)
       (stop : Stop) : Type 0 where
     pub answers : List ReplyOrRefusal
-    pub asked : IsStoppedIn g old new (commands_of requests) answers stop
-    pub at_last : length (commands_of requests) ≤ length answers + 1
-    pub printed : length answers < length (commands_of requests) →
+    pub asked : IsStoppedIn g old new (commands_in requests) answers stop
+    pub at_last : length (commands_in requests) ≤ length answers + 1
+    pub printed : length answers < length (commands_in requests) →
         Appends out out' (printed_of (told_of requests answers))
 
   -- all lines that a reader has were read, and their requests answered

@@ -91,7 +91,7 @@ pub(crate) fn ask_body<S: Alter, O: Write>(
 
 /// Returns how the program ends after an answer of this kind.
 pub(crate) fn status_of(kind: AnswerKind) -> Status
-    ensures { result ≡ spec.status_of_kind kind }
+    ensures { result ≡ spec.exit_status_of_kind kind }
 {
     match kind {
         AnswerKind::Accepted => Status::Done,

@@ -2,7 +2,7 @@
 -- that is handed out for the text.
 use Rattle.std.specs.Prelude.{◌≡◌, ℕ, List, Some, None, IsSome, Result, Ok, Err}
 use Rattle.std.specs.FinMap as fin
-use Rattle.limits_report.specs.LimitsText.{IsLimitsText, judged}
+use Rattle.limits_report.specs.LimitsText.{IsLimitsText, judged_duties}
 use Rattle.list_report.specs.MembersText.{IsMembersText}
 use Rattle.list_report.specs.PairingsText.{IsPairingsText}
 use Rattle.part.specs.Shown.{crew_part, exceedances_part, limits_part, member_part, pairing_part}
@@ -28,7 +28,7 @@ IsShown s (Crew who) (Err no_pairing) = ⊥
 IsShown s (Limits who named) (Ok text) = IsLimitsText s who named text
 IsShown s (Limits who named) (Err no_crew) = fin.get s.crew who ≡ None
 IsShown s (Limits who named) (Err no_pairing) =
-    IsSome (fin.get s.crew who) × (judged s who named ≡ None)
+    IsSome (fin.get s.crew who) × (judged_duties s who named ≡ None)
 IsShown s (Pairing id) (Ok text) = pairing_text s id ≡ Some text
 IsShown s (Pairing id) (Err no_crew) = ⊥
 IsShown s (Pairing id) (Err no_pairing) = pairing_text s id ≡ None

@@ -18,16 +18,16 @@ use Rattle.roster.specs.State.{State, exceedance_name}
 use Rattle.roster.specs.declared.state.DutyId.{DutyId}
 use Rattle.roster.specs.declared.state.ExceedanceId.{ExceedanceId}
 use Rattle.roster.proofs.Members.{from_rows, is_first, is_later}
-use Rattle.limits_report.specs.LimitsText.{Judged, judged}
+use Rattle.limits_report.specs.LimitsText.{Judged, judged_duties}
 use Rattle.limits_report.proofs.EachText.{each_text}
 use Rattle.list_report.specs.MembersText.{member_line, members_header}
-use Rattle.list_report.specs.PairingsText.{IsPairingsText, pairings_header, rows_of}
+use Rattle.list_report.specs.PairingsText.{IsPairingsText, pairings_header, listed_rows}
 use Rattle.list_report.specs.PairingsText as lists
 use Rattle.list_report.specs.declared.pairings.Listed.{Listed}
 use Rattle.list_report.specs.declared.pairings.Listed.TheVariants.{All, Open}
 use Rattle.list_report.specs.declared.row.PairingRow.{PairingRow}
 use Rattle.report.specs.ExceedanceText.{ExceedanceEntry, IsExceedanceText, exceedances_header, line}
-use Rattle.report.specs.Lines.{IsInOrder, key_of}
+use Rattle.report.specs.Lines.{AreLinesInOrder, key_of}
 use Rattle.report.specs.PairingText.{pairing_text}
 use Rattle.report.specs.RosterText.{IsRosterText, lines_of, roster_header}
 use Rattle.report.specs.declared.line.Line.{Line}
@@ -44,7 +44,7 @@ use Rattle.http_exchange.specs.Exchange.{asks}
 use Rattle.http_exchange.specs.Final.{Final, of_answer, of_fault}
 use Rattle.http_exchange.specs.Handler as http
 use Rattle.http_exchange.specs.Handler.{StatusText, submit}
-use Rattle.web.specs.Acts.{Asks, Commands, IsAnswer, commands_of, request_answer, show_of}
+use Rattle.web.specs.Acts.{Asks, Commands, IsAnswer, commands_of_body, request_answer, show_of_path}
 use Rattle.web.specs.Answers.{fault_answer, parts_answer, report_answer}
 use Rattle.web.specs.Response.{IsFinal, IsResponseTo, WholeResponse}
 
@@ -97,7 +97,7 @@ module _ {X : Type 0} (lt : X → X → Bool) (order : IsStrictWeakOrder lt) whe
       let one_more : suc k + 1 ≡ suc (k + 1) = omega arith in
       subst (λ n. lt (get_or (x ∷ y ∷ ys) n d) (get_or (y ∷ ys) k d) ≡ false) (sym one_more) (sorted (y ∷ ys) rises.1 k d (omega arith) (omega (arith, next)))
 
-each_order : (lines : List Line) → (ordered : List Line) × IsInOrder lines ordered
+each_order : (lines : List Line) → (ordered : List Line) × AreLinesInOrder lines ordered
 each_order lines =
     let before = λ (a : Line) (b : Line). is_lt (name_cmp (key_of a) (key_of b)) in
     let all = in_order before (ranks_by nat_list_cmp_total key_of) lines in
@@ -112,9 +112,9 @@ roster_text s who member there =
 
 pairings_text : (s : State) (which : Listed) → (text : List ℕ) × IsPairingsText s which text
 pairings_text s which =
-    let before = λ (a : PairingRow) (b : PairingRow). is_lt (name_cmp (lists.key_of a) (lists.key_of b)) in
-    let all = in_order before (ranks_by nat_list_cmp_total lists.key_of) (rows_of s which) in
-    let placed = sorted before (ranks_by nat_list_cmp_total lists.key_of) all.0 all.2 in
+    let before = λ (a : PairingRow) (b : PairingRow). is_lt (name_cmp (lists.row_key a) (lists.row_key b)) in
+    let all = in_order before (ranks_by nat_list_cmp_total lists.row_key) (listed_rows s which) in
+    let placed = sorted before (ranks_by nat_list_cmp_total lists.row_key) all.0 all.2 in
     (pairings_header (length all.0) ++ flat_map (λ row. row.line) all.0, record { rows = all.0; in_order = record { same = all.1; order = placed }; is = refl })
 
 abbrev name_of : ExceedanceId → List ℕ
@@ -147,13 +147,13 @@ module _ (s : State) where
 
   -- what a report shows
   abbrev Reports : Subject → Type 0
-  Reports what = (shown : Result (List ℕ) Absence) × IsShown s (show_of what) shown
+  Reports what = (shown : Result (List ℕ) Absence) × IsShown s (show_of_path what) shown
 
   crew_report : (id : List ℕ) (member : Option Member) → fin.get s.crew id ≡ member → Reports (crew id)
   crew_report id None none = (Err no_crew, none)
   crew_report id (Some member) there = let text = roster_text s id member there in (Ok text.0, text.1)
 
-  limits_report : (id : List ℕ) (named : Option (List ℕ)) (member : Option Member) (of : Option Judged) → fin.get s.crew id ≡ member → judged s id named ≡ of → Reports (limits id named)
+  limits_report : (id : List ℕ) (named : Option (List ℕ)) (member : Option Member) (of : Option Judged) → fin.get s.crew id ≡ member → judged_duties s id named ≡ of → Reports (limits id named)
   limits_report id named None of none is = (Err no_crew, none)
   limits_report id named (Some member) None there none = (Err no_pairing, (subst IsSome (sym there) refl, none))
   limits_report id named (Some member) (Some of) there are = let text = each_text s id named member of there are in (Ok text.0, text.1)
@@ -164,7 +164,7 @@ module _ (s : State) where
 
   each_report : Sound s → (what : Subject) → Reports what
   each_report sound (crew id) = crew_report id (fin.get s.crew id) refl
-  each_report sound (limits id named) = limits_report id named (fin.get s.crew id) (judged s id named) refl refl
+  each_report sound (limits id named) = limits_report id named (fin.get s.crew id) (judged_duties s id named) refl refl
   each_report sound (pairing id) = pairing_report id (pairing_text s id) refl
   each_report sound exceedances = let text = exceedance_text s sound in (Ok text.0, text.1)
   each_report sound members = (Ok (members_header (fin.len s.crew) ++ flat_map member_line (fin.entries s.crew)), refl)
@@ -187,7 +187,7 @@ module _ (s : State) where
 
   each_met : Sound s → (asked : http.HandlerRequest) → IsMet asked
   each_met sound (submit Command body) = record {
-    commands = commands_of (read_request body);
+    commands = commands_of_body (read_request body);
     answer = request_answer s (read_request body);
     asks_them = refl;
     told = refl;

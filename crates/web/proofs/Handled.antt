@@ -45,7 +45,7 @@ use Rattle.http_exchange.specs.Handler as http
 use Rattle.http_exchange.specs.Handler.{StatusText, submit}
 use Rattle.http_exchange.specs.declared.handler.HandlerFault.{HandlerFault}
 use Rattle.http_exchange.specs.declared.handler.HandlerFault.TheVariants.{Store, Memory}
-use Rattle.web.specs.Acts.{Commands, show_of}
+use Rattle.web.specs.Acts.{Commands, show_of_path}
 use Rattle.web.specs.Answers.{IsInJsonUnder, IsResponseToReport, TellsAnswer, answer_status, command_answer, fault_answer, handler_fault_of, json, parts_answer, refusal_status, report_answer, response_to_command, status_of_kind}
 use Rattle.web.specs.Handling.{HoldsWhateverIsAsked, IsHandled, IsLeftByCommands, answers_store_fault}
 use Rattle.web.specs.Serving.{StillMeans}
@@ -368,8 +368,8 @@ module _ {S : Type 0} (g : Ghosts S) (old new : Kept S) where
   -- ---- reports
 
   module _ (about : Subject) (calls : IsAfterCalls g old new) where
-    reported_by : (r : Result State StoreFault) (told : Result StatusText HandlerFault) → IsReportToldAs r (show_of about) told
-        → HasShown g old new (show_of about) r → IsHandled g old new (http.show about) told
+    reported_by : (r : Result State StoreFault) (told : Result StatusText HandlerFault) → IsReportToldAs r (show_of_path about) told
+        → HasShown g old new (show_of_path about) r → IsHandled g old new (http.show about) told
     reported_by (Ok roster) (Ok answer) tells it = record {
       kept = kept_so calls (Ok roster) it.call (Ok answer) refl;
       shut = λ f. none_answered roster (it.call.shut f).0;
@@ -395,9 +395,9 @@ module _ {S : Type 0} (g : Ghosts S) (old new : Kept S) where
       done = λ s at. inr ([], refl, (0, it.call.kept s at, λ t. (shows calls (Err fault.Memory) it.call s t, it.call.unchanged.still_open)));
     })
 
-    pub report_handled : (r : Result Shown AskFault) (told : Result StatusText HandlerFault) → IsReportAsked g old new (show_of about) r → IsResponseToReport r told
+    pub report_handled : (r : Result Shown AskFault) (told : Result StatusText HandlerFault) → IsReportAsked g old new (show_of_path about) r → IsResponseToReport r told
         → IsHandled g old new (http.show about) told
-    report_handled r told (inl asked) tells = reported_by asked.shown told (report_told (show_of about) asked.shown r told asked.reported tells) asked.has_shown
+    report_handled r told (inl asked) tells = reported_by asked.shown told (report_told (show_of_path about) asked.shown r told asked.reported tells) asked.has_shown
     report_handled r told (inr (same, is)) tells =
         let memory : told ≡ Err Memory = subst (λ (r : Result Shown AskFault). IsResponseToReport r told) is tells in
         subst (λ (b : Kept S). IsHandled g old b (http.show about) told) (sym same)

@@ -21,7 +21,7 @@ use Rattle.http_exchange.specs.Exchange.{asks}
 use Rattle.http_exchange.specs.Final.{Final, of_answer}
 use Rattle.http_exchange.specs.Handler as http
 use Rattle.http_exchange.specs.Handler.{StatusText, submit}
-use Rattle.web.specs.Acts.{Asks, Commands, IsAnswer, show_of}
+use Rattle.web.specs.Acts.{Asks, Commands, IsAnswer, show_of_path}
 use Rattle.web.specs.Answers.{fault_answer, parts_answer, report_answer}
 use Rattle.web.specs.Laws.{HasOneResponse}
 use Rattle.web.specs.Response.{IsFinal, IsResponseTo, WholeResponse}
@@ -56,7 +56,7 @@ module _ (s : State) where
   one_list_text which (Ok a) (Err absence) is is' = absurd is'
   one_list_text which (Err absence) b is is' = absurd is
 
-  one_text : (what : Subject) (a b : Result (List ℕ) Absence) → IsShown s (show_of what) a → IsShown s (show_of what) b → a ≡ b
+  one_text : (what : Subject) (a b : Result (List ℕ) Absence) → IsShown s (show_of_path what) a → IsShown s (show_of_path what) b → a ≡ b
   one_text (crew id) (Ok a) (Ok b) is is' = ap Ok (one_roster s id a b is is')
   one_text (crew id) (Ok a) (Err no_crew) is is' = let never = sym is.is_there ∙ is' in absurd cc
   one_text (crew id) (Ok a) (Err no_pairing) is is' = absurd is'

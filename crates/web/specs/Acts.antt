@@ -29,14 +29,14 @@ abbrev pub Commands : Type 0
 Commands = List folds.Asked
 
 -- the commands of a body: one if the body is read, and none if it isn't
-abbrev pub commands_of : Result (ℕ × Instruction) CodecFault → Commands
-commands_of (Ok read) = asked_as read ∷ []
-commands_of (Err fault) = []
+abbrev pub commands_of_body : Result (ℕ × Instruction) CodecFault → Commands
+commands_of_body (Ok read) = asked_as read ∷ []
+commands_of_body (Err fault) = []
 
 -- The commands that a request asks: the command of a body that is read, or the parts of a schedule.
 -- A body that isn't read, a command that is only checked and a report ask none.
 abbrev pub Asks : http.HandlerRequest → Commands → Type 0
-Asks (submit Command body) commands = commands ≡ commands_of (read_request body)
+Asks (submit Command body) commands = commands ≡ commands_of_body (read_request body)
 Asks (submit Check body) commands = commands ≡ []
 Asks (submit (Import number) body) commands =
     ((plans : List Plan) × IsSchedule body plans × (commands ≡ import number plans))
@@ -44,14 +44,14 @@ Asks (submit (Import number) body) commands =
 Asks (http.show what) commands = commands ≡ []
 
 -- what a book shows for a report
-abbrev pub show_of : Subject → Show
-show_of (crew id) = show.Crew id
-show_of (limits id named) = show.Limits id named
-show_of (pairing id) = show.Pairing id
-show_of exceedances = show.Exceedances
-show_of members = show.Members
-show_of pairings = show.Pairings All
-show_of open_pairings = show.Pairings Open
+abbrev pub show_of_path : Subject → Show
+show_of_path (crew id) = show.Crew id
+show_of_path (limits id named) = show.Limits id named
+show_of_path (pairing id) = show.Pairing id
+show_of_path exceedances = show.Exceedances
+show_of_path members = show.Members
+show_of_path pairings = show.Pairings All
+show_of_path open_pairings = show.Pairings Open
 
 module _ (s : State) where
   -- the answer to a body: the book's answer to its command, or, if it isn't read, why it isn't
@@ -70,7 +70,7 @@ module _ (s : State) where
       × (answer ≡ parts_answer (Replies s (import number plans))))
       ⊎ ((line : ℕ) × IsAtFault body line × (answer ≡ fault_answer (BadCsv line)))
   IsAnswer (http.show what) answer =
-      (shown : Result (List ℕ) Absence) × IsShown s (show_of what) shown
+      (shown : Result (List ℕ) Absence) × IsShown s (show_of_path what) shown
       × (answer ≡ report_answer shown)
 
 -- ---- a book that has failed

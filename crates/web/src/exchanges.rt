@@ -10,7 +10,7 @@ ghost use Rattle.book.specs.Calls.{IsAfterCalls};
 ghost use Rattle.book.specs.Kept.{IsDurablyAt, IsClean};
 ghost use Rattle.http_message.specs.Plan.{subject};
 ghost use Rattle.asking.specs.Reports as reports;
-ghost use Rattle.web.specs.Acts.{show_of};
+ghost use Rattle.web.specs.Acts.{show_of_path};
 ghost use Rattle.web.specs.Serving as spec;
 
 use crate::answers::{respond, show};
@@ -51,7 +51,7 @@ impl<S: Alter> Handler<Book<S>> for BookHandler {
 
 /// Names what a report is asked of.
 fn subject_of<'a>(report: &Report<'a>) -> Subject<'a>
-    ensures { reports.show_of result ≡ show_of (subject report.now) }
+    ensures { reports.show_of result ≡ show_of_path (subject report.now) }
 {
     match report {
         Report::Crew(id) => Subject::Crew(id),

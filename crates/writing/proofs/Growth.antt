@@ -16,7 +16,7 @@ use Rattle.tables.specs.Rows.{Makes, stored}
 use Rattle.tables.specs.Schema.{BookTable, IsTable, IsUnreferenced, OnlyKeysGuard, AreOnTables, table_found, table_of, book_tables}
 use Rattle.tables.proofs.Creating.{lacks_no_more}
 use Rattle.writing.specs.Calls.{IsInside, Changed, Then}
-use Rattle.writing.specs.Beside.{Adds, AddsKeys, made_in}
+use Rattle.writing.specs.Beside.{AddsTables, AddsKeys, made_in}
 use Rattle.writing.specs.Making.{AreUnreferenced, HasEmpty, IsFree, KeepsPlain, MakesTables}
 use Rattle.writing.proofs.Chaining.{as_change, one_call, still_inside, then_call}
 use Rattle.state_rows.proofs.EachTable.{all_joined}
@@ -82,7 +82,7 @@ keys_on : (first second : List BookTable) (old mid new : List Index) → AddsKey
 keys_on [] second old mid new one two = subst (λ indexes. AddsKeys second indexes new) one two
 keys_on (t ∷ ts) second old mid new one two = (one.0, keys_on ts second (old ++ automatics (table_of t one.0) 0 (one.0 + 1) t.keys) mid new one.1 two)
 
-adds_then : (first second : List BookTable) (a b c : Schema) → Adds first a b → Adds second b c → (lacks_sequence a ≡ false → lacks_sequence b ≡ false) → Adds (first ++ second) a c
+adds_then : (first second : List BookTable) (a b c : Schema) → AddsTables first a b → AddsTables second b c → (lacks_sequence a ≡ false → lacks_sequence b ≡ false) → AddsTables (first ++ second) a c
 adds_then first second a b c one two still = record {
   kept = λ t h. two.kept t (one.kept t h);
   no_more = λ t h. elim (two.no_more t h) [

@@ -28,7 +28,7 @@ use Rattle.tables.specs.Records.{with_period_times, with_segment_times, with_ver
 use Rattle.tables.specs.Rows.{Changes, Inserts, Deletes, Updates, begins_with, kept_in, stored}
 use Rattle.tables.specs.Schema.{BookTable, IsTable, base_table, book_table, book_tables, later_tables, table_found, table_of}
 use Rattle.writing.specs.Calls.{Changed, Each, IsFit, IsReady, Then, Wrote}
-use Rattle.writing.specs.Beside.{Adds, IsOther, KeepBeside, KeepOthers}
+use Rattle.writing.specs.Beside.{AddsTables, IsOther, KeepBeside, KeepOthers}
 use Rattle.state_rows.specs.Kept.{IsFirstBookOf}
 use Rattle.writing.specs.Migration.{AddsHome, AddsPost, AddsPosts, Fills, Migrates, SetsVersion}
 use Rattle.writing.specs.Making.{MakesTables}
@@ -184,7 +184,7 @@ beside : (tables : List BookTable) (old mid new : Database) → MakesTables tabl
 beside tables old mid new makes spares sound = record {
   schema = new.schema;
   database = sound;
-  adds = subst (Adds tables old.schema) (sym spares.schema) makes.extends.adds;
+  adds = subst (AddsTables tables old.schema) (sym spares.schema) makes.extends.adds;
   others = λ t h other. spares.others t (makes.extends.adds.kept t h) other ∙ makes.extends.rows t h;
   plain = λ t there other.
       let stays = makes.keeps t there in

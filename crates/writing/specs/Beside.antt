@@ -45,7 +45,7 @@ IsNameOf tables name = (t : BookTable) × Has tables t × (name ≡ t.name)
 
 -- The second of two schemas has all that the first has, and these tables with the indexes of their
 -- keys. It has nothing else, but for `sqlite_sequence` where an AUTOINCREMENT lacks it.
-pub record Adds (tables : List BookTable) (old new : Schema) : Type 0 where
+pub record AddsTables (tables : List BookTable) (old new : Schema) : Type 0 where
   -- each table of the first schema is declared as it was, and each other table is made
   pub kept : (t : Table) → Has old.tables t → Has new.tables t
   pub no_more : (t : Table) → Has new.tables t →
@@ -61,7 +61,7 @@ pub record Adds (tables : List BookTable) (old new : Schema) : Type 0 where
 pub record KeepBeside (tables : List BookTable) (db : Database) (trees : Trees) : Type 0 where
   pub schema : Schema
   pub database : IsDatabase (record { schema = schema; trees = trees })
-  pub adds : Adds tables db.schema schema
+  pub adds : AddsTables tables db.schema schema
   pub others : (t : Table) → Has db.schema.tables t → IsOther t.name →
       trees t.tree ≡ db.trees t.tree
   -- each table that is declared as the tables of a book are declared, under another name, is kept

@@ -8,7 +8,7 @@ use Rattle.sqlite.specs.Does.{lacks_sequence}
 use Rattle.sqlite.specs.Effect.{Database}
 use Rattle.tables.specs.Schema.{BookTable, AreFree, IsTable, IsUnreferenced, OnlyKeysGuard, AreOnTables, book_tables, book_table, crew_table, pairing_table, period_table, segment_table, seat_table, ground_table, exceedance_table, request_table}
 use Rattle.tables.specs.Rows.{stored}
-use Rattle.writing.specs.Beside.{Adds}
+use Rattle.writing.specs.Beside.{AddsTables}
 
 -- the schema has no table with the name of a table of the book, and no foreign key that refers to a
 -- table of the book
@@ -38,8 +38,8 @@ KeepsPlain old new = (t : BookTable) → IsTable t old.schema →
 
 -- the tables that were there are as they were declared, with the rows that they had, and just these
 -- new tables are made beside them
-pub record Extends (tables : List BookTable) (old new : Database) : Type 0 where
-  pub adds : Adds tables old.schema new.schema
+pub record MakesBeside (tables : List BookTable) (old new : Database) : Type 0 where
+  pub adds : AddsTables tables old.schema new.schema
   pub rows : (t : Table) → Has old.schema.tables t → new.trees t.tree ≡ old.trees t.tree
   pub sequence : lacks_sequence old.schema ≡ false → lacks_sequence new.schema ≡ false
 
@@ -51,7 +51,7 @@ pub record MakesTables (tables : List BookTable) (old new : Database) : Type 0 w
   pub keeps : KeepsPlain old new
   pub guarded : (t : BookTable) → IsTable t old.schema → OnlyKeysGuard t.name old.schema →
       OnlyKeysGuard t.name new.schema
-  pub extends : Extends tables old new
+  pub extends : MakesBeside tables old new
 
 -- these three tables of a book are made first, in this order
 abbrev pub made_first : List BookTable

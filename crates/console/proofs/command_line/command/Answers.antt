@@ -1,12 +1,12 @@
 use Rattle.std.proofs.lemmas.Result.{IfOk-weaker}
-use Rattle.console.specs.CommandLine.{bare, table}
+use Rattle.console.specs.CommandLine.{bare, subcommand_table}
 use Rattle.console.proofs.Commands.{AreRows, also, subcommands_added}
 use Rattle.console.proofs.command_line.command.Goals as goal
 
 -- (by their names: a search doesn't look into as many steps)
 pub returns : goal.returns
 returns c =
-    let are : AreRows c.in_ok-subcommands.subcommands.items table =
+    let are : AreRows c.in_ok-subcommands.subcommands.items subcommand_table =
     rw c.in_ok-subcommands.ensures.items
     (also c.in_ok-duty_command.ensures
     (also c.in_ok-init_command.ensures
@@ -20,4 +20,4 @@ returns c =
     (also c.in_ok-pairings_command.ensures
     (also c.in_ok-serve_command.ensures tt))))))))))) in
     IfOk-weaker c.subcommands.result _ _
-    (λ r added. subcommands_added _ table bare _ r are c.in_ok-bare_command.ensures added) c.subcommands.ensures
+    (λ r added. subcommands_added _ subcommand_table bare _ r are c.in_ok-bare_command.ensures added) c.subcommands.ensures

@@ -1,5 +1,5 @@
 use Rattle.std.proofs.Common.{◌≡◌, length}
-use Rattle.lookup.specs.Bases.{BasesRead}
+use Rattle.lookup.specs.Bases.{AreFirstBases}
 use Rattle.sqlite.specs.Held.{state}
 use Rattle.lookup.proofs.BaseLemmas.{bases_are, of_bases}
 use Rattle.lookup.proofs.Causes.{wrong_cause}
@@ -14,7 +14,7 @@ returns g c = record {
   told = λ clean s shows.
       let read = c.in_ok-records.ensures.told clean in
       let all = rw c.deref.ensures.value at c.bases_of_rows.ensures.told in
-      is_told (BasesRead c.in_ok-records.records.items (length c.in_ok-records.records.items)) (λ t found. found ≡ t.bases) _ _ s c.bases_of_rows.result clean read.0 c.base_rows.ensures.stays.nothing_new shows
+      is_told (AreFirstBases c.in_ok-records.records.items (length c.in_ok-records.records.items)) (λ t found. found ≡ t.bases) _ _ s c.bases_of_rows.result clean read.0 c.base_rows.ensures.stays.nothing_new shows
       (λ is_book a it. bases_are s _ is_book c.in_ok-records.records.items read.1 a it) all;
   caused =
       let strange = rw c.deref.ensures.value at c.bases_of_rows.ensures.unread in

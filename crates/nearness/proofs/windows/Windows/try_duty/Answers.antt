@@ -4,7 +4,7 @@ use Rattle.std.specs.List.{flat_map}
 use Rattle.std.proofs.lemmas.Bool.{cases_eq}
 use Rattle.std.proofs.lemmas.Option.{get_or_from_slice_get}
 use Rattle.duty.specs.Minutes.{spans_of, minutes_in, Meets}
-use Rattle.nearness.specs.Searches.{IsAsGood, IsKept, IsTried}
+use Rattle.nearness.specs.Searches.{IsAsGood, IsNoWorse, IsTried}
 use Rattle.nearness.proofs.Rounds.{kept_tried}
 use Rattle.nearness.proofs.windows.Windows.try_duty.Goals as goal
 
@@ -19,7 +19,7 @@ loop-index-preserved c =
     let best = c.better-best-in-loop-index.result in
     let span = c.span_at-span.result in
     let inv = c.loop-index.invariant in
-    let both : IsKept all windows.width c.loop-index.best best = λ e g. second.kept e (first.kept e g) in
+    let both : IsNoWorse all windows.width c.loop-index.best best = λ e g. second.kept e (first.kept e g) in
     let T : ℕ → Type 0 = λ n. Meets new (pos (n + c.args.after_begin) -ℤ pos windows.width) windows.width →
     IsAsGood all windows.width c.better-best.result (n + c.args.after_begin) in
     let U : ℕ → Type 0 = λ n. Meets new (pos n -ℤ pos windows.width) windows.width →
