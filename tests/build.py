@@ -27,7 +27,7 @@ PROGRAM = "crates/rosterbook_main/out/rosterbook_main"
 FILES = ("build", "rosterbook", "crates.txt", "HANDLES", "docs/ARCHITECTURE.md")
 TOOLS = ("awk", "bash", "dirname", "env", "find", "readlink")  # what ./rosterbook calls
 
-ASIDE = ("book_tests", "call_tests", "failing_channel", "table_tests")  # the crates on which the program doesn't stand
+ASIDE = ("book_tests", "call_tests", "failing_channel")  # the crates on which the program doesn't stand
 
 # The folder `done` beside its own has a file for each crate that is done. The files there are `pause`, how many seconds a crate takes,
 # `wrong`, a crate that isn't proved, `elsewhere`, one that another run proves, and `meanwhile`, what is run before the last line.

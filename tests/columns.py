@@ -16,7 +16,7 @@ from counting import Desk
 
 TOP = Path(__file__).resolve().parent.parent
 WIDTH = 100
-TESTS = ("book_tests", "call_tests", "table_tests")
+TESTS = ("book_tests", "call_tests")
 
 
 def definitions(text):

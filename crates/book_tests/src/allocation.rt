@@ -4,11 +4,11 @@
 
 mod exchange;
 mod files;
+mod reports;
 mod shown;
-mod told;
 
-use crate::allocation::told::Told;
-use crate::fault::Untold;
+use crate::allocation::reports::MemoryReports;
+use crate::fault::Fault;
 use sqlite_disk::{Fuse, Memory};
 use std::alloc::Global;
 use std::test::Fail;
@@ -24,28 +24,28 @@ enum Part {
 
 impl Part {
     /// Tries its calls; whether they come to what they come to with all memory.
-    fn try_once(self, alloc: Global, told: &mut Told) -> Result<bool, Untold> {
+    fn try_once(self, alloc: Global, reports: &mut MemoryReports) -> Result<bool, Fault> {
         match self {
-            Part::Book => files::is_answered::<Fuse<Memory>>(alloc, told),
-            Part::Http => exchange::is_refused(alloc, told),
+            Part::Book => files::is_answered::<Fuse<Memory>>(alloc, reports),
+            Part::Http => exchange::is_refused(alloc, reports),
         }
     }
 }
 
 /// What comes of a part. Where it finds no memory for what it needs besides the calls that it tries, it begins anew; but not where one of
 /// these has found none, since the same call, made again, has all memory.
-fn try_part(alloc: Global, part: Part, told: &mut Told) -> Result<bool, Untold> {
-    match part.try_once(alloc, told) {
-        Err(Untold::Memory) if !told.memory => part.try_once(alloc, told),
+fn try_part(alloc: Global, part: Part, reports: &mut MemoryReports) -> Result<bool, Fault> {
+    match part.try_once(alloc, reports) {
+        Err(Fault::Memory) if !reports.memory => part.try_once(alloc, reports),
         done => done,
     }
 }
 
 /// The same; how out of memory was reported in it is written to standard error.
 fn is_well(rt: &HostRuntime, part: Part) -> Result<bool, Fail> {
-    let mut told = Told::new();
-    let done = try_part(rt.alloc(), part, &mut told);
-    told.print(&mut rt.stderr())?;
+    let mut reports = MemoryReports::new();
+    let done = try_part(rt.alloc(), part, &mut reports);
+    reports.print(&mut rt.stderr())?;
     Ok(done?)
 }
 

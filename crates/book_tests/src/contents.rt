@@ -1,6 +1,6 @@
 //! What the tables hold, read by plain SELECTs.
 
-use crate::fault::Untold;
+use crate::fault::Fault;
 use sqlite::types::ValueRef;
 use sqlite::{Alter, Connection, Error, Row};
 use std::alloc::Global;
@@ -78,7 +78,7 @@ fn add_lines<S: Alter>(
 }
 
 /// Lines in the order of the alphabet, as one text.
-pub fn in_order(alloc: Global, mut lines: Vec<String>) -> Result<String, Untold> {
+pub fn in_order(alloc: Global, mut lines: Vec<String>) -> Result<String, Fault> {
     lines.sort()?;
     let mut all = String::new(alloc);
     for line in &lines {
@@ -94,14 +94,14 @@ pub fn lines_of<S: Alter>(
     conn: &mut Connection<S>,
     name: &str,
     select: &str,
-) -> Result<String, Untold> {
+) -> Result<String, Fault> {
     let mut lines = Vec::new(alloc);
     add_lines(alloc, conn, name, select, &mut lines)?;
     in_order(alloc, lines)
 }
 
 /// All rows of the tables of a book that are there, as lines that begin with the name of their table.
-pub fn rows_of<S: Alter>(alloc: Global, conn: &mut Connection<S>) -> Result<String, Untold> {
+pub fn rows_of<S: Alter>(alloc: Global, conn: &mut Connection<S>) -> Result<String, Fault> {
     let mut lines = Vec::new(alloc);
     for (name, select) in TABLES {
         if has_table(conn, name) {

@@ -1,7 +1,7 @@
 //! Exchanges of HTTP with a book in memory: whole, cut, and over channels that fail.
 
 use crate::contents;
-use crate::fault::Untold;
+use crate::fault::Fault;
 use crate::opening::{book_of, create, take_up};
 use book::Book;
 use failing_channel::{Input, Output};
@@ -84,7 +84,7 @@ fn exchange_over<S: Alter>(
     book: &mut Book<S>,
     sent: &[u8],
     trial: Trial,
-) -> Result<(Ending, Vec<u8>), Untold> {
+) -> Result<(Ending, Vec<u8>), Fault> {
     let (length, fails, room) = match trial {
         Trial::Whole => (sent.len(), false, usize::MAX),
         Trial::Cut(length) => (length, false, usize::MAX),
@@ -121,7 +121,7 @@ struct Sample {
 }
 
 /// A text in bytes.
-fn bytes_of(alloc: Global, text: &str) -> Result<Vec<u8>, Untold> {
+fn bytes_of(alloc: Global, text: &str) -> Result<Vec<u8>, Fault> {
     let mut bytes = Vec::new(alloc);
     for byte in text.bytes() {
         match byte {
@@ -133,7 +133,7 @@ fn bytes_of(alloc: Global, text: &str) -> Result<Vec<u8>, Untold> {
     Ok(bytes)
 }
 
-fn sample_of(alloc: Global, place: usize, sent: &str, written: &str) -> Result<Sample, Untold> {
+fn sample_of(alloc: Global, place: usize, sent: &str, written: &str) -> Result<Sample, Fault> {
     let head = sent.split("||").next().unwrap_or(sent);
     Ok(Sample {
         place,
@@ -144,7 +144,7 @@ fn sample_of(alloc: Global, place: usize, sent: &str, written: &str) -> Result<S
 }
 
 /// All exchanges.
-fn samples(alloc: Global) -> Result<Vec<Sample>, Untold> {
+fn samples(alloc: Global) -> Result<Vec<Sample>, Fault> {
     let mut samples = Vec::new(alloc);
     let mut lines = EXCHANGES.lines();
     for place in 0..100 {
@@ -157,7 +157,7 @@ fn samples(alloc: Global) -> Result<Vec<Sample>, Untold> {
 }
 
 /// What is written before the body, where this many bytes of the request come.
-fn interim(alloc: Global, sample: &Sample, length: usize) -> Result<Vec<u8>, Untold> {
+fn interim(alloc: Global, sample: &Sample, length: usize) -> Result<Vec<u8>, Fault> {
     let front = bytes_of(alloc, CONTINUE)?;
     if length < sample.head || !sample.written.starts_with(&front) {
         return Ok(Vec::new(alloc));
@@ -166,7 +166,7 @@ fn interim(alloc: Global, sample: &Sample, length: usize) -> Result<Vec<u8>, Unt
 }
 
 /// How an exchange is to end, and what is to be written.
-fn ending_of(alloc: Global, sample: &Sample, trial: Trial) -> Result<(Ending, Vec<u8>), Untold> {
+fn ending_of(alloc: Global, sample: &Sample, trial: Trial) -> Result<(Ending, Vec<u8>), Fault> {
     match trial {
         Trial::Whole => Ok((
             Ending::Answered,
@@ -184,7 +184,7 @@ fn ending_of(alloc: Global, sample: &Sample, trial: Trial) -> Result<(Ending, Ve
 }
 
 /// A copy of the first bytes.
-fn copy_of(alloc: Global, bytes: &[u8], length: usize) -> Result<Vec<u8>, Untold> {
+fn copy_of(alloc: Global, bytes: &[u8], length: usize) -> Result<Vec<u8>, Fault> {
     let mut copy = Vec::new(alloc);
     copy.extend_from_slice(bytes.get(..length).unwrap_or(bytes))?;
     Ok(copy)
@@ -197,7 +197,7 @@ fn try_one<S: Alter>(
     sample: &Sample,
     trial: Trial,
     text: &mut String,
-) -> Result<(), Untold> {
+) -> Result<(), Fault> {
     let wanted = ending_of(alloc, sample, trial)?;
     let found = exchange_over(alloc, book, &sample.sent, trial)?;
     if found != wanted {
@@ -213,7 +213,7 @@ fn try_cut<S: Alter>(
     book: &mut Book<S>,
     samples: &[Sample],
     text: &mut String,
-) -> Result<(), Untold> {
+) -> Result<(), Fault> {
     for sample in samples {
         for length in 0..sample.sent.len() {
             try_one(alloc, book, sample, Trial::Cut(length), text)?;
@@ -229,7 +229,7 @@ fn try_whole<S: Alter>(
     book: &mut Book<S>,
     samples: &[Sample],
     text: &mut String,
-) -> Result<(), Untold> {
+) -> Result<(), Fault> {
     for sample in samples {
         for room in 0..sample.written.len() {
             try_one(alloc, book, sample, Trial::Narrow(room), text)?;
@@ -240,7 +240,7 @@ fn try_whole<S: Alter>(
 }
 
 /// Tries with a new book what leaves it as it is, and notes its rows; and then what it keeps.
-fn try_all<S: Alter + Drop>(alloc: Global, conn: Connection<S>) -> Result<String, Untold> {
+fn try_all<S: Alter + Drop>(alloc: Global, conn: Connection<S>) -> Result<String, Fault> {
     let samples = samples(alloc)?;
     let mut text = String::new(alloc);
     let mut book = book_of(create(alloc, conn))?;

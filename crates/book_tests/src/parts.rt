@@ -3,7 +3,7 @@
 
 ghost use Rattle.roster.specs.Steps.{IsUnderFreeKey};
 
-use crate::fault::Untold;
+use crate::fault::Fault;
 use crate::opening::{EASTERN, book_of, create};
 use crate::requests::{AT_DENVER, AT_NO_BASE, DENVER, key, plan};
 use book::{Answer, Book};
@@ -52,16 +52,16 @@ const FILLED: [&str; 16] = [
 ];
 
 /// Fails unless a command is accepted.
-fn expect_accepted(answer: &Result<Answer, StoreFault>) -> Result<(), Untold> {
+fn expect_accepted(answer: &Result<Answer, StoreFault>) -> Result<(), Fault> {
     match answer {
         Ok(Answer::Accepted(_)) => Ok(()),
-        Ok(Answer::Refused(_)) => Err(Untold::Unmade),
-        Err(fault) => Err(Untold::Unanswered(*fault)),
+        Ok(Answer::Refused(_)) => Err(Fault::Unmade),
+        Err(fault) => Err(Fault::Unanswered(*fault)),
     }
 }
 
 /// Asks a book a command, which it accepts.
-fn ask<S: Alter>(alloc: Global, book: &mut Book<S>, number: u8, text: &str) -> Result<(), Untold> {
+fn ask<S: Alter>(alloc: Global, book: &mut Book<S>, number: u8, text: &str) -> Result<(), Fault> {
     let command = read_canonical(alloc, text)?;
     let answer = book.ask(alloc, key(number), &command);
     drop(command);
@@ -69,7 +69,7 @@ fn ask<S: Alter>(alloc: Global, book: &mut Book<S>, number: u8, text: &str) -> R
 }
 
 /// Fills a book with all that one can have.
-fn fill<S: Alter>(alloc: Global, book: &mut Book<S>) -> Result<(), Untold> {
+fn fill<S: Alter>(alloc: Global, book: &mut Book<S>) -> Result<(), Fault> {
     let mut number = 0u8;
     for (id, times) in PLANS {
         number = number.saturating_add(1);
@@ -84,29 +84,29 @@ fn fill<S: Alter>(alloc: Global, book: &mut Book<S>) -> Result<(), Untold> {
 }
 
 /// Makes what a roster accepts.
-fn make(alloc: Global, roster: &mut Roster, verdict: &Verdict) -> Result<(), Untold>
+fn make(alloc: Global, roster: &mut Roster, verdict: &Verdict) -> Result<(), Fault>
     requires { IsUnderFreeKey roster.old verdict.now }
 {
     match verdict {
         Verdict::Accept(change, _reply) => Ok(roster.apply(alloc, change)?),
-        Verdict::Repeat(_) | Verdict::Refuse(_) => Err(Untold::Unmade),
+        Verdict::Repeat(_) | Verdict::Refuse(_) => Err(Fault::Unmade),
     }
 }
 
 /// Asks a roster a command by the machine alone, and makes what it accepts.
-fn play(alloc: Global, roster: &mut Roster, key: Key, command: &Command) -> Result<(), Untold> {
+fn play(alloc: Global, roster: &mut Roster, key: Key, command: &Command) -> Result<(), Fault> {
     let verdict = roster.step(alloc, key, command)?;
     make(alloc, roster, &verdict)
 }
 
 /// Asks a roster the command of a text.
-fn play_text(alloc: Global, roster: &mut Roster, number: u8, text: &str) -> Result<(), Untold> {
+fn play_text(alloc: Global, roster: &mut Roster, number: u8, text: &str) -> Result<(), Fault> {
     let command = read_canonical(alloc, text)?;
     play(alloc, roster, key(number), &command)
 }
 
 /// Fills a roster as the book is filled.
-fn fill_roster(alloc: Global, roster: &mut Roster) -> Result<(), Untold> {
+fn fill_roster(alloc: Global, roster: &mut Roster) -> Result<(), Fault> {
     let mut number = 0u8;
     for (id, times) in PLANS {
         number = number.saturating_add(1);
@@ -121,7 +121,7 @@ fn fill_roster(alloc: Global, roster: &mut Roster) -> Result<(), Untold> {
 }
 
 /// Adds the ids of a table, and a line that ends them.
-fn add_ids<T, V>(table: &OrdMap<Id<T>, V>, text: &mut String) -> Result<(), Untold> {
+fn add_ids<T, V>(table: &OrdMap<Id<T>, V>, text: &mut String) -> Result<(), Fault> {
     for (id, _) in table.iter() {
         text.push_str(id.as_str())?;
         text.push_str(" ")?;
@@ -131,7 +131,7 @@ fn add_ids<T, V>(table: &OrdMap<Id<T>, V>, text: &mut String) -> Result<(), Unto
 }
 
 /// The ids of its pairings, members, ground duties and outside periods, and how many exceedances and requests it has.
-fn ids_of(alloc: Global, part: &Roster) -> Result<String, Untold> {
+fn ids_of(alloc: Global, part: &Roster) -> Result<String, Fault> {
     let mut text = String::new(alloc);
     add_ids(&part.pairings, &mut text)?;
     add_ids(&part.crew, &mut text)?;
@@ -160,7 +160,7 @@ fn add_part<S: Alter>(
     roster: &Roster,
     (key, command): (Key, Command),
     text: &mut String,
-) -> Result<(), Untold> {
+) -> Result<(), Fault> {
     let part = store.part(alloc, key, &command)?;
     text.push_str(ids_of(alloc, &part)?.as_str())?;
     if !has_bases(&part, roster) {
@@ -234,7 +234,7 @@ const ASKED: [(u8, &str); 19] = [
 ];
 
 /// What is reported of the parts of these commands, and of that of one that adds P7.
-fn parts<S: Alter>(alloc: Global, store: &mut Store<S>, roster: &Roster) -> Result<String, Untold> {
+fn parts<S: Alter>(alloc: Global, store: &mut Store<S>, roster: &Roster) -> Result<String, Fault> {
     let mut text = String::new(alloc);
     for (number, command) in ASKED {
         let command = read_canonical(alloc, command)?;
@@ -251,35 +251,35 @@ fn parts<S: Alter>(alloc: Global, store: &mut Store<S>, roster: &Roster) -> Resu
 }
 
 /// What is reported of the parts that a store reads of a book, beside a copy of its roster.
-fn told_over<S: Alter + Drop>(
+fn report_over<S: Alter + Drop>(
     alloc: Global,
     conn: Connection<S>,
     roster: &Roster,
-) -> Result<String, Untold> {
+) -> Result<String, Fault> {
     if !conn.is_autocommit() {
-        return Err(Untold::Unread);
+        return Err(Fault::Unread);
     }
     let Ok(mut store) = Store::load(alloc, conn) else {
-        return Err(Untold::Unread);
+        return Err(Fault::Unread);
     };
     let whole = roster.try_clone(alloc)?;
     parts(alloc, &mut store, &whole)
 }
 
 /// What is reported over memory.
-fn told_of_parts(alloc: Global) -> Result<String, Untold> {
+fn report_of_parts(alloc: Global) -> Result<String, Fault> {
     let Ok(zone) = Zone::read(alloc, EASTERN) else {
-        return Err(Untold::Unmade);
+        return Err(Fault::Unmade);
     };
     let mut roster = Roster::empty(alloc, zone)?;
     fill_roster(alloc, &mut roster)?;
     let mut book = book_of(create(alloc, Connection::open_in_memory(alloc)?))?;
     fill(alloc, &mut book)?;
-    told_over(alloc, book.into_connection(), &roster)
+    report_over(alloc, book.into_connection(), &roster)
 }
 
 /// The pairings, the members, the ground duties and the outside periods of each part, and its exceedances and requests.
-const TOLD: &str = "P13A P13B P7 P8 P92 | C1 F1 | G1 | X1 | 0 0\n\
+const EXPECTED: &str = "P13A P13B P7 P8 P92 | C1 F1 | G1 | X1 | 0 0\n\
     | | | | 0 0\n\
     P92 | | | | 0 0\n\
     | | | | 0 0\n\
@@ -302,6 +302,6 @@ const TOLD: &str = "P13A P13B P7 P8 P92 | C1 F1 | G1 | X1 | 0 0\n\
 
 #[test]
 fn parts_answer_as_the_roster(rt: HostRuntime) -> Result<(), Fail> {
-    assert!(rt; told_of_parts(rt.alloc())?.as_str() == TOLD);
+    assert!(rt; report_of_parts(rt.alloc())?.as_str() == EXPECTED);
     Ok(())
 }

@@ -1,6 +1,6 @@
 //! Requests, by the texts that the book keeps their commands as.
 
-use crate::fault::Untold;
+use crate::fault::Fault;
 use command::{Command, Key};
 use std::alloc::Global;
 use stored_json::read_canonical;
@@ -54,7 +54,7 @@ pub fn plan(
     alloc: Global,
     id: &str,
     [report, out, land, release]: [&str; 4],
-) -> Result<String, Untold> {
+) -> Result<String, Fault> {
     let segment = format!(in alloc;
         "{{\"flight\":\"RB1\",\"from\":\"BOS\",\"in\":\"2025-06-{land}Z\",\"out\":\"2025-06-{out}Z\",\"to\":\"IAD\"}}"
     )?;
@@ -69,7 +69,7 @@ pub fn key(number: u8) -> Key {
 }
 
 /// Requests, each of its number and the text of its command.
-pub fn requests(alloc: Global, list: &[(u8, &str)]) -> Result<Vec<(Key, Command)>, Untold> {
+pub fn requests(alloc: Global, list: &[(u8, &str)]) -> Result<Vec<(Key, Command)>, Fault> {
     let mut requests = Vec::new(alloc);
     for (number, text) in list {
         requests.push((key(*number), read_canonical(alloc, text)?))?;

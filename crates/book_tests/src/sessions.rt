@@ -1,7 +1,7 @@
 //! Requests that a book answers in one session, asked one by one or all in one run; and a connection that a refusal hands back.
 
 use crate::contents;
-use crate::fault::Untold;
+use crate::fault::Fault;
 use crate::opening::{Left, create, take_up};
 use crate::requests::{
     AT_DENVER, AT_NO_BASE, CANCEL, CAPTAIN, DENVER, LATE, LEFT, OFFICER, PLAN, RELEASE, RIGHT,
@@ -36,7 +36,7 @@ const REQUESTS: [(u8, &str); 16] = [
 ];
 
 /// A mark for each answer: `+` where it accepts, or else the number of the refusal.
-fn marks(alloc: Global, answers: &[Answer]) -> Result<String, Untold> {
+fn marks(alloc: Global, answers: &[Answer]) -> Result<String, Fault> {
     let mut marks = String::new(alloc);
     for answer in answers {
         match answer {
@@ -55,7 +55,7 @@ fn ask_all<S: Alter>(
     alloc: Global,
     book: &mut Book<S>,
     list: &[(Key, Command)],
-) -> Result<String, Untold> {
+) -> Result<String, Fault> {
     let mut answers = Vec::new(alloc);
     for (key, command) in list {
         answers.push(book.ask(alloc, *key, command)?)?;
@@ -68,7 +68,7 @@ fn run_all<S: Alter>(
     alloc: Global,
     book: &mut Book<S>,
     list: &[(Key, Command)],
-) -> Result<String, Untold> {
+) -> Result<String, Fault> {
     let Run { answers, fault } = book.run(alloc, list);
     match fault {
         None => marks(alloc, &answers),
@@ -85,12 +85,12 @@ fn answer_all<S: Alter>(
 ) -> Left<S> {
     match opened {
         Ok(mut book) => {
-            let told = if in_one_run {
+            let answers = if in_one_run {
                 run_all(alloc, &mut book, list)
             } else {
                 ask_all(alloc, &mut book, list)
             };
-            (told, book.into_connection())
+            (answers, book.into_connection())
         }
         Err(refused) => refused,
     }
@@ -103,9 +103,9 @@ fn add_session<S: Alter + Drop>(
     list: &[(Key, Command)],
     in_one_run: bool,
     text: &mut String,
-) -> Result<Connection<S>, Untold> {
-    let (told, conn) = answer_all(alloc, opened, list, in_one_run);
-    text.push_str(told?.as_str())?;
+) -> Result<Connection<S>, Fault> {
+    let (answers, conn) = answer_all(alloc, opened, list, in_one_run);
+    text.push_str(answers?.as_str())?;
     Ok(conn)
 }
 
@@ -116,7 +116,7 @@ fn add_rows<S: Alter>(
     conn: &mut Connection<S>,
     noted: &str,
     text: &mut String,
-) -> Result<(), Untold> {
+) -> Result<(), Fault> {
     let found = contents::rows_of(alloc, conn)?;
     text.push_str(if found.as_str() == noted {
         "\nsame\n"
@@ -141,7 +141,7 @@ fn report_over<S: Alter + Drop>(
     conn: Connection<S>,
     list: &[(Key, Command)],
     in_one_run: bool,
-) -> Result<String, Untold> {
+) -> Result<String, Fault> {
     let mut text = String::new(alloc);
     let opened = create(alloc, conn);
     let mut conn = add_session(alloc, opened, list, in_one_run, &mut text)?;
@@ -154,13 +154,13 @@ fn report_over<S: Alter + Drop>(
 }
 
 /// What is reported over memory.
-fn report_of(alloc: Global, in_one_run: bool) -> Result<String, Untold> {
+fn report_of(alloc: Global, in_one_run: bool) -> Result<String, Fault> {
     let list = requests(alloc, &REQUESTS)?;
     report_over(alloc, Connection::open_in_memory(alloc)?, &list, in_one_run)
 }
 
 /// In the second session request 30 is held.
-const TOLD: &str =
+const EXPECTED: &str =
     " + + + + + + 1 4 + + + 10 + + 20 21 | + + + + + + 1 1 + + + 10 + + 20 21\nsame\n\
     seat P1|0|C1\nseat P1|1|F1\n\
     base DEN|MST7MDT,M3.2.0,M11.1.0\nbase HOME|EST5EDT,M3.2.0,M11.1.0\n\
@@ -169,19 +169,19 @@ const TOLD: &str =
 
 #[test]
 fn requests_that_are_asked_one_by_one_act_once(rt: HostRuntime) -> Result<(), Fail> {
-    assert_eq!(rt; report_of(rt.alloc(), false)?.as_str(), TOLD);
+    assert_eq!(rt; report_of(rt.alloc(), false)?.as_str(), EXPECTED);
     Ok(())
 }
 
 #[test]
 fn requests_of_one_run_act_once(rt: HostRuntime) -> Result<(), Fail> {
-    assert_eq!(rt; report_of(rt.alloc(), true)?.as_str(), TOLD);
+    assert_eq!(rt; report_of(rt.alloc(), true)?.as_str(), EXPECTED);
     Ok(())
 }
 
 /// What is reported over memory of statements that are run in turn, each before a book is made (`true`) or taken up: what refuses
 /// that.
-fn opened_after(alloc: Global, steps: &[(&str, bool)]) -> Result<String, Untold> {
+fn opened_after(alloc: Global, steps: &[(&str, bool)]) -> Result<String, Fault> {
     opened_over(alloc, Connection::open_in_memory(alloc)?, steps)
 }
 
@@ -189,7 +189,7 @@ fn opened_over<S: Alter + Drop>(
     alloc: Global,
     mut conn: Connection<S>,
     steps: &[(&str, bool)],
-) -> Result<String, Untold> {
+) -> Result<String, Fault> {
     let mut text = String::new(alloc);
     for (statement, is_new) in steps {
         conn.execute_batch(statement)?;

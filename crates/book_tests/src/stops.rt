@@ -21,7 +21,7 @@ fn place(reached: Option<Reached>) -> Result<usize, Fail> {
     match reached {
         None | Some(Reached::NoBook) => Ok(0),
         Some(Reached::Answered(count)) => Ok(count.saturating_add(1)),
-        Some(Reached::ToldOtherwise) => Err(Fail::from("a stop that is not told as 90")),
+        Some(Reached::OtherwiseReported) => Err(Fail::from("a stop that is not reported as 90")),
     }
 }
 
@@ -116,7 +116,7 @@ fn stop_opening<D: Stops>(alloc: Global, stopped: Stopped) -> Result<u64, Fail> 
             TakingUp,
         );
         if taken == Some(Taken::Otherwise) {
-            return Err(Fail::from("a stop that is told otherwise"));
+            return Err(Fail::from("a stop that is reported otherwise"));
         }
         let (again, files) = with_opened(
             alloc,
@@ -197,7 +197,7 @@ fn stop_migration_at<D: Stops>(
 ) -> Result<(bool, bool), Fail> {
     let (taken, files) = with_opened(alloc, with_limit(alloc, files, stopped, calls), TakingUp);
     if taken == Some(Taken::Otherwise) {
-        return Err(Fail::from("a stop that is told otherwise"));
+        return Err(Fail::from("a stop that is reported otherwise"));
     }
     let (again, files) = with_opened(alloc, after_restart(alloc, files, left), HandedInAgain);
     drop(files);

@@ -6,30 +6,30 @@ mod entries;
 mod growing;
 mod machine;
 mod parts;
+mod reports;
 mod same;
 mod texts;
-mod told;
 
 use crate::allocation::parts::Part;
-use crate::allocation::told::Told;
+use crate::allocation::reports::MemoryReports;
 use crate::fault::Fault;
 use std::alloc::Global;
 use std::test::Fail;
 
 /// What comes of a part. Where it finds no memory for what it needs besides the calls that it tries, it begins anew; but not where one of
 /// these has found none, since the same call, made again, has all memory.
-fn try_part(alloc: Global, part: Part, told: &mut Told) -> Result<String, Fault> {
-    match part.try_once(alloc, told) {
-        Err(Fault::Memory) if !told.memory => part.try_once(alloc, told),
+fn try_part(alloc: Global, part: Part, reports: &mut MemoryReports) -> Result<String, Fault> {
+    match part.try_once(alloc, reports) {
+        Err(Fault::Memory) if !reports.memory => part.try_once(alloc, reports),
         text => text,
     }
 }
 
 /// The same; how out of memory was reported in it is written to standard error.
 fn text_of(rt: &HostRuntime, part: Part) -> Result<String, Fail> {
-    let mut told = Told::new();
-    let text = try_part(rt.alloc(), part, &mut told);
-    told.print(&mut rt.stderr())?;
+    let mut reports = MemoryReports::new();
+    let text = try_part(rt.alloc(), part, &mut reports);
+    reports.print(&mut rt.stderr())?;
     Ok(text?)
 }
 

@@ -37,23 +37,23 @@ fn all_are_copied<T: TryClone + PartialEq>(alloc: Global, list: &[T]) -> bool {
 
 /// A mark for each verdict that accepts (`+`) or repeats (`=`), each refusal's number, and whether all are copied.
 fn marks_of(alloc: Global, verdicts: &[Verdict]) -> Result<String, Fail> {
-    let mut told = String::new(alloc);
+    let mut text = String::new(alloc);
     for verdict in verdicts {
         match verdict {
-            Verdict::Accept(_, _) => told.push_str("+")?,
-            Verdict::Repeat(_) => told.push_str("=")?,
+            Verdict::Accept(_, _) => text.push_str("+")?,
+            Verdict::Repeat(_) => text.push_str("=")?,
             Verdict::Refuse(refusal) => {
                 let number = format!(in alloc; " {}", refusal.number())?;
-                told.push_str(number.as_str())?;
+                text.push_str(number.as_str())?;
             }
         }
     }
-    told.push_str(if all_are_copied(alloc, verdicts) {
+    text.push_str(if all_are_copied(alloc, verdicts) {
         ", copied"
     } else {
         ", not copied"
     })?;
-    Ok(told)
+    Ok(text)
 }
 
 /// How many entries a roster has, where all are copied.

@@ -28,7 +28,7 @@ fn is_flown_so(flown: &Fdp, planned: &Fdp, actual: &Actual) -> bool {
 }
 
 /// How a period takes the times of an actual.
-fn told_of(alloc: Global, period: &Fdp, actual: &Actual) -> Result<String, Fault> {
+fn outcome_of(alloc: Global, period: &Fdp, actual: &Actual) -> Result<String, Fault> {
     match period.with_actual(alloc, actual) {
         Ok(flown) if is_flown_so(&flown, period, actual) => Ok(String::from_str(alloc, "flown")?),
         Ok(_) => Err(Fault::Otherwise),
@@ -45,7 +45,7 @@ fn text_of(alloc: Global, adding: &Command, recording: &Command) -> Result<Strin
         return Err(Fault::Unmade);
     };
     match pairing.periods().first() {
-        Some(period) => told_of(alloc, period, actual),
+        Some(period) => outcome_of(alloc, period, actual),
         None => Err(Fault::Unmade),
     }
 }

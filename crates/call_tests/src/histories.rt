@@ -71,7 +71,7 @@ fn counts_of(alloc: Global, history: &History) -> Result<String, Fault> {
 }
 
 /// The same, of all its minutes, where each kind has its own list of them.
-fn told_of_all(alloc: Global, history: &History) -> Result<String, Fault> {
+fn totals_of(alloc: Global, history: &History) -> Result<String, Fault> {
     let flight = history.intervals(Kind::Flight).total();
     let flight_duty = history.intervals(Kind::FlightDuty).total();
     let duty = history.intervals(Kind::Duty).total();
@@ -88,14 +88,14 @@ const RUNS: [(u64, u64); 4] = [
 ];
 
 /// How many minutes of flight duty there are before each run, and up to its end.
-fn told_of_runs(alloc: Global, history: &History) -> Result<String, Fault> {
-    let mut told = String::new(alloc);
+fn runs_of(alloc: Global, history: &History) -> Result<String, Fault> {
+    let mut text = String::new(alloc);
     for (from, to) in RUNS {
         let before = history.minutes_before(Kind::FlightDuty, from, from);
         let up_to_end = history.minutes_before(Kind::FlightDuty, to, to);
-        told.push_str(&format!(in alloc; " {before}-{up_to_end}")?)?;
+        text.push_str(&format!(in alloc; " {before}-{up_to_end}")?)?;
     }
-    Ok(told)
+    Ok(text)
 }
 
 #[test]
@@ -105,12 +105,9 @@ fn counts_its_minutes_once(rt: HostRuntime) -> Result<(), Fail> {
         counts_of(rt.alloc(), &history)?.as_str(),
         "5 1590 3600 3630"
     );
+    assert_eq!(rt; totals_of(rt.alloc(), &history)?.as_str(), "1590 3600 3630");
     assert_eq!(rt;
-        told_of_all(rt.alloc(), &history)?.as_str(),
-        "1590 3600 3630"
-    );
-    assert_eq!(rt;
-        told_of_runs(rt.alloc(), &history)?.as_str(),
+        runs_of(rt.alloc(), &history)?.as_str(),
         " 0-720 720-1440 1440-2190 2190-3600"
     );
     Ok(())

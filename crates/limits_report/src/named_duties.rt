@@ -29,7 +29,7 @@ pub(crate) fn duties_of(
 ) -> Result<Vec<NamedDuty>, MemoryFault>
     ensures { IfOk result
         (λ list. list.items
-            ≡ all_but_pairing (option_copied out.entry) (history_of roster.now who.now)) }
+        ≡ all_but_pairing (option_copied out.entry) (history_of roster.now who.now)) }
 {
     let mut list = Vec::new(alloc);
     add_held(alloc, roster, who, out, &mut list)?;
@@ -58,7 +58,7 @@ fn add_held(
 ) -> Result<(), MemoryFault>
     ensures { OnOk result (list.new.items
         ≡ list.old.items
-            ++ all_but_pairing (option_copied out.entry) (periods_of roster.now who.now)) }
+        ++ all_but_pairing (option_copied out.entry) (periods_of roster.now who.now)) }
 {
     for (id, entry) in roster.pairings.iter() {
         if entry.holds(who) && !is_left_out(out, id) {

@@ -1,7 +1,7 @@
 //! A command that the book refuses, over HTTP.
 
-use crate::allocation::told::Told;
-use crate::fault::Untold;
+use crate::allocation::reports::MemoryReports;
+use crate::fault::Fault;
 use crate::opening::create;
 use book::Book;
 use sqlite::{Alter, Connection};
@@ -40,16 +40,16 @@ fn response_to<S: Alter>(alloc: Global, book: &mut Book<S>) -> Result<Vec<u8>, C
 /// What a client gets, who asks again where the channel failed, or where 503 says that there is no memory.
 fn got_in_the_end<S: Alter>(
     alloc: Global,
-    told: &mut Told,
+    reports: &mut MemoryReports,
     book: &mut Book<S>,
 ) -> Result<Vec<u8>, ChannelFault> {
     match response_to(alloc, book) {
         Ok(response) if response.as_slice() == NO_MEMORY.as_bytes() => {
-            told.unavailable = true;
+            reports.unavailable = true;
             response_to(alloc, book)
         }
         Err(_) => {
-            told.channel = true;
+            reports.channel = true;
             response_to(alloc, book)
         }
         got => got,
@@ -57,8 +57,12 @@ fn got_in_the_end<S: Alter>(
 }
 
 /// Whether a client gets the refusal of a book.
-fn gets_the_refusal<S: Alter>(alloc: Global, told: &mut Told, book: &mut Book<S>) -> bool {
-    match got_in_the_end(alloc, told, book) {
+fn gets_the_refusal<S: Alter>(
+    alloc: Global,
+    reports: &mut MemoryReports,
+    book: &mut Book<S>,
+) -> bool {
+    match got_in_the_end(alloc, reports, book) {
         Ok(response) => response.as_slice() == REFUSED.as_bytes(),
         Err(_) => false,
     }
@@ -66,19 +70,19 @@ fn gets_the_refusal<S: Alter>(alloc: Global, told: &mut Told, book: &mut Book<S>
 
 fn is_refused_over<S: Alter + Drop>(
     alloc: Global,
-    told: &mut Told,
+    reports: &mut MemoryReports,
     conn: Connection<S>,
-) -> Result<bool, Untold> {
+) -> Result<bool, Fault> {
     match create(alloc, conn) {
-        Ok(mut book) => Ok(gets_the_refusal(alloc, told, &mut book)),
-        Err(_left) => Err(Untold::Memory),
+        Ok(mut book) => Ok(gets_the_refusal(alloc, reports, &mut book)),
+        Err(_left) => Err(Fault::Memory),
     }
 }
 
 /// Serves a client with a book without crew.
-pub fn is_refused(alloc: Global, told: &mut Told) -> Result<bool, Untold> {
+pub fn is_refused(alloc: Global, reports: &mut MemoryReports) -> Result<bool, Fault> {
     let Ok(conn) = Connection::open_in_memory(alloc) else {
-        return Err(Untold::Memory);
+        return Err(Fault::Memory);
     };
-    is_refused_over(alloc, told, conn)
+    is_refused_over(alloc, reports, conn)
 }

@@ -2,10 +2,10 @@
 //! again; after a fault of the store (90) its files are opened again, and all commands are handed in again. In the end its tables have
 //! the rows of a run with all memory.
 
+use crate::allocation::reports::MemoryReports;
 use crate::allocation::shown::read_all;
-use crate::allocation::told::Told;
 use crate::contents;
-use crate::fault::Untold;
+use crate::fault::Fault;
 use crate::opening::EASTERN;
 use crate::stops::disk::{Left, Stopped, Stops, after_restart, taking};
 use crate::stops::run::{Act, Heard, ask, ask_part, import, with_opened};
@@ -22,10 +22,10 @@ const MOST_OPENINGS: usize = 4;
 /// How the commands of one session were answered, and the rows at its end.
 #[derive(Drop)]
 struct Session {
-    heard: Result<Heard, Untold>,
+    heard: Result<Heard, Fault>,
     /// Whether 91 was reported.
-    is_memory_told: bool,
-    rows: Result<String, Untold>,
+    is_memory_reported: bool,
+    rows: Result<String, Fault>,
 }
 
 /// Why there is no book.
@@ -73,11 +73,11 @@ fn begin_book<S: Alter>(
 fn begun_in_the_end<S: Alter>(
     alloc: Global,
     conn: Connection<S>,
-    is_memory_told: &mut bool,
+    is_memory_reported: &mut bool,
 ) -> Result<Book<S>, (NoBook, Connection<S>)> {
     match begin_book(alloc, conn) {
         Err((NoBook::Fault(StoreFault::Memory), conn)) => {
-            *is_memory_told = true;
+            *is_memory_reported = true;
             begin_book(alloc, conn)
         }
         begun => begun,
@@ -90,7 +90,7 @@ fn ask_once<S: Alter>(
     book: &mut Book<S>,
     import: &mut Import,
     at: usize,
-) -> Result<Heard, Untold> {
+) -> Result<Heard, Fault> {
     if is_part(at) {
         Ok(ask_part(alloc, book, import, at))
     } else {
@@ -104,14 +104,14 @@ fn ask_twice<S: Alter>(
     book: &mut Book<S>,
     import: &mut Import,
     at: usize,
-    is_memory_told: &mut bool,
-) -> Result<Heard, Untold> {
+    is_memory_reported: &mut bool,
+) -> Result<Heard, Fault> {
     let before = read_all(alloc, book)?;
     let heard = ask_once(alloc, book, import, at)?;
     if heard != Heard::NoMemory {
         return Ok(heard);
     }
-    *is_memory_told = true;
+    *is_memory_reported = true;
     if read_all(alloc, book)? != before {
         return Ok(Heard::Otherwise);
     }
@@ -122,11 +122,11 @@ fn ask_twice<S: Alter>(
 fn ask_all<S: Alter>(
     alloc: Global,
     book: &mut Book<S>,
-    is_memory_told: &mut bool,
-) -> Result<Heard, Untold> {
+    is_memory_reported: &mut bool,
+) -> Result<Heard, Fault> {
     let mut import = import::<S>(alloc)?;
     for at in 0..COMMANDS {
-        let heard = ask_twice(alloc, book, &mut import, at, is_memory_told)?;
+        let heard = ask_twice(alloc, book, &mut import, at, is_memory_reported)?;
         if heard != Heard::AsAlways {
             return Ok(heard);
         }
@@ -135,7 +135,7 @@ fn ask_all<S: Alter>(
 }
 
 /// A session without a book.
-fn without_book(alloc: Global, why: NoBook, is_memory_told: bool) -> Session {
+fn without_book(alloc: Global, why: NoBook, is_memory_reported: bool) -> Session {
     let heard = match why {
         NoBook::Fault(StoreFault::Store) => Heard::Stopped,
         NoBook::Fault(StoreFault::Memory) => Heard::NoMemory,
@@ -143,7 +143,7 @@ fn without_book(alloc: Global, why: NoBook, is_memory_told: bool) -> Session {
     };
     Session {
         heard: Ok(heard),
-        is_memory_told,
+        is_memory_reported,
         rows: Ok(String::new(alloc)),
     }
 }
@@ -153,29 +153,29 @@ fn without_book(alloc: Global, why: NoBook, is_memory_told: bool) -> Session {
 struct Answering;
 
 impl Act for Answering {
-    type Told = Session;
+    type Outcome = Session;
 
     fn act<S: Alter + Drop>(self, alloc: Global, conn: Connection<S>) -> (Session, Connection<S>) {
-        let mut is_memory_told = false;
-        match begun_in_the_end(alloc, conn, &mut is_memory_told) {
+        let mut is_memory_reported = false;
+        match begun_in_the_end(alloc, conn, &mut is_memory_reported) {
             Ok(mut book) => {
-                let heard = ask_all(alloc, &mut book, &mut is_memory_told);
+                let heard = ask_all(alloc, &mut book, &mut is_memory_reported);
                 let mut conn = book.into_connection();
                 let rows = contents::rows_of(alloc, &mut conn);
                 let session = Session {
                     heard,
-                    is_memory_told,
+                    is_memory_reported,
                     rows,
                 };
                 (session, conn)
             }
-            Err((why, conn)) => (without_book(alloc, why, is_memory_told), conn),
+            Err((why, conn)) => (without_book(alloc, why, is_memory_reported), conn),
         }
     }
 }
 
 /// Whether the rows are those of a run with all memory.
-fn are_rows_well(alloc: Global, rows: &str) -> Result<bool, Untold> {
+fn are_rows_well(alloc: Global, rows: &str) -> Result<bool, Fault> {
     let states = states(alloc)?;
     match states.last() {
         Some(last) => Ok(last.as_str() == rows),
@@ -183,17 +183,21 @@ fn are_rows_well(alloc: Global, rows: &str) -> Result<bool, Untold> {
     }
 }
 
-/// How all was answered, and how out of memory was reported.
-fn heard(told: &mut Told, session: &Session) -> Result<Heard, Untold> {
-    told.memory |= session.is_memory_told;
+/// How all was answered; how out of memory was reported is noted.
+fn note_session(reports: &mut MemoryReports, session: &Session) -> Result<Heard, Fault> {
+    reports.memory |= session.is_memory_reported;
     let heard = session.heard?;
-    told.store |= heard == Heard::Stopped;
+    reports.store |= heard == Heard::Stopped;
     Ok(heard)
 }
 
 /// Whether all is answered as always and the rows are there; nothing where the files are to be opened again.
-fn is_as_always(alloc: Global, told: &mut Told, session: &Session) -> Result<Option<bool>, Untold> {
-    match heard(told, session)? {
+fn is_as_always(
+    alloc: Global,
+    reports: &mut MemoryReports,
+    session: &Session,
+) -> Result<Option<bool>, Fault> {
+    match note_session(reports, session)? {
         Heard::AsAlways => match &session.rows {
             Ok(rows) => Ok(Some(are_rows_well(alloc, rows)?)),
             Err(fault) => Err(*fault),
@@ -206,21 +210,21 @@ fn is_as_always(alloc: Global, told: &mut Told, session: &Session) -> Result<Opt
 /// Whether a session has ended all; nothing where the files are to be opened again.
 fn ended_if_held(
     alloc: Global,
-    told: &mut Told,
+    reports: &mut MemoryReports,
     session: Option<Session>,
-) -> Result<Option<bool>, Untold> {
+) -> Result<Option<bool>, Fault> {
     match session {
-        Some(session) => is_as_always(alloc, told, &session),
+        Some(session) => is_as_always(alloc, reports, &session),
         None => Ok(None),
     }
 }
 
 /// Whether a book in new files answers all commands, and has their rows.
-pub fn is_answered<D: Stops>(alloc: Global, told: &mut Told) -> Result<bool, Untold> {
+pub fn is_answered<D: Stops>(alloc: Global, reports: &mut MemoryReports) -> Result<bool, Fault> {
     let mut files = taking::<D>(alloc, Stopped::Log, u64::MAX);
     for _ in 0..MOST_OPENINGS {
         let (session, left) = with_opened(alloc, files, Answering);
-        if let Some(is_well) = ended_if_held(alloc, told, session)? {
+        if let Some(is_well) = ended_if_held(alloc, reports, session)? {
             return Ok(is_well);
         }
         files = after_restart(alloc, left, Left::Written);

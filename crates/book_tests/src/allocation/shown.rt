@@ -1,6 +1,6 @@
 //! All that a book shows of two members and two pairings, a member's limits, its exceedances and its lists, as one text.
 
-use crate::fault::Untold;
+use crate::fault::Fault;
 use book::{Book, Show};
 use duty::{CrewId, PairingId};
 use limits_report::limits_text;
@@ -34,7 +34,7 @@ const REPORTS: [Report; 9] = [
 ];
 
 /// What the book is asked to show.
-fn show_of(alloc: Global, report: Report) -> Result<Show, Untold> {
+fn show_of(alloc: Global, report: Report) -> Result<Show, Fault> {
     Ok(match report {
         Report::Member(id) => Show::Crew(CrewId::new(Text::new(String::from_str(alloc, id)?))),
         Report::Limits(id, with) => Show::Limits {
@@ -59,9 +59,9 @@ fn as_report(text: Result<String, MemoryFault>) -> Result<String, ReportFault> {
 }
 
 /// The text of what is shown; nothing of a member or a pairing that isn't there.
-fn text_of<S: Alter>(alloc: Global, book: &mut Book<S>, what: &Show) -> Result<String, Untold> {
+fn text_of<S: Alter>(alloc: Global, book: &mut Book<S>, what: &Show) -> Result<String, Fault> {
     let Ok(roster) = book.show(alloc, what) else {
-        return Err(Untold::Memory);
+        return Err(Fault::Memory);
     };
     let text = match what {
         Show::Crew(who) => roster_text(alloc, &roster, who),
@@ -74,13 +74,13 @@ fn text_of<S: Alter>(alloc: Global, book: &mut Book<S>, what: &Show) -> Result<S
     drop(roster);
     match text {
         Ok(text) => Ok(text),
-        Err(ReportFault::Memory) => Err(Untold::Memory),
+        Err(ReportFault::Memory) => Err(Fault::Memory),
         Err(_) => Ok(String::new(alloc)),
     }
 }
 
 /// All that a book shows.
-pub fn read_all<S: Alter>(alloc: Global, book: &mut Book<S>) -> Result<String, Untold> {
+pub fn read_all<S: Alter>(alloc: Global, book: &mut Book<S>) -> Result<String, Fault> {
     let mut all = String::new(alloc);
     for report in REPORTS {
         let what = show_of(alloc, report)?;

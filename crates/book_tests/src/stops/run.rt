@@ -1,7 +1,7 @@
 //! A book in files that is asked the commands, and what is found in the files when they are opened again.
 
 use crate::contents::rows_of;
-use crate::fault::Untold;
+use crate::fault::Fault;
 use crate::opening::create;
 use crate::requests::{CAPTAIN, requests};
 use crate::stops::states::{ANSWERS, COMMANDS, FIRST, IMPORT, command_at, is_part, pairings};
@@ -15,13 +15,13 @@ use values::Text;
 
 /// What is done with a database in files while they are open.
 pub trait Act: Copy {
-    type Told;
+    type Outcome;
 
     fn act<S: Alter + Drop>(
         self,
         alloc: Global,
         conn: Connection<S>,
-    ) -> (Self::Told, Connection<S>);
+    ) -> (Self::Outcome, Connection<S>);
 }
 
 /// How a command is answered.
@@ -44,7 +44,7 @@ pub enum Reached {
     /// So many commands were answered as in a run without a stop, and if these weren't all, each further call by 90.
     Answered(usize),
     /// A stop was reported otherwise than as 90, or a further call was answered.
-    ToldOtherwise,
+    OtherwiseReported,
 }
 
 /// How the command at this place is answered.
@@ -63,16 +63,16 @@ fn compare(at: usize, answer: &Result<Answer, StoreFault>) -> Heard {
 }
 
 /// Asks a book the command at this place, which is no part of the import.
-pub fn ask<S: Alter>(alloc: Global, book: &mut Book<S>, at: usize) -> Result<Heard, Untold> {
+pub fn ask<S: Alter>(alloc: Global, book: &mut Book<S>, at: usize) -> Result<Heard, Fault> {
     let (key, command) = command_at(alloc, at)?;
     Ok(compare(at, &book.ask(alloc, key, &command)))
 }
 
 /// The import, whose parts come next.
-pub fn import<S: Alter>(alloc: Global) -> Result<Import, Untold> {
+pub fn import<S: Alter>(alloc: Global) -> Result<Import, Fault> {
     let pairings = pairings(alloc)?;
     if pairings.len() > 10_000 {
-        return Err(Untold::Unmade);
+        return Err(Fault::Unmade);
     }
     Ok(Book::<S>::import(IMPORT, pairings))
 }
@@ -95,7 +95,7 @@ fn play<S: Alter>(
     alloc: Global,
     book: &mut Book<S>,
     count: usize,
-) -> Result<(usize, Heard), Untold> {
+) -> Result<(usize, Heard), Fault> {
     let mut import = import::<S>(alloc)?;
     for at in 0..count {
         let heard = if is_part(at) {
@@ -121,7 +121,7 @@ fn shows_no<S: Alter>(alloc: Global, book: &mut Book<S>, show: Show) -> bool {
 }
 
 /// Whether a book shows nothing more.
-fn shows_nothing<S: Alter>(alloc: Global, book: &mut Book<S>) -> Result<bool, Untold> {
+fn shows_nothing<S: Alter>(alloc: Global, book: &mut Book<S>) -> Result<bool, Fault> {
     let crew = CrewId::new(Text::new(String::from_str(alloc, "C1")?));
     let shows_no_crew = shows_no(alloc, book, Show::Crew(crew));
     let pairing = PairingId::new(Text::new(String::from_str(alloc, "P10")?));
@@ -136,7 +136,7 @@ fn shows_nothing<S: Alter>(alloc: Global, book: &mut Book<S>) -> Result<bool, Un
 }
 
 /// Whether each command is answered 90.
-fn asks_nothing<S: Alter>(alloc: Global, book: &mut Book<S>) -> Result<bool, Untold> {
+fn asks_nothing<S: Alter>(alloc: Global, book: &mut Book<S>) -> Result<bool, Fault> {
     for at in 0..COMMANDS {
         if !is_part(at) && ask(alloc, book, at)? != Heard::Stopped {
             return Ok(false);
@@ -147,7 +147,7 @@ fn asks_nothing<S: Alter>(alloc: Global, book: &mut Book<S>) -> Result<bool, Unt
 }
 
 /// Whether a run is answered 90 at once, be it of no command.
-fn runs_nothing<S: Alter>(alloc: Global, book: &mut Book<S>) -> Result<bool, Untold> {
+fn runs_nothing<S: Alter>(alloc: Global, book: &mut Book<S>) -> Result<bool, Fault> {
     let list = requests(alloc, &[(1, CAPTAIN)])?;
     let Run { answers, fault } = book.run(alloc, &list);
     let of_none = book.run(alloc, &[]).fault;
@@ -155,7 +155,7 @@ fn runs_nothing<S: Alter>(alloc: Global, book: &mut Book<S>) -> Result<bool, Unt
 }
 
 /// Whether every further call of a book is answered 90.
-fn is_closed<S: Alter>(alloc: Global, book: &mut Book<S>) -> Result<bool, Untold> {
+fn is_closed<S: Alter>(alloc: Global, book: &mut Book<S>) -> Result<bool, Fault> {
     Ok(
         book.has_failed()
             && shows_nothing(alloc, book)?
@@ -165,7 +165,7 @@ fn is_closed<S: Alter>(alloc: Global, book: &mut Book<S>) -> Result<bool, Untold
 }
 
 /// How far a book comes with this many of the first commands.
-fn far_come<S: Alter>(alloc: Global, book: &mut Book<S>, count: usize) -> Result<Reached, Untold> {
+fn far_come<S: Alter>(alloc: Global, book: &mut Book<S>, count: usize) -> Result<Reached, Fault> {
     let (answered, last) = play(alloc, book, count)?;
     let is_told = match last {
         Heard::AsAlways => true,
@@ -175,16 +175,16 @@ fn far_come<S: Alter>(alloc: Global, book: &mut Book<S>, count: usize) -> Result
     Ok(if is_told {
         Reached::Answered(answered)
     } else {
-        Reached::ToldOtherwise
+        Reached::OtherwiseReported
     })
 }
 
 /// How far a run came whose book was not made, which is to be reported as 90.
-fn not_made(told: Result<String, Untold>) -> Reached {
-    if told.is_ok_and(|text| text.as_str() == "90 Store\n") {
+fn not_made(report: Result<String, Fault>) -> Reached {
+    if report.is_ok_and(|text| text.as_str() == "90 Store\n") {
         Reached::NoBook
     } else {
-        Reached::ToldOtherwise
+        Reached::OtherwiseReported
     }
 }
 
@@ -195,16 +195,16 @@ pub struct Asking {
 }
 
 impl Act for Asking {
-    type Told = Reached;
+    type Outcome = Reached;
 
     fn act<S: Alter + Drop>(self, alloc: Global, conn: Connection<S>) -> (Reached, Connection<S>) {
         match create(alloc, conn) {
             Ok(mut book) => {
                 let reached = far_come(alloc, &mut book, self.count);
-                let reached = reached.unwrap_or(Reached::ToldOtherwise);
+                let reached = reached.unwrap_or(Reached::OtherwiseReported);
                 (reached, book.into_connection())
             }
-            Err((told, conn)) => (not_made(told), conn),
+            Err((report, conn)) => (not_made(report), conn),
         }
     }
 }
@@ -232,7 +232,7 @@ pub struct Lowering;
 
 impl Act for Lowering {
     /// Whether it is so.
-    type Told = bool;
+    type Outcome = bool;
 
     fn act<S: Alter + Drop>(self, alloc: Global, conn: Connection<S>) -> (bool, Connection<S>) {
         match create(alloc, conn) {
@@ -250,11 +250,11 @@ impl Act for Lowering {
 #[derive(Drop)]
 pub struct Again {
     /// The rows that are there.
-    pub held: Result<String, Untold>,
+    pub held: Result<String, Fault>,
     /// Whether each command is answered as in a run without a stop.
     pub is_answered: bool,
     /// The rows at the end.
-    pub ended: Result<String, Untold>,
+    pub ended: Result<String, Fault>,
 }
 
 /// Takes up the book that is there, or makes one, and asks it all commands.
@@ -267,7 +267,7 @@ fn answers_first<S: Alter>(alloc: Global, book: &mut Book<S>, count: usize) -> b
 }
 
 impl Act for HandedInAgain {
-    type Told = Again;
+    type Outcome = Again;
 
     fn act<S: Alter + Drop>(
         self,
@@ -305,7 +305,7 @@ pub enum Taken {
 pub struct TakingUp;
 
 impl Act for TakingUp {
-    type Told = Taken;
+    type Outcome = Taken;
 
     fn act<S: Alter + Drop>(self, alloc: Global, conn: Connection<S>) -> (Taken, Connection<S>) {
         if !conn.is_autocommit() {
@@ -324,14 +324,14 @@ pub fn with_opened<D: Disk + Drop, A: Act>(
     alloc: Global,
     files: Files<D>,
     act: A,
-) -> (Option<A::Told>, Files<D>) {
+) -> (Option<A::Outcome>, Files<D>) {
     if !files.may_be_used() {
         return (None, files);
     }
     match Connection::open_files(alloc, files, Options::new(7)) {
         Ok(conn) => {
-            let (told, conn) = act.act(alloc, conn);
-            (Some(told), conn.into_store().close())
+            let (outcome, conn) = act.act(alloc, conn);
+            (Some(outcome), conn.into_store().close())
         }
         Err((_error, left)) => (None, left.into_files()),
     }

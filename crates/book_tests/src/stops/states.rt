@@ -2,7 +2,7 @@
 //! 2000-01-01T00:00Z.
 
 use crate::contents::in_order;
-use crate::fault::Untold;
+use crate::fault::Fault;
 use crate::requests::{CAPTAIN, OFFICER, key, plan};
 use command::{Command, Instruction, Key};
 use duty::Pairing;
@@ -79,15 +79,15 @@ const OTHER: Planned = Planned {
 };
 
 /// The pairing that a command adds.
-fn pairing_of(alloc: Global, command: &Command) -> Result<Pairing, Untold> {
+fn pairing_of(alloc: Global, command: &Command) -> Result<Pairing, Fault> {
     match command.instruction() {
         Instruction::AddPairing(pairing) => Ok(pairing.try_clone(alloc)?),
-        _ => Err(Untold::Unmade),
+        _ => Err(Fault::Unmade),
     }
 }
 
 /// The pairing of a plan.
-fn pairing(alloc: Global, planned: &Planned) -> Result<Pairing, Untold> {
+fn pairing(alloc: Global, planned: &Planned) -> Result<Pairing, Fault> {
     let text = plan(alloc, planned.id, planned.times)?;
     let command = read_canonical(alloc, text.as_str())?;
     let pairing = pairing_of(alloc, &command);
@@ -101,7 +101,7 @@ pub fn is_part(at: usize) -> bool {
 }
 
 /// The pairings of the import.
-pub fn pairings(alloc: Global) -> Result<Vec<Pairing>, Untold> {
+pub fn pairings(alloc: Global) -> Result<Vec<Pairing>, Fault> {
     let mut pairings = Vec::new(alloc);
     for planned in [P10, OTHER, P30] {
         pairings.push(pairing(alloc, &planned)?)?;
@@ -110,7 +110,7 @@ pub fn pairings(alloc: Global) -> Result<Vec<Pairing>, Untold> {
 }
 
 /// The number and the text of the command at this place, where it is no part of the import.
-fn numbered_text(alloc: Global, at: usize) -> Result<(u8, String), Untold> {
+fn numbered_text(alloc: Global, at: usize) -> Result<(u8, String), Fault> {
     let (number, text) = match at {
         0 => (1, CAPTAIN),
         5 => (3, ASSIGNED),
@@ -125,7 +125,7 @@ fn numbered_text(alloc: Global, at: usize) -> Result<(u8, String), Untold> {
 }
 
 /// The command at this place with its key, where it is no part of the import.
-pub fn command_at(alloc: Global, at: usize) -> Result<(Key, Command), Untold> {
+pub fn command_at(alloc: Global, at: usize) -> Result<(Key, Command), Fault> {
     let (number, text) = numbered_text(alloc, at)?;
     Ok((key(number), read_canonical(alloc, text.as_str())?))
 }
@@ -136,7 +136,7 @@ fn request_row(
     key: &str,
     command: &str,
     exceedances: &str,
-) -> Result<String, Untold> {
+) -> Result<String, Fault> {
     Ok(format!(in alloc;
         "request {key}|{command}|{{\"exceedances\":[{exceedances}],\"result\":\"accepted\"}}"
     )?)
@@ -148,7 +148,7 @@ fn add_pairing(
     planned: &Planned,
     key: &str,
     lines: &mut Vec<String>,
-) -> Result<(), Untold> {
+) -> Result<(), Fault> {
     let id = planned.id;
     lines.push(format!(in alloc; "pairing {id}")?)?;
     let text = plan(alloc, id, planned.times)?;
@@ -162,7 +162,7 @@ fn add_times(
     planned: &Planned,
     [period, segment]: [&str; 2],
     lines: &mut Vec<String>,
-) -> Result<(), Untold> {
+) -> Result<(), Fault> {
     let (id, day) = (planned.id, planned.day);
     let (report, release) = (day.saturating_add(660), day.saturating_add(1_200));
     let (out, land) = (day.saturating_add(720), day.saturating_add(1_170));
@@ -264,13 +264,13 @@ const OUTSIDE: [(usize, &[&str]); 2] = [
 const ADDED: [(usize, Planned, &str); 3] = [(2, P20, "2|0"), (3, P10, "500|1"), (5, P30, "500|3")];
 
 /// Adds a row.
-fn add(alloc: Global, row: &str, lines: &mut Vec<String>) -> Result<(), Untold> {
+fn add(alloc: Global, row: &str, lines: &mut Vec<String>) -> Result<(), Fault> {
     lines.push(String::from_str(alloc, row)?)?;
     Ok(())
 }
 
 /// Adds rows.
-fn add_each(alloc: Global, rows: &[&str], lines: &mut Vec<String>) -> Result<(), Untold> {
+fn add_each(alloc: Global, rows: &[&str], lines: &mut Vec<String>) -> Result<(), Fault> {
     for row in rows {
         add(alloc, row, lines)?;
     }
@@ -278,7 +278,7 @@ fn add_each(alloc: Global, rows: &[&str], lines: &mut Vec<String>) -> Result<(),
 }
 
 /// Adds the rows of a command that adds no pairing.
-fn add_kept(alloc: Global, kept: &Kept, lines: &mut Vec<String>) -> Result<(), Untold> {
+fn add_kept(alloc: Global, kept: &Kept, lines: &mut Vec<String>) -> Result<(), Fault> {
     add_each(alloc, kept.rows, lines)?;
     lines.push(request_row(alloc, kept.key, kept.text, kept.exceedances)?)?;
     Ok(())
@@ -291,14 +291,14 @@ fn add_planned(
     key: &str,
     count: usize,
     lines: &mut Vec<String>,
-) -> Result<(), Untold> {
+) -> Result<(), Fault> {
     let is_flown = planned.day == P10.day && count >= 9;
     add_times(alloc, planned, if is_flown { LATE } else { PLANNED }, lines)?;
     add_pairing(alloc, planned, key, lines)
 }
 
 /// Adds the rows after this many commands.
-fn add_rows(alloc: Global, count: usize, lines: &mut Vec<String>) -> Result<(), Untold> {
+fn add_rows(alloc: Global, count: usize, lines: &mut Vec<String>) -> Result<(), Fault> {
     add(alloc, "book 1|2|EST5EDT,M3.2.0,M11.1.0", lines)?;
     add(alloc, "base HOME|EST5EDT,M3.2.0,M11.1.0", lines)?;
     for kept in &KEPT {
@@ -320,14 +320,14 @@ fn add_rows(alloc: Global, count: usize, lines: &mut Vec<String>) -> Result<(), 
 }
 
 /// The rows after this many commands.
-fn after(alloc: Global, count: usize) -> Result<String, Untold> {
+fn after(alloc: Global, count: usize) -> Result<String, Fault> {
     let mut lines = Vec::new(alloc);
     add_rows(alloc, count, &mut lines)?;
     in_order(alloc, lines)
 }
 
 /// No tables, the rows of the empty book, and the rows after each command.
-pub fn states(alloc: Global) -> Result<Vec<String>, Untold> {
+pub fn states(alloc: Global) -> Result<Vec<String>, Fault> {
     let mut states = Vec::new(alloc);
     states.push(String::new(alloc))?;
     for count in 0..=COMMANDS {
@@ -342,7 +342,7 @@ fn is_later(row: &str) -> bool {
 }
 
 /// The rows in a book of version 1 after the commands that it can keep.
-pub fn first(alloc: Global) -> Result<String, Untold> {
+pub fn first(alloc: Global) -> Result<String, Fault> {
     let mut later = Vec::new(alloc);
     add_rows(alloc, FIRST, &mut later)?;
     let mut lines = Vec::new(alloc);

@@ -1,7 +1,7 @@
 //! What grows by one value at a time, or stays as it is: a table, a text, a history.
 
+use crate::allocation::reports::MemoryReports;
 use crate::allocation::same::are_tables_same;
-use crate::allocation::told::Told;
 use crate::fault::Fault;
 use crate::requests::{DUTIES, eastern, key, requests};
 use command::{Command, Instruction, Key};
@@ -14,13 +14,13 @@ use values::{MemoryFault, OrdMap, TryClone};
 
 /// Gives a key a number. A table that finds no memory has to be as this other one, which is given it next.
 fn fill_in(
-    told: &mut Told,
+    reports: &mut MemoryReports,
     table: &mut OrdMap<Key, u8>,
     other: &mut OrdMap<Key, u8>,
     number: u8,
 ) -> Result<(), Fault> {
     if table.insert(key(number), number).is_err() {
-        told.memory = true;
+        reports.memory = true;
         if !are_tables_same(table, other) {
             return Err(Fault::Changed);
         }
@@ -32,12 +32,12 @@ fn fill_in(
 
 fn fill_both(
     alloc: Global,
-    told: &mut Told,
+    reports: &mut MemoryReports,
     table: &mut OrdMap<Key, u8>,
     other: &mut OrdMap<Key, u8>,
 ) -> Result<String, Fault> {
     for number in 0..=u8::MAX {
-        fill_in(told, table, other, number.wrapping_mul(37))?;
+        fill_in(reports, table, other, number.wrapping_mul(37))?;
     }
     if are_tables_same(table, other) {
         Ok(format!(in alloc; "{} keys", table.len())?)
@@ -47,10 +47,10 @@ fn fill_both(
 }
 
 /// Fills a table, whose keys come in no order.
-pub fn fill(alloc: Global, told: &mut Told) -> Result<String, Fault> {
+pub fn fill(alloc: Global, reports: &mut MemoryReports) -> Result<String, Fault> {
     let mut table = OrdMap::new(alloc);
     let mut other = OrdMap::new(alloc);
-    let text = fill_both(alloc, told, &mut table, &mut other);
+    let text = fill_both(alloc, reports, &mut table, &mut other);
     drop(table);
     drop(other);
     text
@@ -70,13 +70,13 @@ fn is_written(text: &[u8], times: usize) -> bool {
 
 /// Writes the instant behind this many.
 fn write_behind(
-    told: &mut Told,
+    reports: &mut MemoryReports,
     minute: Minute,
     text: &mut Vec<u8>,
     times: usize,
 ) -> Result<(), Fault> {
     if minute.write(text).is_err() {
-        told.memory = true;
+        reports.memory = true;
         if !is_written(text, times) {
             return Err(Fault::Changed);
         }
@@ -86,13 +86,13 @@ fn write_behind(
 }
 
 /// Writes an instant ten times.
-pub fn write(alloc: Global, told: &mut Told) -> Result<String, Fault> {
+pub fn write(alloc: Global, reports: &mut MemoryReports) -> Result<String, Fault> {
     let Ok(minute) = Minute::read(INSTANT.as_bytes()) else {
         return Err(Fault::Unmade);
     };
     let mut text = Vec::new(alloc);
     for times in 0..10 {
-        write_behind(told, minute, &mut text, times)?;
+        write_behind(reports, minute, &mut text, times)?;
     }
     if !is_written(&text, 10) {
         return Err(Fault::Otherwise);
@@ -137,14 +137,14 @@ fn duty(alloc: Global, command: &Command) -> Result<Option<Duty>, MemoryFault> {
 
 fn add(
     alloc: Global,
-    told: &mut Told,
+    reports: &mut MemoryReports,
     history: &mut History,
     duty: &Duty,
     zone: &Zone,
 ) -> Result<(), Fault> {
     let before = minutes_of(history);
     if history.insert(alloc, duty.try_clone(alloc)?, zone).is_err() {
-        told.memory = true;
+        reports.memory = true;
         if minutes_of(history) != before {
             return Err(Fault::Changed);
         }
@@ -156,7 +156,7 @@ fn add(
 /// Adds the duty of a command.
 fn add_of(
     alloc: Global,
-    told: &mut Told,
+    reports: &mut MemoryReports,
     history: &mut History,
     command: &Command,
     zone: &Zone,
@@ -164,20 +164,20 @@ fn add_of(
     let Some(duty) = duty(alloc, command)? else {
         return Err(Fault::Unmade);
     };
-    let added = add(alloc, told, history, &duty, zone);
+    let added = add(alloc, reports, history, &duty, zone);
     drop(duty);
     added
 }
 
 fn add_all(
     alloc: Global,
-    told: &mut Told,
+    reports: &mut MemoryReports,
     history: &mut History,
     commands: &[(Key, Command)],
 ) -> Result<String, Fault> {
     let zone = eastern(alloc)?;
     for (_key, command) in commands {
-        add_of(alloc, told, history, command, &zone)?;
+        add_of(alloc, reports, history, command, &zone)?;
     }
     let Minutes {
         duties,
@@ -191,10 +191,10 @@ fn add_all(
 }
 
 /// Adds duties to a history.
-pub fn insert(alloc: Global, told: &mut Told) -> Result<String, Fault> {
+pub fn insert(alloc: Global, reports: &mut MemoryReports) -> Result<String, Fault> {
     let commands = requests(alloc, &DUTIES)?;
     let mut history = History::empty(alloc);
-    let text = add_all(alloc, told, &mut history, &commands);
+    let text = add_all(alloc, reports, &mut history, &commands);
     drop(history);
     text
 }

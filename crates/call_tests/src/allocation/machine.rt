@@ -5,8 +5,8 @@ ghost use Rattle.std.specs.FinMap as fin;
 ghost use Rattle.command.specs.Keys.{key_name};
 ghost use Rattle.roster.specs.Steps.{IsUnderFreeKey};
 
+use crate::allocation::reports::MemoryReports;
 use crate::allocation::same::{are_rosters_same, is_base_same};
-use crate::allocation::told::Told;
 use crate::fault::Fault;
 use crate::requests::{REQUESTS, eastern, requests};
 use command::{Command, Key};
@@ -22,7 +22,7 @@ pub fn empty(alloc: Global) -> Result<Roster, Fault> {
 /// The verdict on a command, asked for twice where there is no memory.
 fn verdict_on(
     alloc: Global,
-    told: &mut Told,
+    reports: &mut MemoryReports,
     roster: &Roster,
     key: Key,
     command: &Command,
@@ -32,7 +32,7 @@ fn verdict_on(
     match roster.step(alloc, key, command) {
         Ok(verdict) => Ok(verdict),
         Err(_) => {
-            told.memory = true;
+            reports.memory = true;
             roster.step(alloc, key, command)
         }
     }
@@ -41,7 +41,7 @@ fn verdict_on(
 /// Makes a change in a roster, which has to be as the other one until it is made.
 fn change(
     alloc: Global,
-    told: &mut Told,
+    reports: &mut MemoryReports,
     roster: &mut Roster,
     other: &Roster,
     change: &Change,
@@ -49,7 +49,7 @@ fn change(
     requires { fin.get roster.old.requests (key_name change.now.key) ≡ None }
 {
     if roster.apply(alloc, change).is_err() {
-        told.memory = true;
+        reports.memory = true;
         if !are_rosters_same(roster, other) || !is_base_same(roster, other, &change.command) {
             return Err(Fault::Changed);
         }
@@ -61,7 +61,7 @@ fn change(
 /// Makes what is accepted.
 fn make(
     alloc: Global,
-    told: &mut Told,
+    reports: &mut MemoryReports,
     roster: &mut Roster,
     other: &Roster,
     verdict: &Verdict,
@@ -69,7 +69,7 @@ fn make(
     requires { IsUnderFreeKey roster.old verdict.now }
 {
     match verdict {
-        Verdict::Accept(accepted, _reply) => change(alloc, told, roster, other, accepted),
+        Verdict::Accept(accepted, _reply) => change(alloc, reports, roster, other, accepted),
         Verdict::Repeat(_) | Verdict::Refuse(_) => Ok(()),
     }
 }
@@ -113,7 +113,7 @@ fn mark(alloc: Global, verdict: &Verdict, marks: &mut String) -> Result<(), Faul
 /// Marks a verdict, and makes what is accepted.
 fn answer(
     alloc: Global,
-    told: &mut Told,
+    reports: &mut MemoryReports,
     roster: &mut Roster,
     other: &Roster,
     verdict: &Verdict,
@@ -122,20 +122,20 @@ fn answer(
     requires { IsUnderFreeKey roster.old verdict.now }
 {
     mark(alloc, verdict, marks)?;
-    make(alloc, told, roster, other, verdict)
+    make(alloc, reports, roster, other, verdict)
 }
 
 /// Asks a command of a roster, and then of the other one, which follows it.
 fn ask(
     alloc: Global,
-    told: &mut Told,
+    reports: &mut MemoryReports,
     roster: &mut Roster,
     other: &mut Roster,
     (key, command): &(Key, Command),
     marks: &mut String,
 ) -> Result<(), Fault> {
-    let verdict = verdict_on(alloc, told, roster, *key, command)?;
-    let answered = answer(alloc, told, roster, other, &verdict, marks);
+    let verdict = verdict_on(alloc, reports, roster, *key, command)?;
+    let answered = answer(alloc, reports, roster, other, &verdict, marks);
     drop(verdict);
     answered?;
     Ok(follow(alloc, other, *key, command)?)
@@ -143,14 +143,14 @@ fn ask(
 
 fn ask_all(
     alloc: Global,
-    told: &mut Told,
+    reports: &mut MemoryReports,
     roster: &mut Roster,
     other: &mut Roster,
     requests: &[(Key, Command)],
 ) -> Result<String, Fault> {
     let mut marks = String::new(alloc);
     for request in requests {
-        ask(alloc, told, roster, other, request, &mut marks)?;
+        ask(alloc, reports, roster, other, request, &mut marks)?;
     }
     if are_rosters_same(roster, other) {
         Ok(marks)
@@ -162,21 +162,21 @@ fn ask_all(
 /// Asks a roster, which a new one follows.
 fn ask_with(
     alloc: Global,
-    told: &mut Told,
+    reports: &mut MemoryReports,
     roster: &mut Roster,
     requests: &[(Key, Command)],
 ) -> Result<String, Fault> {
     let mut other = empty(alloc)?;
-    let marks = ask_all(alloc, told, roster, &mut other, requests);
+    let marks = ask_all(alloc, reports, roster, &mut other, requests);
     drop(other);
     marks
 }
 
 /// Has a new roster answer all requests.
-pub fn step(alloc: Global, told: &mut Told) -> Result<String, Fault> {
+pub fn step(alloc: Global, reports: &mut MemoryReports) -> Result<String, Fault> {
     let requests = requests(alloc, &REQUESTS)?;
     let mut roster = empty(alloc)?;
-    let marks = ask_with(alloc, told, &mut roster, &requests);
+    let marks = ask_with(alloc, reports, &mut roster, &requests);
     drop(roster);
     marks
 }

@@ -1,6 +1,6 @@
 //! What the tests try.
 
-use crate::allocation::told::Told;
+use crate::allocation::reports::MemoryReports;
 use crate::allocation::{entries, growing, machine, texts};
 use crate::fault::Fault;
 use std::alloc::Global;
@@ -28,16 +28,16 @@ pub enum Part {
 
 impl Part {
     /// Tries its calls.
-    pub fn try_once(self, alloc: Global, told: &mut Told) -> Result<String, Fault> {
+    pub fn try_once(self, alloc: Global, reports: &mut MemoryReports) -> Result<String, Fault> {
         match self {
-            Part::OrdMap => growing::fill(alloc, told),
-            Part::Write => growing::write(alloc, told),
-            Part::Insert => growing::insert(alloc, told),
-            Part::Step => machine::step(alloc, told),
-            Part::Put => entries::put(alloc, told),
-            Part::Canonical => texts::canonical(alloc, told),
-            Part::Report => texts::report_all(alloc, told),
-            Part::Schedule => texts::schedule(alloc, told),
+            Part::OrdMap => growing::fill(alloc, reports),
+            Part::Write => growing::write(alloc, reports),
+            Part::Insert => growing::insert(alloc, reports),
+            Part::Step => machine::step(alloc, reports),
+            Part::Put => entries::put(alloc, reports),
+            Part::Canonical => texts::canonical(alloc, reports),
+            Part::Report => texts::report_all(alloc, reports),
+            Part::Schedule => texts::schedule(alloc, reports),
         }
     }
 }

@@ -1,7 +1,7 @@
 //! Texts that are made, and texts that are read. Such a call changes nothing, so it can only be made again.
 
 use crate::allocation::machine::last_state;
-use crate::allocation::told::Told;
+use crate::allocation::reports::MemoryReports;
 use crate::fault::Fault;
 use crate::requests::{REQUESTS, requests};
 use codec::schedule_of_csv;
@@ -20,14 +20,14 @@ use values::MemoryFault;
 /// Whether this is the kept text of a command.
 fn is_kept_text(
     alloc: Global,
-    told: &mut Told,
+    reports: &mut MemoryReports,
     command: &Command,
     kept: &str,
 ) -> Result<bool, MemoryFault> {
     let text = match stored_json::canonical(alloc, command) {
         Ok(text) => text,
         Err(_) => {
-            told.memory = true;
+            reports.memory = true;
             stored_json::canonical(alloc, command)?
         }
     };
@@ -35,10 +35,10 @@ fn is_kept_text(
 }
 
 /// Writes commands of all eleven kinds.
-pub fn canonical(alloc: Global, told: &mut Told) -> Result<String, Fault> {
+pub fn canonical(alloc: Global, reports: &mut MemoryReports) -> Result<String, Fault> {
     let requests = requests(alloc, &REQUESTS)?;
     for ((_key, command), (_number, kept)) in requests.iter().zip(REQUESTS.iter()) {
-        if !is_kept_text(alloc, told, command, kept)? {
+        if !is_kept_text(alloc, reports, command, kept)? {
             return Err(Fault::Otherwise);
         }
     }
@@ -80,14 +80,14 @@ fn report_once(alloc: Global, roster: &Roster, report: Report<'_>) -> Result<Str
 /// Adds a report.
 fn add_report(
     alloc: Global,
-    told: &mut Told,
+    reports: &mut MemoryReports,
     roster: &Roster,
     report: Report<'_>,
     text: &mut String,
 ) -> Result<(), Fault> {
     let made = match report_once(alloc, roster, report) {
         Err(ReportFault::Memory) => {
-            told.memory = true;
+            reports.memory = true;
             report_once(alloc, roster, report)?
         }
         made => made?,
@@ -97,14 +97,18 @@ fn add_report(
 }
 
 /// Makes the reports of all members and all pairings, that of the exceedances, and the lists.
-fn reports(alloc: Global, told: &mut Told, roster: &Roster) -> Result<String, Fault> {
+fn all_reports(
+    alloc: Global,
+    reports: &mut MemoryReports,
+    roster: &Roster,
+) -> Result<String, Fault> {
     let mut text = String::new(alloc);
     for (who, _member) in roster.crew.iter() {
-        add_report(alloc, told, roster, Report::Member(who), &mut text)?;
-        add_report(alloc, told, roster, Report::Limits(who), &mut text)?;
+        add_report(alloc, reports, roster, Report::Member(who), &mut text)?;
+        add_report(alloc, reports, roster, Report::Limits(who), &mut text)?;
     }
     for (id, _rostered) in roster.pairings.iter() {
-        add_report(alloc, told, roster, Report::Pairing(id), &mut text)?;
+        add_report(alloc, reports, roster, Report::Pairing(id), &mut text)?;
     }
     for report in [
         Report::Exceedances,
@@ -112,15 +116,15 @@ fn reports(alloc: Global, told: &mut Told, roster: &Roster) -> Result<String, Fa
         Report::Pairings(Listed::All),
         Report::Pairings(Listed::Open),
     ] {
-        add_report(alloc, told, roster, report, &mut text)?;
+        add_report(alloc, reports, roster, report, &mut text)?;
     }
     Ok(text)
 }
 
 /// Makes all reports of a roster.
-pub fn report_all(alloc: Global, told: &mut Told) -> Result<String, Fault> {
+pub fn report_all(alloc: Global, reports: &mut MemoryReports) -> Result<String, Fault> {
     let roster = last_state(alloc)?;
-    let text = reports(alloc, told, &roster);
+    let text = all_reports(alloc, reports, &roster);
     drop(roster);
     text
 }
@@ -141,10 +145,14 @@ const DAMAGED: &str = "pairing,period,report,release,flight,from,out,to,in\n\
     P20,1,2025-06-31T06:30Z,2025-06-21T11:00Z,RB1,BOS,2025-06-21T07:30Z,IAD,2025-06-21T10:30Z\n";
 
 /// The pairings of a schedule, which is read twice where there is no memory.
-fn read_schedule(alloc: Global, told: &mut Told, text: &str) -> Result<Vec<Pairing>, CodecFault> {
+fn read_schedule(
+    alloc: Global,
+    reports: &mut MemoryReports,
+    text: &str,
+) -> Result<Vec<Pairing>, CodecFault> {
     match schedule_of_csv(alloc, text.as_bytes()) {
         Err(CodecFault::Memory) => {
-            told.memory = true;
+            reports.memory = true;
             schedule_of_csv(alloc, text.as_bytes())
         }
         read => read,
@@ -165,11 +173,11 @@ fn add_pairing(alloc: Global, pairing: &Pairing, text: &mut String) -> Result<()
 /// Adds what a schedule is read as: its pairings, or the record that is at fault.
 fn add_schedule(
     alloc: Global,
-    told: &mut Told,
+    reports: &mut MemoryReports,
     schedule: &str,
     text: &mut String,
 ) -> Result<(), Fault> {
-    match read_schedule(alloc, told, schedule) {
+    match read_schedule(alloc, reports, schedule) {
         Ok(pairings) => {
             for pairing in &pairings {
                 add_pairing(alloc, pairing, text)?;
@@ -185,9 +193,9 @@ fn add_schedule(
 }
 
 /// Reads a schedule, and one that is damaged.
-pub fn schedule(alloc: Global, told: &mut Told) -> Result<String, Fault> {
+pub fn schedule(alloc: Global, reports: &mut MemoryReports) -> Result<String, Fault> {
     let mut text = String::new(alloc);
-    add_schedule(alloc, told, SCHEDULE, &mut text)?;
-    add_schedule(alloc, told, DAMAGED, &mut text)?;
+    add_schedule(alloc, reports, SCHEDULE, &mut text)?;
+    add_schedule(alloc, reports, DAMAGED, &mut text)?;
     Ok(text)
 }

@@ -1,8 +1,8 @@
 //! Calls on the tables of bases, of members' bases and of outside periods: each record that they find is reported as a line.
 
-use crate::fault::Untold;
-use crate::keyed::{Told, in_order, look};
-use crate::making::make_tables;
+use crate::fault::Fault;
+use crate::single_tables::keyed::{AsLine, in_order, look};
+use crate::single_tables::making::make_tables;
 use sqlite::{Alter, Connection};
 use std::alloc::Global;
 use std::test::Fail;
@@ -16,27 +16,27 @@ use tables::outside_segment::{
 };
 use values::Text;
 
-impl Told for BaseRecord {
-    fn line(&self, alloc: Global) -> Result<String, Untold> {
+impl AsLine for BaseRecord {
+    fn line(&self, alloc: Global) -> Result<String, Fault> {
         Ok(format!(in alloc; "{}|{}", self.id.as_str(), self.zone.as_str())?)
     }
 }
 
-impl Told for CrewBaseRecord {
-    fn line(&self, alloc: Global) -> Result<String, Untold> {
+impl AsLine for CrewBaseRecord {
+    fn line(&self, alloc: Global) -> Result<String, Fault> {
         Ok(format!(in alloc; "{}|{}", self.crew.as_str(), self.base.as_str())?)
     }
 }
 
-impl Told for OutsideRecord {
-    fn line(&self, alloc: Global) -> Result<String, Untold> {
+impl AsLine for OutsideRecord {
+    fn line(&self, alloc: Global) -> Result<String, Fault> {
         let (id, crew) = (self.id.as_str(), self.crew.as_str());
         Ok(format!(in alloc; "{id}|{crew}|{}|{}", self.report_at, self.release_at)?)
     }
 }
 
-impl Told for OutsideSegmentRecord {
-    fn line(&self, alloc: Global) -> Result<String, Untold> {
+impl AsLine for OutsideSegmentRecord {
+    fn line(&self, alloc: Global) -> Result<String, Fault> {
         let outside = self.outside.as_str();
         Ok(format!(in alloc; "{outside}|{}|{}|{}", self.number, self.out_at, self.in_at)?)
     }
@@ -63,7 +63,7 @@ enum Search {
     SegmentsOf(&'static str),
 }
 
-fn text(alloc: Global, text: &str) -> Result<Text, Untold> {
+fn text(alloc: Global, text: &str) -> Result<Text, Fault> {
     Ok(Text::new(String::from_str(alloc, text)?))
 }
 
@@ -71,7 +71,7 @@ fn outside(
     alloc: Global,
     (id, crew): (&str, &str),
     (report_at, release_at): (u32, u32),
-) -> Result<OutsideRecord, Untold> {
+) -> Result<OutsideRecord, Fault> {
     Ok(OutsideRecord {
         id: text(alloc, id)?,
         crew: text(alloc, crew)?,
@@ -84,7 +84,7 @@ fn segment(
     alloc: Global,
     id: &str,
     (number, out_at, in_at): (u32, u32, u32),
-) -> Result<OutsideSegmentRecord, Untold> {
+) -> Result<OutsideSegmentRecord, Fault> {
     Ok(OutsideSegmentRecord {
         outside: text(alloc, id)?,
         number,
@@ -94,7 +94,7 @@ fn segment(
 }
 
 /// Makes a change.
-fn make<S: Alter>(alloc: Global, conn: &mut Connection<S>, change: Change) -> Result<(), Untold> {
+fn make<S: Alter>(alloc: Global, conn: &mut Connection<S>, change: Change) -> Result<(), Fault> {
     match change {
         Change::Outside(id, crew, report, release) => {
             let record = outside(alloc, (id, crew), (report, release))?;
@@ -122,7 +122,7 @@ fn records_of<S: Alter>(
     alloc: Global,
     conn: &mut Connection<S>,
     search: Search,
-) -> Result<String, Untold> {
+) -> Result<String, Fault> {
     look(alloc, conn)?;
     match search {
         Search::Bases => in_order(alloc, bases(alloc, conn)),
@@ -149,7 +149,7 @@ fn report_of<S: Alter>(
     alloc: Global,
     conn: &mut Connection<S>,
     changes: &[Change],
-) -> Result<String, Untold> {
+) -> Result<String, Fault> {
     for change in changes {
         make(alloc, conn, *change)?;
     }
@@ -160,7 +160,7 @@ fn report_of<S: Alter>(
     Ok(text)
 }
 
-fn told_over<S: Alter + Drop>(alloc: Global, mut conn: Connection<S>) -> Result<String, Untold> {
+fn report_over<S: Alter + Drop>(alloc: Global, mut conn: Connection<S>) -> Result<String, Fault> {
     make_tables(alloc, &mut conn)?;
     conn.execute_batch("INSERT INTO base VALUES ('DEN', 'MST7MDT,M3.2.0,M11.1.0')")?;
     conn.execute_batch("INSERT INTO crew_base VALUES ('C1', 'HOME'), ('C2', 'DEN')")?;
@@ -183,7 +183,7 @@ fn told_over<S: Alter + Drop>(alloc: Global, mut conn: Connection<S>) -> Result<
 fn outside_periods_are_added_found_and_removed(rt: HostRuntime) -> Result<(), Fail> {
     let conn = Connection::open_in_memory(rt.alloc())?;
     assert_eq!(rt;
-        told_over(rt.alloc(), conn)?.as_str(),
+        report_over(rt.alloc(), conn)?.as_str(),
         "DEN|MST7MDT,M3.2.0,M11.1.0\nHOME|EST5EDT,M3.2.0,M11.1.0\nC1|HOME\nC2|DEN\nnone\n\
         X1|C1|100|700\nX1|C1|100|700\nX2|C1|800|900\n\
         X1|1|110|300\nX1|2|310|690\nX2|1|810|890\n\

@@ -5,15 +5,15 @@ use std::io::Write;
 
 /// Whether out of memory was reported.
 #[derive(Drop)]
-pub struct Told {
+pub struct MemoryReports {
     /// By a call that has changed nothing: 91.
     pub memory: bool,
 }
 
-impl Told {
+impl MemoryReports {
     /// It was not reported.
-    pub fn new() -> Told {
-        Told { memory: false }
+    pub fn new() -> MemoryReports {
+        MemoryReports { memory: false }
     }
 
     /// Writes a line where it was reported.

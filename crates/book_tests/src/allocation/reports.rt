@@ -5,7 +5,7 @@ use std::io::Write;
 
 /// How out of memory was reported, if it was.
 #[derive(Drop)]
-pub struct Told {
+pub struct MemoryReports {
     /// By a call that has changed nothing: 91.
     pub memory: bool,
     /// As a fault of the store: 90.
@@ -16,10 +16,10 @@ pub struct Told {
     pub channel: bool,
 }
 
-impl Told {
+impl MemoryReports {
     /// It was not reported.
-    pub fn new() -> Told {
-        Told {
+    pub fn new() -> MemoryReports {
+        MemoryReports {
             memory: false,
             store: false,
             unavailable: false,
@@ -29,13 +29,13 @@ impl Told {
 
     /// Writes a line for each way in which it was reported.
     pub fn print<W: Write>(&self, writer: &mut W) -> io::Result<()> {
-        for (number, is_told) in [
+        for (number, is_reported) in [
             ("91", self.memory),
             ("90", self.store),
             ("503", self.unavailable),
             ("92", self.channel),
         ] {
-            if is_told {
+            if is_reported {
                 writeln!(writer, "{number}")?;
             }
         }

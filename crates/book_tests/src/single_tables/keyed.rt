@@ -4,8 +4,8 @@ ghost use Rattle.std.specs.Prelude.{OnOk};
 ghost use Rattle.sqlite.specs.Held.{state};
 ghost use Rattle.tables.specs.Calls.{HoldsBook};
 
-use crate::fault::Untold;
-use crate::making::make_tables;
+use crate::fault::Fault;
+use crate::single_tables::making::make_tables;
 use sqlite::{Alter, Connection};
 use std::alloc::Global;
 use std::test::Fail;
@@ -44,42 +44,42 @@ enum Step {
     Exceedances,
 }
 
-/// A record that is reported as a line.
-pub trait Told: TryClone + Drop {
+/// A record that is printed as a line.
+pub trait AsLine: TryClone + Drop {
     /// The record's columns with `|` between them, as the shell `sqlite3` prints a row.
-    fn line(&self, alloc: Global) -> Result<String, Untold>;
+    fn line(&self, alloc: Global) -> Result<String, Fault>;
 }
 
 /// A number, or nothing.
-fn if_any(alloc: Global, number: Option<u32>) -> Result<String, Untold> {
+fn if_any(alloc: Global, number: Option<u32>) -> Result<String, Fault> {
     Ok(match number {
         Some(number) => format!(in alloc; "{number}")?,
         None => String::new(alloc),
     })
 }
 
-impl Told for BookRecord {
-    fn line(&self, alloc: Global) -> Result<String, Untold> {
+impl AsLine for BookRecord {
+    fn line(&self, alloc: Global) -> Result<String, Fault> {
         let zone = self.zone.as_str();
         Ok(format!(in alloc; "{}|{}|{zone}", self.one, self.version)?)
     }
 }
 
-impl Told for CrewRecord {
-    fn line(&self, alloc: Global) -> Result<String, Untold> {
+impl AsLine for CrewRecord {
+    fn line(&self, alloc: Global) -> Result<String, Fault> {
         let (id, name) = (self.id.as_str(), self.name.as_str());
         Ok(format!(in alloc; "{id}|{}|{name}", self.seat)?)
     }
 }
 
-impl Told for PairingRecord {
-    fn line(&self, alloc: Global) -> Result<String, Untold> {
+impl AsLine for PairingRecord {
+    fn line(&self, alloc: Global) -> Result<String, Fault> {
         Ok(String::from_str(alloc, self.id.as_str())?)
     }
 }
 
-impl Told for PeriodRecord {
-    fn line(&self, alloc: Global) -> Result<String, Untold> {
+impl AsLine for PeriodRecord {
+    fn line(&self, alloc: Global) -> Result<String, Fault> {
         let pairing = self.pairing.as_str();
         let planned = format!(in alloc; "{}|{}", self.report_at, self.release_at)?;
         let report = if_any(alloc, self.act_report)?;
@@ -88,8 +88,8 @@ impl Told for PeriodRecord {
     }
 }
 
-impl Told for SegmentRecord {
-    fn line(&self, alloc: Global) -> Result<String, Untold> {
+impl AsLine for SegmentRecord {
+    fn line(&self, alloc: Global) -> Result<String, Fault> {
         let pairing = self.pairing.as_str();
         let (flight, from, to) = (
             self.flight.as_str(),
@@ -104,48 +104,48 @@ impl Told for SegmentRecord {
     }
 }
 
-impl Told for SeatRecord {
-    fn line(&self, alloc: Global) -> Result<String, Untold> {
+impl AsLine for SeatRecord {
+    fn line(&self, alloc: Global) -> Result<String, Fault> {
         let (pairing, crew) = (self.pairing.as_str(), self.crew.as_str());
         Ok(format!(in alloc; "{pairing}|{}|{crew}", self.seat)?)
     }
 }
 
-impl Told for GroundRecord {
-    fn line(&self, alloc: Global) -> Result<String, Untold> {
+impl AsLine for GroundRecord {
+    fn line(&self, alloc: Global) -> Result<String, Fault> {
         let (id, crew, task) = (self.id.as_str(), self.crew.as_str(), self.task.as_str());
         Ok(format!(in alloc; "{id}|{crew}|{task}|{}|{}", self.begin_at, self.end_at)?)
     }
 }
 
-impl Told for ExceedanceRecord {
-    fn line(&self, alloc: Global) -> Result<String, Untold> {
+impl AsLine for ExceedanceRecord {
+    fn line(&self, alloc: Global) -> Result<String, Fault> {
         let (crew, pairing) = (self.crew.as_str(), self.pairing.as_str());
         let key = format!(in alloc; "{}|{}", self.number, self.part)?;
         Ok(format!(in alloc; "{key}|{crew}|{}|{pairing}|{}", self.section, self.period)?)
     }
 }
 
-impl Told for RequestRecord {
-    fn line(&self, alloc: Global) -> Result<String, Untold> {
+impl AsLine for RequestRecord {
+    fn line(&self, alloc: Global) -> Result<String, Fault> {
         let (command, reply) = (self.command.as_str(), self.reply.as_str());
         Ok(format!(in alloc; "{}|{}|{command}|{reply}", self.number, self.part)?)
     }
 }
 
 /// A copy of a record as a line.
-fn line_of_copy<R: Told>(alloc: Global, record: &R) -> Result<String, Untold> {
+fn line_of_copy<R: AsLine>(alloc: Global, record: &R) -> Result<String, Fault> {
     match record.try_clone(alloc) {
         Ok(copy) => copy.line(alloc),
-        Err(_) => Err(Untold::Memory),
+        Err(_) => Err(Fault::Memory),
     }
 }
 
 /// Copies of what is found, as lines, or the line `none`.
-fn lines_of<R: Told>(
+fn lines_of<R: AsLine>(
     alloc: Global,
     records: Result<Vec<R>, TableFault>,
-) -> Result<Vec<String>, Untold> {
+) -> Result<Vec<String>, Fault> {
     let mut lines = Vec::new(alloc);
     for record in &records? {
         lines.push(line_of_copy(alloc, record)?)?;
@@ -157,7 +157,7 @@ fn lines_of<R: Told>(
 }
 
 /// Lines as one text.
-fn join_lines(alloc: Global, lines: &[String]) -> Result<String, Untold> {
+fn join_lines(alloc: Global, lines: &[String]) -> Result<String, Fault> {
     let mut all = String::new(alloc);
     for line in lines {
         all.push_str(line.as_str())?;
@@ -167,32 +167,32 @@ fn join_lines(alloc: Global, lines: &[String]) -> Result<String, Untold> {
 }
 
 /// What is found, in the order of the alphabet.
-pub fn in_order<R: Told>(
+pub fn in_order<R: AsLine>(
     alloc: Global,
     records: Result<Vec<R>, TableFault>,
-) -> Result<String, Untold> {
+) -> Result<String, Fault> {
     let mut lines = lines_of(alloc, records)?;
     lines.sort()?;
     join_lines(alloc, lines.as_slice())
 }
 
 /// What is found, as it comes.
-fn in_turn<R: Told>(alloc: Global, records: Result<Vec<R>, TableFault>) -> Result<String, Untold> {
+fn in_turn<R: AsLine>(alloc: Global, records: Result<Vec<R>, TableFault>) -> Result<String, Fault> {
     join_lines(alloc, lines_of(alloc, records)?.as_slice())
 }
 
-fn yes(alloc: Global, holds: bool) -> Result<String, Untold> {
+fn yes(alloc: Global, holds: bool) -> Result<String, Fault> {
     Ok(String::from_str(alloc, if holds { "yes\n" } else { "no\n" })?)
 }
 
 /// Sees to what each call on a table owes.
-pub fn look<S: Alter>(alloc: Global, conn: &Connection<S>) -> Result<(), Untold>
+pub fn look<S: Alter>(alloc: Global, conn: &Connection<S>) -> Result<(), Fault>
     ensures { OnOk result (HoldsBook (state S.Store conn.now)) }
 {
     if is_book(alloc, conn)? {
         Ok(())
     } else {
-        Err(Untold::Unread)
+        Err(Fault::Unread)
     }
 }
 
@@ -201,7 +201,7 @@ fn records_of<S: Alter>(
     alloc: Global,
     conn: &mut Connection<S>,
     step: Step,
-) -> Result<String, Untold> {
+) -> Result<String, Fault> {
     look(alloc, conn)?;
     match step {
         Step::Book => in_order(alloc, load_book(alloc, conn)),
@@ -215,16 +215,12 @@ fn records_of<S: Alter>(
         Step::GroundsBy(id) => in_order(alloc, grounds_by_crew(alloc, conn, id)),
         Step::Request(number, part) => in_order(alloc, request_by_key(alloc, conn, number, part)),
         Step::Exceedances => in_turn(alloc, exceedances(alloc, conn)),
-        _ => Err(Untold::Unread),
+        _ => Err(Fault::Unread),
     }
 }
 
 /// What is reported of a step; nothing of a statement.
-fn do_step<S: Alter>(
-    alloc: Global,
-    conn: &mut Connection<S>,
-    step: Step,
-) -> Result<String, Untold> {
+fn do_step<S: Alter>(alloc: Global, conn: &mut Connection<S>, step: Step) -> Result<String, Fault> {
     match step {
         Step::Run(statement) => {
             conn.execute_batch(statement)?;
@@ -241,7 +237,7 @@ fn do_all_steps<S: Alter>(
     alloc: Global,
     conn: &mut Connection<S>,
     steps: &[Step],
-) -> Result<String, Untold> {
+) -> Result<String, Fault> {
     let mut text = String::new(alloc);
     for step in steps {
         text.push_str(do_step(alloc, conn, *step)?.as_str())?;
@@ -250,12 +246,12 @@ fn do_all_steps<S: Alter>(
 }
 
 /// What is reported of these steps before a book is made, and of those in an empty book.
-fn told_over<S: Alter + Drop>(
+fn report_over<S: Alter + Drop>(
     alloc: Global,
     mut conn: Connection<S>,
     before: &[Step],
     steps: &[Step],
-) -> Result<String, Untold> {
+) -> Result<String, Fault> {
     let mut text = do_all_steps(alloc, &mut conn, before)?;
     make_tables(alloc, &mut conn)?;
     text.push_str(do_all_steps(alloc, &mut conn, steps)?.as_str())?;
@@ -263,8 +259,8 @@ fn told_over<S: Alter + Drop>(
 }
 
 /// The same, over memory.
-fn over_memory(alloc: Global, before: &[Step], steps: &[Step]) -> Result<String, Untold> {
-    told_over(alloc, Connection::open_in_memory(alloc)?, before, steps)
+fn over_memory(alloc: Global, before: &[Step], steps: &[Step]) -> Result<String, Fault> {
+    report_over(alloc, Connection::open_in_memory(alloc)?, before, steps)
 }
 
 #[test]

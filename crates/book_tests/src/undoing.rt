@@ -23,7 +23,7 @@ fn begin<S: Alter>(conn: &mut Connection<S>) -> Option<()> {
 }
 
 #[test]
-fn a_rollback_that_is_refused_is_told_as_90(rt: HostRuntime) -> Result<(), Fail> {
+fn a_rollback_that_is_refused_is_reported_as_90(rt: HostRuntime) -> Result<(), Fail> {
     assert!(rt; report_behind(rt.alloc(), 2) == Some(Ok(())));
     assert!(rt; report_behind(rt.alloc(), 1) == Some(Err(StoreFault::Store)));
     Ok(())
