@@ -3,13 +3,13 @@
 
     tests/allocation_tests.py [--all] [TEST..]
 
-The tests of their modules `allocation` try calls of the library crates: where one is told that there is no memory, the test compares
+The tests of their modules `allocation` try calls of the library crates: where one reports that there is no memory, the test compares
 what the call was to leave as it was, and makes the same call again. So a test passes whichever of its own calls for memory is refused,
-and writes to standard error how that was told. Each is run alone, in a process of its own, with its first call refused, then with the
+and writes to standard error how that was reported. Each is run alone, in a process of its own, with its first call refused, then with the
 second one, and so on, up to a run in which none is; the longest only with one in 31, but for --all. Each of these runs
 
 - passes, as it does with all memory;
-- tells want of memory as the test may: 91 of a call that has changed nothing, 90 of a store that failed, 503 and 92 over HTTP.
+- reports out of memory as the test may: 91 of a call that has changed nothing, 90 of a store that failed, 503 and 92 over HTTP.
 
 The line before the last one says how many calls were refused; the last line is 'N passed, M failed', in which such a run counts as
 one, and the exit status is 1 where M isn't 0. Where there is no C compiler, nothing is tried.
@@ -28,11 +28,11 @@ from refusing import Memory, folder, has_compiler
 CRATES = TOP / "crates"
 MODULE = "allocation"
 STRIDES = {"book": 31}  # from one call that is refused to the next one, where that isn't one
-NO_CALL = 1_000  # so many calls behind the last one there is none
+NO_CALL = 1_000  # this many calls behind the last one there is none
 PATIENCE = 60  # seconds for a run of a test
 PASSED = "\ntest result: ok\n"  # what a program of tests prints of one
 
-# The tests of each crate, and how want of memory may be told in each.
+# The tests of each crate, and how out of memory may be reported in each.
 TESTS = {
     "call_tests": {
         "table": {"91"},
@@ -99,7 +99,7 @@ class Desk:
     passed: int = 0
     failed: int = 0
     functions: Counter = field(default_factory=Counter)  # that were refused
-    told: Counter = field(default_factory=Counter)  # how, by the runs
+    reported: Counter = field(default_factory=Counter)  # how, by the runs
 
     def expect(self, what, got, wanted):
         self.passed += got == wanted
@@ -125,30 +125,30 @@ def runner(crate, test):
     return run
 
 
-def try_one(desk, crate, test, ways_of_telling):
+def try_one(desk, crate, test, ways_of_reporting):
     run = runner(crate, test)
     whole = Ran(0, PASSED, "")
     desk.expect(f"{test} with all memory", run(), whole)
-    told = Counter()
+    reported = Counter()
     numbers = desk.numbers(test, run)
     for number in numbers:
         ended, function = desk.memory.refuse(run, number)
-        ways_told = ended.err.split()
-        wanted = Ran(0, PASSED, ended.err if len(ways_told) < 2 and ways_of_telling.issuperset(ways_told) else "")
+        ways_reported = ended.err.split()
+        wanted = Ran(0, PASSED, ended.err if len(ways_reported) < 2 and ways_of_reporting.issuperset(ways_reported) else "")
         desk.expect(f"{test}: call {number}, of {function or 'none'}, refused", ended, wanted)
         desk.functions[function or "none"] += 1
-        told.update(ways_told or ["nothing"])
+        reported.update(ways_reported or ["nothing"])
     desk.expect(f"{test} with a call refused that isn't made", desk.memory.refuse(run, numbers[-1] + NO_CALL), (whole, ""))
-    ways = ways_of_telling if numbers.step == 1 else {"91"}
-    desk.expect(f"{test}: how want of memory is told", ways - {*told}, set())
-    desk.told += told
+    ways = ways_of_reporting if numbers.step == 1 else {"91"}
+    desk.expect(f"{test}: how out of memory is reported", ways - {*reported}, set())
+    desk.reported += reported
 
 
 def summary(desk):
-    """How many calls were refused, and how that was told."""
+    """How many calls were refused, and how that was reported."""
     functions = ", ".join(f"{count} of {function}" for function, count in desk.functions.most_common())
-    told = ", ".join(f"{way} of {count}" for way, count in desk.told.most_common())
-    return f"{desk.functions.total()} calls for memory refused ({functions}); told: {told}"
+    reported = ", ".join(f"{way} of {count}" for way, count in desk.reported.most_common())
+    return f"{desk.functions.total()} calls for memory refused ({functions}); reported: {reported}"
 
 
 def main():
@@ -169,9 +169,9 @@ def main():
         desk = Desk(Memory.built(room), asked_for.all)
         for crate, tests in TESTS.items():
             desk.expect(f"the tests of {crate}", written(crate), list(tests))
-            for test, ways_of_telling in tests.items():
+            for test, ways_of_reporting in tests.items():
                 if not asked_for.tests or test in asked_for.tests:
-                    try_one(desk, crate, test, ways_of_telling)
+                    try_one(desk, crate, test, ways_of_reporting)
     print(summary(desk))
     print(f"{desk.passed} passed, {desk.failed} failed")
     return 1 if desk.failed else 0

@@ -10,11 +10,11 @@ those of a commit and of an answer; and with one more, which isn't made. With --
 
 - ends as a run that has all memory, or with 91, or with 90 where it commits; an import, and commands one a line, have printed the lines of
   their first parts then. A client has the whole answer, or the whole 503 of 91 or 90, or nothing, where its connection failed (92);
-- leaves the rows that a run with all memory leaves, or where it was stopped those of the parts that were told, or of one more;
+- leaves the rows that a run with all memory leaves, or where it was stopped those of the parts that were answered, or of one more;
 - is made again with all memory, and then is answered and leaves all rows as a run that had all memory at once. An `init` that had
   made its book is refused with 43.
 
-What is answered with all memory is written here by hand. What differs is told on standard error. The line before the last one says
+What is answered with all memory is written here by hand. What differs is printed on standard error. The line before the last one says
 how many calls were refused; the last line is 'N passed, M failed', in which such a run counts as one, and the exit status is 1 where
 M isn't 0. Where there is no C compiler, nothing is tried.
 """
@@ -38,8 +38,8 @@ from reports import carry_out
 from server import started
 
 STRIDE = 307  # from one call that is refused to the next one
-LAST = 40  # so many calls at the end of a run are refused in turn
-NO_CALL = 1_000  # so many calls behind the last one there is none
+LAST = 40  # this many calls at the end of a run are refused in turn
+NO_CALL = 1_000  # this many calls behind the last one there is none
 PATIENCE = 60  # seconds for a run of the program
 FAULTS = {"91": "refused 91 Memory\n", "90": "refused 90 Store\n"}
 
@@ -195,7 +195,7 @@ class Call:
             return Ran(None, "", "")
 
     def stops(self):
-        """How it may end where it is stopped, each with what is told of that, and how many parts were told before."""
+        """How it may end where it is stopped, each with what is printed of that, and how many parts were answered before."""
         lines = self.answer.out.splitlines(keepends=True) if self.fronts else []
         for fault, line in FAULTS.items():
             for parts in range(len(lines) + 1):
@@ -299,13 +299,13 @@ class Whole:
 
     case: object
     rows: list  # all rows before it, and after each of its parts
-    ends: dict  # what is told of each end, and the rows that may stand then
+    ends: dict  # what is printed of each end, and the rows that may stand then
 
     @classmethod
     def of(cls, case, rows):
         ends = {case.answer: ("nothing", rows[-1:])}
         for ended, fault, parts in case.stops():
-            # (only a commit tells want of memory as 90)
+            # (only a commit reports out of memory as 90)
             if "90" not in fault or rows[0] != rows[-1]:
                 ends[ended] = fault, rows[parts : parts + 2]
         return cls(case, rows, ends)
@@ -413,12 +413,12 @@ def try_case(desk, case):
         told[whole.look_up(ended)[0]] += 1
     ended, function, wrong = try_call(desk, whole, numbers[-1] + NO_CALL)
     desk.expect("with a call refused that isn't made", (ended, function, wrong), (case.answer, "", []))
-    desk.expect("that want of memory is told", told["91"] > 0, True)
+    desk.expect("that out of memory is reported", told["91"] > 0, True)
     desk.told += told
 
 
 def summary(desk):
-    """How many calls were refused, and what was told of that."""
+    """How many calls were refused, and what was printed of that."""
     functions = ", ".join(f"{count} of {function}" for function, count in desk.functions.most_common())
     told = ", ".join(f"{what} of {count}" for what, count in desk.told.most_common())
     return f"{desk.functions.total()} calls for memory refused ({functions}); told: {told}"

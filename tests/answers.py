@@ -1,12 +1,12 @@
 #!/usr/bin/env python3
-"""Asks the program what a crew desk asks, and compares what is told with the rows that were worked out.
+"""Asks the program what a crew desk asks, and compares the answers with the rows that were worked out.
 
     tests/answers.py [NAME..]
 
 A case is a few pages of lines, which are taken in turn on a book of the captains C1 and C2 and the first officer F1. A line is
 a command, as tests/office.py has it, or a look into the tables of the book:
 
-    20 assign P1 C1 -> accepted     under the number 20, with what has to be told
+    20 assign P1 C1 -> accepted     under the number 20, with what has to be answered
     assign P1 C1                    under a number of its own; it has to be accepted, and to break no limit
     seats -> P1 C1 -                each pairing with its captain and its first officer
     bases -> HOME UTC0              each base with its zone
@@ -16,8 +16,8 @@ a command, as tests/office.py has it, or a look into the tables of the book:
     outsides -> X1 C1               each outside period with the member who flew it
     recorded X1 C1 10: .. -> yes    whether the outside period is kept with this member and these times alone
 
-Each command is checked before it is asked (`do --dry-run`): it has to be told the same, and no table and no byte of the file may change.
-Of a page that begins with the line `import` all others are pairings of one schedule. What differs is told on standard error.
+Each command is checked before it is asked (`do --dry-run`): it has to be answered the same, and no table and no byte of the file may change.
+Of a page that begins with the line `import` all others are pairings of one schedule. What differs is printed on standard error.
 The last line is 'N passed, M failed', and the exit status 1 where M isn't 0.
 """
 
@@ -709,7 +709,7 @@ def train(ground, crew, task):
 
 
 def plan(counts):
-    """The line of a pairing with a period a day, and so many flights of ten minutes in each."""
+    """The line of a pairing with a period a day, and this many flights of ten minutes in each."""
     flights = [", ".join(f"{hour:02}:00-{hour:02}:10" for hour in range(count)) for count in counts]
     return "plan P1 " + "; ".join(f"{day}: 00:00 | {its} | 23:00" for day, its in enumerate(flights, 1))
 
@@ -876,14 +876,14 @@ CASES = {**ASSIGNMENTS, **FLOWN_PERIODS, **JUDGEMENT, **REQUESTS, **BASES, **OUT
 
 @dataclass(frozen=True)
 class Taken:
-    """A book after some pages, and each line that was told otherwise than it should be."""
+    """A book after some pages, and each line that was answered otherwise than it should be."""
 
     book: Book
     differences: tuple
 
 
 def look(book, line):
-    """What a line tells of the tables of the book, or None where it is no such line."""
+    """What a line says of the tables of the book, or None where it is no such line."""
     word, _, rest = line.partition(" ")
     match word:
         case "seats":
@@ -912,21 +912,21 @@ def kept(book):
 
 
 def checked(book, number, line):
-    """What a command is told when it is only checked, under a number."""
+    """How a command is answered when it is only checked, under a number."""
     tables, content = kept(book)
     words = told(book.check(number, order(line)))
     return words if (book.file.read_bytes(), book.tables()) == (content, tables) else f"{words}, and the book is changed"
 
 
 def take_command(book, number, line):
-    """What a command is told under a number, where it is told the same when it is checked before."""
+    """How a command is answered under a number, where it is answered the same when it is checked before."""
     before = checked(book, number, line)
     found = book.ask(number, line)
     return found if before == found.replace("repeated", "accepted", 1) else f"{found}, but checked before: {before}"
 
 
 def take_line(book, line):
-    """What the line is told otherwise than it should be, or None."""
+    """How the line is answered otherwise than it should be, or None."""
     asked, _, wanted = line.partition(" -> ")
     number, _, command = asked.partition(" ")
     found = look(book, asked)

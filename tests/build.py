@@ -1,10 +1,10 @@
 #!/usr/bin/env python3
-"""Runs ./rosterbook where the program isn't built yet, with a stand-in for the kit's `rt`, and looks at what is told and left.
+"""Runs ./rosterbook where the program isn't built yet, with a stand-in for the kit's `rt`, and looks at what is printed and left.
 
     tests/build.py
 
 Nothing is proved: `rt` here makes each crate's folder out/ and says the lines of `rt ci`, and its program is a script. It notes which
-crates are done, as the kit keeps what it proved. What differs is told on standard error. The last line is 'N passed, M failed', and the
+crates are done, as the kit keeps what it proved. What differs is printed on standard error. The last line is 'N passed, M failed', and the
 exit status 1 where M isn't 0.
 """
 
@@ -172,7 +172,7 @@ class Machine:
         return found
 
     def built(self, what, lines, kept=0):
-        """Compares the lines of a build, of whose crates so many are kept."""
+        """Compares the lines of a build, of whose crates this many are kept."""
         names = below_the_program()
         count = len(names)
         begin = rf"rosterbook: proving and building the program, {count} crates: about \d+ min the first time \(README, Build, has a first look\)"
@@ -188,9 +188,9 @@ def try_all(machine):
     machine.set(wrong="roster", elsewhere="command")
     lines = machine.ran("a crate that isn't proved", 3, "")
     shared = "rosterbook: command: another run on this machine is proving the same; waiting for it"
-    machine.expect("what is told of a crate that another run proves", lines.count(shared), 1)
+    machine.expect("what is printed of a crate that another run proves", lines.count(shared), 1)
     told = ["== roster", "fn roster::first: proved", "crates/roster/src/lib.rt:1:1: error: no proof", "rt: roster NOT PROVED"]
-    machine.expect("what is told of it", lines[-5:], [*told, "rosterbook: the program could not be built"])
+    machine.expect("what is printed of it", lines[-5:], [*told, "rosterbook: the program could not be built"])
     machine.expect("no program", (machine.top / PROGRAM).exists(), False)
 
     machine.set(wrong="", elsewhere="")
@@ -241,11 +241,11 @@ def try_all(machine):
 
     (machine.top / PROGRAM).unlink()
     lines = machine.ran("without the kit", 3, "", folder="tools")
-    machine.expect("what is told without the kit", lines, ["rosterbook: to build the program, put the command rt of the Rattle kit on the PATH"])
+    machine.expect("what is printed without the kit", lines, ["rosterbook: to build the program, put the command rt of the Rattle kit on the PATH"])
     shutil.rmtree(machine.top / "crates/rosterbook_main/out")
     (machine.top / "crates/rosterbook_main/out").write_text("no folder")
     lines = machine.ran("no folder for the program", 3, "")
-    machine.matches("what is told of it", lines, ["rosterbook: the program could not be built: .*/crates/rosterbook_main/out'"])
+    machine.matches("what is printed of it", lines, ["rosterbook: the program could not be built: .*/crates/rosterbook_main/out'"])
 
 
 with tempfile.TemporaryDirectory() as room:

@@ -5,7 +5,7 @@
 
 Each file of `specs/` is a case: none of its lines is wider, but for the lists of imported names. So is each source file of a crate that
 isn't of tests: none of the lines of a clause is wider, from `requires` or `ensures` to where it ends. Columns are characters. What is
-wider is told on standard error. The last line is 'N passed, M failed', and the exit status 1 where M isn't 0.
+wider is printed on standard error. The last line is 'N passed, M failed', and the exit status 1 where M isn't 0.
 """
 
 import re

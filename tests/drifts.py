@@ -6,7 +6,7 @@
 A copy of the sources, the pages and the scripts is changed in one place, and tests/statement.py is run in it: it must fail, and say a
 given word. Then the change is taken back. Some drifts don't show in what the pages quote, such as an import that gives a name to something
 else. These must be refused even after the quotations were cut anew by --refresh. The unchanged copy must pass, with --refresh and without,
-and --refresh must leave it as it is. What is let through is told on standard error. The last line is 'N passed, M failed', and the exit
+and --refresh must leave it as it is. What is let through is printed on standard error. The last line is 'N passed, M failed', and the exit
 status 1 where M isn't 0.
 """
 
@@ -135,7 +135,7 @@ HIDDEN = (
     ),
     Drift("the claim is said by a word that isn't there", STATEMENT, r"\| `is_assignment` \|", "| `is_order` |", "isn't quoted"),
     Drift(
-        "a crate of the kit isn't told as trusted",
+        "a crate of the kit isn't named as trusted",
         STATEMENT,
         r"Of `jiff`, `jiff_core` and `jiff_tz`",
         "Of `jiff` and `jiff_tz`",
@@ -149,7 +149,7 @@ HIDDEN = (
         "a_limit_reached_holds.edit",
         "no edit",
     ),
-    Drift("a name of two meanings isn't told", STATEMENT, r"\| `State` \| the state of the book.*\n", "", "several things"),
+    Drift("a name of two meanings isn't listed", STATEMENT, r"\| `State` \| the state of the book.*\n", "", "several things"),
     Drift("a section that is linked isn't there", CONTRACTS, r"STATEMENT\.md#whole-lives", "STATEMENT.md#all-lives", "no section"),
 )
 
@@ -222,7 +222,7 @@ class Copy:
             shutil.copytree(TOP / folder, self.top / folder, ignore=shutil.ignore_patterns("out", "__pycache__"), symlinks=True)
 
     def said(self, *words):
-        """The exit status of tests/statement.py, and what it told."""
+        """The exit status of tests/statement.py, and what it printed."""
         ran = subprocess.run([sys.executable, "-B", self.top / "tests/statement.py", *words], capture_output=True, text=True)
         return ran.returncode, ran.stdout + ran.stderr
 

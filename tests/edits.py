@@ -271,7 +271,7 @@ def verdicts(words, crate, edits, kept, when):
 
 
 def try_crate(kit, crate, folder, when):
-    """Tries the crate's edits. Returns the lines to print, each with whether it tells of a refusal, and how long that took."""
+    """Tries the crate's edits. Returns the lines to print, each with whether it is of a refusal, and how long that took."""
     begun, lines, edits = time.monotonic(), [], []
     for file in sorted((crate.folder / folder).glob("*.edit")):
         try:

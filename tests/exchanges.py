@@ -1,7 +1,7 @@
 """What clients ask a server for the script serve.py beside this one, and what it has to answer.
 
 In the texts of requests and responses `|` stands for the end of a line, as `GET /exceedances HTTP/1.1|Host: x||`. An answer in
-short is the status of an error, which tells that status alone, or a status and a text.
+short is the status of an error, which says that status alone, or a status and a text.
 """
 
 from office import TOP, compact, order, schedule
@@ -238,14 +238,14 @@ ANSWERS = [
     (wire(f"POST /requests HTTP/1.1|Host: x|Content-Length: {'9' * 40}||abc"), 413),
     (wire(f"POST /requests HTTP/1.1|Host: x|Content-Length: 47||{CANCEL}and more"), NO_GROUND),
     (wire("GET /exceedances HTTP/1.1|Host: x|Content-Length: 5||"), NONE_EXCEEDED),
-    # Expectations of which nothing is told.
+    # Expectations of which nothing is said.
     (wire("GET /exceedances HTTP/1.1|Host: x|Expect: 100-continue|Content-Length: 5||"), NONE_EXCEEDED),
     (wire(f"POST /requests HTTP/1.0|Expect: 100-continue|Content-Length: 47||{CANCEL}"), NO_GROUND),
     (post("/requests", CANCEL, "Expect: 200-ok"), NO_GROUND),
     (post("/requests", "", "Expect: 100-continue"), NO_BODY),
 ]
 
-# Paths, with methods that they don't have, and what is told to be allowed.
+# Paths, with methods that they don't have, and what is said to be allowed.
 OTHER_METHODS = [
     ("/requests", "GET", "POST"),
     ("/requests", "HEAD", "POST"),

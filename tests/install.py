@@ -6,7 +6,7 @@
 The manual page and the completions of bash and zsh have to name each subcommand, argument and option that `--help` has, and no other,
 and all have the zones of docs/REFUSALS.md, which has all refusals. `do --help`, the manual page and docs/FORMATS.md have the same members of
 each command. The completions are asked as a shell asks them, those of zsh where it is on the PATH. What
-differs is told on standard error. The last line is 'N passed, M failed', and the exit status 1 where M isn't 0.
+differs is printed on standard error. The last line is 'N passed, M failed', and the exit status 1 where M isn't 0.
 """
 
 import os

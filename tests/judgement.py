@@ -9,7 +9,7 @@ answer of `do` is compared with a count, minute by minute, of docs/RULES.md ("Th
 and run for days, what was flown for another holder is recorded late and anew, and some members have no pairing at first. The members
 belong to three bases, and some books are of a week in which daylight saving time begins at one of these. In between, what `limits` prints
 of a member, with a pairing or without one, is compared with such a count of what is nearest to each limit (docs/FORMATS.md, "Limits"). The
-times are the same in each run. What differs is told on standard error. The last line is 'N passed, M failed', and the exit status 1 where M
+times are the same in each run. What differs is printed on standard error. The last line is 'N passed, M failed', and the exit status 1 where M
 isn't 0.
 """
 
@@ -60,7 +60,7 @@ def table_a(minute):
 
 
 def table_b(minute, segments):
-    """The minutes of flight duty that Table B gives to a report at a minute of the day, and so many segments."""
+    """The minutes of flight duty that Table B gives to a report at a minute of the day, and this many segments."""
     return int(60 * row_of(TABLE_B, minute)[min(segments, 7) - 1])
 
 
@@ -191,7 +191,7 @@ def days(found):
 
 def fullest(held, new, width):
     """The most that a window of this width, of minutes or of days, holds of those that meet a new minute, and where the first one that
-    holds as much begins. Of each minute or day it is told how many minutes it holds, and with 1 or 0 whether it has a new one; some has."""
+    holds as much begins. Of each minute or day it gets how many minutes it holds, and with 1 or 0 whether it has a new one; some has."""
     first, end = max(new.find(1) - width, 0), new.rfind(1) + 1 + width  # of all windows that meet a new minute
     sums = []
     for found in (held[first:end], new[first:end]):
@@ -303,7 +303,7 @@ def of_rests(periods, rest, least):
 
 def of_windows(held, new, width, most, instant_of):
     """The window of this width that holds the most, of those that meet a new minute, where `most` is allowed. Of the minute or the day with
-    which it begins it is told the instant."""
+    which it begins it gets the instant."""
     if 1 not in new:
         return Nearest(length_of(0, most))
     found, start = fullest(held, new, width)
@@ -523,7 +523,7 @@ def schedule(pairings, at):
 CLOCK = "a flown period exceeds other tables by HOME's clock"
 OUTSIDE = "another answer than without outside periods"
 OWN = "an outside period breaks a section"
-ANEW = "an outside period takes the place of an earlier one, and other sections are told"
+ANEW = "an outside period takes the place of an earlier one, and other sections are reported"
 LIMITS = tuple(f"the limits: {section} {word}" for section in SECTIONS for word in ("within", "exceeds"))
 ALL = "the limits: of all duties of a member"
 HELD = "the limits: with a pairing that the member holds"
@@ -605,7 +605,7 @@ class Walk:
 
     def limits(self, member, pairing, refusal=None):
         """What `limits` prints otherwise than it should, or None. Where the pairing was refused to the member, what exceeds a limit has to be
-        what the refusal tells."""
+        what the refusal says."""
         found = dict(zip(SECTIONS, self.model.nearest(member, pairing, self.first)))
         for section, it in found.items():
             self.tally[f"the limits: {section} {'exceeds' if it.is_over else 'within'}"] += 1

@@ -9,10 +9,10 @@ tests/tables/version_2.sql says, read by Python's own `sqlite3`, of SQLite 3.37 
 
 The machine's C compiler builds tests/migration/stop.c, a library that kills the process into which it is loaded before the n-th of its
 calls on files, or in the middle of a write. So the program is killed at each of these calls of a run that opens such a file. On a
-disk that takes only so many bytes it is refused. Each time the file holds the book of version 1 or that of version 2, whole, and
+disk that takes only this many bytes it is refused. Each time the file holds the book of version 1 or that of version 2, whole, and
 who opens it next gets the same answers. Where there is no C compiler, nothing is killed.
 
-What differs is told on standard error. The line before the last one says how many runs were stopped, and what they left. The last line
+What differs is printed on standard error. The line before the last one says how many runs were stopped, and what they left. The last line
 is 'N passed, M failed', and the exit status 1 where M isn't 0.
 """
 
@@ -318,7 +318,7 @@ def try_kill(desk):
 
 
 def try_full_disk(desk):
-    """A disk on which no file gets longer than so many bytes."""
+    """A disk on which no file gets longer than this many bytes."""
     left = Counter()
     refused = 0
     size = desk.first.file.stat().st_size

@@ -257,17 +257,17 @@ class Book:
         return self.next_number - 1
 
     def settle(self, line):
-        """What a line is told under the next number."""
+        """How a line is answered under the next number."""
         return told(self.do(self.take_number(), order(line)))
 
     def settle_all(self, lines):
-        """What lines with `plan` are told as one schedule, which is `accepted` where each of them is."""
+        """How lines with `plan` are answered as one schedule, which is `accepted` where each of them is."""
         ran = self.import_schedule(self.take_number(), schedule(lines))
         each = "".join(f"{part} accepted\n" for part in range(1, len(lines) + 1))
         return "accepted" if ran == Ran(0, each, "") else str(ran)
 
     def ask(self, number, line):
-        """What a line is told under a number, as `repeated` where it is accepted and no table has changed. What is accepted else
+        """How a line is answered under a number, as `repeated` where it is accepted and no table has changed. What is accepted else
         is kept with its answer, and the requests before it stay; a refusal changes no table."""
         command = order(line)
         before = self.tables()

@@ -4,7 +4,7 @@
     tests/pictures.py [NAME..]
 
 Calendars are compared with texts that were worked out. Of a chart its SVG is read: where each bar begins and ends, in days of the month,
-what is written, and what is marked. Both are asked for a book's file, and for the address of its server. What differs is told on
+what is written, and what is marked. Both are asked for a book's file, and for the address of its server. What differs is printed on
 standard error. The last line is 'N passed, M failed', and the exit status 1 where M isn't 0.
 
 The examples run by the Python that runs this script, or by the system's, where only that has the packages `icalendar` and `matplotlib`.
@@ -230,7 +230,7 @@ class Chart:
 
     @classmethod
     def read(cls, path, days):
-        """The chart of a month that lasts so many days."""
+        """The chart of a month that lasts this many days."""
         root = ElementTree.parse(path).getroot()
         groups = {it.get("id", ""): it for it in root.iter(f"{SVG}g")}
         (left, right), _ = extent(groups["month"])
@@ -455,7 +455,7 @@ def a_missing_package_is_named(examples, script):
     (folder / f"{package}.py").write_text("raise ModuleNotFoundError\n")
     more = ["--output", folder / "chart.svg"] if script == CHART else []
     ran = examples.run(script, "roster.db", "C1", *more, PYTHONPATH=str(folder))
-    bad = unlike("what is told", ran, Ran(2, "", f"{script}: it needs the package {package} (Debian: {debian})\n"))
+    bad = unlike("what is printed", ran, Ran(2, "", f"{script}: it needs the package {package} (Debian: {debian})\n"))
     ran = examples.run(script, "--help", PYTHONPATH=str(folder))
     return bad + unlike("--help", (ran.status, ran.out.split()[:2], ran.err), (0, ["usage:", script], ""))
 

@@ -47,7 +47,7 @@ lost() {
     holds "$name, $stream: $got" [ "$? $got" = '3 refused 92 Channel' ]
 }
 
-# untold NAME STREAM WORDS..: so is standard error, and the exit status alone tells it.
+# untold NAME STREAM WORDS..: so is standard error, and the exit status alone shows it.
 untold() {
     local name=$1 stream=$2 got
     shift 2
@@ -69,7 +69,7 @@ starved() {
             *) [ -z "$told" ] || break ;;
         esac
     done
-    holds "$name: ${told:-no want of memory}, $got" [ "$told, $got" = "3 refused 91 Memory, 1 $out" ]
+    holds "$name: ${told:-no 91}, $got" [ "$told, $got" = "3 refused 91 Memory, 1 $out" ]
 }
 
 # missing ARGUMENTS WORDS..: the command line lacks these arguments, one a line.

@@ -12,7 +12,7 @@ which they keep the promise. In each of its rows
 - of *one* each function that is named has one clause.
 
 A cell without code, such as *each*, stands for every function of the heading's crates. Wherever it stands, what is in code and
-written as a path of the repository, as a call (`Book::ask`) or as a definition (`IsOver`) has to be there too. What isn't there is told
+written as a path of the repository, as a call (`Book::ask`) or as a definition (`IsOver`) has to be there too. What isn't there is printed
 on standard error. The last line is 'N passed, M failed', and the exit status 1 where M isn't 0.
 """
 
@@ -165,7 +165,7 @@ def rows_of(text):
 
 
 def functions_named(name, owner, crates):
-    """The functions of a name: of the owner and the crates that are told where there are such, or else of any."""
+    """The functions of a name: of the owner and the crates that are named where there are such, or else of any."""
     found = code().functions.get(name, [])
     for fits in (
         lambda it: owner in (it.owner, it.trait) and it.crate in crates,

@@ -5,7 +5,7 @@
 
 A case is a few lines, which tests/office.py has, each of which has to be accepted, on a book of the captain C1 and the first
 officer F1; and what `roster`, `limits`, `pairing`, `exceedances`, `members` and `pairings` then print, by their words. No report
-may change a byte of the book's file, nor of what its log holds. What differs is told on standard error. The last line is
+may change a byte of the book's file, nor of what its log holds. What differs is printed on standard error. The last line is
 'N passed, M failed', and the exit status 1 where M isn't 0.
 """
 
@@ -626,7 +626,7 @@ LIMITS = {
             117.25(e) 0:00 of 10:00 outside X1 exceeds
         """,
     }],
-    # P2 overlaps P1, and C2 has the captain's seat. The limits are told all the same.
+    # P2 overlaps P1, and C2 has the captain's seat. The limits are printed all the same.
     "limits_with_a_pairing_that_overlaps": [ONE_PAIRING + """
         plan P2 10: 10:00 | 15:00-16:00 | 21:00
         {"do":"add-crew","crew":"C2","seat":"captain","name":"Bo Lind"}

@@ -4,8 +4,8 @@
     tests/serve.py [NAME..]
 
 What is asked and answered stands in tests/exchanges.py. Clients are raw sockets (tests/server.py), Python's `http.client`, and
-`curl` where it is on the PATH. Each server is started for so many connections. It has to end after the last of them with status
-0, with its one line on standard output, and with a line on standard error for each connection that failed. What differs is told
+`curl` where it is on the PATH. Each server is started for this many connections. It has to end after the last of them with status
+0, with its one line on standard output, and with a line on standard error for each connection that failed. What differs is printed
 on standard error. The line before the last one says how many requests were cut. The last line is 'N passed, M failed', and the exit
 status 1 where M isn't 0.
 """
@@ -36,7 +36,7 @@ from office import PROGRAM, TOP, Book, Ran, build, order, schedule, told
 from refusing import folder
 from server import LOOPBACK, OTHER_ADDRESS, free_port, receive, reset, run, serving
 
-FAILED = "refused 92 Channel\n"  # what is told of a connection
+FAILED = "refused 92 Channel\n"  # what is printed of a connection
 
 
 @dataclass
@@ -106,7 +106,7 @@ def try_hour(desk):
 
 
 def told_to_stock(server, asked):
-    """The status and the text that Python's own client is told."""
+    """The status and the text that Python's own client gets."""
     with closing(http.client.HTTPConnection(LOOPBACK, server.port, timeout=20)) as client:
         if isinstance(asked, tuple):
             client.request("POST", asked[0], asked[1].encode())
@@ -136,7 +136,7 @@ def try_pieces(desk):
 
 
 def told_in_pieces(server, given, places, pause):
-    """What a client is told that pauses at these places."""
+    """What a client gets that pauses at these places."""
     with server.connect() as client:
         for begin, end in zip([0, *places], [*places, len(given)]):
             if given[begin:end]:
@@ -161,7 +161,7 @@ def try_cuts(desk):
 
 
 def told_of_a_cut(given, length):
-    """What a client is told that ends its side after so many bytes of a request."""
+    """What a client gets that ends its side after this many bytes of a request."""
     if length == 0:
         return b""
     has_head = given.index(b"\r\n\r\n") + 4 <= length
@@ -178,7 +178,7 @@ def try_one_exchange(desk):
 
 
 def try_expectation(desk):
-    """A client that sends its body once it is told to go on; nobody is told so of a body that is too long."""
+    """A client that sends its body once it is asked to go on; nobody is asked so for a body that is too long."""
     body = body_of(1, "hire C1 captain: Ada Ray").encode()
     with serving(desk.book(), 2) as server:
         with server.connect() as client:
@@ -208,7 +208,7 @@ def try_large_bodies(desk):
 
 
 def try_curl(desk):
-    """By curl, which waits to be told to go on with a body where it is asked to, and with a long one by itself."""
+    """By curl, which waits to be asked to go on with a body where it is asked to, and with a long one by itself."""
     if not shutil.which("curl"):
         desk.skip("no curl is on the PATH")
         return
@@ -235,7 +235,7 @@ def try_curl(desk):
 
 
 def told_to_curl(server, words, path):
-    """What curl is told, with the heads of all responses."""
+    """What curl gets, with the heads of all responses."""
     options = ["--disable", "--noproxy", "*", "--max-time", "20", "--silent", "--show-error", "--include"]
     done = subprocess.run(["curl", *options, *words, f"http://{LOOPBACK}:{server.port}{path}"], capture_output=True)
     return done.stdout if done.returncode == 0 else f"curl ends with {done.returncode}: {done.stderr}".encode()
@@ -302,7 +302,7 @@ MISBEHAVING = {
 
 
 def told_beside(server, misbehave):
-    """What a client is told that keeps the server waiting while another one misbehaves and is gone."""
+    """What a client gets that keeps the server waiting while another one misbehaves and is gone."""
     with server.connect() as client:
         client.sendall(b"GET /exceedances HTTP/1.1\r\n")
         misbehave(server.connect())
@@ -461,7 +461,7 @@ def try_other_addresses(desk):
 
 
 def try_full_output(desk):
-    """A server that can't tell that it listens ends before it serves anybody."""
+    """A server that can't print that it listens ends before it serves anybody."""
     with open("/dev/full", "w") as full:
         desk.expect("on a full disk", run(desk.book().file, free_port(), stdout=full), Ran(3, "", FAILED))
 
@@ -475,7 +475,7 @@ def try_full_errors(desk):
 
 
 def try_kill(desk):
-    """What was answered before a server is stopped by a signal is kept. One that isn't told of how many goes on."""
+    """What was answered before a server is stopped by a signal is kept. One that isn't given a number goes on."""
     for stop in (signal.SIGTERM, signal.SIGKILL):
         book = desk.book()
         with serving(book) as server:
@@ -500,7 +500,7 @@ def on_a_full_disk(book):
 
 
 def try_full_disk(desk):
-    """The client of a command that the disk doesn't take is told so, and the server ends. What was accepted is kept."""
+    """The client of a command that the disk doesn't take gets that as its answer, and the server ends. What was accepted is kept."""
     book = desk.book()
     count = 0
     with serving(book, 1_000, **on_a_full_disk(book)) as server:
@@ -522,7 +522,7 @@ def try_full_disk(desk):
 
 
 def try_full_disk_in_an_import(desk):
-    """An import that the disk doesn't take whole is told so in place of its parts, and is handed in again whole."""
+    """An import that the disk doesn't take whole gets that in place of its parts, and is handed in again whole."""
     book = desk.book()
     plans = schedule([f"plan P{number} 10: 11:00 | 12:00-19:30 | 20:00" for number in range(1, 101)])
     with serving(book, 1_000, **on_a_full_disk(book)) as server:
@@ -560,7 +560,7 @@ def try_memory(desk):
     ]
     with serving(book, 10_000) as server:
         if server.memory() is None:
-            desk.skip("the system doesn't tell what memory a process holds")
+            desk.skip("the system doesn't say what memory a process holds")
             return
         early, wrong = ask_in_turn(server, samples, 1_000)
         late, more_wrong = ask_in_turn(server, samples, 8_999)
@@ -571,7 +571,7 @@ def try_memory(desk):
 
 
 def ask_in_turn(server, samples, count):
-    """The kilobytes that the server holds after so many requests, and how many got another answer."""
+    """The kilobytes that the server holds after this many requests, and how many got another answer."""
     wrong = 0
     for turn in range(count):
         given, wanted = samples[turn % len(samples)]
@@ -587,7 +587,7 @@ def try_log(desk):
 
 
 def serve_many(desk, book, count):
-    """So many commands of one server, whose log and whose open files are looked at now and then."""
+    """This many commands of one server, whose log and whose open files are looked at now and then."""
     log = book.file.with_name(f"{book.file.name}-wal")
     longest, most, wrong = 0, 0, 0
     with serving(book, count) as server:
@@ -605,7 +605,7 @@ def serve_many(desk, book, count):
     if most:
         desk.expect(f"{most} open files at most, under 16", most < 16, True)
     else:
-        desk.skip("the system doesn't tell which files a process has open")
+        desk.skip("the system doesn't say which files a process has open")
 
 
 # ---- What an office has beside it, in examples/.

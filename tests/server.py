@@ -27,7 +27,7 @@ PATIENCE = 20  # seconds that a client waits for a byte, and the script for the 
 
 
 def receive(client, count=None):
-    """The next so many bytes, or all up to the end."""
+    """The next bytes, this many, or all up to the end."""
     got = b""
     while count is None or len(got) < count:
         more = client.recv(65_536 if count is None else count - len(got))
@@ -100,7 +100,7 @@ class Server:
         return self.errors.read().decode(errors="replace")
 
     def memory(self):
-        """The kilobytes of memory that it holds, or None where the system doesn't tell."""
+        """The kilobytes of memory that it holds, or None where the system doesn't say."""
         try:
             with open(f"/proc/{self.process.pid}/status") as status:
                 return next((int(line.split()[1]) for line in status if line.startswith("VmRSS:")), None)
@@ -108,7 +108,7 @@ class Server:
             return None
 
     def open_files(self):
-        """How many files and sockets it has open, or None where the system doesn't tell."""
+        """How many files and sockets it has open, or None where the system doesn't say."""
         try:
             return len(os.listdir(f"/proc/{self.process.pid}/fd"))
         except OSError:

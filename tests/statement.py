@@ -6,7 +6,7 @@
 A quotation is a block below a comment that names its source, `<!-- PATH: NAME, NAME -->`. In a file of `specs/` a name is a
 definition's; in one of `src/` a type's, a call's (`Book::ask`), or `invariant of Book`, what holds of each value of that type. With
 --refresh each quotation of both pages is cut out of its source anew, and the numbers on top of STATEMENT are counted anew. If a definition
-has another name in its file now, it is looked for by what the page quotes of it, and told. The rest of the pages stays as it is.
+has another name in its file now, it is looked for by what the page quotes of it, and printed. The rest of the pages stays as it is.
 
 STATEMENT is walked from the laws by which the claim is said: through imports, definitions, types, and what contracts see of a type.
 What the laws name, and what that names in turn, is their *closure*. What of it stands behind the arrow of the law of lives is asserted;
@@ -29,11 +29,11 @@ And of both pages:
 - a definition of `specs/` that is neither quoted nor listed;
 - a table below `<!-- fields of PATH: NAME -->` that doesn't have the fields of that record in turn;
 - a word by which the claim is said that isn't quoted, a section of a document that isn't there, and a crate of the kit whose words
-  are used and that isn't told as trusted;
+  are used and that isn't named as trusted;
 - a row of the table of doubts without an edit that the prover must refuse, or with one that isn't there;
 - what a table or a list has in vain.
 
-What differs is told on standard error. The last line is 'N passed, M failed', and the exit status 1 where M isn't 0.
+What differs is printed on standard error. The last line is 'N passed, M failed', and the exit status 1 where M isn't 0.
 """
 
 import re
@@ -113,7 +113,7 @@ def new_name(path, block, name, taken):
 
 
 def with_quotations(text, taken):
-    """A page with each quotation cut out of its source, where another name of a definition is told. What isn't there stays as it is."""
+    """A page with each quotation cut out of its source, where another name of a definition is printed. What isn't there stays as it is."""
 
     def cut(found):
         path, names, block = found[1], names_of(found[2]), found[3]
@@ -371,7 +371,7 @@ def try_kit(desk, pages):
 
 
 def try_modules(desk, pages):
-    """That the short names of modules are told, with their modules, and none in vain."""
+    """That the short names of modules are listed, with their modules, and none in vain."""
     told = {(marked(first)[0], module) for first, second, *_ in rows_below(pages.statement.text, "modules") for module in marked(second)}
     used = {pair for item in pages.items for pair in modules_used(item)}
     for short, module in sorted(used - told):
@@ -391,7 +391,7 @@ def things_named(pages):
 
 
 def try_twofold(desk, pages):
-    """That a name which stands for more than one thing on STATEMENT is told to, and that no definition has it for two of them."""
+    """That a name which stands for more than one thing on STATEMENT is listed as such, and that no definition has it for two of them."""
     told = set(named_in(pages.statement.text, "twofold"))
     found = things_named(pages)
     for name in sorted(found.keys() - told):
@@ -407,7 +407,7 @@ def try_twofold(desk, pages):
 
 
 def thing_named(name, values):
-    """What a name stands for, if it is of this repository and isn't told as another value."""
+    """What a name stands for, if it is of this repository and isn't listed as another value."""
     if name.kind == "definition":
         return items(name.home)[name.name]
     if name.kind == "type":
@@ -487,7 +487,7 @@ def try_closure(desk, pages, found):
 
 
 def try_renamings(desk, pages, found):
-    """That no import gives another name to what is used, but for the test `==` of a type, which a law puts in words, and those told."""
+    """That no import gives another name to what is used, but for the test `==` of a type, which a law puts in words, and those listed."""
     told = {(marked(first)[0], marked(second)[0]) for first, second, *_ in rows_below(pages.contracts.text, "renamed")}
     used = set()
     for item in {item.place: item for item in [*found.all.values(), *pages.items]}.values():
@@ -539,7 +539,7 @@ def try_explained(desk, pages):
             desk.expect(name in used, f"STATEMENT explains {name}, which nothing names that is quoted")
     quoted = {item.name for item in pages.contracts.items}
     for name in sorted(pages.beside):
-        desk.expect(name in quoted, f"{name} is told as quoted on CONTRACTS, and isn't")
+        desk.expect(name in quoted, f"{name} is listed as quoted on CONTRACTS, and isn't")
 
 
 def formats_below(desk, pages):

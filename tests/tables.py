@@ -4,11 +4,11 @@
     tests/tables.py
 
 Books of version 1 and of version 2 are made by plain SQL (tests/tables/version_1.sql, version_2.sql), and the program is asked: such
-with a damage, or with two, of which the first table has to be named (damages.txt), and sound ones, whose answers tell how their rows are
+with a damage, or with two, of which the first table has to be named (damages.txt), and sound ones, whose answers show how their rows are
 read (answers.txt, of those with a second base bases.txt, and of those with outside periods outside.txt). Books that the program makes are
 read by plain SELECTs: after each order of a story (story.txt), with the longest pairing, with the greatest key, and beside other tables.
 One of them is damaged (late.txt), and the tables of others are offered rows that they have to refuse (refused.txt). The SQL is that of
-Python's own `sqlite3`, of SQLite 3.37 or newer. What differs is told on standard error. The last line is 'N passed, M failed', and the
+Python's own `sqlite3`, of SQLite 3.37 or newer. What differs is printed on standard error. The last line is 'N passed, M failed', and the
 exit status 1 where M isn't 0.
 """
 
@@ -236,7 +236,7 @@ def name_of(line):
 
 
 def long_pairing(periods, segments):
-    """Statements that add a P3 of so many periods of a day, each of so many segments of an hour."""
+    """Statements that add a P3 of this many periods of a day, each of this many segments of an hour."""
     statements = "INSERT INTO pairing VALUES ('P3');"
     for period in range(1, periods + 1):
         begin = 13_400_000 + 1_440 * period

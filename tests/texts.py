@@ -1,12 +1,12 @@
 #!/usr/bin/env python3
-"""Hands texts to the program as they stand, and compares what it tells of them and keeps.
+"""Hands texts to the program as they stand, and compares what it answers and keeps.
 
     tests/texts.py
 
 Instants and zones are those of `duty`, of ground duties and of bases, requests those of `do`, and schedules those of `import`. Each text
-stands here with what docs/FORMATS.md has of it: a refusal in words, as tests/office.py tells it, or the text that the command is
-kept as, which is read from the table `request`. A schedule and some requests are also cut after each of their bytes; what a cut
-schedule is told is worked out with Python's own reader of CSV. What differs is told on standard error. The line before the last one
+stands here with what docs/FORMATS.md has of it: a refusal in words, as tests/office.py puts it, or the text that the command is
+kept as, which is read from the table `request`. A schedule and some requests are also cut after each of their bytes; how a cut
+schedule is answered is worked out with Python's own reader of CSV. What differs is printed on standard error. The line before the last one
 says how many cuts there were. The last line is 'N passed, M failed', and the exit status 1 where M isn't 0.
 """
 
@@ -327,7 +327,7 @@ KEPT = [
 
 
 def nested(depth):
-    """A request with a member of so many arrays in one another."""
+    """A request with a member of this many arrays in one another."""
     return '{"number":1,"do":"cancel-ground","ground":"G1","note":' + "[" * depth + "]" * depth + "}"
 
 
@@ -468,7 +468,7 @@ def refused(text):
 
 @dataclass
 class Desk:
-    """A folder for books, one of them empty, and how many texts were told rightly."""
+    """A folder for books, one of them empty, and how many texts were answered rightly."""
 
     room: Path
     empty: Book

@@ -6,7 +6,7 @@
 An example is a paragraph that begins with *Example*. Its numbers, clock times and dates are read off the page, in their order, and each is
 compared with what a slow count gives: minute by minute, as tests/judgement.py counts. Where the example is one of a book, the program is
 asked too, with the same times; --no-program leaves that out. The list CHECKS has each example, also those that have nothing to count. What
-differs is told on standard error. The last line is 'N passed, M failed', and the exit status 1 where M isn't 0.
+differs is printed on standard error. The last line is 'N passed, M failed', and the exit status 1 where M isn't 0.
 """
 
 import re
