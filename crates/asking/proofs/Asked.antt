@@ -12,9 +12,9 @@ use Rattle.state_rows.specs.declared.fault.StoreFault.TheVariants.{Store}
 use Rattle.lookup.specs.Reads.{ChangesNothing}
 use Rattle.store.specs.Shown.{Absence, IsShown}
 use Rattle.store.specs.declared.show.Show.{Show}
-use Rattle.book.specs.Kept.{HasTables, IsDurablyAt, IsClean, Kept, is_store_fault}
+use Rattle.book.specs.Kept.{HasTablesOf, IsDurablyAt, IsClean, Kept, is_store_fault}
 use Rattle.asking.specs.Answers.{ReportsUnread}
-use Rattle.asking.specs.Reports.{HasShown, IsReportAsked, IsShowAsked}
+use Rattle.asking.specs.Reports.{HasGivenRoster, IsReportAsked, IsShowAsked}
 use Rattle.asking.specs.Requests.{IsCheckedAsRead, IsCommandAsked, IsCommandChecked, IsDoneAsRead, IsRequestAsked, IsRequestChecked}
 use Rattle.asking.specs.declared.answers.AskFault.{AskFault}
 use Rattle.asking.specs.declared.answers.JsonAnswer.{JsonAnswer}
@@ -51,8 +51,8 @@ module _ {S : Type 0} (g : Ghosts S) (old new : Kept S) (what : Show) where
       → ChangesNothing (state g old.held) (state g new.held)
       → ((s : State) → IsDurablyAt g old s → IsDurablyAt g new s)
       → ((s : State) → IsDurablyAt g old s → IsClean g new → IfOk shown (λ roster. (text : Result (List ℕ) Absence) → IsShown roster what text ↔ IsShown s what text))
-      → ((s : State) → IsDurablyAt g old s → HasTables g old s → OnOk shown (HasTables g new s))
-      → HasShown g old new what shown
+      → ((s : State) → IsDurablyAt g old s → HasTablesOf g old s → OnOk shown (HasTablesOf g new s))
+      → HasGivenRoster g old new what shown
   has_shown shown failed shut unchanged kept text tables = record {
     call = record { failed = failed; shut = shut; unchanged = unchanged; kept = kept };
     text = text;

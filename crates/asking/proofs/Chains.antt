@@ -17,7 +17,7 @@ use Rattle.state_rows.specs.declared.fault.StoreFault.TheVariants.{Store, Memory
 use Rattle.writing.specs.Beside.{KeepOthers}
 use Rattle.state_rows.specs.Outcomes.{CrashAddsOnly, CrashLeaves, StaysOpen}
 use Rattle.book.specs.Answered.{IsAnswered}
-use Rattle.book.specs.Kept.{Ends, HasTables, IsDurablyAt, IsClean, Kept, StillHasTables, is_store_fault, is_some_store_fault, result_of}
+use Rattle.book.specs.Kept.{Ends, HasTablesOf, IsDurablyAt, IsClean, Kept, StillHasTables, is_store_fault, is_some_store_fault, result_of}
 use Rattle.book.specs.declared.answer.Answer.{Answer}
 use Rattle.book.proofs.CommandLists.{all_of, all_take, each_of, fold_append, replies_append, replies_take}
 use Rattle.book.proofs.Runs.{fold_more, one_honest}
@@ -54,7 +54,7 @@ module _ {S : Type 0} (g : Ghosts S) where
     pub faults : (state g start.held).faults ≤ (state g now.held).faults
     pub replies : (s : State) → IsDurablyAt g start s → IsClean g now → map result_of answers ≡ Replies s asked
     pub left : (s : State) → IsDurablyAt g start s → IsDurablyAt g now (Fold s asked)
-    pub tables : (s : State) → IsDurablyAt g start s → HasTables g start s → HasTables g now (Fold s asked)
+    pub tables : (s : State) → IsDurablyAt g start s → HasTablesOf g start s → HasTablesOf g now (Fold s asked)
 
   no_chain : (book : Kept S) → IsChain book book [] []
   no_chain book = record {
@@ -86,7 +86,7 @@ module _ {S : Type 0} (g : Ghosts S) where
             ∙ ap (λ (r : ReplyOrRefusal). Replies s asked ++ r ∷ []) (is.reply (Fold s asked) (was.left s at) clean)
             ∙ sym (replies_append s asked (a ∷ []));
         left = λ s at. subst (IsDurablyAt g new) (sym (fold_append s asked (a ∷ []))) (is.answered (Fold s asked) (was.left s at));
-        tables = λ s at has. subst (HasTables g new) (sym (fold_append s asked (a ∷ []))) (is.shown (Fold s asked) (was.left s at) (was.tables s at has));
+        tables = λ s at has. subst (HasTablesOf g new) (sym (fold_append s asked (a ∷ []))) (is.shown (Fold s asked) (was.left s at) (was.tables s at has));
       }
 
   chain_from : (start now new : Kept S) (asked more : List Asked) (answers others : List Answer)
@@ -116,8 +116,8 @@ module _ {S : Type 0} (g : Ghosts S) where
     pub disk : IsClean g new → IsClean g old
     pub replies : (s : State) → IsDurablyAt g old s → IsClean g new → map result_of answers ≡ take (length answers) (Replies s asked)
     pub outcome : (s : State) → IsDurablyAt g old s → Ends (state g new.held) s asked (length answers) fault
-    pub shown : (s : State) → IsDurablyAt g old s → HasTables g old s → fault ≡ None → HasTables g new (Fold s asked)
-    pub still_shown : (s : State) → IsDurablyAt g old s → HasTables g old s → IsSome fault → StillHasTables g new (Fold s (take (length answers) asked))
+    pub shown : (s : State) → IsDurablyAt g old s → HasTablesOf g old s → fault ≡ None → HasTablesOf g new (Fold s asked)
+    pub still_shown : (s : State) → IsDurablyAt g old s → HasTablesOf g old s → IsSome fault → StillHasTables g new (Fold s (take (length answers) asked))
     pub honest : (s : State) → IsDurablyAt g old s → Honest s → CrashLeaves (state g new.held) Honest
     pub others_left : CrashAddsOnly (state g old.held) (state g new.held) (KeepOthers (state g old.held).now)
     pub still_open : fault ≡ Some Memory → StaysOpen (state g old.held) (state g new.held)

@@ -14,7 +14,7 @@ use Rattle.store.specs.Shown.{Absence, no_crew, no_pairing, IsShown}
 use Rattle.store.specs.declared.show.Show.{Show}
 use Rattle.store.specs.declared.show.Show.TheVariants as show
 use Rattle.book.specs.Calls.{HasRead}
-use Rattle.book.specs.Kept.{HasTables, IsDurablyAt, IsClean, Kept}
+use Rattle.book.specs.Kept.{HasTablesOf, IsDurablyAt, IsClean, Kept}
 use Rattle.asking.specs.declared.answers.AskFault.{AskFault}
 use Rattle.asking.specs.declared.answers.AskFault.TheVariants.{Book, Memory}
 use Rattle.asking.specs.declared.reports.Shown.{Shown}
@@ -51,18 +51,18 @@ ReportsShown (Err fault) what result = result ≡ Err (Book fault)
 module _ {S : Type 0} (g : Ghosts S) (old new : Kept S) (what : Show) where
   -- A book was asked to show `what`, and gave this roster or fault, as `Book::show` says. The
   -- roster's text is that of the state that the tables mean.
-  pub record HasShown (shown : Result State StoreFault) : Type 0 where
+  pub record HasGivenRoster (shown : Result State StoreFault) : Type 0 where
     pub call : HasRead g old new shown
     pub text : (s : State) → IsDurablyAt g old s → IsClean g new →
         IfOk shown (λ roster. (text : Result (List ℕ) Absence) →
         IsShown roster what text ↔ IsShown s what text)
-    pub tables : (s : State) → IsDurablyAt g old s → HasTables g old s →
-        OnOk shown (HasTables g new s)
+    pub tables : (s : State) → IsDurablyAt g old s → HasTablesOf g old s →
+        OnOk shown (HasTablesOf g new s)
 
   -- a book was asked to show `what`, and what it shows is reported
   pub record IsShowAsked (result : Result Shown AskFault) : Type 0 where
     pub shown : Result State StoreFault
-    pub has_shown : HasShown shown
+    pub has_shown : HasGivenRoster shown
     pub reported : ReportsShown shown what result
 
   -- a book was asked for a report; or there was no memory to name what the report shows, and the

@@ -10,7 +10,7 @@ use Rattle.roster.specs.Steps.{step_of}
 use Rattle.state_rows.specs.declared.fault.StoreFault.{StoreFault}
 use Rattle.book.specs.Answered.{IsAnswered}
 use Rattle.book.specs.Calls.{HasRead}
-use Rattle.book.specs.Kept.{HasTables, IsClean, IsDurablyAt, Kept, result_of}
+use Rattle.book.specs.Kept.{HasTablesOf, IsClean, IsDurablyAt, Kept, result_of}
 use Rattle.book.specs.declared.answer.Answer.{Answer}
 use Rattle.asking.specs.Answers.{Reports, ReportsUnread}
 use Rattle.asking.specs.declared.answers.AskFault.{AskFault}
@@ -38,8 +38,8 @@ module _ {S : Type 0} (g : Ghosts S) (old new : Kept S) where
     pub call : HasRead g old new answer
     pub reply : (s : State) → IsDurablyAt g old s → IsClean g new →
         IfOk answer (λ a. result_of a ≡ answer_of (step_of s asked.0 asked.1))
-    pub tables : (s : State) → IsDurablyAt g old s → HasTables g old s →
-        OnOk answer (HasTables g new s)
+    pub tables : (s : State) → IsDurablyAt g old s → HasTablesOf g old s →
+        OnOk answer (HasTablesOf g new s)
 
   -- a book was asked how it would answer a command now, and what it answered is reported
   pub record IsCommandChecked (asked : Asked) (result : Result JsonAnswer AskFault) : Type 0 where

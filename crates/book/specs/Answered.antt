@@ -18,7 +18,7 @@ use Rattle.writing.specs.Beside.{KeepOthers}
 use Rattle.state_rows.specs.Outcomes.{CrashAddsOnly, CrashLeaves, CrashLeavesSome, StaysOpen}
 use Rattle.book.specs.Headline.{BreaksNoLimit, IsAcceptance, IsHeld, IsRefusal, KeepsHeld}
 use Rattle.book.specs.Headline.{MakesNoChange, SparesOthers, StaysHeld, Untouched}
-use Rattle.book.specs.Kept.{HasTables, IsDurablyAt, IsClean, IsInDoubt, Kept}
+use Rattle.book.specs.Kept.{HasTablesOf, IsDurablyAt, IsClean, IsInDoubt, Kept}
 use Rattle.book.specs.Kept.{StillHasTables, is_store_fault, result_of}
 use Rattle.book.specs.Sessions.{IsAfter, count_of, fault_of}
 use Rattle.book.specs.declared.answer.Answer.{Answer}
@@ -37,8 +37,8 @@ pub record IsAnswered {S : Type 0} (g : Ghosts S) (old new : Kept S) (asked : As
   pub reply : (s : State) → IsDurablyAt g old s → IsClean g new →
       IfOk result (λ a. result_of a ≡ answer_of (step_of s asked.0 asked.1))
   pub answered : (s : State) → IsDurablyAt g old s → OnOk result (IsDurablyAt g new (next s asked))
-  pub shown : (s : State) → IsDurablyAt g old s → HasTables g old s →
-      OnOk result (HasTables g new (next s asked))
+  pub shown : (s : State) → IsDurablyAt g old s → HasTablesOf g old s →
+      OnOk result (HasTablesOf g new (next s asked))
   -- after out of memory (91) the state is the one before; after a fault of the store (90) it is the
   -- one before or the next
   pub memory : (s : State) → IsDurablyAt g old s → result ≡ Err Memory → IsDurablyAt g new s
@@ -52,7 +52,7 @@ pub record IsAnswered {S : Type 0} (g : Ghosts S) (old new : Kept S) (asked : As
   pub sessions : (s : State) (before : List Session) → IsDurablyAt g old (Stopped s before) →
       CrashLeaves (state g new.held)
       (IsAfter s before (asked ∷ []) (count_of result) (fault_of result))
-  pub still_shown : (s : State) → IsDurablyAt g old s → HasTables g old s →
+  pub still_shown : (s : State) → IsDurablyAt g old s → HasTablesOf g old s →
       OnErr result (StillHasTables g new s)
   -- what is asked of a book first: it stays honest, accepts what breaks no limit, and does each
   -- command once

@@ -38,8 +38,8 @@ module _ {S : Type 0} (g : Ghosts S) (book : Kept S) where
   IsClean = HasCleanDisk (state g book.held)
 
   -- the tables of a book are there, and mean this state
-  abbrev pub HasTables : State → Type 0
-  HasTables s = HoldsNow (state g book.held) s
+  abbrev pub HasTablesOf : State → Type 0
+  HasTablesOf s = HoldsNow (state g book.held) s
 
 -- a state that tables may mean: it is sound, and its kept commands have the instants of their type
 pub record IsKept (s : State) : Type 0 where

@@ -10,7 +10,7 @@ use Rattle.state_rows.specs.declared.fault.StoreFault.TheVariants.{Memory, Store
 use Rattle.writing.specs.Beside.{KeepOthers}
 use Rattle.state_rows.specs.Outcomes.{CrashAddsOnly, CrashLeaves, CrashLeavesSome, StaysOpen}
 use Rattle.book.specs.Headline.{KeepsHeld, SparesOthers, Untouched}
-use Rattle.book.specs.Kept.{Ends, HasTables, IsDurablyAt, IsClean, Kept}
+use Rattle.book.specs.Kept.{Ends, HasTablesOf, IsDurablyAt, IsClean, Kept}
 use Rattle.book.specs.Kept.{StillHasTables, is_some_store_fault, result_of}
 use Rattle.book.specs.Sessions.{IsAfter}
 use Rattle.book.specs.declared.answer.Run.{Run}
@@ -37,9 +37,9 @@ pub record HasRun {S : Type 0} (g : Ghosts S) (old new : Kept S) (commands : Lis
   pub honest : (s : State) → IsDurablyAt g old s → Honest s → CrashLeaves (state g new.held) Honest
   pub some_left : CrashLeavesSome (state g new.held)
   -- what is shown
-  pub shown : (s : State) → IsDurablyAt g old s → HasTables g old s → run.fault ≡ None →
-      HasTables g new (Fold s commands)
-  pub still_shown : (s : State) → IsDurablyAt g old s → HasTables g old s → IsSome run.fault →
+  pub shown : (s : State) → IsDurablyAt g old s → HasTablesOf g old s → run.fault ≡ None →
+      HasTablesOf g new (Fold s commands)
+  pub still_shown : (s : State) → IsDurablyAt g old s → HasTablesOf g old s → IsSome run.fault →
       StillHasTables g new (Fold s (take (length run.answers.items) commands))
   -- what becomes of the schema and of the tables that aren't the book's
   pub others_spared : run.fault ≡ None → (new ≡ old)

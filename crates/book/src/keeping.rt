@@ -21,7 +21,7 @@ ghost use Rattle.book.specs.Asking.{StepOutcome};
 ghost use Rattle.book.specs.Headline.{IsRefusal, SparesOthers};
 ghost use Rattle.store.specs.Loaded.{IsLoaded, IsNotLoaded};
 ghost use Rattle.store.specs.Shown.{Absence, IsShown};
-ghost use Rattle.book.specs.Kept.{HasOne, HasTables, IsAnswerBy, IsDurablyAt, IsClean, Keeps, KeepsEither, HasFoundBook, StillHolds, is_store_fault, result_of};
+ghost use Rattle.book.specs.Kept.{HasOne, HasTablesOf, IsAnswerBy, IsDurablyAt, IsClean, Keeps, KeepsEither, HasFoundBook, StillHolds, is_store_fault, result_of};
 
 use crate::answer::{Answer, Run};
 use command::{Command, Instruction, Key};
@@ -168,8 +168,8 @@ impl<S: Alter> Book<S> {
         // The state stays: a crash leaves it, and the tables mean it.
         ensures kept { (s : State) → IsDurablyAt S.Store self.old s
             → IsDurablyAt S.Store self.new s }
-        ensures shown { (s : State) → IsDurablyAt S.Store self.old s → HasTables S.Store self.old s
-            → OnOk result (HasTables S.Store self.new s) }
+        ensures shown { (s : State) → IsDurablyAt S.Store self.old s → HasTablesOf S.Store self.old s
+            → OnOk result (HasTablesOf S.Store self.new s) }
     {
         if self.failed {
             return Err(StoreFault::Store);
@@ -205,8 +205,8 @@ impl<S: Alter> Book<S> {
         // The state stays: a crash leaves it, and the tables mean it.
         ensures kept { (s : State) → IsDurablyAt S.Store self.old s
             → IsDurablyAt S.Store self.new s }
-        ensures shown { (s : State) → IsDurablyAt S.Store self.old s → HasTables S.Store self.old s
-            → OnOk result (HasTables S.Store self.new s) }
+        ensures shown { (s : State) → IsDurablyAt S.Store self.old s → HasTablesOf S.Store self.old s
+            → OnOk result (HasTablesOf S.Store self.new s) }
     {
         if self.failed {
             return Err(StoreFault::Store);

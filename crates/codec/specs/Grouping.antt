@@ -79,8 +79,8 @@ IsSoFar done g =
     × (last_place g ≡ None → told_all g ≡ [])
 
 -- An open pairing holds this segment alone, and begins at this record.
-abbrev pub IsBegun : ℕ → ScheduledSegment → OpenPairing → Type 0
-IsBegun first it o =
+abbrev pub IsBegunWith : ℕ → ScheduledSegment → OpenPairing → Type 0
+IsBegunWith first it o =
     (o.draft.first ≡ first) × (o.draft.id ≡ it.place.pairing) × (o.draft.periods.items ≡ [])
     × (o.period.report ≡ it.place.report) × (o.period.release ≡ it.place.release)
     × (o.period.segments.items ≡ it.segment ∷ [])

@@ -18,8 +18,8 @@ use Rattle.entries.proofs.Following.{has_value}
 use Rattle.entries.proofs.Mapping.{nothing_mapped, next_mapped, mapped_at, mapped_place}
 use Rattle.entries.proofs.PlanKeys.{period_names_same}
 use Rattle.entries.proofs.PlanLemmas.{all_below, blamed, last_or_before, there_within}
-use Rattle.entries.specs.OneOutside.{IsOutsideToldBy, IsUntold}
-use Rattle.entries.specs.OutsideRows.{AreSegmentsOf, HasNoGaps, HasTooMany, HasUnmade, IsKeyedSegment, IsMadeFrom, SaysNoOutside, OutsideSegments, Outsides, OutsidesMade, SegmentsRead, name_of_segment, outside_segment_name, row_of_keyed_segment}
+use Rattle.entries.specs.OneOutside.{IsOutsideToldBy, GiveNoOutside}
+use Rattle.entries.specs.OutsideRows.{AreSegmentsOf, HasNoOutsideGaps, HasTooMany, HasUnmade, IsKeyedOutsideSegment, IsMadeFrom, SaysNoOutside, OutsideSegments, Outsides, OutsidesMade, OutsideSegmentsRead, name_of_outside_segment, outside_segment_name, row_of_keyed_outside_segment}
 use Rattle.entries.specs.Mapping.{HasStranger, Mapped, TellsOf}
 use Rattle.entries.specs.Faults.{Blames}
 use Rattle.entries.specs.declared.fault.LoadFault.{LoadFault}
@@ -28,11 +28,11 @@ use Rattle.entries.specs.declared.outside_rows.OutsideSegmentKey.{OutsideSegment
 use Rattle.state_rows.proofs.Lists.{one_value, some_same}
 use Rattle.state_rows.proofs.Values.{text_is, number_is}
 
-pub names_same : (i j : OutsideSegmentKey) → name_of_segment i ≡ name_of_segment j → i ≡ j
+pub names_same : (i j : OutsideSegmentKey) → name_of_outside_segment i ≡ name_of_outside_segment j → i ≡ j
 names_same i j e = let it = period_names_same i.outside j.outside i.number j.number e in λ k. record { outside = it.0 k; number = it.1 k }
 
 -- the record whose row it is under a key
-module _ (outsides : Outsides) (it : OutsideSegmentRecord) (key : OutsideSegmentKey) (v : OutsideSegmentRecord) (e : outside_segment_row it ≡ row_of_keyed_segment key v) (is : IsKeyedSegment outsides key v) where
+module _ (outsides : Outsides) (it : OutsideSegmentRecord) (key : OutsideSegmentKey) (v : OutsideSegmentRecord) (e : outside_segment_row it ≡ row_of_keyed_outside_segment key v) (is : IsKeyedOutsideSegment outsides key v) where
   pub same_record : v ≡ it
   same_record =
       let at_column = λ (k : ℕ). ap (λ (row : Row). column row k) e in
@@ -46,7 +46,7 @@ module _ (outsides : Outsides) (it : OutsideSegmentRecord) (key : OutsideSegment
 
 module _ (outsides : Outsides) (it : OutsideSegmentRecord) where
   abbrev pub Tells : Option OutsideSegmentKey → Type 0
-  Tells = TellsOf (λ key v found. (found ≡ key) × (v ≡ it)) row_of_keyed_segment (IsKeyedSegment outsides) (outside_segment_row it)
+  Tells = TellsOf (λ key v found. (found ≡ key) × (v ≡ it)) row_of_keyed_outside_segment (IsKeyedOutsideSegment outsides) (outside_segment_row it)
 
   pub no_outside : fin.contains_key outsides it.outside ≡ false → Tells None
   no_outside none key v e is =
@@ -63,22 +63,22 @@ module _ (outsides : Outsides) (it : OutsideSegmentRecord) where
 
 -- ---- Records in turn
 
-pub none_read : (outsides : Outsides) (records : List OutsideSegmentRecord) → SegmentsRead outsides records 0 fin.empty
-none_read outsides records = record { mapped = λ once. nothing_mapped name_of_segment names_same row_of_keyed_segment (IsKeyedSegment outsides) }
+pub none_read : (outsides : Outsides) (records : List OutsideSegmentRecord) → OutsideSegmentsRead outsides records 0 fin.empty
+none_read outsides records = record { mapped = λ once. nothing_mapped name_of_outside_segment names_same row_of_keyed_outside_segment (IsKeyedOutsideSegment outsides) }
 
 module _ (outsides : Outsides) (records : List OutsideSegmentRecord) (at : ℕ) (it : OutsideSegmentRecord) (there : slice_get records at ≡ Some it) where
-  pub stranger : Tells outsides it None → HasStranger row_of_keyed_segment (IsKeyedSegment outsides) (map outside_segment_row records)
+  pub stranger : Tells outsides it None → HasStranger row_of_keyed_outside_segment (IsKeyedOutsideSegment outsides) (map outside_segment_row records)
   stranger none = record { row = outside_segment_row it; here = mapped_at outside_segment_row records at it there; strange = none }
 
-  pub one_read : (m n : OutsideSegments) (key : OutsideSegmentKey) → Tells outsides it (Some key) → SegmentsRead outsides records at m → n ≡ fin.insert m (name_of_segment key) it →
-      SegmentsRead outsides records (at + 1) n
+  pub one_read : (m n : OutsideSegments) (key : OutsideSegmentKey) → Tells outsides it (Some key) → OutsideSegmentsRead outsides records at m → n ≡ fin.insert m (name_of_outside_segment key) it →
+      OutsideSegmentsRead outsides records (at + 1) n
   one_read m n key told read made =
       let index = told.0 in
       let v = told.1 in
-      let same : n ≡ fin.insert m (name_of_segment index) v = made ∙ (λ i. fin.insert m (name_of_segment (told.2.0 i)) (sym told.2.1 i)) in
+      let same : n ≡ fin.insert m (name_of_outside_segment index) v = made ∙ (λ i. fin.insert m (name_of_outside_segment (told.2.0 i)) (sym told.2.1 i)) in
       record {
-        mapped = λ once. subst (Mapped name_of_segment row_of_keyed_segment (IsKeyedSegment outsides) (take (at + 1) (map outside_segment_row records))) (sym same)
-            (next_mapped name_of_segment names_same row_of_keyed_segment (IsKeyedSegment outsides) m index v (map outside_segment_row records) at
+        mapped = λ once. subst (Mapped name_of_outside_segment row_of_keyed_outside_segment (IsKeyedOutsideSegment outsides) (take (at + 1) (map outside_segment_row records))) (sym same)
+            (next_mapped name_of_outside_segment names_same row_of_keyed_outside_segment (IsKeyedOutsideSegment outsides) m index v (map outside_segment_row records) at
             (mapped_place outside_segment_row records at it there ∙ ap Some told.3) (read.mapped once) told.4 once);
       }
 
@@ -108,7 +108,7 @@ module _ (segments : OutsideSegments) (id : List ℕ) where
     ];
   }
 
-  pub all_in_turn : (count : ℕ) (its : List OutsideSegmentRecord) → HasNoGaps segments → AreInTurn segments id count its → fin.get segments (outside_segment_name id (count + 1)) ≡ None → AreSegmentsOf segments id its
+  pub all_in_turn : (count : ℕ) (its : List OutsideSegmentRecord) → HasNoOutsideGaps segments → AreInTurn segments id count its → fin.get segments (outside_segment_name id (count + 1)) ≡ None → AreSegmentsOf segments id its
   all_in_turn count its whole are none row = (
     λ h.
         let at = place_in outside_segment_row its row h in
@@ -126,9 +126,9 @@ module _ (segments : OutsideSegments) (id : List ℕ) where
       (it.0, are.each 12 it.0 it.1)
 
   pub told : (it : OutsideRecord) (its : List OutsideSegmentRecord) → AreSegmentsOf segments id its → (result : Result OutsideEntry LoadFault) →
-      MatchResult result (IsOutsideToldBy it its) (Blames table_name.OutsideSegment (IsUntold it its)) → MatchResult result (IsMadeFrom segments id it) (Blames table_name.OutsideSegment (SaysNoOutside segments id it))
+      MatchResult result (IsOutsideToldBy it its) (Blames table_name.OutsideSegment (GiveNoOutside it its)) → MatchResult result (IsMadeFrom segments id it) (Blames table_name.OutsideSegment (SaysNoOutside segments id it))
   told it its are (Ok o) is = (its, are, is)
-  told it its are (Err fault) blame = blamed table_name.OutsideSegment (IsUntold it its) (SaysNoOutside segments id it) (λ none. inr (its, are, none)) fault blame
+  told it its are (Err fault) blame = blamed table_name.OutsideSegment (GiveNoOutside it its) (SaysNoOutside segments id it) (λ none. inr (its, are, none)) fault blame
 
 -- ---- Outside periods in turn
 

@@ -23,7 +23,7 @@ use Rattle.state_rows.specs.Rows.{OutsideSegmentOf, row_of_outside_segment}
 use Rattle.state_rows.proofs.Lists.{one_value, same_list, some_same}
 use Rattle.state_rows.proofs.Values.{number_is, text_is}
 use Rattle.entries.proofs.Mapping.{mapped_at}
-use Rattle.entries.specs.OneOutside.{AreAllOf, AreTimesInTurn, HasBadTimes, HasNoSegmentOf, HasNumber, HasTimesAt, IsOutsideToldBy, IsSegmentAmong, IsUntold, times_in}
+use Rattle.entries.specs.OneOutside.{AreAllOf, AreTimesInTurn, HasBadTimes, HasNoSegmentOf, HasNumber, HasTimesAt, IsOutsideToldBy, IsSegmentAmong, GiveNoOutside, times_in}
 
 -- ---- Lists
 
@@ -215,13 +215,13 @@ module _ (it : OutsideRecord) (segments : List OutsideSegmentRecord) (o : Outsid
 -- ---- What is refused
 
 module _ (it : OutsideRecord) (segments : List OutsideSegmentRecord) where
-  pub no_report : is_instant it.report_at ≡ false → IsUntold it segments
+  pub no_report : is_instant it.report_at ≡ false → GiveNoOutside it segments
   no_report none o told = let no : true ≡ false = sym told.report_instant ∙ none in cc
 
-  pub no_release : is_instant it.release_at ≡ false → IsUntold it segments
+  pub no_release : is_instant it.release_at ≡ false → GiveNoOutside it segments
   no_release none o told = let no : true ≡ false = sym told.release_instant ∙ none in cc
 
-  pub bad_times : HasBadTimes segments → IsUntold it segments
+  pub bad_times : HasBadTimes segments → GiveNoOutside it segments
   bad_times bad o told =
       let g = of_segment it segments o told bad.has.place bad.it bad.has.here in
       elim bad.bad [
@@ -237,7 +237,7 @@ module _ (it : OutsideRecord) (segments : List OutsideSegmentRecord) where
       ]
 
   module _ (all : List BlockTimes) (turn : AreTimesInTurn segments all) where
-    pub no_segment : HasNoSegmentOf it.id all segments → IsUntold it segments
+    pub no_segment : HasNoSegmentOf it.id all segments → GiveNoOutside it segments
     no_segment bad o told =
         let g = of_segment it segments o told bad.place bad.it bad.here in
         bad.none (record { place = g.0.place; times = g.0.times; there = ap (λ l. slice_get l g.0.place) (all_are it segments o told all turn) ∙ g.0.flown; is = g.1 })
@@ -245,7 +245,7 @@ module _ (it : OutsideRecord) (segments : List OutsideSegmentRecord) where
     abbrev pub drafted : OutsidePlan
     drafted = record { id = it.id; report = it.report_at; release = it.release_at; segments = all }
 
-    pub not_made : (fault : DutyFault) → checked (outside_fault drafted) drafted ≡ Err fault → IsUntold it segments
+    pub not_made : (fault : DutyFault) → checked (outside_fault drafted) drafted ≡ Err fault → GiveNoOutside it segments
     not_made fault err o told =
         let segments_are = all_are it segments o told all turn in
         let same : drafted ≡ o.period = λ i. record { id = sym told.named i; report = sym told.report i; release = sym told.release i; segments = segments_are i } in

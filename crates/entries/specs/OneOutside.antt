@@ -28,8 +28,8 @@ pub record IsOutsideToldBy
       ↔ ((g : OutsideSegmentOf o.period) × (row ≡ row_of_outside_segment it.id g.place g.times))
 
 -- a record of `outside` and records of `outside_segment` give no outside period
-abbrev pub IsUntold : OutsideRecord → List OutsideSegmentRecord → Type 0
-IsUntold it segments = (o : OutsideEntry) → IsOutsideToldBy it segments o → ⊥
+abbrev pub GiveNoOutside : OutsideRecord → List OutsideSegmentRecord → Type 0
+GiveNoOutside it segments = (o : OutsideEntry) → IsOutsideToldBy it segments o → ⊥
 
 -- ---- The segments by their numbers
 

@@ -28,8 +28,8 @@ only id = fin.insert fin.empty id tt
 -- Records give no pairing under an id. Some period has no key of the id, or the periods leave a
 -- gap; some segment has no key of one of the periods, or the segments leave a gap; or no pairing
 -- has the records.
-abbrev pub IsUntold : List ℕ → List PeriodRecord → List SegmentRecord → Type 0
-IsUntold id periods segments =
+abbrev pub GiveNoPairing : List ℕ → List PeriodRecord → List SegmentRecord → Type 0
+GiveNoPairing id periods segments =
     ArePeriodsWanting (only id) periods (length periods)
     ⊎ ((m : Periods) × ArePeriodsWhole (only id) periods (length periods) m
     × (AreSegmentsWanting m segments (length segments)
@@ -40,4 +40,4 @@ IsUntold id periods segments =
 -- nothing of the records
 abbrev pub RefusesPairing : List ℕ → List PeriodRecord → List SegmentRecord → LoadFault → Type 0
 RefusesPairing id periods segments (Fault fault) = ⊤
-RefusesPairing id periods segments _ = IsUntold id periods segments
+RefusesPairing id periods segments _ = GiveNoPairing id periods segments

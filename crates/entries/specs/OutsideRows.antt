@@ -9,7 +9,7 @@ use Rattle.roster.specs.declared.state.OutsideEntry.{OutsideEntry}
 use Rattle.tables.specs.Records.{outside_segment_row}
 use Rattle.tables.specs.declared.outside.OutsideRecord.{OutsideRecord}
 use Rattle.tables.specs.declared.outside_segment.OutsideSegmentRecord.{OutsideSegmentRecord}
-use Rattle.entries.specs.OneOutside.{IsOutsideToldBy, IsUntold}
+use Rattle.entries.specs.OneOutside.{IsOutsideToldBy, GiveNoOutside}
 use Rattle.entries.specs.PlanRows.{HasNoGap}
 use Rattle.entries.specs.Mapping.{AreOnce, HasStranger, Mapped}
 use Rattle.entries.specs.declared.outside_rows.OutsideSegmentKey.{OutsideSegmentKey}
@@ -32,48 +32,48 @@ abbrev pub outside_segment_name : List ℕ → ℕ → List ℕ
 outside_segment_name outside number = text_then outside (number ∷ [])
 
 -- a key of `outside_segment` is ordered by this name
-abbrev pub name_of_segment : OutsideSegmentKey → List ℕ
-name_of_segment key = outside_segment_name key.outside key.number
+abbrev pub name_of_outside_segment : OutsideSegmentKey → List ℕ
+name_of_outside_segment key = outside_segment_name key.outside key.number
 
 -- a record under a key has this row in `outside_segment`
-abbrev pub row_of_keyed_segment : OutsideSegmentKey → OutsideSegmentRecord → Row
-row_of_keyed_segment key it =
+abbrev pub row_of_keyed_outside_segment : OutsideSegmentKey → OutsideSegmentRecord → Row
+row_of_keyed_outside_segment key it =
     outside_segment_row (record it { outside = key.outside; number = key.number })
 
 -- the record of a segment stands under its key, and is of one of the outside periods `outsides`
-pub record IsKeyedSegment
+pub record IsKeyedOutsideSegment
     (outsides : Outsides) (key : OutsideSegmentKey) (it : OutsideSegmentRecord) : Type 0 where
   pub outside : it.outside ≡ key.outside
   pub number : it.number ≡ key.number
   pub of_outside : fin.contains_key outsides it.outside ≡ true
 
 -- the map has just this many first records of `outside_segment`, by their keys
-pub record SegmentsRead
+pub record OutsideSegmentsRead
     (outsides : Outsides) (records : List OutsideSegmentRecord) (count : ℕ)
     (segments : OutsideSegments) : Type 0 where
-  pub mapped : AreOnce row_of_keyed_segment (map outside_segment_row records) →
-      Mapped name_of_segment row_of_keyed_segment (IsKeyedSegment outsides)
+  pub mapped : AreOnce row_of_keyed_outside_segment (map outside_segment_row records) →
+      Mapped name_of_outside_segment row_of_keyed_outside_segment (IsKeyedOutsideSegment outsides)
       (take count (map outside_segment_row records)) segments
 
 -- the segments of each outside period are numbered from 1 without a gap
-abbrev pub HasNoGaps : OutsideSegments → Type 0
-HasNoGaps segments = (outside : List ℕ) →
+abbrev pub HasNoOutsideGaps : OutsideSegments → Type 0
+HasNoOutsideGaps segments = (outside : List ℕ) →
     HasNoGap (λ number. fin.get segments (outside_segment_name outside number))
 
 -- the map has all records of `outside_segment`, by their keys, and the segments of each outside
 -- period are numbered without a gap
-abbrev pub AreSegmentsWhole :
+abbrev pub AreOutsideSegmentsWhole :
     Outsides → List OutsideSegmentRecord → OutsideSegments → Type 0
-AreSegmentsWhole outsides records segments =
-    SegmentsRead outsides records (length records) segments × HasNoGaps segments
+AreOutsideSegmentsWhole outsides records segments =
+    OutsideSegmentsRead outsides records (length records) segments × HasNoOutsideGaps segments
 
 -- some record of `outside_segment` is of none of the outside periods, or the records leave a gap in
 -- the numbers of segments
-abbrev pub AreSegmentsWanting : Outsides → List OutsideSegmentRecord → Type 0
-AreSegmentsWanting outsides records =
-    HasStranger row_of_keyed_segment (IsKeyedSegment outsides) (map outside_segment_row records)
-    ⊎ ((segments : OutsideSegments) × SegmentsRead outsides records (length records) segments
-    × (HasNoGaps segments → ⊥))
+abbrev pub AreOutsideSegmentsWanting : Outsides → List OutsideSegmentRecord → Type 0
+AreOutsideSegmentsWanting outsides records =
+    HasStranger row_of_keyed_outside_segment (IsKeyedOutsideSegment outsides) (map outside_segment_row records)
+    ⊎ ((segments : OutsideSegments) × OutsideSegmentsRead outsides records (length records) segments
+    × (HasNoOutsideGaps segments → ⊥))
 
 -- ---- The outside periods
 
@@ -98,7 +98,7 @@ IsMadeFrom segments id it o = (its : List OutsideSegmentRecord) × AreSegmentsOf
 abbrev pub SaysNoOutside : OutsideSegments → List ℕ → OutsideRecord → Type 0
 SaysNoOutside segments id it =
     HasTooMany segments id
-    ⊎ ((its : List OutsideSegmentRecord) × AreSegmentsOf segments id its × IsUntold it its)
+    ⊎ ((its : List OutsideSegmentRecord) × AreSegmentsOf segments id its × GiveNoOutside it its)
 
 -- the outside periods of a map are just those of the records of `outside`, as these and the records
 -- of the segments give them

@@ -4,7 +4,7 @@
 ghost use Rattle.std.specs.Prelude.{◌≡◌, ◌↔◌, ◌+◌, true, false, IsTrue, MatchResult};
 ghost use Rattle.std.specs.Option.{option_copied};
 ghost use Rattle.stored_json.specs.Instants.{is_instant, times_have_instants};
-ghost use Rattle.entries.specs.OneOutside.{AreAllOf, AreTimesInTurn, HasBadTimes, HasNoSegmentOf, IsNumbered, IsOutsideToldBy, IsSegmentAmong, IsUntold, times_in};
+ghost use Rattle.entries.specs.OneOutside.{AreAllOf, AreTimesInTurn, HasBadTimes, HasNoSegmentOf, IsNumbered, IsOutsideToldBy, IsSegmentAmong, GiveNoOutside, times_in};
 ghost use Rattle.entries.specs.Faults.{Blames};
 ghost use Rattle.entries.specs.declared.fault.TableName.TheVariants as table_name;
 
@@ -118,7 +118,7 @@ pub fn outside_of_records(
     segments: &[OutsideSegmentRecord],
 ) -> Result<OutsideEntry, LoadFault>
     ensures { MatchResult result (IsOutsideToldBy it.now segments.now)
-        (Blames table_name.OutsideSegment (IsUntold it.now segments.now)) }
+        (Blames table_name.OutsideSegment (GiveNoOutside it.now segments.now)) }
 {
     let report = instant(it.report_at)?;
     let release = instant(it.release_at)?;

@@ -6,7 +6,7 @@ ghost use Rattle.std.specs.Prelude.{◌≡◌, ◌↔◌, length, map, IfOk, IsT
 ghost use Rattle.std.specs.FinMap as fin;
 ghost use Rattle.tables.specs.Records.{outside_segment_row};
 ghost use Rattle.entries.specs.Keyed.{Follows};
-ghost use Rattle.entries.specs.OutsideRows.{AreSegmentsOf, AreSegmentsWanting, AreSegmentsWhole, HasNoGaps, HasTooMany, HasUnmade, IsKeyedSegment, IsMadeFrom, SaysNoOutside, OutsidesMade, SegmentsRead, outside_segment_name, row_of_keyed_segment};
+ghost use Rattle.entries.specs.OutsideRows.{AreSegmentsOf, AreOutsideSegmentsWanting, AreOutsideSegmentsWhole, HasNoOutsideGaps, HasTooMany, HasUnmade, IsKeyedOutsideSegment, IsMadeFrom, SaysNoOutside, OutsidesMade, OutsideSegmentsRead, outside_segment_name, row_of_keyed_outside_segment};
 ghost use Rattle.entries.specs.Faults.{Blames};
 ghost use Rattle.entries.specs.Mapping.{HasStranger, TellsOf};
 ghost use Rattle.entries.specs.declared.fault.TableName.TheVariants as table_name;
@@ -32,7 +32,7 @@ fn key_of(
     row: &OutsideSegmentRecord,
 ) -> Result<Option<OutsideSegmentKey>, MemoryFault>
     ensures { IfOk result (TellsOf (λ key it found. (found ≡ key) × (it ≡ row.now))
-        row_of_keyed_segment (IsKeyedSegment outsides.now) (outside_segment_row row.now)) }
+        row_of_keyed_outside_segment (IsKeyedOutsideSegment outsides.now) (outside_segment_row row.now)) }
 {
     let outside = OutsideId::new(row.outside.try_clone(alloc)?);
     let number = row.number;
@@ -48,9 +48,9 @@ fn by_keys(
     outsides: &OrdMap<OutsideId, OutsideRecord>,
     records: &[OutsideSegmentRecord],
 ) -> Result<OrdMap<OutsideSegmentKey, OutsideSegmentRecord>, LoadFault>
-    ensures { MatchResult result (SegmentsRead outsides.now records.now (length records.now))
-        (Blames table_name.OutsideSegment (HasStranger row_of_keyed_segment
-        (IsKeyedSegment outsides.now) (map outside_segment_row records.now))) }
+    ensures { MatchResult result (OutsideSegmentsRead outsides.now records.now (length records.now))
+        (Blames table_name.OutsideSegment (HasStranger row_of_keyed_outside_segment
+        (IsKeyedOutsideSegment outsides.now) (map outside_segment_row records.now))) }
 {
     let mut segments = OrdMap::new(alloc);
     for row in records {
@@ -89,7 +89,7 @@ fn are_ungapped(
     alloc: Global,
     segments: &OrdMap<OutsideSegmentKey, OutsideSegmentRecord>,
 ) -> Result<bool, MemoryFault>
-    ensures { IfOk result (λ yes. IsTrue yes ↔ HasNoGaps segments.now) }
+    ensures { IfOk result (λ yes. IsTrue yes ↔ HasNoOutsideGaps segments.now) }
 {
     for (key, _) in segments.iter() {
         if !follows(alloc, segments, key)? {
@@ -105,8 +105,8 @@ pub fn all_by_keys(
     outsides: &OrdMap<OutsideId, OutsideRecord>,
     records: &[OutsideSegmentRecord],
 ) -> Result<OrdMap<OutsideSegmentKey, OutsideSegmentRecord>, LoadFault>
-    ensures { MatchResult result (AreSegmentsWhole outsides.now records.now)
-        (Blames table_name.OutsideSegment (AreSegmentsWanting outsides.now records.now)) }
+    ensures { MatchResult result (AreOutsideSegmentsWhole outsides.now records.now)
+        (Blames table_name.OutsideSegment (AreOutsideSegmentsWanting outsides.now records.now)) }
 {
     let segments = by_keys(alloc, outsides, records)?;
     if !are_ungapped(alloc, &segments)? {
@@ -121,7 +121,7 @@ fn segments_of(
     segments: &OrdMap<OutsideSegmentKey, OutsideSegmentRecord>,
     outside: &OutsideId,
 ) -> Result<Vec<OutsideSegmentRecord>, LoadFault>
-    requires { HasNoGaps segments.now }
+    requires { HasNoOutsideGaps segments.now }
     ensures { MatchResult result (λ its. AreSegmentsOf segments.now outside.now its.items)
         (Blames table_name.OutsideSegment (HasTooMany segments.now outside.now)) }
 {
@@ -142,7 +142,7 @@ fn outside_of(
     id: &OutsideId,
     it: &OutsideRecord,
 ) -> Result<OutsideEntry, LoadFault>
-    requires { HasNoGaps segments.now }
+    requires { HasNoOutsideGaps segments.now }
     ensures { MatchResult result (IsMadeFrom segments.now id.now it.now)
         (Blames table_name.OutsideSegment (SaysNoOutside segments.now id.now it.now)) }
 {
@@ -156,7 +156,7 @@ pub fn make_all(
     outsides: &OrdMap<OutsideId, OutsideRecord>,
     segments: &OrdMap<OutsideSegmentKey, OutsideSegmentRecord>,
 ) -> Result<OrdMap<OutsideId, OutsideEntry>, LoadFault>
-    requires { HasNoGaps segments.now }
+    requires { HasNoOutsideGaps segments.now }
     ensures { MatchResult result (OutsidesMade outsides.now segments.now)
         (Blames table_name.OutsideSegment (HasUnmade outsides.now segments.now)) }
 {

@@ -18,7 +18,7 @@ use Rattle.tables.specs.declared.outside.OutsideRecord.{OutsideRecord}
 use Rattle.tables.specs.declared.outside_segment.OutsideSegmentRecord.{OutsideSegmentRecord}
 use Rattle.entries.specs.Mapping.{AreOnce, HasStranger, Mapped}
 use Rattle.state_rows.specs.Rows.{HasJust}
-use Rattle.entries.specs.OutsideRows.{Outsides, OutsideSegments, AreSegmentsWhole, AreSegmentsWanting, OutsidesMade, HasUnmade}
+use Rattle.entries.specs.OutsideRows.{Outsides, OutsideSegments, AreOutsideSegmentsWhole, AreOutsideSegmentsWanting, OutsidesMade, HasUnmade}
 
 -- ---- The table `outside`
 
@@ -90,13 +90,13 @@ pub record AreOutsidesSet
     : Type 0 where
   pub same : new ≡ record old { outsides = new.outsides }
   pub segments : OutsideSegments
-  pub whole : AreSegmentsWhole outsides records segments
+  pub whole : AreOutsideSegmentsWhole outsides records segments
   pub made : OutsidesMade outsides segments new.outsides
 
 -- some record of `outside_segment` is of none of the outside periods, or the records leave a gap in
 -- the numbers of segments, or give no outside period under one of the ids
 abbrev pub AreOutsidesUnset : Outsides → List OutsideSegmentRecord → Type 0
 AreOutsidesUnset outsides records =
-    AreSegmentsWanting outsides records
-    ⊎ ((segments : OutsideSegments) × AreSegmentsWhole outsides records segments
+    AreOutsideSegmentsWanting outsides records
+    ⊎ ((segments : OutsideSegments) × AreOutsideSegmentsWhole outsides records segments
     × HasUnmade outsides segments)

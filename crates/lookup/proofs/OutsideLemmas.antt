@@ -30,7 +30,7 @@ use Rattle.state_rows.proofs.Tests.{found, passes, IsPlain}
 use Rattle.state_rows.proofs.Values.{number_is, text_is}
 use Rattle.state_rows.specs.Kept.{IsBookOf}
 use Rattle.entries.specs.Right.{AreRight}
-use Rattle.entries.specs.OneOutside.{IsOutsideToldBy, IsUntold}
+use Rattle.entries.specs.OneOutside.{IsOutsideToldBy, GiveNoOutside}
 use Rattle.entries.specs.Faults.{Blames}
 use Rattle.entries.specs.declared.fault.LoadFault.{LoadFault}
 use Rattle.entries.specs.declared.fault.LoadFault.TheVariants.{NotABook, Version, Damaged, Fault}
@@ -54,14 +54,14 @@ pub first_told : (records : List OutsideRecord) (segments : List OutsideSegmentR
 first_told [] segments row o here told = absurd (cc)
 first_told (x ∷ xs) segments row o here told = (o, refl, subst (λ (r : OutsideRecord). IsOutsideToldBy r segments o) (sym (some_same here)) told)
 
-untold_if : (row : OutsideRecord) (segments : List OutsideSegmentRecord) (fault : LoadFault) → Blames table_name.OutsideSegment (IsUntold row segments) fault → unread_as fault ≡ Store → IsUntold row segments
+untold_if : (row : OutsideRecord) (segments : List OutsideSegmentRecord) (fault : LoadFault) → Blames table_name.OutsideSegment (GiveNoOutside row segments) fault → unread_as fault ≡ Store → GiveNoOutside row segments
 untold_if row segments (Fault fault) blames is = absurd (cc)
 untold_if row segments NotABook blames is = absurd blames
 untold_if row segments Version blames is = absurd blames
 untold_if row segments (Damaged name) blames is = blames.1
 
 pub not_told : (records : List OutsideRecord) (segments : List OutsideSegmentRecord) (row : OutsideRecord) (fault : LoadFault) (told : StoreFault) → slice_get records 0 ≡ Some row → told ≡ unread_as fault →
-    Blames table_name.OutsideSegment (IsUntold row segments) fault → told ≡ Store → HaveNone (HasFirstOutside records segments)
+    Blames table_name.OutsideSegment (GiveNoOutside row segments) fault → told ≡ Store → HaveNone (HasFirstOutside records segments)
 not_told [] segments row fault told here same blames is found first = absurd (cc)
 not_told (x ∷ xs) segments row fault told here same blames is found first =
     untold_if row segments fault blames (sym same ∙ is) first.0 (subst (λ (r : OutsideRecord). IsOutsideToldBy r segments first.0) (some_same here) first.2)

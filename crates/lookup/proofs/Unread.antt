@@ -25,7 +25,7 @@ use Rattle.entries.proofs.PlanStates.{state_told}
 use Rattle.entries.proofs.RightRows.{segments_fit}
 use Rattle.entries.specs.Keyed.{IsKeyedPeriod, IsKeyedSegment, PeriodsRead, SegmentsRead, row_of_keyed_period, row_of_keyed_segment}
 use Rattle.entries.specs.Right.{AreRight}
-use Rattle.entries.specs.OnePairing.{IsUntold, RefusesPairing, only}
+use Rattle.entries.specs.OnePairing.{GiveNoPairing, RefusesPairing, only}
 use Rattle.entries.specs.declared.fault.LoadFault.{LoadFault}
 use Rattle.entries.specs.declared.fault.LoadFault.TheVariants.{Damaged, Fault, NotABook, Version}
 use Rattle.state_rows.specs.declared.fault.StoreFault.{StoreFault}
@@ -221,7 +221,7 @@ module _ (s : roster.State) (sound : Sound s) (db : Database) (book : IsBookOf s
       let same : id ≡ at.0.name = period_of p kept.1 ∙ text_is (ap (λ (x : Row). column x 0) at.2) in
       (at.0.value, ap (fin.get t.pairings) same ∙ at.0.there)
 
-  pub not_unread : (p : PeriodRecord) → Has (map period_row periods) (period_row p) → IsUntold id periods segments → ⊥
+  pub not_unread : (p : PeriodRecord) → Has (map period_row periods) (period_row p) → GiveNoPairing id periods segments → ⊥
   not_unread p h (inl (inl strange)) = period_strange strange
   not_unread p h (inl (inr gap)) = gap.2 (ungapped gap.0 gap.1)
   not_unread p h (inr m) = elim m.2 [
@@ -235,23 +235,23 @@ module _ (s : roster.State) (sound : Sound s) (db : Database) (book : IsBookOf s
 -- of all that is read of a pairing with a period
 not_unread_rows : (s : roster.State) (sound : Sound s) (db : Database) (book : IsBookOf s db) (right : AreRight outside_segment db) (id : List ℕ) (periods : List PeriodRecord) (segments : List SegmentRecord) →
     Finds (table period) (begins_with (Text id ∷ [])) db (map period_row periods) → IfSome periods (Finds (table segment) (begins_with (Text id ∷ [])) db (map segment_row segments)) →
-    IsSome (slice_get periods 0) → IsUntold id periods segments → ⊥
+    IsSome (slice_get periods 0) → GiveNoPairing id periods segments → ⊥
 not_unread_rows s sound db book right id [] segments finds also some unread = absurd (cc)
 not_unread_rows s sound db book right id (p ∷ ps) segments finds also some unread = not_unread s sound db book right id (p ∷ ps) segments finds also p (inl refl) unread
 
 pub not_unread_plan : (s : roster.State) (sound : Sound s) (db : Database) (book : IsBookOf s db) (right : AreRight outside_segment db) (id : List ℕ) (rows : PlanRecords) → FindsPlan id db rows →
-    IsSome (slice_get rows.periods.items 0) → IsUntold id rows.periods.items rows.segments.items → ⊥
+    IsSome (slice_get rows.periods.items 0) → GiveNoPairing id rows.periods.items rows.segments.items → ⊥
 not_unread_plan s sound db book right id rows finds some unread =
     not_unread_rows s sound db book right id rows.periods.items rows.segments.items finds.periods finds.segments some unread
 
 -- ---- The fault
 
-unread_if : (id : List ℕ) (periods : List PeriodRecord) (segments : List SegmentRecord) (fault : LoadFault) → RefusesPairing id periods segments fault → unread_as fault ≡ Store → IsUntold id periods segments
+unread_if : (id : List ℕ) (periods : List PeriodRecord) (segments : List SegmentRecord) (fault : LoadFault) → RefusesPairing id periods segments fault → unread_as fault ≡ Store → GiveNoPairing id periods segments
 unread_if id periods segments (Fault fault) refuses is = absurd (cc)
 unread_if id periods segments NotABook refuses is = refuses
 unread_if id periods segments Version refuses is = refuses
 unread_if id periods segments (Damaged name) refuses is = refuses
 
 pub why_unread : (id : List ℕ) (periods : List PeriodRecord) (segments : List SegmentRecord) (fault : LoadFault) (told : StoreFault) → told ≡ unread_as fault → RefusesPairing id periods segments fault →
-    told ≡ Store → IsUntold id periods segments
+    told ≡ Store → GiveNoPairing id periods segments
 why_unread id periods segments fault told same refuses is = unread_if id periods segments fault refuses (sym same ∙ is)

@@ -5,7 +5,7 @@ ghost use Rattle.std.specs.Prelude.{◌≡◌, IfErr, IfOk, IsSome, slice_get};
 ghost use Rattle.std.specs.FinMap as fin;
 ghost use Rattle.sqlite.specs.Held.{state};
 ghost use Rattle.state_rows.specs.Outcomes.{IsOutside, IsOverBook};
-ghost use Rattle.entries.specs.OnePairing.{IsUntold};
+ghost use Rattle.entries.specs.OnePairing.{GiveNoPairing};
 ghost use Rattle.lookup.specs.Reads.{ReadsByKey};
 ghost use Rattle.lookup.specs.Plans.{HoldsSeat, ReadsPlan, TellsPairing, unread_as};
 
@@ -96,7 +96,7 @@ fn pairing_of_rows(
         (TellsPairing id.now rows.now.periods.items rows.now.segments.items rows.now.seats.items) }
     ensures unread { IfErr result (λ fault. fault ≡ StoreFault.Store
         → IsSome (slice_get rows.now.periods.items 0)
-        × IsUntold id.now rows.now.periods.items rows.now.segments.items) }
+        × GiveNoPairing id.now rows.now.periods.items rows.now.segments.items) }
 {
     let Some(_) = rows.periods.first() else {
         return Ok(None);

@@ -5,7 +5,7 @@ use Rattle.roster.specs.State.{State}
 use Rattle.state_rows.specs.declared.fault.StoreFault.{StoreFault}
 use Rattle.store.specs.declared.show.Show.{Show}
 use Rattle.book.specs.Kept.{IsDurablyAt, IsClean, Kept}
-use Rattle.asking.specs.Reports.{HasShown, IsReportAsked, ReportsShown, ShowsOf, text_shown}
+use Rattle.asking.specs.Reports.{HasGivenRoster, IsReportAsked, ReportsShown, ShowsOf, text_shown}
 use Rattle.asking.specs.declared.answers.AskFault.{AskFault}
 use Rattle.asking.specs.declared.answers.AskFault.TheVariants as ask
 use Rattle.asking.specs.declared.reports.Shown.{Shown}
@@ -52,7 +52,7 @@ module _ {S : Type 0} (g : Ghosts S) (old new : Kept S) (what : Show) where
     some_told (inl asked) = some_shown asked.shown asked.reported
     some_told (inr (same, is)) = absurd (cc)
 
-    state_shown : (s : State) → IsDurablyAt g old s → IsClean g new → (r : Result State StoreFault) → HasShown g old new what r → ReportsShown r what (Ok it)
+    state_shown : (s : State) → IsDurablyAt g old s → IsClean g new → (r : Result State StoreFault) → HasGivenRoster g old new what r → ReportsShown r what (Ok it)
         → IsToldOf s what status out out' err err'
     state_shown s at clean (Ok roster) has is =
         shown_told s what it status out out' err err' ((has.text s at clean (text_shown it)).0 is) prints
@@ -69,7 +69,7 @@ module _ {S : Type 0} (g : Ghosts S) (old new : Kept S) (what : Show) where
 
   -- ---- Where it stops
 
-  unshown : (out : ChannelBytes) (fault : AskFault) (r : Result State StoreFault) → HasShown g old new what r → ReportsShown r what (Err fault) → IsShowStopped new out out (stop_of fault)
+  unshown : (out : ChannelBytes) (fault : AskFault) (r : Result State StoreFault) → HasGivenRoster g old new what r → ReportsShown r what (Err fault) → IsShowStopped new out out (stop_of fault)
   unshown out fault (Ok roster) has memory = not_of_book new out out (stop_of fault) (inl (ap stop_of memory))
   unshown out fault (Err met) has is =
       let at_book : fault ≡ ask.Book met = cc in

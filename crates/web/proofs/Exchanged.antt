@@ -10,7 +10,7 @@ use Rattle.roster.specs.State.{State}
 use Rattle.writing.specs.Beside.{KeepOthers}
 use Rattle.state_rows.specs.Outcomes.{CrashAddsOnly, CrashLeaves}
 use Rattle.book.specs.Calls.{IsAfterCalls}
-use Rattle.book.specs.Kept.{HasTables, IsDurablyAt, IsClean, Kept}
+use Rattle.book.specs.Kept.{HasTablesOf, IsDurablyAt, IsClean, Kept}
 use Rattle.http_message.specs.Heading.{heading}
 use Rattle.http_message.specs.Plan.{Planned, plan_for_head}
 use Rattle.http_message.specs.Reading.{HasHead, HasNoHead}
@@ -44,7 +44,7 @@ module _ {S : Type 0} (g : Ghosts S) where
   has_failed old new asked it = subst IsTrue (sym it.kept.failed) (or_true old.failed)
 
   module _ (s : State) (old new : Kept S) (at : IsDurablyAt g old s) where
-    all_done : (commands : Commands) → IsDurablyAt g new (Fold s commands) → (HasTables g old s → HasTables g new (Fold s commands)) → IsBegun g s old new commands
+    all_done : (commands : Commands) → IsDurablyAt g new (Fold s commands) → (HasTablesOf g old s → HasTablesOf g new (Fold s commands)) → IsBegun g s old new commands
     all_done commands done tables =
         let all : take (length commands) commands ≡ commands = take_all (length commands) commands (omega arith) in (
           length commands,
@@ -92,7 +92,7 @@ module _ {S : Type 0} (g : Ghosts S) where
         left_is = tt;
         failed = not_failed same;
         state = unchanged (λ b. IsDurablyAt g b s) same at;
-        tables = λ has. unchanged (λ b. HasTables g b s) same has;
+        tables = λ has. unchanged (λ b. HasTablesOf g b s) same has;
       })
       without_head some none (same, inr sent) = at_once some (inl none) same sent
 
@@ -134,7 +134,7 @@ module _ {S : Type 0} (g : Ghosts S) where
           left_is = left_is;
           failed = not_failed same;
           state = unchanged (λ b. IsDurablyAt g b s) same at;
-          tables = λ has. unchanged (λ b. HasTables g b s) same has;
+          tables = λ has. unchanged (λ b. HasTablesOf g b s) same has;
         })
         refused fault is left_is same (inr sent) = at_end (not_failed same) left_is sent (inl same)
 

@@ -26,13 +26,13 @@ use Rattle.state_rows.specs.Outcomes.{CrashLeaves}
 use Rattle.book.specs.Answered.{IsAnswered}
 use Rattle.book.specs.Calls.{HasRead, IsAfterCalls}
 use Rattle.book.specs.Kept as kept
-use Rattle.book.specs.Kept.{HasTables, IsDurablyAt, IsClean, IsInDoubt, Kept, StillHasTables, result_of}
+use Rattle.book.specs.Kept.{HasTablesOf, IsDurablyAt, IsClean, IsInDoubt, Kept, StillHasTables, result_of}
 use Rattle.book.proofs.States.{one_of_either}
 use Rattle.store.specs.Shown.{Absence, no_crew, no_pairing, IsShown}
 use Rattle.book.specs.declared.answer.Answer as book
 use Rattle.store.specs.declared.show.Show.{Show}
 use Rattle.asking.specs.Answers.{IsOrMemory, Reports, ReportsUnread, answer_json, answer_kind, refusal_kind}
-use Rattle.asking.specs.Reports.{HasShown, IsReportAsked, ReportsShown}
+use Rattle.asking.specs.Reports.{HasGivenRoster, IsReportAsked, ReportsShown}
 use Rattle.asking.specs.Requests.{HasChecked, IsCheckedAsRead, IsDoneAsRead, IsRequestAsked, IsRequestChecked, ReadRequest, asked_as}
 use Rattle.asking.specs.declared.answers.AskFault.{AskFault}
 use Rattle.asking.specs.declared.answers.AskFault.TheVariants as ask
@@ -64,11 +64,11 @@ still_honest g now s at honest = record {
 }
 
 -- what is shown is shown as long as the connection is open
-still : {S : Type 0} (g : Ghosts S) (now : Kept S) (s : State) → HasTables g now s → StillHasTables g now s
+still : {S : Type 0} (g : Ghosts S) (now : Kept S) (s : State) → HasTablesOf g now s → StillHasTables g now s
 still g now s has = λ clean is_open. (has clean).1
 
 -- and it is open, where it has the tables
-pub still_means : {S : Type 0} (g : Ghosts S) (old now : Kept S) (s : State) → HasTables g now s → StillMeans g old now s
+pub still_means : {S : Type 0} (g : Ghosts S) (old now : Kept S) (s : State) → HasTablesOf g now s → StillMeans g old now s
 still_means g old now s has = (still g now s has, λ clean was_open. inl (has clean).0)
 
 module _ {S : Type 0} (g : Ghosts S) (book : Kept S) where
@@ -214,11 +214,11 @@ module _ {S : Type 0} (g : Ghosts S) (old new : Kept S) where
   abbrev IsAskedIn : State → folds.Asked → Result StatusText HandlerFault → Type 0
   IsAskedIn s asked (Ok answer) =
       (IsClean g new → answer ≡ command_answer (folds.answer_of (step_of s asked.0 asked.1)))
-      × (IsDurablyAt g new (folds.next s asked) × (HasTables g old s → HasTables g new (folds.next s asked)))
+      × (IsDurablyAt g new (folds.next s asked) × (HasTablesOf g old s → HasTablesOf g new (folds.next s asked)))
   IsAskedIn s asked (Err Store) = IsInDoubt g new s (folds.next s asked)
   IsAskedIn s asked (Err Memory) =
-      (IsDurablyAt g new s × (HasTables g old s → StillMeans g old new s))
-      ⊎ (IsDurablyAt g new (folds.next s asked) × (HasTables g old s → StillMeans g old new (folds.next s asked)))
+      (IsDurablyAt g new s × (HasTablesOf g old s → StillMeans g old new s))
+      ⊎ (IsDurablyAt g new (folds.next s asked) × (HasTablesOf g old s → StillMeans g old new (folds.next s asked)))
 
   -- a command was asked, in whichever state the book was; with what is said whatever is asked
   record IsCommandAsked (asked : folds.Asked) (result : Result StatusText HandlerFault) : Type 0 where
@@ -307,7 +307,7 @@ module _ {S : Type 0} (g : Ghosts S) (old new : Kept S) where
       calls = calls;
     }
 
-    shows : (s : State) → HasTables g old s → StillHasTables g new s
+    shows : (s : State) → HasTablesOf g old s → StillHasTables g new s
     shows s has = λ c is_open.
         let now = call.unchanged.still_shown c is_open in
         subst (IsBookOf s) (sym now.1) (has (call.unchanged.nothing_new.disk c)).1
@@ -369,7 +369,7 @@ module _ {S : Type 0} (g : Ghosts S) (old new : Kept S) where
 
   module _ (about : Subject) (calls : IsAfterCalls g old new) where
     reported_by : (r : Result State StoreFault) (told : Result StatusText HandlerFault) → IsReportToldAs r (show_of_path about) told
-        → HasShown g old new (show_of_path about) r → IsHandled g old new (http.show about) told
+        → HasGivenRoster g old new (show_of_path about) r → IsHandled g old new (http.show about) told
     reported_by (Ok roster) (Ok answer) tells it = record {
       kept = kept_so calls (Ok roster) it.call (Ok answer) refl;
       shut = λ f. none_answered roster (it.call.shut f).0;

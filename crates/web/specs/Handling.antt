@@ -12,7 +12,7 @@ use Rattle.roster.specs.State.{State}
 use Rattle.writing.specs.Beside.{KeepOthers}
 use Rattle.state_rows.specs.Outcomes.{CrashAddsOnly, CrashLeaves}
 use Rattle.book.specs.Calls.{IsAfterCalls}
-use Rattle.book.specs.Kept.{HasTables, IsDurablyAt, IsClean, IsInDoubt, Kept}
+use Rattle.book.specs.Kept.{HasTablesOf, IsDurablyAt, IsClean, IsInDoubt, Kept}
 use Rattle.http_exchange.specs.Handler.{StatusText, HandlerRequest}
 use Rattle.http_exchange.specs.declared.handler.HandlerFault.{HandlerFault}
 use Rattle.http_exchange.specs.declared.handler.HandlerFault.TheVariants.{Store, Memory}
@@ -32,7 +32,7 @@ module _ {S : Type 0} (g : Ghosts S) (old new : Kept S) where
   -- whether it was done; or there was no memory for one, or for the answer
   abbrev pub IsLeftByCommands : State → Commands → Result StatusText HandlerFault → Type 0
   IsLeftByCommands s commands (Ok answer) =
-      IsDurablyAt g new (Fold s commands) × (HasTables g old s → HasTables g new (Fold s commands))
+      IsDurablyAt g new (Fold s commands) × (HasTablesOf g old s → HasTablesOf g new (Fold s commands))
   IsLeftByCommands s commands (Err Store) =
       (n : ℕ) × IsInDoubt g new (Fold s (take n commands)) (Fold s (take (n + 1) commands))
   IsLeftByCommands s commands (Err Memory) = IsBegun g s old new commands

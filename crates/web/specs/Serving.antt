@@ -9,7 +9,7 @@ use Rattle.sqlite_trees.specs.declared.store.Store.{Ghosts}
 use Rattle.roster.specs.Folds.{Fold}
 use Rattle.roster.specs.State.{State}
 use Rattle.state_rows.specs.Outcomes.{StaysOpen}
-use Rattle.book.specs.Kept.{HasTables, IsDurablyAt, IsInDoubt, Kept, StillHasTables}
+use Rattle.book.specs.Kept.{HasTablesOf, IsDurablyAt, IsInDoubt, Kept, StillHasTables}
 use Rattle.http_message.specs.Heading.{heading}
 use Rattle.http_message.specs.Plan.{Planned, plan_for_head}
 use Rattle.http_message.specs.Reading.{HasHead, HasNoHead}
@@ -49,7 +49,7 @@ module _ {S : Type 0} (g : Ghosts S) (s : State) where
   abbrev pub IsBegun : Kept S → Kept S → Commands → Type 0
   IsBegun old new commands =
       (n : ℕ) × IsDurablyAt g new (Fold s (take n commands))
-      × (HasTables g old s → StillMeans g old new (Fold s (take n commands)))
+      × (HasTablesOf g old s → StillMeans g old new (Fold s (take n commands)))
 
   -- the store failed at one of the commands, which is done or not; those before it are done
   abbrev pub IsInDoubtAtOne : Kept S → Commands → Type 0
@@ -68,7 +68,7 @@ module _ {S : Type 0} (g : Ghosts S) (s : State) where
     pub left_is : IsLeftUnread response.unread left
     pub failed : new.failed ≡ old.failed
     pub state : IsDurablyAt g new (Fold s response.commands)
-    pub tables : HasTables g old s → HasTables g new (Fold s response.commands)
+    pub tables : HasTablesOf g old s → HasTablesOf g new (Fold s response.commands)
 
   -- the book's store failed (90), and the final response says so, after the interim response
   pub record IsStoreTold (input : List ℕ) (left out out' : ChannelBytes) (new : Kept S) (code : ℕ)

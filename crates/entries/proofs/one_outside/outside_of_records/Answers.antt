@@ -3,7 +3,7 @@ use Rattle.duty.specs.Pairings.{outside_fault}
 use Rattle.duty.specs.Plans.{OutsidePlan}
 use Rattle.duty.specs.Words.{checked}
 use Rattle.duty.specs.declared.segment.BlockTimes.{BlockTimes}
-use Rattle.entries.specs.OneOutside.{AreAllOf, HasBadTimes, HasNoSegmentOf, IsOutsideToldBy, IsUntold}
+use Rattle.entries.specs.OneOutside.{AreAllOf, HasBadTimes, HasNoSegmentOf, IsOutsideToldBy, GiveNoOutside}
 use Rattle.entries.specs.declared.fault.TableName.TheVariants as table_name
 use Rattle.entries.proofs.OneOutside.{bad_times, drafted, is_told, no_segment, not_made}
 use Rattle.entries.proofs.PlanLemmas.{passed_on}
@@ -15,7 +15,7 @@ returns-in_err-all c =
     let segments = c.args.segments.now in
     let fault = c.in_err-all.field-0.0 in
     let is : c.from_residual-in_err-all.result ≡ Err fault = search rules in
-    passed_on (IsOutsideToldBy it segments) table_name.OutsideSegment (HasBadTimes segments) (IsUntold it segments) c.from_residual-in_err-all.result fault is (bad_times it segments) c.in_err-all.ensures
+    passed_on (IsOutsideToldBy it segments) table_name.OutsideSegment (HasBadTimes segments) (GiveNoOutside it segments) c.from_residual-in_err-all.result fault is (bad_times it segments) c.in_err-all.ensures
 
 pub returns-in_err-check_all : goal.returns-in_err-check_all
 returns-in_err-check_all c =
@@ -24,7 +24,7 @@ returns-in_err-check_all c =
     let all = c.in_ok-all.all.items in
     let fault = c.in_err-check_all.field-0.0 in
     let is : c.from_residual-in_err-check_all.result ≡ Err fault = search rules in
-    passed_on (IsOutsideToldBy it segments) table_name.OutsideSegment (HasNoSegmentOf it.id c.deref.result.now segments) (IsUntold it segments) c.from_residual-in_err-check_all.result fault is
+    passed_on (IsOutsideToldBy it segments) table_name.OutsideSegment (HasNoSegmentOf it.id c.deref.result.now segments) (GiveNoOutside it segments) c.from_residual-in_err-check_all.result fault is
     (λ bad. no_segment it segments all c.in_ok-all.ensures (subst (λ (l : List BlockTimes). HasNoSegmentOf it.id l segments) c.deref.ensures.value bad)) c.in_err-check_all.ensures
 
 pub returns-in-Ok : goal.returns-in-Ok

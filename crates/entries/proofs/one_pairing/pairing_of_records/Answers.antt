@@ -4,7 +4,7 @@ use Rattle.roster.specs.declared.state.PairingEntry.{PairingEntry}
 use Rattle.tables.specs.declared.period.PeriodRecord.{PeriodRecord}
 use Rattle.tables.specs.declared.segment.SegmentRecord.{SegmentRecord}
 use Rattle.entries.specs.Keyed.{ArePeriodsWanting, ArePeriodsWhole, Ids, PeriodsRead, SegmentsRead}
-use Rattle.entries.specs.OnePairing.{IsToldBy, IsUntold, RefusesPairing, only}
+use Rattle.entries.specs.OnePairing.{IsToldBy, GiveNoPairing, RefusesPairing, only}
 use Rattle.entries.specs.PlanRows.{Periods, Segments, IsPairingOfRows}
 use Rattle.entries.specs.Faults.{Blames}
 use Rattle.entries.specs.declared.fault.LoadFault.{LoadFault}
@@ -20,7 +20,7 @@ told_by Bad ids m n id periods segments read also (Ok r) told =
     record { ids = ids; by_number = m; by_numbers = n; periods_read = read; segments_read = also; told = told }
 told_by Bad ids m n id periods segments read also (Err fault) told = tt
 
-module _ (id : List ℕ) (periods : List PeriodRecord) (segments : List SegmentRecord) (its : name.TableName) (Why : Type 0) (untold : Why → IsUntold id periods segments) where
+module _ (id : List ℕ) (periods : List PeriodRecord) (segments : List SegmentRecord) (its : name.TableName) (Why : Type 0) (untold : Why → GiveNoPairing id periods segments) where
   blamed : (fault : LoadFault) → Blames its Why fault → RefusesPairing id periods segments fault
   blamed NotABook blame = absurd blame
   blamed Version blame = absurd blame

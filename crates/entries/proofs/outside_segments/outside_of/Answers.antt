@@ -1,6 +1,6 @@
 use Rattle.std.proofs.Common.{rules, ◌≡◌, inl, subst, Err, MatchResult, List}
 use Rattle.tables.specs.declared.outside_segment.OutsideSegmentRecord.{OutsideSegmentRecord}
-use Rattle.entries.specs.OneOutside.{IsOutsideToldBy, IsUntold}
+use Rattle.entries.specs.OneOutside.{IsOutsideToldBy, GiveNoOutside}
 use Rattle.entries.specs.OutsideRows.{HasTooMany, IsMadeFrom, SaysNoOutside}
 use Rattle.entries.specs.Faults.{Blames}
 use Rattle.entries.specs.declared.fault.TableName.TheVariants as table_name
@@ -22,4 +22,4 @@ returns c =
     let it = c.args.it.now in
     let result = c.outside_of_records.result in
     told c.args.segments.now c.args.id.now it c.in_ok-its.its.items c.in_ok-its.ensures result
-    (subst (λ (l : List OutsideSegmentRecord). MatchResult result (IsOutsideToldBy it l) (Blames table_name.OutsideSegment (IsUntold it l))) c.deref.ensures.value c.outside_of_records.ensures)
+    (subst (λ (l : List OutsideSegmentRecord). MatchResult result (IsOutsideToldBy it l) (Blames table_name.OutsideSegment (GiveNoOutside it l))) c.deref.ensures.value c.outside_of_records.ensures)

@@ -1,6 +1,6 @@
 use Rattle.std.proofs.Common.{rules, ◌≡◌, refl, inl, inr, Err}
 use Rattle.loading.specs.OutsideTables.{AreOutsidesSet, AreOutsidesUnset}
-use Rattle.entries.specs.OutsideRows.{AreSegmentsWanting, HasUnmade}
+use Rattle.entries.specs.OutsideRows.{AreOutsideSegmentsWanting, HasUnmade}
 use Rattle.entries.specs.declared.fault.TableName.TheVariants as table_name
 use Rattle.entries.proofs.PlanLemmas.{passed_on}
 use Rattle.loading.proofs.read_outside_segment.set_outsides.Goals as goal
@@ -11,7 +11,7 @@ returns-in_err-segments c =
     let records = c.args.records.now in
     let fault = c.in_err-segments.field-0.0 in
     let is : c.from_residual.result ≡ Err fault = search rules in
-    passed_on (AreOutsidesSet m records c.args.roster) table_name.OutsideSegment (AreSegmentsWanting m records) (AreOutsidesUnset m records) c.from_residual.result fault is (λ why. inl why) c.in_err-segments.ensures
+    passed_on (AreOutsidesSet m records c.args.roster) table_name.OutsideSegment (AreOutsideSegmentsWanting m records) (AreOutsidesUnset m records) c.from_residual.result fault is (λ why. inl why) c.in_err-segments.ensures
 
 pub returns-in_err-made : goal.returns-in_err-made
 returns-in_err-made c =

@@ -6,7 +6,7 @@ use Rattle.roster.specs.Honest.{Honest}
 use Rattle.roster.specs.Sound.{Sound}
 use Rattle.roster.specs.State.{State}
 use Rattle.state_rows.specs.Outcomes.{CrashLeavesSome}
-use Rattle.book.specs.Kept.{HasTables, IsDurablyAt, IsClean, result_of}
+use Rattle.book.specs.Kept.{HasTablesOf, IsDurablyAt, IsClean, result_of}
 use Rattle.book.proofs.Sparing.{SameOrSpares}
 use Rattle.book.proofs.keeping.Book.run.Given as goal
 
@@ -19,7 +19,7 @@ invariant-loop-key g l = record {
   some : CrashLeavesSome (state g.S.Store l.self.held);
   replies : (s : State) → IsDurablyAt g.S.Store l.initial.self s → IsClean g.S.Store l.self → map result_of l.answers.items ≡ take l.key-index (Replies s l.commands);
   outcome : (s : State) → IsDurablyAt g.S.Store l.initial.self s → IsDurablyAt g.S.Store l.self (Fold s (take l.key-index l.commands));
-  tables : (s : State) → IsDurablyAt g.S.Store l.initial.self s → HasTables g.S.Store l.initial.self s → HasTables g.S.Store l.self (Fold s (take l.key-index l.commands));
+  tables : (s : State) → IsDurablyAt g.S.Store l.initial.self s → HasTablesOf g.S.Store l.initial.self s → HasTablesOf g.S.Store l.self (Fold s (take l.key-index l.commands));
   spared : SameOrSpares g.S.Store l.initial.self l.self;
   counts : (state g.S.Store l.initial.self.held).faults ≤ (state g.S.Store l.self.held).faults;
   limit : (state g.S.Store l.self.held).step_limit ≡ (state g.S.Store l.initial.self.held).step_limit;
