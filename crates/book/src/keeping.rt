@@ -168,8 +168,8 @@ impl<S: Alter> Book<S> {
         // The state stays: a crash leaves it, and the tables mean it.
         ensures kept { (s : State) → IsDurablyAt S.Store self.old s
             → IsDurablyAt S.Store self.new s }
-        ensures shown { (s : State) → IsDurablyAt S.Store self.old s → HasTablesOf S.Store self.old s
-            → OnOk result (HasTablesOf S.Store self.new s) }
+        ensures shown { (s : State) → IsDurablyAt S.Store self.old s
+            → HasTablesOf S.Store self.old s → OnOk result (HasTablesOf S.Store self.new s) }
     {
         if self.failed {
             return Err(StoreFault::Store);
@@ -205,8 +205,8 @@ impl<S: Alter> Book<S> {
         // The state stays: a crash leaves it, and the tables mean it.
         ensures kept { (s : State) → IsDurablyAt S.Store self.old s
             → IsDurablyAt S.Store self.new s }
-        ensures shown { (s : State) → IsDurablyAt S.Store self.old s → HasTablesOf S.Store self.old s
-            → OnOk result (HasTablesOf S.Store self.new s) }
+        ensures shown { (s : State) → IsDurablyAt S.Store self.old s
+            → HasTablesOf S.Store self.old s → OnOk result (HasTablesOf S.Store self.new s) }
     {
         if self.failed {
             return Err(StoreFault::Store);

@@ -32,7 +32,8 @@ module _ {S : Type 0} (g : Ghosts S) (old new : Kept S) where
   -- whether it was done; or there was no memory for one, or for the answer
   abbrev pub IsLeftByCommands : State → Commands → Result StatusText HandlerFault → Type 0
   IsLeftByCommands s commands (Ok answer) =
-      IsDurablyAt g new (Fold s commands) × (HasTablesOf g old s → HasTablesOf g new (Fold s commands))
+      IsDurablyAt g new (Fold s commands)
+      × (HasTablesOf g old s → HasTablesOf g new (Fold s commands))
   IsLeftByCommands s commands (Err Store) =
       (n : ℕ) × IsInDoubt g new (Fold s (take n commands)) (Fold s (take (n + 1) commands))
   IsLeftByCommands s commands (Err Memory) = IsBegun g s old new commands
