@@ -26,7 +26,7 @@ And of both pages:
 - a quotation that isn't as its source has it, with the line of the `impl` or the module that it stands in;
 - what is quoted and names something that is neither quoted above it nor in a table, nor of formats: quoted in their section, or listed;
 - a definition of formats that names one which is of other calls or of proofs alone;
-- a definition of `specs/` that is neither quoted nor listed;
+- a definition of `specs/` that is neither quoted nor listed in unquoted.md;
 - a table below `<!-- fields of PATH: NAME -->` that doesn't have the fields of that record in turn;
 - a word by which the claim is said that isn't quoted, a section of a document that isn't there, and a crate of the kit whose words
   are used and that isn't named as trusted;
@@ -61,6 +61,7 @@ from sources import (
 
 STATEMENT = TOP / "docs/STATEMENT.md"
 CONTRACTS = TOP / "docs/CONTRACTS.md"
+UNQUOTED = TOP / "tests/unquoted.md"
 LAWS = (  # each with the line of its `impl`: the law of lives is of a book over any store
     ("crates/book/src/lives.rt", "Book::each_life_holds", "impl<S: Alter> Book<S>"),
     ("crates/book/src/laws.rt", "each_list_holds", ""),
@@ -207,7 +208,7 @@ class Pages:
     def __init__(self):
         self.statement = Page(STATEMENT)
         self.contracts = Page(CONTRACTS)
-        self.lists = {comment: listing(self.contracts.text, comment) for comment in LISTS}
+        self.lists = {comment: listing(UNQUOTED.read_text(), comment) for comment in LISTS}
         self.values = {name.partition("<")[0] for name in named_in(self.statement.text, "values")}
         self.laws = set(named_in(self.statement.text, "laws"))
         self.beside = set(named_in(self.statement.text, "beside"))
