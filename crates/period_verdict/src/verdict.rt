@@ -19,7 +19,7 @@ use time117::{Minute, Zone};
 /// instants of block-out and block-in of each segment in turn.
 ///
 /// A fault is the first of: a zone that is no rule, a report or a time that is no instant of 2000 to 2099, times of no
-/// whole number of segments from 1 to 12, times out of order. Want of memory comes wherever memory is refused.
+/// whole number of segments from 1 to 12, times out of order. Out of memory is reported wherever memory is refused.
 pub fn duty_line(
     alloc: Global,
     zone: &str,

@@ -13,7 +13,7 @@ pub appends_nothing : (held : ChannelBytes) → Appends held held []
 appends_nothing None = tt
 appends_nothing (Some bytes) = sym (append-nil bytes)
 
--- a fault other than want of memory is the definition's
+-- a fault other than out of memory is the definition's
 is_wanted : (fault : LineFault) (wanted : Result VerdictLine LineFault) (status : Status) (out err err' : ChannelBytes) → fault ≢ Memory → (fault ≢ Memory → status ≡ Refused) → (fault ≡ Memory) ⊎ (wanted ≡ Err fault) → Appends err err' (refusal_line fault) → Gives (duty_answer wanted) status out out err err' ⊎ Gives memory_answer status out out err err'
 is_wanted fault wanted status out err err' other refused (inl e) told = absurd (other e)
 is_wanted fault wanted status out err err' other refused (inr e) told =

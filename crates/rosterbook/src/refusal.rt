@@ -14,8 +14,8 @@ use clap::error::ErrorKind;
 use std::io::Write;
 
 /// Writes why `clap` refused a command line, and gives the exit status. Help and the version go to
-/// `out` with status 0, and the text of a mistake goes to `err` with status 2. Want of memory is the
-/// line `refused 91 Memory` on `err` with status 3, and where a writer fails the line is
+/// `out` with status 0, and the text of a mistake goes to `err` with status 2. Out of memory gives
+/// the line `refused 91 Memory` on `err` with status 3, and a writer that fails the line
 /// `refused 92 Channel` with status 3.
 pub fn tell_refusal<O: Write, E: Write>(error: &Error, out: &mut O, err: &mut E) -> u8
     ensures status { (result ≡ exit_status (status_of_error (kind_of error.now)))
