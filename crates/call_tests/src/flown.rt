@@ -9,14 +9,14 @@ use std::alloc::Global;
 use std::test::Fail;
 use stored_json::read_canonical;
 
-/// Whether a segment has these times.
-fn has_times((segment, times): (&Segment, &BlockTimes)) -> bool {
-    segment.block_out == times.block_out && segment.block_in == times.block_in
-}
-
 /// Whether segments have these times, each its own, and there are as many of both.
 fn have_times(segments: &[Segment], times: &[BlockTimes]) -> bool {
-    segments.len() == times.len() && segments.iter().zip(times).all(has_times)
+    for (segment, times) in segments.iter().zip(times) {
+        if segment.block_out != times.block_out || segment.block_in != times.block_in {
+            return false;
+        }
+    }
+    segments.len() == times.len()
 }
 
 /// Whether a period has the times of an actual, and the planned report of another period.

@@ -121,16 +121,21 @@ fn plan_of(alloc: Global, (report, flights, release): Flown) -> Result<DutyInFor
     Ok(DutyInForce::Fdp(FdpInForce::new(Some(0), minute(report), minute(release), segments)))
 }
 
-/// The sections that a new duty breaks in the history of others, in their order.
+/// The sections that new duties break beside others, in their order.
+fn sections_of(alloc: Global, others: &mut History, new: &History) -> Result<String, Fault> {
+    others.append(alloc, new)?;
+    let mut text = String::new(alloc);
+    for section in judge(others, new).list(alloc)? {
+        text.push_str(&format!(in alloc; " {section}")?)?;
+    }
+    Ok(text)
+}
+
+/// The sections that a new duty breaks in the history of others.
 fn judge_among(alloc: Global, mut others: History, duty: DutyInForce) -> Result<String, Fault> {
     let mut new = History::empty(alloc);
     new.add(duty)?;
-    others.append(alloc, &new)?;
-    let mut sections = String::new(alloc);
-    for section in judge(&others, &new).list(alloc)? {
-        sections.push_str(&format!(in alloc; " {section}")?)?;
-    }
-    Ok(sections)
+    sections_of(alloc, &mut others, &new)
 }
 
 /// What a period of this airline breaks after the outside period of 10 June.

@@ -133,8 +133,9 @@ fn ask_all(alloc: Global, played: &mut Played, requests: &[Line]) -> Result<(), 
 }
 
 fn empty(alloc: Global) -> Result<Played, Fail> {
+    let roster = Roster::empty(alloc, eastern(alloc)?)?;
     Ok(Played {
-        roster: Roster::empty(alloc, eastern(alloc)?)?,
+        roster,
         verdicts: Vec::new(alloc),
     })
 }
