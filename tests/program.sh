@@ -277,7 +277,7 @@ books() {
     lost pairings full pairings "$book" --open
     lost check full 'do' "$book" --dry-run
     untold roster_of_nobody full roster "$book" C1
-    # A book is made before that is told.
+    # A book is made before that is printed.
     lost init full init "$room/untold" "$zone"
     case_of init_after_a_full_disk 3 '' 'refused 43 NotEmpty' init "$room/untold" "$zone"
     if command -v sqlite3 >/dev/null; then
