@@ -500,7 +500,7 @@ def on_a_full_disk(book):
 
 
 def try_full_disk(desk):
-    """The client of a command that the disk doesn't take gets that as its answer, and the server ends. What was accepted is kept."""
+    """The client of a command that the disk doesn't take is answered so, and the server ends. What was accepted is kept."""
     book = desk.book()
     count = 0
     with serving(book, 1_000, **on_a_full_disk(book)) as server:
@@ -522,7 +522,7 @@ def try_full_disk(desk):
 
 
 def try_full_disk_in_an_import(desk):
-    """An import that the disk doesn't take whole gets that in place of its parts, and is handed in again whole."""
+    """An import that the disk doesn't take whole is answered so in place of its parts, and is handed in again whole."""
     book = desk.book()
     plans = schedule([f"plan P{number} 10: 11:00 | 12:00-19:30 | 20:00" for number in range(1, 101)])
     with serving(book, 1_000, **on_a_full_disk(book)) as server:
