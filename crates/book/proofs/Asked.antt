@@ -1,4 +1,4 @@
--- From what one command did to what is told of it.
+-- From what one command did to what is said of it.
 use Rattle.std.proofs.Common.{◌≡◌, ◌≤◌, arith, inl, inr, refl, sym, ap, subst, ◌∙◌, false, IsTrue, Result, Ok, Err, OnOk, OnErr, IfErr, IfOk}
 use Rattle.sqlite_trees.specs.Tree.{Trees}
 use Rattle.sqlite.specs.State as conn
@@ -285,7 +285,7 @@ did_as old new was wanted other result same did = record {
   done = done_as old new was wanted other (λ clean. same (did.disk clean)) result did.done;
 }
 
--- ---- What is told
+-- ---- What is said
 
 -- a book that hasn't failed has one state
 one_kept : {A : Type 0} (old new : conn.State) (was wanted : State) (result : Result A StoreFault) → Done old new was wanted result → is_store_fault result ≡ false → HasOne new

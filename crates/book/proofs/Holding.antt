@@ -30,7 +30,7 @@ use Rattle.book.proofs.SessionLemmas.{one_ends}
 
 -- ---- Accepted exactly within the limits
 
--- an answer to a verdict that is no repeat is an acceptance exactly where the verdict is one
+-- an answer to a verdict that is no repeat is an acceptance if and only if the verdict is one
 answers_verdict : (v : Verdict) (a : Answer) → result_of a ≡ answer_of v → ((reply : Reply) → v ≡ Repeat reply → ⊥) →
     IsAcceptance a ↔ ((change : Change) × (reply : Reply) × (v ≡ Accept change reply))
 answers_verdict (Repeat reply) a is none = absurd (none reply refl)

@@ -216,7 +216,7 @@ honest_after s key instruction (Refuse refusal) is made sound honest = (sound, h
 pub honest_next : (s : State) (key : KeyParts) (instruction : Instruction) → IsMade instruction → Sound s → Honest s → Sound (next s (key, instruction)) × Honest (next s (key, instruction))
 honest_next s key instruction made sound honest = honest_after s key instruction (step_of s key instruction) refl made sound honest
 
--- ---- What is told of the state that a crash could leave
+-- ---- What is said of the state that a crash could leave
 
 -- the tables at hand mean it too
 pub shown_before : (old : conn.State) (s r : State) → Keeps old s → Keeps old r → HoldsNow old s → HoldsNow old r

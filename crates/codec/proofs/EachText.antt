@@ -141,7 +141,7 @@ abbrev BeginsElsewhere : List ℕ → List Plan → Type 0
 BeginsElsewhere id [] = ⊤
 BeginsElsewhere id (p ∷ ps) = bytes_eq id p.id ≡ false
 
--- pairings that are as they are planned, and show, each beside another, and at most so many
+-- pairings that are as they are planned, and show, each beside another, and at most this many
 record AreGroups (begun : ℕ) (plans : List Plan) : Type 0 where
   shown : list_all shows plans ≡ true
   planned : AllByRecursion IsAsPlanned plans

@@ -1,4 +1,4 @@
--- Lists that are told apart by a test, and lists of what is read.
+-- Lists that a test keeps apart, and lists of what is read.
 use Rattle.std.proofs.Common.{◌≡◌, ◌∙◌, ℕ, ◌+◌, Bool, true, false, not, nat_lt, List, [], ◌∷◌, ◌++◌, map, length, Option, Some, None, is_some, refl, sym, subst}
 use Rattle.std.specs.Prelude.{⊤}
 use Rattle.std.specs.List.{list_all, position_from}
@@ -18,7 +18,7 @@ abbrev pub BeginsWithout : {X : Type 0} → (X → Bool) → List X → Type 0
 BeginsWithout test [] = ⊤
 BeginsWithout test (x ∷ xs) = test x ≡ false
 
--- where a front passes, and what follows it doesn't begin with what passes, the whole tells both
+-- where a front passes, and what follows it doesn't begin with what passes, the whole determines both
 pub same_front : {X : Type 0} (test : X → Bool) (xs us ys vs : List X) → list_all test xs ≡ true → list_all test ys ≡ true →
     BeginsWithout test us → BeginsWithout test vs → xs ++ us ≡ ys ++ vs → (xs ≡ ys) × (us ≡ vs)
 same_front test [] us [] vs p q a b e = (refl, e)

@@ -66,7 +66,7 @@ same_place place other (x ∷ xs) (y ∷ ys) some e =
     ap (λ (s : ScheduledSegment). s.place)
     (first_same (in_place place x) (in_place other y) (map (in_place place) xs) (map (in_place other) ys) e)
 
--- its segments tell a period that is planned at its report
+-- its segments say which period is planned at its report
 same_period : (id : List ℕ) (n : ℕ) (f g : Fdp) → as_planned f ≡ f → as_planned g ≡ g → has_segment f ≡ true → period_segments id n f ≡ period_segments id n g → f ≡ g
 same_period id n f g f_planned g_planned some e =
     let place = same_place (place_of id n f) (place_of id n g) f.segments g.segments some e in

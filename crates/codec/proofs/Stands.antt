@@ -17,7 +17,7 @@ use Rattle.codec.specs.declared.scheduled.ScheduledSegment.{ScheduledSegment}
 use Rattle.codec.proofs.Fronts.{no_position}
 use Rattle.codec.proofs.OneList.{has_segment, in_place, later_apart, off, place_of, same_id, same_number}
 
--- behind so many pairings and this place, each of the segments may stand where it does
+-- behind this many pairings and this place, each of the segments may stand where it does
 abbrev Stand : ℕ → Option SegmentPlace → List ScheduledSegment → Type 0
 Stand begun before segments = list_all may_stand (standing begun before segments) ≡ true
 

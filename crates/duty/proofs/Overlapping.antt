@@ -56,7 +56,7 @@ same_test false false P p q = refl
 same_test true false P p q = absurd (false≢true (q.1 (p.0 refl)))
 same_test false true P p q = absurd (false≢true (p.1 (q.0 refl)))
 
--- what tells whether the minutes of a span are met, tells whether a span of the list meets it
+-- a test of whether the minutes of a span are met is one of whether a span of the list meets it
 pub meets-test : (test : Bool) (s : Span) (spans : List Span) → s.from < s.to →
     IsTrue test ↔ Meets (minutes_of spans) (pos s.to -ℤ pos (s.to - s.from)) (s.to - s.from) →
     test ≡ list_any (meets_span s) spans

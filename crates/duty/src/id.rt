@@ -1,4 +1,4 @@
-//! Ids of crew members, pairings, ground duties, bases and outside periods, flights and airports. A tag tells them apart,
+//! Ids of crew members, pairings, ground duties, bases and outside periods, flights and airports. A tag keeps them apart,
 //! so that none is taken for another.
 //! Wrong bodies: `must-fail-more/`.
 ghost use Rattle.std.specs.Prelude.{◌≡◌, IfOk};

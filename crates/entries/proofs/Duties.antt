@@ -1,4 +1,4 @@
--- The duties that exceedances name are told apart by the columns of the table `exceedance`.
+-- The duties that exceedances name are kept apart by the columns of the table `exceedance`.
 use Rattle.std.proofs.Common.{◌≡◌, ◌≤◌, ap, arith}
 use Rattle.std.specs.Prelude.{⊤}
 use Rattle.roster.specs.declared.state.DutyId.{DutyId}

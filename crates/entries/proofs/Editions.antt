@@ -22,7 +22,7 @@ one_edition db first second =
 
 -- ---- One table after another
 
--- of two tables that are looked at in turn: what the second is beside the first in a file of version 2, that in one of version 1 its name is free, and that its rows are told by the tables above
+-- of two tables that are looked at in turn: what the second is beside the first in a file of version 2, that in one of version 1 its name is free, and that its rows are those that the tables above give
 pub record IsNext (above it : StateTable) (Has : State → Database → Type 0) : Type 0 where
   pub split : (s : State) (db : Database) → IsRight it s db → IsRight above s db × ((IsOfEdition Second db × Has s db) ⊎ (IsOfEdition First db × IsNameFree (table it) db.schema))
   pub over : (db : Database) → AreRight above db → AreRightAbove it db

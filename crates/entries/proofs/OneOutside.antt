@@ -1,4 +1,4 @@
--- An outside period, as its records tell it: what is made of them, and what is refused rightly.
+-- An outside period, as its records give it: what is made of them, and what is refused rightly.
 use Rattle.std.proofs.Common.{◌≡◌, ◌⊎◌, inl, inr, refl, sym, ap, ap₂, subst, ◌∙◌, arith, ℕ, zero, suc, ◌+◌, ◌<◌, ◌≤◌, Bool, true, false, nat_eq, ◌&&◌, List, [], ◌∷◌, ◌++◌, length, map, Option, Some, None, slice_get, length-append, Ok, Err}
 use Rattle.std.specs.List.{list_all}
 use Rattle.std.proofs.lemmas.Bool.{and_parts, leb-true}
@@ -159,7 +159,7 @@ among_at id all row place times number there is =
     let one : is.times ≡ times = one_value (ap (slice_get all) same ∙ is.there) there in
     (ap (λ (r : OutsideSegmentRecord). r.out_at) is.is ∙ ap (λ (t : BlockTimes). t.block_out) one, ap (λ (r : OutsideSegmentRecord). r.in_at) is.is ∙ ap (λ (t : BlockTimes). t.block_in) one)
 
--- ---- What is told
+-- ---- What the records give
 
 -- the record of a segment of an outside period, at its place
 abbrev record_at : List ℕ → ℕ → BlockTimes → OutsideSegmentRecord

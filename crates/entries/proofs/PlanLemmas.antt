@@ -1,4 +1,4 @@
--- A pairing, as its rows tell it: what they tell is one thing, and what isn't told is refused rightly.
+-- A pairing, as its rows give it: what they give is one thing, and what they don't give is refused rightly.
 use Rattle.std.proofs.Common.{◌≡◌, ◌⊎◌, inl, inr, refl, sym, ap, ap₂, subst, ◌∙◌, arith, ℕ, zero, suc, ◌+◌, ◌-◌, ◌<◌, ◌≤◌, true, false, List, [], ◌∷◌, ◌++◌, length, map, Option, Some, None, slice_get, length-append, Result, Ok, Err}
 use Rattle.std.specs.FinMap as fin
 use Rattle.std.specs.Option.{option_map}
@@ -173,7 +173,7 @@ module _ (rows : Segments) (id : List ℕ) (number : ℕ) where
       all = (drafted segments times whole are).1;
     }
 
-    -- the actual of a period that the rows tell of is one of the draft
+    -- the actual of a period that the rows give is one of the draft
     pub actual_told : (it : PeriodRecord) (pair : Option (ℕ × ℕ)) → AreTimes it.act_report it.act_release pair → (fdp : Fdp) (actual : Option ActualTimes) → IsReadPeriod rows id number it fdp actual →
         IsActualOf number pair times actual
     actual_told it pair pair_is fdp actual is =
@@ -404,7 +404,7 @@ module _ (periods : Periods) (rows : Segments) (id : List ℕ) where
     each_as_planned : map as_planned planned ≡ planned
     each_as_planned = same_plan planned (λ i fdp e. (beside planned actuals are.count are.each i fdp e).2.2.planned)
 
-    -- a pairing that the rows tell of has just these periods
+    -- a pairing that the rows give has just these periods
     same_periods : (r : PairingEntry) → IsPairingOfRows periods rows id r → planned ≡ r.plan.periods
     same_periods r told = same_listed (λ k. fin.get periods (period_name id k)) (Beside actuals) (Beside r.actuals) planned r.plan.periods as_listed
         (beside r.plan.periods r.actuals told.places told.each, told.all) (beside_once actuals r.actuals)

@@ -1,4 +1,4 @@
--- The pairings of a state are what its rows tell, and what rows tell has those rows.
+-- The pairings of a state are what its rows give, and what rows give has those rows.
 use Rattle.std.proofs.Common.{◌≡◌, ◌↔◌, refl, sym, ap, subst, ◌∙◌, arith, ℕ, zero, suc, ◌+◌, ◌<◌, Bool, true, ◌&&◌, List, [], ◌∷◌, length, Option, Some, None, slice_get}
 use Rattle.std.specs.FinMap as fin
 use Rattle.std.specs.List.{list_all}
@@ -99,7 +99,7 @@ block_instants None (Some b) t are = absurd are
 block_instants (Some a) None t are = absurd are
 block_instants (Some a) (Some b) t are = and_from _ _ (ap (λ p. is_instant p.0) are.0 ∙ are.1) (ap (λ p. is_instant p.1) are.0 ∙ are.2)
 
--- ---- The rows of a state tell of each of its pairings
+-- ---- The rows of a state give each of its pairings
 
 module _ (s : State) (m : Periods) (n : Segments) (m_keyed : ArePeriodsKeyed m) (n_keyed : AreSegmentsKeyed n)
     (periods : (row : Row) → PeriodRows m row ↔ InPeriod s row) (segments : (row : Row) → SegmentRows n row ↔ InSegment s row)
@@ -194,7 +194,7 @@ module _ (s : State) (m : Periods) (n : Segments) (m_keyed : ArePeriodsKeyed m) 
   pub state_told : IsPairingOfRows m n id r
   state_told = record { named = is.named; plan = is.plan; places = is.places; each = period_each; all = period_all }
 
--- ---- What rows tell has those rows, and is a pairing that is planned
+-- ---- What rows give has those rows, and is a pairing that is planned
 
 module _ (m : Periods) (n : Segments) (m_keyed : ArePeriodsKeyed m) (n_keyed : AreSegmentsKeyed n) (id : List ℕ) (r : PairingEntry) (told : IsPairingOfRows m n id r) where
   period_same : (place : ℕ) (fdp : Fdp) (actual : Option ActualTimes) (it : PeriodRecord) → fin.get m (period_name id (place + 1)) ≡ Some it → IsReadPeriod n id (place + 1) it fdp actual →
@@ -291,7 +291,7 @@ module _ (m : Periods) (n : Segments) (m_keyed : ArePeriodsKeyed m) (n_keyed : A
         (record { fdp = fdp.0; planned = fdp.1; number = w.0; count = w.1; in_order = w.2 }, flown_all i fdp.0 a row.0 row.2);
   }
 
--- ---- Rows tell of one pairing
+-- ---- Rows give one pairing
 
 module _ (n : Segments) (id : List ℕ) (number : ℕ) (fdp : Fdp) where
   times_in : (actual flight : Option ActualTimes) → HasSegments n id number fdp actual → HasSegments n id number fdp flight → (i : ℕ) → i < length fdp.segments → times_flown actual i ≡ times_flown flight i
@@ -339,7 +339,7 @@ told_once m n id r q told also = (
   same_list r.actuals q.actuals (actual_kept m n id r q told also) (actual_kept m n id q r also told),
 )
 
--- ---- A state of which the rows tell each pairing has just these rows
+-- ---- A state of which the rows give each pairing has just these rows
 
 module _ (s : State) (m : Periods) (n : Segments) (m_keyed : ArePeriodsKeyed m) (n_keyed : AreSegmentsKeyed n)
     (told : (id : List ℕ) (r : PairingEntry) → fin.get s.pairings id ≡ Some r → IsPairingOfRows m n id r)

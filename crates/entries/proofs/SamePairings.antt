@@ -18,7 +18,7 @@ use Rattle.state_rows.specs.Rows.{InPeriod, InSegment, InSeat, At, PeriodOf, Seg
 use Rattle.state_rows.proofs.Lists.{Answers, same_list, same_option, one_value}
 use Rattle.state_rows.proofs.Values.{seats_same, numbers_same, times_same, text_is, number_is}
 
--- ---- What the rows of one state tell of another, which has them too
+-- ---- What the rows of one state say of another, which has them too
 
 module _ (s t : State) (id : List ℕ) (r q : PairingEntry) (here : fin.get s.pairings id ≡ Some r) (there : fin.get t.pairings id ≡ Some q) where
   pub record Period (place : ℕ) (fdp : Fdp) (actual : Option ActualTimes) : Type 0 where

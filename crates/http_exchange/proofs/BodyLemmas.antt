@@ -6,7 +6,7 @@ use Rattle.std.specs.Io.KnownBytes.{Consumes, IsAtEnd, Keeps}
 use Rattle.std.proofs.KnownBytes.{Consumes-nil, Consumes-trans}
 use Rattle.http_exchange.specs.Body.{IsCutAt, IsWholeAt}
 
--- so many bytes were read
+-- this many bytes were read
 pub record IsFront (had left : Option (List ℕ)) (bytes : List ℕ) (count : ℕ) : Type 0 where
   pub read : Consumes had left bytes
   pub count_is : length bytes ≡ count

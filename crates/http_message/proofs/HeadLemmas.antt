@@ -172,7 +172,7 @@ found front b left h rest count none short reads few =
 
 -- ---- the turns of the reading
 
--- so many bytes were read, and are no head
+-- this many bytes were read, and are no head
 pub record IsFront (had left : Option (List ℕ)) (bytes : List ℕ) (count : ℕ) : Type 0 where
   pub read : Consumes had left bytes
   pub none : HasNoRequest bytes

@@ -146,7 +146,7 @@ no_fault schema (Fault fault) bad is = bad
 unchanged : (s : conn.State) → IsTrue s.is_open → IsUnchanged s s
 unchanged s opened = (record { was_open = opened; is_open = opened; now_is = refl; committed_is = refl; mode = refl }, record { changes = refl; last_rowid = refl }, refl)
 
--- what looking at the names tells
+-- what follows from looking at the names
 module _ (s : State) (now : conn.State) (opened : HasCleanDisk now → IsTrue now.is_open) (up : HasCleanDisk now → AgreesIn First request s now.now) where
   pub names_told : {A : Type 0} (result : Result A LoadFault) → MatchResult result (λ _. AreFree later_tables now.now.schema) (BlamesName now.now.schema) →
       ReadsAs (λ _. AgreesIn First outside_segment s now.now) (λ f. Justifies f now.now) now now result

@@ -1,4 +1,4 @@
--- The table `base`: what its records tell, and when it is right.
+-- The table `base`: what its records say, and when it is right.
 use Rattle.std.proofs.Common.{◌≡◌, ◌⊎◌, inl, inr, refl, sym, ap, subst, ◌∙◌, arith, ℕ, zero, suc, ◌<◌, ◌+◌, true, false, List, [], ◌∷◌, map, take, length, slice_get, Option, Some, None}
 use Rattle.std.specs.FinMap as fin
 use Rattle.values.specs.Name.{name_cmp}
@@ -71,7 +71,7 @@ lower zero (suc n) less = inl (omega arith)
 lower (suc i) zero less = absurd (omega (arith, less))
 lower (suc i) (suc n) less = elim (lower i n (omega (arith, less))) [ inl b ↦ inl (omega (arith, b)) | inr e ↦ inr (ap suc e) ]
 
--- none of so many first records is the row of HOME
+-- none of this many first records is the row of HOME
 pub record AreOthers (records : List BaseRecord) (count : ℕ) (zone : List ℕ) : Type 0 where
   pub apart : (i : ℕ) (other : BaseRecord) → i < count → slice_get records i ≡ Some other → base_row other ≡ row_of_base home zone → ⊥
 

@@ -1,4 +1,4 @@
--- The table `book`: what its one row tells, and when it is right.
+-- The table `book`: what its one row says, and when it is right.
 use Rattle.std.proofs.Common.{◌≡◌, ◌⊎◌, ◌↔◌, inl, inr, refl, sym, ap, subst, ◌∙◌, arith, ℕ, ℤ, zero, suc, pos, ◌<◌, true, false, List, [], ◌∷◌, map, slice_get, ◌+◌, length, Some, None, Result, Ok, Err, MatchResult, IsUtf8}
 use Rattle.std.proofs.lemmas.Option.{slice_get_within}
 use Rattle.sqlite_value.specs.declared.value.Value.TheVariants.{Int}
@@ -56,7 +56,7 @@ lower (suc i) (suc n) less = elim (lower i n (omega (arith, less))) [ inl b ↦ 
 within : (records : List BookRecord) (i : ℕ) (o : BookRecord) → slice_get records i ≡ Some o → i < length records
 within records i o there = slice_get_within records i o there
 
--- so many first records are this one
+-- this many first records are this one
 pub record AreSame (records : List BookRecord) (count : ℕ) (it : BookRecord) : Type 0 where
   pub same : (i : ℕ) (other : BookRecord) → i < count → slice_get records i ≡ Some other → other ≡ it
 
@@ -92,7 +92,7 @@ pub other_only : (records : List BookRecord) (i j : ℕ) (a b it : BookRecord) �
 other_only records i j a b it first second apart only =
     apart (one_record a b ((only.all (book_row a)).0 (mapped_at book_row records i a first) ∙ sym ((only.all (book_row b)).0 (mapped_at book_row records j b second))))
 
--- ---- What the one record tells
+-- ---- What the one record says
 
 only_one : (records : List BookRecord) (a b : BookRecord) → IsOnly records a → IsOnly records b → a ≡ b
 only_one records a b x y = one_record a b ((y.all (book_row a)).0 ((x.all (book_row a)).1 refl))

@@ -1,4 +1,4 @@
--- The table `exceedance`: what its records tell, and when it is right.
+-- The table `exceedance`: what its records say, and when it is right.
 use Rattle.std.proofs.Common.{◌≡◌, inl, inr, refl, sym, ap, subst, ◌∙◌, arith, ℕ, pos, ◌<◌, ◌≤◌, true, false, List, [], ◌∷◌, map, take, slice_get, ◌+◌, length, Option, Some, None, Result, Ok, Err, MatchResult, IsUtf8}
 use Rattle.std.specs.FinMap as fin
 use Rattle.std.specs.Prelude.{is_some}
@@ -89,7 +89,7 @@ module _ (edition : Edition) (members : Members) (pairings : fin.FinMap name_cmp
       let there : fin.get members it.crew ≡ Some is.is.member = ap (fin.get members) (text_is (ap (λ (row : Row). column row 2) e)) ∙ is.is.of_member in
       absurd (let f = sym none ∙ ap is_some there in cc)
 
-  -- the duty that a row names is the one that its columns tell
+  -- the duty that a row names is the one that its columns say
   its_duty : (id : ExceedanceId) (named told : DutyId) → exceedance_row it ≡ row_of_recorded id named → IsExceedanceIn edition members pairings id named → IsDutyOf it.pairing it.period told → named ≡ told
   its_duty id named told e is of =
       duties_same named told (recorded_above pairings named is.is.of_duty) (range_above told of.in_range)

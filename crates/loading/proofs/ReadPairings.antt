@@ -1,4 +1,4 @@
--- The pairings that the tables `pairing`, `period` and `segment` tell, and when these tables are right.
+-- The pairings that the tables `pairing`, `period` and `segment` give, and when these tables are right.
 use Rattle.std.proofs.Common.{◌≡◌, ◌↔◌, inl, inr, refl, sym, ap, subst, ◌∙◌, ℕ, true, false, List, [], ◌∷◌, map, cond, Some, None, Result, Ok, Err, IfOk, MatchResult}
 use Rattle.std.specs.FinMap as fin
 use Rattle.std.specs.Prelude.{is_some, ⊤}

@@ -1,4 +1,4 @@
--- The table `request`: what its records tell, and when it is right.
+-- The table `request`: what its records say, and when it is right.
 use Rattle.std.proofs.Common.{◌≡◌, inl, inr, refl, sym, ap, subst, ◌∙◌, ℕ, pos, true, List, [], ◌∷◌, ◌++◌, append_assoc, ◌↔◌, Bool, map, slice_get, ◌+◌, length, Option, Some, None, Result, Ok, Err, MatchResult, cond, IsTrue, IsUtf8}
 use Rattle.std.specs.FinMap as fin
 use Rattle.std.specs.List.{list_all}

@@ -1,4 +1,4 @@
--- The table `seat`: what its records tell, and when it is right.
+-- The table `seat`: what its records say, and when it is right.
 use Rattle.std.proofs.Common.{◌≡◌, ◌⊎◌, ◌↔◌, inl, inr, refl, sym, ap, subst, ◌∙◌, ℕ, true, false, not, Bool, ◌&&◌, ◌||◌, List, [], ◌∷◌, map, take, cond, slice_get, ◌+◌, length, Option, Some, None}
 use Rattle.std.specs.FinMap as fin
 use Rattle.std.specs.List.{list_all}

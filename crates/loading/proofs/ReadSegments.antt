@@ -1,4 +1,4 @@
--- The table `segment`: when it fits as far as rows alone tell.
+-- The table `segment`: when it fits as far as rows alone show.
 use Rattle.std.proofs.Common.{◌≡◌, inl, inr, refl, sym, ap, subst, ◌∙◌, ℕ, pos, true, List, [], ◌∷◌, map, length, Some}
 use Rattle.std.specs.FinMap as fin
 use Rattle.std.specs.Prelude.{is_some}

@@ -103,18 +103,18 @@ then_saw Is Refuses IsNext RefusesNext a old mid new (Err fault) one two = recor
   left = left_then old mid new one.left two.left;
 }
 
--- what was read tells what follows from it
+-- what follows from what was read
 pub told_as : {A : Type 0} (Is Tells : A → Type 0) (Refuses : LoadFault → Type 0) → ((a : A) → Is a → Tells a) → (old new : State) (result : Result A LoadFault) →
     ReadsAs Is Refuses old new result → ReadsAs Tells Refuses old new result
 told_as Is Tells Refuses f old new (Ok a) read = record { told = λ clean. let it = read.told clean in (it.0, f a it.1); caused = read.caused; left = read.left }
 told_as Is Tells Refuses f old new (Err fault) read = record { told = read.told; caused = read.caused; left = read.left }
 
--- a refusal says nothing of what an answer would tell
+-- a refusal says nothing of what an answer would say
 pub refused_as : {A B : Type 0} (Is : A → Type 0) (Tells : B → Type 0) (Refuses : LoadFault → Type 0) (old new : State) (fault : LoadFault) → ReadsAs Is Refuses old new (Err fault) →
     ReadsAs Tells Refuses old new (Err fault)
 refused_as Is Tells Refuses old new fault read = record { told = read.told; caused = read.caused; left = read.left }
 
--- what was told of the database before a read holds of it after
+-- what was said of the database before a read holds of it after
 pub seen_here : {A : Type 0} (Is : Database → A → Type 0) (Refuses : LoadFault → Type 0) (a : A) (old new : State) → ReadsAs (Is old.now) Refuses old new (Ok a) → HasCleanDisk new → Is new.now a
 seen_here Is Refuses a old new saw clean = let it = saw.told clean in subst (λ db. Is db a) (sym it.0.0.now_is) it.1
 

@@ -1,4 +1,4 @@
--- What a table tells when it is read whole.
+-- What a table says when it is read whole.
 use Rattle.std.proofs.Common.{◌≡◌, ◌⊎◌, ◌↔◌, inl, inr, refl, sym, ap, subst, ◌∙◌, arith, List, [], ◌∷◌, filter, IsPermutation, Result, Ok, Err}
 use Rattle.std.proofs.lemmas.List.Sorted.{IsPermutation-sym}
 use Rattle.sqlite_value.specs.Order.{Row}
@@ -45,7 +45,7 @@ found_all it db found finds row =
     let same : IsPermutation (rows_of it db) found = subst (λ l. IsPermutation l found) (all_kept (rows_of it db)) finds in
     (has_permuted (rows_of it db) found row same, has_permuted found (rows_of it db) row (IsPermutation-sym _ _ same))
 
--- what a call tells that reads the whole of a table
+-- what a call says that reads the whole of a table
 abbrev pub Told : {A : Type 0} → StateTable → name.TableName → (Row → Type 0) → (A → List Row) → State → State → Result A LoadFault → Type 0
 Told it its IsRecord rows old new result =
     ReadsAs (λ found. HasRows it old.now (rows found)) (BlamesOrFails its (IsUnreadable it IsRecord old.now)) old new result
@@ -78,7 +78,7 @@ uncaused old new its Why Version blame is = absurd blame
 uncaused old new its Why (Damaged other) blame is = absurd (cc)
 uncaused old new its Why (Fault fault) memory is = absurd (let no : Memory ≡ Store = sym memory ∙ store_is fault is in cc)
 
--- ---- What a table tells
+-- ---- What a table says
 
 module _ {A : Type 0} (it : StateTable) (its : name.TableName) (IsRecord : Row → Type 0) (rows : A → List Row) where
   pub found : (old new : State) (a : A) → IsOfBook (table it) old.now.schema → Loaded (table it) IsRecord rows old new (Ok a) → CrashLeavesNoMore old new → IsLive new →

@@ -52,7 +52,7 @@ lower zero (suc n) less = inl (omega arith)
 lower (suc i) zero less = absurd (omega (arith, less))
 lower (suc i) (suc n) less = elim (lower i n (omega (arith, less))) [ inl b ↦ inl (omega (arith, b)) | inr e ↦ inr (ap suc e) ]
 
--- none of so many first records is that of HOME
+-- none of this many first records is that of HOME
 pub record HaveNoHome (records : List BaseRecord) (count : ℕ) : Type 0 where
   pub none : (i : ℕ) (it : BaseRecord) → i < count → slice_get records i ≡ Some it → it.id ≡ home → ⊥
 

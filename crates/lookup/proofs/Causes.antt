@@ -89,7 +89,7 @@ fault_then a b c fault p q caused s shows clean is = cause_then a b c p q clean 
 pub memory_fault : (a b : State) (fault : StoreFault) → fault ≡ Memory → IsReadFault a b fault
 memory_fault a b fault memory s shows clean is = absurd (let no : Memory ≡ Store = sym memory ∙ is in cc)
 
--- ---- What is read tells of no entry
+-- ---- What is read is of no entry
 
 pub wrong_there : (old new : State) → (AreRight outside_segment old.now → ⊥) → HasStoreCause old new
 wrong_there old new wrong = inr (inr (inr wrong))

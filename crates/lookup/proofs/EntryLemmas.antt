@@ -44,7 +44,7 @@ shown_still old new s same left shows = record {
   book = λ now opened. subst (λ (db : Database). IsBookOf s db) (sym same.0.now_is) (shows.book (left.disk now) same.0.was_open);
 }
 
--- what the records tell, as the state's, once they are those of the tables that show it
+-- what the records give, as the state's, once they are those of the tables that show it
 pub is_told : {A E : Type 0} (P : A → Type 0) (Is : roster.State → A → Type 0) (old new : State) (s : roster.State) (result : Result A E) → HasCleanDisk new →
     IsUnchanged old new → CrashAddsNothing old new → Shows old s → (IsBookOf s old.now → (a : A) → P a → Is s a) → IfOk result P → IfOk result (λ a. Shows new s × Is s a)
 is_told P Is old new s (Err fault) clean same left shows means told = tt

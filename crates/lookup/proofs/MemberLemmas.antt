@@ -109,7 +109,7 @@ module _ (s : roster.State) (db : Database) (book : IsBookOf s db) (id : List �
       let base : first.0.base ≡ it.0.base = first.2.base ∙ base_is its it.0 it.1 too.0 too.1 in
       first.1 ∙ ap Some (members_same first.0 it.0 (first.2.seat ∙ it.2) (first.2.name ∙ it.3) base) ∙ sym it.1
 
-  -- what is read tells of a member, or of none
+  -- what is read is a member, or that there is none
   member_in : (records : List CrewRecord) (bases : List CrewBaseRecord) → Finds (table crew) by_id db (map crew_row records) →
       IfSome records (Finds (table crew_base) by_id db (map crew_base_row bases)) → (answer : Option Member) × HasFirst records bases answer
   member_in [] bases finds also = (None, refl)

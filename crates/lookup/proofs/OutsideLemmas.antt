@@ -43,7 +43,7 @@ use Rattle.lookup.proofs.HeldLemmas.{text_same}
 use Rattle.lookup.proofs.ReadLemmas.{in_found, of_found}
 use Rattle.lookup.proofs.RightRows.{of_second}
 
--- ---- What the first record tells
+-- ---- What the first record says
 
 pub none_told : (records : List OutsideRecord) (segments : List OutsideSegmentRecord) → slice_get records 0 ≡ None → HasFirstOutside records segments None
 none_told [] segments here = refl
@@ -68,7 +68,7 @@ not_told (x ∷ xs) segments row fault told here same blames is found first =
 
 -- ---- The segments of one outside period
 
--- the record of a segment tells its place and times
+-- the record of a segment says its place and times
 segment_is : (id other : List ℕ) (i j : ℕ) (t u : BlockTimes) → row_of_outside_segment id i t ≡ row_of_outside_segment other j u → (i ≡ j) × (t ≡ u)
 segment_is id other i j t u e =
     let at_column = λ (k : ℕ). ap (λ (r : Row). column r k) e in
@@ -198,7 +198,7 @@ module _ (s : roster.State) (sound : Sound s) (db : Database) (is_book : IsBookO
 
 -- ---- Where the tables are right
 
--- what is read tells of an outside period, or of none
+-- what is read is an outside period, or that there is none
 module _ (db : Database) (right : AreRight outside_segment db) (id : List ℕ) where
   abbrev t : roster.State
   t = right.0

@@ -1,4 +1,4 @@
--- The pairing that its records tell of is the state's.
+-- The pairing that its records give is the state's.
 use Rattle.std.proofs.Common.{◌≡◌, ◌↔◌, inl, inr, refl, sym, ap, subst, ◌∙◌, ℕ, zero, suc, pos, arith, Bool, true, List, [], ◌∷◌, length, map, Option, Some, None, slice_get, Result, Ok, Err, IfOk}
 use Rattle.std.specs.FinMap as fin
 use Rattle.std.specs.Prelude.{is_some}

@@ -1,4 +1,4 @@
--- What a read by key tells.
+-- What a read by key says.
 use Rattle.std.proofs.Common.{◌≡◌, inl, inr, arith, refl, sym, ap, subst, ◌∙◌, Bool, true, false, cond, List, [], ◌∷◌, filter, Result, Ok, Err, OnOk, IsTrue}
 use Rattle.std.proofs.lemmas.List.Sorted.{IsPermutation-sym}
 use Rattle.sqlite_value.specs.Order.{Row}

@@ -1,4 +1,4 @@
--- Where the tables are right, the records of one pairing tell of a pairing.
+-- Where the tables are right, the records of one pairing give a pairing.
 use Rattle.std.proofs.Common.{◌≡◌, ◌↔◌, inl, inr, refl, sym, ap, subst, ◌∙◌, ℕ, ◌+◌, Bool, true, List, [], ◌∷◌, length, map, Some, IsSome, slice_get}
 use Rattle.std.specs.FinMap as fin
 use Rattle.std.specs.Prelude.{is_some}

@@ -1,4 +1,4 @@
--- The nearest period exceeds its limit exactly where the new duties break the limit's rule.
+-- The nearest period exceeds its limit if and only if the new duties break the limit's rule.
 use Rattle.std.proofs.Common.{◌≡◌, ℕ, zero, suc, ◌+◌, ◌-◌, ◌<◌, ◌≤◌, false, List, [], ◌∷◌, Option, Some, None, length, drop, length-drop, get_or, refl, sym, ap, ◌∙◌, subst, arith, inl, inr, ◌⊎◌}
 use Rattle.std.specs.Prelude.{pos, ◌-ℤ◌, ◌↔◌, IsTrue, nat_lt, slice_get}
 use Rattle.std.specs.List.{Contains}

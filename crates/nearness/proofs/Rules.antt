@@ -1,4 +1,4 @@
--- What is nearest to a limit exceeds it exactly where the new duties break the limit's rule.
+-- What is nearest to a limit exceeds it if and only if the new duties break the limit's rule.
 use Rattle.std.proofs.Common.{◌≡◌, ℕ, ◌<◌, Bool, List, sym, ap, ◌∙◌, subst, arith, drop}
 use Rattle.std.specs.Prelude.{ℤ, pos, ◌*ℤ◌, IsTrue, ◌↔◌, Option, Some, None}
 use Rattle.duty.specs.Minutes.{count, Meets, minutes_in}

@@ -40,7 +40,7 @@ length-segments_of (a ∷ []) = omega arith
 length-segments_of (a ∷ b ∷ rest) =
     let less : 2 * length (segments_of rest) ≤ length rest = length-segments_of rest in omega arith
 
--- a period of so many times has at most 12 segments
+-- a period of this many times has at most 12 segments
 pub length-fdp_of : (zone : List ℕ) (report : ℕ) (times : List ℕ) → is_block_time_count (length times) ≡ true → length (fdp_times zone (fdp_of report times)).segments ≤ 12
 length-fdp_of zone report times h =
     let most : length times ≤ 24 = grind (arith, nat_tests) in

@@ -1,4 +1,4 @@
--- What a request and a schedule are told, from what was asked of a book.
+-- How a request and a schedule are answered, from what was asked of a book.
 use Rattle.std.proofs.Common.{◌≡◌, ◌∙◌, ◌++◌, inl, inr, ℕ, List, [], ◌∷◌, refl, sym, ap, subst, string_bytes, Result, Ok, Err}
 use Rattle.std.specs.Io.KnownBytes.{Appends}
 use Rattle.sqlite_trees.specs.declared.store.Store.{Ghosts}
@@ -48,7 +48,7 @@ kind_ends : (answer : ReplyOrRefusal) → exit_status_of_kind (answer_kind answe
 kind_ends (Ok reply) = refl
 kind_ends (Err refusal) = refused_kind refusal
 
--- the status and the line of what is told of an answer of the book
+-- the status and the line of what is reported of an answer of the book
 answer_told : (answer : Answer) (told : JsonAnswer) (asked : ℕ × Instruction) → IsOrMemory (answer_kind (result_of answer)) (answer_json (result_of answer)) (Ok told)
     → ◌≡◌ {A = Status × List ℕ} (exit_status_of_kind told.kind, string_bytes told.text) (told_json (Ok asked) (result_of answer))
 answer_told answer told asked (kind, text) =
@@ -81,7 +81,7 @@ module _ {S : Type 0} (g : Ghosts S) (old new : Kept S) where
     (λ s at. subst (λ (b : Kept S). IsDurablyAt g b s) (sym same) at),
   )
 
-  -- a request that was asked, or isn't read, is told so
+  -- a request that was asked, or isn't read, is answered so
   pub request_told : (body : List ℕ) (told : JsonAnswer) → IsRequestAsked g old new body (Ok told)
       → IsRequestTold left_by_request (exit_status_of_kind told.kind, string_bytes told.text) (read_request body)
   request_told body told (inr (same, never)) = absurd (cc)
@@ -124,7 +124,7 @@ module _ {S : Type 0} (g : Ghosts S) (old new : Kept S) where
     (λ s at. subst (λ (b : Kept S). IsDurablyAt g b s) (sym same) at),
   )
 
-  -- a request that was checked, or isn't read, is told so
+  -- a request that was checked, or isn't read, is answered so
   pub check_told : (body : List ℕ) (told : JsonAnswer) → IsRequestChecked g old new body (Ok told)
       → IsRequestTold left_by_check (exit_status_of_kind told.kind, string_bytes told.text) (read_request body)
   check_told body told (inr (same, never)) = absurd (cc)

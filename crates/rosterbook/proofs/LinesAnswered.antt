@@ -30,7 +30,7 @@ use Rattle.rosterbook.proofs.PartsAdded.{appends_both}
 use Rattle.rosterbook.proofs.RefusalLemmas.{appends_nothing}
 use Rattle.rosterbook.proofs.Stopping.{answer_untold, command_stopped, untold}
 
--- ---- What is told of two lists of requests, one after the other
+-- ---- What is reported of two lists of requests, one after the other
 
 abbrev Told : Type 0
 Told = List (Status × List ℕ)
@@ -66,7 +66,7 @@ printed_both : (requests more : List ReadRequest) (answers others : List ReplyOr
 printed_both requests more answers others each =
     ap printed_of (told_both requests more answers others each) ∙ flat_map-append (λ one. one.1 ++ line_end) (told_of requests answers) (told_of more others)
 
--- requests were told, and others then
+-- requests were reported, and others then
 pub told_then : (out out_mid out' : ChannelBytes) (requests more : List ReadRequest) (answers others : List ReplyOrRefusal) (status next : Status) →
     AreRequestsTold requests answers status out out_mid → AreRequestsTold more others next out_mid out' →
     AreRequestsTold (requests ++ more) (answers ++ others) (status_after status next) out out'
@@ -246,7 +246,7 @@ module _ {S : Type 0} (g : Ghosts S) (old new : Kept S) (out out' : ChannelBytes
   pub body_answered : (body : List ℕ) (status : Status) → IsBodyTold (IsRequestAsked g old new body) out out' status → AreRequestsAnswered g old new out out' (read_request body ∷ []) status
   body_answered body status it = one_answered (read_request body) _ status (request_told g old new body it.answer it.asked) it.ends it.printed
 
-  -- one that has no answer is told nothing
+  -- nothing is reported of one that has no answer
   nothing_told : (request : ReadRequest) (answers : List ReplyOrRefusal) → out' ≡ out → length answers < length (commands_in (request ∷ [])) →
       Appends out out' (printed_of (told_of (request ∷ []) answers))
   nothing_told (Ok asked) [] silent fewer = subst (λ o. Appends out o []) (sym silent) (appends_nothing out)

@@ -1,4 +1,4 @@
--- From the parts of a schedule that were asked and heard to what `import` tells of them.
+-- From the parts of a schedule that were asked and answered to what `import` reports of them.
 use Rattle.std.proofs.Common.{◌≡◌, ◌||◌, inl, inr, ℕ, ◌+◌, Bool, true, false, List, [], ◌∷◌, ◌++◌, length, map, take, refl, ap, sym, subst, ◌∙◌, arith, Some, None, Result, Ok, Err, length-append, IsTrue}
 use Rattle.std.proofs.lemmas.List.{append_assoc, length-map, take_all}
 use Rattle.std.specs.Bool.{⊤}
@@ -82,7 +82,7 @@ module _ {S O : Type 0} (g : Ghosts S) (contents : O → ChannelBytes) (old new 
     written : (result : Result ⊤ (NotAllAsked Error)) (it : Asked_so result) → heard ≡ it.heard → AreWritten contents begun heard 1 (map result_of it.answers)
     written result it same = all_written contents 1 it.answers begun heard (subst (λ (l : PartLines O). HasHeard (Hears contents) begun 1 it.answers l) (sym same) it.all_heard)
 
-    -- all were answered, and are told
+    -- all were answered, and are reported
     all_added : (it : Asked_so (Ok tt)) → begun.status ≡ Done → AreAddedAndTold g old new number plans heard.status (contents begun.out.now) (contents heard.out.now)
     all_added it begins =
         let are = all_parts g (Hears contents) old new begun heard parts made tt it in
@@ -192,7 +192,7 @@ module _ {S O : Type 0} (g : Ghosts S) (contents : O → ChannelBytes) (old new 
           );
         }
 
-        -- it is none, and that was told
+        -- it is none, and that was reported
         pub refused : (err err' : ChannelBytes) (fault : CodecFault) → Asked_with (Err (Unread fault)) → Appends err err' (refused_line (codec_fault_text fault))
             → IsImported g old new number held (contents begun.out.now) (contents out') err err' Refused
         refused err err' fault asked told =
@@ -219,7 +219,7 @@ module _ {S O : Type 0} (g : Ghosts S) (contents : O → ChannelBytes) (old new 
           told = which;
         }
 
-        -- and it could not be told
+        -- and it could not be reported
         pub refused_untold : (err err' : ChannelBytes) (fault : CodecFault) (stop : Stop) → IsOfChannel stop → Asked_with (Err (Unread fault))
             → IsImportStopped g old new number held (contents begun.out.now) (contents out') err err' stop
         refused_untold err err' fault stop which asked =

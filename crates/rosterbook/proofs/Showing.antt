@@ -1,4 +1,4 @@
--- What is told of a book that is shown.
+-- What is reported of a book that is shown.
 use Rattle.std.proofs.Common.{◌≡◌, inl, inr, refl, ap, sym, subst, Result, Ok, Err}
 use Rattle.sqlite_trees.specs.declared.store.Store.{Ghosts}
 use Rattle.roster.specs.State.{State}
@@ -35,13 +35,13 @@ not_of_book new out out' stop (inr is) = subst (IsShowStopped new out out') (sym
 
 -- ---- What is printed
 
--- what is shown of a state is told of it
+-- what is shown of a state is reported of it
 shown_told : (s : State) (what : Show) (it : Shown) (status : Status) (out out' err err' : ChannelBytes) → ShowsOf s what (Ok it) → PrintsShown it status out out' err err'
     → IsToldOf s what status out out' err err'
 shown_told s what it status out out' err err' is prints = record { shown = text_shown it; is = is; told = prints }
 
 module _ {S : Type 0} (g : Ghosts S) (old new : Kept S) (what : Show) where
-  -- ---- What was shown is told
+  -- ---- What was shown is reported
 
   module _ (it : Shown) (status : Status) (out out' err err' : ChannelBytes) (prints : PrintsShown it status out out' err err') where
     some_shown : (r : Result State StoreFault) → ReportsShown r what (Ok it) → (s : State) × IsToldOf s what status out out' err err'

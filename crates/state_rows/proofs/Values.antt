@@ -1,4 +1,4 @@
--- Values that are told apart by what the tables hold of them.
+-- Values that the tables keep apart by what they hold of them.
 use Rattle.std.proofs.Common.{◌≡◌, refl, ap, ℕ, ℤ, pos, List, [], ◌∷◌, Option, Some, None}
 use Rattle.std.specs.Option.{option_map}
 use Rattle.sqlite_value.specs.declared.value.Value.TheVariants.{Int, Text}

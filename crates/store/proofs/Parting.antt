@@ -1,4 +1,4 @@
--- What a part that was gathered tells.
+-- What a part that was gathered says.
 use Rattle.std.proofs.Common.{◌≡◌, ◌⊎◌, inl, inr, sym, ap, subst, ◌∙◌, Result, Ok, Err, IfErr, IfOk}
 use Rattle.sqlite.specs.State.{State, HasCleanDisk}
 use Rattle.command.specs.Keys.{KeyParts}

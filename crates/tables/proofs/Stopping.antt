@@ -66,7 +66,7 @@ in_place s command e b c r l k (inr (_, name, inr is, _)) = k name is
 
 -- ---- a text that is one statement
 
--- it is one statement to its end, with so many parameters
+-- it is one statement to its end, with this many parameters
 abbrev pub IsWhole : List ℕ → ℕ → Result Compiled CompileError → Type 0
 IsWhole text count (Ok c) = (length text ≡ c.tail) × (count ≡ length c.names)
 IsWhole text count (Err e) = ⊥

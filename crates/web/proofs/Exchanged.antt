@@ -52,7 +52,7 @@ module _ {S : Type 0} (g : Ghosts S) where
           λ t. subst (λ l. StillMeans g old new (Fold s l)) (sym all) (still_means g old new (Fold s commands) (tables t)),
         )
 
-    -- ---- what is left by a request, whatever was told
+    -- ---- what is left by a request, whatever was answered
 
     left_by : (asked : HandlerRequest) (answer : Result StatusText HandlerFault) → handles old new asked answer → (new ≡ old) ⊎ ((commands : Commands) × Asks asked commands × IsLeftBy g s old new commands)
     left_by asked (Ok a) it =

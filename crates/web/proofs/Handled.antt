@@ -120,9 +120,9 @@ module _ {S : Type 0} (g : Ghosts S) (book : Kept S) where
   schedule_unread number body fault line (Err Store) is at_fault tells = absurd tells
   schedule_unread number body fault line (Err Memory) is at_fault tells = no_memory (submit (Import number) body)
 
--- ---- what is told of an answer
+-- ---- what is reported of an answer
 
--- an answer to a command is told, or its fault
+-- an answer to a command is reported, or its fault
 abbrev pub IsToldAs : Result book.Answer StoreFault → Result StatusText HandlerFault → Type 0
 IsToldAs (Ok answer) told = TellsAnswer (command_answer (result_of answer)) told
 IsToldAs (Err fault) told = told ≡ Err (handler_fault_of (ask.Book fault))
@@ -167,15 +167,15 @@ told_as : (a : Result book.Answer StoreFault) (r : Result JsonAnswer AskFault) �
 told_as (Ok answer) r is = told_answer (result_of answer) r is
 told_as (Err fault) r is = ap response_to_command is
 
--- a text in JSON is told, or there is none
+-- a text in JSON is the answer, or there is none
 pub tells_text : (status : ℕ) (r : Result (String Global) MemoryFault) (text : List ℕ) (told : Result StatusText HandlerFault) → IfOk r (λ t. string_bytes t ≡ text) → IsInJsonUnder status r told
     → TellsAnswer (json status text) told
 tells_text status (Ok t) text told is tells = subst (TellsAnswer (json status text)) (sym tells) (ap (json status) is)
 tells_text status (Err f) text told is tells = subst (TellsAnswer (json status text)) (sym tells) tt
 
--- ---- what is told of a report
+-- ---- what is said of a report
 
--- the report of a roster was told, if there was memory for it
+-- the report of a roster is the answer, if there was memory for it
 abbrev IsReported : State → Show → Result StatusText HandlerFault → Type 0
 IsReported s what (Ok answer) = (shown : Result (List ℕ) Absence) × IsShown s what shown × (answer ≡ report_answer shown)
 IsReported s what (Err Store) = ⊥

@@ -97,7 +97,7 @@ module _ {S : Type 0} (g : Ghosts S) (old new : Kept S) (calls : IsAfterCalls g 
     calls = calls;
   }
 
-  -- all were answered, and their answers are told
+  -- all were answered, and their answers are reported
   told_all : (answers : List Answer) (answer : StatusText) → new.failed ≡ false → answer ≡ parts_answer (map result_of answers) → AreAskedUpTo g old new parts answers None
       → AreAdded g old new number plans (Ok answer)
   told_all answers answer unfailed tells it = record {
@@ -109,7 +109,7 @@ module _ {S : Type 0} (g : Ghosts S) (old new : Kept S) (calls : IsAfterCalls g 
         ((λ c. tells ∙ ap parts_answer (it.replies s at c ∙ all)), (it.outcome s at, λ has. it.shown s at has refl));
   }
 
-  -- there was no memory to tell them
+  -- there was no memory to report them
   untold : (answers : List Answer) → AreAskedUpTo g old new parts answers None → AreAdded g old new number plans (Err Memory)
   untold answers it = record {
     kept = kept (Err Memory) it it.failed;
@@ -146,7 +146,7 @@ module _ {S : Type 0} (g : Ghosts S) (old new : Kept S) (calls : IsAfterCalls g 
     done = λ s at. (length answers, it.outcome s at, λ has. (it.still_shown s at has refl, it.still_open refl));
   }
 
-  -- so many were answered, and there was no memory to tell the last answer
+  -- this many were answered, and there was no memory to report the last answer
   unheard_at : (n : ℕ) (answers : List Answer) → AreAskedUpTo g old new (take n parts) answers None → AreAdded g old new number plans (Err Memory)
   unheard_at n answers it = record {
     kept = kept (Err Memory) it it.failed;
@@ -163,7 +163,7 @@ module _ {S : Type 0} (g : Ghosts S) (old new : Kept S) (calls : IsAfterCalls g 
   abbrev Handled_so : Result StatusText HandlerFault → Type 0
   Handled_so told = IsHandled g old new (submit (Import number) body) told
 
-  -- all parts were answered, and are told
+  -- all parts were answered, and are reported
   pub added : string_bytes begun.text ≡ codes "{\"parts\":[" → new.failed ≡ false → (told : Result StatusText HandlerFault) → TellsAnswer (json 200 (string_bytes heard.text ++ codes "]}")) told → Asked_so (Ok tt) → Handled_so told
   added begins unfailed told tells (inl (inl (line, at_fault, never), same, still)) = absurd (cc)
   added begins unfailed told tells (inl (inr never, same, still)) = absurd (cc)
@@ -205,7 +205,7 @@ module _ {S : Type 0} (g : Ghosts S) (old new : Kept S) (calls : IsAfterCalls g 
       schedule_read g old new number body plans (Err (handler_fault_of (ask.Book f))) is
       (at_fault g old new calls number plans it.answers f (parts_to_fault g IsPartAdded old new begun heard (import number plans) (schedule_made number body plans is) f it))
 
-  -- there was no memory to tell what a part was answered
+  -- there was no memory to report what a part was answered
   pub unheard : (f : MemoryFault) → Asked_so (Err (Unheard f)) → Handled_so (Err Memory)
   unheard f (inl (inl (line, at_fault, never), same, still)) = absurd (cc)
   unheard f (inl (inr never, same, still)) = absurd (cc)

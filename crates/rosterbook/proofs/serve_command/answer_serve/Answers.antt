@@ -21,7 +21,7 @@ returns-in_default-clause-stopped g c =
       inl (refl, refl, refl, refl),
     )
 
--- (it isn't told)
+-- (it isn't reported)
 pub returns-in-Err-tell_port-clause-stopped : goal.returns-in-Err-tell_port-clause-stopped
 returns-in-Err-tell_port-clause-stopped g c =
     let book = c.in-Ok.book in (
