@@ -19,7 +19,7 @@ use Rattle.entries.proofs.Mapping.{nothing_mapped, next_mapped, mapped_at, mappe
 use Rattle.entries.proofs.PlanKeys.{period_names_same}
 use Rattle.entries.proofs.PlanLemmas.{all_below, blamed, last_or_before, there_within}
 use Rattle.entries.specs.OneOutside.{IsOutsideToldBy, GiveNoOutside}
-use Rattle.entries.specs.OutsideRows.{AreSegmentsOf, HasNoOutsideGaps, HasTooMany, HasUnmade, IsKeyedOutsideSegment, IsMadeFrom, SaysNoOutside, OutsideSegments, Outsides, OutsidesMade, OutsideSegmentsRead, name_of_outside_segment, outside_segment_name, row_of_keyed_outside}
+use Rattle.entries.specs.OutsideRows.{AreSegmentsOf, HasNoOutsideGaps, HasTooMany, HasUnmade, IsKeyedOutsideSegment, IsMadeFrom, SaysNoOutside, OutsideSegments, Outsides, OutsidesMade, OutsideSegmentsRead, name_of_outside_segment, outside_segment_name, row_of_keyed_outside_segment}
 use Rattle.entries.specs.Mapping.{HasStranger, Mapped, TellsOf}
 use Rattle.entries.specs.Faults.{Blames}
 use Rattle.entries.specs.declared.fault.LoadFault.{LoadFault}
@@ -32,7 +32,7 @@ pub names_same : (i j : OutsideSegmentKey) → name_of_outside_segment i ≡ nam
 names_same i j e = let it = period_names_same i.outside j.outside i.number j.number e in λ k. record { outside = it.0 k; number = it.1 k }
 
 -- the record whose row it is under a key
-module _ (outsides : Outsides) (it : OutsideSegmentRecord) (key : OutsideSegmentKey) (v : OutsideSegmentRecord) (e : outside_segment_row it ≡ row_of_keyed_outside key v) (is : IsKeyedOutsideSegment outsides key v) where
+module _ (outsides : Outsides) (it : OutsideSegmentRecord) (key : OutsideSegmentKey) (v : OutsideSegmentRecord) (e : outside_segment_row it ≡ row_of_keyed_outside_segment key v) (is : IsKeyedOutsideSegment outsides key v) where
   pub same_record : v ≡ it
   same_record =
       let at_column = λ (k : ℕ). ap (λ (row : Row). column row k) e in
@@ -46,7 +46,7 @@ module _ (outsides : Outsides) (it : OutsideSegmentRecord) (key : OutsideSegment
 
 module _ (outsides : Outsides) (it : OutsideSegmentRecord) where
   abbrev pub Tells : Option OutsideSegmentKey → Type 0
-  Tells = TellsOf (λ key v found. (found ≡ key) × (v ≡ it)) row_of_keyed_outside (IsKeyedOutsideSegment outsides) (outside_segment_row it)
+  Tells = TellsOf (λ key v found. (found ≡ key) × (v ≡ it)) row_of_keyed_outside_segment (IsKeyedOutsideSegment outsides) (outside_segment_row it)
 
   pub no_outside : fin.contains_key outsides it.outside ≡ false → Tells None
   no_outside none key v e is =
@@ -64,10 +64,10 @@ module _ (outsides : Outsides) (it : OutsideSegmentRecord) where
 -- ---- Records in turn
 
 pub none_read : (outsides : Outsides) (records : List OutsideSegmentRecord) → OutsideSegmentsRead outsides records 0 fin.empty
-none_read outsides records = record { mapped = λ once. nothing_mapped name_of_outside_segment names_same row_of_keyed_outside (IsKeyedOutsideSegment outsides) }
+none_read outsides records = record { mapped = λ once. nothing_mapped name_of_outside_segment names_same row_of_keyed_outside_segment (IsKeyedOutsideSegment outsides) }
 
 module _ (outsides : Outsides) (records : List OutsideSegmentRecord) (at : ℕ) (it : OutsideSegmentRecord) (there : slice_get records at ≡ Some it) where
-  pub stranger : Tells outsides it None → HasStranger row_of_keyed_outside (IsKeyedOutsideSegment outsides) (map outside_segment_row records)
+  pub stranger : Tells outsides it None → HasStranger row_of_keyed_outside_segment (IsKeyedOutsideSegment outsides) (map outside_segment_row records)
   stranger none = record { row = outside_segment_row it; here = mapped_at outside_segment_row records at it there; strange = none }
 
   pub one_read : (m n : OutsideSegments) (key : OutsideSegmentKey) → Tells outsides it (Some key) → OutsideSegmentsRead outsides records at m → n ≡ fin.insert m (name_of_outside_segment key) it →
@@ -77,8 +77,8 @@ module _ (outsides : Outsides) (records : List OutsideSegmentRecord) (at : ℕ) 
       let v = told.1 in
       let same : n ≡ fin.insert m (name_of_outside_segment index) v = made ∙ (λ i. fin.insert m (name_of_outside_segment (told.2.0 i)) (sym told.2.1 i)) in
       record {
-        mapped = λ once. subst (Mapped name_of_outside_segment row_of_keyed_outside (IsKeyedOutsideSegment outsides) (take (at + 1) (map outside_segment_row records))) (sym same)
-            (next_mapped name_of_outside_segment names_same row_of_keyed_outside (IsKeyedOutsideSegment outsides) m index v (map outside_segment_row records) at
+        mapped = λ once. subst (Mapped name_of_outside_segment row_of_keyed_outside_segment (IsKeyedOutsideSegment outsides) (take (at + 1) (map outside_segment_row records))) (sym same)
+            (next_mapped name_of_outside_segment names_same row_of_keyed_outside_segment (IsKeyedOutsideSegment outsides) m index v (map outside_segment_row records) at
             (mapped_place outside_segment_row records at it there ∙ ap Some told.3) (read.mapped once) told.4 once);
       }
 

@@ -36,8 +36,8 @@ abbrev pub name_of_outside_segment : OutsideSegmentKey → List ℕ
 name_of_outside_segment key = outside_segment_name key.outside key.number
 
 -- a record under a key has this row in `outside_segment`
-abbrev pub row_of_keyed_outside : OutsideSegmentKey → OutsideSegmentRecord → Row
-row_of_keyed_outside key it =
+abbrev pub row_of_keyed_outside_segment : OutsideSegmentKey → OutsideSegmentRecord → Row
+row_of_keyed_outside_segment key it =
     outside_segment_row (record it { outside = key.outside; number = key.number })
 
 -- the record of a segment stands under its key, and is of one of the outside periods `outsides`
@@ -51,8 +51,8 @@ pub record IsKeyedOutsideSegment
 pub record OutsideSegmentsRead
     (outsides : Outsides) (records : List OutsideSegmentRecord) (count : ℕ)
     (segments : OutsideSegments) : Type 0 where
-  pub mapped : AreOnce row_of_keyed_outside (map outside_segment_row records) →
-      Mapped name_of_outside_segment row_of_keyed_outside (IsKeyedOutsideSegment outsides)
+  pub mapped : AreOnce row_of_keyed_outside_segment (map outside_segment_row records) →
+      Mapped name_of_outside_segment row_of_keyed_outside_segment (IsKeyedOutsideSegment outsides)
       (take count (map outside_segment_row records)) segments
 
 -- the segments of each outside period are numbered from 1 without a gap
@@ -71,7 +71,7 @@ AreOutsideSegmentsWhole outsides records segments =
 -- the numbers of segments
 abbrev pub AreOutsideSegmentsWanting : Outsides → List OutsideSegmentRecord → Type 0
 AreOutsideSegmentsWanting outsides records =
-    HasStranger row_of_keyed_outside (IsKeyedOutsideSegment outsides)
+    HasStranger row_of_keyed_outside_segment (IsKeyedOutsideSegment outsides)
     (map outside_segment_row records)
     ⊎ ((segments : OutsideSegments) × OutsideSegmentsRead outsides records (length records) segments
     × (HasNoOutsideGaps segments → ⊥))

@@ -6,7 +6,7 @@ ghost use Rattle.std.specs.Prelude.{◌≡◌, ◌↔◌, length, map, IfOk, IsT
 ghost use Rattle.std.specs.FinMap as fin;
 ghost use Rattle.tables.specs.Records.{outside_segment_row};
 ghost use Rattle.entries.specs.Keyed.{Follows};
-ghost use Rattle.entries.specs.OutsideRows.{AreSegmentsOf, AreOutsideSegmentsWanting, AreOutsideSegmentsWhole, HasNoOutsideGaps, HasTooMany, HasUnmade, IsKeyedOutsideSegment, IsMadeFrom, SaysNoOutside, OutsidesMade, OutsideSegmentsRead, outside_segment_name, row_of_keyed_outside};
+ghost use Rattle.entries.specs.OutsideRows.{AreSegmentsOf, AreOutsideSegmentsWanting, AreOutsideSegmentsWhole, HasNoOutsideGaps, HasTooMany, HasUnmade, IsKeyedOutsideSegment, IsMadeFrom, SaysNoOutside, OutsidesMade, OutsideSegmentsRead, outside_segment_name, row_of_keyed_outside_segment};
 ghost use Rattle.entries.specs.Faults.{Blames};
 ghost use Rattle.entries.specs.Mapping.{HasStranger, TellsOf};
 ghost use Rattle.entries.specs.declared.fault.TableName.TheVariants as table_name;
@@ -32,7 +32,8 @@ fn key_of(
     row: &OutsideSegmentRecord,
 ) -> Result<Option<OutsideSegmentKey>, MemoryFault>
     ensures { IfOk result (TellsOf (λ key it found. (found ≡ key) × (it ≡ row.now))
-        row_of_keyed_outside (IsKeyedOutsideSegment outsides.now) (outside_segment_row row.now)) }
+        row_of_keyed_outside_segment (IsKeyedOutsideSegment outsides.now)
+        (outside_segment_row row.now)) }
 {
     let outside = OutsideId::new(row.outside.try_clone(alloc)?);
     let number = row.number;
@@ -49,7 +50,7 @@ fn by_keys(
     records: &[OutsideSegmentRecord],
 ) -> Result<OrdMap<OutsideSegmentKey, OutsideSegmentRecord>, LoadFault>
     ensures { MatchResult result (OutsideSegmentsRead outsides.now records.now (length records.now))
-        (Blames table_name.OutsideSegment (HasStranger row_of_keyed_outside
+        (Blames table_name.OutsideSegment (HasStranger row_of_keyed_outside_segment
         (IsKeyedOutsideSegment outsides.now) (map outside_segment_row records.now))) }
 {
     let mut segments = OrdMap::new(alloc);

@@ -33,7 +33,7 @@ use Rattle.entries.proofs.RightRows.{number_fits}
 use Rattle.entries.specs.Right.{AreRight, IsOfEdition, IsOutsideRight, IsOutsideSegmentRight}
 use Rattle.entries.specs.OneOutside.{IsOutsideToldBy}
 use Rattle.loading.specs.OutsideTables.{AreOutsidesSet, AreOutsidesUnset, HasOutsides}
-use Rattle.entries.specs.OutsideRows.{AreSegmentsOf, HasNoOutsideGaps, HasTooMany, IsKeyedOutsideSegment, IsMadeFrom, SaysNoOutside, OutsideSegments, Outsides, OutsidesMade, OutsideSegmentsRead, name_of_outside_segment, outside_segment_name, row_of_keyed_outside}
+use Rattle.entries.specs.OutsideRows.{AreSegmentsOf, HasNoOutsideGaps, HasTooMany, IsKeyedOutsideSegment, IsMadeFrom, SaysNoOutside, OutsideSegments, Outsides, OutsidesMade, OutsideSegmentsRead, name_of_outside_segment, outside_segment_name, row_of_keyed_outside_segment}
 use Rattle.loading.specs.Reading.{AgreesIn, HasRows, IsReadAs, IsUnreadable}
 use Rattle.entries.specs.Mapping.{AreOnce, HasStranger, Mapped, Under}
 use Rattle.entries.specs.declared.outside_rows.OutsideSegmentKey.{OutsideSegmentKey}
@@ -64,8 +64,8 @@ shaped o e = elim (cases_Bool (is_id o.id)) [
   | inr a ↦ absurd (let f = rw a at e in cc)
 ]
 
-itself : (key : OutsideSegmentKey) (v : OutsideSegmentRecord) → begins_with (Text key.outside ∷ Int (pos key.number) ∷ []) (row_of_keyed_outside key v) ≡ true
-itself key v = passes (Text key.outside ∷ Int (pos key.number) ∷ []) (row_of_keyed_outside key v) (refl, (refl, tt))
+itself : (key : OutsideSegmentKey) (v : OutsideSegmentRecord) → begins_with (Text key.outside ∷ Int (pos key.number) ∷ []) (row_of_keyed_outside_segment key v) ≡ true
+itself key v = passes (Text key.outside ∷ Int (pos key.number) ∷ []) (row_of_keyed_outside_segment key v) (refl, (refl, tt))
 
 -- the record of a segment of an outside period
 abbrev record_of : List ℕ → ℕ → BlockTimes → OutsideSegmentRecord
@@ -105,13 +105,13 @@ module _ (s : State) (db : Database) (up : AgreesIn Second outside s db) (m : Ou
       (it.0, ap (fin.get m) same ∙ it.1)
 
   module _ (records : List OutsideSegmentRecord) (read : HasRows outside_segment db (map outside_segment_row records)) where
-    once : AreOnce row_of_keyed_outside (map outside_segment_row records)
+    once : AreOnce row_of_keyed_outside_segment (map outside_segment_row records)
     once key v w first second =
-        once_by_two outside_segment_table db (1 ∷ 2 ∷ []) [] refl read.there.0 read.database read.stored (row_of_keyed_outside key v) (row_of_keyed_outside key w)
-        ((read.all (row_of_keyed_outside key v)).1 first) ((read.all (row_of_keyed_outside key w)).1 second) (Text key.outside) (Int (pos key.number)) refl (λ r. (refl, refl)) refl refl
+        once_by_two outside_segment_table db (1 ∷ 2 ∷ []) [] refl read.there.0 read.database read.stored (row_of_keyed_outside_segment key v) (row_of_keyed_outside_segment key w)
+        ((read.all (row_of_keyed_outside_segment key v)).1 first) ((read.all (row_of_keyed_outside_segment key w)).1 second) (Text key.outside) (Int (pos key.number)) refl (λ r. (refl, refl)) refl refl
         (itself key v) (itself key w)
 
-    strange : HasStranger row_of_keyed_outside (IsKeyedOutsideSegment m) (map outside_segment_row records) → AreRight outside_segment db → ⊥
+    strange : HasStranger row_of_keyed_outside_segment (IsKeyedOutsideSegment m) (map outside_segment_row records) → AreRight outside_segment db → ⊥
     strange x right =
         let it = ((both db up.of right.0 right.1).1.1 x.row).0 ((read.all x.row).1 x.here) in
         let of = recorded right.0 right.1 it.0 in
@@ -119,8 +119,8 @@ module _ (s : State) (db : Database) (up : AgreesIn Second outside s db) (m : Ou
         (record { outside = refl; number = refl; of_outside = ap is_some of.1 })
 
     module _ (n : OutsideSegments) (all : OutsideSegmentsRead m records (length records) n) where
-      mapped : Mapped name_of_outside_segment row_of_keyed_outside (IsKeyedOutsideSegment m) (map outside_segment_row records) n
-      mapped = subst (λ l. Mapped name_of_outside_segment row_of_keyed_outside (IsKeyedOutsideSegment m) l n) (all_taken outside_segment_row records) (all.mapped once)
+      mapped : Mapped name_of_outside_segment row_of_keyed_outside_segment (IsKeyedOutsideSegment m) (map outside_segment_row records) n
+      mapped = subst (λ l. Mapped name_of_outside_segment row_of_keyed_outside_segment (IsKeyedOutsideSegment m) l n) (all_taken outside_segment_row records) (all.mapped once)
 
       keyed : (key : List ℕ) (it : OutsideSegmentRecord) → fin.get n key ≡ Some it → key ≡ outside_segment_name it.outside it.number
       keyed key it e = let known = mapped.known key it e in known.1 ∙ (λ i. outside_segment_name (sym known.2.outside i) (sym known.2.number i))
@@ -132,7 +132,7 @@ module _ (s : State) (db : Database) (up : AgreesIn Second outside s db) (m : Ou
       in_table : (key : List ℕ) (it : OutsideSegmentRecord) → fin.get n key ≡ Some it → Has (rows_of outside_segment_table db) (outside_segment_row it)
       in_table key it e =
           let known = mapped.known key it e in
-          let here : row_of_keyed_outside known.0 it ≡ outside_segment_row it = λ i. outside_segment_row (record it { outside = sym known.2.outside i; number = sym known.2.number i }) in
+          let here : row_of_keyed_outside_segment known.0 it ≡ outside_segment_row it = λ i. outside_segment_row (record it { outside = sym known.2.outside i; number = sym known.2.number i }) in
           (read.all (outside_segment_row it)).1 (subst (Has (map outside_segment_row records)) here
           (mapped.all (record { index = known.0; value = it; there = ap (fin.get n) (sym known.1) ∙ e })))
 
@@ -156,7 +156,7 @@ module _ (s : State) (db : Database) (up : AgreesIn Second outside s db) (m : Ou
       of_rows row h =
           let at = mapped.has row ((read.all row).0 h) in
           let is = under at.0 in
-          let here : row_of_keyed_outside at.0.index at.0.value ≡ outside_segment_row at.0.value =
+          let here : row_of_keyed_outside_segment at.0.index at.0.value ≡ outside_segment_row at.0.value =
           λ i. outside_segment_row (record at.0.value { outside = sym is.outside i; number = sym is.number i }) in
           (at.0.value, ap (fin.get n) (λ i. outside_segment_name (is.outside i) (is.number i)) ∙ at.0.there, at.1 ∙ here)
 
