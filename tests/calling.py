@@ -7,11 +7,11 @@ A quotation is a block of the page below a comment that names its source, `<!-- 
 a function, a constant or a type, which is quoted whole. In another crate it is that of a public function (`judge`, `Book::ask`), which is
 quoted up to its body. Below `<!-- imports -->` stand the imports that the quoted functions of the section need, without those of their own
 crate. Below `<!-- crates -->` stands the line of crates.txt that a crate with these imports needs. Below `<!-- clauses of PATH: NAME -->`
-stands a table whose rows begin with clauses of that function, and below `<!-- fields of PATH: NAME -->` one whose rows begin with fields of
-that record. A name with `::` in the text is that of a public function, of a crate or of a type.
+stands a table whose rows begin with clauses of that function. A name with `::` in the text is that of a public function, of a crate or of
+a type.
 
 With --refresh the quotations, the imports and the lines are written anew, by the names of the functions. What fails: a block that differs
-from its source, a name that a source doesn't have, a row that names no clause or field, and a public function that isn't there. What
+from its source, a name that a source doesn't have, a row that names no clause, and a public function that isn't there. What
 differs is reported on standard error. The last line is 'N passed, M failed', and the exit status is 1 if M isn't 0.
 """
 
@@ -25,7 +25,7 @@ from counting import Desk
 TOP = Path(__file__).resolve().parent.parent
 PAGE = TOP / "docs/CALLING.md"
 BLOCK = re.compile(r"^<!-- (?:(crates/\S+?): (.+?)|(imports)|(crates)) -->\n```\n(.*?)^```$", re.M | re.S)
-TABLE = re.compile(r"^<!-- (clauses|fields) of (\S+?): (\S+) -->\n((?:\|.*\n)+)", re.M)
+TABLE = re.compile(r"^<!-- clauses of (\S+?): (\S+) -->\n((?:\|.*\n)+)", re.M)
 CALLER = "caller"
 
 
@@ -201,20 +201,15 @@ def try_blocks(desk, page):
     desk.expect(count == len(re.findall(r"^```$", page, re.M)) / 2, "a block of code without the comment that names its source")
 
 
-def labels(kind, path, name):
-    """The clauses of a function, or the fields of a record."""
-    if kind == "clauses":
-        return set(re.findall(r"^ +(?:ensures|requires) (\w+) \{", contract(path, name), re.M))
-    found = re.search(rf"^( *)pub record {re.escape(name)} (?:.*\n)(?:\1 +.*\n)*", source(path), re.M)
-    if not found:
-        raise LookupError(f"{path} has no record {name}")
-    return set(re.findall(r"^ *pub (\w+) :", found[0], re.M))
+def labels(path, name):
+    """The clauses of a function."""
+    return set(re.findall(r"^ +(?:ensures|requires) (\w+) \{", contract(path, name), re.M))
 
 
 def try_tables(desk, page):
-    for kind, path, name, table in TABLE.findall(page):
+    for path, name, table in TABLE.findall(page):
         try:
-            there = labels(kind, path, name)
+            there = labels(path, name)
         except LookupError as error:
             desk.expect(False, error.args[0])
             continue
