@@ -7,13 +7,16 @@ An edit is a file crates/CRATE/must-fail/NAME.edit, or with --more crates/CRATE/
 the function that must be refused, as a check prints it below its crate; `file: PATH`, in the crate; and pairs of `old: TEXT`
 and `new: TEXT`, where the old text stands in the file exactly once. With no `in:` the whole crate is checked.
 
-A function is proved over the contracts of those that it calls, so edits of different functions are tried by one check of
-these functions, on a copy of the crate. `rt lib` first builds each library below that is missing or older than its sources; with
---built those that are there are taken as they are, as `rt ci` left them: what it has from an earlier run on a machine is older than
-a fresh clone. With --beside the edits of a crate are tried while `rt ci` proves the crates above it in the copy of the repository that
---libraries names. LOG is what `rt ci` says meanwhile, and at last the line `rt ci has ended`: the libraries that it names as proved are
-there. Until it ends, few edits are tried at once, with the least share of the processors, and only while memory is left; one that is
-killed for memory is tried again at the end.
+A function is proved over the contracts of those that it calls, so edits of different functions are tried by one check of these
+functions, on a copy of the crate. Of each other function the copy has the contract alone: a loop without end stands for its body, and a
+hole for its proof, since the library of the crate says that it is proved. A first check, without an edit, shows which functions still
+stand there; an edit of any other function is tried over the whole crate, as is one with no `in:`.
+
+`rt lib` first builds each library that is missing or older than its sources; with --built those that are there are taken as they are, as
+`rt ci` left them: what it has from an earlier run on a machine is older than a fresh clone. With --beside the edits of a crate are tried
+while `rt ci` proves the crates above it in the copy of the repository that --libraries names. LOG is what `rt ci` says meanwhile, and at
+last the line `rt ci has ended`: the libraries that it names as proved are there. Until it ends, few edits are tried at once, with the
+least share of the processors, and only while memory is left; one that is killed for memory is tried again at the end.
 
 After the lines of a crate comes one with the seconds that its checks took. The last line is 'N passed, M failed', and the exit status 1
 where M isn't 0.
@@ -21,6 +24,7 @@ where M isn't 0.
 
 import argparse
 import contextlib
+import json
 import os
 import re
 import shutil
@@ -62,6 +66,12 @@ class Crate:
             found += [low for low in (*it.below(), it) if low not in found]
         return found
 
+    def functions(self):
+        """Those of its functions that may have a proof in a file, as a check prints them below its crate; none where its library isn't there."""
+        code = self.library / "toolchain" / "mir.json"
+        names = [name.partition("::") for name, _ in json.loads(code.read_text())] if code.exists() else ()
+        return [name for crate, _, name in names if crate == self.name and not re.search(r"\bfn::|\+\+|\+decl$", name)]
+
     def is_built(self):
         if not self.library.exists():
             return False
@@ -93,7 +103,7 @@ class Alone:
 
 
 class Beside:
-    """When a check may begin beside `rt ci`, and how it is run: once the libraries below are there, lightly until `rt ci` has ended."""
+    """When a check may begin beside `rt ci`, and how it is run: once the crate is proved, lightly until `rt ci` has ended."""
 
     def __init__(self, log):
         self.log = log
@@ -104,7 +114,7 @@ class Beside:
 
     def may_begin(self, crate):
         proved = set(re.findall(r"^rt: (\w+) (?:proved$|is kept: )", self.log.read_text(errors="replace"), re.M))
-        return all(low.name in proved for low in crate.below()) and memory_left() > ROOM
+        return all(it.name in proved for it in (*crate.below(), crate)) and memory_left() > ROOM
 
     @contextlib.contextmanager
     def turn(self, crate):
@@ -168,13 +178,62 @@ def read_edit(file):
     return Edit(file, tuple(functions), tuple(changes))
 
 
-def apply(edit, folder):
+def apply(edit, crate, folder):
     """Makes the edit's changes in the copy of its crate."""
     for path, old, new in edit.changes:
+        count = (crate.folder / path).read_text().count(old)
+        if count != 1:
+            raise BadEdit(f"an old text is in {path} {count} times, and not once")
         text = (folder / path).read_text()
-        if text.count(old) != 1:
-            raise BadEdit(f"an old text is in {path} {text.count(old)} times, and not once")
+        if old not in text:
+            raise BadEdit(f"an old text is in none of the functions after `in:`: {old.strip()}")
         (folder / path).write_text(text.replace(old, new))
+
+
+def without_bodies(text, names):
+    """The text of a source file, in which a loop without end stands for the body of each function but those of these names."""
+    lines, found, at = text.split("\n"), [], 0
+    while at < len(lines):
+        begun = re.match(r"( *)(?:pub(?:\([a-z ]+\))? )?fn (\w+)", lines[at])
+        end = end_of_body(lines, at, begun[1]) if begun and begun[2] not in names else None
+        if end is None:
+            found.append(lines[at])
+            at += 1
+        else:
+            item = lines[at:end]
+            body = item.index(begun[1] + "{") if begun[1] + "{" in item else next(i for i, it in enumerate(item) if it.endswith("{"))
+            found += [*item[: body + 1], f"{begun[1]}    loop {{}}", begun[1] + "}"]
+            at = end + 1
+    return "\n".join(found)
+
+
+def end_of_body(lines, at, indent):
+    """The number of the line that ends the body of the function that begins at this one, or None where it has no body."""
+    for number in range(at + 1, len(lines)):
+        line = lines[number]
+        if line == indent + "}":
+            return number
+        if line and (not line.startswith(indent) or re.match(rf"{indent}(?:pub(?:\([a-z ]+\))? )?fn ", line)):
+            return None
+    return None
+
+
+def leave_contracts(crate, folder, functions):
+    """Leaves of each function of the copy its contract alone, but for these."""
+    names = {name.rpartition("::")[2] for name in functions}
+    for file in (folder / "src").rglob("*.rt"):
+        file.write_text(without_bodies(file.read_text(), names))
+    for name in crate.functions():
+        if name not in functions:
+            proof = folder / "proofs" / name.replace("::", "/")
+            proof.mkdir(parents=True, exist_ok=True)
+            for own in ("Answers.antt", "Invariants.antt"):
+                (proof / own).unlink(missing_ok=True)
+            theorem = f"{name.rpartition('::')[2]}_spec"
+            statement = f"Rattle.{crate.name}.proofs.{name.replace('::', '.')}.Statement"
+            (proof / "Proof.antt").write_text(
+                f"use {statement}.{{statement}}\n\npub {theorem} : {{M : Type 1}} → statement M\n{theorem} = ?\n"
+            )
 
 
 def rounds(edits):
@@ -209,25 +268,39 @@ def words_of_check(kit, crate):
     return [*words, "--antt-project", f"{kit}/rattle/logic/antt-project.json", "--logic-built", f"{kit}/logic_built", "--links", f"{crate.name}="]
 
 
-def try_round(words, crate, edits, kept, when):
-    """Checks a copy of the crate with these edits, and returns what it said, or why they can't be tried."""
+def check(words, crate, edits, functions, is_alone, kept, when):
+    """Checks these functions on a copy of the crate with these edits, in which the others have their contracts alone or stand as they are,
+    and returns what it said."""
     with tempfile.TemporaryDirectory(prefix="edits-") as room:
         room = Path(room)
         for part in PARTS:
             if (crate.folder / part).is_dir():
                 shutil.copytree(crate.folder / part, room / part)
+        if is_alone:
+            leave_contracts(crate, room, functions)
         for edit in edits:
-            apply(edit, room)
-        only = [word for edit in edits for name in edit.functions for word in ("--only", name)]
+            apply(edit, crate, room)
+        words = [*words, *(word for name in functions for word in ("--only", name)), *(["--allow-holes"] if is_alone else [])]
         while True:
             with when.turn(crate) as lightly:
                 ran = subprocess.run(
-                    [*lightly, *words, *only, "--incremental", kept], cwd=room, stdin=subprocess.DEVNULL, capture_output=True, text=True, errors="replace"
+                    [*lightly, *words, "--incremental", kept], cwd=room, stdin=subprocess.DEVNULL, capture_output=True, text=True, errors="replace"
                 )
             if not lightly or ran.returncode >= 0:
                 return ran.stdout + ran.stderr
             while not when.has_ended():
                 time.sleep(2)
+
+
+def standing(words, crate, edits, kept, when):
+    """Those functions of the edits that the check accepts as they are, where of all others the contracts alone are left."""
+    named = {name for edit in edits for name in edit.functions}
+    functions = [name for name in crate.functions() if name in named]
+    if not functions:
+        return set()
+    said = check(words, crate, [], functions, True, kept, when)
+    stand = re.findall(rf"^fn {crate.name}::(\S+): (?:no holes|depends on a hole\b)", said, re.M)
+    return set(stand) & set(functions) if re.search(r"^only=\d+ holes=\d+$", said, re.M) else set()
 
 
 def refusal(said, crate, name):
@@ -243,17 +316,18 @@ def refusal(said, crate, name):
     return error[2] if error else ""
 
 
-def verdicts(words, crate, edits, kept, when):
+def verdicts(words, crate, edits, is_alone, kept, when):
     """Tries edits of one round, and yields of each whether it was refused, and what there is to say."""
+    functions = [name for edit in edits for name in edit.functions]
     try:
-        said = try_round(words, crate, edits, kept, when)
+        said = check(words, crate, edits, functions, is_alone, kept, when)
     except BadEdit as why:
         said = f"error: {why}"
-    is_whole = not edits[0].functions
-    if not re.search(r"^logic=not-proved" if is_whole else r"^only=\d+ proved=\d+", said, re.M):
+    is_whole = not functions
+    if not re.search(r"^logic=not-proved" if is_whole else r"^only=\d+ (proved|holes)=\d+", said, re.M):
         if len(edits) > 1:
             for edit in edits:
-                yield from verdicts(words, crate, [edit], kept, when)
+                yield from verdicts(words, crate, [edit], is_alone, kept, when)
             return
         is_proved = is_whole and re.search(r"^logic=proved", said, re.M)
         first = next((line for line in said.splitlines() if "error" in line), said.strip()[-300:])
@@ -264,7 +338,7 @@ def verdicts(words, crate, edits, kept, when):
         if is_whole or all(found.values()):
             yield edit, True, f"refused: {'; '.join(found.values())}" if found else "refused"
         elif len(edits) > 1:
-            yield from verdicts(words, crate, [edit], kept, when)
+            yield from verdicts(words, crate, [edit], is_alone, kept, when)
         else:
             unsaid = [name for name, why in found.items() if not why]
             yield edit, False, f"NOT REFUSED: nothing was said against {', '.join(unsaid)}"
@@ -280,9 +354,15 @@ def try_crate(kit, crate, folder, when):
             lines.append((False, f"{crate.name}/{file.stem}: BAD EDIT: {why}"))
     words = words_of_check(kit, crate)
     with tempfile.TemporaryDirectory(prefix="edits-kept-") as kept:
-        for those in rounds(edits):
-            lines += [(is_refused, f"{edit.label}: {text}") for edit, is_refused, text in verdicts(words, crate, those, kept, when)]
-    return lines, f"{crate.name}: {len(lines)} edits in {time.monotonic() - begun:.0f} seconds"
+        stand = standing(words, crate, edits, kept, when)
+        for is_alone in (True, False):
+            chosen = [it for it in edits if (bool(it.functions) and stand.issuperset(it.functions)) == is_alone]
+            for those in rounds(chosen):
+                found = verdicts(words, crate, those, is_alone, kept, when)
+                lines += [(is_refused, f"{edit.label}: {text}") for edit, is_refused, text in found]
+    whole = sum(not edit.functions or not stand.issuperset(edit.functions) for edit in edits)
+    over = f", {whole} of them over the whole crate" if whole else ""
+    return lines, f"{crate.name}: {len(lines)} edits in {time.monotonic() - begun:.0f} seconds{over}"
 
 
 def main():
@@ -302,7 +382,7 @@ def main():
         if name not in known or not (known[name].folder / folder).is_dir():
             sys.exit(f"tests/edits.py: there is no folder crates/{name}/{folder}")
     chosen = [it for it in known.values() if (it.folder / folder).is_dir() and (it.name in asked.crates or not asked.crates)]
-    for crate in dict.fromkeys(low for it in chosen for low in it.below()) if not asked.beside else ():
+    for crate in dict.fromkeys(low for it in chosen for low in (*it.below(), it)) if not asked.beside else ():
         is_built = crate.library.exists() if asked.built else crate.is_built()
         if not is_built and subprocess.run([rt, "lib"], cwd=crate.folder).returncode:
             sys.exit(f"tests/edits.py: {crate.name} could not be built")
