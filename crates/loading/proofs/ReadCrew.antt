@@ -1,5 +1,5 @@
 -- The table `crew`: what its records say, and when it is right.
-use Rattle.std.proofs.Common.{◌≡◌, inl, inr, refl, sym, ap, subst, ◌∙◌, ℕ, zero, suc, true, false, List, [], ◌∷◌, map, take, slice_get, ◌+◌, length, Option, Some, None, Result, Ok, Err, MatchResult, IsUtf8}
+use Rattle.std.proofs.Common.{◌≡◌, inl, inr, refl, sym, ap, subst, ◌∙◌, ℕ, zero, suc, true, false, List, [], ◌∷◌, map, take, slice_get, ◌+◌, length, Option, Some, None, Result, Ok, Err, IfOk, MatchResult, IsUtf8}
 use Rattle.std.specs.FinMap as fin
 use Rattle.sqlite_value.specs.declared.value.Value.TheVariants.{Text}
 use Rattle.sqlite_value.specs.Order.{Row, column}
@@ -179,3 +179,8 @@ module _ (s : State) (old new : conn.State) (above : HasCleanDisk old → Agrees
     caused = λ clean. uncaused old new table_name.Crew (HasStranger row_of_member IsMember (map crew_row seen)) fault blame;
     left = left;
   }
+
+-- each member that was read is at HOME
+pub all_at_home : (records : List CrewRecord) (s : State) (Why : LoadFault → Type 0) (result : Result State LoadFault) → MatchResult result (MembersRead records (length records) s) Why → IfOk result (λ r. AreAtHome r.crew)
+all_at_home records s Why (Ok t) read = read.at_home
+all_at_home records s Why (Err fault) read = tt

@@ -1,5 +1,5 @@
 -- What a table says when it is read whole.
-use Rattle.std.proofs.Common.{◌≡◌, ◌⊎◌, ◌↔◌, inl, inr, refl, sym, ap, subst, ◌∙◌, arith, List, [], ◌∷◌, filter, IsPermutation, Result, Ok, Err}
+use Rattle.std.proofs.Common.{◌≡◌, ◌⊎◌, ◌↔◌, inl, inr, refl, sym, ap, subst, ◌∙◌, arith, List, [], ◌∷◌, filter, IsPermutation, Result, Ok, Err, IfErr, MatchResult, OnOk}
 use Rattle.std.proofs.lemmas.List.Sorted.{IsPermutation-sym}
 use Rattle.sqlite_value.specs.Order.{Row}
 use Rattle.sqlite_rules.specs.Lists.{Has}
@@ -156,3 +156,9 @@ unread its Why Tells old new fault damaged told caused left = record {
   caused = caused;
   left = left;
 }
+
+-- what was told of the adding holds of the roster that is given back
+pub given : {A : Type 0} (Adds : A → Type 0) (Blamed : LoadFault → Type 0) (done : Result (Unit {0}) LoadFault) (a : A) (result : Result A LoadFault) →
+    OnOk done (result ≡ Ok a) → IfErr done (λ fault. result ≡ Err fault) → MatchResult done (λ _. Adds a) Blamed → MatchResult result Adds Blamed
+given Adds Blamed (Ok u) a result is none told = subst (λ r. MatchResult r Adds Blamed) (sym is) told
+given Adds Blamed (Err fault) a result none is told = subst (λ r. MatchResult r Adds Blamed) (sym is) told

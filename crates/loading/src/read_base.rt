@@ -17,6 +17,7 @@ ghost use Rattle.state_rows.specs.Rows.{row_of_base, base, request};
 ghost use Rattle.state_rows.specs.declared.edition.Edition.TheVariants.{Second};
 ghost use Rattle.entries.specs.declared.fault.TableName.TheVariants as table_name;
 
+use super::given_back::given_back;
 use duty::BaseId;
 use entries::{LoadFault, TableName};
 use roster::{Entry, Roster};
@@ -88,19 +89,19 @@ fn base_of(alloc: Global, row: &BaseRecord) -> Result<Option<Entry>, MemoryFault
 }
 
 /// Sets the bases that the records give.
-fn add_bases(alloc: Global, roster: Roster, records: &[BaseRecord]) -> Result<Roster, LoadFault>
-    requires { roster.bases ≡ only_home (home_zone roster.bases) }
-    ensures { MatchResult result (BasesRead records.now (length records.now) roster)
+fn add_bases(alloc: Global, roster: &mut Roster, records: &[BaseRecord]) -> Result<(), LoadFault>
+    requires { roster.old.bases ≡ only_home (home_zone roster.old.bases) }
+    ensures { MatchResult result
+        (λ _. BasesRead records.now (length records.now) roster.old roster.new)
         (Blames table_name.Base (HasStranger row_of_base IsShaped (map base_row records.now))) }
 {
-    let mut roster = roster;
     for row in records {
         let Some(entry) = base_of(alloc, row)? else {
             return Err(LoadFault::Damaged(TableName::Base));
         };
         roster.put(alloc, entry)?;
     }
-    Ok(roster)
+    Ok(())
 }
 
 /// Sets the bases that the records give, where one of them is HOME with its zone.
@@ -113,7 +114,9 @@ fn bases_of(alloc: Global, roster: Roster, records: &[BaseRecord]) -> Result<Ros
     if !has_home(records, roster.bases.home().text()) {
         return Err(LoadFault::Damaged(TableName::Base));
     }
-    add_bases(alloc, roster, records)
+    let mut roster = roster;
+    let done = add_bases(alloc, &mut roster, records);
+    given_back(roster, done)
 }
 
 /// Reads the bases into a roster that has HOME alone, with the zone of the book.

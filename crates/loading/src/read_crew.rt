@@ -15,6 +15,7 @@ ghost use Rattle.entries.specs.Mapping.{TellsOf, HasStranger};
 ghost use Rattle.state_rows.specs.Rows.{row_of_member, crew, book};
 ghost use Rattle.entries.specs.declared.fault.TableName.TheVariants as table_name;
 
+use super::given_back::given_back;
 use command::{Member, Seat};
 use duty::{BaseId, CrewId, is_plain_text};
 use entries::{LoadFault, TableName};
@@ -80,19 +81,19 @@ fn member_of(alloc: Global, row: &CrewRecord) -> Result<Option<Entry>, MemoryFau
 
 /// Sets the members that the records give.
 #[tactic(auto, using(crate::proofs::ReadCrew::none_read, crate::proofs::ReadCrew::stranger, crate::proofs::ReadCrew::one_read))]
-fn add_members(alloc: Global, roster: Roster, records: &[CrewRecord]) -> Result<Roster, LoadFault>
-    requires { roster.crew ≡ fin.empty }
-    ensures { MatchResult result (MembersRead records.now (length records.now) roster)
+fn add_members(alloc: Global, roster: &mut Roster, records: &[CrewRecord]) -> Result<(), LoadFault>
+    requires { roster.old.crew ≡ fin.empty }
+    ensures { MatchResult result
+        (λ _. MembersRead records.now (length records.now) roster.old roster.new)
         (Blames table_name.Crew (HasStranger row_of_member IsMember (map crew_row records.now))) }
 {
-    let mut roster = roster;
     for row in records {
         let Some(entry) = member_of(alloc, row)? else {
             return Err(LoadFault::Damaged(TableName::Crew));
         };
         roster.put(alloc, entry)?;
     }
-    Ok(roster)
+    Ok(())
 }
 
 /// Reads the members into a roster that has none, each at HOME.
@@ -113,5 +114,7 @@ pub(crate) fn read_crew<S: Alter>(
     ensures home { IfOk result (λ r. AreAtHome r.crew) }
 {
     let records = crew_records(alloc, conn)?;
-    add_members(alloc, roster, &records)
+    let mut roster = roster;
+    let done = add_members(alloc, &mut roster, &records);
+    given_back(roster, done)
 }

@@ -15,6 +15,7 @@ ghost use Rattle.state_rows.specs.Rows.{base, crew_base};
 ghost use Rattle.state_rows.specs.declared.edition.Edition.TheVariants.{Second};
 ghost use Rattle.entries.specs.declared.fault.TableName.TheVariants as table_name;
 
+use super::given_back::given_back;
 use command::Member;
 use duty::{BaseId, CrewId};
 use entries::{LoadFault, TableName};
@@ -107,17 +108,20 @@ fn are_all_posted(crew: &OrdMap<CrewId, Member>, posted: &OrdMap<CrewId, Member>
 
 /// Sets each member at the base that a record names.
 #[tactic(auto, using(crate::proofs::ReadCrewBase::post_stranger, crate::proofs::ReadCrewBase::not_all_posted, crate::proofs::ReadCrewBase::all_posted))]
-fn post_all(alloc: Global, roster: Roster, records: &[CrewBaseRecord]) -> Result<Roster, LoadFault>
-    ensures { MatchResult result (ArePosted records.now roster)
-        (Blames table_name.CrewBase (AreUnposted records.now roster)) }
+fn post_all(
+    alloc: Global,
+    roster: &mut Roster,
+    records: &[CrewBaseRecord],
+) -> Result<(), LoadFault>
+    ensures { MatchResult result (λ _. ArePosted records.now roster.old roster.new)
+        (Blames table_name.CrewBase (AreUnposted records.now roster.old)) }
 {
-    let mut roster = roster;
-    let posted = posted_members(alloc, &roster, records)?;
+    let posted = posted_members(alloc, roster, records)?;
     if !are_all_posted(&roster.crew, &posted) {
         return Err(LoadFault::Damaged(TableName::CrewBase));
     }
     roster.crew = posted;
-    Ok(roster)
+    Ok(())
 }
 
 /// Reads the bases of the members into a roster that has the bases.
@@ -134,5 +138,7 @@ pub(crate) fn read_crew_base<S: Alter>(
         (state S.Store conn.new) result }
 {
     let records = crew_base_records(alloc, conn)?;
-    post_all(alloc, roster, &records)
+    let mut roster = roster;
+    let done = post_all(alloc, &mut roster, &records);
+    given_back(roster, done)
 }

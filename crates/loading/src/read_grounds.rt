@@ -14,6 +14,7 @@ ghost use Rattle.entries.specs.Mapping.{TellsOf, HasStranger};
 ghost use Rattle.state_rows.specs.Rows.{row_of_ground, ground_duty, seat};
 ghost use Rattle.entries.specs.declared.fault.TableName.TheVariants as table_name;
 
+use super::given_back::given_back;
 use duty::{CrewId, Ground, GroundId};
 use entries::{LoadFault, TableName};
 use roster::{Entry, Roster};
@@ -77,20 +78,24 @@ fn ground_of(
 }
 
 /// Sets the ground duties that the records give.
-fn add_grounds(alloc: Global, roster: Roster, records: &[GroundRecord]) -> Result<Roster, LoadFault>
-    requires { roster.grounds ≡ fin.empty }
-    ensures { MatchResult result (GroundsRead records.now (length records.now) roster)
+fn add_grounds(
+    alloc: Global,
+    roster: &mut Roster,
+    records: &[GroundRecord],
+) -> Result<(), LoadFault>
+    requires { roster.old.grounds ≡ fin.empty }
+    ensures { MatchResult result
+        (λ _. GroundsRead records.now (length records.now) roster.old roster.new)
         (Blames table_name.Ground
-        (HasStranger row_of_ground (IsGround roster.crew) (map ground_row records.now))) }
+        (HasStranger row_of_ground (IsGround roster.old.crew) (map ground_row records.now))) }
 {
-    let mut roster = roster;
     for row in records {
-        let Some(entry) = ground_of(alloc, &roster, row)? else {
+        let Some(entry) = ground_of(alloc, roster, row)? else {
             return Err(LoadFault::Damaged(TableName::Ground));
         };
         roster.put(alloc, entry)?;
     }
-    Ok(roster)
+    Ok(())
 }
 
 /// Reads the ground duties into a roster that has none.
@@ -109,5 +114,7 @@ pub(crate) fn read_grounds<S: Alter>(
     ensures rest { IfOk result (λ r. r ≡ record roster { grounds = r.grounds }) }
 {
     let records = ground_records(alloc, conn)?;
-    add_grounds(alloc, roster, &records)
+    let mut roster = roster;
+    let done = add_grounds(alloc, &mut roster, &records);
+    given_back(roster, done)
 }

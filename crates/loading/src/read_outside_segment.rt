@@ -15,6 +15,7 @@ ghost use Rattle.state_rows.specs.Rows.{outside, outside_segment};
 ghost use Rattle.state_rows.specs.declared.edition.Edition.TheVariants.{Second};
 ghost use Rattle.entries.specs.declared.fault.TableName.TheVariants as table_name;
 
+use super::given_back::given_back;
 use duty::OutsideId;
 use entries::outside_segments::{all_by_keys, make_all};
 use entries::{LoadFault, TableName};
@@ -55,18 +56,18 @@ fn outside_segment_records<S: Alter>(
 /// Sets the outside periods that their records and those of their segments give.
 fn set_outsides(
     alloc: Global,
-    roster: Roster,
+    roster: &mut Roster,
     outsides: &OrdMap<OutsideId, OutsideRecord>,
     records: &[OutsideSegmentRecord],
-) -> Result<Roster, LoadFault>
-    ensures { MatchResult result (AreOutsidesSet outsides.now records.now roster)
+) -> Result<(), LoadFault>
+    ensures { MatchResult result
+        (λ _. AreOutsidesSet outsides.now records.now roster.old roster.new)
         (Blames table_name.OutsideSegment (AreOutsidesUnset outsides.now records.now)) }
 {
     let segments = all_by_keys(alloc, outsides, records)?;
     let made = make_all(alloc, outsides, &segments)?;
-    let mut roster = roster;
     roster.outsides = made;
-    Ok(roster)
+    Ok(())
 }
 
 /// Reads the outside periods into a roster, by their records, which were read.
@@ -86,5 +87,7 @@ pub(crate) fn read_outside_segment<S: Alter>(
         (state S.Store conn.new) result }
 {
     let records = outside_segment_records(alloc, conn)?;
-    set_outsides(alloc, roster, outsides, &records)
+    let mut roster = roster;
+    let done = set_outsides(alloc, &mut roster, outsides, &records);
+    given_back(roster, done)
 }

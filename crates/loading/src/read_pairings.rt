@@ -15,6 +15,7 @@ ghost use Rattle.entries.specs.Mapping.{HasStranger};
 ghost use Rattle.state_rows.specs.Rows.{crew, pairing, segment};
 ghost use Rattle.entries.specs.declared.fault.TableName.TheVariants as table_name;
 
+use super::given_back::given_back;
 use crate::read_periods::read_periods;
 use crate::read_segments::read_segments;
 use duty::PairingId;
@@ -82,22 +83,22 @@ fn read_ids<S: Alter>(
 /// Sets the pairings of these ids, as the rows give them.
 fn add_pairings(
     alloc: Global,
-    roster: Roster,
+    roster: &mut Roster,
     ids: &OrdMap<PairingId, ()>,
     rows: &PlanRows,
-) -> Result<Roster, LoadFault>
-    requires none { roster.pairings ≡ fin.empty }
+) -> Result<(), LoadFault>
+    requires none { roster.old.pairings ≡ fin.empty }
     requires periods { AreUngapped rows.now.periods }
     requires segments { HasNoGaps rows.now.segments }
-    ensures { MatchResult result (PairingsRead ids.now rows.now.periods rows.now.segments roster)
+    ensures { MatchResult result
+        (λ _. PairingsRead ids.now rows.now.periods rows.now.segments roster.old roster.new)
         (Blames table_name.Segment (HasUntold ids.now rows.now.periods rows.now.segments)) }
 {
-    let mut roster = roster;
     for (id, _) in ids.iter() {
         let pairing = pairing_of(alloc, rows, id)?;
         roster.put(alloc, Entry::Pairing(pairing))?;
     }
-    Ok(roster)
+    Ok(())
 }
 
 /// Reads the pairings, with their periods and segments, into a roster that has none. No seat of theirs is held.
@@ -119,5 +120,7 @@ pub(crate) fn read_pairings<S: Alter>(
     let ids = read_ids(alloc, conn)?;
     let periods = read_periods(alloc, conn, &ids)?;
     let segments = read_segments(alloc, conn, &periods)?;
-    add_pairings(alloc, roster, &ids, &PlanRows { periods, segments })
+    let mut roster = roster;
+    let done = add_pairings(alloc, &mut roster, &ids, &PlanRows { periods, segments });
+    given_back(roster, done)
 }

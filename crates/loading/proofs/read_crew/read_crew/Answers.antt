@@ -4,7 +4,8 @@ use Rattle.roster.specs.State.{State}
 use Rattle.loading.specs.Loading.{Justifies}
 use Rattle.loading.specs.Reading.{ReadsAs}
 use Rattle.entries.specs.declared.fault.LoadFault.{LoadFault}
-use Rattle.loading.proofs.ReadCrew.{Now, not_read, is_read}
+use Rattle.loading.proofs.Telling.{given}
+use Rattle.loading.proofs.ReadCrew.{Now, all_at_home, not_read, is_read}
 use Rattle.loading.proofs.read_crew.read_crew.Goals as goal
 
 pub returns-in_err-records-clause-read : goal.returns-in_err-records-clause-read
@@ -18,5 +19,10 @@ returns-in_err-records-clause-read g c =
 
 pub returns-clause-read : goal.returns-clause-read
 returns-clause-read g c =
-    is_read c.args.roster (state g.S.Store c.args.conn.now) (state g.S.Store c.crew_records.new.conn) c.requires.above c.in_ok-records.records.items c.deref.result.now c.add_members.result c.deref.ensures.value
-    c.in_ok-records.ensures.told c.crew_records.ensures.left c.add_members.ensures
+    is_read c.args.roster (state g.S.Store c.args.conn.now) (state g.S.Store c.crew_records.new.conn) c.requires.above c.in_ok-records.records.items c.deref.result.now c.given_back.result c.deref.ensures.value
+    c.in_ok-records.ensures.told c.crew_records.ensures.left (given _ _ c.add_members-done.result c.add_members-done.new.roster c.given_back.result c.given_back.ensures.ok c.given_back.ensures.err c.add_members-done.ensures)
+
+pub returns-clause-home : goal.returns-clause-home
+returns-clause-home g c =
+    all_at_home c.deref.result.now c.args.roster _ c.given_back.result
+    (given _ _ c.add_members-done.result c.add_members-done.new.roster c.given_back.result c.given_back.ensures.ok c.given_back.ensures.err c.add_members-done.ensures)

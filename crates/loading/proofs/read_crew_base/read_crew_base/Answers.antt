@@ -15,6 +15,7 @@ use Rattle.loading.proofs.LaterTables.{later_told}
 use Rattle.loading.proofs.KeptBeside.{posts_beside}
 use Rattle.entries.proofs.Editions.{next_crew_base}
 use Rattle.loading.proofs.ReadTables.{not_read, is_read}
+use Rattle.loading.proofs.Telling.{given}
 use Rattle.loading.proofs.ReadCrewBase.{not_unreadable, right, wrong}
 use Rattle.loading.proofs.read_crew_base.read_crew_base.Goals as goal
 
@@ -43,8 +44,8 @@ returns g c =
     let s = with_requests kept c.args.roster in
     let records = c.in_ok-records.records.items in (
       kept,
-      later_told base crew_base next_crew_base table_name.CrewBase refl s (with_requests kept) old new up c.post_all.result
+      later_told base crew_base next_crew_base table_name.CrewBase refl s (with_requests kept) old new up c.given_back.result
           (is_read crew_base table_name.CrewBase IsCrewBaseRow crew_base_row (AreRight crew_base old.now) (λ (t : State). IsReadAs crew_base (with_requests kept t) old.now) old new c.crew_base_records.ensures.left
           records c.deref.result.now c.deref.ensures.value (λ (l : List CrewBaseRecord) t. ArePosted l c.args.roster t) (λ l. AreUnposted l c.args.roster)
-          c.in_ok-records.ensures.told (λ clean read t found. right s old.now (up clean) records read (with_requests kept t) (posts_beside kept records c.args.roster t found)) (λ clean read. wrong s old.now (up clean) records read) c.post_all.result c.post_all.ensures),
+          c.in_ok-records.ensures.told (λ clean read t found. right s old.now (up clean) records read (with_requests kept t) (posts_beside kept records c.args.roster t found)) (λ clean read. wrong s old.now (up clean) records read) c.given_back.result (given _ _ c.post_all-done.result c.post_all-done.new.roster c.given_back.result c.given_back.ensures.ok c.given_back.ensures.err c.post_all-done.ensures)),
     )

@@ -4,6 +4,7 @@ use Rattle.roster.specs.State.{State}
 use Rattle.loading.specs.Loading.{Justifies}
 use Rattle.loading.specs.Reading.{ReadsAs}
 use Rattle.entries.specs.declared.fault.LoadFault.{LoadFault}
+use Rattle.loading.proofs.Telling.{given}
 use Rattle.loading.proofs.ReadGrounds.{Now, not_read, is_read}
 use Rattle.loading.proofs.read_grounds.read_grounds.Goals as goal
 
@@ -18,5 +19,5 @@ returns-in_err-records-clause-read g c =
 
 pub returns-clause-read : goal.returns-clause-read
 returns-clause-read g c =
-    is_read c.args.roster (state g.S.Store c.args.conn.now) (state g.S.Store c.ground_records.new.conn) c.requires.above c.in_ok-records.records.items c.deref.result.now c.add_grounds.result c.deref.ensures.value
-    c.in_ok-records.ensures.told c.ground_records.ensures.left c.add_grounds.ensures
+    is_read c.args.roster (state g.S.Store c.args.conn.now) (state g.S.Store c.ground_records.new.conn) c.requires.above c.in_ok-records.records.items c.deref.result.now c.given_back.result c.deref.ensures.value
+    c.in_ok-records.ensures.told c.ground_records.ensures.left (given _ _ c.add_grounds-done.result c.add_grounds-done.new.roster c.given_back.result c.given_back.ensures.ok c.given_back.ensures.err c.add_grounds-done.ensures)

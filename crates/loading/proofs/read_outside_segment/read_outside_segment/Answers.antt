@@ -16,6 +16,7 @@ use Rattle.loading.proofs.LaterTables.{later_told}
 use Rattle.loading.proofs.KeptBeside.{outsides_beside, set_beside}
 use Rattle.entries.proofs.Editions.{next_outside_segment}
 use Rattle.loading.proofs.ReadTables.{not_read, is_read}
+use Rattle.loading.proofs.Telling.{given}
 use Rattle.loading.proofs.ReadOutsideSegment.{not_unreadable, right, wrong}
 use Rattle.loading.proofs.read_outside_segment.read_outside_segment.Goals as goal
 
@@ -45,9 +46,9 @@ returns g c =
     let m = c.args.outsides.now in
     let records = c.in_ok-records.records.items in (
       kept,
-      later_told outside outside_segment next_outside_segment table_name.OutsideSegment refl s (with_requests kept) old new up c.set_outsides.result
+      later_told outside outside_segment next_outside_segment table_name.OutsideSegment refl s (with_requests kept) old new up c.given_back.result
           (is_read outside_segment table_name.OutsideSegment IsOutsideSegmentRow outside_segment_row (AreRight outside_segment old.now) (λ (t : State). IsReadAs outside_segment (with_requests kept t) old.now) old new
           c.outside_segment_records.ensures.left records c.deref.result.now c.deref.ensures.value (λ (l : List OutsideSegmentRecord) t. AreOutsidesSet m l c.args.roster t) (λ l. AreOutsidesUnset m l)
           c.in_ok-records.ensures.told (λ clean read t found. right s old.now (up clean) m (outsides_beside kept c.args.roster old.now m (c.requires.found clean)) records read (with_requests kept t) (set_beside kept m records c.args.roster t found))
-          (λ clean read. wrong s old.now (up clean) m (outsides_beside kept c.args.roster old.now m (c.requires.found clean)) records read) c.set_outsides.result c.set_outsides.ensures),
+          (λ clean read. wrong s old.now (up clean) m (outsides_beside kept c.args.roster old.now m (c.requires.found clean)) records read) c.given_back.result (given _ _ c.set_outsides-done.result c.set_outsides-done.new.roster c.given_back.result c.given_back.ensures.ok c.given_back.ensures.err c.set_outsides-done.ensures)),
     )

@@ -11,7 +11,7 @@ returns-in_err-segments c =
     let records = c.args.records.now in
     let fault = c.in_err-segments.field-0.0 in
     let is : c.from_residual.result ≡ Err fault = search rules in
-    passed_on (AreOutsidesSet m records c.args.roster) table_name.OutsideSegment (AreOutsideSegmentsWanting m records) (AreOutsidesUnset m records) c.from_residual.result fault is (λ why. inl why) c.in_err-segments.ensures
+    passed_on (λ _. AreOutsidesSet m records c.args.roster.now c.args.roster.now) table_name.OutsideSegment (AreOutsideSegmentsWanting m records) (AreOutsidesUnset m records) c.from_residual.result fault is (λ why. inl why) c.in_err-segments.ensures
 
 pub returns-in_err-made : goal.returns-in_err-made
 returns-in_err-made c =
@@ -20,7 +20,7 @@ returns-in_err-made c =
     let segments = c.in_ok-segments.segments in
     let fault = c.in_err-made.field-0.0 in
     let is : c.from_residual-in_err-made.result ≡ Err fault = search rules in
-    passed_on (AreOutsidesSet m records c.args.roster) table_name.OutsideSegment (HasUnmade m segments) (AreOutsidesUnset m records) c.from_residual-in_err-made.result fault is
+    passed_on (λ _. AreOutsidesSet m records c.args.roster.now c.args.roster.now) table_name.OutsideSegment (HasUnmade m segments) (AreOutsidesUnset m records) c.from_residual-in_err-made.result fault is
     (λ why. inr (segments, c.in_ok-segments.ensures, why)) c.in_err-made.ensures
 
 pub returns : goal.returns

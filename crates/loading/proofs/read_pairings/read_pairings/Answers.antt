@@ -3,6 +3,7 @@ use Rattle.sqlite.specs.Held.{state}
 use Rattle.loading.specs.PlanTables.{HasUntold}
 use Rattle.entries.specs.Faults.{Blames}
 use Rattle.entries.specs.declared.fault.TableName.TheVariants as table_name
+use Rattle.loading.proofs.Telling.{given}
 use Rattle.loading.proofs.ReadPairings.{Reads, SawIds, SawPeriods, SawSegments, no_ids, no_periods, no_segments, are_read, none_held}
 use Rattle.loading.proofs.read_pairings.read_pairings.Goals as goal
 
@@ -58,9 +59,9 @@ returns-clause-read g c =
     let second : c.read_periods.result ≡ Ok periods = search rules in
     let third : c.read_segments.result ≡ Ok segments = search rules in
     are_read c.args.roster old c.requires.above ids one (subst (SawIds old one) first c.read_ids.ensures) periods two (subst (SawPeriods one two) second c.read_periods.ensures.told)
-    segments new (subst (SawSegments periods two new) third c.read_segments.ensures.told) c.add_pairings.result c.add_pairings.ensures
+    segments new (subst (SawSegments periods two new) third c.read_segments.ensures.told) c.given_back.result (given _ _ c.add_pairings-done.result c.add_pairings-done.new.roster c.given_back.result c.given_back.ensures.ok c.given_back.ensures.err c.add_pairings-done.ensures)
 
 pub returns-clause-free : goal.returns-clause-free
 returns-clause-free g c =
     none_held c.in_ok-ids.ids c.in_ok-periods.periods c.in_ok-segments.segments c.args.roster (Blames table_name.Segment (HasUntold c.in_ok-ids.ids c.in_ok-periods.periods c.in_ok-segments.segments))
-    c.add_pairings.result c.add_pairings.ensures
+    c.given_back.result (given _ _ c.add_pairings-done.result c.add_pairings-done.new.roster c.given_back.result c.given_back.ensures.ok c.given_back.ensures.err c.add_pairings-done.ensures)
