@@ -7,6 +7,7 @@ pub mod Statements
 pub mod Answering
 pub mod Refusing
 pub mod Rising
+pub mod Exits
 pub mod Deleting
 pub mod Updating
 pub mod Guarding

@@ -90,7 +90,7 @@ pub(crate) fn load<S: Alter, R: Record>(
             };
         };
         let Numbered { number, entry } = Numbered::<R>::read(&row, 0)?;
-        do_rise = do_rise && is_above(number, last);
+        do_rise &= is_above(number, last);
         last = Some(number);
         all.push(entry)?;
     }
