@@ -17,7 +17,7 @@ ghost use Rattle.state_rows.specs.Rows.{row_of_base, base, request};
 ghost use Rattle.state_rows.specs.declared.edition.Edition.TheVariants.{Second};
 ghost use Rattle.entries.specs.declared.fault.TableName.TheVariants as table_name;
 
-use super::given_back::given_back;
+use crate::given_back::given_back;
 use duty::BaseId;
 use entries::{LoadFault, TableName};
 use roster::{Entry, Roster};

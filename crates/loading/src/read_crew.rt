@@ -15,7 +15,7 @@ ghost use Rattle.entries.specs.Mapping.{TellsOf, HasStranger};
 ghost use Rattle.state_rows.specs.Rows.{row_of_member, crew, book};
 ghost use Rattle.entries.specs.declared.fault.TableName.TheVariants as table_name;
 
-use super::given_back::given_back;
+use crate::given_back::given_back;
 use command::{Member, Seat};
 use duty::{BaseId, CrewId, is_plain_text};
 use entries::{LoadFault, TableName};

@@ -15,7 +15,7 @@ ghost use Rattle.state_rows.specs.Rows.{base, crew_base};
 ghost use Rattle.state_rows.specs.declared.edition.Edition.TheVariants.{Second};
 ghost use Rattle.entries.specs.declared.fault.TableName.TheVariants as table_name;
 
-use super::given_back::given_back;
+use crate::given_back::given_back;
 use command::Member;
 use duty::{BaseId, CrewId};
 use entries::{LoadFault, TableName};
@@ -108,11 +108,7 @@ fn are_all_posted(crew: &OrdMap<CrewId, Member>, posted: &OrdMap<CrewId, Member>
 
 /// Sets each member at the base that a record names.
 #[tactic(auto, using(crate::proofs::ReadCrewBase::post_stranger, crate::proofs::ReadCrewBase::not_all_posted, crate::proofs::ReadCrewBase::all_posted))]
-fn post_all(
-    alloc: Global,
-    roster: &mut Roster,
-    records: &[CrewBaseRecord],
-) -> Result<(), LoadFault>
+fn post_all(alloc: Global, roster: &mut Roster, records: &[CrewBaseRecord]) -> Result<(), LoadFault>
     ensures { MatchResult result (λ _. ArePosted records.now roster.old roster.new)
         (Blames table_name.CrewBase (AreUnposted records.now roster.old)) }
 {

@@ -14,7 +14,7 @@ ghost use Rattle.entries.specs.Mapping.{TellsOf, HasStranger};
 ghost use Rattle.state_rows.specs.Rows.{row_of_ground, ground_duty, seat};
 ghost use Rattle.entries.specs.declared.fault.TableName.TheVariants as table_name;
 
-use super::given_back::given_back;
+use crate::given_back::given_back;
 use duty::{CrewId, Ground, GroundId};
 use entries::{LoadFault, TableName};
 use roster::{Entry, Roster};

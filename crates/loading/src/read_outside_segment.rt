@@ -15,7 +15,7 @@ ghost use Rattle.state_rows.specs.Rows.{outside, outside_segment};
 ghost use Rattle.state_rows.specs.declared.edition.Edition.TheVariants.{Second};
 ghost use Rattle.entries.specs.declared.fault.TableName.TheVariants as table_name;
 
-use super::given_back::given_back;
+use crate::given_back::given_back;
 use duty::OutsideId;
 use entries::outside_segments::{all_by_keys, make_all};
 use entries::{LoadFault, TableName};

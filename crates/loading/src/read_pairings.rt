@@ -15,7 +15,7 @@ ghost use Rattle.entries.specs.Mapping.{HasStranger};
 ghost use Rattle.state_rows.specs.Rows.{crew, pairing, segment};
 ghost use Rattle.entries.specs.declared.fault.TableName.TheVariants as table_name;
 
-use super::given_back::given_back;
+use crate::given_back::given_back;
 use crate::read_periods::read_periods;
 use crate::read_segments::read_segments;
 use duty::PairingId;
