@@ -67,7 +67,7 @@ class Crate:
         return found
 
     def functions(self):
-        """Those of its functions that may have a proof in a file, as a check prints them below its crate; none where its library isn't there."""
+        """Its functions that may have a proof in a file, named as a check names them after the crate; none if its library is missing."""
         code = self.library / "toolchain" / "mir.json"
         names = [name.partition("::") for name, _ in json.loads(code.read_text())] if code.exists() else ()
         return [name for crate, _, name in names if crate == self.name and not re.search(r"\bfn::|\+\+|\+decl$", name)]
@@ -97,6 +97,9 @@ class BadEdit(Exception):
 class Alone:
     """When a check may begin, and how it is run: at once, with all that the machine has."""
 
+    def wait_for(self, crate):
+        pass
+
     @contextlib.contextmanager
     def turn(self, crate):
         yield ()
@@ -112,14 +115,19 @@ class Beside:
     def has_ended(self):
         return self.log.read_text(errors="replace").endswith(ENDED)
 
-    def may_begin(self, crate):
+    def is_proved(self, crate):
         proved = set(re.findall(r"^rt: (\w+) (?:proved$|is kept: )", self.log.read_text(errors="replace"), re.M))
-        return all(it.name in proved for it in (*crate.below(), crate)) and memory_left() > ROOM
+        return all(it.name in proved for it in (*crate.below(), crate))
+
+    def wait_for(self, crate):
+        """Returns once the library of the crate is there, if it will be."""
+        while not self.has_ended() and not self.is_proved(crate):
+            time.sleep(2)
 
     @contextlib.contextmanager
     def turn(self, crate):
         while not self.has_ended():
-            if self.may_begin(crate) and self.turns.acquire(blocking=False):
+            if self.is_proved(crate) and memory_left() > ROOM and self.turns.acquire(blocking=False):
                 try:
                     yield LIGHTLY
                 finally:
@@ -181,13 +189,11 @@ def read_edit(file):
 def apply(edit, crate, folder):
     """Makes the edit's changes in the copy of its crate."""
     for path, old, new in edit.changes:
-        count = (crate.folder / path).read_text().count(old)
-        if count != 1:
-            raise BadEdit(f"an old text is in {path} {count} times, and not once")
-        text = (folder / path).read_text()
-        if old not in text:
-            raise BadEdit(f"an old text is in none of the functions after `in:`: {old.strip()}")
-        (folder / path).write_text(text.replace(old, new))
+        for place in (crate.folder / path, folder / path):
+            count = place.read_text().count(old)
+            if count != 1:
+                raise BadEdit(f"an old text is in {path} {count} times, and not once")
+        (folder / path).write_text((folder / path).read_text().replace(old, new))
 
 
 def without_bodies(text, names):
@@ -218,9 +224,9 @@ def end_of_body(lines, at, indent):
     return None
 
 
-def leave_contracts(crate, folder, functions):
-    """Leaves of each function of the copy its contract alone, but for these."""
-    names = {name.rpartition("::")[2] for name in functions}
+def keep_contracts(crate, folder, functions):
+    """Takes the body and the proof from each function of the copy but these."""
+    names = last_names(functions)
     for file in (folder / "src").rglob("*.rt"):
         file.write_text(without_bodies(file.read_text(), names))
     for name in crate.functions():
@@ -236,23 +242,33 @@ def leave_contracts(crate, folder, functions):
             )
 
 
-def rounds(edits):
-    """The edits in as few rounds as have each function once; what changes several places, or names no function, is alone."""
-    found = []
+def last_names(functions):
+    return {name.rpartition("::")[2] for name in functions}
+
+
+def changes_bodies(crate, edit):
+    """Whether it changes only what is in the bodies of the functions that it names."""
+    for path, old, _ in edit.changes:
+        text = (crate.folder / path).read_text()
+        if not path.startswith("src/") or old in without_bodies(text, ()) or old not in without_bodies(text, last_names(edit.functions)):
+            return False
+    return True
+
+
+def rounds(crate, edits):
+    """The edits in as few rounds as have each function once. One that changes more than the bodies of its functions has its own."""
+    single, shared = [], []
     for edit in edits:
-        is_alone = len(edit.changes) > 1 or len(edit.functions) != 1
-        for others in found if not is_alone else []:
-            if edit.functions[0] not in others["functions"]:
+        if not changes_bodies(crate, edit):
+            single.append([edit])
+            continue
+        for others in shared:
+            if all(set(edit.functions).isdisjoint(it.functions) for it in others):
+                others.append(edit)
                 break
         else:
-            others = {"edits": [], "functions": set(), "is_alone": is_alone}
-            if is_alone:
-                found.insert(0, others)
-            else:
-                found.append(others)
-        others["edits"].append(edit)
-        others["functions"].update(edit.functions)
-    return [it["edits"] for it in found]
+            shared.append([edit])
+    return single + shared
 
 
 def words_of_check(kit, crate):
@@ -268,39 +284,39 @@ def words_of_check(kit, crate):
     return [*words, "--antt-project", f"{kit}/rattle/logic/antt-project.json", "--logic-built", f"{kit}/logic_built", "--links", f"{crate.name}="]
 
 
-def check(words, crate, edits, functions, is_alone, kept, when):
-    """Checks these functions on a copy of the crate with these edits, in which the others have their contracts alone or stand as they are,
-    and returns what it said."""
+def check(words, crate, edits, functions, by_contracts, kept, when):
+    """Checks these functions on a copy of the crate with these edits, and returns what it said. With `by_contracts` the copy keeps only the
+    contracts of the other functions."""
     with tempfile.TemporaryDirectory(prefix="edits-") as room:
         room = Path(room)
         for part in PARTS:
             if (crate.folder / part).is_dir():
                 shutil.copytree(crate.folder / part, room / part)
-        if is_alone:
-            leave_contracts(crate, room, functions)
+        if by_contracts:
+            keep_contracts(crate, room, functions)
         for edit in edits:
             apply(edit, crate, room)
-        words = [*words, *(word for name in functions for word in ("--only", name)), *(["--allow-holes"] if is_alone else [])]
+        words = [*words, *(word for name in functions for word in ("--only", name)), *(["--allow-holes"] if by_contracts else [])]
+        words += ["--incremental", kept / ("contracts" if by_contracts else "whole")]
         while True:
             with when.turn(crate) as lightly:
-                ran = subprocess.run(
-                    [*lightly, *words, "--incremental", kept], cwd=room, stdin=subprocess.DEVNULL, capture_output=True, text=True, errors="replace"
-                )
+                ran = subprocess.run([*lightly, *words], cwd=room, stdin=subprocess.DEVNULL, capture_output=True, text=True, errors="replace")
             if not lightly or ran.returncode >= 0:
                 return ran.stdout + ran.stderr
             while not when.has_ended():
                 time.sleep(2)
 
 
-def standing(words, crate, edits, kept, when):
-    """Those functions of the edits that the check accepts as they are, where of all others the contracts alone are left."""
+def accepted(words, crate, edits, kept, when):
+    """Those functions of the edits that a check accepts as they are, where of all others the contracts alone are kept."""
     named = {name for edit in edits for name in edit.functions}
     functions = [name for name in crate.functions() if name in named]
     if not functions:
         return set()
     said = check(words, crate, [], functions, True, kept, when)
-    stand = re.findall(rf"^fn {crate.name}::(\S+): (?:no holes|depends on a hole\b)", said, re.M)
-    return set(stand) & set(functions) if re.search(r"^only=\d+ holes=\d+$", said, re.M) else set()
+    if not re.search(r"^only=\d+ holes=\d+$", said, re.M):
+        return set()
+    return set(re.findall(rf"^fn {crate.name}::(\S+): (?:no holes|depends on a hole\b)", said, re.M)) & set(functions)
 
 
 def refusal(said, crate, name):
@@ -316,32 +332,31 @@ def refusal(said, crate, name):
     return error[2] if error else ""
 
 
-def verdicts(words, crate, edits, is_alone, kept, when):
+def verdicts(words, crate, edits, by_contracts, kept, when):
     """Tries edits of one round, and yields of each whether it was refused, and what there is to say."""
     functions = [name for edit in edits for name in edit.functions]
+    is_whole = not functions
     try:
-        said = check(words, crate, edits, functions, is_alone, kept, when)
+        said = check(words, crate, edits, functions, by_contracts, kept, when)
     except BadEdit as why:
         said = f"error: {why}"
-    is_whole = not functions
-    if not re.search(r"^logic=not-proved" if is_whole else r"^only=\d+ (proved|holes)=\d+", said, re.M):
-        if len(edits) > 1:
-            for edit in edits:
-                yield from verdicts(words, crate, [edit], is_alone, kept, when)
-            return
-        is_proved = is_whole and re.search(r"^logic=proved", said, re.M)
-        first = next((line for line in said.splitlines() if "error" in line), said.strip()[-300:])
-        yield edits[0], False, "NOT REFUSED" if is_proved else f"BAD EDIT: no proof was tried: {first}"
-        return
+    was_tried = re.search(r"^logic=not-proved" if is_whole else r"^only=\d+ (proved|holes)=\d+", said, re.M)
     for edit in edits:
-        found = {name: refusal(said, crate, name) for name in edit.functions}
-        if is_whole or all(found.values()):
+        found = {name: refusal(said, crate, name) for name in edit.functions} if was_tried else {}
+        if was_tried and (is_whole or all(found.values())):
             yield edit, True, f"refused: {'; '.join(found.values())}" if found else "refused"
         elif len(edits) > 1:
-            yield from verdicts(words, crate, [edit], is_alone, kept, when)
-        else:
+            yield from verdicts(words, crate, [edit], by_contracts, kept, when)
+        elif by_contracts:
+            yield from verdicts(words, crate, [edit], False, kept, when)
+        elif was_tried:
             unsaid = [name for name, why in found.items() if not why]
             yield edit, False, f"NOT REFUSED: nothing was said against {', '.join(unsaid)}"
+        elif is_whole and re.search(r"^logic=proved", said, re.M):
+            yield edit, False, "NOT REFUSED"
+        else:
+            first = next((line for line in said.splitlines() if "error" in line), said.strip()[-300:])
+            yield edit, False, f"BAD EDIT: no proof was tried: {first}"
 
 
 def try_crate(kit, crate, folder, when):
@@ -353,16 +368,20 @@ def try_crate(kit, crate, folder, when):
         except BadEdit as why:
             lines.append((False, f"{crate.name}/{file.stem}: BAD EDIT: {why}"))
     words = words_of_check(kit, crate)
+    when.wait_for(crate)
     with tempfile.TemporaryDirectory(prefix="edits-kept-") as kept:
-        stand = standing(words, crate, edits, kept, when)
-        for is_alone in (True, False):
-            chosen = [it for it in edits if (bool(it.functions) and stand.issuperset(it.functions)) == is_alone]
-            for those in rounds(chosen):
-                found = verdicts(words, crate, those, is_alone, kept, when)
+        kept = Path(kept)
+        for part in ("contracts", "whole"):
+            (kept / part).mkdir()
+        known = accepted(words, crate, edits, kept, when)
+        over_contracts = [it for it in edits if it.functions and known.issuperset(it.functions)]
+        over_all = [it for it in edits if it not in over_contracts]
+        for by_contracts, chosen in ((True, over_contracts), (False, over_all)):
+            for those in rounds(crate, chosen):
+                found = verdicts(words, crate, those, by_contracts, kept, when)
                 lines += [(is_refused, f"{edit.label}: {text}") for edit, is_refused, text in found]
-    whole = sum(not edit.functions or not stand.issuperset(edit.functions) for edit in edits)
-    over = f", {whole} of them over the whole crate" if whole else ""
-    return lines, f"{crate.name}: {len(lines)} edits in {time.monotonic() - begun:.0f} seconds{over}"
+    whole = f", {len(over_all)} of them over the whole crate" if over_all else ""
+    return lines, f"{crate.name}: {len(lines)} edits in {time.monotonic() - begun:.0f} seconds{whole}"
 
 
 def main():
