@@ -11,18 +11,26 @@ ghost use Rattle.roster.specs.Steps.{answered, step_of};
 
 use crate::gathering::{add_histories, add_named, gather_bases};
 use crate::source::Source;
-use command::{Command, Instruction, Key, Refusal};
+use command::{Command, Instruction, Key, Refusal, Reply};
 use roster::{LoggedCommand, Roster, Verdict};
 use std::alloc::Global;
 use values::MemoryFault;
+
+/// Takes the reply of a kept command.
+fn reply_of(kept: LoggedCommand) -> Reply
+    ensures { result ≡ kept.reply }
+{
+    kept.reply
+}
 
 /// Answers a command by what its key holds.
 fn answer_from_log(kept: LoggedCommand, command: &Command) -> Verdict
     ensures { (s : State) (key : KeyParts) → result ≡ answered s key command.now (Some kept) }
 {
     if kept.command == *command {
-        Verdict::Repeat(kept.reply)
+        Verdict::Repeat(reply_of(kept))
     } else {
+        drop(kept);
         Verdict::Refuse(Refusal::NumberUsed)
     }
 }
