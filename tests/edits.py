@@ -8,9 +8,9 @@ the function that must be refused, as a check prints it below its crate; `file: 
 and `new: TEXT`, where the old text stands in the file exactly once. With no `in:` the whole crate is checked.
 
 A function is proved over the contracts of those that it calls, so edits of different functions are tried by one check of these
-functions, on a copy of the crate. Of each other function the copy has the contract alone: a loop without end stands for its body, and a
-hole for its proof, since the library of the crate says that it is proved. A first check, without an edit, shows which functions still
-stand there; an edit of any other function is tried over the whole crate, as is one with no `in:`.
+functions, on a copy of the crate. Of every other function the copy keeps only the contract: a loop without end stands for its body, unless
+it has the name of one that is checked, and a hole for its proof. A first check, without an edit, must accept the functions on such a copy.
+If it doesn't, or if an edit isn't refused there, the edit is tried over the whole crate, as is one with no `in:`.
 
 `rt lib` first builds each library that is missing or older than its sources; with --built those that are there are taken as they are, as
 `rt ci` left them: what it has from an earlier run on a machine is older than a fresh clone. With --beside the edits of a crate are tried
