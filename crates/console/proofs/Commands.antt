@@ -6,7 +6,7 @@ use Rattle.clap.specs.Built.{AddsArg, AddsInTurn, AddsSubcommand}
 use Rattle.clap.specs.Simple.{App, with_rule, with_subcommand}
 use Rattle.clap.specs.declared.builder.arg.Arg.{Arg}
 use Rattle.clap.specs.declared.builder.command.Command.{Command}
-use Rattle.console.specs.CommandLine.{Argument, AreArguments, IsCommandOfApp, rule, with_arguments}
+use Rattle.console.specs.CommandLine.{Argument, AreArguments, AreSubcommands, IsCommandOfApp, rule, with_arguments}
 
 argument_added : (app : App) (new_rule : Rule) (old : Command) (arg : Arg) (new : Command) → IsCommandOfApp app old
     → AddsArg old arg new
@@ -24,16 +24,6 @@ arguments_added (arg ∷ rest) (a ∷ later) app old new are is added =
     arguments_added rest later (with_rule app (rule a)) added.0 new are.2
     (argument_added app (rule a) old arg added.0 is added.1 are.0 are.1) added.2
 
--- these commands are the subcommands of these rows
-abbrev pub AreRows : List Command → List (Text × List Argument) → Type 0
-AreRows [] [] = Unit {0}
-AreRows (c ∷ rest) (row ∷ rows) = IsCommandOfApp (with_arguments row.0 row.1) c × AreRows rest rows
-AreRows _ _ = ⊥
-
--- a first one, and then these
-pub also : {A B : Type 0} → A → B → A × B
-also a b = (a, b)
-
 subcommand_added : (app sub : App) (old given new : Command) → IsCommandOfApp app old → AddsSubcommand old given new
     → IsCommandOfApp sub given
     → IsCommandOfApp (with_subcommand app sub.top) new
@@ -44,7 +34,7 @@ subcommand_added app sub old given new is added own = (
 )
 
 pub subcommands_added : (commands : List Command) (rows : List (Text × List Argument)) (app : App) (old new : Command)
-    → AreRows commands rows → IsCommandOfApp app old → AddsInTurn AddsSubcommand old commands new
+    → AreSubcommands commands rows → IsCommandOfApp app old → AddsInTurn AddsSubcommand old commands new
     → IsCommandOfApp (fold (λ a row. with_subcommand a (with_arguments row.0 row.1).top) app rows) new
 subcommands_added [] [] app old new are is same = subst (IsCommandOfApp app) same is
 subcommands_added [] (row ∷ rows) app old new are is same = absurd are

@@ -1,5 +1,5 @@
 -- A plain line of `do` with its flags.
-use Rattle.std.proofs.Common.{◌≡◌, Bool, true, false, refl, List, [], ◌∷◌, Some, codes}
+use Rattle.std.proofs.Common.{◌≡◌, Bool, true, false, refl, [], ◌∷◌, Some, codes}
 use Rattle.clap.specs.Walk.{Text, finished, nothing_held, rows_after, walked}
 use Rattle.clap.specs.Simple.{Shape}
 use Rattle.clap.specs.Faults.{level_fault, walk_fault}

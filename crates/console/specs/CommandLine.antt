@@ -1,6 +1,6 @@
 -- The command line as a table: the rules that `clap` gets of the table, and what an action says of
 -- the words.
-use Rattle.std.specs.Prelude.{◌≡◌, ◌∷◌, ℕ, Bool, List, [], Option, Some, None, true, false, map}
+use Rattle.std.specs.Prelude.{◌≡◌, ◌∷◌, ◌++◌, ℕ, Bool, List, [], Option, Some, None, true, false, map}
 use Rattle.std.specs.Prelude.{find}
 use Rattle.std.specs.Prelude.{codes, fold, if◌then◌else◌, option_and_then, option_map, string_bytes}
 use Rattle.std.specs.Option.{option_map_or}
@@ -139,6 +139,17 @@ command_line =
 -- The command of `clap` is built as `app` says.
 abbrev pub IsCommandOfApp : App → Command → Type 0
 IsCommandOfApp app c = (app_of c ≡ app) × ((out-Command c).has_globals ≡ false)
+
+-- The commands of `clap` are the subcommands of these rows, one for one.
+abbrev pub AreSubcommands : List Command → List (Text × List Argument) → Type 0
+AreSubcommands [] [] = Unit {0}
+AreSubcommands (c ∷ commands) (row ∷ rows) =
+    IsCommandOfApp (with_arguments row.0 row.1) c × AreSubcommands commands rows
+AreSubcommands _ _ = ⊥
+
+-- After these commands of `clap` there is one more, which is built as `app` says.
+abbrev pub IsFollowedBy : App → List Command → List Command → Type 0
+IsFollowedBy app before now = (c : Command) × (now ≡ before ++ c ∷ []) × IsCommandOfApp app c
 
 -- The arguments of `clap` are these arguments, one for one.
 abbrev pub AreArguments : List Arg → List Argument → Type 0

@@ -9,9 +9,9 @@ ghost use Rattle.clap.specs.Words.{FailsBy, HasKind, all_of, fault_of, first_of,
 ghost use Rattle.clap.specs.Words.{rule_of, subcommand_of, subcommand_rows_of};
 ghost use Rattle.clap.specs.declared.error.kind.ErrorKind.TheVariants.{OutOfMemory, ValueValidation};
 ghost use Rattle.console.specs.Arguments.{HasAll, HasArguments, HasFlag, HasWholeNumber};
-ghost use Rattle.console.specs.CommandLine.{AreArguments, IsCommandOfApp, IsActionOf, arguments_of, bare, command_line, connections, last_number, last_port};
-ghost use Rattle.console.specs.CommandLine.{is_on, most_connections, number_found, number_up_to, optional, optional_flag};
-ghost use Rattle.console.specs.CommandLine.{request_number, rule, subcommand, wanted, wanted_number};
+ghost use Rattle.console.specs.CommandLine.{AreArguments, AreSubcommands, IsCommandOfApp, IsActionOf, IsFollowedBy, arguments_of, bare, command_line};
+ghost use Rattle.console.specs.CommandLine.{connections, last_number, last_port, is_on, most_connections, number_found, number_up_to, optional, optional_flag};
+ghost use Rattle.console.specs.CommandLine.{request_number, rule, subcommand, subcommand_table, wanted, wanted_number};
 ghost use Rattle.console.specs.Plain.{IsDo, IsDuty, IsExceedances, IsImport, IsInit, IsLimits, IsMembers, IsPairing, IsPairings, IsRoster, IsServe};
 ghost use Rattle.console.specs.Plain.{asked_connections, do_words, duty_words, exceedances_words, import_words, init_words};
 ghost use Rattle.console.specs.Plain.{is_plain, limits_words, members_words, pairing_words, pairings_words, roster_words, serve_words};
@@ -336,20 +336,27 @@ fn read(alloc: Global, words: &[&str]) -> Result<Action, Error>
 fn command<'a>(alloc: Global) -> Result<Command<'a>, AllocError>
     ensures { IfOk result (IsCommandOfApp command_line) }
 {
-    let subcommands = vec![in alloc;
-        duty_command(alloc)?,
-        init_command(alloc)?,
-        do_command(alloc)?,
-        import_command(alloc)?,
-        roster_command(alloc)?,
-        pairing_command(alloc)?,
-        limits_command(alloc)?,
-        exceedances_command(alloc)?,
-        members_command(alloc)?,
-        pairings_command(alloc)?,
-        serve_command(alloc)?,
-    ]?;
+    let mut subcommands = Vec::new(alloc);
+    add_subcommands(alloc, &mut subcommands)?;
     bare_command(alloc)?.subcommands(subcommands)
+}
+
+/// Adds all subcommands to an empty list, in the order in which help lists them.
+fn add_subcommands<'a>(alloc: Global, list: &mut Vec<Command<'a>>) -> Result<(), AllocError>
+    requires { list.now.items ≡ [] }
+    ensures { IfOk result (λ _. AreSubcommands list.new.items subcommand_table) }
+{
+    add_duty(alloc, list)?;
+    add_init(alloc, list)?;
+    add_do(alloc, list)?;
+    add_import(alloc, list)?;
+    add_roster(alloc, list)?;
+    add_pairing(alloc, list)?;
+    add_limits(alloc, list)?;
+    add_exceedances(alloc, list)?;
+    add_members(alloc, list)?;
+    add_pairings(alloc, list)?;
+    add_serve(alloc, list)
 }
 
 /// Makes the program without its subcommands.
@@ -367,26 +374,30 @@ fn bare_command<'a>(alloc: Global) -> Result<Command<'a>, AllocError>
         .bin_name("rosterbook")
 }
 
-/// Makes a subcommand of its name, what help says before and after its arguments, and these in order.
-fn subcommand_of<'a>(
+/// Adds a subcommand of its name, what help says before and after its arguments, and these in order.
+fn add_subcommand<'a>(
     alloc: Global,
+    list: &mut Vec<Command<'a>>,
     name: &'a str,
     about: &'a str,
     example: &'a str,
     arguments: Vec<Arg<'a>>,
-) -> Result<Command<'a>, AllocError>
+) -> Result<(), AllocError>
     requires { AreArguments arguments.items (arguments_of name.now) }
-    ensures { IfOk result (IsCommandOfApp (subcommand name.entry.now)) }
+    ensures { IfOk result (λ _. IsFollowedBy (subcommand name.entry.now)
+        list.old.items list.new.items) }
 {
-    Command::new(alloc, name)
+    let command = Command::new(alloc, name)
         .about(about)
         .after_help(example)
-        .args(arguments)
+        .args(arguments)?;
+    Ok(list.push(command)?)
 }
 
-/// Makes the subcommand `duty`.
-fn duty_command<'a>(alloc: Global) -> Result<Command<'a>, AllocError>
-    ensures { IfOk result (IsCommandOfApp (subcommand (codes "duty"))) }
+/// Adds the subcommand `duty`.
+fn add_duty<'a>(alloc: Global, list: &mut Vec<Command<'a>>) -> Result<(), AllocError>
+    ensures { IfOk result (λ _. IsFollowedBy (subcommand (codes "duty"))
+        list.old.items list.new.items) }
 {
     let about = "Judge one flight duty period by Tables A and B of 14 CFR Part 117";
     let zone = positional(alloc, "zone", "ZONE").help(ZONE_HELP);
@@ -395,118 +406,135 @@ fn duty_command<'a>(alloc: Global) -> Result<Command<'a>, AllocError>
         .action(ArgAction::Append)
         .help(TIME_HELP);
     let arguments = vec![in alloc; zone, report, times]?;
-    subcommand_of(alloc, "duty", about, DUTY_EXAMPLE, arguments)
+    add_subcommand(alloc, list, "duty", about, DUTY_EXAMPLE, arguments)
 }
 
-/// Makes the subcommand `init`.
-fn init_command<'a>(alloc: Global) -> Result<Command<'a>, AllocError>
-    ensures { IfOk result (IsCommandOfApp (subcommand (codes "init"))) }
+/// Adds the subcommand `init`.
+fn add_init<'a>(alloc: Global, list: &mut Vec<Command<'a>>) -> Result<(), AllocError>
+    ensures { IfOk result (λ _. IsFollowedBy (subcommand (codes "init"))
+        list.old.items list.new.items) }
 {
     let about = "Make a book in a new or empty file";
     let file = positional(alloc, "file", "FILE").help(NEW_FILE_HELP);
     let zone = positional(alloc, "zone", "ZONE").help(ZONE_HELP);
     let arguments = vec![in alloc; file, zone]?;
-    subcommand_of(alloc, "init", about, INIT_EXAMPLE, arguments)
+    add_subcommand(alloc, list, "init", about, INIT_EXAMPLE, arguments)
 }
 
-/// Makes the subcommand `do`.
-fn do_command<'a>(alloc: Global) -> Result<Command<'a>, AllocError>
-    ensures { IfOk result (IsCommandOfApp (subcommand (codes "do"))) }
+/// Adds the subcommand `do`.
+fn add_do<'a>(alloc: Global, list: &mut Vec<Command<'a>>) -> Result<(), AllocError>
+    ensures { IfOk result (λ _. IsFollowedBy (subcommand (codes "do"))
+        list.old.items list.new.items) }
 {
     let about = "Answer one command, which is JSON on standard input";
     let file = positional(alloc, "file", "FILE").help(FILE_HELP);
     let dry_run = flag(alloc, "dry-run").help(DRY_RUN_HELP);
     let lines = flag(alloc, "lines").help(LINES_HELP);
     let arguments = vec![in alloc; file, dry_run, lines]?;
-    subcommand_of(alloc, "do", about, DO_EXAMPLE, arguments)
+    add_subcommand(alloc, list, "do", about, DO_EXAMPLE, arguments)
 }
 
-/// Makes the subcommand `import`.
-fn import_command<'a>(alloc: Global) -> Result<Command<'a>, AllocError>
-    ensures { IfOk result (IsCommandOfApp (subcommand (codes "import"))) }
+/// Adds the subcommand `import`.
+fn add_import<'a>(alloc: Global, list: &mut Vec<Command<'a>>) -> Result<(), AllocError>
+    ensures { IfOk result (λ _. IsFollowedBy (subcommand (codes "import"))
+        list.old.items list.new.items) }
 {
     let about = "Add the pairings of a schedule, which is CSV on standard input";
     let file = positional(alloc, "file", "FILE").help(FILE_HELP);
     let number = number_argument(alloc);
     let arguments = vec![in alloc; file, number]?;
-    subcommand_of(alloc, "import", about, IMPORT_EXAMPLE, arguments)
+    add_subcommand(alloc, list, "import", about, IMPORT_EXAMPLE, arguments)
 }
 
-/// Makes the subcommand `roster`.
-fn roster_command<'a>(alloc: Global) -> Result<Command<'a>, AllocError>
-    ensures { IfOk result (IsCommandOfApp (subcommand (codes "roster"))) }
+/// Adds the subcommand `roster`.
+fn add_roster<'a>(alloc: Global, list: &mut Vec<Command<'a>>) -> Result<(), AllocError>
+    ensures { IfOk result (λ _. IsFollowedBy (subcommand (codes "roster"))
+        list.old.items list.new.items) }
 {
     let about = "Print a member's roster: each duty, as planned or as flown";
     let file = positional(alloc, "file", "FILE").help(FILE_HELP);
     let crew = positional(alloc, "crew", "CREW").help(CREW_HELP);
     let arguments = vec![in alloc; file, crew]?;
-    subcommand_of(alloc, "roster", about, ROSTER_EXAMPLE, arguments)
+    add_subcommand(alloc, list, "roster", about, ROSTER_EXAMPLE, arguments)
 }
 
-/// Makes the subcommand `pairing`.
-fn pairing_command<'a>(alloc: Global) -> Result<Command<'a>, AllocError>
-    ensures { IfOk result (IsCommandOfApp (subcommand (codes "pairing"))) }
+/// Adds the subcommand `pairing`.
+fn add_pairing<'a>(alloc: Global, list: &mut Vec<Command<'a>>) -> Result<(), AllocError>
+    ensures { IfOk result (λ _. IsFollowedBy (subcommand (codes "pairing"))
+        list.old.items list.new.items) }
 {
     let about = "Print a pairing: who flies it, its periods and segments";
     let file = positional(alloc, "file", "FILE").help(FILE_HELP);
     let id = positional(alloc, "pairing", "PAIRING").help(PAIRING_HELP);
     let arguments = vec![in alloc; file, id]?;
-    subcommand_of(alloc, "pairing", about, PAIRING_EXAMPLE, arguments)
+    add_subcommand(alloc, list, "pairing", about, PAIRING_EXAMPLE, arguments)
 }
 
-/// Makes the subcommand `limits`.
-fn limits_command<'a>(alloc: Global) -> Result<Command<'a>, AllocError>
-    ensures { IfOk result (IsCommandOfApp (subcommand (codes "limits"))) }
+/// Adds the subcommand `limits`.
+fn add_limits<'a>(alloc: Global, list: &mut Vec<Command<'a>>) -> Result<(), AllocError>
+    ensures { IfOk result (λ _. IsFollowedBy (subcommand (codes "limits"))
+        list.old.items list.new.items) }
 {
     let about = "Print how near a member's duties are to each of the eight limits";
     let file = positional(alloc, "file", "FILE").help(FILE_HELP);
     let crew = positional(alloc, "crew", "CREW").help(CREW_HELP);
     let with = with_option(alloc);
     let arguments = vec![in alloc; file, crew, with]?;
-    subcommand_of(alloc, "limits", about, LIMITS_EXAMPLE, arguments)
+    add_subcommand(alloc, list, "limits", about, LIMITS_EXAMPLE, arguments)
 }
 
-/// Makes the subcommand `exceedances`.
-fn exceedances_command<'a>(alloc: Global) -> Result<Command<'a>, AllocError>
-    ensures { IfOk result (IsCommandOfApp (subcommand (codes "exceedances"))) }
+/// Adds the subcommand `exceedances`.
+fn add_exceedances<'a>(alloc: Global, list: &mut Vec<Command<'a>>) -> Result<(), AllocError>
+    ensures { IfOk result (λ _. IsFollowedBy (subcommand (codes "exceedances"))
+        list.old.items list.new.items) }
 {
     let about = "Print which flown duties went over a limit, and over which";
     let file = positional(alloc, "file", "FILE").help(FILE_HELP);
     let arguments = vec![in alloc; file]?;
-    subcommand_of(alloc, "exceedances", about, EXCEEDANCES_EXAMPLE, arguments)
+    add_subcommand(
+        alloc,
+        list,
+        "exceedances",
+        about,
+        EXCEEDANCES_EXAMPLE,
+        arguments,
+    )
 }
 
-/// Makes the subcommand `members`.
-fn members_command<'a>(alloc: Global) -> Result<Command<'a>, AllocError>
-    ensures { IfOk result (IsCommandOfApp (subcommand (codes "members"))) }
+/// Adds the subcommand `members`.
+fn add_members<'a>(alloc: Global, list: &mut Vec<Command<'a>>) -> Result<(), AllocError>
+    ensures { IfOk result (λ _. IsFollowedBy (subcommand (codes "members"))
+        list.old.items list.new.items) }
 {
     let about = "Print the members of the crew";
     let file = positional(alloc, "file", "FILE").help(FILE_HELP);
     let arguments = vec![in alloc; file]?;
-    subcommand_of(alloc, "members", about, MEMBERS_EXAMPLE, arguments)
+    add_subcommand(alloc, list, "members", about, MEMBERS_EXAMPLE, arguments)
 }
 
-/// Makes the subcommand `pairings`.
-fn pairings_command<'a>(alloc: Global) -> Result<Command<'a>, AllocError>
-    ensures { IfOk result (IsCommandOfApp (subcommand (codes "pairings"))) }
+/// Adds the subcommand `pairings`.
+fn add_pairings<'a>(alloc: Global, list: &mut Vec<Command<'a>>) -> Result<(), AllocError>
+    ensures { IfOk result (λ _. IsFollowedBy (subcommand (codes "pairings"))
+        list.old.items list.new.items) }
 {
     let about = "Print the pairings, a line each";
     let file = positional(alloc, "file", "FILE").help(FILE_HELP);
     let only_open = flag(alloc, "open").help(OPEN_HELP);
     let arguments = vec![in alloc; file, only_open]?;
-    subcommand_of(alloc, "pairings", about, PAIRINGS_EXAMPLE, arguments)
+    add_subcommand(alloc, list, "pairings", about, PAIRINGS_EXAMPLE, arguments)
 }
 
-/// Makes the subcommand `serve`.
-fn serve_command<'a>(alloc: Global) -> Result<Command<'a>, AllocError>
-    ensures { IfOk result (IsCommandOfApp (subcommand (codes "serve"))) }
+/// Adds the subcommand `serve`.
+fn add_serve<'a>(alloc: Global, list: &mut Vec<Command<'a>>) -> Result<(), AllocError>
+    ensures { IfOk result (λ _. IsFollowedBy (subcommand (codes "serve"))
+        list.old.items list.new.items) }
 {
     let about = "Answer requests of HTTP on 127.0.0.1";
     let file = positional(alloc, "file", "FILE").help(FILE_HELP);
     let port = port_argument(alloc);
     let count = connections_option(alloc);
     let arguments = vec![in alloc; file, port, count]?;
-    subcommand_of(alloc, "serve", about, SERVE_EXAMPLE, arguments)
+    add_subcommand(alloc, list, "serve", about, SERVE_EXAMPLE, arguments)
 }
 
 /// Makes the argument for the number of a request.

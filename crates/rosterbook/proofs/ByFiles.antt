@@ -1,6 +1,6 @@
 -- What is answered by a book that was opened is answered by what its files held, and what is left of it is left of them.
 use Rattle.std.proofs.Common.{◌≡◌, inl, inr, refl, subst, sym, ℕ, ◌+◌, List, [], length, take, arith, Option, Some, None, Result, Ok, Err, IfOk, IfErr, IfSome}
-use Rattle.std.specs.Prelude.{⊤, false}
+use Rattle.std.specs.Prelude.{⊤, Bool, true, false}
 use Rattle.std.proofs.lemmas.List.{take_all}
 use Rattle.sqlite_disk.specs.declared.Disk.{Ghosts}
 use Rattle.sqlite_trees.specs.declared.store.Store as store
@@ -15,7 +15,7 @@ use Rattle.roster.specs.State.{State}
 use Rattle.state_rows.specs.declared.fault.StoreFault.TheVariants as faults
 use Rattle.store.specs.declared.show.Show.{Show}
 use Rattle.book.specs.Calls.{IsAfterCalls}
-use Rattle.book.specs.Found.{IsCleanLeft, IsFaultOf, LeavesBook, LeavesByCrash, MeansWhatIsIn}
+use Rattle.book.specs.Found.{IsCleanLeft, IsFaultOf, IsUnclosed, LeavesBook, LeavesByCrash, MeansWhatIsIn}
 use Rattle.book.specs.Kept.{IsClean, IsDurablyAt, IsInDoubt, Kept}
 use Rattle.book.specs.declared.file.FilesLeft.{FilesLeft}
 use Rattle.book.proofs.Left.{leaves_either}
@@ -24,7 +24,8 @@ use Rattle.book.proofs.States.{one_of_either}
 use Rattle.http_exchange.specs.Exchange.{ChannelBytes}
 use Rattle.asking.specs.Requests.{ReadRequest}
 use Rattle.rosterbook.specs.Asking.{IsAskStopped, IsImported, IsImportStopped, IsLeftAfterAnswers, IsRequestAnswered, IsStoppedIn, asked_by_request, left_by_check, left_by_request}
-use Rattle.rosterbook.specs.ByFiles.{AreLeftAfter, AreLeftAsFound, AreLeftByImport, AreLetGo, AreLeftByLines, AreLeftByRequest, AreLinesCheckedBy, AreLinesDoneBy, HaveSession, IsByFiles, IsDoneBy, IsImportedBy, IsRefusedAs, IsSession, IsShownBy}
+use Rattle.rosterbook.specs.ByFiles.{AreLeftAfter, AreLeftAsFound, AreLeftByDo, AreLeftByImport, AreLetGo, AreLeftByLines, AreLeftByRequest, AreLinesCheckedBy, AreLinesDoneBy, HaveSession, IsByFiles, IsDoneAs, IsDoneBy, IsImportedBy, IsRefusedAs, IsSession, IsShownBy}
+use Rattle.rosterbook.specs.Doing.{IsInputAnswered, IsInputStopped}
 use Rattle.rosterbook.specs.InLines.{AreLinesAnswered, AreLinesChecked, AreLinesStopped, AreRequestsAnswered, commands_in, requests_of}
 use Rattle.rosterbook.specs.Showing.{IsToldOf}
 use Rattle.rosterbook.specs.declared.status.Status.{Status}
@@ -70,7 +71,7 @@ module _ {D : Type 0} {g : Ghosts D} (image : Image) (old new : Kept (FileStore 
         let found = means (before (disk clean)) in
         (found.it, found.finds, says found.it found.keeps (disk clean), kept (after found.it) (stays found.it found.keeps) clean)
 
-    pub done_at : (held out out' err : ChannelBytes) (status : Status) → IsRequestAnswered over_files left_by_request old new held out out' status →
+    done_at : (held out out' err : ChannelBytes) (status : Status) → IsRequestAnswered over_files left_by_request old new held out out' status →
         IsDoneBy (IsByFiles (Some left) image) left_by_request held out out' err err status
     done_at held out out' err status it = record {
       input = it.input;
@@ -80,7 +81,7 @@ module _ {D : Type 0} {g : Ghosts D} (image : Image) (old new : Kept (FileStore 
       by = by_files _ _ (clean_before_request over_files old new _ it.left) it.answered it.left;
     }
 
-    pub checked_at : (held out out' err : ChannelBytes) (status : Status) → IsRequestAnswered over_files left_by_check old new held out out' status →
+    checked_at : (held out out' err : ChannelBytes) (status : Status) → IsRequestAnswered over_files left_by_check old new held out out' status →
         IsDoneBy (IsByFiles (Some left) image) left_by_check held out out' err err status
     checked_at held out out' err status it = record {
       input = it.input;
@@ -90,7 +91,7 @@ module _ {D : Type 0} {g : Ghosts D} (image : Image) (old new : Kept (FileStore 
       by = by_files _ _ (clean_before_same over_files old new it.left) it.answered it.left;
     }
 
-    pub lines_done_at : (held out out' err : ChannelBytes) (status : Status) → AreLinesAnswered over_files old new held out out' status →
+    lines_done_at : (held out out' err : ChannelBytes) (status : Status) → AreLinesAnswered over_files old new held out out' status →
         AreLinesDoneBy (IsByFiles (Some left) image) held out out' err err status
     lines_done_at held out out' err status (lines, read, it) = record {
       lines = lines;
@@ -101,7 +102,7 @@ module _ {D : Type 0} {g : Ghosts D} (image : Image) (old new : Kept (FileStore 
       by = by_files _ _ (clean_before_all over_files old new (commands_in (requests_of lines)) it.left) it.answered it.left;
     }
 
-    pub lines_checked_at : (held out out' err : ChannelBytes) (status : Status) → AreLinesChecked over_files old new held out out' status →
+    lines_checked_at : (held out out' err : ChannelBytes) (status : Status) → AreLinesChecked over_files old new held out out' status →
         AreLinesCheckedBy (IsByFiles (Some left) image) held out out' err err status
     lines_checked_at held out out' err status (lines, read, it) = record {
       lines = lines;
@@ -111,6 +112,14 @@ module _ {D : Type 0} {g : Ghosts D} (image : Image) (old new : Kept (FileStore 
       silent = refl;
       by = by_files _ _ (clean_before_same over_files old new it.left) it.answered it.left;
     }
+
+    pub answered_at : (dry_run lines : Bool) (held out out' err : ChannelBytes) (result : Result Status Stop) → IfOk result (IsInputAnswered over_files old new held out out' dry_run lines) →
+        IfOk result (IsDoneAs (IsByFiles (Some left) image) dry_run lines held out out' err err)
+    answered_at false false held out out' err (Ok status) it = done_at held out out' err status it
+    answered_at true false held out out' err (Ok status) it = checked_at held out out' err status it
+    answered_at false true held out out' err (Ok status) it = lines_done_at held out out' err status it
+    answered_at true true held out out' err (Ok status) it = lines_checked_at held out out' err status it
+    answered_at dry_run lines held out out' err (Err stop) it = tt
 
     pub imported_at : (number : ℕ) (held out out' err err' : ChannelBytes) (status : Status) → IsImported over_files old new number held out out' err err' status →
         IsImportedBy (IsByFiles (Some left) image) number held out out' err err' status
@@ -157,7 +166,7 @@ module _ {D : Type 0} {g : Ghosts D} (image : Image) (old new : Kept (FileStore 
     left_by_stop : (asked : List Asked) (answers : List ReplyOrRefusal) (stop : Stop) → IsStoppedIn over_files old new asked answers stop → AreLeftAfter (Some left) image asked
     left_by_stop asked answers stop it = left_after asked it.disk (λ s at. stopped_reached over_files new s asked (length answers) stop (it.left s at))
 
-    pub request_left : (held out out' : ChannelBytes) (result : Result Status Stop) → IfOk result (λ status. IsRequestAnswered over_files left_by_request old new held out out' status) →
+    request_left : (held out out' : ChannelBytes) (result : Result Status Stop) → IfOk result (λ status. IsRequestAnswered over_files left_by_request old new held out out' status) →
         IfErr result (λ stop. IsAskStopped over_files old new held out out' stop) → AreLeftByRequest (Some left) image held
     request_left held out out' (Ok status) it stopped =
         let request = read_request it.input in
@@ -171,11 +180,18 @@ module _ {D : Type 0} {g : Ghosts D} (image : Image) (old new : Kept (FileStore 
         let asked = commands_in requests in
         left_after asked (clean_before_all over_files old new asked it.left) (λ s at. all_reached over_files new s asked (it.left s at))
 
-    pub lines_left : (held out out' : ChannelBytes) (result : Result Status Stop) → IfOk result (AreLinesAnswered over_files old new held out out') →
+    lines_left : (held out out' : ChannelBytes) (result : Result Status Stop) → IfOk result (AreLinesAnswered over_files old new held out out') →
         IfErr result (AreLinesStopped over_files old new held out out') → AreLeftByLines (Some left) image held
     lines_left held out out' (Ok status) (lines, read, it) stopped = (lines, all_are_first held lines read, answered_left out out' (requests_of lines) status it)
     lines_left held out out' (Err stop) it (lines, read, inl (which, (status, done))) = (lines, read, answered_left out out' (requests_of lines) status done)
     lines_left held out out' (Err stop) it (lines, read, inr at_last) = (lines, read, left_by_stop _ at_last.answers stop at_last.asked)
+
+    pub input_left : (dry_run lines : Bool) (held out out' : ChannelBytes) (result : Result Status Stop) → IfOk result (IsInputAnswered over_files old new held out out' dry_run lines) →
+        IfErr result (IsInputStopped over_files old new held out out' dry_run lines) → (dry_run ≡ true → (s : State) → IsDurablyAt over_files old s → IsDurablyAt over_files new s) →
+        (dry_run ≡ true → IsUnclosed left) → AreLeftByDo (Some left) image dry_run lines held
+    input_left false false held out out' result answered stopped kept unclosed = request_left held out out' result answered stopped
+    input_left false true held out out' result answered stopped kept unclosed = lines_left held out out' result answered stopped
+    input_left true lines held out out' result answered stopped kept unclosed = (left_as_found (kept refl), unclosed refl)
 
     pub import_left : (number : ℕ) (held out out' err err' : ChannelBytes) (result : Result Status Stop) →
         IfOk result (λ status. IsImported over_files old new number held out out' err err' status) →
@@ -209,11 +225,16 @@ module _ {D : Type 0} {g : Ghosts D} (image : Image) (left : Option (FilesLeft D
   pub none_left : (asked : List Asked) → AreLeftAfter left image asked
   none_left asked = rw none tt
 
-  pub no_lines_left : (held : ChannelBytes) → AreLeftByLines left image held
+  no_lines_left : (held : ChannelBytes) → AreLeftByLines left image held
   no_lines_left held = ([], none_read held, none_left _)
 
   pub none_let_go : AreLetGo left image
   none_let_go = (none_left [], rw none tt)
+
+  pub no_input_left : (dry_run lines : Bool) (held : ChannelBytes) → AreLeftByDo left image dry_run lines held
+  no_input_left false false held = inl (none_left [])
+  no_input_left false true held = no_lines_left held
+  no_input_left true lines held = none_let_go
 
   pub no_session : HaveSession left image
   no_session = rw none tt

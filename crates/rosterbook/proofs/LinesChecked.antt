@@ -5,9 +5,8 @@ use Rattle.std.specs.Io.KnownBytes.{Appends}
 use Rattle.sqlite_trees.specs.declared.store.Store.{Ghosts}
 use Rattle.codec.specs.Requests.{read_request}
 use Rattle.roster.specs.Folds.{answer_of}
-use Rattle.roster.specs.State.{State}
 use Rattle.roster.specs.Steps.{step_of}
-use Rattle.book.specs.Kept.{IsClean, IsDurablyAt, Kept}
+use Rattle.book.specs.Kept.{Kept}
 use Rattle.asking.specs.Requests.{IsRequestChecked, ReadRequest}
 use Rattle.http_exchange.specs.Exchange.{ChannelBytes}
 use Rattle.rosterbook.specs.Asking.{IsBodyTold, left_by_check, told_json}

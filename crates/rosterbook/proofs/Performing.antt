@@ -1,5 +1,5 @@
 -- What is performed by the book that files hold is performed, and how the program ends after what was done.
-use Rattle.std.proofs.Common.{◌≡◌, ◌≢◌, ◌⊎◌, inl, inr, ℕ, ◌∙◌, ap, sym, subst, refl, true, false, Bool, List, Option, Some, None, Result, Ok, Err, IfOk, IfErr, IsErr, IfSome}
+use Rattle.std.proofs.Common.{◌≡◌, ◌≢◌, ◌⊎◌, inl, inr, ℕ, ◌∙◌, ap, sym, subst, refl, true, false, Bool, Option, Some, None, Result, Ok, Err, IfOk, IfErr, IsErr, IfSome}
 use Rattle.std.specs.Io.KnownBytes.{Appends}
 use Rattle.sqlite_disk.specs.declared.Disk.{Ghosts}
 use Rattle.sqlite_wal.specs.Recovery.{Image}
@@ -71,10 +71,6 @@ pub not_unmade : (answer : ProgramOutput) (Made : Status → Type 0) (done : Res
 not_unmade answer Made (Ok status) out out' err err' Silent (inl it) made = λ other. (it, made)
 not_unmade answer Made (Ok status) out out' err err' Silent (inr it) made = λ other. absurd (other it.0)
 not_unmade answer Made (Err stop) out out' err err' Silent it made = tt
-
-pub whatever_status : (P : Status → Type 0) (done : Result Status Stop) → IfOk done P → IfOk done (λ status. status ≢ Failed → P status)
-whatever_status P (Ok status) it = λ other. it
-whatever_status P (Err stop) it = tt
 
 pub passed_on : {E : Type 0} (P : Status → Type 0) (answered : Result Status E) (done : Result Status Stop) → IfOk done (λ status. answered ≡ Ok status) → IfOk answered P → IfOk done P
 passed_on P answered (Ok status) is it = rw is at it

@@ -10,7 +10,7 @@ use Rattle.asking.specs.declared.answers.AskFault.{AskFault}
 use Rattle.asking.specs.declared.answers.AskFault.TheVariants as ask
 use Rattle.asking.specs.declared.reports.Shown.{Shown}
 use Rattle.http_exchange.specs.Exchange.{ChannelBytes}
-use Rattle.rosterbook.specs.Asking.{IsBookFault, stop_of}
+use Rattle.rosterbook.specs.Asking.{stop_of}
 use Rattle.rosterbook.specs.Showing.{IsShowStopped, IsToldOf, PrintsShown}
 use Rattle.rosterbook.specs.Streams.{IsOfChannel}
 use Rattle.rosterbook.specs.declared.status.Status.{Status}

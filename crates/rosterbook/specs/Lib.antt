@@ -1,5 +1,6 @@
 pub mod Asking
 pub mod InLines
+pub mod Doing
 pub mod Program
 pub mod ByFiles
 pub mod Refusal

@@ -1,60 +1,25 @@
 //! `rosterbook do --dry-run`: a request on standard input, or one a line, of which a book is asked how it would answer now. The
 //! definitions are in `specs/Asking.antt` and `specs/InLines.antt`.
 //! Wrong bodies: `must-fail-more/`.
-ghost use Rattle.std.specs.Prelude.{◌≡◌, ◌∷◌, [], IfErr, IfOk, IsErr, None};
-ghost use Rattle.sqlite_wal.specs.Files.{image_at};
-ghost use Rattle.http_exchange.specs.Exchange.{ChannelBytes};
+ghost use Rattle.std.specs.Prelude.{◌∷◌, [], IfErr, IfOk};
 ghost use Rattle.roster.specs.State.{State};
 ghost use Rattle.asking.specs.Requests.{IsRequestChecked};
 ghost use Rattle.book.specs.Calls.{IsAfterCalls};
 ghost use Rattle.book.specs.Kept.{IsDurablyAt};
 ghost use Rattle.rosterbook.specs.Asking.{IsBodyTold, IsBodyUntold, IsRequestAnswered, left_by_check};
-ghost use Rattle.rosterbook.specs.ByFiles.{AreLetGo, AreLinesCheckedBy, HaveSession, IsByFiles, IsDoneBy, IsRefusedAs};
 ghost use Rattle.rosterbook.specs.InLines as spec;
 ghost use Rattle.rosterbook.specs.Showing.{IsShowStopped};
 
 use crate::do_command::status_of;
-use crate::ended::Ended;
 use crate::lines::{read_input, write_line};
 use crate::lines_command::status_after;
 use crate::status::Status;
 use crate::stop::Stop;
 use asking::check_request;
 use book::Book;
-use sqlite::{Alter, FileFrom, Start};
+use sqlite::Alter;
 use std::alloc::Global;
 use std::io::{BufRead, BufReader, Read, Write};
-
-/// Answers `rosterbook do --dry-run`: opens the book, then reads a command and asks how it would be answered now, and lets go
-/// of the files as they are.
-pub(crate) fn answer_check<S: Start, R: Read, O: Write>(
-    rt: &HostRuntime,
-    file: &str,
-    start: S,
-    reader: &mut R,
-    out: &mut O,
-) -> Ended<FileFrom<S>>
-    ensures done { (err : ChannelBytes) → IfOk result.done
-        (IsDoneBy (IsByFiles result.left (image_at S.Start)) left_by_check
-        (R.remaining reader.old) (O.contents out.old) (O.contents out.new) err err) }
-    ensures left { AreLetGo result.left (image_at S.Start) }
-    ensures session { HaveSession result.left (image_at S.Start) }
-    ensures unopened { result.left ≡ None
-        → IsErr result.done × (reader.new ≡ reader.old) × (out.new ≡ out.old) }
-    ensures refused { IsRefusedAs result.left (image_at S.Start) result.refused result.done }
-{
-    match Book::open_from(rt, file, start) {
-        Ok(mut book) => {
-            let done = check_json(rt.alloc(), &mut book, reader, out);
-            Ended {
-                done,
-                left: Some(book.leave()),
-                refused: None,
-            }
-        }
-        Err(refused) => Ended::of_refusal(refused),
-    }
-}
 
 /// Asks a book how it would answer the command that a reader gives in JSON now, and writes the line of that answer, or why it
 /// isn't read. The book is as it was.
@@ -97,37 +62,6 @@ pub(crate) fn check_body<S: Alter, O: Write>(
     let answer = check_request(alloc, book, body)?;
     write_line(out, &answer.text)?;
     Ok(status_of(answer.kind))
-}
-
-/// Answers `rosterbook do --lines --dry-run`: opens the book, then reads commands, one a line, and asks how each would be
-/// answered now, and lets go of the files as they are.
-pub(crate) fn answer_line_checks<S: Start, R: Read, O: Write>(
-    rt: &HostRuntime,
-    file: &str,
-    start: S,
-    reader: &mut R,
-    out: &mut O,
-) -> Ended<FileFrom<S>>
-    ensures done { (err : ChannelBytes) → IfOk result.done
-        (AreLinesCheckedBy (IsByFiles result.left (image_at S.Start)) (R.remaining reader.old)
-        (O.contents out.old) (O.contents out.new) err err) }
-    ensures left { AreLetGo result.left (image_at S.Start) }
-    ensures session { HaveSession result.left (image_at S.Start) }
-    ensures unopened { result.left ≡ None
-        → IsErr result.done × (reader.new ≡ reader.old) × (out.new ≡ out.old) }
-    ensures refused { IsRefusedAs result.left (image_at S.Start) result.refused result.done }
-{
-    match Book::open_from(rt, file, start) {
-        Ok(mut book) => {
-            let done = check_lines(rt.alloc(), &mut book, reader, out);
-            Ended {
-                done,
-                left: Some(book.leave()),
-                refused: None,
-            }
-        }
-        Err(refused) => Ended::of_refusal(refused),
-    }
 }
 
 /// Asks a book how it would answer each of the commands that a reader gives in JSON, one a line, if it were asked that one

@@ -1,36 +1,49 @@
-//! `rosterbook do`: a request on standard input, asked of a book. The definitions are in `specs/Asking.antt`.
+//! `rosterbook do`: a request on standard input, asked of a book, or one a line. The definitions are in `specs/Asking.antt` and
+//! `specs/Doing.antt`.
 //! Transcripts: `tests/transcripts/requests.txt` and `all_commands.txt`. Wrong bodies: `must-fail/`.
-ghost use Rattle.std.specs.Prelude.{◌≡◌, IfErr, IfOk, IsErr, None};
+ghost use Rattle.std.specs.Prelude.{◌≡◌, true, IfErr, IfOk, IsErr, None};
 ghost use Rattle.sqlite_wal.specs.Files.{image_at};
+ghost use Rattle.sqlite.specs.Files.{over_files};
+ghost use Rattle.roster.specs.State.{State};
 ghost use Rattle.http_exchange.specs.Exchange.{ChannelBytes};
 ghost use Rattle.asking.specs.Requests.{IsRequestAsked};
 ghost use Rattle.book.specs.Calls.{IsAfterCalls};
+ghost use Rattle.book.specs.Found.{IsCleanLeft, IsUnclosed, LeavesBook, LeavesByCrash};
+ghost use Rattle.book.specs.Kept.{IsClean, IsDurablyAt};
 ghost use Rattle.rosterbook.specs.Asking as spec;
 ghost use Rattle.rosterbook.specs.Asking.{left_by_request};
-ghost use Rattle.rosterbook.specs.ByFiles.{AreLeftByRequest, HaveSession, IsByFiles, IsDoneBy, IsRefusedAs};
+ghost use Rattle.rosterbook.specs.ByFiles.{AreLeftByDo, HaveSession, IsByFiles, IsDoneAs, IsRefusedAs};
+ghost use Rattle.rosterbook.specs.Doing.{IsInputAnswered, IsInputStopped};
 
+use crate::check_command::{check_json, check_lines};
 use crate::ended::Ended;
 use crate::lines::{read_input, write_line};
+use crate::lines_command::ask_lines;
 use crate::status::Status;
 use crate::stop::Stop;
 use asking::{AnswerKind, ask_request};
-use book::Book;
-use sqlite::{Alter, FileFrom, Start};
+use book::{Book, FilesLeft};
+use sqlite::{Alter, FileFrom, FileStore, Start};
+use sqlite_disk::Disk;
 use std::alloc::Global;
 use std::io::{Read, Write};
 
-/// Answers `rosterbook do`: opens the book, then reads a command and asks it, and closes the book.
+/// Answers `rosterbook do`: opens the book, then reads a command, or one a line, which is done or only checked. Then it closes
+/// the book; after a dry run it lets go of the files as they are.
 pub(crate) fn answer_do<S: Start, R: Read, O: Write>(
     rt: &HostRuntime,
     file: &str,
     start: S,
+    dry_run: bool,
+    lines: bool,
     reader: &mut R,
     out: &mut O,
 ) -> Ended<FileFrom<S>>
     ensures done { (err : ChannelBytes) → IfOk result.done
-        (IsDoneBy (IsByFiles result.left (image_at S.Start)) left_by_request
+        (IsDoneAs (IsByFiles result.left (image_at S.Start)) dry_run lines
         (R.remaining reader.old) (O.contents out.old) (O.contents out.new) err err) }
-    ensures left { AreLeftByRequest result.left (image_at S.Start) (R.remaining reader.old) }
+    ensures left { AreLeftByDo result.left (image_at S.Start) dry_run lines
+        (R.remaining reader.old) }
     ensures session { HaveSession result.left (image_at S.Start) }
     ensures unopened { result.left ≡ None
         → IsErr result.done × (reader.new ≡ reader.old) × (out.new ≡ out.old) }
@@ -38,14 +51,51 @@ pub(crate) fn answer_do<S: Start, R: Read, O: Write>(
 {
     match Book::open_from(rt, file, start) {
         Ok(mut book) => {
-            let done = ask_json(rt.alloc(), &mut book, reader, out);
+            let done = ask_input(rt.alloc(), &mut book, dry_run, lines, reader, out);
             Ended {
                 done,
-                left: Some(book.close()),
+                left: Some(let_go(book, dry_run)),
                 refused: None,
             }
         }
         Err(refused) => Ended::of_refusal(refused),
+    }
+}
+
+/// Closes a book, or after a dry run lets go of its files as they are.
+fn let_go<D: Disk + Drop>(book: Book<FileStore<D>>, dry_run: bool) -> FilesLeft<D>
+    ensures disk { IsCleanLeft result → IsClean over_files book }
+    ensures kept { (s : State) → IsDurablyAt over_files book s → IsCleanLeft result
+        → LeavesBook result s }
+    ensures crash { IsCleanLeft result → LeavesByCrash book result }
+    ensures unclosed { dry_run ≡ true → IsUnclosed result }
+{
+    if dry_run { book.leave() } else { book.close() }
+}
+
+/// Asks a book the command that a reader gives, or those that it gives one a line, or only how it would answer them, and writes the
+/// lines of the answers.
+fn ask_input<S: Alter, R: Read, O: Write>(
+    alloc: Global,
+    book: &mut Book<S>,
+    dry_run: bool,
+    lines: bool,
+    reader: &mut R,
+    out: &mut O,
+) -> Result<Status, Stop>
+    ensures answered { IfOk result (IsInputAnswered S.Store book.old book.new
+        (R.remaining reader.old) (O.contents out.old) (O.contents out.new) dry_run lines) }
+    ensures stopped { IfErr result (IsInputStopped S.Store book.old book.new
+        (R.remaining reader.old) (O.contents out.old) (O.contents out.new) dry_run lines) }
+    ensures kept { dry_run ≡ true → (s : State) → IsDurablyAt S.Store book.old s
+        → IsDurablyAt S.Store book.new s }
+    ensures calls { IsAfterCalls S.Store book.old book.new }
+{
+    match (dry_run, lines) {
+        (false, false) => ask_json(alloc, book, reader, out),
+        (true, false) => check_json(alloc, book, reader, out),
+        (false, true) => ask_lines(alloc, book, reader, out),
+        (true, true) => check_lines(alloc, book, reader, out),
     }
 }
 

@@ -1,51 +1,17 @@
 //! `rosterbook do --lines`: requests on standard input, one a line, asked of a book one after the other. The definitions are in
 //! `specs/InLines.antt`.
 //! Wrong bodies: `must-fail/` and `must-fail-more/`.
-ghost use Rattle.std.specs.Prelude.{◌≡◌, ◌∷◌, [], IfErr, IfOk, IsErr, None};
-ghost use Rattle.sqlite_wal.specs.Files.{image_at};
+ghost use Rattle.std.specs.Prelude.{◌∷◌, [], IfErr, IfOk};
 ghost use Rattle.book.specs.Calls.{IsAfterCalls};
-ghost use Rattle.http_exchange.specs.Exchange.{ChannelBytes};
 ghost use Rattle.rosterbook.specs.InLines as spec;
-ghost use Rattle.rosterbook.specs.ByFiles.{AreLeftByLines, AreLinesDoneBy, HaveSession, IsByFiles, IsRefusedAs};
 
 use crate::do_command::ask_body;
-use crate::ended::Ended;
 use crate::status::Status;
 use crate::stop::Stop;
 use book::Book;
-use sqlite::{Alter, FileFrom, Start};
+use sqlite::Alter;
 use std::alloc::Global;
 use std::io::{BufRead, BufReader, Read, Write};
-
-/// Answers `rosterbook do --lines`: opens the book, then reads commands, one a line, and asks each, and closes the book.
-pub(crate) fn answer_lines<S: Start, R: Read, O: Write>(
-    rt: &HostRuntime,
-    file: &str,
-    start: S,
-    reader: &mut R,
-    out: &mut O,
-) -> Ended<FileFrom<S>>
-    ensures done { (err : ChannelBytes) → IfOk result.done
-        (AreLinesDoneBy (IsByFiles result.left (image_at S.Start)) (R.remaining reader.old)
-        (O.contents out.old) (O.contents out.new) err err) }
-    ensures left { AreLeftByLines result.left (image_at S.Start) (R.remaining reader.old) }
-    ensures session { HaveSession result.left (image_at S.Start) }
-    ensures unopened { result.left ≡ None
-        → IsErr result.done × (reader.new ≡ reader.old) × (out.new ≡ out.old) }
-    ensures refused { IsRefusedAs result.left (image_at S.Start) result.refused result.done }
-{
-    match Book::open_from(rt, file, start) {
-        Ok(mut book) => {
-            let done = ask_lines(rt.alloc(), &mut book, reader, out);
-            Ended {
-                done,
-                left: Some(book.close()),
-                refused: None,
-            }
-        }
-        Err(refused) => Ended::of_refusal(refused),
-    }
-}
 
 /// Asks a book the commands that a reader gives in JSON, one a line, and writes the line of each answer, or why a command
 /// isn't read, before it reads the next line. An empty line is passed over. It ends as refused if one was refused or isn't

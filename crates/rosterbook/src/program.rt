@@ -7,18 +7,15 @@ ghost use Rattle.sqlite_wal.specs.Files.{image_at};
 ghost use Rattle.rosterbook.specs.ByFiles as by_files;
 ghost use Rattle.rosterbook.specs.Program as spec;
 ghost use Rattle.rosterbook.specs.Program.{exit_status};
-ghost use Rattle.http_exchange.specs.Exchange.{ChannelBytes};
 ghost use Rattle.rosterbook.specs.StopText.{stop_text};
 ghost use Rattle.rosterbook.specs.Streams.{refused_line};
 
-use crate::check_command::{answer_check, answer_line_checks};
 use crate::do_command::answer_do;
 use crate::duty_command::answer_duty;
 use crate::ended::{Ended, done_of};
 use crate::import_command::answer_import;
 use crate::init_command::answer_init;
 use crate::lines::refuse;
-use crate::lines_command::answer_lines;
 use crate::serve_command::answer_serve;
 use crate::show_command::{
     answer_exceedances, answer_limits, answer_members, answer_pairing, answer_pairings,
@@ -102,7 +99,7 @@ pub fn perform_from<S: Start, R: Read, O: Write, E: Write>(
             dry_run,
             lines,
         } => finish(
-            answer_commands(rt, file, start, *dry_run, *lines, reader, out),
+            answer_do(rt, file, start, *dry_run, *lines, reader, out),
             err,
         ),
         Action::Import { file, number } => finish(
@@ -134,35 +131,6 @@ pub fn perform_from<S: Start, R: Read, O: Write, E: Write>(
             answer_serve(rt, file, start, *port, *connections, out, err),
             err,
         ),
-    }
-}
-
-/// Answers `rosterbook do`: one command, or one a line, which is done or only checked.
-fn answer_commands<S: Start, R: Read, O: Write>(
-    rt: &HostRuntime,
-    file: &str,
-    start: S,
-    dry_run: bool,
-    lines: bool,
-    reader: &mut R,
-    out: &mut O,
-) -> Ended<FileFrom<S>>
-    ensures done { (err : ChannelBytes) → IfOk result.done
-        (by_files.IsDoneAs (by_files.IsByFiles result.left (image_at S.Start)) dry_run lines
-        (R.remaining reader.old) (O.contents out.old) (O.contents out.new) err err) }
-    ensures left { by_files.AreLeftByDo result.left (image_at S.Start) dry_run lines
-        (R.remaining reader.old) }
-    ensures session { by_files.HaveSession result.left (image_at S.Start) }
-    ensures unopened { result.left ≡ None
-        → IsErr result.done × (reader.new ≡ reader.old) × (out.new ≡ out.old) }
-    ensures refused { by_files.IsRefusedAs result.left (image_at S.Start) result.refused
-        result.done }
-{
-    match (dry_run, lines) {
-        (false, false) => answer_do(rt, file, start, reader, out),
-        (true, false) => answer_check(rt, file, start, reader, out),
-        (false, true) => answer_lines(rt, file, start, reader, out),
-        (true, true) => answer_line_checks(rt, file, start, reader, out),
     }
 }
 

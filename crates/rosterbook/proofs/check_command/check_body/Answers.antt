@@ -1,4 +1,4 @@
-use Rattle.std.proofs.Common.{inl, inr, refl, Ok, Err}
+use Rattle.std.proofs.Common.{inl, inr, refl}
 use Rattle.rosterbook.proofs.Checked.{check_kept}
 use Rattle.rosterbook.proofs.Stopping.{err_told}
 use Rattle.rosterbook.proofs.check_command.check_body.Goals as goal

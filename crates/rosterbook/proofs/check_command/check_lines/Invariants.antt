@@ -1,9 +1,7 @@
 use Rattle.std.proofs.Common.{◌≡◌, ℕ, List}
 use Rattle.std.specs.Io.Buffered.{reader_remaining}
 use Rattle.std.specs.Io.Iter.{split_byte, split_known_bytes}
-use Rattle.roster.specs.State.{State}
 use Rattle.book.specs.Calls.{IsAfterCalls}
-use Rattle.book.specs.Kept.{IsDurablyAt}
 use Rattle.rosterbook.specs.InLines.{AreRequestsChecked, requests_of}
 use Rattle.rosterbook.proofs.LinesRead.{AreReadSoFar}
 use Rattle.rosterbook.proofs.check_command.check_lines.Given as goal

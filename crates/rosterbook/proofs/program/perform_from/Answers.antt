@@ -1,19 +1,19 @@
-use Rattle.std.proofs.Common.{ap, refl, []}
+use Rattle.std.proofs.Common.{ap, refl}
 use Rattle.std.proofs.lemmas.Result.{IfOk-weaker}
-use Rattle.rosterbook.proofs.Performing.{had_session, not_for_memory, not_unmade, passed_on, performed_so, refused_finished, whatever_status}
+use Rattle.rosterbook.proofs.Performing.{had_session, not_for_memory, not_unmade, passed_on, performed_so, refused_finished}
 use Rattle.rosterbook.proofs.program.perform_from.Goals as goal
 
 pub returns-in-Do-clause-by_files : goal.returns-in-Do-clause-by_files
 returns-in-Do-clause-by_files g c =
-    performed_so _ c.answer_commands.result.left c.finish-in-Do.result.left c.finish-in-Do.ensures.left g.E.Write.contents c.args.action.now _ _ _ _ c.answer_commands.result.done _ c.args.err.now _
+    performed_so _ c.answer_do.result.left c.finish-in-Do.result.left c.finish-in-Do.ensures.left g.E.Write.contents c.args.action.now _ _ _ _ c.answer_do.result.done _ c.args.err.now _
     c.finish-in-Do.ensures.done c.finish-in-Do.ensures.failed
-    (IfOk-weaker c.answer_commands.result.done _ _ (λ status told _. rw c.in-Do.is told) (c.answer_commands.ensures.done _))
+    (IfOk-weaker c.answer_do.result.done _ _ (λ status told _. rw c.in-Do.is told) (c.answer_do.ensures.done _))
 
 pub returns-in-Do-clause-refused : goal.returns-in-Do-clause-refused
 returns-in-Do-clause-refused g c =
-    refused_finished _ c.answer_commands.result.left c.finish-in-Do.result.left c.finish-in-Do.ensures.left c.answer_commands.result.refused c.finish-in-Do.result.refused c.answer_commands.result.done _ _ _ _ _ (g.E.Write.contents c.args.err.now) _
-    c.finish-in-Do.ensures.refused c.answer_commands.ensures.refused
-    (λ none. let un = c.answer_commands.ensures.unopened none in (ap g.O.Write.contents un.2, refl))
+    refused_finished _ c.answer_do.result.left c.finish-in-Do.result.left c.finish-in-Do.ensures.left c.answer_do.result.refused c.finish-in-Do.result.refused c.answer_do.result.done _ _ _ _ _ (g.E.Write.contents c.args.err.now) _
+    c.finish-in-Do.ensures.refused c.answer_do.ensures.refused
+    (λ none. let un = c.answer_do.ensures.unopened none in (ap g.O.Write.contents un.2, refl))
     c.finish-in-Do.ensures.failed c.finish-in-Do.ensures.told
 
 pub returns-in-Import-clause-by_files : goal.returns-in-Import-clause-by_files
@@ -115,13 +115,13 @@ returns-in-Init-clause-by_files g c =
     (not_unmade _ _ c.answer_init.result.done _ _ _ _ _ c.answer_init.ensures.answered c.answer_init.ensures.made))
 
 pub returns-in-Do-clause-left : goal.returns-in-Do-clause-left
-returns-in-Do-clause-left g c = rw (c.in-Do.is, c.finish-in-Do.ensures.left) c.answer_commands.ensures.left
+returns-in-Do-clause-left g c = rw (c.in-Do.is, c.finish-in-Do.ensures.left) c.answer_do.ensures.left
 
 pub returns-in-Import-clause-left : goal.returns-in-Import-clause-left
 returns-in-Import-clause-left g c = rw (c.in-Import.is, c.finish-in-Import.ensures.left) c.answer_import.ensures.left
 
 pub returns-in-Do-clause-session : goal.returns-in-Do-clause-session
-returns-in-Do-clause-session g c = rw (c.in-Do.is, c.finish-in-Do.ensures.left) c.answer_commands.ensures.session
+returns-in-Do-clause-session g c = rw (c.in-Do.is, c.finish-in-Do.ensures.left) c.answer_do.ensures.session
 
 pub returns-in-Import-clause-session : goal.returns-in-Import-clause-session
 returns-in-Import-clause-session g c = rw (c.in-Import.is, c.finish-in-Import.ensures.left) c.answer_import.ensures.session

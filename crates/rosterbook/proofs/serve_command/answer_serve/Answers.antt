@@ -1,4 +1,4 @@
-use Rattle.std.proofs.Common.{inl, inr, refl, []}
+use Rattle.std.proofs.Common.{inl, inr, refl}
 use Rattle.std.proofs.lemmas.Result.{IfErr-weaker, IfOk-weaker}
 use Rattle.sqlite.specs.Files.{over_files}
 use Rattle.book.proofs.CallLemmas.{no_calls}

@@ -5,7 +5,7 @@ use Rattle.roster.specs.State.{State}
 use Rattle.roster.specs.Steps.{step_of}
 use Rattle.lookup.proofs.Changes.{nothing_changes}
 use Rattle.book.specs.Kept.{result_of}
-use Rattle.book.proofs.Asked.{answered_as, fails_alike, passes_fault, read_fault, shown_on, shows_it}
+use Rattle.book.proofs.Asked.{answered_as, passes_fault, read_fault, shown_on, shows_it}
 use Rattle.book.proofs.States.{same_state, still_keeps}
 use Rattle.book.proofs.keeping.Book.check.Goals as goal
 
