@@ -53,15 +53,15 @@ def source(path):
     return (TOP / path).read_text()
 
 
-def found_at_lines(pattern, path):
-    """What `findall` finds in a file at the start of a line. It looks for the end of the line before, which is much quicker than `^`."""
-    return re.findall(rf"\n{pattern}", "\n" + source(path), re.M)
+def found_at_lines(pattern, text):
+    """What `findall` finds at the start of a line. It looks for the end of the line before, which is much quicker than `^`."""
+    return re.findall(rf"\n{pattern}", "\n" + text, re.M)
 
 
-def definitions(path):
+def definitions(path, text):
     """The definitions of a file of `specs/` or `proofs/`: blocks between empty lines, also those inside a module with parameters."""
     opening = ""
-    for block in re.split(r"\n\s*\n", source(path).strip("\n")):
+    for block in re.split(r"\n\s*\n", text.strip("\n")):
         lines = block.split("\n")
         if not lines[0].startswith(" "):
             opening = ""
@@ -76,17 +76,17 @@ def definitions(path):
 
 
 @cache
-def types(path):
+def types(path, text):
     """The public types of a file of `src/`, with their comments."""
     pattern = r"((?:///.*\n|#\[.*\n)*)(pub (?:struct|enum|type) (\w+)(?:[^{;]*\{\n(?:.*\n)*?\}|[^{;]*;))$"
-    return [Item(path, name, doc + body) for doc, body, name in found_at_lines(pattern, path)]
+    return [Item(path, name, doc + body) for doc, body, name in found_at_lines(pattern, text)]
 
 
-def calls(path):
+def calls(path, text):
     """The public functions of a file of `src/`, with their comments and clauses, and without their bodies."""
     owner = header = ""
     pattern = r"(?:(impl(?:<.*?>)? (?:.* for )?(\w+).*) \{$|((?: *///.*\n)*)( *)(pub fn (\w+)(?:.*\n)*?)\4\{)"
-    for line, owned, doc, indent, body, name in found_at_lines(pattern, path):
+    for line, owned, doc, indent, body, name in found_at_lines(pattern, text):
         if owned:
             owner, header = owned, line
         else:
@@ -96,20 +96,26 @@ def calls(path):
             yield Item(path, whole, "\n".join(lines), opening=header if indent else "", clauses="\n".join(lines[first:]))
 
 
-def invariants(path):
+def invariants(path, text):
     """What holds of each value of a type with a model."""
     pattern = r"(impl.* Model for (\w+).*) \{\n((?:.*\n)*?)\}"
-    for header, name, body in found_at_lines(pattern, path):
+    for header, name, body in found_at_lines(pattern, text):
         found = re.search(r"^    ghost invariant = \{(?:.*\n)*?.*\};$", body, re.M)
         if found:
             yield Item(path, f"invariant of {name}", re.sub(r"^    ", "", found[0], flags=re.M), opening=header)
 
 
-@cache
 def items(path):
     """All that a file has, by name."""
+    return items_in(path, source(path))
+
+
+@cache
+def items_in(path, text):
+    """All that a file of this text has, by name."""
     found = {}
-    for item in definitions(path) if path.endswith(".antt") else (*types(path), *calls(path), *invariants(path)):
+    parts = (definitions,) if path.endswith(".antt") else (types, calls, invariants)
+    for item in (item for part in parts for item in part(path, text)):
         if item.name in found:
             raise LookupError(f"{path} has {item.name} twice")
         found[item.name] = item
@@ -139,7 +145,7 @@ def types_by_name():
     """The public types of all crates, by name."""
     found = {}
     for path in files("src", ".rt"):
-        for item in types(path):
+        for item in types(path, source(path)):
             found.setdefault(item.name, []).append(item)
     return found
 
@@ -149,11 +155,11 @@ def models():
     """What contracts see of each type with a model, and of each type that is another name of one, the type that it names."""
     values, others = {}, {}
     for path in files("src", ".rt"):
-        for name, body in found_at_lines(r"impl.* Model for (\w+)\b.*\{\n((?: .*\n|\n)*)\}", path):
+        for name, body in found_at_lines(r"impl.* Model for (\w+)\b.*\{\n((?: .*\n|\n)*)\}", source(path)):
             found = re.search(r"^    ghost Value = \{ (.*) \};", body, re.M)
             if found:
                 values[name] = Item(path, f"value of {name}", found[1])
-        others |= dict(found_at_lines(r"pub type (\w+) = (\w+)", path))
+        others |= dict(found_at_lines(r"pub type (\w+) = (\w+)", source(path)))
     return values, others
 
 
@@ -178,12 +184,17 @@ class Name:
         return f"{self.name} of {self.home}" if self.home else self.name
 
 
-@cache
 def imports(path):
     """What a file imports: names with the modules and names that they stand for, and modules by their short names."""
+    return imports_in(source(path))
+
+
+@cache
+def imports_in(text):
+    """What a file of this text imports."""
     names, modules = {}, {}
     pattern = r" *(?:ghost )?(?:pub )?use (Rattle[\w.\-]*?)(?:\.\{([^}]*)\})?(?: as (\w+))?;?$"
-    for module, several, short in found_at_lines(pattern, path):
+    for module, several, short in found_at_lines(pattern, text):
         for entry in re.findall(r"[^\s,][^,]*", several):
             old, _, new = entry.strip().partition(" as ")
             names[new or old] = (module, old)

@@ -47,6 +47,7 @@ from counting import Desk
 from sources import (
     TOP,
     files,
+    found_at_lines,
     items,
     items_of,
     meanings,
@@ -133,7 +134,7 @@ def with_quotations(text, taken):
 
 def rows_below(text, comment):
     """The cells of the rows of each table below this comment."""
-    found = re.findall(rf"^<!-- {re.escape(comment)} -->\n\|.*\n\|[-|]+\n((?:\|.*\n)*)", text, re.M)
+    found = found_at_lines(rf"<!-- {re.escape(comment)} -->\n\|.*\n\|[-|]+\n((?:\|.*\n)*)", text)
     if not found:
         raise LookupError(f"there is no table below <!-- {comment} -->")
     return [[cell.strip() for cell in row.strip("|").split(" | ")] for rows in found for row in rows.strip().split("\n")]
