@@ -4,15 +4,18 @@
     tests/drifts.py
 
 A copy of the sources, the pages and the scripts is changed in one place, and tests/statement.py is run in it: it must fail, and say a
-given word. Then the change is taken back. Some drifts don't show in what the pages quote, such as an import that gives a name to something
+given word. Then the change is taken back. Each run is a process of its own, which this one begins with what it knows of the files'
+unchanged texts. Some drifts don't show in what the pages quote, such as an import that gives a name to something
 else. These must be refused even after the quotations were cut anew by --refresh. The unchanged copy must pass, with --refresh and without,
 and --refresh must leave it as it is. What is let through is printed on standard error. The last line is 'N passed, M failed', and the exit
 status 1 where M isn't 0.
 """
 
+import importlib
+import multiprocessing
+import os
 import re
 import shutil
-import subprocess
 import sys
 import tempfile
 from dataclasses import dataclass
@@ -214,17 +217,36 @@ SHOWN = (
 
 
 class Copy:
-    """A copy of what tests/statement.py reads."""
+    """A copy of what tests/statement.py reads, and of that script."""
 
     def __init__(self, room):
         self.top = Path(room) / "copy"
         for folder in ("crates", "docs", "tests"):
             shutil.copytree(TOP / folder, self.top / folder, ignore=shutil.ignore_patterns("out", "__pycache__"), symlinks=True)
+        sys.path.insert(0, str(self.top / "tests"))
+        self.statement, sources = (importlib.import_module(name) for name in ("statement", "sources"))
+        # (what is kept here goes by a file's path and text, which each run reads anew)
+        for file in (*self.top.glob("crates/*/specs/**/*.antt"), *self.top.glob("crates/*/src/**/*.rt")):
+            path, text = str(file.relative_to(self.top)), file.read_text()
+            sources.imports_in(text)
+            for item in sources.items_in(path, text).values():
+                sources.used_words(item)
 
     def said(self, *words):
         """The exit status of tests/statement.py, and what it printed."""
-        ran = subprocess.run([sys.executable, "-B", self.top / "tests/statement.py", *words], capture_output=True, text=True)
-        return ran.returncode, ran.stdout + ran.stderr
+        with tempfile.TemporaryFile("w+") as told:
+            run = multiprocessing.get_context("fork").Process(target=self.run, args=(words, told))
+            run.start()
+            run.join()
+            told.seek(0)
+            return run.exitcode, told.read()
+
+    def run(self, words, told):
+        """Runs the script, in the process that is to end with it."""
+        for stream in (sys.stdout, sys.stderr):
+            os.dup2(told.fileno(), stream.fileno())
+        sys.argv = ["tests/statement.py", *words]
+        self.statement.main()
 
     def pages(self):
         return {page: (self.top / page).read_text() for page in (STATEMENT, CONTRACTS)}

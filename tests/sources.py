@@ -7,10 +7,14 @@
 
 import re
 from dataclasses import dataclass
-from functools import cache
+from functools import cache, cached_property
 from pathlib import Path
 
 TOP = Path(__file__).resolve().parent.parent
+COMMENT_LINE = re.compile(r"\s*(--|//|#\[)")
+COMMENT_BEHIND = re.compile(r"\s+(--|//).*")
+TEXT = re.compile(r'"(\\.|[^"\\])*"')
+BETWEEN_WORDS = re.compile(r"[\s(){};,]+|\.(?=\s)")
 
 # ---- What a file has.
 
@@ -25,17 +29,17 @@ class Item:
     opening: str = ""  # the line of the module with parameters that it stands in, or of the `impl`
     clauses: str = ""  # of a call, what comes after its signature
 
-    @property
+    @cached_property
     def code(self):
         """Its lines without comments and attributes."""
-        lines = [line for line in self.text.split("\n") if line.strip() and not re.match(r"\s*(--|//|#\[)", line)]
-        return [re.sub(r"\s+(--|//).*", "", line) for line in lines]
+        lines = [line for line in self.text.split("\n") if line.strip() and not COMMENT_LINE.match(line)]
+        return tuple(COMMENT_BEHIND.sub("", line) for line in lines)
 
     @property
     def is_of_specs(self):
         return self.path.endswith(".antt")
 
-    @property
+    @cached_property
     def is_type(self):
         return not self.is_of_specs and re.match(r"pub (struct|enum|type) ", self.code[0]) is not None
 
@@ -49,10 +53,15 @@ def source(path):
     return (TOP / path).read_text()
 
 
-def definitions(path):
+def found_at_lines(pattern, text):
+    """What `findall` finds at the start of a line. It looks for the end of the line before, which is much quicker than `^`."""
+    return re.findall(rf"\n{pattern}", "\n" + text, re.M)
+
+
+def definitions(path, text):
     """The definitions of a file of `specs/` or `proofs/`: blocks between empty lines, also those inside a module with parameters."""
     opening = ""
-    for block in re.split(r"\n\s*\n", source(path).strip("\n")):
+    for block in re.split(r"\n\s*\n", text.strip("\n")):
         lines = block.split("\n")
         if not lines[0].startswith(" "):
             opening = ""
@@ -66,18 +75,18 @@ def definitions(path):
             yield Item(path, head[1], "\n".join(lines), opening)
 
 
-def types(path):
+@cache
+def types(path, text):
     """The public types of a file of `src/`, with their comments."""
-    pattern = r"((?:^///.*\n|^#\[.*\n)*)^(pub (?:struct|enum|type) (\w+)(?:[^{;]*\{\n(?:.*\n)*?\}|[^{;]*;))$"
-    for doc, body, name in re.findall(pattern, source(path), re.M):
-        yield Item(path, name, doc + body)
+    pattern = r"((?:///.*\n|#\[.*\n)*)(pub (?:struct|enum|type) (\w+)(?:[^{;]*\{\n(?:.*\n)*?\}|[^{;]*;))$"
+    return [Item(path, name, doc + body) for doc, body, name in found_at_lines(pattern, text)]
 
 
-def calls(path):
+def calls(path, text):
     """The public functions of a file of `src/`, with their comments and clauses, and without their bodies."""
     owner = header = ""
-    pattern = r"^(impl(?:<.*?>)? (?:.* for )?(\w+).*) \{$|((?:^ *///.*\n)*)^( *)(pub fn (\w+)(?:.*\n)*?)\4\{"
-    for line, owned, doc, indent, body, name in re.findall(pattern, source(path), re.M):
+    pattern = r"(?:(impl(?:<.*?>)? (?:.* for )?(\w+).*) \{$|((?: *///.*\n)*)( *)(pub fn (\w+)(?:.*\n)*?)\4\{)"
+    for line, owned, doc, indent, body, name in found_at_lines(pattern, text):
         if owned:
             owner, header = owned, line
         else:
@@ -87,20 +96,26 @@ def calls(path):
             yield Item(path, whole, "\n".join(lines), opening=header if indent else "", clauses="\n".join(lines[first:]))
 
 
-def invariants(path):
+def invariants(path, text):
     """What holds of each value of a type with a model."""
-    pattern = r"^(impl.* Model for (\w+).*) \{\n((?:.*\n)*?)^\}"
-    for header, name, body in re.findall(pattern, source(path), re.M):
+    pattern = r"(impl.* Model for (\w+).*) \{\n((?:.*\n)*?)\}"
+    for header, name, body in found_at_lines(pattern, text):
         found = re.search(r"^    ghost invariant = \{(?:.*\n)*?.*\};$", body, re.M)
         if found:
             yield Item(path, f"invariant of {name}", re.sub(r"^    ", "", found[0], flags=re.M), opening=header)
 
 
-@cache
 def items(path):
     """All that a file has, by name."""
+    return items_in(path, source(path))
+
+
+@cache
+def items_in(path, text):
+    """All that a file of this text has, by name."""
     found = {}
-    for item in definitions(path) if path.endswith(".antt") else (*types(path), *calls(path), *invariants(path)):
+    parts = (definitions,) if path.endswith(".antt") else (types, calls, invariants)
+    for item in (item for part in parts for item in part(path, text)):
         if item.name in found:
             raise LookupError(f"{path} has {item.name} twice")
         found[item.name] = item
@@ -119,6 +134,7 @@ def files(folder, ending):
     return sorted(str(path.relative_to(TOP)) for path in (TOP / "crates").glob(f"*/{folder}/**/*{ending}"))
 
 
+@cache
 def specs():
     """The files of `specs/` that have definitions."""
     return [path for path in files("specs", ".antt") if items(path)]
@@ -129,7 +145,7 @@ def types_by_name():
     """The public types of all crates, by name."""
     found = {}
     for path in files("src", ".rt"):
-        for item in types(path):
+        for item in types(path, source(path)):
             found.setdefault(item.name, []).append(item)
     return found
 
@@ -139,12 +155,11 @@ def models():
     """What contracts see of each type with a model, and of each type that is another name of one, the type that it names."""
     values, others = {}, {}
     for path in files("src", ".rt"):
-        text = source(path)
-        for name, body in re.findall(r"^impl.* Model for (\w+)\b.*\{\n((?: .*\n|\n)*)^\}", text, re.M):
+        for name, body in found_at_lines(r"impl.* Model for (\w+)\b.*\{\n((?: .*\n|\n)*)\}", source(path)):
             found = re.search(r"^    ghost Value = \{ (.*) \};", body, re.M)
             if found:
                 values[name] = Item(path, f"value of {name}", found[1])
-        others |= dict(re.findall(r"^pub type (\w+) = (\w+)", text, re.M))
+        others |= dict(found_at_lines(r"pub type (\w+) = (\w+)", source(path)))
     return values, others
 
 
@@ -169,12 +184,17 @@ class Name:
         return f"{self.name} of {self.home}" if self.home else self.name
 
 
-@cache
 def imports(path):
     """What a file imports: names with the modules and names that they stand for, and modules by their short names."""
+    return imports_in(source(path))
+
+
+@cache
+def imports_in(text):
+    """What a file of this text imports."""
     names, modules = {}, {}
-    pattern = r"^ *(?:ghost )?(?:pub )?use (Rattle[\w.\-]*?)(?:\.\{([^}]*)\})?(?: as (\w+))?;?$"
-    for module, several, short in re.findall(pattern, source(path), re.M):
+    pattern = r" *(?:ghost )?(?:pub )?use (Rattle[\w.\-]*?)(?:\.\{([^}]*)\})?(?: as (\w+))?;?$"
+    for module, several, short in found_at_lines(pattern, text):
         for entry in re.findall(r"[^\s,][^,]*", several):
             old, _, new = entry.strip().partition(" as ")
             names[new or old] = (module, old)
@@ -194,35 +214,41 @@ def constructors(path):
 
 
 @cache
+def is_there(path):
+    return (TOP / path).exists()
+
+
+@cache
 def resolved(module, name):
     """What a name of a module stands for."""
     crate, _, rest = module.removeprefix("Rattle.").partition(".")
-    if not (TOP / "crates" / crate).exists():
+    if not is_there(f"crates/{crate}"):
         return Name("word", f"{crate}.{rest}", name)
     if rest.startswith("specs.declared."):
         parts = rest.removeprefix("specs.declared.").split(".")
         return Name("type", crate, next((part for part in parts if part[0].isupper()), name))
     path = f"crates/{crate}/{rest.replace('.', '/')}.antt"
-    if rest.startswith("specs.contracts.") or not (TOP / path).exists():
+    if rest.startswith("specs.contracts.") or not is_there(path):
         return Name("word", "", f"{rest.split('.')[-1]}.{name}")
     return Name("definition", path, constructors(path).get(name, name))
 
 
 def words_of(text):
-    text = re.sub(r'"(\\.|[^"\\])*"', "", text)
-    return [word for word in re.split(r"[\s(){};,]+|\.(?=\s)", text) if word]
+    return [word for word in BETWEEN_WORDS.split(TEXT.sub("", text)) if word]
 
 
+@cache
 def used_words(item):
     """The words of a definition, or of the contract of a call."""
     return words_of(re.sub(r"(--|//).*", "", item.clauses) or "\n".join([item.opening, *item.code]))
 
 
-def uses(short, plain):
-    """Whether a name, of one part or more, stands among some words."""
-    return all(part in plain for part in short.split("◌") if part)
+def used_of(names, plain):
+    """Those of some names, each of one part or more, that stand among some words."""
+    return (names & plain) | {name for name in names if "◌" in name and all(part in plain for part in name.split("◌") if part)}
 
 
+@cache
 def modules_used(item):
     """The short names of modules that an item uses, each with its module."""
     _, modules = imports(item.path)
@@ -230,6 +256,7 @@ def modules_used(item):
     return {(short, modules[short].removeprefix("Rattle.")) for short in firsts & modules.keys()}
 
 
+@cache
 def renamed_by(item):
     """The names that an item uses for others: who reads it can't see the import that renames them."""
     if item.is_type:
@@ -238,9 +265,11 @@ def renamed_by(item):
         return {(short, name) for name, short in renamed if short in plain and short != item.name}
     plain = set(used_words(item))
     plain |= {word.partition(".")[0] for word in plain}
-    return {(short, name) for short, (_, name) in imports(item.path)[0].items() if short != name and uses(short, plain)}
+    names, _ = imports(item.path)
+    return {(short, names[short][1]) for short in used_of(names.keys(), plain) if short != names[short][1]}
 
 
+@cache
 def meanings(item):
     """Each short name that an item uses, with what it stands for: the home that has it."""
     if item.is_type:
@@ -248,7 +277,7 @@ def meanings(item):
         return found | {(item.name, f"type {item.path.split('/')[1]}")}
     names, _ = imports(item.path)
     plain = {part for word in used_words(item) for part in (word, word.partition(".")[0])}
-    found = {(short, home_of(module, name)) for short, (module, name) in names.items() if uses(short, plain)}
+    found = {(short, home_of(*names[short])) for short in used_of(names.keys(), plain)}
     if item.is_of_specs:
         own = item.path.removeprefix("crates/").removesuffix(".antt").replace("/", ".")
         found |= {(name, own) for name in {*items(item.path), *constructors(item.path)} if name in plain}
@@ -281,9 +310,7 @@ def named_by(item):
             found.add(Name("word", "", word))
         else:
             plain |= {first, word}
-    for short, (module, name) in names.items():
-        if name != "ghosts" and uses(short, plain):
-            found.add(resolved(module, name))
+    found |= {resolved(*names[short]) for short in used_of(names.keys(), plain) if names[short][1] != "ghosts"}
     if item.is_of_specs:
         inside = {name: name for name in items(item.path)} | constructors(item.path)
         found |= {Name("definition", item.path, home) for name, home in inside.items() if name in plain and home != item.name}

@@ -41,12 +41,13 @@ import sys
 from collections import Counter
 from dataclasses import dataclass
 from difflib import SequenceMatcher
-from functools import cached_property
+from functools import cache, cached_property
 
 from counting import Desk
 from sources import (
     TOP,
     files,
+    found_at_lines,
     items,
     items_of,
     meanings,
@@ -133,7 +134,7 @@ def with_quotations(text, taken):
 
 def rows_below(text, comment):
     """The cells of the rows of each table below this comment."""
-    found = re.findall(rf"^<!-- {re.escape(comment)} -->\n\|.*\n\|[-|]+\n((?:\|.*\n)*)", text, re.M)
+    found = found_at_lines(rf"<!-- {re.escape(comment)} -->\n\|.*\n\|[-|]+\n((?:\|.*\n)*)", text)
     if not found:
         raise LookupError(f"there is no table below <!-- {comment} -->")
     return [[cell.strip() for cell in row.strip("|").split(" | ")] for rows in found for row in rows.strip().split("\n")]
@@ -166,9 +167,10 @@ class Page:
         self.quoted = []
 
     def quotations(self):
+        headings = [(found.start(), found[1]) for found in re.finditer(r"^## (.*)$", self.text, re.M)]
         for found in QUOTATION.finditer(self.text):
-            section = re.findall(r"^## (.*)$", self.text[: found.start()], re.M)[-1:] or [""]
-            yield Quotation(section[0], found[1], names_of(found[2]), found[3])
+            section = next((heading for start, heading in reversed(headings) if start < found.start()), "")
+            yield Quotation(section, found[1], names_of(found[2]), found[3])
 
     @property
     def items(self):
@@ -268,9 +270,10 @@ def try_said(desk, pages):
             desk.expect(marked(said) and not missing, f"'{words}' is said by {missing or 'nothing'}, which isn't quoted")
 
 
-def anchors_of(path):
+@cache
+def anchors_of(text):
     """How links name the headings of a document."""
-    headings = re.findall(r"^#+ (.*)$", path.read_text(), re.M)
+    headings = re.findall(r"^#+ (.*)$", text, re.M)
     plain = [re.sub(r"\[([^\]]*)\]\([^)]*\)", r"\1", heading).lower() for heading in headings]
     return {re.sub(r"[^\w\- ]", "", heading).replace(" ", "-") for heading in plain}
 
@@ -282,7 +285,7 @@ def try_headings(desk, page):
         desk.expect(is_there, f"{page.name}: {document} has no section {name}")
     for document, anchor in re.findall(r"\]\((\w*(?:\.md)?)#([^)]+)\)", page.text):
         home = TOP / "docs" / (document or page.name)
-        desk.expect(home.exists() and anchor in anchors_of(home), f"{page.name}: {home.name} has no section #{anchor}")
+        desk.expect(home.exists() and anchor in anchors_of(home.read_text()), f"{page.name}: {home.name} has no section #{anchor}")
 
 
 def try_fields(desk, page):
@@ -313,18 +316,15 @@ def try_values(desk, pages):
             model = model_of(name.partition("<")[0])
             wanted = model and model.text
             desk.expect(marked(second)[0] == wanted, f"of {name} contracts see {wanted}, and the page has {second}")
+    quoted = {item.name for item in pages.items}
     for item in pages.items:
         if item.is_type and item.name not in pages.values:
             own = [it for it in types_by_name()[item.name] if it.path == item.path]
             model = model_of(item.name) if len(types_by_name()[item.name]) == len(own) else None
-            is_quoted = any(it.name == f"invariant of {item.name}" for it in pages.items) or not model
+            is_quoted = f"invariant of {item.name}" in quoted or not model
             told = f"contracts see {item.name} as {model and model.text}, and the page doesn't say so"
-            desk.expect(is_quoted or is_view(model, pages), told)
-
-
-def is_view(model, pages):
-    """Whether a type is seen as a record that the pages quote."""
-    return any(name in {item.name for item in pages.items} for name in re.findall(r"\w+", model.text))
+            is_view = model and any(name in quoted for name in re.findall(r"\w+", model.text))  # of a record that is quoted
+            desk.expect(is_quoted or is_view, told)
 
 
 def try_laws(desk, pages):
@@ -508,7 +508,8 @@ def try_names(desk, pages):
     """That all names in what is quoted are quoted or explained."""
     above = set()  # what is quoted so far, by its file and by its crate
     for page in pages.both:
-        ahead = {item.place for section, item in page.quoted if section in FORWARD}
+        below = [item for section, item in page.quoted if section in FORWARD]
+        ahead = {place for item in below for place in (item.place, (item.path.split("/")[1], item.name))}
         kit = {name for table in kit_tables(pages).values() for name in table}
         for item in page.items:
             unknown = sorted(str(name) for name in named_by(item) if not is_known(name, page, pages, above, ahead, kit))
@@ -525,10 +526,9 @@ def is_known(name, page, pages, above, ahead, kit):
     if name.kind == "definition":
         place = (name.home, name.name)
         is_formats = page is pages.contracts and pages.homes(*place) == ["of formats"]
-        return place in above | ahead or name.name in pages.beside or is_formats
+        return place in above or place in ahead or name.name in pages.beside or is_formats
     homes = {name.home} if name.home else {it.path.split("/")[1] for it in types_by_name()[name.name]}
-    ahead_types = {(path.split("/")[1], one) for path, one in ahead}
-    return name.name in pages.values or any((home, name.name) in above | ahead_types for home in homes)
+    return name.name in pages.values or any((home, name.name) in above or (home, name.name) in ahead for home in homes)
 
 
 def try_explained(desk, pages):

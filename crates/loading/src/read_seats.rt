@@ -15,6 +15,7 @@ ghost use Rattle.entries.specs.Mapping.{TellsOf, HasStranger};
 ghost use Rattle.state_rows.specs.Rows.{seat, segment};
 ghost use Rattle.entries.specs.declared.fault.TableName.TheVariants as table_name;
 
+use crate::given_back::given_back;
 use crate::read_crew::seat_of_number;
 use command::Seat;
 use duty::{CrewId, PairingId};
@@ -117,21 +118,21 @@ fn held_seat_of(
 }
 
 /// Puts the members into the seats that the records give.
-fn take_seats(alloc: Global, roster: Roster, records: &[SeatRecord]) -> Result<Roster, LoadFault>
-    requires { HaveNoHolders roster }
-    ensures { MatchResult result (SeatsRead records.now (length records.now) roster)
+fn take_seats(alloc: Global, roster: &mut Roster, records: &[SeatRecord]) -> Result<(), LoadFault>
+    requires { HaveNoHolders roster.old }
+    ensures { MatchResult result
+        (λ _. SeatsRead records.now (length records.now) roster.old roster.new)
         (Blames table_name.Seat
-        (HasStranger row_of_held (IsSeatHeldBy roster.crew roster.pairings)
+        (HasStranger row_of_held (IsSeatHeldBy roster.old.crew roster.old.pairings)
         (map seat_row records.now))) }
 {
-    let mut roster = roster;
     for row in records {
-        let Some(TakenSeat { pairing, taken }) = held_seat_of(alloc, &roster, row)? else {
+        let Some(TakenSeat { pairing, taken }) = held_seat_of(alloc, roster, row)? else {
             return Err(LoadFault::Damaged(TableName::Seat));
         };
         roster.pairings.edit(&pairing, taken);
     }
-    Ok(roster)
+    Ok(())
 }
 
 /// Returns whether both seats of a pairing are held, if it is flown.
@@ -156,16 +157,17 @@ fn are_crewed(roster: &Roster) -> bool
 
 /// Puts the members into the seats that the records give, where that leaves no flown pairing with a free seat.
 #[tactic(auto, using(crate::proofs::ReadSeats::read_stranger, crate::proofs::ReadSeats::not_all_crewed))]
-fn seat_all(alloc: Global, roster: Roster, records: &[SeatRecord]) -> Result<Roster, LoadFault>
-    requires { HaveNoHolders roster }
-    ensures { MatchResult result (λ r. SeatsRead records.now (length records.now) roster r
-        × AreCrewed r) (Blames table_name.Seat (AreUnseated records.now roster)) }
+fn seat_all(alloc: Global, roster: &mut Roster, records: &[SeatRecord]) -> Result<(), LoadFault>
+    requires { HaveNoHolders roster.old }
+    ensures { MatchResult result
+        (λ _. SeatsRead records.now (length records.now) roster.old roster.new
+        × AreCrewed roster.new) (Blames table_name.Seat (AreUnseated records.now roster.old)) }
 {
-    let roster = take_seats(alloc, roster, records)?;
-    if !are_crewed(&roster) {
+    take_seats(alloc, roster, records)?;
+    if !are_crewed(roster) {
         return Err(LoadFault::Damaged(TableName::Seat));
     }
-    Ok(roster)
+    Ok(())
 }
 
 /// Reads who holds the seats into a roster of which all are free.
@@ -184,5 +186,7 @@ pub(crate) fn read_seats<S: Alter>(
     ensures rest { IfOk result (λ r. r ≡ record roster { pairings = r.pairings }) }
 {
     let records = seat_records(alloc, conn)?;
-    seat_all(alloc, roster, &records)
+    let mut roster = roster;
+    let done = seat_all(alloc, &mut roster, &records);
+    given_back(roster, done)
 }

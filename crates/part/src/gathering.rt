@@ -1,18 +1,18 @@
 //! The part of a state, gathered from a source. Its definition is `Part` (`specs/Part.antt`).
 //! Through the program: `tests/answers.py`. Wrong bodies: `must-fail/`.
 
-ghost use Rattle.std.specs.Prelude.{◌≡◌, ◌++◌, IfErr, OnOk};
+ghost use Rattle.std.specs.Prelude.{◌≡◌, ◌++◌, List, ℕ, IfErr, OnOk};
 ghost use Rattle.command.specs.Keys.{KeyParts};
 ghost use Rattle.part.specs.Part.{NamedPart, Part};
 ghost use Rattle.roster.specs.Holding.{AreJust};
-ghost use Rattle.part.specs.Sources.{IsCauseOfGathering, IsGroundOfOne, IsHeldByOne, IsOutsideOfOne, TellsOfState, bases_part, key_part};
+ghost use Rattle.part.specs.Sources.{IsCauseOfGathering, IsGroundOfOne, IsHeldByOne, IsOutsideOfOne, IsPartOf, TellsOfState, bases_part, key_part, picked};
 
 use crate::named::{ids_named, judged_in, members_wanted};
 use crate::pick::{pick_grounds, pick_members, pick_outsides, pick_pairings, pick_request};
 use crate::source::Source;
 use command::{Command, Instruction, Key};
-use duty::{CrewId, GroundId, OutsideId, PairingId};
-use roster::Roster;
+use duty::{CrewId, Ground, GroundId, OutsideId, PairingId};
+use roster::{OutsideEntry, PairingEntry, Roster};
 use std::alloc::Global;
 use values::{MemoryFault, OrdMap};
 
@@ -134,6 +134,66 @@ pub(crate) fn add_named<S: Source>(
     Ok(())
 }
 
+/// Adds the pairings that some members hold.
+fn add_held<S: Source>(
+    alloc: Global,
+    source: &mut S,
+    judged: &[CrewId],
+    pairings: &mut OrdMap<PairingId, PairingEntry>,
+) -> Result<(), S::Fault>
+    ensures told { TellsOfState S.is_clean S.shows (λ s _. IsPartOf pairings.old s.pairings
+        → (ids : List (List ℕ)) × AreJust (IsHeldByOne s judged.now) ids
+        × (pairings.new ≡ picked s.pairings pairings.old ids)) source.old source.new result }
+    ensures left { S.stays source.old source.new }
+    ensures caused { IfErr result
+        (IsCauseOfGathering S.fails S.Fault.from_gives source.old source.new) }
+    ensures serves { OnOk result (S.serves source.old source.new) }
+{
+    let held = held_by_one(alloc, source, judged)?;
+    pick_pairings(alloc, source, &held, pairings)?;
+    Ok(())
+}
+
+/// Adds the ground duties of some members.
+fn add_grounds<S: Source>(
+    alloc: Global,
+    source: &mut S,
+    judged: &[CrewId],
+    grounds: &mut OrdMap<GroundId, Ground>,
+) -> Result<(), S::Fault>
+    ensures told { TellsOfState S.is_clean S.shows (λ s _. IsPartOf grounds.old s.grounds
+        → (ids : List (List ℕ)) × AreJust (IsGroundOfOne s judged.now) ids
+        × (grounds.new ≡ picked s.grounds grounds.old ids)) source.old source.new result }
+    ensures left { S.stays source.old source.new }
+    ensures caused { IfErr result
+        (IsCauseOfGathering S.fails S.Fault.from_gives source.old source.new) }
+    ensures serves { OnOk result (S.serves source.old source.new) }
+{
+    let theirs = grounds_of_one(alloc, source, judged)?;
+    pick_grounds(alloc, source, &theirs, grounds)?;
+    Ok(())
+}
+
+/// Adds the outside periods of some members.
+fn add_outsides<S: Source>(
+    alloc: Global,
+    source: &mut S,
+    judged: &[CrewId],
+    outsides: &mut OrdMap<OutsideId, OutsideEntry>,
+) -> Result<(), S::Fault>
+    ensures told { TellsOfState S.is_clean S.shows (λ s _. IsPartOf outsides.old s.outsides
+        → (ids : List (List ℕ)) × AreJust (IsOutsideOfOne s judged.now) ids
+        × (outsides.new ≡ picked s.outsides outsides.old ids)) source.old source.new result }
+    ensures left { S.stays source.old source.new }
+    ensures caused { IfErr result
+        (IsCauseOfGathering S.fails S.Fault.from_gives source.old source.new) }
+    ensures serves { OnOk result (S.serves source.old source.new) }
+{
+    let flown = outsides_of_one(alloc, source, judged)?;
+    pick_outsides(alloc, source, &flown, outsides)?;
+    Ok(())
+}
+
 /// Adds the histories by which an instruction is judged to what it names.
 pub(crate) fn add_histories<S: Source>(
     alloc: Global,
@@ -150,12 +210,9 @@ pub(crate) fn add_histories<S: Source>(
     ensures serves { OnOk result (S.serves source.old source.new) }
 {
     let judged = judged_in(alloc, instruction, &part.pairings)?;
-    let held = held_by_one(alloc, source, &judged)?;
-    pick_pairings(alloc, source, &held, &mut part.pairings)?;
-    let theirs = grounds_of_one(alloc, source, &judged)?;
-    pick_grounds(alloc, source, &theirs, &mut part.grounds)?;
-    let flown = outsides_of_one(alloc, source, &judged)?;
-    pick_outsides(alloc, source, &flown, &mut part.outsides)?;
+    add_held(alloc, source, &judged, &mut part.pairings)?;
+    add_grounds(alloc, source, &judged, &mut part.grounds)?;
+    add_outsides(alloc, source, &judged, &mut part.outsides)?;
     let wanted = members_wanted(
         alloc,
         instruction,
@@ -164,6 +221,29 @@ pub(crate) fn add_histories<S: Source>(
         &part.outsides,
     )?;
     pick_members(alloc, source, &wanted, &mut part.crew)?;
+    Ok(())
+}
+
+/// Adds to the bases what a command needs to be answered under its key.
+fn add_needed<S: Source>(
+    alloc: Global,
+    source: &mut S,
+    key: Key,
+    command: &Command,
+    part: &mut Roster,
+) -> Result<(), S::Fault>
+    ensures told { TellsOfState S.is_clean S.shows
+        (λ s _. part.old ≡ bases_part s → part.new ≡ Part s key command.now)
+        source.old source.new result }
+    ensures left { S.stays source.old source.new }
+    ensures caused { IfErr result
+        (IsCauseOfGathering S.fails S.Fault.from_gives source.old source.new) }
+    ensures serves { OnOk result (S.serves source.old source.new) }
+{
+    let instruction = command.instruction();
+    pick_request(alloc, source, key, &mut part.requests)?;
+    add_named(alloc, source, instruction, part)?;
+    add_histories(alloc, source, instruction, part)?;
     Ok(())
 }
 
@@ -182,10 +262,10 @@ pub fn gather<S: Source>(
     ensures serves { OnOk result (S.serves source.old source.new) }
     ensures there { OnOk result (S.is_there source.new) }
 {
-    let instruction = command.instruction();
     let mut part = gather_bases(alloc, source)?;
-    pick_request(alloc, source, key, &mut part.requests)?;
-    add_named(alloc, source, instruction, &mut part)?;
-    add_histories(alloc, source, instruction, &mut part)?;
+    if let Err(fault) = add_needed(alloc, source, key, command, &mut part) {
+        drop(part);
+        return Err(fault);
+    }
     Ok(part)
 }

@@ -20,7 +20,9 @@ use values::MemoryFault;
 fn reply_of(kept: LoggedCommand) -> Reply
     ensures { result ≡ kept.reply }
 {
-    kept.reply
+    let LoggedCommand { command, reply } = kept;
+    drop(command);
+    reply
 }
 
 /// Answers a command by what its key holds.

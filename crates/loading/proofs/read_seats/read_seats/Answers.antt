@@ -4,6 +4,7 @@ use Rattle.roster.specs.State.{State}
 use Rattle.loading.specs.Loading.{Justifies}
 use Rattle.loading.specs.Reading.{ReadsAs}
 use Rattle.entries.specs.declared.fault.LoadFault.{LoadFault}
+use Rattle.loading.proofs.Telling.{given}
 use Rattle.loading.proofs.SeatTable.{Now, not_read, is_read}
 use Rattle.loading.proofs.read_seats.read_seats.Goals as goal
 
@@ -18,5 +19,6 @@ returns-in_err-records-clause-read g c =
 
 pub returns-clause-read : goal.returns-clause-read
 returns-clause-read g c =
-    is_read c.args.roster (state g.S.Store c.args.conn.now) (state g.S.Store c.seat_records.new.conn) c.requires.above c.in_ok-records.records.items c.deref.result.now c.seat_all.result c.deref.ensures.value
-    c.in_ok-records.ensures.told c.seat_records.ensures.left c.seat_all.ensures
+    is_read c.args.roster (state g.S.Store c.args.conn.now) (state g.S.Store c.seat_records.new.conn) c.requires.above c.in_ok-records.records.items c.deref.result.now c.given_back.result c.deref.ensures.value
+    c.in_ok-records.ensures.told c.seat_records.ensures.left
+    (given _ _ c.seat_all-done.result c.seat_all-done.new.roster c.given_back.result c.given_back.ensures.ok c.given_back.ensures.err c.seat_all-done.ensures)
