@@ -1,18 +1,18 @@
 //! The part of a state, gathered from a source. Its definition is `Part` (`specs/Part.antt`).
 //! Through the program: `tests/answers.py`. Wrong bodies: `must-fail/`.
 
-ghost use Rattle.std.specs.Prelude.{◌≡◌, ◌++◌, List, ℕ, IfErr, OnOk};
+ghost use Rattle.std.specs.Prelude.{◌≡◌, ◌++◌, IfErr, OnOk};
 ghost use Rattle.command.specs.Keys.{KeyParts};
 ghost use Rattle.part.specs.Part.{NamedPart, Part};
 ghost use Rattle.roster.specs.Holding.{AreJust};
-ghost use Rattle.part.specs.Sources.{IsCauseOfGathering, IsGroundOfOne, IsHeldByOne, IsOutsideOfOne, IsPartOf, TellsOfState, bases_part, key_part, picked};
+ghost use Rattle.part.specs.Sources.{IsCauseOfGathering, IsGroundOfOne, IsHeldByOne, IsOutsideOfOne, TellsOfState, bases_part, key_part};
 
 use crate::named::{ids_named, judged_in, members_wanted};
 use crate::pick::{pick_grounds, pick_members, pick_outsides, pick_pairings, pick_request};
 use crate::source::Source;
 use command::{Command, Instruction, Key};
-use duty::{CrewId, Ground, GroundId, OutsideId, PairingId};
-use roster::{OutsideEntry, PairingEntry, Roster};
+use duty::{CrewId, GroundId, OutsideId, PairingId};
+use roster::Roster;
 use std::alloc::Global;
 use values::{MemoryFault, OrdMap};
 
@@ -134,66 +134,6 @@ pub(crate) fn add_named<S: Source>(
     Ok(())
 }
 
-/// Adds the pairings that some members hold.
-fn add_held<S: Source>(
-    alloc: Global,
-    source: &mut S,
-    judged: &[CrewId],
-    pairings: &mut OrdMap<PairingId, PairingEntry>,
-) -> Result<(), S::Fault>
-    ensures told { TellsOfState S.is_clean S.shows (λ s _. IsPartOf pairings.old s.pairings
-        → (ids : List (List ℕ)) × AreJust (IsHeldByOne s judged.now) ids
-        × (pairings.new ≡ picked s.pairings pairings.old ids)) source.old source.new result }
-    ensures left { S.stays source.old source.new }
-    ensures caused { IfErr result
-        (IsCauseOfGathering S.fails S.Fault.from_gives source.old source.new) }
-    ensures serves { OnOk result (S.serves source.old source.new) }
-{
-    let held = held_by_one(alloc, source, judged)?;
-    pick_pairings(alloc, source, &held, pairings)?;
-    Ok(())
-}
-
-/// Adds the ground duties of some members.
-fn add_grounds<S: Source>(
-    alloc: Global,
-    source: &mut S,
-    judged: &[CrewId],
-    grounds: &mut OrdMap<GroundId, Ground>,
-) -> Result<(), S::Fault>
-    ensures told { TellsOfState S.is_clean S.shows (λ s _. IsPartOf grounds.old s.grounds
-        → (ids : List (List ℕ)) × AreJust (IsGroundOfOne s judged.now) ids
-        × (grounds.new ≡ picked s.grounds grounds.old ids)) source.old source.new result }
-    ensures left { S.stays source.old source.new }
-    ensures caused { IfErr result
-        (IsCauseOfGathering S.fails S.Fault.from_gives source.old source.new) }
-    ensures serves { OnOk result (S.serves source.old source.new) }
-{
-    let theirs = grounds_of_one(alloc, source, judged)?;
-    pick_grounds(alloc, source, &theirs, grounds)?;
-    Ok(())
-}
-
-/// Adds the outside periods of some members.
-fn add_outsides<S: Source>(
-    alloc: Global,
-    source: &mut S,
-    judged: &[CrewId],
-    outsides: &mut OrdMap<OutsideId, OutsideEntry>,
-) -> Result<(), S::Fault>
-    ensures told { TellsOfState S.is_clean S.shows (λ s _. IsPartOf outsides.old s.outsides
-        → (ids : List (List ℕ)) × AreJust (IsOutsideOfOne s judged.now) ids
-        × (outsides.new ≡ picked s.outsides outsides.old ids)) source.old source.new result }
-    ensures left { S.stays source.old source.new }
-    ensures caused { IfErr result
-        (IsCauseOfGathering S.fails S.Fault.from_gives source.old source.new) }
-    ensures serves { OnOk result (S.serves source.old source.new) }
-{
-    let flown = outsides_of_one(alloc, source, judged)?;
-    pick_outsides(alloc, source, &flown, outsides)?;
-    Ok(())
-}
-
 /// Adds the histories by which an instruction is judged to what it names.
 pub(crate) fn add_histories<S: Source>(
     alloc: Global,
@@ -210,9 +150,12 @@ pub(crate) fn add_histories<S: Source>(
     ensures serves { OnOk result (S.serves source.old source.new) }
 {
     let judged = judged_in(alloc, instruction, &part.pairings)?;
-    add_held(alloc, source, &judged, &mut part.pairings)?;
-    add_grounds(alloc, source, &judged, &mut part.grounds)?;
-    add_outsides(alloc, source, &judged, &mut part.outsides)?;
+    let held = held_by_one(alloc, source, &judged)?;
+    pick_pairings(alloc, source, &held, &mut part.pairings)?;
+    let theirs = grounds_of_one(alloc, source, &judged)?;
+    pick_grounds(alloc, source, &theirs, &mut part.grounds)?;
+    let flown = outsides_of_one(alloc, source, &judged)?;
+    pick_outsides(alloc, source, &flown, &mut part.outsides)?;
     let wanted = members_wanted(
         alloc,
         instruction,
