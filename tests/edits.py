@@ -7,10 +7,13 @@ An edit is a file crates/CRATE/must-fail/NAME.edit, or with --more crates/CRATE/
 the function that must be refused, as a check prints it below its crate; `file: PATH`, in the crate; and pairs of `old: TEXT`
 and `new: TEXT`, where the old text stands in the file exactly once. With no `in:` the whole crate is checked.
 
-A function is proved over the contracts of those that it calls, so edits of different functions are tried by one check of these
-functions, on a copy of the crate. Of every other function the copy keeps only the contract: a loop without end stands for its body, unless
-it has the name of one that is checked, and a hole for its proof. A first check, without an edit, must accept the functions on such a copy.
-If it doesn't, or if an edit isn't refused there, the edit is tried over the whole crate, as is one with no `in:`.
+A function is proved over the contracts of those that it calls, so edits are tried on a copy of the crate that keeps only the contract of
+every function that isn't checked: a loop without end stands for its body, unless it has the name of one that is checked, and a hole for its
+proof. The first check of a crate tries each edit that changes the body of one function in a *twin*: the function once more, under another
+name, with its proofs. A twin without the edit must be accepted there, so that it is the edit alone that is refused. A function of a trait,
+or one that calls itself, has no twin: the first check must accept it as it is, and its edits are tried after that, those of different
+functions by one check. So are those of which the twins can't be tried, or the one without the edit isn't accepted. Where a function isn't
+accepted as it is, or an edit isn't refused on such a copy, the edit is tried over the whole crate, as is one with no `in:`.
 
 `rt lib` first builds each library that is missing or older than its sources; with --built those that are there are taken as they are, as
 `rt ci` left them: what it has from an earlier run on a machine is older than a fresh clone. With --beside the edits of a crate are tried
@@ -42,6 +45,8 @@ PARTS = ("src", "specs", "proofs")
 LIGHTLY = ("nice", "-n", "19", "sh", "-c", 'echo 1000 >/proc/self/oom_score_adj; exec "$@"', "sh")  # the first to be killed for memory
 ROOM = 6_000_000  # how many kB have to be free for a check beside `rt ci`
 ENDED = "rt ci has ended\n"  # the last line of what it says
+HEAD = r"( *)(?:pub(?:\([a-z ]+\))? )?fn "  # how a function begins
+TRIED = r"^only=\d+ (?:proved|holes)=\d+"  # what a check says of the functions that it was to try
 
 
 @dataclass(frozen=True)
@@ -88,6 +93,27 @@ class Edit:
     @property
     def label(self):
         return f"{self.file.parts[-3]}/{self.file.stem}"
+
+
+@dataclass(frozen=True)
+class Twin:
+    """A function once more in the copy of its crate, under another name."""
+
+    function: str
+    name: str
+    path: str  # of its file
+    source: str  # of the function
+    text: str  # its own
+
+    def add_to(self, folder):
+        file = folder / self.path
+        file.write_text(file.read_text().replace(self.source, f"{self.source}\n\n{self.text}"))
+        proofs, own = (folder / "proofs" / name.replace("::", "/") for name in (self.function, self.name))
+        if proofs.is_dir():
+            shutil.copytree(proofs, own)
+        module, renamed = (f".proofs.{name.replace('::', '.')}." for name in (self.function, self.name))
+        for proof in own.rglob("*.antt"):
+            proof.write_text(proof.read_text().replace(module, renamed))
 
 
 class BadEdit(Exception):
@@ -200,7 +226,7 @@ def without_bodies(text, names):
     """The text of a source file, in which a loop without end stands for the body of each function but those of these names."""
     lines, found, at = text.split("\n"), [], 0
     while at < len(lines):
-        begun = re.match(r"( *)(?:pub(?:\([a-z ]+\))? )?fn (\w+)", lines[at])
+        begun = re.match(rf"{HEAD}(\w+)", lines[at])
         end = end_of_body(lines, at, begun[1]) if begun and begun[2] not in names else None
         if end is None:
             found.append(lines[at])
@@ -219,7 +245,8 @@ def end_of_body(lines, at, indent):
         line = lines[number]
         if line == indent + "}":
             return number
-        if line and (not line.startswith(indent) or re.match(rf"{indent}(?:pub(?:\([a-z ]+\))? )?fn ", line)):
+        begun = re.match(HEAD, line)
+        if line and (not line.startswith(indent) or begun and begun[1] == indent):
             return None
     return None
 
@@ -255,6 +282,40 @@ def changes_bodies(crate, edit):
     return True
 
 
+def sources_of(text, name):
+    """The functions of this name in a source file, but for those of a trait, each with its comments and attributes."""
+    lines, owner = text.split("\n"), ""
+    for at, line in enumerate(lines):
+        owner = line if re.match(r"\w", line) else owner
+        begun = re.match(rf"{HEAD}{name}\b", line)
+        end = end_of_body(lines, at, begun[1]) if begun else None
+        if end and (not begun[1] or re.match(r"impl\b(?!.* for )", owner)):
+            while at and lines[at - 1] and not lines[at - 1].endswith(("{", "}", ";")):
+                at -= 1
+            yield "\n".join(lines[at : end + 1])
+
+
+def twins(crate, edit, number):
+    """The twins of the function that the edit changes, as it is and as the edit has it. There are none where it changes more than one body,
+    and of a function of a trait or one that calls itself."""
+    if len(edit.functions) != 1 or not changes_bodies(crate, edit):
+        return ()
+    function, (path, first, _) = edit.functions[0], edit.changes[0]
+    text, name = (crate.folder / path).read_text(), function.rpartition("::")[2]
+    source = edited = next((it for it in sources_of(text, name) if first in it), "")
+    for place, old, new in edit.changes:
+        if place != path or text.count(old) != 1 or old not in edited:
+            return ()
+        edited = edited.replace(old, new)
+    if any(len(re.findall(rf"\b{name}(?:::)?[(<]", it)) != 1 for it in (source, edited)):
+        return ()
+    found = []
+    for it, end in ((source, "twin"), (edited, f"twin_{number}")):
+        own = re.sub(rf"^({HEAD}{name})\b", rf"\1_{end}", it, flags=re.M)
+        found.append(Twin(function, f"{function}_{end}", path, source, own))
+    return tuple(found)
+
+
 def rounds(crate, edits):
     """The edits in as few rounds as have each function once. One that changes more than the bodies of its functions has its own."""
     single, shared = [], []
@@ -284,14 +345,17 @@ def words_of_check(kit, crate):
     return [*words, "--antt-project", f"{kit}/rattle/logic/antt-project.json", "--logic-built", f"{kit}/logic_built", "--links", f"{crate.name}="]
 
 
-def check(words, crate, edits, functions, by_contracts, kept, when):
-    """Checks these functions on a copy of the crate with these edits, and returns what it said. With `by_contracts` the copy keeps only the
-    contracts of the other functions."""
+def check(words, crate, edits, functions, by_contracts, kept, when, beside=()):
+    """Checks these functions on a copy of the crate with these edits, and twins beside them, and returns what it said. With `by_contracts`
+    the copy keeps only the contracts of the other functions."""
+    functions = [*functions, *(twin.name for twin in beside)]
     with tempfile.TemporaryDirectory(prefix="edits-") as room:
         room = Path(room)
         for part in PARTS:
             if (crate.folder / part).is_dir():
                 shutil.copytree(crate.folder / part, room / part)
+        for twin in beside:
+            twin.add_to(room)
         if by_contracts:
             keep_contracts(crate, room, functions)
         for edit in edits:
@@ -307,16 +371,26 @@ def check(words, crate, edits, functions, by_contracts, kept, when):
                 time.sleep(2)
 
 
-def accepted(words, crate, edits, kept, when):
-    """Those functions of the edits that a check accepts as they are, where of all others the contracts alone are kept."""
-    named = {name for edit in edits for name in edit.functions}
-    functions = [name for name in crate.functions() if name in named]
-    if not functions:
-        return set()
-    said = check(words, crate, [], functions, True, kept, when)
-    if not re.search(r"^only=\d+ holes=\d+$", said, re.M):
-        return set()
-    return set(re.findall(rf"^fn {crate.name}::(\S+): (?:no holes|depends on a hole\b)", said, re.M)) & set(functions)
+def first_check(words, crate, edits, with_twins, kept, when):
+    """Tries edits in twins, and the functions of the others as they are, where of every other function the contract alone is kept. Returns
+    the edits that are refused, each with what was said, and the functions that are accepted as they are."""
+    there = crate.functions()
+    paired = {it: twins(crate, it, number) for number, it in enumerate(edits) if with_twins and set(it.functions).issubset(there)}
+    named = {name for it in edits if not paired.get(it) for name in it.functions}
+    functions = [name for name in there if name in named]
+    beside = dict.fromkeys(twin for pair in paired.values() for twin in pair)
+    if not functions and not beside:
+        return {}, set()
+    said = check(words, crate, [], functions, True, kept, when, beside)
+    if not re.search(TRIED, said, re.M):
+        return first_check(words, crate, edits, False, kept, when) if beside else ({}, set())
+    fine = set(re.findall(rf"^fn {crate.name}::(\S+): (?:no holes|depends on a hole\b)", said, re.M))
+    told = {it: refusal(said, crate, pair[1].name) for it, pair in paired.items() if pair and pair[0].name in fine}
+    known = fine.intersection(functions)
+    left = [it for it, pair in paired.items() if pair and it not in told]
+    if left:
+        known |= first_check(words, crate, left, False, kept, when)[1]
+    return {it: why for it, why in told.items() if why}, known
 
 
 def refusal(said, crate, name):
@@ -340,7 +414,7 @@ def verdicts(words, crate, edits, by_contracts, kept, when):
         said = check(words, crate, edits, functions, by_contracts, kept, when)
     except BadEdit as why:
         said = f"error: {why}"
-    was_tried = re.search(r"^logic=not-proved" if is_whole else r"^only=\d+ (proved|holes)=\d+", said, re.M)
+    was_tried = re.search(r"^logic=not-proved" if is_whole else TRIED, said, re.M)
     for edit in edits:
         found = {name: refusal(said, crate, name) for name in edit.functions} if was_tried else {}
         if was_tried and (is_whole or all(found.values())):
@@ -373,9 +447,11 @@ def try_crate(kit, crate, folder, when):
         kept = Path(kept)
         for part in ("contracts", "whole"):
             (kept / part).mkdir()
-        known = accepted(words, crate, edits, kept, when)
-        over_contracts = [it for it in edits if it.functions and known.issuperset(it.functions)]
-        over_all = [it for it in edits if it not in over_contracts]
+        refused, known = first_check(words, crate, edits, True, kept, when)
+        lines += [(True, f"{edit.label}: refused: {why}") for edit, why in refused.items()]
+        left = [it for it in edits if it not in refused]
+        over_contracts = [it for it in left if it.functions and known.issuperset(it.functions)]
+        over_all = [it for it in left if it not in over_contracts]
         for by_contracts, chosen in ((True, over_contracts), (False, over_all)):
             for those in rounds(crate, chosen):
                 found = verdicts(words, crate, those, by_contracts, kept, when)
