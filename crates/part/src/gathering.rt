@@ -206,9 +206,6 @@ pub fn gather<S: Source>(
     ensures there { OnOk result (S.is_there source.new) }
 {
     let mut part = gather_bases(alloc, source)?;
-    if let Err(fault) = add_needed(alloc, source, key, command, &mut part) {
-        drop(part);
-        return Err(fault);
-    }
+    add_needed(alloc, source, key, command, &mut part)?;
     Ok(part)
 }
