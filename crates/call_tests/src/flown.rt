@@ -50,12 +50,18 @@ fn text_of(alloc: Global, adding: &Command, recording: &Command) -> Result<Strin
     }
 }
 
-/// The same, of the texts that are kept of the commands.
+/// The same, of the text that is kept of the second command.
+fn record(alloc: Global, adding: &Command, recording: &str) -> Result<String, Fault> {
+    let recording = read_canonical(alloc, recording)?;
+    let text = text_of(alloc, adding, &recording);
+    drop(recording);
+    text
+}
+
+/// The same, of the texts that are kept of both.
 fn record_flown(alloc: Global, adding: &str, recording: &str) -> Result<String, Fault> {
     let adding = read_canonical(alloc, adding)?;
-    let recording = read_canonical(alloc, recording)?;
-    let text = text_of(alloc, &adding, &recording);
-    drop(recording);
+    let text = record(alloc, &adding, recording);
     drop(adding);
     text
 }

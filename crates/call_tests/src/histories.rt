@@ -61,21 +61,24 @@ fn june(alloc: Global) -> Result<History, Fault> {
     Ok(history)
 }
 
-/// How many duties it has, and how many minutes of flight, of flight duty and of duty in the week before 12 June.
-fn counts_of(alloc: Global, history: &History) -> Result<String, Fault> {
+/// Adds how many duties it has, and how many minutes of flight, of flight duty and of duty in the week before 12 June.
+fn add_counts(alloc: Global, history: &History, text: &mut String) -> Result<(), Fault> {
     let (from, to) = (13_373_280, 13_383_360);
     let flight = history.flight_minutes(from, to);
     let flight_duty = history.fdp_minutes(from, to);
     let duty = history.duty_minutes(from, to);
-    Ok(format!(in alloc; "{} {flight} {flight_duty} {duty}", history.duties().len())?)
+    let duties = history.duties().len();
+    text.push_str(&format!(in alloc; "{duties} {flight} {flight_duty} {duty}")?)?;
+    Ok(())
 }
 
-/// The same, of all its minutes, where each kind has its own list of them.
-fn totals_of(alloc: Global, history: &History) -> Result<String, Fault> {
+/// Adds the same, of all its minutes, where each kind has its own list of them.
+fn add_totals(alloc: Global, history: &History, text: &mut String) -> Result<(), Fault> {
     let flight = history.intervals(Kind::Flight).total();
     let flight_duty = history.intervals(Kind::FlightDuty).total();
     let duty = history.intervals(Kind::Duty).total();
-    Ok(format!(in alloc; "{flight} {flight_duty} {duty}")?)
+    text.push_str(&format!(in alloc; ", {flight} {flight_duty} {duty},")?)?;
+    Ok(())
 }
 
 /// Where the runs of minutes of their flight duty periods begin and end. The last run is that of two periods, from
@@ -87,28 +90,37 @@ const RUNS: [(u64, u64); 4] = [
     (13_381_140, 13_382_550),
 ];
 
-/// How many minutes of flight duty there are before each run, and up to its end.
-fn runs_of(alloc: Global, history: &History) -> Result<String, Fault> {
-    let mut text = String::new(alloc);
+/// Adds how many minutes of flight duty there are before each run, and up to its end.
+fn add_runs(alloc: Global, history: &History, text: &mut String) -> Result<(), Fault> {
     for (from, to) in RUNS {
         let before = history.minutes_before(Kind::FlightDuty, from, from);
         let up_to_end = history.minutes_before(Kind::FlightDuty, to, to);
         text.push_str(&format!(in alloc; " {before}-{up_to_end}")?)?;
     }
+    Ok(())
+}
+
+fn add_all(alloc: Global, history: &History, text: &mut String) -> Result<(), Fault> {
+    add_counts(alloc, history, text)?;
+    add_totals(alloc, history, text)?;
+    add_runs(alloc, history, text)
+}
+
+/// All that is counted of the history of June.
+fn counted(alloc: Global) -> Result<String, Fault> {
+    let history = june(alloc)?;
+    let mut text = String::new(alloc);
+    let done = add_all(alloc, &history, &mut text);
+    drop(history);
+    done?;
     Ok(text)
 }
 
 #[test]
 fn counts_its_minutes_once(rt: HostRuntime) -> Result<(), Fail> {
-    let history = june(rt.alloc())?;
     assert_eq!(rt;
-        counts_of(rt.alloc(), &history)?.as_str(),
-        "5 1590 3600 3630"
-    );
-    assert_eq!(rt; totals_of(rt.alloc(), &history)?.as_str(), "1590 3600 3630");
-    assert_eq!(rt;
-        runs_of(rt.alloc(), &history)?.as_str(),
-        " 0-720 720-1440 1440-2190 2190-3600"
+        counted(rt.alloc())?.as_str(),
+        "5 1590 3600 3630, 1590 3600 3630, 0-720 720-1440 1440-2190 2190-3600"
     );
     Ok(())
 }

@@ -86,27 +86,42 @@ fn name_of(alloc: Global, period: &Outside) -> Result<String, Fault> {
     Ok(format!(in alloc; "{id} {} {}", report.number(), release.number())?)
 }
 
-/// How an outside period is refused, or what its copy, which is equal to it, is named.
+/// What the copy of an outside period is named, which is equal to it.
+fn name_of_copy(alloc: Global, period: &Outside) -> Result<String, Fault> {
+    let copy = period.try_clone(alloc)?;
+    if copy == *period {
+        name_of(alloc, &copy)
+    } else {
+        Err(Fault::Otherwise)
+    }
+}
+
+/// How an outside period is refused, or what its copy is named.
 fn fault_or_name(alloc: Global, id: &str, flown: Flown) -> Result<String, Fault> {
     match outside(alloc, id, flown)? {
         Ok(period) => {
-            let copy = period.try_clone(alloc)?;
-            if copy == period {
-                name_of(alloc, &copy)
-            } else {
-                Err(Fault::Otherwise)
-            }
+            let name = name_of_copy(alloc, &period);
+            drop(period);
+            name
         }
         Err(fault) => Ok(format!(in alloc; "{fault}")?),
     }
 }
 
+/// An outside period with its times in force in a zone.
+fn outside_in_force(alloc: Global, flown: Flown, zone: &Zone) -> Result<DutyInForce, Fault> {
+    match outside(alloc, "X1", flown)? {
+        Ok(period) => Ok(Duty::Outside(period).in_force(alloc, zone)?),
+        Err(_) => Err(Fault::Unmade),
+    }
+}
+
 /// An outside period with its times in force.
 fn flown_outside(alloc: Global, flown: Flown) -> Result<DutyInForce, Fault> {
-    let (Ok(period), Ok(zone)) = (outside(alloc, "X1", flown)?, Zone::read(alloc, "UTC0")) else {
+    let Ok(zone) = Zone::read(alloc, "UTC0") else {
         return Err(Fault::Unmade);
     };
-    Ok(Duty::Outside(period).in_force(alloc, &zone)?)
+    outside_in_force(alloc, flown, &zone)
 }
 
 /// A period of this airline, which reports at midnight of its zone.

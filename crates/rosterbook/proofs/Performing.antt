@@ -85,26 +85,32 @@ module _ {D : Type 0} {g : Ghosts D} (image : Image) (left left' : Option (Files
       rw same_left (finished contents (λ err' status. PerformsByFiles image left action status held out out' err err') done code mid new ends failed it other)
 
   -- a refusal to take up a book is what the program ends with
-  pub refused_finished : (refused refused' : Option (FilesLeft D g)) (done : Result Status Stop) (code : ℕ) (told : Bool) (out out' err mid err' : ChannelBytes) → refused' ≡ refused →
-      IsRefusedAs left image refused done → (left ≡ None → (out' ≡ out) × (mid ≡ err)) → (IsErr done → code ≡ exit_status Failed) →
-      IfErr done (λ stop. told ≡ true → Appends mid err' (refused_line (stop_text stop))) → IfSome refused' (IsRefusedByFiles image left' code told out out' err err')
-  refused_finished None refused' done code told out out' err mid err' same why silent failed line = rw same tt
-  refused_finished (Some it) refused' done code told out out' err mid err' same why silent failed line =
-      let still = silent why.1 in
+  pub refused_finished : {O E : Type 0} (on_out : O → ChannelBytes) (on_err : E → ChannelBytes) (refused refused' : Option (FilesLeft D g)) (done : Result Status Stop) (code : ℕ) (told : Bool)
+      (out out' : O) (err mid : E) (err' : ChannelBytes) → refused' ≡ refused → IsRefusedAs left image refused done → IfSome refused (λ _. (out' ≡ out) × (mid ≡ err)) →
+      (IsErr done → code ≡ exit_status Failed) → IfErr done (λ stop. told ≡ true → Appends (on_err mid) err' (refused_line (stop_text stop))) →
+      IfSome refused' (IsRefusedByFiles image left' code told (on_out out) (on_out out') (on_err err) err')
+  refused_finished on_out on_err None refused' done code told out out' err mid err' same why silent failed line = rw same tt
+  refused_finished on_out on_err (Some it) refused' done code told out out' err mid err' same why silent failed line =
       let stopped = rw why.2 at line in
       rw same (record {
         fault = why.0;
         ends = failed (rw why.2 refl);
         untaken = same_left ∙ why.1;
-        silent = still.0;
-        complains = λ is. rw still.1 at (stopped is);
+        silent = ap on_out silent.0;
+        complains = λ is. rw silent.1 at (stopped is);
         cause = why.3;
       })
 
+module _ {D : Type 0} {g : Ghosts D} (image : Image) (left : Option (FilesLeft D g)) where
+  -- where files were opened and no book was taken up, what holds where none is left
+  pub silent_as : (refused : Option (FilesLeft D g)) (done : Result Status Stop) (Silent : Type 0) → IsRefusedAs left image refused done → (left ≡ None → Silent) → IfSome refused (λ _. Silent)
+  silent_as None done Silent why silent = tt
+  silent_as (Some it) done Silent why silent = silent why.1
+
   -- a book that served has a session
   pub had_session : (done : Result Status Stop) (port count : ℕ) (out out' err err' : ChannelBytes) →
-      IfOk done (IsServedByFiles left image port count out out' err err') → IfErr done (IsServeStoppedByFiles left image port count out out' err err') → HaveSession left' image
-  had_session done port count out out' err err' served stopped = rw same_left (go left done served stopped) where
+      IfOk done (IsServedByFiles left image port count out out' err err') → IfErr done (IsServeStoppedByFiles left image port count out out' err err') → HaveSession left image
+  had_session done port count out out' err err' served stopped = go left done served stopped where
     go : (l : Option (FilesLeft D g)) (done : Result Status Stop) →
         IfOk done (IsServedByFiles l image port count out out' err err') → IfErr done (IsServeStoppedByFiles l image port count out out' err err') → HaveSession l image
     go None done served stopped = tt

@@ -84,6 +84,31 @@ pub fn perform_from<S: Start, R: Read, O: Write, E: Write>(
         result.left result.status result.told (O.contents out.old) (O.contents out.new)
         (E.contents err.old) (E.contents err.new)) }
 {
+    finish(answer_action(rt, action, start, reader, out, err), err)
+}
+
+/// Answers an action, by a book over files that held what `start` stands for, if it is about one.
+fn answer_action<S: Start, R: Read, O: Write, E: Write>(
+    rt: &HostRuntime,
+    action: &Action,
+    start: S,
+    reader: &mut R,
+    out: &mut O,
+    err: &mut E,
+) -> Ended<FileFrom<S>>
+    ensures done { IfOk result.done (λ status. status ≢ Status.Failed
+        → by_files.PerformsByFiles (image_at S.Start) result.left action.now status
+        (R.remaining reader.old) (O.contents out.old) (O.contents out.new)
+        (E.contents err.old) (E.contents err.new)) }
+    ensures unread { result.left ≡ None → reader.new ≡ reader.old }
+    ensures left { by_files.LeavesFiles (image_at S.Start) result.left action.now
+        (R.remaining reader.old) }
+    ensures session { by_files.IsSessionOf (image_at S.Start) result.left action.now }
+    ensures refused { by_files.IsRefusedAs result.left (image_at S.Start) result.refused
+        result.done }
+    ensures silent { IfSome result.refused
+        (λ _. (out.new ≡ out.old) × (err.new ≡ err.old)) }
+{
     match action {
         Action::Duty {
             zone,
@@ -91,46 +116,32 @@ pub fn perform_from<S: Start, R: Read, O: Write, E: Write>(
             times,
         } => {
             let done = done_of(answer_duty(rt.alloc(), zone, report, times, out, err));
-            finish(Ended::without_files(done), err)
+            Ended::without_files(done)
         }
-        Action::Init { file, zone } => { finish(answer_init(rt, file, start, zone, out, err), err) }
+        Action::Init { file, zone } => answer_init(rt, file, start, zone, out, err),
         Action::Do {
             file,
             dry_run,
             lines,
-        } => finish(
-            answer_do(rt, file, start, *dry_run, *lines, reader, out),
-            err,
-        ),
-        Action::Import { file, number } => finish(
-            answer_import(rt, file, start, *number, reader, out, err),
-            err,
-        ),
-        Action::Roster { file, crew } => {
-            finish(answer_roster(rt, file, start, crew, out, err), err)
+        } => answer_do(rt, file, start, *dry_run, *lines, reader, out),
+        Action::Import { file, number } => {
+            answer_import(rt, file, start, *number, reader, out, err)
         }
-        Action::Limits { file, crew, with } => finish(
-            answer_limits(rt, file, start, crew, with.as_deref(), out, err),
-            err,
-        ),
-        Action::Pairing { file, pairing } => {
-            finish(answer_pairing(rt, file, start, pairing, out, err), err)
+        Action::Roster { file, crew } => answer_roster(rt, file, start, crew, out, err),
+        Action::Limits { file, crew, with } => {
+            answer_limits(rt, file, start, crew, with.as_deref(), out, err)
         }
-        Action::Exceedances { file } => {
-            finish(answer_exceedances(rt, file, start, out, err), err)
-        }
-        Action::Members { file } => finish(answer_members(rt, file, start, out, err), err),
+        Action::Pairing { file, pairing } => answer_pairing(rt, file, start, pairing, out, err),
+        Action::Exceedances { file } => answer_exceedances(rt, file, start, out, err),
+        Action::Members { file } => answer_members(rt, file, start, out, err),
         Action::Pairings { file, only_open } => {
-            finish(answer_pairings(rt, file, start, *only_open, out, err), err)
+            answer_pairings(rt, file, start, *only_open, out, err)
         }
         Action::Serve {
             file,
             port,
             connections,
-        } => finish(
-            answer_serve(rt, file, start, *port, *connections, out, err),
-            err,
-        ),
+        } => answer_serve(rt, file, start, *port, *connections, out, err),
     }
 }
 

@@ -59,13 +59,21 @@ fn duty_of(alloc: Global, entry: &Entry) -> Result<Option<Duty>, Fail> {
     }
 }
 
+/// Adds a copy of the duty of an entry, where it is one.
+fn add_duty(alloc: Global, history: &mut History, entry: &Entry, zone: &Zone) -> Result<(), Fail> {
+    if let Some(duty) = duty_of(alloc, entry)? {
+        let copy = duty.try_clone(alloc);
+        drop(duty);
+        history.insert(alloc, copy?, zone)?;
+    }
+    Ok(())
+}
+
 /// The history of copies of the duties that are among entries.
 pub fn history(alloc: Global, entries: &[Entry], zone: &Zone) -> Result<History, Fail> {
     let mut history = History::empty(alloc);
     for entry in entries {
-        if let Some(duty) = duty_of(alloc, entry)? {
-            history.insert(alloc, duty.try_clone(alloc)?, zone)?;
-        }
+        add_duty(alloc, &mut history, entry, zone)?;
     }
     Ok(history)
 }

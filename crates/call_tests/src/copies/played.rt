@@ -113,7 +113,10 @@ fn verdict_on(
     command: &Command,
 ) -> Result<Verdict, Fail> {
     let verdict = roster.step(alloc, key, command)?;
-    make(alloc, roster, &verdict)?;
+    if let Err(fault) = make(alloc, roster, &verdict) {
+        drop(verdict);
+        return Err(fault);
+    }
     Ok(verdict)
 }
 
