@@ -9,11 +9,12 @@ and `new: TEXT`, where the old text stands in the file exactly once. With no `in
 
 A function is proved over the contracts of those that it calls, so edits are tried on a copy of the crate that keeps only the contract of
 every function that isn't checked: a loop without end stands for its body, unless it has the name of one that is checked, and a hole for its
-proof. The first check of a crate tries each edit that changes the body of one function in a *twin*: the function once more, under another
-name, with its proofs. A twin without the edit must be accepted there, so that it is the edit alone that is refused. A function of a trait,
-or one that calls itself, has no twin: the first check must accept it as it is, and its edits are tried after that, those of different
-functions by one check. So are those of which the twins can't be tried, or the one without the edit isn't accepted. Where a function isn't
-accepted as it is, or an edit isn't refused on such a copy, the edit is tried over the whole crate, as is one with no `in:`.
+proof. The first check of a crate, or the first ones if it has many edits, tries each edit that changes the body of one function in a
+*twin*: the function once more, under another name, with its proofs. A twin without the edit must be accepted there, so that it is the edit
+alone that is refused. A function of a trait, or one that calls itself, has no twin: the first check must accept it as it is, and its edits
+are tried after that, those of different functions by one check. So are those of which the twins can't be tried, or the one without the edit
+isn't accepted. Where a function isn't accepted as it is, or an edit isn't refused on such a copy, the edit is tried over the whole crate,
+as is one with no `in:`.
 
 `rt lib` first builds each library that is missing or older than its sources; with --built those that are there are taken as they are, as
 `rt ci` left them: what it has from an earlier run on a machine is older than a fresh clone. With --beside the edits of a crate are tried
@@ -21,8 +22,9 @@ while `rt ci` proves the crates above it in the copy of the repository that --li
 last the line `rt ci has ended`: the libraries that it names as proved are there. Until it ends, few edits are tried at once, with the
 least share of the processors, and only while memory is left; one that is killed for memory is tried again at the end.
 
-After the lines of a crate comes one with the seconds that its checks took. The last line is 'N passed, M failed', and the exit status 1
-where M isn't 0.
+After the lines of a crate comes one with the seconds that its checks took. Without --more it then looks at the edits of all crates in both
+folders, whether their texts and, where the library is there, their functions are still there: one more is passed for each crate whose edits
+can be tried. The last line is 'N passed, M failed', and the exit status 1 where M isn't 0.
 """
 
 import argparse
@@ -44,6 +46,7 @@ TOP = Path(__file__).resolve().parent.parent
 PARTS = ("src", "specs", "proofs")
 LIGHTLY = ("nice", "-n", "19", "sh", "-c", 'echo 1000 >/proc/self/oom_score_adj; exec "$@"', "sh")  # the first to be killed for memory
 ROOM = 6_000_000  # how many kB have to be free for a check beside `rt ci`
+AT_ONCE = 12  # how many edits one check tries in twins, so that there is memory for it
 ENDED = "rt ci has ended\n"  # the last line of what it says
 HEAD = r"( *)(?:pub(?:\([a-z ]+\))? )?fn "  # how a function begins
 TRIED = r"^only=\d+ (?:proved|holes)=\d+"  # what a check says of the functions that it was to try
@@ -126,6 +129,9 @@ class Alone:
     def wait_for(self, crate):
         pass
 
+    def wait_for_all(self):
+        pass
+
     @contextlib.contextmanager
     def turn(self, crate):
         yield ()
@@ -148,6 +154,10 @@ class Beside:
     def wait_for(self, crate):
         """Returns once the library of the crate is there, if it will be."""
         while not self.has_ended() and not self.is_proved(crate):
+            time.sleep(2)
+
+    def wait_for_all(self):
+        while not self.has_ended():
             time.sleep(2)
 
     @contextlib.contextmanager
@@ -447,7 +457,10 @@ def try_crate(kit, crate, folder, when):
         kept = Path(kept)
         for part in ("contracts", "whole"):
             (kept / part).mkdir()
-        refused, known = first_check(words, crate, edits, True, kept, when)
+        refused, known = {}, set()
+        for at in range(0, len(edits), AT_ONCE):
+            told, accepted = first_check(words, crate, edits[at : at + AT_ONCE], True, kept, when)
+            refused, known = refused | told, known | accepted
         lines += [(True, f"{edit.label}: refused: {why}") for edit, why in refused.items()]
         left = [it for it in edits if it not in refused]
         over_contracts = [it for it in left if it.functions and known.issuperset(it.functions)]
@@ -458,6 +471,21 @@ def try_crate(kit, crate, folder, when):
                 lines += [(is_refused, f"{edit.label}: {text}") for edit, is_refused, text in found]
     whole = f", {len(over_all)} of them over the whole crate" if over_all else ""
     return lines, f"{crate.name}: {len(lines)} edits in {time.monotonic() - begun:.0f} seconds{whole}"
+
+
+def misfits(crate):
+    """What is wrong with edits of the crate, in either folder, that can be told without a check: their text or their function isn't there."""
+    there = crate.functions() if crate.library.exists() else None
+    for file in sorted(crate.folder.glob("must-fail*/*.edit")):
+        try:
+            edit = read_edit(file)
+            for path, old, _ in edit.changes:
+                if (count := (crate.folder / path).read_text().count(old)) != 1:
+                    raise BadEdit(f"an old text is in {path} {count} times, and not once")
+            if gone := [name for name in edit.functions if there is not None and name not in there]:
+                raise BadEdit(f"there is no function {', '.join(gone)}")
+        except BadEdit as why:
+            yield f"{crate.name}/{file.stem}: BAD EDIT: {why}"
 
 
 def main():
@@ -493,6 +521,12 @@ def main():
                 print(line, flush=True)
                 refused, failed = refused + is_refused, failed + (not is_refused)
             print(how_long, flush=True)
+    if not asked.more and not asked.crates:
+        when.wait_for_all()
+        for crate in known.values():
+            told = [*misfits(crate)]
+            print(*told, sep="\n", end="\n" * bool(told))
+            refused, failed = refused + (not told), failed + len(told)
     print(f"{refused} passed, {failed} failed")
     return 1 if failed else 0
 
