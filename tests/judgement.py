@@ -189,17 +189,28 @@ def days(found):
     return [found[first : first + DAY] for first in range(0, len(found), DAY)]
 
 
+def meeting(new, width):
+    """For each window of this width 1 where it has a new minute, else 0: from the one that ends where these minutes begin to the one that
+    begins where they end."""
+    found = bytearray(len(new) + width + 1)
+    first = new.find(1)
+    while first >= 0:
+        last = new.find(0, first)
+        last = len(new) if last < 0 else last
+        found[first + 1 : last + width] = b"\1" * (last + width - first - 1)
+        first = new.find(1, last)
+    return found
+
+
 def fullest(held, new, width):
     """The most that a window of this width, of minutes or of days, holds of those that meet a new minute, and where the first one that
     holds as much begins. Of each minute or day it gets how many minutes it holds, and with 1 or 0 whether it has a new one; some has."""
     first, end = max(new.find(1) - width, 0), new.rfind(1) + 1 + width  # of all windows that meet a new minute
-    sums = []
-    for found in (held[first:end], new[first:end]):
-        before = list(accumulate(chain(repeat(0, width), found, repeat(0, width)), initial=0))
-        sums.append(list(map(sub, before[width:], before)))
-    most, place = max(compress(*sums)), -1
-    while place < 0 or not sums[1][place]:
-        place = sums[0].index(most, place + 1)
+    before = list(accumulate(chain(repeat(0, width), held[first:end], repeat(0, width)), initial=0))
+    sums, meets = list(map(sub, before[width:], before)), meeting(new[first:end], width)
+    most, place = max(compress(sums, meets)), -1
+    while place < 0 or not meets[place]:
+        place = sums.index(most, place + 1)
     return most, first - width + place
 
 
