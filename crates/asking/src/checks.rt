@@ -24,7 +24,6 @@ pub fn check_request<S: Alter>(
     match command_of_json(alloc, body) {
         Ok((number, command)) => {
             let answer = book.check(alloc, Key::new(number, 0), &command);
-            // (by a call, as in `ask_request`)
             drop(command);
             report_answer(alloc, answer)
         }

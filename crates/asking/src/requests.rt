@@ -1,5 +1,5 @@
 //! Requests: the command of a body, asked of a book. The definition is `IsRequestAsked` (`specs/Requests.antt`).
-//! Requests of `do`: `tests/answers.py`; of the server: `tests/exchanges.py`. Wrong bodies: `must-fail/`.
+//! Requests of `do`: `tests/answers.py`; of the server: `tests/exchanges.py`. Wrong bodies: `must-fail/` and `must-fail-more/`.
 ghost use Rattle.book.specs.Calls.{IsAfterCalls};
 ghost use Rattle.asking.specs.Requests as spec;
 
@@ -25,7 +25,6 @@ pub fn ask_request<S: Alter>(
             // It has no fault, as the commands of a call have none.
             let _made = command.instruction();
             let answer = book.ask(alloc, Key::new(number, 0), &command);
-            // (by a call: written out, a command's drop takes the prover long)
             drop(command);
             report_answer(alloc, answer)
         }

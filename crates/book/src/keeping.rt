@@ -2,7 +2,7 @@
 //! commits what is accepted. A command that is only checked is judged in the same way, and not committed.
 //! What contracts see of it is `specs/Kept.antt`. What an answer and a run come to are the records of
 //! `specs/Answered.antt` and `specs/Ran.antt`, in the words of `specs/Headline.antt`.
-//! Worked rows: `tests/answers.py`; the rows that are left: `tests/tables.py`. Wrong bodies: `must-fail/`.
+//! Worked rows: `tests/answers.py`; the rows that are left: `tests/tables.py`. Wrong bodies: `must-fail/` and `must-fail-more/`.
 ghost use Rattle.std.specs.Prelude.{ℕ, Result, ◌≡◌, ◌⊎◌, ◌||◌, ◌↔◌, false, Err, IfErr, IfOk, IsErrAnd, IsTrue, List, None, OnOk, Some};
 ghost use Rattle.sqlite.specs.Held.{state};
 ghost use Rattle.sqlite.specs.State.{HasCleanDisk};
@@ -261,7 +261,6 @@ impl<S: Alter> Book<S> {
             return Err(StoreFault::Memory);
         };
         let answer = self.ask(alloc, key, &command);
-        // (by a call: written out in each place, a command's drop takes the prover minutes)
         drop(command);
         answer
     }
@@ -330,7 +329,6 @@ fn answered_by(verdict: Result<Verdict, StoreFault>) -> Result<Answer, StoreFaul
     match verdict? {
         Verdict::Repeat(kept) => Ok(Answer::Accepted(kept)),
         Verdict::Accept(change, given) => {
-            // (by a call, as in `decide_by`)
             drop(change);
             Ok(Answer::Accepted(given))
         }
@@ -385,7 +383,6 @@ fn decide_by<S: Alter>(
         Verdict::Refuse(refusal) => Ok(Answer::Refused(refusal)),
         Verdict::Accept(change, reply) => {
             let kept = store.commit(alloc, &change);
-            // (by a call: written out in each place, a change's drop takes the prover a minute)
             drop(change);
             match kept {
                 Ok(()) => Ok(Answer::Accepted(reply)),

@@ -47,8 +47,6 @@ pub fn command_of(alloc: Global, text: &str) -> Result<Option<Command>, MemoryFa
     if kept.as_str() == text {
         Ok(Some(command))
     } else {
-        // (by a call: written out in each place, a command's drop takes the prover minutes)
-        drop(command);
         Ok(None)
     }
 }

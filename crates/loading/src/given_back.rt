@@ -1,5 +1,4 @@
-//! The roster to which the records of a table were added, given back.
-//! Each table's function gives it back here, since here it is dropped on one path: the prover takes seconds for each.
+//! The roster to which the records of a table were added, given back: so each table's function ends. Wrong bodies: `must-fail-more/`.
 
 ghost use Rattle.std.specs.Prelude.{◌≡◌, Err, IfErr, Ok, OnOk};
 

@@ -1,4 +1,5 @@
 //! The state of the book as a value. What is asked of it, and what it becomes, stand in `step.rt` and `apply.rt`.
+//! Wrong bodies: `must-fail-more/`.
 ghost use Rattle.std.specs.Prelude.{◌≡◌, ◌-◌, Ok, IfOk, slice_get};
 ghost use Rattle.std.specs.Option.{option_copied};
 ghost use Rattle.roster.specs.State.{empty, zone_of};
@@ -60,7 +61,6 @@ pub enum DutyId {
 /// The state of the book, as a value: the bases with their zones, and a table for each other thing that it knows. What
 /// `step` accepts and `apply` makes of an empty one is a sound roster; its parts are open to whoever reads one from a
 /// file.
-#[derive(Drop)]
 pub struct Roster {
     pub bases: Bases,
     pub crew: OrdMap<CrewId, Member>,
@@ -69,6 +69,21 @@ pub struct Roster {
     pub outsides: OrdMap<OutsideId, OutsideEntry>,
     pub exceedances: OrdMap<ExceedanceId, DutyId>,
     pub requests: OrdMap<Key, LoggedCommand>,
+}
+
+// (by hand, as that of an instruction is)
+impl Drop for Roster {
+    fn drop(self) {
+        let Roster {
+            bases: _,
+            crew: _,
+            pairings: _,
+            grounds: _,
+            outsides: _,
+            exceedances: _,
+            requests: _,
+        } = self;
+    }
 }
 
 impl Roster {
