@@ -1,6 +1,6 @@
 //! The verdict on a command by a source of which no more is read than that takes. Its definition is `step_of`
 //! (`roster/specs/Steps.antt`); what is settled by names is `is_settled` (`specs/Part.antt`).
-//! Through the program: `tests/answers.py`. Wrong bodies: `must-fail/`.
+//! Through the program: `tests/answers.py`. Wrong bodies: `must-fail-more/`.
 
 ghost use Rattle.std.specs.Prelude.{◌≡◌, IfErr, IfOk, IfSome, IsTrue, OnOk, Some};
 ghost use Rattle.command.specs.Keys.{KeyParts};
@@ -11,28 +11,18 @@ ghost use Rattle.roster.specs.Steps.{answered, step_of};
 
 use crate::gathering::{add_histories, add_named, gather_bases};
 use crate::source::Source;
-use command::{Command, Instruction, Key, Refusal, Reply};
+use command::{Command, Instruction, Key, Refusal};
 use roster::{LoggedCommand, Roster, Verdict};
 use std::alloc::Global;
 use values::MemoryFault;
-
-/// Takes the reply of a kept command.
-fn reply_of(kept: LoggedCommand) -> Reply
-    ensures { result ≡ kept.reply }
-{
-    let LoggedCommand { command, reply } = kept;
-    drop(command);
-    reply
-}
 
 /// Answers a command by what its key holds.
 fn answer_from_log(kept: LoggedCommand, command: &Command) -> Verdict
     ensures { (s : State) (key : KeyParts) → result ≡ answered s key command.now (Some kept) }
 {
     if kept.command == *command {
-        Verdict::Repeat(reply_of(kept))
+        Verdict::Repeat(kept.reply)
     } else {
-        drop(kept);
         Verdict::Refuse(Refusal::NumberUsed)
     }
 }
@@ -82,7 +72,6 @@ fn settle(
     if is_settled(command.instruction(), &verdict) {
         return Ok(Some(verdict));
     }
-    drop(verdict);
     Ok(None)
 }
 
@@ -107,28 +96,10 @@ pub fn judge<S: Source>(
     }
     let instruction = command.instruction();
     let mut part = gather_bases(alloc, source)?;
-    if let Err(fault) = add_named(alloc, source, instruction, &mut part) {
-        drop(part);
-        return Err(fault);
+    add_named(alloc, source, instruction, &mut part)?;
+    if let Some(verdict) = settle(alloc, &part, key, command)? {
+        return Ok(verdict);
     }
-    let settled = settle(alloc, &part, key, command);
-    match settled {
-        Ok(None) => {
-            if let Err(fault) = add_histories(alloc, source, instruction, &mut part) {
-                drop(part);
-                return Err(fault);
-            }
-            let verdict = part.step(alloc, key, command);
-            drop(part);
-            Ok(verdict?)
-        }
-        Ok(Some(verdict)) => {
-            drop(part);
-            Ok(verdict)
-        }
-        Err(fault) => {
-            drop(part);
-            Err(S::Fault::from(fault))
-        }
-    }
+    add_histories(alloc, source, instruction, &mut part)?;
+    Ok(part.step(alloc, key, command)?)
 }

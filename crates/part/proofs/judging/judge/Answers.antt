@@ -20,8 +20,8 @@ returns-in-Some-clause-told g c = (
 )
 
 -- what is named doesn't settle the verdict
-pub returns-in_ok-verdict-in-Ok-None-clause-told : goal.returns-in_ok-verdict-in-Ok-None-clause-told
-returns-in_ok-verdict-in-Ok-None-clause-told g c = (
+pub returns-clause-told : goal.returns-clause-told
+returns-clause-told g c = (
   λ clean. c.request.ensures.told.0 (c.gather_bases.ensures.told.0 (c.add_named.ensures.told.0 (c.add_histories.ensures.told.0 clean))),
   λ clean s shows.
       let third = c.add_histories.ensures.told.0 clean in
@@ -29,27 +29,27 @@ returns-in_ok-verdict-in-Ok-None-clause-told g c = (
       let first = c.gather_bases.ensures.told.0 second in
       let held = c.in_ok-kept.ensures.told.1 first s shows in
       let bases = c.in_ok-part.ensures.told.1 second s held.0 in
-      let named = rw c.in_default-add_named.is at (c.add_named.ensures.told.1 third s bases.0) in
-      let whole = rw c.in_default-add_histories.is at (c.add_histories.ensures.told.1 clean s named.0) in
+      let named = c.in_ok-add_named.ensures.told.1 third s bases.0 in
+      let whole = c.in_ok-add_histories.ensures.told.1 clean s named.0 in
       let key = c.args.key in
       let command = c.args.command.now in
       let part = whole.1 key (named.1 key (bare_part s key _ (sym held.1 ∙ c.in_default.is) bases.1)) in
-      (whole.0, c.in_ok-verdict-in-Ok-None.ensures.verdict ∙ ap (λ (x : State). step_of x key command) (part ∙ ap (Part s key) c.instruction-instruction.ensures.instruction) ∙ answers_as_whole s key command),
+      (whole.0, c.in_ok-step.ensures.verdict ∙ ap (λ (x : State). step_of x key command) (part ∙ ap (Part s key) c.instruction-instruction.ensures.instruction) ∙ answers_as_whole s key command),
 )
 
 -- what is named settles it
-pub returns-in-Ok-Some-clause-told : goal.returns-in-Ok-Some-clause-told
-returns-in-Ok-Some-clause-told g c = (
+pub returns-in-Some-2-clause-told : goal.returns-in-Some-2-clause-told
+returns-in-Some-2-clause-told g c = (
   λ clean. c.request.ensures.told.0 (c.gather_bases.ensures.told.0 (c.add_named.ensures.told.0 clean)),
   λ clean s shows.
       let second = c.add_named.ensures.told.0 clean in
       let first = c.gather_bases.ensures.told.0 second in
       let held = c.in_ok-kept.ensures.told.1 first s shows in
       let bases = c.in_ok-part.ensures.told.1 second s held.0 in
-      let it = rw c.in_default-add_named.is at (c.add_named.ensures.told.1 clean s bases.0) in
+      let it = c.in_ok-add_named.ensures.told.1 clean s bases.0 in
       let key = c.args.key in
       let command = c.args.command.now in
-      let settled = rw c.in-Ok-Some.field-0-is at c.in-Ok-Some.ensures in
+      let settled = rw c.in-Some-2.is at c.in_ok-verdict.ensures in
       let named = it.1 key (bare_part s key _ (sym held.1 ∙ c.in_default.is) bases.1) ∙ ap (NamedPart s key) c.instruction-instruction.ensures.instruction in
       let by_names = settled.0 ∙ ap (λ (x : State). step_of x key command) named in
       (it.0, by_names ∙ names_settle s key command (subst (λ (verdict : Verdict). IsTrue (is_settled command verdict)) by_names settled.1)),
@@ -63,40 +63,42 @@ returns-in_err-part-clause-caused g c =
     let p = err_from_is_err_and c.from_residual-in_err-part.result c.from_residual-in_err-part.ensures.1 in
     rw (p.1, p.2) (caused_then g.S.Source.fails g.S.Fault.From.from_gives g.S.Source.stays g.S.Source.fails_then _ _ _ _ c.request.ensures.left c.gather_bases.ensures.left c.in_err-part.ensures.caused)
 
-pub returns-in-Err-clause-left : goal.returns-in-Err-clause-left
-returns-in-Err-clause-left g c = g.S.Source.and_then _ _ _ c.request.ensures.left (g.S.Source.and_then _ _ _ c.gather_bases.ensures.left c.add_named.ensures.left)
+pub returns-in_err-add_named-clause-left : goal.returns-in_err-add_named-clause-left
+returns-in_err-add_named-clause-left g c = g.S.Source.and_then _ _ _ c.request.ensures.left (g.S.Source.and_then _ _ _ c.gather_bases.ensures.left c.add_named.ensures.left)
 
-pub returns-in-Err-settled-clause-left : goal.returns-in-Err-settled-clause-left
-returns-in-Err-settled-clause-left g c = g.S.Source.and_then _ _ _ c.request.ensures.left (g.S.Source.and_then _ _ _ c.gather_bases.ensures.left c.add_named.ensures.left)
+pub returns-in_err-verdict-clause-left : goal.returns-in_err-verdict-clause-left
+returns-in_err-verdict-clause-left g c = g.S.Source.and_then _ _ _ c.request.ensures.left (g.S.Source.and_then _ _ _ c.gather_bases.ensures.left c.add_named.ensures.left)
 
-pub returns-in-Ok-Some-clause-left : goal.returns-in-Ok-Some-clause-left
-returns-in-Ok-Some-clause-left g c = g.S.Source.and_then _ _ _ c.request.ensures.left (g.S.Source.and_then _ _ _ c.gather_bases.ensures.left c.add_named.ensures.left)
+pub returns-in-Some-2-clause-left : goal.returns-in-Some-2-clause-left
+returns-in-Some-2-clause-left g c = g.S.Source.and_then _ _ _ c.request.ensures.left (g.S.Source.and_then _ _ _ c.gather_bases.ensures.left c.add_named.ensures.left)
 
-pub returns-in-Err-add_histories-clause-left : goal.returns-in-Err-add_histories-clause-left
-returns-in-Err-add_histories-clause-left g c = g.S.Source.and_then _ _ _ c.request.ensures.left (g.S.Source.and_then _ _ _ c.gather_bases.ensures.left (g.S.Source.and_then _ _ _ c.add_named.ensures.left c.add_histories.ensures.left))
+pub returns-in_err-add_histories-clause-left : goal.returns-in_err-add_histories-clause-left
+returns-in_err-add_histories-clause-left g c = g.S.Source.and_then _ _ _ c.request.ensures.left (g.S.Source.and_then _ _ _ c.gather_bases.ensures.left (g.S.Source.and_then _ _ _ c.add_named.ensures.left c.add_histories.ensures.left))
 
-pub returns-in_err-verdict-in-Ok-None-clause-left : goal.returns-in_err-verdict-in-Ok-None-clause-left
-returns-in_err-verdict-in-Ok-None-clause-left g c = g.S.Source.and_then _ _ _ c.request.ensures.left (g.S.Source.and_then _ _ _ c.gather_bases.ensures.left (g.S.Source.and_then _ _ _ c.add_named.ensures.left c.add_histories.ensures.left))
+pub returns-in_err-step-clause-left : goal.returns-in_err-step-clause-left
+returns-in_err-step-clause-left g c = g.S.Source.and_then _ _ _ c.request.ensures.left (g.S.Source.and_then _ _ _ c.gather_bases.ensures.left (g.S.Source.and_then _ _ _ c.add_named.ensures.left c.add_histories.ensures.left))
 
-pub returns-in_ok-verdict-in-Ok-None-clause-left : goal.returns-in_ok-verdict-in-Ok-None-clause-left
-returns-in_ok-verdict-in-Ok-None-clause-left g c = g.S.Source.and_then _ _ _ c.request.ensures.left (g.S.Source.and_then _ _ _ c.gather_bases.ensures.left (g.S.Source.and_then _ _ _ c.add_named.ensures.left c.add_histories.ensures.left))
+pub returns-clause-left : goal.returns-clause-left
+returns-clause-left g c = g.S.Source.and_then _ _ _ c.request.ensures.left (g.S.Source.and_then _ _ _ c.gather_bases.ensures.left (g.S.Source.and_then _ _ _ c.add_named.ensures.left c.add_histories.ensures.left))
 
-pub returns-in-Ok-Some-clause-serves : goal.returns-in-Ok-Some-clause-serves
-returns-in-Ok-Some-clause-serves g c = g.S.Source.serves_then _ _ _ c.in_ok-kept.ensures.serves (g.S.Source.serves_then _ _ _ c.in_ok-part.ensures.serves (rw c.in_default-add_named.is at c.add_named.ensures.serves))
+pub returns-in-Some-2-clause-serves : goal.returns-in-Some-2-clause-serves
+returns-in-Some-2-clause-serves g c = g.S.Source.serves_then _ _ _ c.in_ok-kept.ensures.serves (g.S.Source.serves_then _ _ _ c.in_ok-part.ensures.serves c.in_ok-add_named.ensures.serves)
 
-pub returns-in-Ok-Some-clause-there : goal.returns-in-Ok-Some-clause-there
-returns-in-Ok-Some-clause-there g c = g.S.Source.still_there _ _ (rw c.in_default-add_named.is at c.add_named.ensures.serves) c.in_ok-part.ensures.there
+pub returns-in-Some-2-clause-there : goal.returns-in-Some-2-clause-there
+returns-in-Some-2-clause-there g c = g.S.Source.still_there _ _ c.in_ok-add_named.ensures.serves c.in_ok-part.ensures.there
 
-pub returns-in_ok-verdict-in-Ok-None-clause-serves : goal.returns-in_ok-verdict-in-Ok-None-clause-serves
-returns-in_ok-verdict-in-Ok-None-clause-serves g c = g.S.Source.serves_then _ _ _ c.in_ok-kept.ensures.serves (g.S.Source.serves_then _ _ _ c.in_ok-part.ensures.serves (g.S.Source.serves_then _ _ _ (rw c.in_default-add_named.is at c.add_named.ensures.serves) (rw c.in_default-add_histories.is at c.add_histories.ensures.serves)))
+pub returns-clause-serves : goal.returns-clause-serves
+returns-clause-serves g c = g.S.Source.serves_then _ _ _ c.in_ok-kept.ensures.serves (g.S.Source.serves_then _ _ _ c.in_ok-part.ensures.serves (g.S.Source.serves_then _ _ _ c.in_ok-add_named.ensures.serves c.in_ok-add_histories.ensures.serves))
 
-pub returns-in_ok-verdict-in-Ok-None-clause-there : goal.returns-in_ok-verdict-in-Ok-None-clause-there
-returns-in_ok-verdict-in-Ok-None-clause-there g c = g.S.Source.still_there _ _ (g.S.Source.serves_then _ _ _ (rw c.in_default-add_named.is at c.add_named.ensures.serves) (rw c.in_default-add_histories.is at c.add_histories.ensures.serves)) c.in_ok-part.ensures.there
+pub returns-clause-there : goal.returns-clause-there
+returns-clause-there g c = g.S.Source.still_there _ _ (g.S.Source.serves_then _ _ _ c.in_ok-add_named.ensures.serves c.in_ok-add_histories.ensures.serves) c.in_ok-part.ensures.there
 
-pub returns-in-Err-clause-caused : goal.returns-in-Err-clause-caused
-returns-in-Err-clause-caused g c =
-    caused_then g.S.Source.fails g.S.Fault.From.from_gives g.S.Source.stays g.S.Source.fails_then _ _ _ _ (g.S.Source.and_then _ _ _ c.request.ensures.left c.gather_bases.ensures.left) c.add_named.ensures.left (rw c.in-Err.is at c.add_named.ensures.caused)
+pub returns-in_err-add_named-clause-caused : goal.returns-in_err-add_named-clause-caused
+returns-in_err-add_named-clause-caused g c =
+    let p = err_from_is_err_and c.from_residual-in_err-add_named.result c.from_residual-in_err-add_named.ensures.1 in
+    rw (p.1, p.2) (caused_then g.S.Source.fails g.S.Fault.From.from_gives g.S.Source.stays g.S.Source.fails_then _ _ _ _ (g.S.Source.and_then _ _ _ c.request.ensures.left c.gather_bases.ensures.left) c.add_named.ensures.left c.in_err-add_named.ensures.caused)
 
-pub returns-in-Err-add_histories-clause-caused : goal.returns-in-Err-add_histories-clause-caused
-returns-in-Err-add_histories-clause-caused g c =
-    caused_then g.S.Source.fails g.S.Fault.From.from_gives g.S.Source.stays g.S.Source.fails_then _ _ _ _ (g.S.Source.and_then _ _ _ c.request.ensures.left (g.S.Source.and_then _ _ _ c.gather_bases.ensures.left c.add_named.ensures.left)) c.add_histories.ensures.left (rw c.in-Err-add_histories.is at c.add_histories.ensures.caused)
+pub returns-in_err-add_histories-clause-caused : goal.returns-in_err-add_histories-clause-caused
+returns-in_err-add_histories-clause-caused g c =
+    let p = err_from_is_err_and c.from_residual-in_err-add_histories.result c.from_residual-in_err-add_histories.ensures.1 in
+    rw (p.1, p.2) (caused_then g.S.Source.fails g.S.Fault.From.from_gives g.S.Source.stays g.S.Source.fails_then _ _ _ _ (g.S.Source.and_then _ _ _ c.request.ensures.left (g.S.Source.and_then _ _ _ c.gather_bases.ensures.left c.add_named.ensures.left)) c.add_histories.ensures.left c.in_err-add_histories.ensures.caused)
