@@ -1,5 +1,5 @@
 use Rattle.matchit.proofs.OnLiterals.{matchit_on_literals}
-use Rattle.http_message.proofs.routes.router.Goals as goal
+use Rattle.http_message.proofs.routes.add_routes.Goals as goal
 
 pub returns : goal.returns
 unfolding matchit_on_literals
@@ -15,4 +15,4 @@ returns c =
     let j = c.in_ok-insert-9.ensures in
     let k = c.in_ok-insert-10.ensures in
     let l = c.in_ok-insert-11.ensures in
-    rw (k.1, j.1, i.1, h.1, g.1, f.1, e.1, d.1, b.1, a.1, c.new-router.ensures) at l.1
+    rw (k.1, j.1, i.1, h.1, g.1, f.1, e.1, d.1, b.1, a.1, c.requires) at l.1
