@@ -1,5 +1,5 @@
 //! The refusals 30 and 31, and those that a part of a command is refused for.
-//! Each member's: `tests/texts.py`.
+//! Each member's: `tests/texts.py`. Wrong bodies: `must-fail-more/`.
 use crate::field::JsonField;
 use duty::DutyFault;
 use std::alloc::AllocError;

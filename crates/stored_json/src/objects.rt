@@ -1,5 +1,5 @@
 //! Objects in JSON, made of lists of their members.
-//! Kept texts: `tests/texts.py`. Wrong bodies: `must-fail/`.
+//! Kept texts: `tests/texts.py`. Wrong bodies: `must-fail-more/`.
 ghost use Rattle.std.specs.Prelude.{◌≡◌, true, map, IfOk, OnOk};
 ghost use Rattle.std.specs.List.{list_all};
 ghost use Rattle.serde_json.specs.Data.{no_members};

@@ -1,5 +1,5 @@
 //! Reading parts of a command.
-//! Members that are missing or wrong: `tests/texts.py`. Wrong bodies: `must-fail/`.
+//! Members that are missing or wrong: `tests/texts.py`. Wrong bodies: `must-fail-more/`.
 ghost use Rattle.std.specs.Prelude.{◌≡◌, ◌⊎◌, Ok, Some, None, Err, IfOk, IfErr};
 ghost use Rattle.serde_json.specs.View.{view, items_view};
 ghost use Rattle.stored_json.specs.CommandJson.{field_of};
