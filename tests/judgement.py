@@ -5,25 +5,24 @@
 
 Tables A and B are asked of `duty`, at the first and the last minute of each row, with one to eight segments, and on both sides of
 what they give. Then members fly, train, fly for another certificate holder and are assigned pairings at times without a pattern, and each
-answer of `do` is compared with a count, minute by minute, of docs/RULES.md ("The eight limits"): duties overlap, touch, begin at minute 0
-and run for days, what was flown for another holder is recorded late and anew, and some members have no pairing at first. The members
-belong to three bases, and some books are of a week in which daylight saving time begins at one of these. In between, what `limits` prints
-of a member, with a pairing or without one, is compared with such a count of what is nearest to each limit (docs/FORMATS.md, "Limits"). The
-times are the same in each run. What differs is printed on standard error. The last line is 'N passed, M failed', and the exit status 1 where M
-isn't 0.
+answer of `do --lines` is compared with a count, minute by minute, of docs/RULES.md ("The eight limits"): duties overlap, touch, begin at
+minute 0 and run for days, what was flown for another holder is recorded late and anew, and some members have no pairing at first. The
+members belong to three bases, and some books are of a week in which daylight saving time begins at one of these. In between, what `limits`
+prints of a member, with a pairing or without one, is compared with such a count of what is nearest to each limit (docs/FORMATS.md,
+"Limits"). The times are the same in each run. What differs is printed on standard error. The last line is 'N passed, M failed', and the exit
+status 1 where M isn't 0.
 """
 
 import shutil
 import sys
 import tempfile
 from concurrent.futures import ProcessPoolExecutor
-from copy import deepcopy
 from dataclasses import dataclass, field, replace
 from datetime import datetime, timedelta
-from itertools import accumulate, chain, compress, repeat
+from itertools import accumulate, chain, compress, repeat, zip_longest
 from operator import sub
 
-from office import SECTIONS, Book, Ran, build, instant, rosterbook, told
+from office import SECTIONS, Book, Ran, build, instant, rosterbook
 
 DAY = 1_440
 FIRST = datetime(2000, 1, 1)  # minute 0
@@ -446,9 +445,13 @@ class Model:
         new, others = (self.history(member), []) if pairing is None else (self.named(pairing), self.history(member, pairing))
         return nearest(new, others, BASES[member], first)
 
+    def copy(self):
+        pairings, seats = ({name: list(its) for name, its in of.items()} for of in (self.pairings, self.seats))
+        return Model(pairings, seats, list(self.trainings), dict(self.outsides))
+
     def without_outsides(self):
         """A model of the same book without its outside periods."""
-        return Model({name: list(its) for name, its in self.pairings.items()}, self.seats, self.trainings)
+        return replace(self.copy(), outsides={})
 
     def refusal(self, member, new_duties):
         """Why the member can't have these duties too, in words, or None."""
@@ -549,16 +552,17 @@ COUNTED = (*SECTIONS, CLOCK, OUTSIDE, OWN, ANEW, *LIMITS, ALL, HELD, NOT_HELD, R
 
 @dataclass
 class Walk:
-    """A book, what it has to hold, how often each section was broken and the clock of the own base or an outside period decided that, and
-    the first minute of its horizon."""
+    """A book, what it has to hold, how often each section was broken and the clock of the own base or an outside period decided that, the
+    first minute of its horizon, and the commands that are still to be asked, each with what it has to be answered."""
 
     book: Book
     model: Model
     tally: dict
     first: int
+    waiting: list = field(default_factory=list)
 
     def copy(self):
-        return Walk(self.book.copy(), deepcopy(self.model), self.tally, self.first)
+        return Walk(self.book.copy(), self.model.copy(), self.tally, self.first)
 
     def at(self, minute):
         """The instant of a minute after the first one."""
@@ -570,12 +574,19 @@ class Walk:
         self.model.pairings |= pairings
         self.model.seats |= {name: [None, None] for name in pairings}
 
-    def compare(self, command, wanted):
-        """What the command is answered otherwise than it should be, or None."""
+    def command(self, command, wanted):
+        """Lets a command wait, to be asked with those before it."""
         for section in SECTIONS:
             self.tally[section] += section in wanted
-        got = told(self.book.do(self.book.take_number(), command))
-        return None if got == wanted else f"{command}\n    wanted: {wanted}\n    told:   {got}"
+        self.waiting.append((command, wanted))
+
+    def ask(self):
+        """What the first of the commands that wait is answered otherwise than it should be, or None. They are asked in one run."""
+        commands, answers = [command for command, _ in self.waiting], [wanted for _, wanted in self.waiting]
+        self.waiting.clear()
+        told = self.book.settle_lines(commands) if commands else []
+        differences = (it for it in zip_longest(commands, answers, told) if it[1] != it[2])
+        return next((f"{command}\n    wanted: {wanted}\n    told:   {got}" for command, wanted, got in differences), None)
 
     def count(self, what, wanted, otherwise):
         """Counts that something decided an answer: there would have been another one otherwise."""
@@ -585,34 +596,34 @@ class Walk:
         new = self.model.pairings[pairing]
         wanted = self.model.assign(pairing, member)
         self.count(OUTSIDE, wanted, lambda: self.model.without_outsides().refusal(member, new) or "accepted")
-        difference = self.compare({"do": "assign", "pairing": pairing, "crew": member}, wanted)
-        if difference or not wanted.startswith("12 "):
-            return difference
+        self.command({"do": "assign", "pairing": pairing, "crew": member}, wanted)
+        if not wanted.startswith("12 "):
+            return None
         self.tally[REFUSED] += 1
-        return self.limits(member, pairing, wanted)
+        return self.ask() or self.limits(member, pairing, wanted)
 
     def train(self, member, training):
         times = {"begin": self.at(training.begin), "end": self.at(training.end)}
         ground = f"G{len(self.model.trainings)}"
         wanted = self.model.train(member, training)
         self.count(OUTSIDE, wanted, lambda: self.model.without_outsides().refusal(member, [training]) or "accepted")
-        return self.compare({"do": "add-ground", "ground": ground, "crew": member, "task": "Simulator", **times}, wanted)
+        self.command({"do": "add-ground", "ground": ground, "crew": member, "task": "Simulator", **times}, wanted)
 
     def record(self, outside, member, period):
-        before = deepcopy(self.model)
+        before = self.model.copy()
         wanted = self.model.record(outside, member, period)
         self.tally[OWN] += "accepted " in wanted
         if outside in before.outsides and wanted.startswith("accepted"):
             before.outsides["its earlier times"] = before.outsides[outside]
             self.count(ANEW, wanted, lambda: before.record(outside, member, period))
-        return self.compare({"do": "record-outside", "outside": outside, "crew": member, **written(period, self.at)}, wanted)
+        self.command({"do": "record-outside", "outside": outside, "crew": member, **written(period, self.at)}, wanted)
 
     def fly(self, pairing, place, period):
         wanted = self.model.fly(pairing, place, period)
         self.count(OUTSIDE, wanted, lambda: self.model.without_outsides().fly(pairing, place, period))
         at_home = breaks_tables(period, "HOME")
         self.tally[CLOCK] += sum(breaks_tables(period, BASES[member]) != at_home for member in self.model.seats[pairing])
-        return self.compare({"do": "actual", "pairing": pairing, "period": place + 1, **written(period, self.at)}, wanted)
+        self.command({"do": "actual", "pairing": pairing, "period": place + 1, **written(period, self.at)}, wanted)
 
     def limits(self, member, pairing, refusal=None):
         """What `limits` prints otherwise than it should, or None. Where the pairing was refused to the member, what exceeds a limit has to be
@@ -644,11 +655,12 @@ class Walk:
         if not pairings:
             return None
         self.tally[what] += 1
-        return self.limits(member, draws.one_of(pairings))
+        return self.ask() or self.limits(member, draws.one_of(pairings))
 
     def step(self, draws, scale):
         """One command: most often a period is flown, for another certificate holder too, else a ground duty added or a pairing assigned.
-        Most outside periods have an id that is one member's alone, and many take the place of an earlier one."""
+        Most outside periods have an id that is one member's alone, and many take the place of an earlier one. What was wrong is told where
+        a pairing is refused, and that has been compared with the limits."""
         kind = draws.below(10)
         member = draws.one_of(CAPTAINS + OFFICERS)
         free = [name for name, crew in self.model.seats.items() if crew[member in OFFICERS] is None]
@@ -683,7 +695,7 @@ def crewed_book(room, draws, scale, tally):
     walk.add(far)
     crews = [(pairing, member) for place, pairing in enumerate(far) for member in (CAPTAINS[place // 6], OFFICERS[place % 2])]
     found = [walk.assign(pairing, member) for pairing, member in crews]
-    return walk, next((it for it in found if it), None)
+    return walk, next((it for it in (*found, walk.ask()) if it), None)
 
 
 def first_difference(walk, draws, looks, scale):
@@ -694,7 +706,7 @@ def first_difference(walk, draws, looks, scale):
         difference = walk.step(draws, scale) or looks.below(3) == 0 and walk.look(looks)
         if difference:
             return difference
-    return None
+    return walk.ask()
 
 
 def walked(start, number, scale):

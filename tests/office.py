@@ -260,6 +260,13 @@ class Book:
         """How a line is answered under the next number."""
         return told(self.do(self.take_number(), order(line)))
 
+    def settle_lines(self, commands):
+        """How commands are answered in one run, a line each, under the next numbers."""
+        ran = rosterbook("do", self.file, "--lines", given="".join(f"{compact({'number': self.take_number(), **it})}\n" for it in commands))
+        answers = [told(Ran("refusal" in line, line, "")) for line in ran.out.splitlines(keepends=True)]
+        is_well = ran.err == "" and ran.status == (not all(answer.startswith("accepted") for answer in answers))
+        return answers if is_well else [str(ran)]
+
     def settle_all(self, lines):
         """How lines with `plan` are answered as one schedule, which is `accepted` where each of them is."""
         ran = self.import_schedule(self.take_number(), schedule(lines))
